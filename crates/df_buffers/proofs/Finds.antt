@@ -23,10 +23,10 @@ use Rattle.df_buffers.specs.declared.identity.Identity.{Identity}
 use Rattle.df_buffers.specs.declared.identity.Wanted.{Wanted}
 use Rattle.df_buffers.specs.declared.identity.Wanted.TheVariants.{Any}
 use Rattle.df_buffers.specs.Rooms.{StandsIn, FillsRoom, room_size}
-use Rattle.df_buffers.specs.Found.{words_of, Finds, FindsKind, IsThere, class_for, shown_in}
+use Rattle.df_buffers.specs.Found.{wanted_words, FindsUnit, FindsKind, IsValidUnit, class_for, shown_in}
 use Rattle.df_format.specs.Brings.{Brings}
 use Rattle.df_format.specs.UnitLaws.{AreForPlace}
-use Rattle.df_buffers.specs.Sounds.{BringsOwn, Holding, IsSound, AreWhole, unit_with}
+use Rattle.df_buffers.specs.Sounds.{BringsOwn, Holding, IsSound, AreWholeSectors, unit_with}
 
 ok_same : {h k : Header} → (let one : Result Header Class = Ok h in one ≡ Ok k) → h ≡ k
 ok_same is = cc
@@ -54,26 +54,26 @@ wanted_same (AnswerTo client request op) u v same is = record {
 }
 
 abbrev FindsHeader : Identity → List ℕ → Header → Type 0
-FindsHeader identity bytes h = (u : Message) × (u.header ≡ h) × Finds identity bytes u × IsThere identity u
+FindsHeader identity bytes h = (u : Message) × (u.header ≡ h) × FindsUnit identity bytes u × IsValidUnit identity u
 
 some_found : (identity : Identity) (bytes : List ℕ) (o : Option Message) (class : Class) (h : Header) → length bytes ≡ place_size identity.layout identity.place.zone → AreBytes bytes
-    → unit_in identity.layout identity.cluster identity.place bytes ≡ o → Ok h ≡ header_or_class o class → IsWanted (words_of identity.wanted) (record { header = h; body = [] }) → FindsHeader identity bytes h
+    → unit_in identity.layout identity.cluster identity.place bytes ≡ o → Ok h ≡ header_or_class o class → IsWanted (wanted_words identity.wanted) (record { header = h; body = [] }) → FindsHeader identity bytes h
 some_found identity bytes None class h size are is ok wanted = absurd (cc)
 some_found identity bytes (Some u) class h size are is ok wanted =
     let same : u.header ≡ h = sym (ok_same ok) in (
       u,
       same,
-      record { valid = is; wanted = wanted_same (words_of identity.wanted) (record { header = h; body = [] }) u (sym same) wanted },
+      record { valid = is; wanted = wanted_same (wanted_words identity.wanted) (record { header = h; body = [] }) u (sym same) wanted },
       ((one_unit identity.layout identity.cluster identity.place bytes u size are).0 is).is,
     )
 
 -- the unit that was decoded and is wanted is the one to be found
 pub found_by : (identity : Identity) (bytes : List ℕ) (h : Header) → length bytes ≡ place_size identity.layout identity.place.zone → AreBytes bytes
     → Ok h ≡ header_or_class (unit_in identity.layout identity.cluster identity.place bytes) (class_of identity.layout identity.cluster identity.place bytes)
-    → IsWanted (words_of identity.wanted) (record { header = h; body = [] }) → FindsHeader identity bytes h
+    → IsWanted (wanted_words identity.wanted) (record { header = h; body = [] }) → FindsHeader identity bytes h
 found_by identity bytes h size are ok wanted = some_found identity bytes _ _ h size are refl ok wanted
 
-pub found_class : (identity : Identity) (bytes : List ℕ) (u : Message) → Finds identity bytes u → Stale ≡ class_for identity bytes
+pub found_class : (identity : Identity) (bytes : List ℕ) (u : Message) → FindsUnit identity bytes u → Stale ≡ class_for identity bytes
 found_class identity bytes u found = sym (valid_stale identity.layout identity.cluster identity.place bytes u found.valid)
 
 pub is_no_ring : (kind : Kind) (zone : Zone) → StandsIn kind zone → zone ≢ WalHeaders
@@ -93,19 +93,19 @@ found_whole layout cluster place bytes u h other same valid =
     let whole : u ≡ unit_with u.header bytes = λ i. record { header = u.header; body = body i } in
     whole ∙ ap (λ (x : Header). unit_with x bytes) same
 
-pub found_kind : (kind : Kind) (identity : Identity) (bytes : List ℕ) (u : Message) (h : Header) → StandsIn kind identity.place.zone → u.header ≡ h → h.kind ≡ kind → Finds identity bytes u
+pub found_kind : (kind : Kind) (identity : Identity) (bytes : List ℕ) (u : Message) (h : Header) → StandsIn kind identity.place.zone → u.header ≡ h → h.kind ≡ kind → FindsUnit identity bytes u
     → FindsKind kind identity bytes (unit_with h bytes)
 found_kind kind identity bytes u h stands same of found =
     let whole = found_whole identity.layout identity.cluster identity.place bytes u h (is_no_ring kind identity.place.zone stands) same found.valid in
-    record { found = subst (λ (x : Message). Finds identity bytes x) whole found; of_kind = of }
+    record { found = subst (λ (x : Message). FindsUnit identity bytes x) whole found; of_kind = of }
 
-pub kind_there : (identity : Identity) (bytes : List ℕ) (u : Message) (h : Header) (kind : Kind) → StandsIn kind identity.place.zone → u.header ≡ h → Finds identity bytes u → IsThere identity u → IsThere identity (unit_with h bytes)
+pub kind_there : (identity : Identity) (bytes : List ℕ) (u : Message) (h : Header) (kind : Kind) → StandsIn kind identity.place.zone → u.header ≡ h → FindsUnit identity bytes u → IsValidUnit identity u → IsValidUnit identity (unit_with h bytes)
 kind_there identity bytes u h kind stands same found there =
-    subst (λ (x : Message). IsThere identity x) (found_whole identity.layout identity.cluster identity.place bytes u h (is_no_ring kind identity.place.zone stands) same found.valid) there
+    subst (λ (x : Message). IsValidUnit identity x) (found_whole identity.layout identity.cluster identity.place bytes u h (is_no_ring kind identity.place.zone stands) same found.valid) there
 
 -- a room is sound where the tests pass
 pub sound_from : (zone : Zone) (kind : Kind) (layout : Layout) (identity : Identity) (bytes : List ℕ) (h : Header) → FillsRoom layout zone bytes → identity.layout ≡ layout → identity.place.zone ≡ zone
-    → FindsKind kind identity bytes (unit_with h bytes) → IsThere identity (unit_with h bytes) → IsSound zone kind (record { layout = layout; unit = unit_with h bytes; bytes = bytes })
+    → FindsKind kind identity bytes (unit_with h bytes) → IsValidUnit identity (unit_with h bytes) → IsSound zone kind (record { layout = layout; unit = unit_with h bytes; bytes = bytes })
 sound_from zone kind layout identity bytes h fills same in_zone found there =
     let valid : unit_in layout h.cluster identity.place bytes ≡ Some (unit_with h bytes) =
     (λ i. unit_in (sym same i) (there.owner i) identity.place bytes) ∙ found.found.valid in
@@ -125,20 +125,20 @@ ends zone kind holding stands is =
     record { least = is.is.sealed.rules.size; size = omega (arith, most, is.fills); sectors = omega (arith, most, is.fills) }
 
 -- a header of the ring is a unit with no body
-header_whole : (identity : Identity) (bytes : List ℕ) (u : Message) (h : Header) → identity.place.zone ≡ WalHeaders → u.header ≡ h → Finds identity bytes u → u ≡ record { header = h; body = [] }
+header_whole : (identity : Identity) (bytes : List ℕ) (u : Message) (h : Header) → identity.place.zone ≡ WalHeaders → u.header ≡ h → FindsUnit identity bytes u → u ≡ record { header = h; body = [] }
 header_whole identity bytes u h ring same found =
     let none = ring_has_no_body identity.layout identity.cluster identity.place bytes u ring found.valid in
     λ i. record { header = same i; body = none i }
 
-pub found_header : (identity : Identity) (bytes : List ℕ) (u : Message) (h : Header) → identity.place.zone ≡ WalHeaders → u.header ≡ h → Finds identity bytes u → Finds identity bytes (record { header = h; body = [] })
-found_header identity bytes u h ring same found = subst (λ (x : Message). Finds identity bytes x) (header_whole identity bytes u h ring same found) found
+pub found_header : (identity : Identity) (bytes : List ℕ) (u : Message) (h : Header) → identity.place.zone ≡ WalHeaders → u.header ≡ h → FindsUnit identity bytes u → FindsUnit identity bytes (record { header = h; body = [] })
+found_header identity bytes u h ring same found = subst (λ (x : Message). FindsUnit identity bytes x) (header_whole identity bytes u h ring same found) found
 
-pub header_there : (identity : Identity) (bytes : List ℕ) (u : Message) (h : Header) → identity.place.zone ≡ WalHeaders → u.header ≡ h → Finds identity bytes u → IsThere identity u → IsThere identity (record { header = h; body = [] })
-header_there identity bytes u h ring same found there = subst (λ (x : Message). IsThere identity x) (header_whole identity bytes u h ring same found) there
+pub header_there : (identity : Identity) (bytes : List ℕ) (u : Message) (h : Header) → identity.place.zone ≡ WalHeaders → u.header ≡ h → FindsUnit identity bytes u → IsValidUnit identity u → IsValidUnit identity (record { header = h; body = [] })
+header_there identity bytes u h ring same found there = subst (λ (x : Message). IsValidUnit identity x) (header_whole identity bytes u h ring same found) there
 
 -- the sectors that a sound room lends are whole ones of the room, one at least
 pub are_whole : (zone : Zone) (kind : Kind) (holding : Holding) (lent : List ℕ) → StandsIn kind zone → IsSound zone kind holding → lent ≡ take (sectors_end holding.unit.header.size) holding.bytes
-    → AreWhole zone holding.layout lent
+    → AreWholeSectors zone holding.layout lent
 are_whole zone kind holding lent stands is same =
     let e = ends zone kind holding stands is in
     let size : length lent ≡ sectors_end holding.unit.header.size = ap (λ (l : List ℕ). length l) same ∙ length-take-le (sectors_end holding.unit.header.size) holding.bytes e.sectors in
@@ -153,8 +153,8 @@ pub found_in : (kind kind2 : Kind) (identity : Identity) (bytes bytes2 : List �
 found_in kind kind2 identity bytes bytes2 h same here found =
     subst (λ (x : List ℕ). FindsKind kind2 identity x (unit_with h x)) here (subst (λ (x : Kind). FindsKind x identity bytes (unit_with h bytes)) same found)
 
-pub there_in : (identity : Identity) (bytes bytes2 : List ℕ) (h : Header) → bytes ≡ bytes2 → IsThere identity (unit_with h bytes) → IsThere identity (unit_with h bytes2)
-there_in identity bytes bytes2 h here there = subst (λ (x : List ℕ). IsThere identity (unit_with h x)) here there
+pub there_in : (identity : Identity) (bytes bytes2 : List ℕ) (h : Header) → bytes ≡ bytes2 → IsValidUnit identity (unit_with h bytes) → IsValidUnit identity (unit_with h bytes2)
+there_in identity bytes bytes2 h here there = subst (λ (x : List ℕ). IsValidUnit identity (unit_with h x)) here there
 
 -- and they bring its unit
 pub sectors_bring : (zone : Zone) (kind : Kind) (holding : Holding) (lent : List ℕ) → StandsIn kind zone → IsSound zone kind holding → lent ≡ take (sectors_end holding.unit.header.size) holding.bytes → AreBytes lent
@@ -176,9 +176,9 @@ sectors_bring zone kind holding lent stands is same each =
     }
 
 -- where any unit is wanted and none is found, the place shows none
-pub none_any : (identity : Identity) (bytes : List ℕ) (class : Class) → identity.wanted ≡ Any → ((u : Message) → Finds identity bytes u → ⊥) → class ≡ class_for identity bytes → Err class ≡ shown_in identity bytes
+pub none_any : (identity : Identity) (bytes : List ℕ) (class : Class) → identity.wanted ≡ Any → ((u : Message) → FindsUnit identity bytes u → ⊥) → class ≡ class_for identity bytes → Err class ≡ shown_in identity bytes
 none_any identity bytes class any none is = by (unit_in identity.layout identity.cluster identity.place bytes) refl
   where
     by : (o : Option Message) → unit_in identity.layout identity.cluster identity.place bytes ≡ o → Err class ≡ header_or_class o (class_for identity bytes)
     by None shown = ap Err is
-    by (Some u) shown = absurd (none u (record { valid = shown; wanted = subst (λ (w : Wanted). IsWanted (words_of w) u) (sym any) tt }))
+    by (Some u) shown = absurd (none u (record { valid = shown; wanted = subst (λ (w : Wanted). IsWanted (wanted_words w) u) (sym any) tt }))

@@ -12,7 +12,7 @@ use Rattle.df_format.specs.declared.header.Header.{Header}
 use Rattle.df_format.specs.declared.kind.Kind.{Kind}
 use Rattle.df_format.specs.declared.kind.Kind.TheVariants.{Reserved, Prepare, Reply, Block, Trailer}
 use Rattle.df_format.specs.Spelling.{sealed}
-use Rattle.df_format.specs.Message.{Message, unit_of, sectors_of, sectors_end}
+use Rattle.df_format.specs.Message.{Message, unit_bytes, sectors_of, sectors_end}
 use Rattle.df_format.specs.Own.{named_in_ring, named_elsewhere, named_place, has_op_of_slot, inside, own_place}
 use Rattle.df_format.specs.Whole.{greatest_size}
 use Rattle.df_format.specs.Making.{for_body}
@@ -76,11 +76,11 @@ zone_named Trailer Grid h place stands same is = sym (ap (λ (p : Place). p.zone
 zone_named kind zone h place stands same is = absurd stands
 
 -- the bytes begin with the unit whose sectors were written over them
-begun : (u : Message) (bytes : List ℕ) (end : ℕ) → take end bytes ≡ sectors_of u → (rest : List ℕ) × (bytes ≡ unit_of u ++ rest)
+begun : (u : Message) (bytes : List ℕ) (end : ℕ) → take end bytes ≡ sectors_of u → (rest : List ℕ) × (bytes ≡ unit_bytes u ++ rest)
 unfolding sectors_of
 begun u bytes end is = (
   replicate (sectors_end (256 + length u.body) - (256 + length u.body)) 0 ++ drop end bytes,
-  sym (take-append-drop end bytes) ∙ ap (λ (l : List ℕ). l ++ drop end bytes) is ∙ append_assoc (unit_of u) _ (drop end bytes),
+  sym (take-append-drop end bytes) ∙ ap (λ (l : List ℕ). l ++ drop end bytes) is ∙ append_assoc (unit_bytes u) _ (drop end bytes),
 )
 
 -- what a room is seen as in which a unit was made

@@ -7,10 +7,10 @@ use Rattle.df_layout.specs.declared.places.Zone.TheVariants.{Superblock, WalHead
 use Rattle.df_layout.specs.declared.layout.Layout.{Layout}
 use Rattle.df_format.specs.declared.header.Header.{Header}
 use Rattle.df_format.specs.declared.kind.Kind.{Kind}
-use Rattle.df_format.specs.Message.{Message, sectors_end, unit_of}
+use Rattle.df_format.specs.Message.{Message, sectors_end, unit_bytes}
 use Rattle.df_format.specs.Shown.{unit_in}
 use Rattle.df_format.specs.UnitLaws.{place_size}
-use Rattle.df_format.specs.Valid.{Begins, HasBody, IsBodyOf, IsUnit}
+use Rattle.df_format.specs.Valid.{BeginsWithUnit, HasBody, IsBodyOf, IsUnit}
 use Rattle.df_format.proofs.Laws.{begun_is_shown, length-unit, one_unit}
 use Rattle.df_buffers.specs.Rooms.{StandsIn, room_size}
 use Rattle.df_buffers.specs.Sounds.{EndsInZeros, Holding, IsSound, IsTidy, holding_of, unit_with}
@@ -68,16 +68,16 @@ module _ (zone : Zone) (kind : Kind) (held : Holding) (stands : StandsIn kind zo
   parts : (place_size held.layout sound.place.zone ≡ room_size held.layout sound.place.zone) × (HasBody sound.place.zone u.header u.body → IsBodyOf u.header u.body)
   parts = beside_ring held.layout sound.place.zone u.header u.body beside
 
-  begun : Begins held.layout u.header.cluster sound.place held.bytes u
+  begun : BeginsWithUnit held.layout u.header.cluster sound.place held.bytes u
   begun = (one_unit held.layout u.header.cluster sound.place held.bytes u (subst (λ (z : Zone). length held.bytes ≡ room_size held.layout z) (sym sound.in_zone) sound.fills ∙ sym parts.0) bytes).0 sound.valid
 
-  long : length (unit_of u) ≡ u.header.size
+  long : length (unit_bytes u) ≡ u.header.size
   long = omega (arith, length-unit u sound.is.sealed, (parts.1 sound.is.body).size)
 
-  front : take u.header.size held.bytes ≡ unit_of u
-  front = ap (λ (n : ℕ). take n held.bytes) (sym long) ∙ ap (λ (l : List ℕ). take (length (unit_of u)) l) begun.spelled ∙ cut (unit_of u) begun.rest
+  front : take u.header.size held.bytes ≡ unit_bytes u
+  front = ap (λ (n : ℕ). take n held.bytes) (sym long) ∙ ap (λ (l : List ℕ). take (length (unit_bytes u)) l) begun.spelled ∙ cut (unit_bytes u) begun.rest
 
-  spelled : after ≡ unit_of u ++ replicate (length held.bytes - u.header.size) 0
+  spelled : after ≡ unit_bytes u ++ replicate (length held.bytes - u.header.size) 0
   spelled = blank ∙ ap (λ (l : List ℕ). l ++ replicate (length held.bytes - u.header.size) 0) front
 
   valid : unit_in held.layout u.header.cluster sound.place after ≡ Some u
@@ -92,8 +92,8 @@ module _ (zone : Zone) (kind : Kind) (held : Holding) (stands : StandsIn kind zo
   tidy : EndsInZeros (256 + length u.body) (take (sectors_end u.header.size) after)
   tidy =
       subst (λ (l : List ℕ). EndsInZeros (256 + length u.body) (take (sectors_end u.header.size) l)) (sym spelled)
-      (subst (λ (n : ℕ). EndsInZeros n (take (sectors_end u.header.size) (unit_of u ++ replicate (length held.bytes - u.header.size) 0))) (length-unit u sound.is.sealed)
-      (zeros_after (unit_of u) (sectors_end u.header.size) (length held.bytes - u.header.size) (omega (arith, long))))
+      (subst (λ (n : ℕ). EndsInZeros n (take (sectors_end u.header.size) (unit_bytes u ++ replicate (length held.bytes - u.header.size) 0))) (length-unit u sound.is.sealed)
+      (zeros_after (unit_bytes u) (sectors_end u.header.size) (length held.bytes - u.header.size) (omega (arith, long))))
 
   pub blanked : IsStill zone kind held after
   blanked = record {

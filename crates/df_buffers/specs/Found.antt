@@ -12,25 +12,25 @@ use Rattle.df_buffers.specs.declared.identity.Wanted.{Wanted}
 use Rattle.df_buffers.specs.declared.identity.Wanted.TheVariants.{Any, Op, Checksum, Answer}
 
 -- what is wanted, in the words of the format
-abbrev pub words_of : Wanted → Words
-words_of Any = AnyOne
-words_of (Op op) = WithOp op
-words_of (Checksum checksum) = WithChecksum checksum
-words_of (Answer client request op) = AnswerTo client request op
+abbrev pub wanted_words : Wanted → Words
+wanted_words Any = AnyOne
+wanted_words (Op op) = WithOp op
+wanted_words (Checksum checksum) = WithChecksum checksum
+wanted_words (Answer client request op) = AnswerTo client request op
 
 -- the bytes are valid at the place, and the unit wanted
-pub record Finds (identity : Identity) (bytes : List ℕ) (u : Message) : Type 0 where
+pub record FindsUnit (identity : Identity) (bytes : List ℕ) (u : Message) : Type 0 where
   pub valid : unit_in identity.layout identity.cluster identity.place bytes ≡ Some u
-  pub wanted : IsWanted (words_of identity.wanted) u
+  pub wanted : IsWanted (wanted_words identity.wanted) u
 
 -- and it is of this kind
 pub record FindsKind (kind : Kind) (identity : Identity) (bytes : List ℕ) (u : Message) : Type 0 where
-  pub found : Finds identity bytes u
+  pub found : FindsUnit identity bytes u
   pub of_kind : u.header.kind ≡ kind
 
 -- a unit is valid at the place
-abbrev pub IsThere : Identity → Message → Type 0
-IsThere identity u = IsUnit identity.layout identity.cluster identity.place u
+abbrev pub IsValidUnit : Identity → Message → Type 0
+IsValidUnit identity u = IsUnit identity.layout identity.cluster identity.place u
 
 -- the class of bytes that aren't the unit wanted at the place
 abbrev pub class_for : Identity → List ℕ → Class

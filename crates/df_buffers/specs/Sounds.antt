@@ -35,7 +35,7 @@ pub record IsSound (zone : Zone) (kind : Kind) (holding : Holding) : Type 0 wher
   pub valid : unit_in holding.layout holding.unit.header.cluster place holding.bytes ≡ Some holding.unit
 
 -- the bytes are whole sectors, one at least, and no more than a room of the zone has
-pub record AreWhole (zone : Zone) (layout : Layout) (bytes : List ℕ) : Type 0 where
+pub record AreWholeSectors (zone : Zone) (layout : Layout) (bytes : List ℕ) : Type 0 where
   pub some : 0 < length bytes
   pub whole : length bytes % 4096 ≡ 0
   pub fits : length bytes ≤ room_size layout zone

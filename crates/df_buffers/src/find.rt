@@ -2,7 +2,7 @@
 ghost use Rattle.std.specs.Prelude.{◌≡◌, ◌≢◌, ◌↔◌, [], length, IsTrue, IfOk, IfErr};
 ghost use Rattle.df_buffers.specs.Below.{Message, place_size, IsWanted};
 ghost use Rattle.df_buffers.specs.Rooms.{StandsIn};
-ghost use Rattle.df_buffers.specs.Found.{words_of, Finds, FindsKind, IsThere, class_for};
+ghost use Rattle.df_buffers.specs.Found.{wanted_words, FindsUnit, FindsKind, IsValidUnit, class_for};
 ghost use Rattle.df_buffers.specs.Sounds.{unit_with};
 
 use crate::{Identity, Wanted};
@@ -26,7 +26,7 @@ fn is_with_op(header: &Header, op: u64) -> bool
 
 // Whether a valid unit with this header is the one wanted; the body doesn't matter.
 fn is_wanted(wanted: &Wanted, header: &Header) -> bool
-    ensures { IsTrue result ↔ IsWanted (words_of wanted.now) (record { header = header.now; body = [] }) }
+    ensures { IsTrue result ↔ IsWanted (wanted_words wanted.now) (record { header = header.now; body = [] }) }
 {
     match *wanted {
         Wanted::Any => true,
@@ -44,8 +44,8 @@ fn is_wanted(wanted: &Wanted, header: &Header) -> bool
 pub(crate) fn find(identity: &Identity, bytes: &[u8]) -> Result<Header, Class>
     requires size { length bytes.now ≡ place_size identity.now.layout identity.now.place.zone }
     requires copy { identity.now.place.zone ≢ Zone.Superblock }
-    ensures found { IfOk result (λ h. (u : Message) × (u.header ≡ h) × Finds identity.now bytes.now u × IsThere identity.now u) }
-    ensures unwanted { IfErr result (λ _. (u : Message) → ¬ Finds identity.now bytes.now u) }
+    ensures found { IfOk result (λ h. (u : Message) × (u.header ≡ h) × FindsUnit identity.now bytes.now u × IsValidUnit identity.now u) }
+    ensures unwanted { IfErr result (λ _. (u : Message) → ¬ FindsUnit identity.now bytes.now u) }
     ensures class { IfErr result (λ class. class ≡ class_for identity.now bytes.now) }
 {
     let header = decode_unit(&identity.layout, identity.cluster, identity.place, bytes)?;
@@ -67,7 +67,7 @@ pub(crate) fn find_kind(kind: Kind, identity: &Identity, bytes: &[u8]) -> Result
     requires size { length bytes.now ≡ place_size identity.now.layout identity.now.place.zone }
     requires stands { StandsIn kind identity.now.place.zone }
     ensures found { IfOk result (λ h. FindsKind kind identity.now bytes.now (unit_with h bytes.now)) }
-    ensures there { IfOk result (λ h. IsThere identity.now (unit_with h bytes.now)) }
+    ensures there { IfOk result (λ h. IsValidUnit identity.now (unit_with h bytes.now)) }
     ensures unwanted { IfErr result (λ _. (u : Message) → ¬ FindsKind kind identity.now bytes.now u) }
     ensures class { IfErr result (λ class. class ≡ class_for identity.now bytes.now) }
 {

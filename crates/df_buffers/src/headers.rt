@@ -2,7 +2,7 @@
 ghost use Rattle.std.specs.Prelude.{◌≡◌, ◌<◌, [], length, IfOk, IfErr};
 ghost use Rattle.df_buffers.specs.Below.{Message};
 ghost use Rattle.df_buffers.specs.Rooms.{header_bytes};
-ghost use Rattle.df_buffers.specs.Found.{Finds, IsThere, class_for, shown_in};
+ghost use Rattle.df_buffers.specs.Found.{FindsUnit, IsValidUnit, class_for, shown_in};
 
 use crate::find::find;
 use crate::{HeaderSector, Identity, Raw, Wanted};
@@ -25,9 +25,9 @@ fn header_bytes(bytes: &[u8], place: u64) -> &[u8]
 fn find_header(identity: &Identity, bytes: &[u8]) -> Result<Header, Class>
     requires size { length bytes.now ≡ 256 }
     requires zone { identity.now.place.zone ≡ Zone.WalHeaders }
-    ensures found { IfOk result (λ h. Finds identity.now bytes.now (record { header = h; body = [] })) }
-    ensures there { IfOk result (λ h. IsThere identity.now (record { header = h; body = [] })) }
-    ensures unwanted { IfErr result (λ _. (u : Message) → ¬ Finds identity.now bytes.now u) }
+    ensures found { IfOk result (λ h. FindsUnit identity.now bytes.now (record { header = h; body = [] })) }
+    ensures there { IfOk result (λ h. IsValidUnit identity.now (record { header = h; body = [] })) }
+    ensures unwanted { IfErr result (λ _. (u : Message) → ¬ FindsUnit identity.now bytes.now u) }
     ensures class { IfErr result (λ class. class ≡ class_for identity.now bytes.now) }
     ensures any { identity.now.wanted ≡ Wanted.Any → result ≡ shown_in identity.now bytes.now }
 {
@@ -41,9 +41,9 @@ impl Raw<HeaderSector> {
     pub fn header_at(&self, place: u64, identity: &Identity) -> Result<Header, Class>
         requires place { place < 16 }
         requires zone { identity.now.place.zone ≡ Zone.WalHeaders }
-        ensures found { IfOk result (λ h. Finds identity.now (header_bytes place self.now.bytes) (record { header = h; body = [] })) }
-        ensures there { IfOk result (λ h. IsThere identity.now (record { header = h; body = [] })) }
-        ensures unwanted { IfErr result (λ _. (u : Message) → ¬ Finds identity.now (header_bytes place self.now.bytes) u) }
+        ensures found { IfOk result (λ h. FindsUnit identity.now (header_bytes place self.now.bytes) (record { header = h; body = [] })) }
+        ensures there { IfOk result (λ h. IsValidUnit identity.now (record { header = h; body = [] })) }
+        ensures unwanted { IfErr result (λ _. (u : Message) → ¬ FindsUnit identity.now (header_bytes place self.now.bytes) u) }
         ensures class { IfErr result (λ class. class ≡ class_for identity.now (header_bytes place self.now.bytes)) }
         ensures any { identity.now.wanted ≡ Wanted.Any → result ≡ shown_in identity.now (header_bytes place self.now.bytes) }
     {

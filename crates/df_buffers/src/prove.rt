@@ -1,7 +1,7 @@
 // Whether a room holds the unit that is wanted.
 ghost use Rattle.std.specs.Prelude.{◌≡◌, IfOk, IfErr};
 ghost use Rattle.df_buffers.specs.Below.{Message};
-ghost use Rattle.df_buffers.specs.Found.{FindsKind, IsThere, class_for};
+ghost use Rattle.df_buffers.specs.Found.{FindsKind, IsValidUnit, class_for};
 
 use crate::find::find_kind;
 use crate::{Identity, Raw, Sound, UnitKind};
@@ -14,7 +14,7 @@ impl<K: UnitKind> Raw<K> {
         requires layout { identity.now.layout ≡ self.layout }
         requires zone { identity.now.place.zone ≡ K.ZONE }
         ensures found { IfOk result (λ s. FindsKind K.KIND identity.now self.bytes s.unit) }
-        ensures there { IfOk result (λ s. IsThere identity.now s.unit) }
+        ensures there { IfOk result (λ s. IsValidUnit identity.now s.unit) }
         ensures same { IfOk result (λ s. (s.layout ≡ self.layout) × (s.bytes ≡ self.bytes)) }
         ensures unwanted { IfErr result (λ _. (u : Message) → ¬ FindsKind K.KIND identity.now self.bytes u) }
         ensures class { IfErr result (λ refused. refused.1 ≡ class_for identity.now self.bytes) }

@@ -1,7 +1,7 @@
 // Sound rooms: their bytes are a unit that is valid at its own place. They lend its parts without copying.
 ghost use Rattle.std.specs.Prelude.{◌≡◌, ◌≤◌, ◌-◌, ◌++◌, length, replicate, take, drop};
 ghost use Rattle.df_buffers.specs.Below.{AreBytes, sectors_end};
-ghost use Rattle.df_buffers.specs.Sounds.{AreWhole, BringsOwn, IsSound, IsTidy};
+ghost use Rattle.df_buffers.specs.Sounds.{AreWholeSectors, BringsOwn, IsSound, IsTidy};
 
 use crate::{Raw, UnitKind};
 use df_base::{HEADER, SECTOR};
@@ -74,7 +74,7 @@ impl<K: UnitKind> Sound<K> {
     /// The whole sectors that the unit covers.
     pub fn sectors(&self) -> &[u8]
         ensures value { result.now ≡ take (sectors_end self.now.unit.header.size) self.now.bytes }
-        ensures whole { AreWhole K.ZONE self.now.layout result.now }
+        ensures whole { AreWholeSectors K.ZONE self.now.layout result.now }
         ensures brings { BringsOwn K.ZONE self.now result.now }
     {
         sectors_in(&self.bytes, self.header.size)

@@ -10,11 +10,11 @@ use Rattle.df_units.specs.Meaning.{number_of}
 use Rattle.df_grid.specs.Grid.{GridState, HasAddress, IsUnheld, with_blocks}
 use Rattle.df_grid.specs.Table.{IsIdle, adopted}
 use Rattle.df_checkpoint.specs.declared.links.Link.{Link}
-use Rattle.df_checkpoint.specs.Chain.{AreApart, is_among}
+use Rattle.df_checkpoint.specs.Chain.{AreDistinctLinks, is_among}
 use Rattle.df_trailer.specs.declared.reader.Reader.{Reader}
 use Rattle.df_checkpoint.specs.declared.fault.TrailerFault.{TrailerFault}
 use Rattle.df_checkpoint.specs.declared.fault.TrailerFault.TheVariants.{Damaged, BadField, DiskFault}
-use Rattle.df_checkpoint.specs.Adopting.{AdoptAnswer, blocks_to, chained, pair_of}
+use Rattle.df_checkpoint.specs.Adopting.{AdoptAnswer, blocks_to, chained, link_pair}
 
 -- blocks that are live and referenced
 abbrev held_by : List (ℕ × ℕ) → Blocks
@@ -72,11 +72,11 @@ live_free said address a none =
 pub live_unheld : (g : GridState) (said : ℕ → Option ℕ) (address : ℕ) → HasAddress g address → g.blocks ≡ blocks_to said address → IsUnheld g address
 live_unheld g said address inside is = record { inside = inside; unheld = ap (λ (b : Blocks). is_held_in b address) is ∙ live_free said address address (λ less. absurd (omega arith)) }
 
-sum_apart : (a : ℕ) (rs : List Link) → is_among a rs ≡ false → sum_at a (map pair_of rs) ≡ None
+sum_apart : (a : ℕ) (rs : List Link) → is_among a rs ≡ false → sum_at a (map link_pair rs) ≡ None
 sum_apart a [] none = refl
 sum_apart a (r ∷ rs) none = go (r.address == a) (λ rest. sum_apart a rs rest) none
   where
-    go : (t : Bool) → (is_among a rs ≡ false → sum_at a (map pair_of rs) ≡ None) → (t || is_among a rs) ≡ false → (if t then Some (number_of r.checksum) else sum_at a (map pair_of rs)) ≡ None
+    go : (t : Bool) → (is_among a rs ≡ false → sum_at a (map link_pair rs) ≡ None) → (t || is_among a rs) ≡ false → (if t then Some (number_of r.checksum) else sum_at a (map link_pair rs)) ≡ None
     go true rest none = absurd (cc)
     go false rest none = rest none
 
@@ -95,7 +95,7 @@ pub record IsNext (refs : List Link) (k : ℕ) (at : Link) : Type 0 where
   pub apart : is_among at.address (drop (suc k) refs) ≡ false
   pub there : is_among at.address refs ≡ true
 
-pub next_at : (g : GridState) (refs : List Link) (k : ℕ) (at : Link) → AreApart g refs → k < length refs → at ≡ get_or refs k at → IsNext refs k at
+pub next_at : (g : GridState) (refs : List Link) (k : ℕ) (at : Link) → AreDistinctLinks g refs → k < length refs → at ≡ get_or refs k at → IsNext refs k at
 next_at g [] k at apart less here = absurd (omega arith)
 next_at g (r ∷ rs) zero at apart less here = record {
   split = ap (λ (l : Link). l ∷ rs) (sym here);
@@ -109,7 +109,7 @@ next_at g (r ∷ rs) (suc k) at apart less here = let more = next_at g rs k at a
     later false is = is
 
 -- so it is for the next block of the chain
-pub chain_next : (g h : GridState) (refs : List Link) (done : ℕ) (at : Link) → AreApart g refs → done < length refs → at ≡ get_or refs (length refs - 1 - done) at → h ≡ with_blocks g (chained g.blocks (drop (length refs - done) refs)) → g.blocks.chain ≡ []
+pub chain_next : (g h : GridState) (refs : List Link) (done : ℕ) (at : Link) → AreDistinctLinks g refs → done < length refs → at ≡ get_or refs (length refs - 1 - done) at → h ≡ with_blocks g (chained g.blocks (drop (length refs - done) refs)) → g.blocks.chain ≡ []
     → ((a : ℕ) → is_among a refs ≡ true → is_held_in g.blocks a ≡ false) → HasAddress g at.address → IsUnheld h at.address
 chain_next g h refs done at apart less here is none free inside =
     let n = next_at g refs (length refs - 1 - done) at apart (omega arith) here in
@@ -117,7 +117,7 @@ chain_next g h refs done at apart less here is none free inside =
     chain_free h g.blocks (drop (length refs - done) refs) at.address (ap (λ (x : GridState). x.blocks) is) none (subst (λ (x : GridState). HasAddress x at.address) (sym is) inside) (free at.address n.there) (ap (λ (k : ℕ). is_among at.address (drop k refs)) (sym same) ∙ n.apart)
 
 -- addresses are apart in each grid of the layout
-pub apart_same : (g h : GridState) (refs : List Link) → h.layout ≡ g.layout → AreApart g refs → AreApart h refs
+pub apart_same : (g h : GridState) (refs : List Link) → h.layout ≡ g.layout → AreDistinctLinks g refs → AreDistinctLinks h refs
 apart_same g h [] same apart = tt
 apart_same g h (r ∷ rs) same apart = (subst (λ (l : Layout). (1 ≤ r.address) × (r.address ≤ l.blocks)) (sym same) apart.0, apart.1, apart_same g h rs same apart.2)
 

@@ -17,8 +17,8 @@ use Rattle.df_grid.specs.Reads.{shown_of}
 use Rattle.df_checkpoint.specs.declared.links.Link.{Link}
 use Rattle.df_checkpoint.specs.declared.fault.TrailerFault.{TrailerFault}
 use Rattle.df_checkpoint.specs.declared.fault.TrailerFault.TheVariants.{Damaged, BadField, DiskFault}
-use Rattle.df_checkpoint.specs.Chain.{AreApart, HasChain, Names, OfTold, content_in, is_among}
-use Rattle.df_checkpoint.specs.Reads.{FoundAnswer, IsNamed}
+use Rattle.df_checkpoint.specs.Chain.{AreDistinctLinks, HasChain, Names, OfTold, content_in, is_among}
+use Rattle.df_checkpoint.specs.Reads.{FoundAnswer, IsNamedChain}
 use Rattle.df_checkpoint.proofs.OneLink.{asked_is}
 use Rattle.df_checkpoint.proofs.Walked.{Whole, names_length}
 
@@ -42,7 +42,7 @@ pub record IsListed (g : GridState) (shown : Shown) (refs : List Link) (a : ℕ)
   pub among : is_among a refs ≡ true
   pub shows : shown.units (BlockPlace a) ≡ Some (BlockUnit b)
 
-pub chain_listed : (g : GridState) (shown : Shown) (refs : List Link) (chain : List (ℕ × Block)) (a : ℕ) (b : Block) → Names shown refs chain → AreApart g refs → InChain a b chain → IsListed g shown refs a b
+pub chain_listed : (g : GridState) (shown : Shown) (refs : List Link) (chain : List (ℕ × Block)) (a : ℕ) (b : Block) → Names shown refs chain → AreDistinctLinks g refs → InChain a b chain → IsListed g shown refs a b
 chain_listed g shown [] [] a b names apart at = absurd at
 chain_listed g shown [] (x ∷ xs) a b names apart at = absurd names
 chain_listed g shown (r ∷ rs) [] a b names apart at = absurd names
@@ -72,7 +72,7 @@ text_sized room c (b ∷ bs) address sum links =
     more : (room size m text body : ℕ) → text ≡ min size (room * m) → body ≡ min room (size - room * m) → text + body ≡ min size (room * suc m)
     more room size m text body is piece = omega arith
 
-pub whole_is : (sh : Shape) (g : GridState) (shown : Shown) (c : Content) (n : ℕ) (refs : List Link) → sh.layout ≡ layout_of g.layout → IsCount (sh.layout.block_size - 256) c.trailer_size n → AreApart g refs → HasChain sh shown c n refs → IsNamed sh shown c refs
+pub whole_is : (sh : Shape) (g : GridState) (shown : Shown) (c : Content) (n : ℕ) (refs : List Link) → sh.layout ≡ layout_of g.layout → IsCount (sh.layout.block_size - 256) c.trailer_size n → AreDistinctLinks g refs → HasChain sh shown c n refs → IsNamedChain sh shown c refs
 whole_is sh g shown c n refs same counts apart has =
     let w = has.walked in
     let all : length w.chain ≡ n = names_length shown refs w.chain w.names ∙ has.all in
@@ -93,7 +93,7 @@ whole_is sh g shown c n refs same counts apart has =
     full : (room size n : ℕ) → size ≤ room * n → min size (room * n) ≡ size
     full room size n holds = omega arith
 
-pub found_answer : (g : GridState) (told : Option Told) (f : SuperFields) (count : ℕ) (result : Result (ArrayVec Link) TrailerFault) → IsCount (g.layout.block_size - 256) f.trailer_size count → IfOk result (λ blocks. AreApart g blocks.items) → Whole g told f count result
+pub found_answer : (g : GridState) (told : Option Told) (f : SuperFields) (count : ℕ) (result : Result (ArrayVec Link) TrailerFault) → IsCount (g.layout.block_size - 256) f.trailer_size count → IfOk result (λ blocks. AreDistinctLinks g blocks.items) → Whole g told f count result
     → (sh : Shape) → sh.layout ≡ layout_of g.layout → OfTold g told (λ shown. FoundAnswer sh shown (content_in f) result)
 found_answer g None f count result counts apart walked sh same = tt
 found_answer g (Some t) f count (Ok blocks) counts apart walked sh same =

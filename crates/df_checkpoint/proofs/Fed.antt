@@ -20,13 +20,13 @@ use Rattle.df_grid.specs.Reads.{ReadsTrailer, shown_of}
 use Rattle.df_checkpoint.specs.declared.links.Link.{Link}
 use Rattle.df_checkpoint.specs.declared.fault.TrailerFault.{TrailerFault}
 use Rattle.df_checkpoint.specs.declared.fault.TrailerFault.TheVariants.{Damaged, BadField, DiskFault}
-use Rattle.df_checkpoint.specs.Chain.{AreApart, Names, OfTold, asked, is_trailer_fault}
+use Rattle.df_checkpoint.specs.Chain.{AreDistinctLinks, Names, OfTold, asked, is_trailer_fault}
 use Rattle.df_checkpoint.proofs.Walked.{names_length}
-use Rattle.df_checkpoint.specs.Texts.{FeedAnswer, Feeds, HasReadTo, IsBody, TextAnswer, bad_of}
+use Rattle.df_checkpoint.specs.Texts.{FeedAnswer, Feeds, HasReadTo, IsPieceBody, TextAnswer, bad_of}
 
 -- ---- one block
 
-body_of : (g : GridState) (told : Option Told) (at : Link) (u : Message) → ReadsTrailer g.layout g.cluster told at.address (number_of at.checksum) (Ok (block_of u)) → IsBody g told at u.body
+body_of : (g : GridState) (told : Option Told) (at : Link) (u : Message) → ReadsTrailer g.layout g.cluster told at.address (number_of at.checksum) (Ok (block_of u)) → IsPieceBody g told at u.body
 body_of g None at u reads = tt
 body_of g (Some t) at u reads = (block_of u, sym reads, refl)
 
@@ -35,7 +35,7 @@ pub fed_answer : (g : GridState) (told : Option Told) (at : Link) (r : Reference
     → ReadsTrailer g.layout g.cluster told r.address (number_of r.checksum) (Ok (block_of u)) → Feeds old new u.body result → FeedAnswer g told at old new result
 fed_answer g told at r old new u result refers reads feeds = go result feeds
   where
-    body : IsBody g told at u.body
+    body : IsPieceBody g told at u.body
     body = body_of g told at u (subst (λ (x : Reference). ReadsTrailer g.layout g.cluster told x.address (number_of x.checksum) (Ok (block_of u))) refers reads)
 
     no_damage : (a : ℕ) (class : _) (given : Result (Unit {0}) Fault) → Err (Damaged a class) ≡ bad_of given → ⊥
@@ -107,7 +107,7 @@ read_more g told refs op done k at old new x size here fed read = record {
   is = go told fed.body read.is;
 }
   where
-    go : (t : Option Told) → IsBody g t at fed.piece → OfTold g t (λ shown. (chain : List (ℕ × Block)) → Names shown refs chain → read.text ≡ text_of (drop (length refs - done) chain))
+    go : (t : Option Told) → IsPieceBody g t at fed.piece → OfTold g t (λ shown. (chain : List (ℕ × Block)) → Names shown refs chain → read.text ≡ text_of (drop (length refs - done) chain))
         → OfTold g t (λ shown. (chain : List (ℕ × Block)) → Names shown refs chain → read.text ++ fed.piece ≡ text_of (drop (length refs - (done + 1)) chain))
     go None body is = tt
     go (Some t) body is = λ chain names.
@@ -144,7 +144,7 @@ read_refused g (Some t) refs op done k at old new last (BadField field value) si
 -- ---- all blocks
 
 -- a link of the chain has an address of the grid
-pub apart_inside : (g : GridState) (refs : List Link) (k : ℕ) (at : Link) → AreApart g refs → k < length refs → at ≡ get_or refs k at → HasAddress g at.address
+pub apart_inside : (g : GridState) (refs : List Link) (k : ℕ) (at : Link) → AreDistinctLinks g refs → k < length refs → at ≡ get_or refs k at → HasAddress g at.address
 apart_inside g [] k at apart less here = absurd (omega arith)
 apart_inside g (r ∷ rs) zero at apart less here = subst (λ (l : Link). HasAddress g l.address) (sym here) apart.0
 apart_inside g (r ∷ rs) (suc k) at apart less here = apart_inside g rs k at apart.2 (omega arith) here

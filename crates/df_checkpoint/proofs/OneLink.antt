@@ -22,7 +22,7 @@ use Rattle.df_theory.specs.Trailer.{piece_size}
 use Rattle.df_theory.specs.Opens.{IsLink}
 use Rattle.df_model.specs.Supply.{Shown, block_given, class_at, given_if}
 use Rattle.df_units.specs.Meaning.{block_of, layout_of, number_of}
-use Rattle.df_grid.specs.Grid.{GridState, IsKnownUnit}
+use Rattle.df_grid.specs.Grid.{GridState, IsKnownBlock}
 use Rattle.df_grid.specs.Reads.{ReadsTrailer, trailer_alone}
 use Rattle.df_checkpoint.specs.declared.fault.TrailerFault.TheVariants.{BadField}
 use Rattle.df_checkpoint.specs.Chain.{IsLinkOf, IsNoLink, LinkAnswer, OfTold, asked, before_of, content_in, is_link}
@@ -115,7 +115,7 @@ module _ (g : GridState) (told : Option Told) (f : SuperFields) (index : ℕ) (a
   own = same ∙ ap (λ (l : Layout). layout_of l) (sym of_grid)
 
   -- the block that is shown is the link
-  pub link_taken : (before : Link) → IsKnownUnit Trailer g.layout g.cluster r.address (Some (number_of r.checksum)) u → IsLinkOf layout f index u → before ≡ before_of u → OfTold g told (λ shown. LinkAnswer sh shown (content_in f) index at (Ok before))
+  pub link_taken : (before : Link) → IsKnownBlock Trailer g.layout g.cluster r.address (Some (number_of r.checksum)) u → IsLinkOf layout f index u → before ≡ before_of u → OfTold g told (λ shown. LinkAnswer sh shown (content_in f) index at (Ok before))
   link_taken before known link is = by told reads
     where
       by : (told : Option Told) → ReadsTrailer g.layout g.cluster told at.address (number_of at.checksum) (Ok (block_of u)) → OfTold g told (λ shown. LinkAnswer sh shown (content_in f) index at (Ok before))

@@ -15,7 +15,7 @@ use Rattle.df_model.proofs.Laws.{count_le}
 use Rattle.df_trailer.specs.declared.fault.Fault.{Fault}
 use Rattle.df_trailer.specs.Text.{fault, parse_of}
 use Rattle.df_checkpoint.specs.Chain.{IsBroken, asked}
-use Rattle.df_checkpoint.specs.Reads.{IsBadText, IsReferenced, IsWhole}
+use Rattle.df_checkpoint.specs.Reads.{IsBadText, IsReferenced, IsWholeChain}
 use Rattle.df_checkpoint.specs.Waiting.{IsUntracked}
 use Rattle.df_checkpoint.specs.Laws.{OneTestFails}
 use Rattle.df_checkpoint.proofs.OneLink.{asked_is}
@@ -51,7 +51,7 @@ module _ (sh : Shape) (shown : Shown) (c : Content) where
       one.reads.links (subst (λ (m : ℕ). AreLinks sh c m two.reads.read) same two.reads.links) one.is two.is one.broken two.broken
 
   -- no block breaks a whole chain
-  unbroken : (a : ℕ) (chain : List (ℕ × Block)) → IsWhole sh shown c chain → IsBroken sh shown c a → ⊥
+  unbroken : (a : ℕ) (chain : List (ℕ × Block)) → IsWholeChain sh shown c chain → IsBroken sh shown c a → ⊥
   unbroken a chain whole bad =
       let room : ℕ = sh.layout.block_size - 256 in
       let most = count_le room c.trailer_size bad.reads.count (length chain) bad.reads.counts whole.count in
@@ -60,7 +60,7 @@ module _ (sh : Shape) (shown : Shown) (c : Content) where
 
   -- ---- the text
 
-  one_chain : (xs ys : List (ℕ × Block)) → IsWhole sh shown c xs → IsWhole sh shown c ys → xs ≡ ys
+  one_chain : (xs ys : List (ℕ × Block)) → IsWholeChain sh shown c xs → IsWholeChain sh shown c ys → xs ≡ ys
   one_chain xs ys one two = same_chain (sh.layout.block_size - 256) shown.units c xs ys c.trailer c.trailer_checksum one.links two.links one.shows two.shows
 
   text_fails_once : (field other : Field) (value number : ℕ) → IsBadText sh shown c field value → IsBadText sh shown c other number → (field ≡ other) × (value ≡ number)
@@ -69,12 +69,12 @@ module _ (sh : Shape) (shown : Shown) (c : Content) where
       one_fault (record { field = field; value = value }) (record { field = other; value = number }) (sym one.fails ∙ ap (λ (l : List (ℕ × Block)). fault sh.layout c.op (text_of l)) chains ∙ two.fails)
 
   -- two texts that are parsed are one
-  one_text : (xs ys : List (ℕ × Block)) (p q : Parts) → IsWhole sh shown c xs → IsWhole sh shown c ys → sh.parse c.op (text_of xs) ≡ Some p → sh.parse c.op (text_of ys) ≡ Some q → (xs ≡ ys) × (p ≡ q)
+  one_text : (xs ys : List (ℕ × Block)) (p q : Parts) → IsWholeChain sh shown c xs → IsWholeChain sh shown c ys → sh.parse c.op (text_of xs) ≡ Some p → sh.parse c.op (text_of ys) ≡ Some q → (xs ≡ ys) × (p ≡ q)
   one_text xs ys p q one two first second =
       let chains = one_chain xs ys one two in
       (chains, same_Some p q (sym first ∙ ap (λ (l : List (ℕ × Block)). sh.parse c.op (text_of l)) chains ∙ second))
 
-  text_fails : (field : Field) (value : ℕ) (chain : List (ℕ × Block)) (parts : Parts) → sh.parse ≡ parse_of sh.layout → c.op ≤ 2 ^ 62 → IsBadText sh shown c field value → IsWhole sh shown c chain → sh.parse c.op (text_of chain) ≡ Some parts → ⊥
+  text_fails : (field : Field) (value : ℕ) (chain : List (ℕ × Block)) (parts : Parts) → sh.parse ≡ parse_of sh.layout → c.op ≤ 2 ^ 62 → IsBadText sh shown c field value → IsWholeChain sh shown c chain → sh.parse c.op (text_of chain) ≡ Some parts → ⊥
   text_fails field value chain parts parse most bad whole says =
       let none = unparsed sh c.op (text_of bad.chain) (record { field = field; value = value }) parse most bad.fails in
       let said : sh.parse c.op (text_of bad.chain) ≡ Some parts = ap (λ (l : List (ℕ × Block)). sh.parse c.op (text_of l)) (one_chain bad.chain chain bad.whole whole) ∙ says in

@@ -31,9 +31,9 @@ use Rattle.df_checkpoint.specs.declared.fault.TrailerFault.{TrailerFault}
 use Rattle.df_checkpoint.specs.declared.fault.TrailerFault.TheVariants.{Damaged, BadField, DiskFault}
 use Rattle.df_checkpoint.specs.Adopting.{AdoptAnswer, LiveRefused}
 use Rattle.df_checkpoint.specs.Adopting as adopting
-use Rattle.df_checkpoint.specs.Chain.{AreApart, Names, OfTold, content_in}
-use Rattle.df_checkpoint.specs.Texts.{HasText, TextAnswer}
-use Rattle.df_checkpoint.specs.Reads.{ChainAnswer, FoundAnswer, IsAdopted, IsNamed, IsReferenced, blocks_read}
+use Rattle.df_checkpoint.specs.Chain.{AreDistinctLinks, Names, OfTold, content_in}
+use Rattle.df_checkpoint.specs.Texts.{HasReadText, TextAnswer}
+use Rattle.df_checkpoint.specs.Reads.{ChainAnswer, FoundAnswer, IsAdopted, IsNamedChain, IsReferenced, blocks_read}
 use Rattle.df_checkpoint.proofs.OneLink.{asked_is}
 use Rattle.df_checkpoint.proofs.Walked.{among_there}
 use Rattle.df_checkpoint.proofs.Complete.{chain_listed}
@@ -43,7 +43,7 @@ parse_said sh op text parse most fine =
     let least : min op (2 ^ 62) ≡ op = omega arith in
     ap (λ (p : ℕ → List ℕ → Option Parts). p op text) parse ∙ ap (λ (n : ℕ). unless (fault sh.layout n text) (parts_of sh.layout text)) least ∙ ap (λ (o : Option Fault). unless o (parts_of sh.layout text)) fine
 
-pairs_named : (shown : Shown) (refs : List Link) (chain : List (ℕ × Block)) → Names shown refs chain → map adopting.pair_of refs ≡ map pair_of chain
+pairs_named : (shown : Shown) (refs : List Link) (chain : List (ℕ × Block)) → Names shown refs chain → map adopting.link_pair refs ≡ map pair_of chain
 pairs_named shown [] [] names = refl
 pairs_named shown [] (x ∷ xs) names = absurd names
 pairs_named shown (r ∷ rs) [] names = absurd names
@@ -60,7 +60,7 @@ abbrev both : List (ℕ × ℕ) → List (ℕ × ℕ) → Blocks
 both xs ys = record { live = xs; captured = []; written = []; left = []; durable = xs; chain = ys }
 
 module _ (sh : Shape) (g : GridState) (shown : Shown) (f : SuperFields) (refs : List Link) (reader : Reader) (same : sh.layout ≡ layout_of g.layout) (parse : sh.parse ≡ parse_of sh.layout)
-    (fields : AreFieldsOf g.layout g.cluster f) (super : IsSuper f) (named : f.trailer_address ≢ 0) (apart : AreApart g refs) (has : IsNamed sh shown (content_in f) refs)
+    (fields : AreFieldsOf g.layout g.cluster f) (super : IsSuper f) (named : f.trailer_address ≢ 0) (apart : AreDistinctLinks g refs) (has : IsNamedChain sh shown (content_in f) refs)
     (read : HasRead g.layout f.op reader (text_of has.chain)) (whole : failing_in reader ≡ None) (fine : fault (layout_of g.layout) f.op (text_of has.chain) ≡ None) where
   text : List ℕ
   text = text_of has.chain
@@ -84,9 +84,9 @@ module _ (sh : Shape) (g : GridState) (shown : Shown) (f : SuperFields) (refs : 
       let less : g.layout.blocks + 1 - 1 ≡ g.layout.blocks = omega arith in
       let blocks : g.layout.blocks ≡ sh.layout.blocks = ap (λ (l : model.Layout). l.blocks) (sym same) in
       is
-      ∙ ap (λ (n : ℕ). both (entries (kept_at reader) (range_with_len 1 n)) (map adopting.pair_of refs)) less
-      ∙ ap (λ (xs : List (ℕ × ℕ)). both xs (map adopting.pair_of refs)) (entries_same (kept_at reader) (parts_of sh.layout (text_of has.chain)).references 1 g.layout.blocks (λ a from to. kept a (from, omega (arith, to))))
-      ∙ ap (λ (n : ℕ). both (entries (parts_of sh.layout (text_of has.chain)).references (range_with_len 1 n)) (map adopting.pair_of refs)) blocks
+      ∙ ap (λ (n : ℕ). both (entries (kept_at reader) (range_with_len 1 n)) (map adopting.link_pair refs)) less
+      ∙ ap (λ (xs : List (ℕ × ℕ)). both xs (map adopting.link_pair refs)) (entries_same (kept_at reader) (parts_of sh.layout (text_of has.chain)).references 1 g.layout.blocks (λ a from to. kept a (from, omega (arith, to))))
+      ∙ ap (λ (n : ℕ). both (entries (parts_of sh.layout (text_of has.chain)).references (range_with_len 1 n)) (map adopting.link_pair refs)) blocks
       ∙ ap (λ (ys : List (ℕ × ℕ)). both (entries (parts_of sh.layout (text_of has.chain)).references (range_with_len 1 sh.layout.blocks)) ys) (pairs_named shown refs has.chain has.names)
 
   pub adopted_all : (h : GridState) (x : Unit {0}) → AdoptAnswer g h reader refs (Ok x) → IsAdopted sh shown (content_in f) h reader
@@ -133,7 +133,7 @@ module _ (sh : Shape) (g : GridState) (shown : Shown) (f : SuperFields) (refs : 
 -- ---- the answer
 
 -- the reading of the text ends the reading
-pub text_refused : (g h : GridState) (told : Option Told) (f : SuperFields) (refs : List Link) (reader : Reader) (e : TrailerFault) (sh : Shape) → sh.layout ≡ layout_of g.layout → OfTold g told (λ shown. IsNamed sh shown (content_in f) refs)
+pub text_refused : (g h : GridState) (told : Option Told) (f : SuperFields) (refs : List Link) (reader : Reader) (e : TrailerFault) (sh : Shape) → sh.layout ≡ layout_of g.layout → OfTold g told (λ shown. IsNamedChain sh shown (content_in f) refs)
     → TextAnswer g told refs f.op reader (Err e) → OfTold g told (λ shown. ChainAnswer sh shown (content_in f) h reader (Err e))
 text_refused g h None f refs reader e sh same has answer = tt
 text_refused g h (Some t) f refs reader (Damaged address class) sh same has answer = absurd (answer has.chain has.names)
@@ -149,7 +149,7 @@ chain_refused g h (Some t) f reader DiskFault sh answer = tt
 
 -- and so does what the grid adopts
 pub chain_adopted : (g h : GridState) (told : Option Told) (f : SuperFields) (refs : List Link) (reader : Reader) (result : Result (Unit {0}) TrailerFault) (sh : Shape) → sh.layout ≡ layout_of g.layout → sh.parse ≡ parse_of sh.layout → AreFieldsOf g.layout g.cluster f → IsSuper f → f.trailer_address ≢ 0
-    → AreApart g refs → OfTold g told (λ shown. IsNamed sh shown (content_in f) refs) → HasText g told refs f.op reader → AdoptAnswer g h reader refs result → OfTold g told (λ shown. ChainAnswer sh shown (content_in f) h reader result)
+    → AreDistinctLinks g refs → OfTold g told (λ shown. IsNamedChain sh shown (content_in f) refs) → HasReadText g told refs f.op reader → AdoptAnswer g h reader refs result → OfTold g told (λ shown. ChainAnswer sh shown (content_in f) h reader result)
 chain_adopted g h None f refs reader result sh same parse fields super named apart has text answer = tt
 chain_adopted g h (Some t) f refs reader result sh same parse fields super named apart has text answer =
     let is : text.text ≡ text_of has.chain = text.is has.chain has.names in

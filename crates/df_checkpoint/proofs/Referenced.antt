@@ -5,15 +5,15 @@ use Rattle.std.proofs.lemmas.List.Folds.{list_any_at}
 use Rattle.df_trailer.specs.declared.reader.Reader.{Reader}
 use Rattle.df_grid.specs.Grid.{GridState, HasAddress}
 use Rattle.df_checkpoint.specs.declared.links.Link.{Link}
-use Rattle.df_checkpoint.specs.Chain.{AreApart, is_among}
-use Rattle.df_checkpoint.specs.Adopting.{IsFirst, LiveRefused}
+use Rattle.df_checkpoint.specs.Chain.{AreDistinctLinks, is_among}
+use Rattle.df_checkpoint.specs.Adopting.{IsFirstReferenced, LiveRefused}
 
 -- each link's address is among those of the chain
 pub link_among : (refs : List Link) (i : ℕ) (d : Link) → i < length refs → is_among (get_or refs i d).address refs ≡ true
 link_among refs i d less = list_any_at (λ (r : Link). r.address == (get_or refs i d).address) refs i d less (grind (arith, nat_tests))
 
 -- an address of the chain is one of the grid's
-pub among_inside : (g : GridState) (refs : List Link) (a : ℕ) → AreApart g refs → is_among a refs ≡ true → HasAddress g a
+pub among_inside : (g : GridState) (refs : List Link) (a : ℕ) → AreDistinctLinks g refs → is_among a refs ≡ true → HasAddress g a
 among_inside g [] a apart is = absurd (cc)
 among_inside g (r ∷ rs) a apart is = go (r.address == a) refl (λ more. among_inside g rs a apart.2 more) is
   where
@@ -22,5 +22,5 @@ among_inside g (r ∷ rs) a apart is = go (r.address == a) refl (λ more. among_
     go false e others h = others h
 
 -- where one is referenced, nothing is adopted
-pub first_refused : (g : GridState) (reader : Reader) (refs : List Link) (at : ℕ) → AreApart g refs → IsFirst reader refs at → LiveRefused g reader refs at
+pub first_refused : (g : GridState) (reader : Reader) (refs : List Link) (at : ℕ) → AreDistinctLinks g refs → IsFirstReferenced reader refs at → LiveRefused g reader refs at
 first_refused g reader refs at apart first = record { inside = among_inside g refs at apart first.chained; chained = first.chained; known = first.known; least = λ a inside less among. first.least a less among }

@@ -11,8 +11,8 @@ use Rattle.df_trailer.specs.Reading.{HasRead}
 use Rattle.df_trailer.specs.Rooms.{without_reply}
 use Rattle.df_trailer.specs.declared.reader.Reader.{Reader}
 use Rattle.df_grid.specs.Grid.{GridState}
-use Rattle.df_checkpoint.specs.Reads.{IsComplete}
-use Rattle.df_checkpoint.specs.Waiting.{IsPending, has_op}
+use Rattle.df_checkpoint.specs.Reads.{IsCompleteReader}
+use Rattle.df_checkpoint.specs.Waiting.{IsPendingReply, has_op}
 
 -- the table's sessions are the text's
 pub sessions_back : (ss : List Units.Session) → sessions_of (map without_reply ss) ≡ ss
@@ -39,9 +39,9 @@ has_not op (t ∷ ss) is (zero, s, at, same) =
 has_not op (t ∷ ss) is (suc k, s, at, same) = has_not op ss (or_parts (t.op == op) (has_op op ss) is).1 (k, s, at, same)
 
 -- a reader that has read a whole text gives this of it
-pub complete_gives : (P : Layout → ℕ → Type 0) (g : GridState) (op : ℕ) (reader : Reader) (layout : Layout) → IsComplete g op reader → g.layout ≡ layout → ((l : Layout) (o : ℕ) (text : List ℕ) → HasRead l o reader text → P l o) → P layout op
+pub complete_gives : (P : Layout → ℕ → Type 0) (g : GridState) (op : ℕ) (reader : Reader) (layout : Layout) → IsCompleteReader g op reader → g.layout ≡ layout → ((l : Layout) (o : ℕ) (text : List ℕ) → HasRead l o reader text → P l o) → P layout op
 complete_gives P g op reader layout complete same gives = subst (λ (l : Layout). P l op) same (gives g.layout op complete.text complete.has)
 
 -- the ops that wait, of copies of the sessions and of the superblock
-pub pending_of : (lent ss : List Session) (fields f : SuperFields) (o : Option ℕ) → lent ≡ ss → fields ≡ f → IsPending lent fields.replies fields.op o → IsPending ss f.replies f.op o
-pending_of lent ss fields f o same one pending = subst (λ (l : List Session). IsPending l f.replies f.op o) same (subst (λ (x : SuperFields). IsPending lent x.replies x.op o) one pending)
+pub pending_of : (lent ss : List Session) (fields f : SuperFields) (o : Option ℕ) → lent ≡ ss → fields ≡ f → IsPendingReply lent fields.replies fields.op o → IsPendingReply ss f.replies f.op o
+pending_of lent ss fields f o same one pending = subst (λ (l : List Session). IsPendingReply l f.replies f.op o) same (subst (λ (x : SuperFields). IsPendingReply lent x.replies x.op o) one pending)

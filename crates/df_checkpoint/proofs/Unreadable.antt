@@ -15,7 +15,7 @@ use Rattle.df_trailer.specs.declared.fault.Fault.{Fault}
 use Rattle.df_trailer.specs.Text.{fault, parse_of, parts_of, unless}
 use Rattle.df_grid.specs.Reads.{trailer_alone}
 use Rattle.df_checkpoint.specs.Chain.{asked}
-use Rattle.df_checkpoint.specs.Reads.{IsWhole}
+use Rattle.df_checkpoint.specs.Reads.{IsWholeChain}
 use Rattle.df_checkpoint.specs.Laws.{BadTextIsUnreadable, BrokenIsUnreadable, DamageIsMissed, ReferencedIsUnreadable, UntrackedIsUnreadable}
 use Rattle.df_checkpoint.proofs.OneLink.{asked_is}
 
@@ -43,7 +43,7 @@ same_chain room image c (x ∷ xs) (y ∷ ys) address sum one two first second =
     ap (λ (n : ℕ). (n, x.1) ∷ xs) place ∙ ap (λ (b : Block). (y.0, b) ∷ xs) block ∙ ap (λ (l : List (ℕ × Block)). (y.0, y.1) ∷ l) rest
 
 -- of a checkpoint that can be read the chain is the whole one
-its_chain : (sh : Shape) (shown : Shown) (c : Content) (chain : List (ℕ × Block)) → IsWhole sh shown c chain → (b : Checkpoint) → b.content ≡ c → IsReadable sh shown.units b → chain ≡ b.chain
+its_chain : (sh : Shape) (shown : Shown) (c : Content) (chain : List (ℕ × Block)) → IsWholeChain sh shown c chain → (b : Checkpoint) → b.content ≡ c → IsReadable sh shown.units b → chain ≡ b.chain
 its_chain sh shown c chain whole b same readable =
     same_chain (sh.layout.block_size - 256) shown.units c chain b.chain c.trailer c.trailer_checksum whole.links (subst (λ (d : Content). Links (sh.layout.block_size - 256) d b.chain d.trailer d.trailer_checksum) same readable.sound.trailer.links) whole.shows readable.shown
 
@@ -56,7 +56,7 @@ pub some_chain : (room : ℕ) (c : Content) (chain : List (ℕ × Block)) → 0 
 some_chain room c [] some links is = omega (arith, links)
 some_chain room c (x ∷ xs) some links is = cc
 
-its_parts : (sh : Shape) (shown : Shown) (c : Content) (chain : List (ℕ × Block)) → 0 < c.trailer → IsWhole sh shown c chain → (b : Checkpoint) → b.content ≡ c → IsReadable sh shown.units b → sh.parse c.op (text_of chain) ≡ Some b.parts
+its_parts : (sh : Shape) (shown : Shown) (c : Content) (chain : List (ℕ × Block)) → 0 < c.trailer → IsWholeChain sh shown c chain → (b : Checkpoint) → b.content ≡ c → IsReadable sh shown.units b → sh.parse c.op (text_of chain) ≡ Some b.parts
 its_parts sh shown c chain some whole b same readable =
     let chains = its_chain sh shown c chain whole b same readable in
     its_text sh c.op chain b.parts (some_chain (sh.layout.block_size - 256) c chain some whole.links)

@@ -19,7 +19,7 @@ use Rattle.df_grid.specs.Reads.{shown_of}
 use Rattle.df_checkpoint.specs.declared.links.Link.{Link}
 use Rattle.df_checkpoint.specs.declared.fault.TrailerFault.{TrailerFault}
 use Rattle.df_checkpoint.specs.declared.fault.TrailerFault.TheVariants.{BadField, Damaged, DiskFault}
-use Rattle.df_checkpoint.specs.Chain.{AreApart, HasWalked, IsBroken, IsLacking, IsTaken, LinkAnswer, Names, OfTold, StepAnswer, WalkAnswer, asked, content_in, is_among}
+use Rattle.df_checkpoint.specs.Chain.{AreDistinctLinks, HasWalked, IsBroken, IsLacking, IsTakenLink, LinkAnswer, Names, OfTold, StepAnswer, WalkAnswer, asked, content_in, is_among}
 use Rattle.df_checkpoint.proofs.OneLink.{asked_is}
 
 names_more : (shown : Shown) (refs : List Link) (chain : List (ℕ × Block)) (r : Link) (b : Block) → Names shown refs chain → asked shown r.address (number_of r.checksum) ≡ Ok b → Names shown (refs ++ r ∷ []) (chain ++ (r.address, b) ∷ [])
@@ -72,7 +72,7 @@ module _ (sh : Shape) (shown : Shown) (c : Content) (n index : ℕ) (refs : List
   reads : IsCount (sh.layout.block_size - 256) c.trailer_size n → ReadsTo sh shown.units c at.address (number_of at.checksum)
   reads counts = record { count = n; read = walked.chain; counts = counts; arrives = walked.arrives; links = walked.links; more = omega (arith, counted) }
 
-  pub step_taken : (before : Link) → 0 < at.address → IsTaken sh shown c index at before → HasWalked sh shown c n (refs ++ at ∷ []) before
+  pub step_taken : (before : Link) → 0 < at.address → IsTakenLink sh shown c index at before → HasWalked sh shown c n (refs ++ at ∷ []) before
   step_taken before above taken =
       let is = asked_is shown at.address (number_of at.checksum) taken.block taken.is in
       let P : ℕ → ℕ → Type 0 = λ a k. Arrives shown.units (walked.chain ++ (at.address, taken.block) ∷ []) c.trailer c.trailer_checksum a k in
@@ -91,7 +91,7 @@ module _ (sh : Shape) (shown : Shown) (c : Content) (n index : ℕ) (refs : List
   unfolding reads
   step_broken block counts is broken = record { sum = number_of at.checksum; reads = reads counts; index = index; at = counted; block = block; is = is; broken = broken }
 
-  pub not_again : (before : Link) → IsTaken sh shown c index at before → is_among at.address refs ≡ true → ⊥
+  pub not_again : (before : Link) → IsTakenLink sh shown c index at before → is_among at.address refs ≡ true → ⊥
   not_again before taken again =
       let there = among_there shown refs walked.chain at.address walked.names again in
       let above = links_above sh c n index walked.chain at.address there.block walked.links counted there.inside in
@@ -148,11 +148,11 @@ among_last a (q ∷ qs) r none apart = go (q.address == a) (λ rest. among_last 
     go false rest none = rest none
 
 -- addresses stay apart with one more that isn't among them
-pub apart_more : (g : GridState) (refs : List Link) (r : Link) → AreApart g refs → HasAddress g r.address → is_among r.address refs ≡ false → AreApart g (refs ++ r ∷ [])
+pub apart_more : (g : GridState) (refs : List Link) (r : Link) → AreDistinctLinks g refs → HasAddress g r.address → is_among r.address refs ≡ false → AreDistinctLinks g (refs ++ r ∷ [])
 apart_more g [] r apart inside none = (inside, refl, tt)
 apart_more g (q ∷ qs) r apart inside none = go (q.address == r.address) refl (λ rest. apart_more g qs r apart.2 inside rest) none
   where
-    go : (t : Bool) → (q.address == r.address) ≡ t → (is_among r.address qs ≡ false → AreApart g (qs ++ r ∷ [])) → (t || is_among r.address qs) ≡ false → AreApart g ((q ∷ qs) ++ r ∷ [])
+    go : (t : Bool) → (q.address == r.address) ≡ t → (is_among r.address qs ≡ false → AreDistinctLinks g (qs ++ r ∷ [])) → (t || is_among r.address qs) ≡ false → AreDistinctLinks g ((q ∷ qs) ++ r ∷ [])
     go true e rest none = absurd (cc)
     go false e rest none = (apart.0, among_last q.address qs r apart.1 (λ same. grind (arith, nat_tests)), rest none)
 

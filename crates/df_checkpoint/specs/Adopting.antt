@@ -25,12 +25,12 @@ blocks_to said address = record {
 }
 
 -- an address with its checksum
-abbrev pub pair_of : Link → ℕ × ℕ
-pair_of link = (link.address, number_of link.checksum)
+abbrev pub link_pair : Link → ℕ × ℕ
+link_pair link = (link.address, number_of link.checksum)
 
 -- and these are the trailer's blocks, from the last to the first
 abbrev pub chained : Blocks → List Link → Blocks
-chained b refs = record b { chain = map pair_of refs }
+chained b refs = record b { chain = map link_pair refs }
 
 -- the layout, the cluster and the boot are the same
 pub record SameFile (old new : GridState) : Type 0 where
@@ -39,14 +39,14 @@ pub record SameFile (old new : GridState) : Type 0 where
   pub boot : new.boot ≡ old.boot
 
 -- of the addresses of the chain this is the least one that is referenced
-pub record IsFirst (reader : Reader) (refs : List Link) (at : ℕ) : Type 0 where
+pub record IsFirstReferenced (reader : Reader) (refs : List Link) (at : ℕ) : Type 0 where
   pub chained : is_among at refs ≡ true
   pub known : is_known (kept_at reader at) ≡ true
   pub least : (a : ℕ) → a < at → is_among a refs ≡ true → kept_at reader a ≡ None
 
 -- this is the least one, or none of them is referenced
 abbrev pub FirstAnswer : Reader → List Link → Option ℕ → Type 0
-FirstAnswer reader refs (Some at) = IsFirst reader refs at
+FirstAnswer reader refs (Some at) = IsFirstReferenced reader refs at
 FirstAnswer reader refs None = (a : ℕ) → is_among a refs ≡ true → kept_at reader a ≡ None
 
 -- the address is one of the chain's and is referenced, and it is the least one

@@ -69,7 +69,7 @@ abbrev pub IsNoLink : Layout → SuperFields → ℕ → Message → Type 0
 IsNoLink layout f index u = (sh : Shape) → sh.layout ≡ layout_of layout → IsLink sh (content_in f) index (block_of u) → ⊥
 
 -- the block that is asked for is shown, is a link, and has this reference
-pub record IsTaken (sh : Shape) (shown : Shown) (c : Content) (index : ℕ) (at before : Link) : Type 0 where
+pub record IsTakenLink (sh : Shape) (shown : Shown) (c : Content) (index : ℕ) (at before : Link) : Type 0 where
   pub block : Block
   pub is : asked shown at.address (number_of at.checksum) ≡ Ok block
   pub link : IsLink sh c index block
@@ -84,7 +84,7 @@ pub record IsUnlinked (sh : Shape) (shown : Shown) (c : Content) (index : ℕ) (
   pub broken : IsLink sh c index block → ⊥
 
 abbrev pub LinkAnswer : Shape → Shown → Content → ℕ → Link → Result Link TrailerFault → Type 0
-LinkAnswer sh shown c index at (Ok before) = IsTaken sh shown c index at before
+LinkAnswer sh shown c index at (Ok before) = IsTakenLink sh shown c index at before
 LinkAnswer sh shown c index at (Err (Damaged address class)) = (address ≡ at.address) × (asked shown at.address (number_of at.checksum) ≡ Err class)
 LinkAnswer sh shown c index at (Err (BadField field value)) = (field ≡ TrailerChain) × (value ≡ at.address) × IsUnlinked sh shown c index at
 LinkAnswer sh shown c index at (Err DiskFault) = Unit {0}
@@ -128,9 +128,9 @@ abbrev pub is_among : ℕ → List Link → Bool
 is_among a refs = list_any (λ r. r.address == a) refs
 
 -- addresses of the grid, no two of them the same
-abbrev pub AreApart : GridState → List Link → Type 0
-AreApart g [] = Unit {0}
-AreApart g (r ∷ rs) = HasAddress g r.address × (is_among r.address rs ≡ false) × AreApart g rs
+abbrev pub AreDistinctLinks : GridState → List Link → Type 0
+AreDistinctLinks g [] = Unit {0}
+AreDistinctLinks g (r ∷ rs) = HasAddress g r.address × (is_among r.address rs ≡ false) × AreDistinctLinks g rs
 
 -- after the link with this index the walk goes on, or ends with the first block
 abbrev pub StepAnswer : Shape → Shown → Content → ℕ → ℕ → List Link → Result Link TrailerFault → Type 0

@@ -9,7 +9,7 @@ use Rattle.df_theory.specs.View.{Checkpoint}
 use Rattle.df_model.specs.Supply.{Shown}
 use Rattle.df_trailer.specs.Text.{parse_of}
 use Rattle.df_checkpoint.specs.Chain.{IsBroken, IsLacking}
-use Rattle.df_checkpoint.specs.Reads.{IsBadText, IsReferenced, IsWhole}
+use Rattle.df_checkpoint.specs.Reads.{IsBadText, IsReferenced, IsWholeChain}
 use Rattle.df_checkpoint.specs.Tests.{FailsTest}
 use Rattle.df_checkpoint.specs.Waiting.{IsUntracked}
 
@@ -42,12 +42,12 @@ abbrev pub OneTestFails : Type 0
 OneTestFails = (sh : Shape) (shown : Shown) (c : Content) (field other : Field) (value number : ℕ) → sh.parse ≡ parse_of sh.layout → c.op ≤ 2 ^ 62 → FailsTest sh shown c field value → FailsTest sh shown c other number → (field ≡ other) × (value ≡ number)
 
 -- each block that is wanted is shown
-abbrev pub AllShown : Shape → Shown → Content → Type 0
-AllShown sh shown c = (a k : ℕ) → ReadsTo sh shown.units c a k → IsShown shown.units a k
+abbrev pub AllChainShown : Shape → Shown → Content → Type 0
+AllChainShown sh shown c = (a k : ℕ) → ReadsTo sh shown.units c a k → IsShown shown.units a k
 
 -- where a link breaks the chain, or the chain is whole, no block is missed
 abbrev pub BrokenIsShown : Type 0
-BrokenIsShown = (sh : Shape) (shown : Shown) (c : Content) (at : ℕ) → IsBroken sh shown c at → AllShown sh shown c
+BrokenIsShown = (sh : Shape) (shown : Shown) (c : Content) (at : ℕ) → IsBroken sh shown c at → AllChainShown sh shown c
 
 abbrev pub WholeIsShown : Type 0
-WholeIsShown = (sh : Shape) (shown : Shown) (c : Content) (chain : List (ℕ × Block)) → IsWhole sh shown c chain → AllShown sh shown c
+WholeIsShown = (sh : Shape) (shown : Shown) (c : Content) (chain : List (ℕ × Block)) → IsWholeChain sh shown c chain → AllChainShown sh shown c

@@ -19,7 +19,7 @@ use Rattle.df_checkpoint.specs.declared.fault.TrailerFault.TheVariants.{Damaged,
 use Rattle.df_checkpoint.specs.Chain.{IsBroken, IsLacking, Names}
 
 -- the chain that the superblock names is shown whole, each block a link of it
-pub record IsWhole (sh : Shape) (shown : Shown) (c : Content) (chain : List (ℕ × Block)) : Type 0 where
+pub record IsWholeChain (sh : Shape) (shown : Shown) (c : Content) (chain : List (ℕ × Block)) : Type 0 where
   pub links : Links (sh.layout.block_size - 256) c chain c.trailer c.trailer_checksum
   pub count : IsCount (sh.layout.block_size - 256) c.trailer_size (length chain)
   pub inside : (a : ℕ) (b : Block) → InChain a b chain → a ≤ sh.layout.blocks
@@ -27,13 +27,13 @@ pub record IsWhole (sh : Shape) (shown : Shown) (c : Content) (chain : List (ℕ
   pub shows : (a : ℕ) (b : Block) → InChain a b chain → shown.units (BlockPlace a) ≡ Some (BlockUnit b)
 
 -- it is the chain that these references name
-pub record IsNamed (sh : Shape) (shown : Shown) (c : Content) (refs : List Link) : Type 0 where
+pub record IsNamedChain (sh : Shape) (shown : Shown) (c : Content) (refs : List Link) : Type 0 where
   pub chain : List (ℕ × Block)
   pub names : Names shown refs chain
-  pub whole : IsWhole sh shown c chain
+  pub whole : IsWholeChain sh shown c chain
 
 abbrev pub FoundAnswer : Shape → Shown → Content → Result (ArrayVec Link) TrailerFault → Type 0
-FoundAnswer sh shown c (Ok blocks) = IsNamed sh shown c blocks.items
+FoundAnswer sh shown c (Ok blocks) = IsNamedChain sh shown c blocks.items
 FoundAnswer sh shown c (Err (Damaged address class)) = IsLacking sh shown c address class
 FoundAnswer sh shown c (Err (BadField field value)) = (field ≡ TrailerChain) × IsBroken sh shown c value
 FoundAnswer sh shown c (Err DiskFault) = Unit {0}
@@ -64,13 +64,13 @@ pub record IsAdopted (sh : Shape) (shown : Shown) (c : Content) (g : GridState) 
 -- the chain is whole, and this is the first part of its text that fails
 pub record IsBadText (sh : Shape) (shown : Shown) (c : Content) (field : Field) (value : ℕ) : Type 0 where
   pub chain : List (ℕ × Block)
-  pub whole : IsWhole sh shown c chain
+  pub whole : IsWholeChain sh shown c chain
   pub fails : fault sh.layout c.op (text_of chain) ≡ Some (record { field = field; value = value })
 
 -- the chain is whole and its text is one, which references an address of the chain; this is the least one
 pub record IsReferenced (sh : Shape) (shown : Shown) (c : Content) (at : ℕ) : Type 0 where
   pub chain : List (ℕ × Block)
-  pub whole : IsWhole sh shown c chain
+  pub whole : IsWholeChain sh shown c chain
   pub parts : Parts
   pub says : sh.parse c.op (text_of chain) ≡ Some parts
   pub block : Block
@@ -86,7 +86,7 @@ ChainAnswer sh shown c g reader (Err (BadField field value)) = ((field ≡ Trail
 ChainAnswer sh shown c g reader (Err DiskFault) = Unit {0}
 
 -- of any disk, the reader that has read a whole text in which nothing fails gives its parts
-pub record IsComplete (g : GridState) (op : ℕ) (reader : Reader) : Type 0 where
+pub record IsCompleteReader (g : GridState) (op : ℕ) (reader : Reader) : Type 0 where
   pub text : List ℕ
   pub has : HasRead g.layout op reader text
   pub whole : failing_in reader ≡ None

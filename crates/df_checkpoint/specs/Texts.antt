@@ -29,12 +29,12 @@ pub record Feeds (old new : Reader) (piece : List ℕ) (result : Result (Unit {0
   pub refuses : (layout : Layout) (op : ℕ) (text : List ℕ) → HasRead layout op old text → result ≡ bad_of (answer (refusal (layout_of layout) op (text ++ piece)))
 
 -- the piece is the body of the block that is asked for
-abbrev pub IsBody : GridState → Option Told → Link → List ℕ → Type 0
-IsBody g told at piece = OfTold g told (λ shown. (b : Block) × (asked shown at.address (number_of at.checksum) ≡ Ok b) × (piece ≡ b.body))
+abbrev pub IsPieceBody : GridState → Option Told → Link → List ℕ → Type 0
+IsPieceBody g told at piece = OfTold g told (λ shown. (b : Block) × (asked shown at.address (number_of at.checksum) ≡ Ok b) × (piece ≡ b.body))
 
 pub record IsFed (g : GridState) (told : Option Told) (at : Link) (old new : Reader) (result : Result (Unit {0}) TrailerFault) : Type 0 where
   pub piece : List ℕ
-  pub body : IsBody g told at piece
+  pub body : IsPieceBody g told at piece
   pub feeds : Feeds old new piece result
 
 abbrev pub FeedAnswer : GridState → Option Told → Link → Reader → Reader → Result (Unit {0}) TrailerFault → Type 0
@@ -52,7 +52,7 @@ pub record HasReadTo (g : GridState) (told : Option Told) (refs : List Link) (op
   pub is : OfTold g told (λ shown. (chain : List (ℕ × Block)) → Names shown refs chain → text ≡ text_of (drop (length refs - done) chain))
 
 -- the reader has read the whole text, and nothing in it fails
-pub record HasText (g : GridState) (told : Option Told) (refs : List Link) (op : ℕ) (reader : Reader) : Type 0 where
+pub record HasReadText (g : GridState) (told : Option Told) (refs : List Link) (op : ℕ) (reader : Reader) : Type 0 where
   pub text : List ℕ
   pub has : HasRead g.layout op reader text
   pub whole : failing_in reader ≡ None
@@ -61,7 +61,7 @@ pub record HasText (g : GridState) (told : Option Told) (refs : List Link) (op :
 
 -- where the disk tells what it shows, the second reading adds no refusal but the first part of the text that fails
 abbrev pub TextAnswer : GridState → Option Told → List Link → ℕ → Reader → Result (Unit {0}) TrailerFault → Type 0
-TextAnswer g told refs op reader (Ok x) = HasText g told refs op reader
+TextAnswer g told refs op reader (Ok x) = HasReadText g told refs op reader
 TextAnswer g told refs op reader (Err (BadField field value)) =
     OfTold g told (λ shown. (chain : List (ℕ × Block)) → Names shown refs chain → fault (layout_of g.layout) op (text_of chain) ≡ Some (record { field = field; value = value }))
 TextAnswer g told refs op reader (Err (Damaged address class)) = OfTold g told (λ shown. (chain : List (ℕ × Block)) → Names shown refs chain → ⊥)

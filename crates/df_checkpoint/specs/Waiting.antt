@@ -7,7 +7,7 @@ use Rattle.df_theory.specs.Shape.{Shape}
 use Rattle.df_theory.specs.Trailer.{InChain, text_of}
 use Rattle.df_model.specs.Supply.{Shown}
 use Rattle.df_sessions.specs.declared.session.Session.{Session}
-use Rattle.df_checkpoint.specs.Reads.{IsWhole}
+use Rattle.df_checkpoint.specs.Reads.{IsWholeChain}
 
 -- the op is that of a session
 abbrev pub has_op : ℕ → List Session → Bool
@@ -23,7 +23,7 @@ pub record IsLeast (sessions : List Session) (replies op n : ℕ) : Type 0 where
 -- in the theory's words: a chain is whole, its text is one that references no address of the chain, and this is the least op that waits for its reply and is the op of no session
 pub record IsUntracked (sh : Shape) (shown : Shown) (c : Content) (n : ℕ) : Type 0 where
   pub chain : List (ℕ × Block)
-  pub whole : IsWhole sh shown c chain
+  pub whole : IsWholeChain sh shown c chain
   pub parts : Parts
   pub says : sh.parse c.op (text_of chain) ≡ Some parts
   pub spare : (a : ℕ) (b : Block) → InChain a b chain → parts.references a ≡ None
@@ -32,6 +32,6 @@ pub record IsUntracked (sh : Shape) (shown : Shown) (c : Content) (n : ℕ) : Ty
   pub lacks : Has parts.sessions n → ⊥
   pub least : (m : ℕ) → c.replies < m → m < n → Has parts.sessions m
 
-abbrev pub IsPending : List Session → (replies op : ℕ) → Option ℕ → Type 0
-IsPending sessions replies op None = (n : ℕ) → replies < n → n ≤ op → has_op n sessions ≡ true
-IsPending sessions replies op (Some n) = IsLeast sessions replies op n
+abbrev pub IsPendingReply : List Session → (replies op : ℕ) → Option ℕ → Type 0
+IsPendingReply sessions replies op None = (n : ℕ) → replies < n → n ≤ op → has_op n sessions ≡ true
+IsPendingReply sessions replies op (Some n) = IsLeast sessions replies op n

@@ -2,7 +2,7 @@
 // over, each address of the chain is tested: none of them may be referenced.
 ghost use Rattle.std.specs.Prelude.{◌≡◌, ◌+◌, ◌≤◌, ℕ, [], OnErr, false, length, true};
 ghost use Rattle.df_checkpoint.specs.Below.{is_held_in, HasBit, kept_at, referenced_below, with_blocks, no_blocks};
-ghost use Rattle.df_checkpoint.specs.Chain.{AreApart, is_among};
+ghost use Rattle.df_checkpoint.specs.Chain.{AreDistinctLinks, is_among};
 ghost use Rattle.df_checkpoint.specs.Adopting.{AdoptAnswer, FirstAnswer, blocks_to, chained};
 
 use crate::TrailerFault;
@@ -64,7 +64,7 @@ fn adopt_live(grid: &mut Grid, reader: &Reader)
 
 // Adopts the blocks of the chain, in order of index.
 fn adopt_chain(grid: &mut Grid, blocks: &[Link])
-    requires apart { AreApart grid.old blocks.now }
+    requires apart { AreDistinctLinks grid.old blocks.now }
     requires few { length blocks.now ≤ 70 }
     requires none { grid.old.blocks.chain ≡ [] }
     requires free { (a : ℕ) → is_among a blocks.now ≡ true → is_held_in grid.old.blocks a ≡ false }
@@ -78,7 +78,7 @@ fn adopt_chain(grid: &mut Grid, blocks: &[Link])
 /// Adopts the checkpoint that was read: the blocks that it references, and those of its chain. It is refused with the least address of the
 /// chain that is referenced, where there is one, and the grid is then as before.
 pub(crate) fn adopt(grid: &mut Grid, reader: &Reader, blocks: &[Link]) -> Result<(), TrailerFault>
-    requires apart { AreApart grid.old blocks.now }
+    requires apart { AreDistinctLinks grid.old blocks.now }
     requires few { length blocks.now ≤ 70 }
     requires bits { (address : ℕ) → 1 ≤ address → address ≤ grid.old.layout.blocks → HasBit reader.now address }
     requires free { grid.old.blocks ≡ no_blocks }

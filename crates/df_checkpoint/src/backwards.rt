@@ -1,7 +1,7 @@
 // The walk from the last block of the chain, which the superblock refers to, back to index 0.
 ghost use Rattle.std.specs.Prelude.{◌≡◌, ◌+◌, ◌-◌, ◌≤◌, ◌<◌, ℕ, length, IfOk, OnOk};
 ghost use Rattle.df_checkpoint.specs.Below.{array_vec_len, IsBlamed, Shape, IsCount, layout_of, AreFieldsOf, HasAddress};
-ghost use Rattle.df_checkpoint.specs.Chain.{AreApart, HasWalked, OfTold, StepAnswer, WalkAnswer, content_in, is_among, is_trailer_fault};
+ghost use Rattle.df_checkpoint.specs.Chain.{AreDistinctLinks, HasWalked, OfTold, StepAnswer, WalkAnswer, content_in, is_among, is_trailer_fault};
 
 use crate::TrailerFault;
 use crate::links::{Link, broken, read_link};
@@ -31,12 +31,12 @@ fn take_link<D: Disk>(
     requires inside { HasAddress grid.old at.address }
     requires few { array_vec_len blocks.old + index < 70 }
     requires file { AreFieldsOf grid.old.layout grid.old.cluster content.now }
-    requires apart { AreApart grid.old blocks.old.items }
+    requires apart { AreDistinctLinks grid.old blocks.old.items }
     ensures step { (sh : Shape) → sh.layout ≡ layout_of grid.old.layout → OfTold grid.old (D.told disk.old) (λ shown. (n : ℕ)
         → IsCount (grid.old.layout.block_size - 256) content.now.trailer_size n → n ≡ length blocks.old.items + (index + 1)
         → HasWalked sh shown (content_in content.now) n blocks.old.items at → StepAnswer sh shown (content_in content.now) n index blocks.new.items result) }
     ensures inside { IfOk result (λ before. 0 < index → HasAddress grid.old before.address) }
-    ensures apart { OnOk result (AreApart grid.old blocks.new.items) }
+    ensures apart { OnOk result (AreDistinctLinks grid.old blocks.new.items) }
     ensures more { OnOk result (array_vec_len blocks.new ≡ array_vec_len blocks.old + 1) }
     ensures grid { grid.new ≡ grid.old }
     ensures same { D.told disk.new ≡ D.told disk.old }
@@ -65,7 +65,7 @@ pub(crate) fn walk<D: Disk>(
     requires count { IsCount (grid.old.layout.block_size - 256) content.now.trailer_size count }
     requires file { AreFieldsOf grid.old.layout grid.old.cluster content.now }
     ensures walked { (sh : Shape) → sh.layout ≡ layout_of grid.old.layout → OfTold grid.old (D.told disk.old) (λ shown. WalkAnswer sh shown (content_in content.now) count result) }
-    ensures apart { IfOk result (λ blocks. AreApart grid.old blocks.items) }
+    ensures apart { IfOk result (λ blocks. AreDistinctLinks grid.old blocks.items) }
     ensures size { IfOk result (λ blocks. array_vec_len blocks ≡ count) }
     ensures grid { grid.new ≡ grid.old }
     ensures same { D.told disk.new ≡ D.told disk.old }

@@ -1,7 +1,7 @@
 // The text of the chain, from its first block to its last one: each is shown again, and its body given to the reader.
 ghost use Rattle.std.specs.Prelude.{◌≡◌, ◌+◌, ◌-◌, ◌≤◌, ◌<◌, ◌^◌, [], ℕ, length, get_or};
 ghost use Rattle.df_checkpoint.specs.Below.{IsBlamed, HasAddress, HasRead, bytes_read};
-ghost use Rattle.df_checkpoint.specs.Chain.{AreApart, is_trailer_fault};
+ghost use Rattle.df_checkpoint.specs.Chain.{AreDistinctLinks, is_trailer_fault};
 ghost use Rattle.df_checkpoint.specs.Texts.{FeedAnswer, FedAnswer, Feeds, TextAnswer, bad_of};
 
 use crate::TrailerFault;
@@ -73,7 +73,7 @@ fn feed_all<D: Disk>(
     blocks: &[Link],
     reader: &mut Reader,
 ) -> Result<(), TrailerFault>
-    requires apart { AreApart grid.old blocks.now }
+    requires apart { AreDistinctLinks grid.old blocks.now }
     requires few { length blocks.now ≤ 70 }
     requires fresh { bytes_read reader.old ≡ 0 }
     ensures fed { (op : ℕ) → HasRead grid.old.layout op reader.old [] → FedAnswer grid.old (D.told disk.old) blocks.now op reader.new result }
@@ -99,7 +99,7 @@ pub(crate) fn read_text<D: Disk>(
     blocks: &[Link],
     reader: &mut Reader,
 ) -> Result<(), TrailerFault>
-    requires apart { AreApart grid.old blocks.now }
+    requires apart { AreDistinctLinks grid.old blocks.now }
     requires few { length blocks.now ≤ 70 }
     requires fresh { bytes_read reader.old ≡ 0 }
     ensures text { (op : ℕ) → HasRead grid.old.layout op reader.old [] → TextAnswer grid.old (D.told disk.old) blocks.now op reader.new result }

@@ -2,8 +2,8 @@
 ghost use Rattle.std.specs.Prelude.{◌≡◌, ◌≢◌, ◌-◌, ◌≤◌, ◌<◌, [], IfOk, OnErr, OnOk};
 ghost use Rattle.df_checkpoint.specs.Below.{array_vec_len, IsBlamed, IsSuper, Shape, IsCount, layout_of, AreFieldsOf, HasRead, parse_of, IsIdle, no_blocks};
 ghost use Rattle.df_checkpoint.specs.Adopting.{SameFile};
-ghost use Rattle.df_checkpoint.specs.Chain.{AreApart, OfTold, content_in, is_trailer_fault};
-ghost use Rattle.df_checkpoint.specs.Reads.{ChainAnswer, FoundAnswer, IsComplete};
+ghost use Rattle.df_checkpoint.specs.Chain.{AreDistinctLinks, OfTold, content_in, is_trailer_fault};
+ghost use Rattle.df_checkpoint.specs.Reads.{ChainAnswer, FoundAnswer, IsCompleteReader};
 
 use crate::TrailerFault;
 use crate::adopting::adopt;
@@ -37,7 +37,7 @@ fn find_chain<D: Disk>(
     requires usable { IsSuper content.now }
     requires file { AreFieldsOf grid.old.layout grid.old.cluster content.now }
     ensures found { (sh : Shape) → sh.layout ≡ layout_of grid.old.layout → OfTold grid.old (D.told disk.old) (λ shown. FoundAnswer sh shown (content_in content.now) result) }
-    ensures apart { IfOk result (λ blocks. AreApart grid.old blocks.items) }
+    ensures apart { IfOk result (λ blocks. AreDistinctLinks grid.old blocks.items) }
     ensures few { IfOk result (λ blocks. array_vec_len blocks ≤ 70) }
     ensures grid { grid.new ≡ grid.old }
     ensures same { D.told disk.new ≡ D.told disk.old }
@@ -65,7 +65,7 @@ pub fn read_chain<D: Disk>(
     requires free { grid.old.blocks ≡ no_blocks }
     requires fresh { HasRead grid.old.layout content.now.op reader.old [] }
     ensures answer { (sh : Shape) → sh.layout ≡ layout_of grid.old.layout → sh.parse ≡ parse_of sh.layout → OfTold grid.old (D.told disk.old) (λ shown. ChainAnswer sh shown (content_in content.now) grid.new reader.new result) }
-    ensures complete { OnOk result (IsComplete grid.old content.now.op reader.new) }
+    ensures complete { OnOk result (IsCompleteReader grid.old content.now.op reader.new) }
     ensures rooms { reader.new.layout ≡ reader.old.layout }
     ensures idle { OnOk result (IsIdle grid.new.blocks) }
     ensures refused { OnErr result (grid.new ≡ grid.old) }

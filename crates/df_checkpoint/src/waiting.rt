@@ -1,6 +1,6 @@
 // The ops whose replies aren't stored: each one that the checkpoint reaches has its session.
 ghost use Rattle.std.specs.Prelude.{◌≡◌};
-ghost use Rattle.df_checkpoint.specs.Waiting.{IsPending, has_op};
+ghost use Rattle.df_checkpoint.specs.Waiting.{IsPendingReply, has_op};
 
 use df_sessions::Session;
 
@@ -14,7 +14,7 @@ fn has_op(sessions: &[Session], op: u64) -> bool
 /// The least op above the number of stored replies, and at most the checkpoint's, that is the op of no session; None exactly where each of
 /// them has its session.
 pub fn pending(sessions: &[Session], replies: u64, op: u64) -> Option<u64>
-    ensures { IsPending sessions.now replies op result }
+    ensures { IsPendingReply sessions.now replies op result }
 {
     for before in replies..op {
         if !has_op(sessions, before + 1) {

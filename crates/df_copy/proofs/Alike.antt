@@ -27,7 +27,7 @@ use Rattle.df_opening.specs.Below.{State, memory, reply_sum as check_sum, stored
 use Rattle.df_copy.specs.Targets.{check_of, superblock_of}
 use Rattle.df_copy.specs.Tests.{references}
 use Rattle.df_copy.specs.Units.{moved, moved_from}
-use Rattle.df_copy.specs.Views.{IsCopyOf, SameButLayout, address_in, renamed}
+use Rattle.df_copy.specs.Views.{IsCopyOf, SameButLayout, block_address, renamed}
 use Rattle.df_copy.proofs.Frees.{numbered_known, numbered_there}
 use Rattle.df_copy.proofs.Holding.{as_stored, block_shown, copy_view, item_at, moved_at, none_past, session_reply, shown}
 use Rattle.df_copy.proofs.Listed.{moved_length}
@@ -97,7 +97,7 @@ entries_rise : (f : ℕ → Option ℕ) (a n : ℕ) → RiseFrom a (map first (e
 entries_rise f a zero = tt
 entries_rise f a (suc n) = entry_rises a (f a) (entries f (range_with_len (a + 1) n)) (entries_rise f (a + 1) n)
 
-paired_rise : (a : ℕ) (xs : List (ℕ × ℕ)) (us : List Message) → RiseFrom a (map first xs) → RiseFrom a (map address_in (paired xs us))
+paired_rise : (a : ℕ) (xs : List (ℕ × ℕ)) (us : List Message) → RiseFrom a (map first xs) → RiseFrom a (map block_address (paired xs us))
 paired_rise a [] us rise = tt
 paired_rise a (x ∷ xs) [] rise = tt
 paired_rise a (x ∷ xs) (u ∷ us) rise = (rise.0, paired_rise (x.0 + 1) xs us rise.1)

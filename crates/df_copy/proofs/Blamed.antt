@@ -9,8 +9,8 @@ use Rattle.df_model.specs.declared.reading.ReadError.{ReadError}
 use Rattle.df_model.specs.declared.reading.ReadError.TheVariants as read
 use Rattle.df_copy.specs.declared.ending.Ending.{Ending}
 use Rattle.df_copy.specs.declared.ending.Ending.TheVariants.{BlockTooLong, Damaged, NotAtRest, NotBlank, ReplyTooLong, Source, Target, TooFewBlocks, TooFewClients}
-use Rattle.df_copy.specs.Acts.{Beside, Leaves}
-use Rattle.df_copy.specs.Statuses.{ByEnding, block_ending, is_source, is_target, reply_ending}
+use Rattle.df_copy.specs.Acts.{Beside, LeavesSource}
+use Rattle.df_copy.specs.Statuses.{ByEnding, copied_block_ending, is_source, is_target, reply_ending}
 
 pub by_ending : {T S U V : Type 0} {P Q : Ending → Type 0} → (T → U) → (S → V) → ((e : Ending) → P e → Q e) → (e : Ending) → ByEnding T S P e → ByEnding U V Q e
 by_ending target source refused Target is = target is
@@ -42,7 +42,7 @@ unblamed (Err (Damaged a b)) before now other same = same
 
 -- a read that fails blames it exactly where its disk failed, and never the target's
 module _ (before now : ℕ) where
-  pub block_blamed : (e : ReadError) → (e ≡ read.NotLive → ⊥) → Blamed (is_read_fault e) before now → Blamed (is_source (block_ending e)) before now
+  pub block_blamed : (e : ReadError) → (e ≡ read.NotLive → ⊥) → Blamed (is_read_fault e) before now → Blamed (is_source (copied_block_ending e)) before now
   block_blamed read.DiskFault live blamed = blamed
   block_blamed (read.Damaged at class) live blamed = blamed
   block_blamed read.NotLive live blamed = absurd (live refl)
@@ -53,7 +53,7 @@ module _ (before now : ℕ) where
   reply_blamed lookup.NoClient known stored blamed = absurd (known refl)
   reply_blamed (lookup.ReplyPending op) known stored blamed = absurd (stored op refl)
 
-pub block_spares : (e : ReadError) (count : ℕ) → Blamed (is_target (block_ending e)) count count
+pub block_spares : (e : ReadError) (count : ℕ) → Blamed (is_target (copied_block_ending e)) count count
 block_spares read.DiskFault count = refl
 block_spares (read.Damaged at class) count = refl
 block_spares read.NotLive count = refl
@@ -65,7 +65,7 @@ reply_spares lookup.NoClient count = refl
 reply_spares (lookup.ReplyPending op) count = refl
 
 -- what one call leaves and then another, after one that is Ok
-pub leaves_then : {T U : Type 0} {a b c : Beside} {x : U} {r : Result T Ending} → Leaves {T = U} a b (Ok x) → Leaves b c r → Leaves a c r
+pub leaves_then : {T U : Type 0} {a b c : Beside} {x : U} {r : Result T Ending} → LeavesSource {T = U} a b (Ok x) → LeavesSource b c r → LeavesSource a c r
 leaves_then {r = Ok y} first behind = record { kept = behind.kept ∙ first.kept; same = behind.same ∙ first.same; blames_source = behind.blames_source ∙ first.blames_source; blames_target = behind.blames_target ∙ first.blames_target }
 leaves_then {c = c} {r = Err e} first behind = record {
   kept = tt;

@@ -26,7 +26,7 @@ use Rattle.df_copy.specs.declared.ending.Ending.{Ending}
 use Rattle.df_copy.specs.declared.ending.Ending.TheVariants.{BlockTooLong, Damaged, NotAtRest, NotBlank, ReplyTooLong, Source, Target as TargetFails, TooFewBlocks, TooFewClients}
 use Rattle.df_copy.specs.declared.target.Target.{Target}
 use Rattle.df_copy.specs.Acts.{CopiesAt, CopiesBlock, IsBlockOf, PutsBlock}
-use Rattle.df_copy.specs.Statuses.{block_ending}
+use Rattle.df_copy.specs.Statuses.{copied_block_ending}
 use Rattle.df_copy.specs.Tests.{block_test}
 use Rattle.df_copy.specs.Units.{IsBlockAt, OverShown}
 
@@ -40,18 +40,18 @@ live_there s from address e known exact is =
     none-some read.NotLive (sym (ap (λ (b : Bool). first_refusal {E = ReadError} ((not b, read.NotLive) ∷ [])) known) ∙ subst (λ (x : ReadError). IsReadBlock address s from (Err x)) is exact)
 
 module _ (s : State) (from : Option Told) (address : ℕ) where
-  pub block_is : (u : Message) → grid.IsKnownUnit Block s.file.layout s.file.cluster address (sum_at address s.blocks.live) u → IsReadBlock address s from (Ok (block_of u)) → IsBlockAt s from address u
+  pub block_is : (u : Message) → grid.IsKnownBlock Block s.file.layout s.file.cluster address (sum_at address s.blocks.live) u → IsReadBlock address s from (Ok (block_of u)) → IsBlockAt s from address u
   block_is u known exact = record { known = known; shown = there from exact }
     where
       there : (o : Option Told) → IsReadBlock address s o (Ok (block_of u)) → OverShown s.file o (λ shown. block_read shown (memory s) (ReadBlock address) ≡ Ok (block_of u))
       there None given = tt
       there (Some t) given = sym given.1
 
-  pub block_unit : (u : Message) → grid.IsKnownUnit Block s.file.layout s.file.cluster address (sum_at address s.blocks.live) u → (cluster : ℕ) → cluster ≡ s.file.cluster → IsBlockOf cluster address u
+  pub block_unit : (u : Message) → grid.IsKnownBlock Block s.file.layout s.file.cluster address (sum_at address s.blocks.live) u → (cluster : ℕ) → cluster ≡ s.file.cluster → IsBlockOf cluster address u
   block_unit u known cluster same = subst (λ (c : ℕ). IsBlockOf c address u) (sym same) (record { own = s.file.layout; is = known.is; kind = known.of_kind })
 
   -- one that isn't shown as it is known ends the copy
-  pub block_unread : (T : Type 0) (layout : Layout) (t n : Target) (new : Option Told) (e : ReadError) → (e ≡ read.NotLive → ⊥) → IsReadBlock address s from (Err e) → CopiesBlock {T = T} layout address s t n from new new (Err (block_ending e))
+  pub block_unread : (T : Type 0) (layout : Layout) (t n : Target) (new : Option Told) (e : ReadError) → (e ≡ read.NotLive → ⊥) → IsReadBlock address s from (Err e) → CopiesBlock {T = T} layout address s t n from new new (Err (copied_block_ending e))
   block_unread T layout t n new read.DiskFault live exact = refl
   block_unread T layout t n new read.NotLive live exact = absurd (live refl)
   block_unread T layout t n new (read.Damaged at class) live exact = (there from exact, refl)

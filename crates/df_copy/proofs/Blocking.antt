@@ -21,7 +21,7 @@ use Rattle.df_opening.specs.Below.{State, memory}
 use Rattle.df_copy.specs.declared.ending.Ending.{Ending}
 use Rattle.df_copy.specs.declared.ending.Ending.TheVariants.{BlockTooLong}
 use Rattle.df_copy.specs.declared.target.Target.{Target}
-use Rattle.df_copy.specs.Acts.{Beside, CopiesAt, CopiesBlock, CopiesBlocks, FitBlocks, FitsBlock, Leaves}
+use Rattle.df_copy.specs.Acts.{Beside, CopiesAt, CopiesBlock, CopiesBlocks, FitBlocks, FitsBlock, LeavesSource}
 use Rattle.df_copy.specs.Targets.{IsTarget}
 use Rattle.df_copy.specs.Tests.{block_test, block_tests, block_tests_of, references, references_from}
 use Rattle.df_copy.specs.Units.{IsBlockAt, OverShown, all_events, moved, moved_from}
@@ -190,7 +190,7 @@ module _ (layout : Layout) (s : State) (rs : List Message) (from old : Option To
 
 -- ---- a turn of the loop, in which the source and the layout are as they were at the entry
 
-module _ {layout l : Layout} {at kept : Beside} {x : Unit {0}} {rs : List Message} {t : Target} {old new : Option Told} {b : ℕ} (same : l ≡ layout) (leaves : Leaves at kept (Ok x)) (less : b < addresses_of at.source)
+module _ {layout l : Layout} {at kept : Beside} {x : Unit {0}} {rs : List Message} {t : Target} {old new : Option Told} {b : ℕ} (same : l ≡ layout) (leaves : LeavesSource at kept (Ok x)) (less : b < addresses_of at.source)
     (is : IsBlocking layout at.source rs t at.told old new b) (before : ℕ) (address : before ≡ b) where
   pub blocking_room : is_known (sum_at (before + 1) kept.source.blocks.live) ≡ true → length (references (memory at.source)) ≤ layout.blocks → t.copied < l.blocks
   blocking_room known room =

@@ -13,14 +13,14 @@ use Rattle.df_opening.specs.Opened.{StopsOpening}
 use Rattle.df_opening.specs.Surveying.{TellsSurvey}
 use Rattle.df_opening.proofs.Laws.{superblock_refused}
 use Rattle.df_telling.specs.Telling.{Blames, PrintsError, Writes}
-use Rattle.df_telling.specs.Two.{Faults, HasCauses, Outside}
+use Rattle.df_telling.specs.Two.{Faults, HasCausesOfTwo, Outside}
 use Rattle.df_telling.proofs.Laws.{first_causes, open_fault, printed_causes, refusal_ends, second_causes, text_ends}
 use Rattle.df_words.specs.Names.{NamesLayout, OneLayout}
 use Rattle.df_copy.specs.declared.ending.Ending.{Ending}
 use Rattle.df_copy.specs.declared.ending.Ending.TheVariants.{BlockTooLong, Damaged, NotAtRest, NotBlank, ReplyTooLong, Source, Target, TooFewBlocks, TooFewClients}
 use Rattle.df_copy.specs.declared.status.Status.{Status}
 use Rattle.df_copy.specs.declared.status.Status.TheVariants as ends
-use Rattle.df_copy.specs.Run.{Does, Means, MeansNothing, Outcome, Prints}
+use Rattle.df_copy.specs.Run.{CopyOutcome, DoesCopy, MeansLayout, MeansNoLayout, PrintsCopy}
 use Rattle.df_copy.specs.Statuses.{EndsWithFiles, is_fault, is_source, is_target}
 use Rattle.df_copy.specs.Texts.{ending_text}
 
@@ -28,7 +28,7 @@ use Rattle.df_copy.specs.Texts.{ending_text}
 
 module _ (before now : Faults) (old new : Option (List ℕ)) (status : Status) (blame : Blames ends.WriteFault before.sink now.sink status) where
   abbrev Causes : Type 0
-  Causes = HasCauses ends.DiskFault ends.WriteFault before now status
+  Causes = HasCausesOfTwo ends.DiskFault ends.WriteFault before now status
 
   -- a refusal was printed
   refused_causes : (e : Ending) → now.first ≡ before.first → now.second ≡ before.second → Writes ends.WriteFault (ending_text e) ends.Refused old new status → Causes
@@ -61,7 +61,7 @@ module _ (old new : Option (List ℕ)) (status : Status) where
   )
 
   -- and of one that wasn't
-  pub ending_prints : (T : Type 0) (layout : Layout) (e : Ending) → (is_fault e ≡ false → Writes ends.WriteFault (ending_text e) ends.Refused old new status) → (is_fault e ≡ true → (status ≡ ends.DiskFault) × (new ≡ old)) → Prints {T = T} layout (Err e) old new status
+  pub ending_prints : (T : Type 0) (layout : Layout) (e : Ending) → (is_fault e ≡ false → Writes ends.WriteFault (ending_text e) ends.Refused old new status) → (is_fault e ≡ true → (status ≡ ends.DiskFault) × (new ≡ old)) → PrintsCopy {T = T} layout (Err e) old new status
   ending_prints T layout Source refused fault = fault refl
   ending_prints T layout Target refused fault = fault refl
   ending_prints T layout (NotAtRest a b c) refused fault = refused refl
@@ -82,7 +82,7 @@ module _ (old new : Option (List ℕ)) (status : Status) where
 -- ---- a source that isn't opened
 
 pub not_opened : (layout own : Layout) (t : Told) (old new : Outside) (status : Status) (e : OpenError) → IsImage t.shown → old.first ≡ Some t → TellsSurvey own old.first (Err e) → new.second ≡ old.second → ((e ≡ opens.DiskFault → ⊥) → new.first ≡ after Sync old.first)
-    → (IsImage t.shown → e ≡ opens.DiskFault → StopsOpening own t new.first) → PrintsError ends.Refused ends.DiskFault ends.WriteFault e old.written new.written status → Does layout own t old new status
+    → (IsImage t.shown → e ≡ opens.DiskFault → StopsOpening own t new.first) → PrintsError ends.Refused ends.DiskFault ends.WriteFault e old.written new.written status → DoesCopy layout own t old new status
 not_opened layout own t old new status e whole told answer silent barrier stops prints = elim (open_fault e) [
   | inl fault ↦ inr (inl (record { fault = (prints.failing fault).0; silent = record { second = silent; written = (prints.failing fault).1 }; disk = stops whole fault }))
   | inr other ↦ inl (record {
@@ -96,7 +96,7 @@ not_opened layout own t old new status e whole told answer silent barrier stops 
 ]
 
 pub not_probed : (layout : Layout) (t : Told) (old new : Outside) (status : Status) (e : OpenError) → old.first ≡ Some t → TellsLayout old.first (Err e) → new.first ≡ old.first → new.second ≡ old.second
-    → PrintsError ends.Refused ends.DiskFault ends.WriteFault e old.written new.written status → Outcome layout t old new status
+    → PrintsError ends.Refused ends.DiskFault ends.WriteFault e old.written new.written status → CopyOutcome layout t old new status
 not_probed layout t old new status e told answer same silent prints = elim (open_fault e) [
   | inl fault ↦ inl ((λ i. record { first = same i; second = silent i; written = (prints.failing fault).1 i }), inr (prints.failing fault).0)
   | inr other ↦ inr (inl (record {
@@ -111,14 +111,14 @@ not_probed layout t old new status e told answer same silent prints = elim (open
 
 -- ---- words
 
-pub one_meaning : (words : List (List ℕ)) (layout other : Layout) → OneLayout → Means words layout → Means words other → layout ≡ other
+pub one_meaning : (words : List (List ℕ)) (layout other : Layout) → OneLayout → MeansLayout words layout → MeansLayout words other → layout ≡ other
 one_meaning words layout other one m n =
     let same : m.0 ≡ n.0 = ap (λ (ws : List (List ℕ)). get_or ws 0 []) (sym m.1 ∙ n.1) in
     one n.0 layout other (subst (λ (name : List ℕ). NamesLayout name layout) same m.2) n.2
 
 -- one word is the name
 pub one_name : {X : Type 0} (bytes : X → List ℕ) (words : List X) (word : X) (name : List ℕ) (r : Option Layout) → word ≡ get_or words 0 word → 1 ≤ length words → length words < 2 → name ≡ bytes word
-    → IfNone r ((layout : Layout) → NamesLayout name layout → ⊥) → IfNone r (MeansNothing (map bytes words))
+    → IfNone r ((layout : Layout) → NamesLayout name layout → ⊥) → IfNone r (MeansNoLayout (map bytes words))
 one_name bytes words word name (Some layout) at least below is none = tt
 one_name bytes [] word name None at least below is none = absurd (omega (arith, least))
 one_name bytes (w ∷ v ∷ words) word name None at least below is none = absurd (omega (arith, below))

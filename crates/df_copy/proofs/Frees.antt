@@ -9,7 +9,7 @@ use Rattle.df_format.specs.Message.{Message}
 use Rattle.df_units.specs.Meaning.{number_of}
 use Rattle.df_model.specs.Blocks.{is_held_in, sum_at}
 use Rattle.df_model.specs.Work.{is_known}
-use Rattle.df_grid.specs.Grid.{free_of}
+use Rattle.df_grid.specs.Grid.{free_addresses}
 use Rattle.df_copy.specs.Targets.{blocks_with, grid_with, numbered}
 
 -- ---- what is known of an address
@@ -105,7 +105,7 @@ front_of_range a zero (suc k) fits = absurd (omega (arith, fits))
 front_of_range a (suc n) (suc k) fits = ap (λ (l : List ℕ). a ∷ l) (front_of_range (a + 1) n k (omega (arith, fits)))
 
 module _ (layout : Layout) (cluster : ℕ) (us : List Message) where
-  pub free_behind : length us ≤ layout.blocks → free_of (grid_with layout cluster us) ≡ range_with_len (length us + 1) (layout.blocks - length us)
+  pub free_behind : length us ≤ layout.blocks → free_addresses (grid_with layout cluster us) ≡ range_with_len (length us + 1) (layout.blocks - length us)
   free_behind fits =
       let all : layout.blocks ≡ length us + (layout.blocks - length us) = omega (arith, fits) in
       let next : 1 + length us ≡ length us + 1 = omega arith in
@@ -114,5 +114,5 @@ module _ (layout : Layout) (cluster : ℕ) (us : List Message) where
       ∙ ap (λ (k : ℕ). range_with_len k (layout.blocks - length us)) next
 
   -- the least of them are the next ones
-  pub next_free : (n : ℕ) → length us + n ≤ layout.blocks → take n (free_of (grid_with layout cluster us)) ≡ range_with_len (length us + 1) n
+  pub next_free : (n : ℕ) → length us + n ≤ layout.blocks → take n (free_addresses (grid_with layout cluster us)) ≡ range_with_len (length us + 1) n
   next_free n fits = ap (take n) (free_behind (omega (arith, fits))) ∙ front_of_range (length us + 1) (layout.blocks - length us) n (omega (arith, fits))

@@ -18,8 +18,8 @@ use Rattle.df_copy.specs.declared.ending.Ending.{Ending}
 use Rattle.df_copy.specs.declared.ending.Ending.TheVariants.{BlockTooLong, Damaged, NotAtRest, NotBlank, ReplyTooLong, Source, Target as TargetFails, TooFewBlocks, TooFewClients}
 use Rattle.df_copy.specs.declared.target.Target.{Target}
 use Rattle.df_copy.specs.Acts.{CopiesBlocks, CopiesReplies, FitBlocks, FitReplies, StopsBehind}
-use Rattle.df_copy.specs.Copying.{BeginsTarget, Copied, CopiesInto, CopiesPlanned, CopiesUnits, Finishes, IsAll, IsJudged, Judges, OverTold, PassesTo, units_written}
-use Rattle.df_copy.specs.Targets.{IsTarget, KeepsGrid, copy_events, ring_events, superblock_events, trailer_of, unit_events}
+use Rattle.df_copy.specs.Copying.{BeginsTarget, Copied, CopiesInto, CopiesPlanned, CopiesUnits, Finishes, IsAll, IsCopyJudged, JudgesCopy, OverTold, PassesTo, units_written}
+use Rattle.df_copy.specs.Targets.{IsTarget, KeepsGrid, copy_events, events_before_trailer, ring_events, superblock_events, trailer_of}
 use Rattle.df_copy.specs.Tests.{blank_tests, block_tests, references, reply_tests, rest_tests, tests, unit_tests}
 use Rattle.df_copy.specs.Units.{OverShown, all_events, moved_from, reply_events}
 use Rattle.df_copy.proofs.Blamed.{by_ending}
@@ -138,11 +138,11 @@ module _ (T : Type 0) (layout : Layout) (s : State) (from old : Option Told) whe
   planned_stop new (Damaged a b) begins = record { writes = inl begins.0; judged = begun_refused (Damaged a b) begins.1 }
 
   module _ (begun : Option Told) (ring : begun ≡ after_all (ring_events layout cluster) old) (blank : OverTold old (λ image. first_refusal (blank_tests image) ≡ None)) where
-    behind_ring : (rs bs : List Message) (new : Option Told) → new ≡ after_all (units_written layout rs bs) begun → new ≡ after_all (unit_events layout cluster rs bs) old
+    behind_ring : (rs bs : List Message) (new : Option Told) → new ≡ after_all (units_written layout rs bs) begun → new ≡ after_all (events_before_trailer layout cluster rs bs) old
     behind_ring rs bs new is = is ∙ ap (after_all (units_written layout rs bs)) ring ∙ sym (after_append (ring_events layout cluster) (units_written layout rs bs) old)
 
     units_refused : (e : Ending) (new : Option Told) → OverShown s.file from (λ shown. first_refusal (unit_tests layout shown (memory s)) ≡ Some e) × (c : Copied layout s from) × (new ≡ after_all (units_written layout c.replies c.blocks) begun)
-        → ((new ≡ old) ⊎ ((c : Copied layout s from) × (new ≡ after_all (unit_events layout cluster c.replies c.blocks) old))) × OverTold old (λ image. OverShown s.file from (λ shown. first_refusal (blank_tests image ++ unit_tests layout shown (memory s)) ≡ Some e))
+        → ((new ≡ old) ⊎ ((c : Copied layout s from) × (new ≡ after_all (events_before_trailer layout cluster c.replies c.blocks) old))) × OverTold old (λ image. OverShown s.file from (λ shown. first_refusal (blank_tests image ++ unit_tests layout shown (memory s)) ≡ Some e))
     units_refused e new copies = (inr (copies.1, behind_ring copies.1.replies copies.1.blocks new copies.2), planned_refused e blank copies.0)
 
     -- the units are of this layout
@@ -172,7 +172,7 @@ module _ (T : Type 0) (layout : Layout) (s : State) (from old : Option Told) whe
       ends = superblock_events layout s c.replies c.blocks
 
       abbrev front : List Event
-      front = unit_events layout cluster c.replies c.blocks
+      front = events_before_trailer layout cluster c.replies c.blocks
 
       in_one : copy_events layout s c.replies c.blocks ≡ front ++ (trailer ++ ends)
       in_one = append_assoc front trailer ends
@@ -221,7 +221,7 @@ module _ (T : Type 0) (layout : Layout) (s : State) (from old : Option Told) whe
       (λ image. over_all s.file from (λ shown. first_refusal (tests layout shown (memory s) image) ≡ Some e) (λ shown. first_refuses (rest_tests layout (memory s)) (blank_tests image ++ unit_tests layout shown (memory s)) e is))
 
   pub into_refused : (new : Option Told) → new ≡ old → (e : Ending) → first_refusal (rest_tests layout (memory s)) ≡ Some e → CopiesInto {T = T} layout s from old new (Err e)
-  into_refused new same TargetFails is = record { tested = inl same; writes = (nothing, inl (part_none (unit_events layout cluster [] []) same)); judged = silent }
+  into_refused new same TargetFails is = record { tested = inl same; writes = (nothing, inl (part_none (events_before_trailer layout cluster [] []) same)); judged = silent }
     where
       part_none : (es : List Event) → new ≡ old → AddsPart es old new
       part_none [] it = it
@@ -248,11 +248,11 @@ module _ (T : Type 0) (layout : Layout) (s : State) (from old : Option Told) whe
       silence : Unit {0} → Unit {0}
       silence it = it
 
-      decides : (q : Result T Ending) (image : Image) (shown : Shown) → PassesTo layout s shown image q → Judges layout s shown image q
+      decides : (q : Result T Ending) (image : Image) (shown : Shown) → PassesTo layout s shown image q → JudgesCopy layout s shown image q
       decides (Ok x) image shown passes = joined image shown ∙ passes
       decides (Err e) image shown passes = by_ending silence silence (refused image shown) e passes
 
-      judged : (q : Result T Ending) → OverTold old (λ image. OverShown s.file from (λ shown. PassesTo layout s shown image q)) → IsJudged layout s from old q
+      judged : (q : Result T Ending) → OverTold old (λ image. OverShown s.file from (λ shown. PassesTo layout s shown image q)) → IsCopyJudged layout s from old q
       judged q is =
-          over_told old (λ image. OverShown s.file from (λ shown. PassesTo layout s shown image q)) (λ image. OverShown s.file from (λ shown. Judges layout s shown image q)) is
-          (λ image over. over_by s.file from (λ shown. PassesTo layout s shown image q) (λ shown. Judges layout s shown image q) over (λ shown passes. decides q image shown passes))
+          over_told old (λ image. OverShown s.file from (λ shown. PassesTo layout s shown image q)) (λ image. OverShown s.file from (λ shown. JudgesCopy layout s shown image q)) is
+          (λ image over. over_by s.file from (λ shown. PassesTo layout s shown image q) (λ shown. JudgesCopy layout s shown image q) over (λ shown passes. decides q image shown passes))

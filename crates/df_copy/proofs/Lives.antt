@@ -13,7 +13,7 @@ use Rattle.df_units.specs.Bytes.{unit_at}
 use Rattle.df_units.specs.Meaning.{layout_of}
 use Rattle.df_units.proofs.Laws.{of_places}
 use Rattle.df_opening.specs.Below.{AreDistinct, DataFile, shape}
-use Rattle.df_copy.specs.Lives.{CopiedBegins, MayGoOn}
+use Rattle.df_copy.specs.Lives.{MayGoOn, ShownCopyBegins}
 use Rattle.df_copy.specs.Views.{ShowsCopy, file_in}
 
 module _ (layout : Layout) (file : DataFile) (source : Image) (v : View) (target : Image) (copy : ShowsCopy layout file source v target) where
@@ -48,5 +48,5 @@ module _ (layout : Layout) (file : DataFile) (source : Image) (v : View) (target
     history = inr (u, holds, starts);
   }
 
-pub copied_begins : CopiedBegins
+pub copied_begins : ShownCopyBegins
 copied_begins layout file source v target copy distinct = goes_on layout file source v target copy distinct

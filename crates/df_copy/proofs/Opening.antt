@@ -14,7 +14,7 @@ use Rattle.df_layout.specs.declared.layout.Layout.{Layout}
 use Rattle.df_format.specs.Message.{Message}
 use Rattle.df_format.specs.SuperRules.{IsUsable}
 use Rattle.df_sessions.specs.Requests.{session_of, sessions_of}
-use Rattle.df_sessions.specs.Table.{AreApart}
+use Rattle.df_sessions.specs.Table.{AreDistinctClients}
 use Rattle.df_sessions.specs.declared.session.Session as told
 use Rattle.df_theory.specs.Copies.{Agree}
 use Rattle.df_theory.specs.Found.{IsClean, IsFound}
@@ -40,11 +40,11 @@ use Rattle.df_copy.specs.declared.ending.Ending.TheVariants.{BlockTooLong, Damag
 use Rattle.df_telling.specs.Two.{around}
 use Rattle.df_copy.specs.declared.status.Status.{Status}
 use Rattle.df_copy.specs.Copying.{Copied, CopiesInto, IsAll, WritesCopy}
-use Rattle.df_copy.specs.Run.{CopiesFile, Prints, SparesCopies}
+use Rattle.df_copy.specs.Run.{CopiesFile, PrintsCopy, SparesCopies}
 use Rattle.df_copy.specs.Stops.{StopsCopy}
-use Rattle.df_copy.specs.Targets.{copy_events, unit_events}
+use Rattle.df_copy.specs.Targets.{copy_events, events_before_trailer}
 use Rattle.df_copy.specs.Tests.{blank_tests, tests, unit_tests}
-use Rattle.df_copy.specs.Views.{HoldsCopy, IsEmpty, ShowsCopy, file_in}
+use Rattle.df_copy.specs.Views.{HoldsCopy, IsEmptyImage, ShowsCopy, file_in}
 use Rattle.df_copy.proofs.Alike.{WereRead, alike_on, copy_alike}
 use Rattle.df_copy.proofs.Holding.{copies_shown, copy_found, copy_image, copy_older, copy_stands, copy_view, copy_whole, mapped, own_version, place_shows, shown}
 use Rattle.df_copy.proofs.Planning.{Passes, passes_tests}
@@ -59,14 +59,14 @@ use Rattle.df_copy.proofs.Written.{blocks_in_row, replies_in_row}
 -- ---- the sectors of the superblock
 
 -- it ended before the trailer, and not by the target's disk
-unbegun : (layout : Layout) (s : State) (from : Option Told) (o : Told) (new : Option Told) → (new ≡ Some o) ⊎ ((c : Copied layout s from) × (new ≡ after_all (unit_events layout s.file.cluster c.replies c.blocks) (Some o))) → SparesCopies o new
+unbegun : (layout : Layout) (s : State) (from : Option Told) (o : Told) (new : Option Told) → (new ≡ Some o) ⊎ ((c : Copied layout s from) × (new ≡ after_all (events_before_trailer layout s.file.cluster c.replies c.blocks) (Some o))) → SparesCopies o new
 unbegun layout s from o new (inl same) = spares_all o new [] tt same
-unbegun layout s from o new (inr some) = spares_all o new (unit_events layout s.file.cluster some.0.replies some.0.blocks) (spare_units layout s.file.cluster some.0.replies some.0.blocks) some.1
+unbegun layout s from o new (inr some) = spares_all o new (events_before_trailer layout s.file.cluster some.0.replies some.0.blocks) (spare_units layout s.file.cluster some.0.replies some.0.blocks) some.1
 
 pub copy_spares : {T : Type 0} (layout : Layout) (s : State) (from : Option Told) (o : Told) (new : Option Told) (r : Result T Ending) → WritesCopy layout s from (Some o) new r → SparesCopies o new
 copy_spares layout s from o new (Ok x) writes = spares_copy layout s writes.0.replies writes.0.blocks o new (all_is_part (copy_events layout s writes.0.replies writes.0.blocks) (Some o) new writes.2)
 copy_spares layout s from o new (Err Target) writes = elim writes.1 [
-  | inl units ↦ spares_part o new (unit_events layout s.file.cluster writes.0.replies writes.0.blocks) (spare_units layout s.file.cluster writes.0.replies writes.0.blocks) units
+  | inl units ↦ spares_part o new (events_before_trailer layout s.file.cluster writes.0.replies writes.0.blocks) (spare_units layout s.file.cluster writes.0.replies writes.0.blocks) units
   | inr all ↦ spares_copy layout s writes.0.replies writes.0.blocks o new all.1
 ]
 copy_spares layout s from o new (Err Source) writes = unbegun layout s from o new writes
@@ -191,7 +191,7 @@ module _ (layout : Layout) (t m : Told) (whole : IsImage t.shown) where
 
     -- ---- at the end
 
-    module _ (o n : Told) (empty : IsEmpty (now o.log)) (written : Some n ≡ after_all (copy_events layout s rs bs) (Some o)) where
+    module _ (o n : Told) (empty : IsEmptyImage (now o.log)) (written : Some n ≡ after_all (copy_events layout s rs bs) (Some o)) where
       log_is : n.log ≡ adds (copy_events layout s rs bs) o.log
       log_is = all_added (copy_events layout s rs bs) o n written
 
@@ -215,30 +215,30 @@ module _ (layout : Layout) (t m : Told) (whole : IsImage t.shown) where
 
     -- ---- and where it was stopped
 
-    raised_stops : (o : Told) (new : Option Told) → IsEmpty o.shown → AddsPart (copy_events layout s rs bs) (Some o) new → StopsCopy layout s.file m.shown v o new
+    raised_stops : (o : Told) (new : Option Told) → IsEmptyImage o.shown → AddsPart (copy_events layout s rs bs) (Some o) new → StopsCopy layout s.file m.shown v o new
     raised_stops o new empty part =
         part_stops layout s rs bs image v named source read m.shown v shows_there o empty new part
 
   -- the state that calls begin with is held whole, and shown where the copy was stopped
   pub copy_holds : (s : State) → MendsAll t s (Some m) → (view : View) → IsFound (shape s.file) (unit_at s.file.layout s.file.cluster t.shown) view → (may : MayHold s)
-      → ((o n : Told) → IsEmpty (now o.log) → Some n ≡ after_all (copy_events layout s may.copied.replies may.copied.blocks) (Some o) → HoldsCopy layout s.file m.shown (kept (begun_state s.file t view s.fields)) (now n.log))
-      × ((o : Told) (new : Option Told) → IsEmpty o.shown → AddsPart (copy_events layout s may.copied.replies may.copied.blocks) (Some o) new → StopsCopy layout s.file m.shown (kept (begun_state s.file t view s.fields)) o new)
+      → ((o n : Told) → IsEmptyImage (now o.log) → Some n ≡ after_all (copy_events layout s may.copied.replies may.copied.blocks) (Some o) → HoldsCopy layout s.file m.shown (kept (begun_state s.file t view s.fields)) (now n.log))
+      × ((o : Told) (new : Option Told) → IsEmptyImage o.shown → AddsPart (copy_events layout s may.copied.replies may.copied.blocks) (Some o) new → StopsCopy layout s.file m.shown (kept (begun_state s.file t view s.fields)) o new)
   copy_holds s mends = subst EachHolds (sym mends.raised) (λ view is may. (raised_holds mends.found (mends.opened whole) view is may, raised_stops mends.found (mends.opened whole) view is may))
     where
       EachHolds : State → Type 0
       EachHolds s = (view : View) → IsFound (shape s.file) (unit_at s.file.layout s.file.cluster t.shown) view → (may : MayHold s)
-          → ((o n : Told) → IsEmpty (now o.log) → Some n ≡ after_all (copy_events layout s may.copied.replies may.copied.blocks) (Some o) → HoldsCopy layout s.file m.shown (kept (begun_state s.file t view s.fields)) (now n.log))
-          × ((o : Told) (new : Option Told) → IsEmpty o.shown → AddsPart (copy_events layout s may.copied.replies may.copied.blocks) (Some o) new → StopsCopy layout s.file m.shown (kept (begun_state s.file t view s.fields)) o new)
+          → ((o n : Told) → IsEmptyImage (now o.log) → Some n ≡ after_all (copy_events layout s may.copied.replies may.copied.blocks) (Some o) → HoldsCopy layout s.file m.shown (kept (begun_state s.file t view s.fields)) (now n.log))
+          × ((o : Told) (new : Option Told) → IsEmptyImage o.shown → AddsPart (copy_events layout s may.copied.replies may.copied.blocks) (Some o) new → StopsCopy layout s.file m.shown (kept (begun_state s.file t view s.fields)) o new)
 
 -- ---- the source's sessions
 
-apart_of : (clients : ℕ) (ss : List told.Session) → AreLawful clients (sessions_of ss) → AreApart ss
+apart_of : (clients : ℕ) (ss : List told.Session) → AreLawful clients (sessions_of ss) → AreDistinctClients ss
 apart_of clients ss lawful j k x y at other same = lawful.apart j k (session_of x) (session_of y) (mapped session_of ss j x at) (mapped session_of ss k y other) same
 
-pub opened_apart : (t : Told) (s : State) (later : Option Told) → IsImage t.shown → MendsAll t s later → AreApart s.table.sessions
+pub opened_apart : (t : Told) (s : State) (later : Option Told) → IsImage t.shown → MendsAll t s later → AreDistinctClients s.table.sessions
 opened_apart t s later whole mends =
     let opened_as = mends.opened whole in
-    subst (λ (q : State). AreApart q.table.sessions) (sym mends.raised) (apart_of mends.found.file.layout.clients mends.found.table.sessions (opened_lawful mends.found t opened_as.view whole opened_as opened_as.found))
+    subst (λ (q : State). AreDistinctClients q.table.sessions) (sym mends.raised) (apart_of mends.found.file.layout.clients mends.found.table.sessions (opened_lawful mends.found t opened_as.view whole opened_as opened_as.found))
 
 -- ---- the target, wherever it is stopped
 
@@ -247,26 +247,26 @@ module _ (layout : Layout) (t m : Told) (whole : IsImage t.shown) (s : State) (s
   holding : (copied : Copied layout s (Some m)) → IsAll copied → Passes layout s → MayHold layout t m whole s
   holding copied all passes = record { state = state; usable = usable; live = live; mending = mends.mending; passes = passes; copied = copied; all = all }
 
-  pub all_holds : (o n : Told) → IsEmpty (now o.log) → CopiesInto {T = Unit {0}} layout s (Some m) (Some o) (Some n) (Ok tt) → HoldsCopy layout s.file m.shown (kept (begun_state s.file t view s.fields)) (now n.log)
+  pub all_holds : (o n : Told) → IsEmptyImage (now o.log) → CopiesInto {T = Unit {0}} layout s (Some m) (Some o) (Some n) (Ok tt) → HoldsCopy layout s.file m.shown (kept (begun_state s.file t view s.fields)) (now n.log)
   unfolding holding
   all_holds o n empty copies =
       let w = copies.writes in
       (copy_holds layout t m whole s mends view found (holding w.0 w.1 (passes_all layout s (shown_of s.file m.shown) o.shown copies.judged))).0 o n empty w.2
 
-  module _ (o : Told) (new : Option Told) (empty : IsEmpty o.shown) where
+  module _ (o : Told) (new : Option Told) (empty : IsEmptyImage o.shown) where
     abbrev Stops : Type 0
     Stops = StopsCopy layout s.file m.shown (kept (begun_state s.file t view s.fields)) o new
 
-    units_stop : (c : Copied layout s (Some m)) → AddsPart (unit_events layout s.file.cluster c.replies c.blocks) (Some o) new → Stops
+    units_stop : (c : Copied layout s (Some m)) → AddsPart (events_before_trailer layout s.file.cluster c.replies c.blocks) (Some o) new → Stops
     units_stop c part =
-        stops_spare layout s.file m.shown (kept (begun_state s.file t view s.fields)) o new (unit_events layout s.file.cluster c.replies c.blocks) empty (spare_units layout s.file.cluster c.replies c.blocks) part
+        stops_spare layout s.file m.shown (kept (begun_state s.file t view s.fields)) o new (events_before_trailer layout s.file.cluster c.replies c.blocks) empty (spare_units layout s.file.cluster c.replies c.blocks) part
 
     nothing_stops : new ≡ Some o → Stops
     nothing_stops same = stops_spare layout s.file m.shown (kept (begun_state s.file t view s.fields)) o new [] empty tt same
 
-    unbegun_stops : (new ≡ Some o) ⊎ ((c : Copied layout s (Some m)) × (new ≡ after_all (unit_events layout s.file.cluster c.replies c.blocks) (Some o))) → Stops
+    unbegun_stops : (new ≡ Some o) ⊎ ((c : Copied layout s (Some m)) × (new ≡ after_all (events_before_trailer layout s.file.cluster c.replies c.blocks) (Some o))) → Stops
     unbegun_stops (inl same) = nothing_stops same
-    unbegun_stops (inr some) = units_stop some.0 (all_is_part (unit_events layout s.file.cluster some.0.replies some.0.blocks) (Some o) new some.1)
+    unbegun_stops (inr some) = units_stop some.0 (all_is_part (events_before_trailer layout s.file.cluster some.0.replies some.0.blocks) (Some o) new some.1)
 
     module _ (passes : Passes layout s) where
       all_stop : (c : Copied layout s (Some m)) → IsAll c → AddsPart (copy_events layout s c.replies c.blocks) (Some o) new → Stops
@@ -297,7 +297,7 @@ module _ (layout : Layout) (t m : Told) (whole : IsImage t.shown) (s : State) (s
 -- ---- what is said of it
 
 pub file_copied : (layout : Layout) (t : Told) (s : State) (r : Result (Unit {0}) Ending) (first second later : Option Told) (written wrote : Option (List ℕ)) (status : Status) → IsImage t.shown → IsState s → IsUsable s.fields → s.live ≡ true
-    → MendsAll t s first → CopiesInto layout s first second later r → Prints layout r written wrote status → CopiesFile layout t (around (Some t) second written) (around first later wrote) status
+    → MendsAll t s first → CopiesInto layout s first second later r → PrintsCopy layout r written wrote status → CopiesFile layout t (around (Some t) second written) (around first later wrote) status
 file_copied layout t s r first second later written wrote status whole state usable live mends copies prints = record {
   state = s;
   opened = mends;

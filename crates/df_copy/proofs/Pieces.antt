@@ -28,7 +28,7 @@ use Rattle.df_trailer.specs.Writing.{piece_of}
 use Rattle.df_grid.specs.Grid.{GridState}
 use Rattle.df_grid.specs.Table.{written_of}
 use Rattle.df_grid.specs.Writes.{first_address, first_sum, next_header}
-use Rattle.df_copy.specs.Targets.{behind_piece, grid_behind, next_piece, pieces_from}
+use Rattle.df_copy.specs.Targets.{grid_after_piece, grid_behind, next_piece, pieces_from}
 use Rattle.df_copy.proofs.Rows.{AreInRow}
 
 -- a chain, from the last block to the first, with these blocks written after it
@@ -147,7 +147,7 @@ module _ (sequence : ℕ) (text : List ℕ) (bytes : AreBytes text) (c : Content
     sum = number_of u.header.checksum
 
     abbrev behind : GridState
-    behind = behind_piece g sequence text
+    behind = grid_after_piece g sequence text
 
     grown : behind.blocks ≡ trailer_written g.blocks next sum more
     grown = ap (written_of g.blocks sum) left
@@ -203,9 +203,9 @@ module _ (sequence : ℕ) (text : List ℕ) (bytes : AreBytes text) (c : Content
       let low : next ≤ g.layout.blocks = omega (arith, inside) in
       let u = next_piece g sequence text in
       let on : next + 1 + n ≡ next + suc n = omega arith in
-      let rest = pieces_are (behind_piece g sequence text) (record { named = writing.named; boot = writing.boot; running = writing.running }) n (next + 1) ((u.header.op, block_of u) ∷ chain) (piece_pieced g writing next chain is (range_with_len (next + 1) n) left low)
+      let rest = pieces_are (grid_after_piece g sequence text) (record { named = writing.named; boot = writing.boot; running = writing.running }) n (next + 1) ((u.header.op, block_of u) ∷ chain) (piece_pieced g writing next chain is (range_with_len (next + 1) n) left low)
       (behind_left g writing next chain is (range_with_len (next + 1) n) left low) (omega (arith, inside)) in
       record {
         row = (ap first_of left, piece_unit g writing next chain is (range_with_len (next + 1) n) left low, rest.row);
-        pieced = subst (λ (k : ℕ). IsPieced k (grid_behind (behind_piece g sequence text) sequence text n) (chain_with (pieces_from (behind_piece g sequence text) sequence text n) ((u.header.op, block_of u) ∷ chain))) on rest.pieced;
+        pieced = subst (λ (k : ℕ). IsPieced k (grid_behind (grid_after_piece g sequence text) sequence text n) (chain_with (pieces_from (grid_after_piece g sequence text) sequence text n) ((u.header.op, block_of u) ∷ chain))) on rest.pieced;
       }

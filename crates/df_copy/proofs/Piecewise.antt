@@ -15,7 +15,7 @@ use Rattle.df_model.specs.Making.{first_of}
 use Rattle.df_grid.specs.Grid.{GridState}
 use Rattle.df_grid.specs.Table.{written_of}
 use Rattle.df_grid.specs.Writes.{made_events}
-use Rattle.df_copy.specs.Targets.{address_of, behind_piece, grid_behind, last_of, next_piece, pair_of, pieces_from}
+use Rattle.df_copy.specs.Targets.{address_of_block, grid_after_piece, grid_behind, last_message, next_piece, pieces_from, reference_pair}
 use Rattle.df_copy.specs.Units.{all_events}
 use Rattle.df_copy.proofs.Listed.{events_push}
 
@@ -45,13 +45,13 @@ module _ (sequence : ℕ) (text : List ℕ) where
   abbrev written : GridState → ℕ → List Message
   written g n = pieces_from g sequence text n
 
-  pub grid_more : (g : GridState) (n m : ℕ) → m ≡ n + 1 → grid g m ≡ behind_piece (grid g n) sequence text
+  pub grid_more : (g : GridState) (n m : ℕ) → m ≡ n + 1 → grid g m ≡ grid_after_piece (grid g n) sequence text
   grid_more g zero m is = ap (grid g) (one m is)
     where
       one : (k : ℕ) → k ≡ 0 + 1 → k ≡ suc zero
       one k same = omega (arith, same)
   grid_more g (suc n) zero is = absurd (omega (arith, is))
-  grid_more g (suc n) (suc m) is = grid_more (behind_piece g sequence text) n m (omega (arith, is))
+  grid_more g (suc n) (suc m) is = grid_more (grid_after_piece g sequence text) n m (omega (arith, is))
 
   pub written_more : (g : GridState) (n m : ℕ) → m ≡ n + 1 → written g m ≡ written g n ++ next (grid g n) ∷ []
   written_more g zero m is = ap (written g) (one m is)
@@ -59,40 +59,40 @@ module _ (sequence : ℕ) (text : List ℕ) where
       one : (k : ℕ) → k ≡ 0 + 1 → k ≡ suc zero
       one k same = omega (arith, same)
   written_more g (suc n) zero is = absurd (omega (arith, is))
-  written_more g (suc n) (suc m) is = ap (λ (l : List Message). next g ∷ l) (written_more (behind_piece g sequence text) n m (omega (arith, is)))
+  written_more g (suc n) (suc m) is = ap (λ (l : List Message). next g ∷ l) (written_more (grid_after_piece g sequence text) n m (omega (arith, is)))
 
-  pub written_split : (g : GridState) (n k m : ℕ) → m ≡ n + suc k → written g m ≡ written g n ++ next (grid g n) ∷ written (behind_piece (grid g n) sequence text) k
+  pub written_split : (g : GridState) (n k m : ℕ) → m ≡ n + suc k → written g m ≡ written g n ++ next (grid g n) ∷ written (grid_after_piece (grid g n) sequence text) k
   written_split g zero k m is = ap (written g) (one m is)
     where
       one : (j : ℕ) → j ≡ 0 + suc k → j ≡ suc k
       one j same = omega (arith, same)
   written_split g (suc n) k zero is = absurd (omega (arith, is))
-  written_split g (suc n) k (suc m) is = ap (λ (l : List Message). next g ∷ l) (written_split (behind_piece g sequence text) n k m (omega (arith, is)))
+  written_split g (suc n) k (suc m) is = ap (λ (l : List Message). next g ∷ l) (written_split (grid_after_piece g sequence text) n k m (omega (arith, is)))
 
   -- ---- what stays
 
   pub kept_layout : (g : GridState) (n : ℕ) → (grid g n).layout ≡ g.layout
   kept_layout g zero = refl
-  kept_layout g (suc n) = kept_layout (behind_piece g sequence text) n
+  kept_layout g (suc n) = kept_layout (grid_after_piece g sequence text) n
 
   pub kept_cluster : (g : GridState) (n : ℕ) → (grid g n).cluster ≡ g.cluster
   kept_cluster g zero = refl
-  kept_cluster g (suc n) = kept_cluster (behind_piece g sequence text) n
+  kept_cluster g (suc n) = kept_cluster (grid_after_piece g sequence text) n
 
   pub kept_boot : (g : GridState) (n : ℕ) → (grid g n).boot ≡ g.boot
   kept_boot g zero = refl
-  kept_boot g (suc n) = kept_boot (behind_piece g sequence text) n
+  kept_boot g (suc n) = kept_boot (grid_after_piece g sequence text) n
 
   pub kept_captured : (g : GridState) (n : ℕ) → (grid g n).blocks.captured ≡ g.blocks.captured
   kept_captured g zero = refl
-  kept_captured g (suc n) = kept_captured (behind_piece g sequence text) n ∙ one_captured g.blocks (number_of (next g).header.checksum) g.blocks.left
+  kept_captured g (suc n) = kept_captured (grid_after_piece g sequence text) n ∙ one_captured g.blocks (number_of (next g).header.checksum) g.blocks.left
 
   -- ---- what is counted
 
   pub count_left : (g : GridState) (n : ℕ) → length (grid g n).blocks.left ≡ length g.blocks.left - n
   count_left g zero = minus_zero (length g.blocks.left)
   count_left g (suc n) =
-      let more = count_left (behind_piece g sequence text) n in
+      let more = count_left (grid_after_piece g sequence text) n in
       let one = one_left g.blocks (number_of (next g).header.checksum) g.blocks.left refl in
       omega (arith, more, one)
 
@@ -100,7 +100,7 @@ module _ (sequence : ℕ) (text : List ℕ) where
   count_written g zero inside = plus_zero (length g.blocks.written)
   count_written g (suc n) inside =
       let left = one_left g.blocks (number_of (next g).header.checksum) g.blocks.left refl in
-      let more = count_written (behind_piece g sequence text) n (omega (arith, inside, left)) in
+      let more = count_written (grid_after_piece g sequence text) n (omega (arith, inside, left)) in
       let one = one_written g.blocks (number_of (next g).header.checksum) g.blocks.left (omega (arith, inside)) in
       omega (arith, more, one)
 
@@ -109,19 +109,19 @@ module _ (sequence : ℕ) (text : List ℕ) where
   first_written b c [] some = absurd (omega (arith, some))
   first_written b c (a ∷ left) some = refl
 
-  pub last_written : (g : GridState) (n : ℕ) → 0 < n → n ≤ length g.blocks.left → slice_get (grid g n).blocks.written 0 ≡ pair_of (last_of (written g n))
+  pub last_written : (g : GridState) (n : ℕ) → 0 < n → n ≤ length g.blocks.left → slice_get (grid g n).blocks.written 0 ≡ reference_pair (last_message (written g n))
   last_written g zero some inside = absurd (omega (arith, some))
   last_written g (suc zero) some inside = first_written g.blocks (number_of (next g).header.checksum) g.blocks.left (omega (arith, inside))
   last_written g (suc (suc n)) some inside =
       let one = one_left g.blocks (number_of (next g).header.checksum) g.blocks.left refl in
-      last_written (behind_piece g sequence text) (suc n) (omega arith) (omega (arith, inside, one))
+      last_written (grid_after_piece g sequence text) (suc n) (omega arith) (omega (arith, inside, one))
 
   -- and they stand one after the other
-  pub last_address : (g : GridState) (n at : ℕ) → g.blocks.left ≡ range_with_len at n → 0 < n → address_of (last_of (written g n)) + 1 ≡ at + n
+  pub last_address : (g : GridState) (n at : ℕ) → g.blocks.left ≡ range_with_len at n → 0 < n → address_of_block (last_message (written g n)) + 1 ≡ at + n
   last_address g zero at left some = absurd (omega (arith, some))
   last_address g (suc zero) at left some = let here : (next g).header.op ≡ at = ap first_of left in omega (arith, here)
   last_address g (suc (suc n)) at left some =
-      let more = last_address (behind_piece g sequence text) (suc n) (at + 1) (ap (λ (l : List ℕ). (written_of g.blocks (number_of (next g).header.checksum) l).left) left) (omega arith) in
+      let more = last_address (grid_after_piece g sequence text) (suc n) (at + 1) (ap (λ (l : List ℕ). (written_of g.blocks (number_of (next g).header.checksum) l).left) left) (omega arith) in
       omega (arith, more)
 
   -- ---- what is written
@@ -141,4 +141,4 @@ module _ (sequence : ℕ) (text : List ℕ) where
         (all_then (events n) (all_events (made_events layout) (next (grid g n) ∷ rest)) old mid new before (part_then (made_events layout (next (grid g n))) (all_events (made_events layout) rest) mid new now))
       where
         rest : List Message
-        rest = written (behind_piece (grid g n) sequence text) (m - suc n)
+        rest = written (grid_after_piece (grid g n) sequence text) (m - suc n)

@@ -17,7 +17,7 @@ use Rattle.df_theory.specs.Units as units
 use Rattle.df_units.specs.Meaning.{message_of}
 use Rattle.df_sessions.specs.declared.session.Session as told
 use Rattle.df_sessions.specs.Requests.{session_of, sessions_of}
-use Rattle.df_sessions.specs.Table.{AreApart}
+use Rattle.df_sessions.specs.Table.{AreDistinctClients}
 use Rattle.df_model.specs.After.{place_of_client}
 use Rattle.df_model.specs.Memory.{reply_sum}
 use Rattle.df_model.specs.Refusals.{first_refusal, is_new, last_op, lookup_refusals, session_of_client}
@@ -30,7 +30,7 @@ use Rattle.df_replica.specs.Reading.{IsKnownUnit, shown_of}
 use Rattle.df_copy.specs.declared.ending.Ending.{Ending}
 use Rattle.df_copy.specs.declared.ending.Ending.TheVariants.{BlockTooLong, Damaged, NotAtRest, NotBlank, ReplyTooLong, Source, Target as TargetFails, TooFewBlocks, TooFewClients}
 use Rattle.df_copy.specs.declared.target.Target.{Target}
-use Rattle.df_copy.specs.Acts.{CopiesReply, HasPlace, PutsReply, SetsCheck}
+use Rattle.df_copy.specs.Acts.{CopiesReply, HasReplyPlace, PutsReply, SetsCheck}
 use Rattle.df_copy.specs.Statuses.{reply_ending}
 use Rattle.df_copy.specs.Tests.{is_at_rest, reply_test}
 use Rattle.df_copy.specs.Units.{IsReplyAt, OverShown}
@@ -53,7 +53,7 @@ place_at (y ∷ ys) (suc k) x at only = elim (cases_eq y.client x.client) [
       ∙ ap suc (place_at ys k x at (λ j z there same. let later : suc j ≡ suc k = only (suc j) z there same in omega (arith, later)))
 ]
 
-pub place_is : (s : State) (k : ℕ) (x : told.Session) → AreApart s.table.sessions → slice_get s.table.sessions k ≡ Some x → place_for s x.client ≡ k
+pub place_is : (s : State) (k : ℕ) (x : told.Session) → AreDistinctClients s.table.sessions → slice_get s.table.sessions k ≡ Some x → place_for s x.client ≡ k
 place_is s k x apart at = place_at s.table.sessions k x at (λ j y there same. apart j k y x there at same)
 
 place_in_list : (xs : List told.Session) (k : ℕ) (x : told.Session) → slice_get xs k ≡ Some x → place_of_client x.client (sessions_of xs) < length xs
@@ -145,7 +145,7 @@ module _ (s : State) (from : Option Told) (client place : ℕ) where
 -- ---- what is written
 
 -- it has its place in any layout with so many clients
-pub has_place : (s : State) (layout : Layout) (client : ℕ) (sum : Option ℕ) (u : Message) → IsKnownUnit Reply s.file (place_in ClientReplies (place_for s client)) sum u → place_for s client < length s.table.sessions → length s.table.sessions ≤ layout.clients → HasPlace layout u
+pub has_place : (s : State) (layout : Layout) (client : ℕ) (sum : Option ℕ) (u : Message) → IsKnownUnit Reply s.file (place_in ClientReplies (place_for s client)) sum u → place_for s client < length s.table.sessions → length s.table.sessions ≤ layout.clients → HasReplyPlace layout u
 has_place s layout client sum u known less fits =
     let slot = (valid_belongs s.file.layout s.file.cluster (place_in ClientReplies (place_for s client)) u known.is).belongs.slot in
     record {

@@ -7,7 +7,7 @@ use Rattle.df_base.proofs.Laws.{minus_zero}
 use Rattle.df_layout.specs.declared.damage.Class.{Class}
 use Rattle.df_layout.specs.declared.layout.Layout.{Layout}
 use Rattle.df_format.specs.Message.{Message}
-use Rattle.df_sessions.specs.Table.{AreApart}
+use Rattle.df_sessions.specs.Table.{AreDistinctClients}
 use Rattle.df_theory.specs.Units as units
 use Rattle.df_units.specs.Meaning.{message_of}
 use Rattle.df_model.specs.Making.{named_places}
@@ -17,7 +17,7 @@ use Rattle.df_model.specs.Supply.{Shown, reply_at}
 use Rattle.df_opening.specs.Below.{State, memory}
 use Rattle.df_copy.specs.declared.ending.Ending.{Ending}
 use Rattle.df_copy.specs.declared.ending.Ending.TheVariants.{ReplyTooLong}
-use Rattle.df_copy.specs.Acts.{Beside, CopiesReplies, CopiesReply, FitReplies, FitsReply, Leaves}
+use Rattle.df_copy.specs.Acts.{Beside, CopiesReplies, CopiesReply, FitReplies, FitsReply, LeavesSource}
 use Rattle.df_copy.specs.Targets.{checks_of}
 use Rattle.df_copy.specs.Tests.{reply_test, reply_tests, reply_tests_from}
 use Rattle.df_copy.specs.Units.{IsReplyAt, OverShown, all_events, reply_events}
@@ -119,16 +119,16 @@ module _ (layout : Layout) (s : State) (from old : Option Told) where
 
 -- ---- a turn of the loop, in which the source and the layout are as they were at the entry
 
-module _ {layout l : Layout} {at kept : Beside} {x : Unit {0}} {old new : Option Told} {now : List (List ℕ)} {n : ℕ} (same : l ≡ layout) (leaves : Leaves at kept (Ok x)) (less : n < length at.source.table.sessions)
-    (is : IsReplying layout at.source now at.told old new n) (apart : AreApart at.source.table.sessions) (behind : List (List ℕ)) (newer : Option Told) where
+module _ {layout l : Layout} {at kept : Beside} {x : Unit {0}} {old new : Option Told} {now : List (List ℕ)} {n : ℕ} (same : l ≡ layout) (leaves : LeavesSource at kept (Ok x)) (less : n < length at.source.table.sessions)
+    (is : IsReplying layout at.source now at.told old new n) (apart : AreDistinctClients at.source.table.sessions) (behind : List (List ℕ)) (newer : Option Told) where
   inside : n < length (memory at.source).sessions
   inside = omega (arith, less, how_many at.source.file.layout at.source)
 
-  entered : (r : Result (Unit {0}) Ending) → (AreApart kept.source.table.sessions → CopiesReply l n kept.source now behind kept.told new newer r) → CopiesReply layout n at.source now behind at.told new newer r
-  entered r copies = at_entry (λ (k : Layout) (q : State) (o : Option Told). AreApart q.table.sessions → CopiesReply k n q now behind o new newer r) layout l same leaves copies apart
+  entered : (r : Result (Unit {0}) Ending) → (AreDistinctClients kept.source.table.sessions → CopiesReply l n kept.source now behind kept.told new newer r) → CopiesReply layout n at.source now behind at.told new newer r
+  entered r copies = at_entry (λ (k : Layout) (q : State) (o : Option Told). AreDistinctClients q.table.sessions → CopiesReply k n q now behind o new newer r) layout l same leaves copies apart
 
-  pub replying_more : n < named_places → (y : Unit {0}) → (AreApart kept.source.table.sessions → CopiesReply l n kept.source now behind kept.told new newer (Ok y)) → IsReplying layout at.source behind at.told old newer (n + 1)
+  pub replying_more : n < named_places → (y : Unit {0}) → (AreDistinctClients kept.source.table.sessions → CopiesReply l n kept.source now behind kept.told new newer (Ok y)) → IsReplying layout at.source behind at.told old newer (n + 1)
   replying_more few y copies = more layout at.source at.told old now new n inside is y behind newer few (entered (Ok y) copies)
 
-  pub replying_ends : (e : Ending) → (AreApart kept.source.table.sessions → CopiesReply {T = Unit {0}} l n kept.source now behind kept.told new newer (Err e)) → CopiesReplies {T = Unit {0}} layout at.source behind at.told old newer (Err e)
+  pub replying_ends : (e : Ending) → (AreDistinctClients kept.source.table.sessions → CopiesReply {T = Unit {0}} l n kept.source now behind kept.told new newer (Err e)) → CopiesReplies {T = Unit {0}} layout at.source behind at.told old newer (Err e)
   replying_ends e copies = ends layout at.source at.told old now new n inside is behind behind newer e (entered (Err e) copies)

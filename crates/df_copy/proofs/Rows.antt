@@ -19,7 +19,7 @@ use Rattle.df_units.specs.Format.{format_of}
 use Rattle.df_units.specs.Meaning.{block_of, message_of}
 use Rattle.df_units.proofs.Laws.{block_put, reply_put}
 use Rattle.df_grid.specs.Writes.{block_steps, made_events}
-use Rattle.df_copy.specs.Targets.{all_steps, last_of, reply_steps}
+use Rattle.df_copy.specs.Targets.{all_steps, last_message, reply_steps}
 use Rattle.df_copy.specs.Units.{all_events, reply_events}
 use Rattle.df_copy.proofs.Afters.{placed}
 
@@ -54,7 +54,7 @@ module _ {layout : Layout} {cluster : ℕ} (row : Row layout cluster) where
   row_at from (suc i) k (v ∷ us) u are at is = row_at (from + 1) i k us u are.2 at (omega (arith, is))
 
   -- the last of them
-  pub row_last : (from : ℕ) (u : Message) (us : List Message) → Are from (u ∷ us) → (v : Message) × (last_of (u ∷ us) ≡ Some v) × (row.named v ≡ from + length us) × IsUnit layout cluster (place_in row.zone (from + length us)) v
+  pub row_last : (from : ℕ) (u : Message) (us : List Message) → Are from (u ∷ us) → (v : Message) × (last_message (u ∷ us) ≡ Some v) × (row.named v ≡ from + length us) × IsUnit layout cluster (place_in row.zone (from + length us)) v
   row_last from u [] are =
       let plain : from ≡ from + 0 = omega arith in
       (u, refl, are.0 ∙ plain, subst (λ (k : ℕ). IsUnit layout cluster (place_in row.zone k) u) plain are.1)

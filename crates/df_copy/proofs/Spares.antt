@@ -24,7 +24,7 @@ use Rattle.df_opening.specs.Below.{State}
 use Rattle.df_opening.specs.Making.{reserved_table, sectors_in}
 use Rattle.df_grid.specs.Writes.{made_events}
 use Rattle.df_copy.specs.Run.{BeginsCopies, KeepsCopies, SparesCopies}
-use Rattle.df_copy.specs.Targets.{copy_events, front_events, ring_events, superblock_of, trailer_of, unit_events}
+use Rattle.df_copy.specs.Targets.{copy_events, events_before_trailer, front_events, ring_events, superblock_of, trailer_of}
 use Rattle.df_copy.specs.Units.{all_events, moved_from, reply_events}
 
 -- ---- events that write nothing there
@@ -77,7 +77,7 @@ spare_reply layout u = (place_from layout u.header.slot, tt)
 spare_block : (layout : Layout) (u : Message) → SpareSuper (made_events layout u)
 spare_block layout u = (address_from layout u.header.op, tt)
 
-pub spare_units : (layout : Layout) (cluster : ℕ) (rs bs : List Message) → SpareSuper (unit_events layout cluster rs bs)
+pub spare_units : (layout : Layout) (cluster : ℕ) (rs bs : List Message) → SpareSuper (events_before_trailer layout cluster rs bs)
 spare_units layout cluster rs bs =
     spare_join (ring_events layout cluster) (all_events (reply_events layout) rs ++ all_events (made_events layout) (moved_from 1 bs)) (spare_ring layout 0 (sectors_in layout (reserved_table layout cluster)))
     (spare_join (all_events (reply_events layout) rs) (all_events (made_events layout) (moved_from 1 bs)) (spare_each (reply_events layout) (spare_reply layout) rs) (spare_each (made_events layout) (spare_block layout) (moved_from 1 bs)))
@@ -90,7 +90,7 @@ pub spare_before : (layout : Layout) (s : State) (rs bs : List Message) → Spar
 spare_before layout s rs bs =
     let trailer = all_events (made_events layout) (trailer_of layout s (moved_from 1 bs)) in
     spare_join (front_events layout s rs bs) (Sync ∷ [])
-    (spare_join (unit_events layout s.file.cluster rs bs) trailer (spare_units layout s.file.cluster rs bs) (spare_each (made_events layout) (spare_block layout) (trailer_of layout s (moved_from 1 bs)))) tt
+    (spare_join (events_before_trailer layout s.file.cluster rs bs) trailer (spare_units layout s.file.cluster rs bs) (spare_each (made_events layout) (spare_block layout) (trailer_of layout s (moved_from 1 bs)))) tt
 
 -- ---- moments
 

@@ -26,11 +26,11 @@ use Rattle.df_units.specs.Meaning.{content_of, message_of}
 use Rattle.df_units.specs.Puts.{put_copies}
 use Rattle.df_units.proofs.Laws.{is_format}
 use Rattle.df_superblock.specs.Events.{update_events}
-use Rattle.df_opening.specs.Below.{State, begun, format_of}
+use Rattle.df_opening.specs.Below.{State, format_of, restarted}
 use Rattle.df_opening.proofs.Laws.{shown_by, unit_after, after_join, now_adds}
 use Rattle.df_copy.specs.Stops.{AreSplit, LeavesCopy, StopsCopy}
 use Rattle.df_copy.specs.Targets.{copy_events, front_events, front_steps, superblock_of, superblock_steps}
-use Rattle.df_copy.specs.Views.{IsEmpty, ShowsCopy}
+use Rattle.df_copy.specs.Views.{IsEmptyImage, ShowsCopy}
 use Rattle.df_copy.proofs.Afters.{update_other}
 use Rattle.df_copy.proofs.Holding.{nothing_shown, shown, shown_after}
 use Rattle.df_copy.proofs.Sources.{IsSource}
@@ -70,12 +70,12 @@ module _ (layout : Layout) (s : State) (rs bs : List Message) (image : Units) (v
       (target : Image) → IsImage target → ((place : Place) → (IsCopy place → ⊥) → unit_at layout cluster target place ≡ then place) → Agree (unit_at layout cluster target) c
       → ((n : ℕ) (d : Content) → n < 4 → unit_at layout cluster target (CopyPlace n) ≡ Some (CopyUnit d) → d ≡ c) → ShowsCopy layout s.file from w target
 
-  module _ (suffices : Suffices) (o : Told) (empty : IsEmpty o.shown) where
+  module _ (suffices : Suffices) (o : Told) (empty : IsEmptyImage o.shown) where
     abbrev Left : Log → Type 0
     Left = LeavesCopy layout s.file from w
 
     abbrev start : Log
-    start = (begun o).log
+    start = (restarted o).log
 
     start_is : o.shown ≡ blank
     start_is = (nothing_shown layout cluster o.shown empty).0

@@ -15,7 +15,7 @@ use Rattle.df_theory.specs.Shape.{Shape}
 use Rattle.df_theory.specs.Trailer.{InChain, IsCount, IsReference, IsTrailer, Links, Says, no_parts, text_of}
 use Rattle.df_theory.specs.Units.{Block, Content, Parts, Session, Units}
 use Rattle.df_theory.specs.View.{IsSoundCheckpoint, PassesTests, View}
-use Rattle.df_trailer.specs.Spelling.{blocks_of, is_referenced, listed, text_size}
+use Rattle.df_trailer.specs.Spelling.{block_checksums, is_referenced, listed, text_size}
 use Rattle.df_trailer.specs.Text.{ones, parse_of}
 use Rattle.df_trailer.specs.Writing.{captured_parts}
 use Rattle.df_trailer.proofs.Laws.{text_sized}
@@ -27,7 +27,7 @@ use Rattle.df_model.specs.Codec.{IsLawful}
 use Rattle.df_model.specs.Memory.{last_address, last_sum}
 use Rattle.df_opening.specs.Below.{State, memory, shape}
 use Rattle.df_opening.proofs.Laws.{codec_of}
-use Rattle.df_copy.specs.Targets.{address_of, begun_grid, check_of, grid_behind, grid_with, last_of, numbered, sequence_of, superblock_of, text_with, trailer_of}
+use Rattle.df_copy.specs.Targets.{address_of_block, begun_grid, check_of, grid_behind, grid_with, last_message, numbered, sequence_of, superblock_of, text_with, trailer_of}
 use Rattle.df_copy.specs.Tests.{references, trailer_blocks, trailer_size}
 use Rattle.df_copy.specs.Units.{moved_from}
 use Rattle.df_copy.specs.Views.{file_in}
@@ -47,11 +47,11 @@ chain_length [] chain = omega arith
 chain_length (u ∷ us) chain = let rest = chain_length us ((u.header.op, block_of u) ∷ chain) in omega (arith, rest)
 
 -- it ends with the last block
-chain_last : (u : Message) (us : List Message) (chain : List (ℕ × Block)) → (last_address (chain_with (u ∷ us) chain) ≡ address_of (last_of (u ∷ us))) × (last_sum (chain_with (u ∷ us) chain) ≡ number_of (check_of (last_of (u ∷ us))))
+chain_last : (u : Message) (us : List Message) (chain : List (ℕ × Block)) → (last_address (chain_with (u ∷ us) chain) ≡ address_of_block (last_message (u ∷ us))) × (last_sum (chain_with (u ∷ us) chain) ≡ number_of (check_of (last_message (u ∷ us))))
 chain_last u [] chain = (refl, refl)
 chain_last u (v ∷ us) chain = chain_last v us ((u.header.op, block_of u) ∷ chain)
 
-chain_named : (us : List Message) → 0 < length us → (last_address (chain_with us []) ≡ address_of (last_of us)) × (last_sum (chain_with us []) ≡ number_of (check_of (last_of us)))
+chain_named : (us : List Message) → 0 < length us → (last_address (chain_with us []) ≡ address_of_block (last_message us)) × (last_sum (chain_with us []) ≡ number_of (check_of (last_message us)))
 chain_named [] some = absurd (omega (arith, some))
 chain_named (u ∷ us) some = chain_last u us []
 
@@ -215,14 +215,14 @@ module _ (layout : Layout) (s : State) (rs bs : List Message) (image : Units) (v
     sequence_is : s.fields.sequence ≡ sequence_of s
     sequence_is = let two = source.second named in omega (arith, two)
 
-    counted : ones (map is_referenced (blocks_of (layout_of layout) copy_parts)) ≡ length (references (memory s))
+    counted : ones (map is_referenced (block_checksums (layout_of layout) copy_parts)) ≡ length (references (memory s))
     counted = numbered_ones us layout.blocks few ∙ moved_length 1 bs ∙ is.all
 
     size_is : trailer_size layout (memory s) ≡ length (text_with layout s us)
     size_is =
         (trailer_there layout s rs bs fit named).1
         ∙ sym (text_sized (layout_of layout) copy_parts
-        ∙ ap (λ (k : ℕ). text_size (layout_of layout) (length s.root) k (ones (map is_referenced (blocks_of (layout_of layout) copy_parts)))) (length-map s.table.sessions session_of)
+        ∙ ap (λ (k : ℕ). text_size (layout_of layout) (length s.root) k (ones (map is_referenced (block_checksums (layout_of layout) copy_parts)))) (length-map s.table.sessions session_of)
         ∙ ap (text_size (layout_of layout) (length s.root) (length s.table.sessions)) counted)
 
     pieces : IsPieced (sequence_of s) (text_with layout s us) (bytes layout s rs bs is.writable) copy_content sequence_is size_is (length us + 1) (next_some layout s rs bs is.writable copy_content sequence_is size_is) (length us + 1 + n)

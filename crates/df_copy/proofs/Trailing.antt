@@ -9,13 +9,13 @@ use Rattle.df_trailer.specs.Spelling.{spell}
 use Rattle.df_trailer.specs.Writing.{captured_parts, piece_of}
 use Rattle.df_checkpoint.specs.declared.capture.Capture.{Capture}
 use Rattle.df_checkpoint.specs.Writing.{unit_in}
-use Rattle.df_grid.specs.Grid.{GridState, free_of, with_blocks}
-use Rattle.df_grid.specs.Table.{last_of, next_written}
+use Rattle.df_grid.specs.Grid.{GridState, free_addresses, with_blocks}
+use Rattle.df_grid.specs.Table.{last_trailer_block, next_written}
 use Rattle.df_grid.specs.Writes.{made_events, next_unit}
 use Rattle.df_opening.specs.Below.{State, memory}
 use Rattle.df_copy.specs.declared.target.Target.{Target}
-use Rattle.df_copy.specs.Acts.{IsWritten}
-use Rattle.df_copy.specs.Targets.{IsTarget, begun_grid, grid_behind, grid_with, last_of as last_block, next_piece, pair_of, pieces_from, sequence_of, trailer_of}
+use Rattle.df_copy.specs.Acts.{IsTrailerWritten}
+use Rattle.df_copy.specs.Targets.{IsTarget, begun_grid, grid_behind, grid_with, last_message as last_block, next_piece, pieces_from, reference_pair, sequence_of, trailer_of}
 use Rattle.df_copy.specs.Tests.{needed, references, trailer_blocks}
 use Rattle.df_copy.specs.Trailers.{text_in}
 use Rattle.df_copy.specs.Units.{all_events, moved_from}
@@ -31,10 +31,10 @@ no_trailer layout s us none = ap (λ (k : ℕ). pieces_from (begun_grid (grid_wi
     text_of : List Message → List ℕ
     text_of vs = spell (layout_of layout) (captured_parts s.root s.table.sessions (λ a. sum_at a (grid_with layout s.file.cluster vs).blocks.live))
 
-pub none_written : (layout : Layout) (s : State) (rs bs : List Message) (t : Target) → IsTarget layout s.file.cluster rs bs t → trailer_blocks layout (memory s) ≡ 0 → IsWritten layout s rs bs t
+pub none_written : (layout : Layout) (s : State) (rs bs : List Message) (t : Target) → IsTarget layout s.file.cluster rs bs t → trailer_blocks layout (memory s) ≡ 0 → IsTrailerWritten layout s rs bs t
 none_written layout s rs bs t is none = record {
   layout_is = is.layout_is;
-  last = ap (λ (g : GridState). last_of g.blocks.left g.blocks.written) is.grid ∙ ap (λ (l : List Message). pair_of (last_block l)) (sym (no_trailer layout s (moved_from 1 bs) none));
+  last = ap (λ (g : GridState). last_trailer_block g.blocks.left g.blocks.written) is.grid ∙ ap (λ (l : List Message). reference_pair (last_block l)) (sym (no_trailer layout s (moved_from 1 bs) none));
   checks = is.checks;
 }
 
@@ -52,11 +52,11 @@ none_left [] none = refl
 none_left (a ∷ left) none = absurd (omega arith)
 
 pub last_named : (g : GridState) (sequence : ℕ) (text : List ℕ) (n : ℕ) → 0 < n → length g.blocks.left ≡ n
-    → last_of (grid_behind g sequence text n).blocks.left (grid_behind g sequence text n).blocks.written ≡ pair_of (last_block (pieces_from g sequence text n))
+    → last_trailer_block (grid_behind g sequence text n).blocks.left (grid_behind g sequence text n).blocks.written ≡ reference_pair (last_block (pieces_from g sequence text n))
 last_named g sequence text n some all =
     let behind = grid_behind g sequence text n in
     let none = none_left behind.blocks.left (omega (arith, count_left sequence text g n, all)) in
-    ap (λ (l : List ℕ). last_of l behind.blocks.written) none ∙ last_written sequence text g n some (omega (arith, all))
+    ap (λ (l : List ℕ). last_trailer_block l behind.blocks.written) none ∙ last_written sequence text g n some (omega (arith, all))
 
 -- ---- room for it
 
@@ -67,10 +67,10 @@ module _ (layout : Layout) (s : State) (bs : List Message) (all : length bs ≡ 
   few : length us + trailer_blocks layout (memory s) ≤ layout.blocks
   few = omega (arith, moved_length 1 bs, all, room)
 
-  pub enough_free : trailer_blocks layout (memory s) ≤ length (free_of (grid_with layout s.file.cluster us))
+  pub enough_free : trailer_blocks layout (memory s) ≤ length (free_addresses (grid_with layout s.file.cluster us))
   enough_free = let free = ap length (free_behind layout s.file.cluster us (omega (arith, few))) ∙ length-range_with_len (length us + 1) (layout.blocks - length us) in omega (arith, free, few)
 
-  pub left_all : length (take (trailer_blocks layout (memory s)) (free_of (grid_with layout s.file.cluster us))) ≡ trailer_blocks layout (memory s)
+  pub left_all : length (take (trailer_blocks layout (memory s)) (free_addresses (grid_with layout s.file.cluster us))) ≡ trailer_blocks layout (memory s)
   left_all = ap length (next_free layout s.file.cluster us (trailer_blocks layout (memory s)) few) ∙ length-range_with_len (length us + 1) (trailer_blocks layout (memory s))
 
 -- ---- block by block
@@ -115,10 +115,10 @@ module _ (layout : Layout) (s : State) (us : List Message) (g begun : GridState)
   pub own_events : all_events (made_events begun.layout) (pieces_from begun capture.sequence (text_in begun capture) blocks) ≡ all_events (made_events layout) (trailer_of layout s us)
   own_events = ap (λ (l : Layout). all_events (made_events l) (pieces_from begun capture.sequence (text_in begun capture) blocks)) (ap (λ (h : GridState). h.layout) whole ∙ ap (λ (h : GridState). h.layout) grid) ∙ ap (all_events (made_events layout)) own_pieces
 
-  pub own_left : length (take (trailer_blocks layout (memory s)) (free_of (grid_with layout s.file.cluster us))) ≡ trailer_blocks layout (memory s) → length begun.blocks.left ≡ blocks
-  own_left all = ap (λ (h : GridState). length h.blocks.left) whole ∙ ap (λ (h : GridState). length (take blocks (free_of h))) grid ∙ ap (λ (k : ℕ). length (take k (free_of (grid_with layout s.file.cluster us)))) count ∙ all ∙ sym count
+  pub own_left : length (take (trailer_blocks layout (memory s)) (free_addresses (grid_with layout s.file.cluster us))) ≡ trailer_blocks layout (memory s) → length begun.blocks.left ≡ blocks
+  own_left all = ap (λ (h : GridState). length h.blocks.left) whole ∙ ap (λ (h : GridState). length (take blocks (free_addresses h))) grid ∙ ap (λ (k : ℕ). length (take k (free_addresses (grid_with layout s.file.cluster us)))) count ∙ all ∙ sym count
 
   -- and it names the last block
-  pub own_last : 0 < blocks → length begun.blocks.left ≡ blocks → (now : GridState) → now ≡ grid_behind begun capture.sequence (text_in begun capture) blocks → last_of now.blocks.left now.blocks.written ≡ pair_of (last_block (trailer_of layout s us))
+  pub own_last : 0 < blocks → length begun.blocks.left ≡ blocks → (now : GridState) → now ≡ grid_behind begun capture.sequence (text_in begun capture) blocks → last_trailer_block now.blocks.left now.blocks.written ≡ reference_pair (last_block (trailer_of layout s us))
   own_last some left now is =
-      ap (λ (h : GridState). last_of h.blocks.left h.blocks.written) is ∙ last_named begun capture.sequence (text_in begun capture) blocks some left ∙ ap (λ (l : List Message). pair_of (last_block l)) own_pieces
+      ap (λ (h : GridState). last_trailer_block h.blocks.left h.blocks.written) is ∙ last_named begun capture.sequence (text_in begun capture) blocks some left ∙ ap (λ (l : List Message). reference_pair (last_block l)) own_pieces

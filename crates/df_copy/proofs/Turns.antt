@@ -12,7 +12,7 @@ use Rattle.df_model.specs.Refusals.{first_refusal}
 use Rattle.df_model.specs.Supply.{Shown}
 use Rattle.df_opening.specs.Below.{DataFile, State}
 use Rattle.df_copy.specs.declared.ending.Ending.{Ending}
-use Rattle.df_copy.specs.Acts.{Beside, Leaves, StopsAt, StopsBehind}
+use Rattle.df_copy.specs.Acts.{Beside, CopyStopsAt, LeavesSource, StopsBehind}
 use Rattle.df_copy.specs.Units.{OverShown}
 use Rattle.df_copy.proofs.Blamed.{by_ending}
 use Rattle.df_copy.proofs.Listed.{over_both, over_by}
@@ -20,11 +20,11 @@ use Rattle.df_copy.proofs.Listed.{over_both, over_by}
 -- ---- the source and the target at the entry
 
 -- nothing was done yet
-pub leaves_self : {at : Beside} {x : Unit {0}} → Leaves at at (Ok x)
+pub leaves_self : {at : Beside} {x : Unit {0}} → LeavesSource at at (Ok x)
 leaves_self = record { kept = refl; same = refl; blames_source = refl; blames_target = refl }
 
 -- what is said of a turn is said of them too
-pub at_entry : {at kept : Beside} {x : Unit {0}} (P : Layout → State → Option Told → Type 0) (layout l : Layout) → l ≡ layout → Leaves at kept (Ok x) → P l kept.source kept.told → P layout at.source at.told
+pub at_entry : {at kept : Beside} {x : Unit {0}} (P : Layout → State → Option Told → Type 0) (layout l : Layout) → l ≡ layout → LeavesSource at kept (Ok x) → P l kept.source kept.told → P layout at.source at.told
 at_entry {at = at} {kept = kept} P layout l same leaves is =
     subst (λ (k : Layout). P k at.source at.told) same (subst (λ (s : State). P l s at.told) leaves.kept (subst (λ (o : Option Told). P l kept.source o) leaves.same is))
 
@@ -84,7 +84,7 @@ module _ (file : DataFile) (from : Option Told) (Fit : List Message → Type 0) 
       )
 
       -- or the copy ends with it
-      pub turn_stops : (newer : Option Told) (e : Ending) → StopsAt file from Fits one test new newer e → StopsBehind {X = Written} file from (λ x. events x.0) tests old newer e
+      pub turn_stops : (newer : Option Told) (e : Ending) → CopyStopsAt file from Fits one test new newer e → StopsBehind {X = Written} file from (λ x. events x.0) tests old newer e
       turn_stops newer e stops = by_ending (fails newer) (unread newer) (refused newer) e stops
 
 -- ---- a copy of some within one of more

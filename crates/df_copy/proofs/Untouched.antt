@@ -17,9 +17,9 @@ use Rattle.df_theory.specs.View.{View}
 use Rattle.df_theory.proofs.Laws.{settled_law}
 use Rattle.df_units.specs.Bytes.{copy_unit, unit_at}
 use Rattle.df_units.proofs.Laws.{blank_empty}
-use Rattle.df_opening.specs.Below.{DataFile, begun, format_of, told_after}
+use Rattle.df_opening.specs.Below.{DataFile, format_of, restarted, told_after}
 use Rattle.df_copy.specs.Stops.{AreSplit, LeavesCopy, StopsCopy}
-use Rattle.df_copy.specs.Views.{IsEmpty}
+use Rattle.df_copy.specs.Views.{IsEmptyImage}
 use Rattle.df_copy.proofs.Spares.{SpareSuper, front_of_part, uncovered}
 
 -- ---- the sectors of the superblock
@@ -47,7 +47,7 @@ untouched_write at bytes log from is = record {
 pub untouched_sync : (log : Log) → IsUntouched log → IsUntouched (add Sync log)
 untouched_sync log is = record { firm = λ n inside. refl; shown = is.shown; durable = (is.shown, is.durable) }
 
-pub untouched_begun : (o : Told) → IsEmpty o.shown → IsUntouched (begun o).log
+pub untouched_begun : (o : Told) → IsEmptyImage o.shown → IsUntouched (restarted o).log
 untouched_begun o empty = record { firm = λ n inside. refl; shown = λ n inside. empty n; durable = ((λ n inside. empty n), tt) }
 
 -- it stays so by writes after them
@@ -102,22 +102,22 @@ module _ (layout : Layout) (file : DataFile) (source : Image) (v : View) where
   told_log (e ∷ es) t = told_log es (did e t)
 
   -- of what leaves a copy at each moment a part does
-  pub stops_part : (o : Told) (new : Option Told) (es : List Event) → AddsPart es (Some o) new → EachMoment (begun o).log (adds es (begun o).log) (LeavesCopy layout file source v) → StopsCopy layout file source v o new
+  pub stops_part : (o : Told) (new : Option Told) (es : List Event) → AddsPart es (Some o) new → EachMoment (restarted o).log (adds es (restarted o).log) (LeavesCopy layout file source v) → StopsCopy layout file source v o new
   stops_part o new es part each =
       let front = front_of_part es (Some o) new part in
-      let log : Log = (begun o).log in
+      let log : Log = (restarted o).log in
       let whole : adds es log ≡ adds front.rest (adds front.part log) = ap (λ (l : List Event). adds l log) front.both ∙ adds_on front.part front.rest log in
       record {
         events = front.part;
         told = front.is;
-        moments = subst (λ (l : Log). EachMoment log l (LeavesCopy layout file source v)) (sym (told_log front.part (begun o)))
+        moments = subst (λ (l : Log). EachMoment log l (LeavesCopy layout file source v)) (sym (told_log front.part (restarted o)))
             (λ l moment. subst (λ (exit : Log). EachMoment log exit (LeavesCopy layout file source v)) whole each l
             (record { since = moment.since; until = extends_on (adds front.rest (adds front.part log)) (adds front.part log) l (adds_extends front.rest (adds front.part log)) moment.until }));
       }
 
-  pub stops_spare : (o : Told) (new : Option Told) (es : List Event) → IsEmpty o.shown → SpareSuper es → AddsPart es (Some o) new → StopsCopy layout file source v o new
+  pub stops_spare : (o : Told) (new : Option Told) (es : List Event) → IsEmptyImage o.shown → SpareSuper es → AddsPart es (Some o) new → StopsCopy layout file source v o new
   stops_spare o new es empty spare part =
-      let log : Log = (begun o).log in
+      let log : Log = (restarted o).log in
       let end : Log = adds es log in
       let is = untouched_begun o empty in
       stops_part o new es part

@@ -22,7 +22,7 @@ use Rattle.df_trailer.specs.Spelling.{text_size}
 use Rattle.df_trailer.proofs.Laws.{count_is}
 use Rattle.df_grid.specs.Grid.{GridState}
 use Rattle.df_opening.specs.Below.{IsState, State, memory}
-use Rattle.df_copy.specs.Targets.{address_of, begun_grid, behind_piece, check_of, checks_of, copy_events, copy_steps, front_events, front_steps, grid_with, last_of, pieces_from, sequence_of, superblock_events, superblock_of, superblock_steps, text_with, trailer_of}
+use Rattle.df_copy.specs.Targets.{address_of_block, begun_grid, check_of, checks_of, copy_events, copy_steps, front_events, front_steps, grid_after_piece, grid_with, last_message, pieces_from, sequence_of, superblock_events, superblock_of, superblock_steps, text_with, trailer_of}
 use Rattle.df_copy.specs.Tests.{needed, references, trailer_blocks, trailer_size}
 use Rattle.df_copy.specs.Units.{moved_from}
 use Rattle.df_copy.proofs.Listed.{check_at, many_checks, moved_length}
@@ -52,15 +52,15 @@ none_spare us clients few = λ k past inside.
 
 pub how_many : (g : GridState) (sequence : ℕ) (text : List ℕ) (n : ℕ) → length (pieces_from g sequence text n) ≡ n
 how_many g sequence text zero = refl
-how_many g sequence text (suc n) = ap suc (how_many (behind_piece g sequence text) sequence text n)
+how_many g sequence text (suc n) = ap suc (how_many (grid_after_piece g sequence text) sequence text n)
 
 -- what a superblock names where there is none
-none_named : (ts : List Message) → length ts ≡ 0 → (address_of (last_of ts) ≡ 0) × (check_of (last_of ts) ≡ no_checksum)
+none_named : (ts : List Message) → length ts ≡ 0 → (address_of_block (last_message ts) ≡ 0) × (check_of (last_message ts) ≡ no_checksum)
 none_named [] none = (refl, refl)
 none_named (t ∷ ts) none = absurd (omega arith)
 
 -- the checksum of the last block is one
-last_check : (layout : Layout) (cluster from : ℕ) (ts : List Message) → AreInRow layout cluster from ts → IsCheck (check_of (last_of ts))
+last_check : (layout : Layout) (cluster from : ℕ) (ts : List Message) → AreInRow layout cluster from ts → IsCheck (check_of (last_message ts))
 last_check layout cluster from [] row = no_check
 last_check layout cluster from (t ∷ ts) row =
     let last = row_last (block_rows layout cluster) from t ts row in

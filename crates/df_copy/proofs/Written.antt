@@ -26,7 +26,7 @@ use Rattle.df_grid.specs.Grid.{GridState}
 use Rattle.df_grid.specs.Writes.{block_steps, made_events}
 use Rattle.df_opening.specs.Below.{IsState, State, memory}
 use Rattle.df_copy.specs.Acts.{FitBlocks, FitReplies, IsBlockOf}
-use Rattle.df_copy.specs.Targets.{all_steps, begun_grid, front_events, front_steps, grid_with, numbered, reply_steps, ring_events, ring_steps, sequence_of, text_with, trailer_of, unit_events, unit_steps}
+use Rattle.df_copy.specs.Targets.{all_steps, begun_grid, events_before_trailer, front_events, front_steps, grid_with, numbered, reply_steps, ring_events, ring_steps, sequence_of, text_with, trailer_of, unit_steps}
 use Rattle.df_copy.specs.Tests.{needed, references, trailer_blocks}
 use Rattle.df_copy.specs.Units.{IsBlockAt, IsReplyAt, all_events, moved, moved_from, reply_events}
 use Rattle.df_copy.proofs.Frees.{next_free}
@@ -176,7 +176,7 @@ module _ (layout : Layout) (s : State) (rs bs : List Message) (is : IsWritable l
   pub trailer_in_row : AreInRow layout s.file.cluster (length us + 1) (trailer_of layout s us)
   trailer_in_row = (trailer_is (record (content_of (content_with s.fields)) { sequence = sequence; trailer_size = length text }) refl refl).row
 
-  pub units_are_steps : AreSteps (format_of layout s.file.cluster) (unit_events layout s.file.cluster rs bs) (unit_steps layout s.file.cluster rs bs)
+  pub units_are_steps : AreSteps (format_of layout s.file.cluster) (events_before_trailer layout s.file.cluster rs bs) (unit_steps layout s.file.cluster rs bs)
   units_are_steps =
       let f = format_of layout s.file.cluster in
       steps_join_law f (ring_events layout s.file.cluster) (all_events (reply_events layout) rs ++ all_events (made_events layout) us) (ring_steps layout s.file.cluster) (all_steps reply_steps rs ++ all_steps block_steps us)
@@ -186,5 +186,5 @@ module _ (layout : Layout) (s : State) (rs bs : List Message) (is : IsWritable l
 
   pub front_are_steps : AreSteps (format_of layout s.file.cluster) (front_events layout s rs bs) (front_steps layout s rs bs)
   front_are_steps =
-      steps_join_law (format_of layout s.file.cluster) (unit_events layout s.file.cluster rs bs) (all_events (made_events layout) (trailer_of layout s us)) (unit_steps layout s.file.cluster rs bs) (all_steps block_steps (trailer_of layout s us))
+      steps_join_law (format_of layout s.file.cluster) (events_before_trailer layout s.file.cluster rs bs) (all_events (made_events layout) (trailer_of layout s us)) (unit_steps layout s.file.cluster rs bs) (all_steps block_steps (trailer_of layout s us))
       units_are_steps (row_steps (block_rows layout s.file.cluster) (length us + 1) (trailer_of layout s us) trailer_in_row)

@@ -13,7 +13,7 @@ use Rattle.df_format.specs.Own.{place_in}
 use Rattle.df_format.specs.Valid.{IsUnit}
 use Rattle.df_units.specs.Meaning.{number_of}
 use Rattle.df_grid.specs.Grid.{GridState, with_blocks}
-use Rattle.df_grid.specs.Table.{last_of}
+use Rattle.df_grid.specs.Table.{last_trailer_block}
 use Rattle.df_grid.specs.Writes.{made_events}
 use Rattle.df_model.specs.Blocks.{block_written}
 use Rattle.df_model.specs.Commands.{ReadBlock}
@@ -25,14 +25,14 @@ use Rattle.df_copy.specs.declared.ending.Ending.{Ending}
 use Rattle.df_copy.specs.declared.ending.Ending.TheVariants.{BlockTooLong, ReplyTooLong, Target as TargetFails}
 use Rattle.df_copy.specs.declared.target.Target.{Target}
 use Rattle.df_copy.specs.Statuses.{ByEnding, is_source, is_target}
-use Rattle.df_copy.specs.Targets.{IsTarget, checks_of, last_of as last_block, pair_of, trailer_of}
+use Rattle.df_copy.specs.Targets.{IsTarget, checks_of, last_message as last_block, reference_pair, trailer_of}
 use Rattle.df_copy.specs.Tests.{block_test, block_tests, is_at_rest, references, reply_test, reply_tests}
-use Rattle.df_copy.specs.Units.{AreBlocks, AreReplies, IsBlockAt, IsReplyAt, OverShown, all_events, moved, moved_from, reply_events}
+use Rattle.df_copy.specs.Units.{AreLiveBlocks, AreReplies, IsBlockAt, IsReplyAt, OverShown, all_events, moved, moved_from, reply_events}
 
 -- ---- what is asked and left
 
 -- a source that may be copied: calls may be made on it, no prepare is after its checkpoint and none waits for its reply, and the layout has a place for each of its sessions
-pub record IsReady (layout : Layout) (s : State) : Type 0 where
+pub record IsReadySource (layout : Layout) (s : State) : Type 0 where
   pub live : s.live ≡ true
   pub rest : is_at_rest (memory s) ≡ true
   pub fits : length s.table.sessions ≤ layout.clients
@@ -48,7 +48,7 @@ abbrev pub beside : State → Option Told → (faults target_faults : ℕ) → B
 beside source told faults target_faults = record { source = source; told = told; faults = faults; target_faults = target_faults }
 
 -- a call leaves the source as it was where it is Ok, and what the source's disk tells in any case; and each disk's count rose, once, exactly where the ending blames it
-pub record Leaves {T : Type 0} (before now : Beside) (result : Result T Ending) : Type 0 where
+pub record LeavesSource {T : Type 0} (before now : Beside) (result : Result T Ending) : Type 0 where
   pub kept : OnOk result (now.source ≡ before.source)
   pub same : now.told ≡ before.told
   pub blames_source : IsBlamed is_source before.faults now.faults result
@@ -57,8 +57,8 @@ pub record Leaves {T : Type 0} (before now : Beside) (result : Result T Ending) 
 -- ---- where a copy of units stops
 
 -- In one of them: it fits, and the target's disk fails in its writes; or the source's disk fails; or the test of what is found of it ends the copy. But for the first nothing is written.
-abbrev pub StopsAt : DataFile → (from : Option Told) → (Fits : Message → Type 0) → (events : Message → List Event) → (test : Shown → Bool × Ending) → (old new : Option Told) → Ending → Type 0
-StopsAt file from Fits events test old new e = ByEnding ((u : Message) × Fits u × AddsPart (events u) old new) (new ≡ old) (λ x. OverShown file from (λ shown. test shown ≡ (true, x)) × (new ≡ old)) e
+abbrev pub CopyStopsAt : DataFile → (from : Option Told) → (Fits : Message → Type 0) → (events : Message → List Event) → (test : Shown → Bool × Ending) → (old new : Option Told) → Ending → Type 0
+CopyStopsAt file from Fits events test old new e = ByEnding ((u : Message) × Fits u × AddsPart (events u) old new) (new ≡ old) (λ x. OverShown file from (λ shown. test shown ≡ (true, x)) × (new ≡ old)) e
 
 -- In their order: the first of them are written, or some part of that where the target's disk fails; and the source's disk fails after them, or the first test that holds ends the copy.
 abbrev pub StopsBehind : {X : Type 0} → DataFile → (from : Option Told) → (events : X → List Event) → (tests : Shown → List (Bool × Ending)) → (old new : Option Told) → Ending → Type 0
@@ -73,7 +73,7 @@ pub record MayPutReply (layout : Layout) (h : Header) (body : List ℕ) : Type 0
   pub kind : h.kind ≡ Reply
 
 -- a reply that is valid at its place of some layout, and the layout has the place
-pub record HasPlace (layout : Layout) (u : Message) : Type 0 where
+pub record HasReplyPlace (layout : Layout) (u : Message) : Type 0 where
   pub own : Layout
   pub is : IsUnit own u.header.cluster (place_in ClientReplies u.header.slot) u
   pub kind : u.header.kind ≡ Reply
@@ -94,7 +94,7 @@ pub record FitsReply (layout : Layout) (s : State) (told : Option Told) (place :
 -- the reply of the session at a place: it is read and written; or one of the two disks fails; or the test of what is found of it ends the copy, and nothing is written
 abbrev pub CopiesReply : {T : Type 0} → Layout → (place : ℕ) → State → (before behind : List (List ℕ)) → (from old new : Option Told) → Result T Ending → Type 0
 CopiesReply layout place s before behind from old new (Ok x) = (r : Message) × FitsReply layout s from place r × (new ≡ after_all (reply_events layout r) old) × (behind ≡ slice_set before place r.header.checksum)
-CopiesReply layout place s before behind from old new (Err e) = StopsAt s.file from (FitsReply layout s from place) (reply_events layout) (λ shown. reply_test layout place (reply_at shown (reply_sum (memory s) place) place)) old new e
+CopiesReply layout place s before behind from old new (Err e) = CopyStopsAt s.file from (FitsReply layout s from place) (reply_events layout) (λ shown. reply_test layout place (reply_at shown (reply_sum (memory s) place) place)) old new e
 
 -- the checksum of some session's place was set
 pub record SetsCheck (sessions : ℕ) (before behind : List (List ℕ)) : Type 0 where
@@ -123,8 +123,8 @@ abbrev pub with_block : GridState → Message → GridState
 with_block g u = with_blocks g (block_written g.blocks u.header.op (number_of u.header.checksum))
 
 -- replies were written, and blocks
-abbrev pub IsBegun : State → Target → Type 0
-IsBegun s t = (rs : List Message) × (bs : List Message) × IsTarget t.layout s.file.cluster rs bs t
+abbrev pub IsCopyBegun : State → Target → Type 0
+IsCopyBegun s t = (rs : List Message) × (bs : List Message) × IsTarget t.layout s.file.cluster rs bs t
 
 -- a block of this cluster that is valid at this address of some layout
 pub record IsBlockOf (cluster address : ℕ) (u : Message) : Type 0 where
@@ -155,7 +155,7 @@ pub record FitsBlock (layout : Layout) (s : State) (told : Option Told) (address
 abbrev pub CopiesBlock : {T : Type 0} → Layout → (address : ℕ) → State → (t n : Target) → (from old new : Option Told) → Result T Ending → Type 0
 CopiesBlock layout address s t n from old new (Ok x) = (b : Message) × FitsBlock layout s from address b × (new ≡ after_all (made_events layout (moved (t.copied + 1) b)) old) × HasNext b t n
 CopiesBlock layout address s t n from old new (Err e) =
-    StopsAt s.file from (FitsBlock layout s from address) (λ b. made_events layout (moved (t.copied + 1) b)) (λ shown. block_test layout address (block_read shown (memory s) (ReadBlock address))) old new e
+    CopyStopsAt s.file from (FitsBlock layout s from address) (λ b. made_events layout (moved (t.copied + 1) b)) (λ shown. block_test layout address (block_read shown (memory s) (ReadBlock address))) old new e
 
 -- an address: nothing is live there, and nothing is done; or a block is
 abbrev pub CopiesAt : {T : Type 0} → Layout → (address : ℕ) → (known : Option ℕ) → State → (t n : Target) → (from old new : Option Told) → Result T Ending → Type 0
@@ -165,7 +165,7 @@ CopiesAt layout address (Some sum) s t n from old new result = CopiesBlock layou
 
 -- the first of the live blocks, each of which fits
 pub record FitBlocks (layout : Layout) (s : State) (told : Option Told) (us : List Message) : Type 0 where
-  pub are : AreBlocks s told us
+  pub are : AreLiveBlocks s told us
   pub fit : (i : ℕ) (u : Message) → slice_get us i ≡ Some u → 256 + length u.body ≤ layout.block_size
 
 -- all of them, and no test holds; or the first of them, where one of the two disks fails, or a test ends the copy after them
@@ -185,7 +185,7 @@ IsCopied layout s t = (rs : List Message) × (bs : List Message) × IsTarget lay
 -- ---- the trailer
 
 -- replies and blocks were written, and the trailer after them, of which the grid names the last block
-pub record IsWritten (layout : Layout) (s : State) (replies blocks : List Message) (t : Target) : Type 0 where
+pub record IsTrailerWritten (layout : Layout) (s : State) (replies blocks : List Message) (t : Target) : Type 0 where
   pub layout_is : t.layout ≡ layout
-  pub last : last_of t.grid.blocks.left t.grid.blocks.written ≡ pair_of (last_block (trailer_of layout s (moved_from 1 blocks)))
+  pub last : last_trailer_block t.grid.blocks.left t.grid.blocks.written ≡ reference_pair (last_block (trailer_of layout s (moved_from 1 blocks)))
   pub checks : t.checks ≡ checks_of replies

@@ -15,7 +15,7 @@ use Rattle.df_copy.specs.declared.ending.Ending.TheVariants.{Target}
 use Rattle.df_copy.specs.declared.target.Target.{Target as Copy}
 use Rattle.df_copy.specs.Acts.{FitBlocks, FitReplies, StopsBehind}
 use Rattle.df_copy.specs.Statuses.{ByEnding}
-use Rattle.df_copy.specs.Targets.{IsTarget, copy_events, ring_events, superblock_events, trailer_of, unit_events}
+use Rattle.df_copy.specs.Targets.{IsTarget, copy_events, events_before_trailer, ring_events, superblock_events, trailer_of}
 use Rattle.df_copy.specs.Tests.{blank_tests, references, rest_tests, tests, unit_tests}
 use Rattle.df_copy.specs.Units.{OverShown, all_events, moved_from, reply_events}
 
@@ -37,13 +37,13 @@ pub record IsAll {layout : Layout} {s : State} {told : Option Told} (c : Copied 
 abbrev pub WritesCopy : {T : Type 0} → Layout → State → (from old new : Option Told) → Result T Ending → Type 0
 WritesCopy layout s from old new (Ok x) = (c : Copied layout s from) × IsAll c × (new ≡ after_all (copy_events layout s c.replies c.blocks) old)
 WritesCopy layout s from old new (Err Target) =
-    (c : Copied layout s from) × (AddsPart (unit_events layout s.file.cluster c.replies c.blocks) old new ⊎ (IsAll c × AddsPart (copy_events layout s c.replies c.blocks) old new))
-WritesCopy layout s from old new (Err e) = (new ≡ old) ⊎ ((c : Copied layout s from) × (new ≡ after_all (unit_events layout s.file.cluster c.replies c.blocks) old))
+    (c : Copied layout s from) × (AddsPart (events_before_trailer layout s.file.cluster c.replies c.blocks) old new ⊎ (IsAll c × AddsPart (copy_events layout s c.replies c.blocks) old new))
+WritesCopy layout s from old new (Err e) = (new ≡ old) ⊎ ((c : Copied layout s from) × (new ≡ after_all (events_before_trailer layout s.file.cluster c.replies c.blocks) old))
 
 -- Which refusal it is: none of the tests holds where the copy is made, and else the first that does is answered; a failing disk says nothing of them.
-abbrev pub Judges : {T : Type 0} → Layout → State → Shown → Image → Result T Ending → Type 0
-Judges layout s shown image (Ok x) = first_refusal (tests layout shown (memory s) image) ≡ None
-Judges layout s shown image (Err e) = ByEnding (Unit {0}) (Unit {0}) (λ x. first_refusal (tests layout shown (memory s) image) ≡ Some x) e
+abbrev pub JudgesCopy : {T : Type 0} → Layout → State → Shown → Image → Result T Ending → Type 0
+JudgesCopy layout s shown image (Ok x) = first_refusal (tests layout shown (memory s) image) ≡ None
+JudgesCopy layout s shown image (Err e) = ByEnding (Unit {0}) (Unit {0}) (λ x. first_refusal (tests layout shown (memory s) image) ≡ Some x) e
 
 -- a fact of what the target's disk shows, where it tells that
 abbrev pub OverTold : Option Told → (Image → Type 0) → Type 0
@@ -51,14 +51,14 @@ OverTold None P = Unit {0}
 OverTold (Some o) P = P o.shown
 
 -- so it is where both disks tell what they show
-abbrev pub IsJudged : {T : Type 0} → Layout → State → (from to : Option Told) → Result T Ending → Type 0
-IsJudged layout s from to result = OverTold to (λ image. OverShown s.file from (λ shown. Judges layout s shown image result))
+abbrev pub IsCopyJudged : {T : Type 0} → Layout → State → (from to : Option Told) → Result T Ending → Type 0
+IsCopyJudged layout s from to result = OverTold to (λ image. OverShown s.file from (λ shown. JudgesCopy layout s shown image result))
 
 -- a copy of a source that was opened, into a target of this layout of which nothing is written: nothing is written either unless the source passes the tests that read nothing
 pub record CopiesInto {T : Type 0} (layout : Layout) (s : State) (from old new : Option Told) (result : Result T Ending) : Type 0 where
   pub tested : (new ≡ old) ⊎ (first_refusal (rest_tests layout (memory s)) ≡ None)
   pub writes : WritesCopy layout s from old new result
-  pub judged : IsJudged layout s from old result
+  pub judged : IsCopyJudged layout s from old result
 
 -- ---- its parts
 

@@ -8,11 +8,11 @@ use Rattle.df_copy.specs.declared.plan.Plan.{Plan}
 use Rattle.df_copy.specs.Tests.{rest_tests, trailer_blocks, trailer_size}
 
 -- so many blocks, with a text of so many bytes
-pub record IsPlan (layout : Layout) (s : State) (plan : Plan) : Type 0 where
+pub record IsCopyPlan (layout : Layout) (s : State) (plan : Plan) : Type 0 where
   pub blocks : plan.blocks ≡ trailer_blocks layout (memory s)
   pub size : plan.size ≡ trailer_size layout (memory s)
 
 -- none of the tests that read nothing holds; or the first that does is answered
-abbrev pub IsTested : Layout → State → Result Plan Ending → Type 0
-IsTested layout s (Ok plan) = (first_refusal (rest_tests layout (memory s)) ≡ None) × IsPlan layout s plan
-IsTested layout s (Err e) = first_refusal (rest_tests layout (memory s)) ≡ Some e
+abbrev pub IsCopyTested : Layout → State → Result Plan Ending → Type 0
+IsCopyTested layout s (Ok plan) = (first_refusal (rest_tests layout (memory s)) ≡ None) × IsCopyPlan layout s plan
+IsCopyTested layout s (Err e) = first_refusal (rest_tests layout (memory s)) ≡ Some e

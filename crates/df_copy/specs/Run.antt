@@ -18,7 +18,7 @@ use Rattle.df_opening.specs.Below.{IsLayoutShown, Refuses, State, Surveys, shape
 use Rattle.df_opening.specs.Opened.{MendsAll, StopsOpening, begun_state}
 use Rattle.df_words.specs.Names.{NamesLayout}
 use Rattle.df_telling.specs.Telling.{Writes}
-use Rattle.df_telling.specs.Two.{IsSilent, Outside}
+use Rattle.df_telling.specs.Two.{Outside, TouchesNeither}
 use Rattle.df_copy.specs.declared.ending.Ending.{Ending}
 use Rattle.df_copy.specs.declared.ending.Ending.TheVariants.{Source, Target}
 use Rattle.df_copy.specs.declared.status.Status.{Status}
@@ -26,23 +26,23 @@ use Rattle.df_copy.specs.declared.status.Status.TheVariants as ends
 use Rattle.df_copy.specs.Copying.{CopiesInto}
 use Rattle.df_copy.specs.Stops.{StopsCopy}
 use Rattle.df_copy.specs.Texts.{copied_text, ending_text}
-use Rattle.df_copy.specs.Views.{HoldsCopy, IsEmpty}
+use Rattle.df_copy.specs.Views.{HoldsCopy, IsEmptyImage}
 
 -- ---- words
 
 -- they are one word, and it names this layout
-abbrev pub Means : List (List ℕ) → Layout → Type 0
-Means words layout = (name : List ℕ) × (words ≡ name ∷ []) × NamesLayout name layout
+abbrev pub MeansLayout : List (List ℕ) → Layout → Type 0
+MeansLayout words layout = (name : List ℕ) × (words ≡ name ∷ []) × NamesLayout name layout
 
 -- they name none
-abbrev pub MeansNothing : List (List ℕ) → Type 0
-MeansNothing words = (layout : Layout) → Means words layout → ⊥
+abbrev pub MeansNoLayout : List (List ℕ) → Type 0
+MeansNoLayout words = (layout : Layout) → MeansLayout words layout → ⊥
 
 -- ---- a source that isn't opened
 
 -- memory was wanting, or the source's disk failed in the first reads: nothing was done
-abbrev pub DidNothing : Outside → Outside → Status → Type 0
-DidNothing old new status = (new ≡ old) × ((status ≡ ends.Memory) ⊎ (status ≡ ends.DiskFault))
+abbrev pub CopiedNothing : Outside → Outside → Status → Type 0
+CopiedNothing old new status = (new ≡ old) × ((status ≡ ends.Memory) ⊎ (status ≡ ends.DiskFault))
 
 -- the source is refused for a cause of this kind, whose line is printed; the target is as it was, and this is what the source's disk tells
 pub record RefusedFor (Why : OpenError → Type 0) (told : Option Told) (old new : Outside) (status : Status) : Type 0 where
@@ -54,27 +54,27 @@ pub record RefusedFor (Why : OpenError → Type 0) (told : Option Told) (old new
   pub first : new.first ≡ told
 
 -- the superblock that it shows can't be used, and nothing is written to it
-abbrev pub RefusesSuperblock : Told → Outside → Outside → Status → Type 0
-RefusesSuperblock t old new status = RefusedFor (λ e. Refuses t.shown e) old.first old new status
+abbrev pub RefusesSourceSuperblock : Told → Outside → Outside → Status → Type 0
+RefusesSourceSuperblock t old new status = RefusedFor (λ e. Refuses t.shown e) old.first old new status
 
 -- it is refused after the barrier of its open, and nothing is written to it
-abbrev pub RefusesFile : (own : Layout) → Told → Outside → Outside → Status → Type 0
-RefusesFile own t old new status = RefusedFor (λ e. Surveys own t.shown (Err e)) (Some (did Sync t)) old new status
+abbrev pub RefusesSourceFile : (own : Layout) → Told → Outside → Outside → Status → Type 0
+RefusesSourceFile own t old new status = RefusedFor (λ e. Surveys own t.shown (Err e)) (Some (did Sync t)) old new status
 
 -- the source's disk failed before it was open
 pub record FailsToOpen (own : Layout) (t : Told) (old new : Outside) (status : Status) : Type 0 where
   pub fault : status ≡ ends.DiskFault
-  pub silent : IsSilent old new
+  pub silent : TouchesNeither old new
   pub disk : StopsOpening own t new.first
 
 -- ---- a source that is
 
 -- what is printed of a copy: how many sectors the target has, or why there is none; of a failing disk nothing
-abbrev pub Prints : {T : Type 0} → Layout → Result T Ending → (old new : Option (List ℕ)) → Status → Type 0
-Prints layout (Ok x) old new status = Writes ends.WriteFault (copied_text (file_sectors layout)) ends.Done old new status
-Prints layout (Err Source) old new status = (status ≡ ends.DiskFault) × (new ≡ old)
-Prints layout (Err Target) old new status = (status ≡ ends.DiskFault) × (new ≡ old)
-Prints layout (Err e) old new status = Writes ends.WriteFault (ending_text e) ends.Refused old new status
+abbrev pub PrintsCopy : {T : Type 0} → Layout → Result T Ending → (old new : Option (List ℕ)) → Status → Type 0
+PrintsCopy layout (Ok x) old new status = Writes ends.WriteFault (copied_text (file_sectors layout)) ends.Done old new status
+PrintsCopy layout (Err Source) old new status = (status ≡ ends.DiskFault) × (new ≡ old)
+PrintsCopy layout (Err Target) old new status = (status ≡ ends.DiskFault) × (new ≡ old)
+PrintsCopy layout (Err e) old new status = Writes ends.WriteFault (ending_text e) ends.Refused old new status
 
 -- the sectors of the superblock are as they were: they show the same, and no stop may change what it couldn't change before
 pub record KeepsCopies (before log : Log) : Type 0 where
@@ -105,29 +105,29 @@ pub record CopiesFile (layout : Layout) (t : Told) (old new : Outside) (status :
   pub opened : MendsAll t state new.first
   pub result : Result (Unit {0}) Ending
   pub copies : CopiesInto layout state new.first old.second new.second result
-  pub prints : Prints layout result old.written new.written status
+  pub prints : PrintsCopy layout result old.written new.written status
   pub spares : (o : Told) → old.second ≡ Some o → SparesCopies o new.second
-  pub holds : (m o n : Told) → result ≡ Ok tt → new.first ≡ Some m → old.second ≡ Some o → new.second ≡ Some n → IsEmpty (now o.log)
+  pub holds : (m o n : Told) → result ≡ Ok tt → new.first ≡ Some m → old.second ≡ Some o → new.second ≡ Some n → IsEmptyImage (now o.log)
       → (view : View) → IsFound (shape state.file) (unit_at state.file.layout state.file.cluster t.shown) view
       → HoldsCopy layout state.file m.shown (source_view state t view) (now n.log)
-  pub stops : (m o : Told) → new.first ≡ Some m → old.second ≡ Some o → IsEmpty o.shown → (view : View) → IsFound (shape state.file) (unit_at state.file.layout state.file.cluster t.shown) view
+  pub stops : (m o : Told) → new.first ≡ Some m → old.second ≡ Some o → IsEmptyImage o.shown → (view : View) → IsFound (shape state.file) (unit_at state.file.layout state.file.cluster t.shown) view
       → StopsCopy layout state.file m.shown (source_view state t view) o new.second
 
 -- ---- the program
 
 -- in rooms of the source's layout and of this one: the source is refused, or its disk fails before it is open, or it is copied
-abbrev pub Does : (layout own : Layout) → Told → Outside → Outside → Status → Type 0
-Does layout own t old new status = RefusesFile own t old new status ⊎ FailsToOpen own t old new status ⊎ CopiesFile layout t old new status
+abbrev pub DoesCopy : (layout own : Layout) → Told → Outside → Outside → Status → Type 0
+DoesCopy layout own t old new status = RefusesSourceFile own t old new status ⊎ FailsToOpen own t old new status ⊎ CopiesFile layout t old new status
 
 -- rooms are taken for the layout that the source's superblock names
 pub record CopiesOwn (layout : Layout) (t : Told) (old new : Outside) (status : Status) : Type 0 where
   pub own : Layout
   pub shown : IsLayoutShown t.shown own
-  pub does : Does layout own t old new status
+  pub does : DoesCopy layout own t old new status
 
 -- memory was wanting or the source's disk failed in the first reads, or its superblock is refused, or it is opened in rooms of its own layout
-abbrev pub Outcome : Layout → Told → Outside → Outside → Status → Type 0
-Outcome layout t old new status = DidNothing old new status ⊎ RefusesSuperblock t old new status ⊎ CopiesOwn layout t old new status
+abbrev pub CopyOutcome : Layout → Told → Outside → Outside → Status → Type 0
+CopyOutcome layout t old new status = CopiedNothing old new status ⊎ RefusesSourceSuperblock t old new status ⊎ CopiesOwn layout t old new status
 
-abbrev pub Runs : Layout → Outside → Outside → Status → Type 0
-Runs layout old new status = (t : Told) → old.first ≡ Some t → IsImage t.shown → Outcome layout t old new status
+abbrev pub RunsCopy : Layout → Outside → Outside → Status → Type 0
+RunsCopy layout old new status = (t : Told) → old.first ≡ Some t → IsImage t.shown → CopyOutcome layout t old new status

@@ -12,13 +12,13 @@ use Rattle.df_copy.specs.declared.status.Status.{Status}
 use Rattle.df_copy.specs.declared.status.Status.TheVariants as ends
 
 -- those of `datafile` that come
-abbrev pub number_of : Status → ℕ
-number_of ends.Done = 0
-number_of ends.Words = 2
-number_of ends.Refused = 4
-number_of ends.DiskFault = 5
-number_of ends.WriteFault = 7
-number_of ends.Memory = 8
+abbrev pub copy_exit_number : Status → ℕ
+copy_exit_number ends.Done = 0
+copy_exit_number ends.Words = 2
+copy_exit_number ends.Refused = 4
+copy_exit_number ends.DiskFault = 5
+copy_exit_number ends.WriteFault = 7
+copy_exit_number ends.Memory = 8
 
 -- the source's disk failed
 abbrev pub is_source : Ending → Bool
@@ -58,7 +58,7 @@ reply_ending lookup.NoClient = Source
 reply_ending (lookup.ReplyPending op) = Source
 
 -- why a live block isn't read
-abbrev pub block_ending : ReadError → Ending
-block_ending (read.Damaged place class) = Damaged place class
-block_ending read.DiskFault = Source
-block_ending read.NotLive = Source
+abbrev pub copied_block_ending : ReadError → Ending
+copied_block_ending (read.Damaged place class) = Damaged place class
+copied_block_ending read.DiskFault = Source
+copied_block_ending read.NotLive = Source

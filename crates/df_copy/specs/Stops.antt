@@ -12,7 +12,7 @@ use Rattle.df_theory.specs.UnitLog.{settled}
 use Rattle.df_theory.specs.Units.{Units}
 use Rattle.df_theory.specs.View.{View}
 use Rattle.df_units.specs.Bytes.{unit_at}
-use Rattle.df_opening.specs.Below.{DataFile, begun, format_of, told_after}
+use Rattle.df_opening.specs.Below.{DataFile, format_of, restarted, told_after}
 use Rattle.df_copy.specs.Views.{ShowsCopy}
 
 -- in none of these images two copies of the superblock agree
@@ -30,4 +30,4 @@ LeavesCopy layout file source v log =
 pub record StopsCopy (layout : Layout) (file : DataFile) (source : Image) (v : View) (o : Told) (new : Option Told) : Type 0 where
   pub events : List Event
   pub told : new ≡ after_all events (Some o)
-  pub moments : EachMoment (begun o).log (told_after events (begun o)).log (LeavesCopy layout file source v)
+  pub moments : EachMoment (restarted o).log (told_after events (restarted o)).log (LeavesCopy layout file source v)

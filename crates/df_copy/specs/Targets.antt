@@ -17,7 +17,7 @@ use Rattle.df_places.specs.Units.{put_steps}
 use Rattle.df_superblock.specs.Events.{update_events}
 use Rattle.df_trailer.specs.Spelling.{spell}
 use Rattle.df_trailer.specs.Writing.{captured_parts, piece_of}
-use Rattle.df_grid.specs.Grid.{GridState, free_of, with_blocks, with_boot}
+use Rattle.df_grid.specs.Grid.{GridState, free_addresses, with_blocks, with_boot}
 use Rattle.df_grid.specs.Table.{next_written, no_blocks}
 use Rattle.df_grid.specs.Writes.{block_steps, made_events, next_unit}
 use Rattle.df_model.specs.Blocks.{Blocks, blocks_captured, sum_at}
@@ -52,19 +52,19 @@ check_of (Some u) = u.header.checksum
 abbrev pub checks_of : List Message → List (List ℕ)
 checks_of us = map (λ k. check_of (slice_get us k)) (range_with_len 0 named_places)
 
-abbrev pub last_of : List Message → Option Message
-last_of [] = None
-last_of (u ∷ []) = Some u
-last_of (u ∷ v ∷ us) = last_of (v ∷ us)
+abbrev pub last_message : List Message → Option Message
+last_message [] = None
+last_message (u ∷ []) = Some u
+last_message (u ∷ v ∷ us) = last_message (v ∷ us)
 
-abbrev pub address_of : Option Message → ℕ
-address_of None = 0
-address_of (Some u) = u.header.op
+abbrev pub address_of_block : Option Message → ℕ
+address_of_block None = 0
+address_of_block (Some u) = u.header.op
 
 -- a block by its address and its checksum, if there is one
-abbrev pub pair_of : Option Message → Option (ℕ × ℕ)
-pair_of None = None
-pair_of (Some u) = Some (u.header.op, number_of u.header.checksum)
+abbrev pub reference_pair : Option Message → Option (ℕ × ℕ)
+reference_pair None = None
+reference_pair (Some u) = Some (u.header.op, number_of u.header.checksum)
 
 -- the source's superblock with the numbers of a layout and the checksums of these replies. The source is at rest, so its head and its replies are its checkpoint's op
 abbrev pub fields_in : Layout → SuperFields → List (List ℕ) → SuperFields
@@ -85,7 +85,7 @@ abbrev pub named_with : (address : ℕ) → (checksum : List ℕ) → (size : �
 named_with address checksum size f = record f { trailer_address = address; trailer_checksum = checksum; trailer_size = size }
 
 abbrev pub copied_fields : Layout → SuperFields → List Message → List Message → (size : ℕ) → SuperFields
-copied_fields layout f replies trailer size = named_with (address_of (last_of trailer)) (check_of (last_of trailer)) size (fields_in layout f (checks_of replies))
+copied_fields layout f replies trailer size = named_with (address_of_block (last_message trailer)) (check_of (last_message trailer)) size (fields_in layout f (checks_of replies))
 
 -- ---- the trailer
 
@@ -99,23 +99,23 @@ sequence_of s = max s.fields.sequence 2
 
 -- the grid as the trailer is begun: its blocks are of the source's boot, and stand after the others
 abbrev pub begun_grid : GridState → (boot blocks : ℕ) → GridState
-begun_grid g boot blocks = with_blocks (with_boot g boot) (blocks_captured g.blocks (take blocks (free_of g)))
+begun_grid g boot blocks = with_blocks (with_boot g boot) (blocks_captured g.blocks (take blocks (free_addresses g)))
 
 -- the next block of a trailer, over its piece of the text, and the grid after it
 abbrev pub next_piece : GridState → (sequence : ℕ) → List ℕ → Message
 next_piece g sequence text = next_unit g sequence (piece_of (g.layout.block_size - 256) (length g.blocks.written) text)
 
-abbrev pub behind_piece : GridState → (sequence : ℕ) → List ℕ → GridState
-behind_piece g sequence text = with_blocks g (next_written g.blocks (number_of (next_piece g sequence text).header.checksum))
+abbrev pub grid_after_piece : GridState → (sequence : ℕ) → List ℕ → GridState
+grid_after_piece g sequence text = with_blocks g (next_written g.blocks (number_of (next_piece g sequence text).header.checksum))
 
 -- so many blocks, one after the other
 abbrev pub pieces_from : GridState → (sequence : ℕ) → List ℕ → ℕ → List Message
 pieces_from g sequence text zero = []
-pieces_from g sequence text (suc n) = next_piece g sequence text ∷ pieces_from (behind_piece g sequence text) sequence text n
+pieces_from g sequence text (suc n) = next_piece g sequence text ∷ pieces_from (grid_after_piece g sequence text) sequence text n
 
 abbrev pub grid_behind : GridState → (sequence : ℕ) → List ℕ → ℕ → GridState
 grid_behind g sequence text zero = g
-grid_behind g sequence text (suc n) = grid_behind (behind_piece g sequence text) sequence text n
+grid_behind g sequence text (suc n) = grid_behind (grid_after_piece g sequence text) sequence text n
 
 -- the trailer after these blocks: none where the source has none
 abbrev pub trailer_of : Layout → State → List Message → List Message
@@ -128,12 +128,12 @@ abbrev pub ring_events : Layout → (cluster : ℕ) → List Event
 ring_events layout cluster = header_writes layout 0 (sectors_in layout (reserved_table layout cluster))
 
 -- what stands before the trailer: the header ring, these replies, and these blocks at their new addresses
-abbrev pub unit_events : Layout → (cluster : ℕ) → (replies blocks : List Message) → List Event
-unit_events layout cluster replies blocks = ring_events layout cluster ++ (all_events (reply_events layout) replies ++ all_events (made_events layout) (moved_from 1 blocks))
+abbrev pub events_before_trailer : Layout → (cluster : ℕ) → (replies blocks : List Message) → List Event
+events_before_trailer layout cluster replies blocks = ring_events layout cluster ++ (all_events (reply_events layout) replies ++ all_events (made_events layout) (moved_from 1 blocks))
 
 -- what stands before the superblock
 abbrev pub front_events : Layout → State → (replies blocks : List Message) → List Event
-front_events layout s replies blocks = unit_events layout s.file.cluster replies blocks ++ all_events (made_events layout) (trailer_of layout s (moved_from 1 blocks))
+front_events layout s replies blocks = events_before_trailer layout s.file.cluster replies blocks ++ all_events (made_events layout) (trailer_of layout s (moved_from 1 blocks))
 
 abbrev pub superblock_of : Layout → State → (replies blocks : List Message) → SuperFields
 superblock_of layout s replies blocks = copied_fields layout s.fields replies (trailer_of layout s (moved_from 1 blocks)) (trailer_size layout (memory s))

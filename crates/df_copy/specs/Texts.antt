@@ -4,8 +4,8 @@ use Rattle.df_script_model.specs.Texts.{damaged_text, line_of, numbered, spaced}
 use Rattle.df_copy.specs.declared.ending.Ending.{Ending}
 use Rattle.df_copy.specs.declared.ending.Ending.TheVariants.{BlockTooLong, Damaged, NotAtRest, NotBlank, ReplyTooLong, Source, Target, TooFewBlocks, TooFewClients}
 
-abbrev pub usage : List ℕ
-usage = codes "usage: filecopy FROM TO LAYOUT\n"
+abbrev pub copy_usage : List ℕ
+copy_usage = codes "copy_usage: filecopy FROM TO LAYOUT\n"
 
 -- the target has so many sectors
 abbrev pub copied_text : ℕ → List ℕ

@@ -9,12 +9,12 @@ use Rattle.df_format.specs.declared.superblock.SuperFields.{SuperFields}
 use Rattle.df_checkpoint.specs.declared.capture.Capture.{Capture}
 use Rattle.df_checkpoint.specs.Writing as checkpoint
 use Rattle.df_grid.specs.Grid.{GridState}
-use Rattle.df_grid.specs.Table.{last_of, pair_in}
+use Rattle.df_grid.specs.Table.{last_trailer_block, pair_in}
 use Rattle.df_grid.specs.Writes.{made_events}
 use Rattle.df_opening.specs.Below.{State}
 use Rattle.df_copy.specs.declared.ending.Ending.{Ending}
 use Rattle.df_copy.specs.declared.target.Target.{Target}
-use Rattle.df_copy.specs.Acts.{IsWritten}
+use Rattle.df_copy.specs.Acts.{IsTrailerWritten}
 use Rattle.df_copy.specs.Targets.{named_with, trailer_of}
 use Rattle.df_copy.specs.Units.{all_events, moved_from}
 
@@ -31,7 +31,7 @@ text_in g capture = checkpoint.text_in g capture
 -- the trailer is written after these replies and blocks, or a part of it where the disk failed
 pub record AddsTrailer {T : Type 0} (s : State) (rs bs : List Message) (t n : Target) (old new : Option Told) (result : Result T Ending) : Type 0 where
   pub events : Adds (all_events (made_events t.layout) (trailer_of t.layout s (moved_from 1 bs))) old new result
-  pub written : OnOk result (IsWritten t.layout s rs bs n)
+  pub written : OnOk result (IsTrailerWritten t.layout s rs bs n)
 
 -- the last block of the trailer that is written, or nothing where there is none
 abbrev pub NamesLast : Option (ℕ × ℕ) → Reference → Type 0
@@ -39,7 +39,7 @@ NamesLast None r = (r.address ≡ 0) × (r.checksum ≡ no_checksum)
 NamesLast (Some x) r = pair_in (Some r) ≡ Some x
 
 abbrev pub IsLastOf : GridState → Reference → Type 0
-IsLastOf g r = NamesLast (last_of g.blocks.left g.blocks.written) r
+IsLastOf g r = NamesLast (last_trailer_block g.blocks.left g.blocks.written) r
 
 -- and a trailer that ends with this block
 abbrev pub with_trailer : Reference → (size : ℕ) → SuperFields → SuperFields

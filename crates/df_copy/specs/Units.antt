@@ -33,7 +33,7 @@ pub record IsReplyAt (s : State) (told : Option Told) (place : ℕ) (u : Message
 
 -- the live block at an address
 pub record IsBlockAt (s : State) (told : Option Told) (address : ℕ) (u : Message) : Type 0 where
-  pub known : grid.IsKnownUnit Block s.file.layout s.file.cluster address (sum_at address (memory s).blocks.live) u
+  pub known : grid.IsKnownBlock Block s.file.layout s.file.cluster address (sum_at address (memory s).blocks.live) u
   pub shown : OverShown s.file told (λ shown. block_read shown (memory s) (ReadBlock address) ≡ Ok (block_of u))
 
 -- the replies of the first places, in order
@@ -41,7 +41,7 @@ pub record AreReplies (s : State) (told : Option Told) (us : List Message) : Typ
   pub each : (k : ℕ) (u : Message) → slice_get us k ≡ Some u → IsReplyAt s told k u
 
 -- the first of the live blocks, in order of address
-pub record AreBlocks (s : State) (told : Option Told) (us : List Message) : Type 0 where
+pub record AreLiveBlocks (s : State) (told : Option Told) (us : List Message) : Type 0 where
   pub each : (i : ℕ) (u : Message) → slice_get us i ≡ Some u → (x : ℕ × ℕ) × (slice_get (references (memory s)) i ≡ Some x) × IsBlockAt s told x.0 u
 
 -- ---- in the target

@@ -33,12 +33,12 @@ pub record SameButLayout (layout : units.Layout) (c d : Content) : Type 0 where
 abbrev pub renamed : (sum : ℕ) → Block → Block
 renamed sum b = record b { checksum = sum }
 
-abbrev pub address_in : ℕ × Block → ℕ
-address_in x = x.0
+abbrev pub block_address : ℕ × Block → ℕ
+block_address x = x.0
 
 -- these are the blocks that a view references, in order of address, as an image shows them
 pub record AreReferenced (image : Units) (v : View) (blocks : List (ℕ × Block)) : Type 0 where
-  pub rise : RiseFrom 1 (map address_in blocks)
+  pub rise : RiseFrom 1 (map block_address blocks)
   pub each : (a : ℕ) (b : Block) → InChain a b blocks → (image (BlockPlace a) ≡ Some (BlockUnit b)) × (v.checkpoint.parts.references a ≡ Some b.checksum)
   pub all : (a sum : ℕ) → v.checkpoint.parts.references a ≡ Some sum → (b : Block) × InChain a b blocks
 
@@ -88,5 +88,5 @@ pub record HoldsCopy (layout : Layout) (file : DataFile) (source : Image) (v : V
   pub whole : IsWhole (shape (file_in layout file)) (unit_at layout file.cluster target) shows.view
 
 -- nothing was ever written there
-abbrev pub IsEmpty : Image → Type 0
-IsEmpty image = (sector : ℕ) → image sector ≡ blank sector
+abbrev pub IsEmptyImage : Image → Type 0
+IsEmptyImage image = (sector : ℕ) → image sector ≡ blank sector

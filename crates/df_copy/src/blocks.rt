@@ -8,8 +8,8 @@ ghost use Rattle.df_model.specs.Blocks.{sum_at};
 ghost use Rattle.df_model.specs.Work.{is_known};
 ghost use Rattle.df_opening.specs.Below.{memory};
 ghost use Rattle.df_replica.specs.Blocks.{MayPut};
-ghost use Rattle.df_copy.specs.Acts.{CopiesAt, CopiesBlocks, IsBegun, IsBlockOf, Leaves, PutsBlock, beside, with_block};
-ghost use Rattle.df_copy.specs.Statuses.{block_ending, is_target};
+ghost use Rattle.df_copy.specs.Acts.{CopiesAt, CopiesBlocks, IsBlockOf, IsCopyBegun, LeavesSource, PutsBlock, beside, with_block};
+ghost use Rattle.df_copy.specs.Statuses.{copied_block_ending, is_target};
 ghost use Rattle.df_copy.specs.Targets.{IsTarget};
 ghost use Rattle.df_copy.specs.Tests.{references};
 
@@ -91,7 +91,7 @@ fn put_block<B: Disk>(
 // Why a live block isn't read.
 fn unread_block(error: ReadError) -> Ending
     requires { error ≡ ReadError.NotLive → ⊥ }
-    ensures { result ≡ block_ending error }
+    ensures { result ≡ copied_block_ending error }
 {
     match error {
         ReadError::NotLive => unreachable!(),
@@ -108,12 +108,12 @@ fn copy_at<A: Disk, B: Disk>(
     target: &mut Target,
     address: u64,
 ) -> Result<(), Ending>
-    requires begun { IsBegun replica.old target.old }
+    requires begun { IsCopyBegun replica.old target.old }
     requires live { replica.old.live ≡ true }
     requires room { is_known (sum_at address (memory replica.old).blocks.live) ≡ true → target.old.copied < target.old.layout.blocks }
     ensures copies { CopiesAt target.old.layout address (sum_at address replica.old.blocks.live) replica.old target.old target.new (A.told from.old) (B.told to.old) (B.told to.new) result }
     ensures layout { target.new.layout ≡ target.old.layout }
-    ensures leaves { Leaves (beside replica.old (A.told from.old) (A.faults from.old) (B.faults to.old)) (beside replica.new (A.told from.new) (A.faults from.new) (B.faults to.new)) result }
+    ensures leaves { LeavesSource (beside replica.old (A.told from.old) (A.faults from.old) (B.faults to.old)) (beside replica.new (A.told from.new) (A.faults from.new) (B.faults to.new)) result }
 {
     let Some(_) = replica.reference(address) else {
         return Ok(());
@@ -137,7 +137,7 @@ pub(crate) fn copy_blocks<A: Disk, B: Disk>(
     ensures copies { (rs : List Message) → IsTarget target.old.layout replica.old.file.cluster rs [] target.old
         → CopiesBlocks target.old.layout replica.old rs target.new (A.told from.old) (B.told to.old) (B.told to.new) result }
     ensures layout { target.new.layout ≡ target.old.layout }
-    ensures leaves { Leaves (beside replica.old (A.told from.old) (A.faults from.old) (B.faults to.old)) (beside replica.new (A.told from.new) (A.faults from.new) (B.faults to.new)) result }
+    ensures leaves { LeavesSource (beside replica.old (A.told from.old) (A.faults from.old) (B.faults to.old)) (beside replica.new (A.told from.new) (A.faults from.new) (B.faults to.new)) result }
 {
     for before in 0..replica.summary().layout.blocks {
         match copy_at(from, to, replica, target, u64::from(before) + 1) {

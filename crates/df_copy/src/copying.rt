@@ -3,11 +3,11 @@ ghost use Rattle.std.specs.Prelude.{◌≡◌, ◌<◌, ◌≤◌, List, [], tru
 ghost use Rattle.df_base.specs.Causes.{HasCause, IsBlamed};
 ghost use Rattle.df_disk.specs.Adds.{Adds};
 ghost use Rattle.df_format.specs.Message.{Message};
-ghost use Rattle.df_sessions.specs.Table.{AreApart};
+ghost use Rattle.df_sessions.specs.Table.{AreDistinctClients};
 ghost use Rattle.df_opening.specs.Below.{memory};
-ghost use Rattle.df_copy.specs.Acts.{IsCopied, IsReady, Leaves, beside};
+ghost use Rattle.df_copy.specs.Acts.{IsCopied, IsReadySource, LeavesSource, beside};
 ghost use Rattle.df_copy.specs.Copying.{BeginsTarget, CopiesInto, CopiesPlanned, CopiesUnits, Finishes};
-ghost use Rattle.df_copy.specs.Planning.{IsPlan};
+ghost use Rattle.df_copy.specs.Planning.{IsCopyPlan};
 ghost use Rattle.df_copy.specs.Statuses.{blank_ending, is_target};
 ghost use Rattle.df_copy.specs.Targets.{IsTarget, KeepsGrid, ring_events};
 ghost use Rattle.df_copy.specs.Tests.{needed, references};
@@ -73,13 +73,13 @@ fn copy_units<A: Disk, B: Disk>(
     replica: &mut Replica,
     target: &mut Target,
 ) -> Result<(), Ending>
-    requires ready { IsReady target.old.layout replica.old }
+    requires ready { IsReadySource target.old.layout replica.old }
     requires room { length (references (memory replica.old)) ≤ target.old.layout.blocks }
     requires begun { IsTarget target.old.layout replica.old.file.cluster [] [] target.old }
-    ensures copies { AreApart replica.old.table.sessions → CopiesUnits replica.old target.old target.new (A.told from.old) (B.told to.old) (B.told to.new) result }
+    ensures copies { AreDistinctClients replica.old.table.sessions → CopiesUnits replica.old target.old target.new (A.told from.old) (B.told to.old) (B.told to.new) result }
     ensures begun { OnOk result (IsCopied target.old.layout replica.old target.new) }
     ensures layout { target.new.layout ≡ target.old.layout }
-    ensures leaves { Leaves (beside replica.old (A.told from.old) (A.faults from.old) (B.faults to.old)) (beside replica.new (A.told from.new) (A.faults from.new) (B.faults to.new)) result }
+    ensures leaves { LeavesSource (beside replica.old (A.told from.old) (A.faults from.old) (B.faults to.old)) (beside replica.new (A.told from.new) (A.faults from.new) (B.faults to.new)) result }
 {
     match copy_replies(from, to, replica, target) {
         Ok(()) => copy_blocks(from, to, replica, target),
@@ -94,8 +94,8 @@ fn finish<B: Disk>(
     target: &mut Target,
     plan: Plan,
 ) -> Result<(), Ending>
-    requires ready { IsReady target.old.layout replica.now }
-    requires plan { IsPlan target.old.layout replica.now plan }
+    requires ready { IsReadySource target.old.layout replica.now }
+    requires plan { IsCopyPlan target.old.layout replica.now plan }
     requires room { needed target.old.layout (memory replica.now) ≤ target.old.layout.blocks }
     requires begun { IsCopied target.old.layout replica.now target.old }
     ensures finishes { (rs bs : List Message) → IsTarget target.old.layout replica.now.file.cluster rs bs target.old → length bs ≡ length (references (memory replica.now)) → Finishes target.old.layout replica.now rs bs (B.told to.old) (B.told to.new) result }
@@ -121,12 +121,12 @@ fn copy_planned<A: Disk, B: Disk>(
     replica: &mut Replica,
     target: &mut Target,
 ) -> Result<(), Ending>
-    requires plan { IsPlan target.old.layout replica.old plan }
-    requires ready { IsReady target.old.layout replica.old }
+    requires plan { IsCopyPlan target.old.layout replica.old plan }
+    requires ready { IsReadySource target.old.layout replica.old }
     requires room { needed target.old.layout (memory replica.old) ≤ target.old.layout.blocks }
     requires begun { IsTarget target.old.layout replica.old.file.cluster [] [] target.old }
-    ensures copies { AreApart replica.old.table.sessions → CopiesPlanned target.old.layout replica.old (A.told from.old) (B.told to.old) (B.told to.new) result }
-    ensures leaves { Leaves (beside replica.old (A.told from.old) (A.faults from.old) (B.faults to.old)) (beside replica.new (A.told from.new) (A.faults from.new) (B.faults to.new)) result }
+    ensures copies { AreDistinctClients replica.old.table.sessions → CopiesPlanned target.old.layout replica.old (A.told from.old) (B.told to.old) (B.told to.new) result }
+    ensures leaves { LeavesSource (beside replica.old (A.told from.old) (A.faults from.old) (B.faults to.old)) (beside replica.new (A.told from.new) (A.faults from.new) (B.faults to.new)) result }
 {
     let cluster = replica.summary().cluster;
     match begin(to, target, cluster) {
@@ -148,8 +148,8 @@ pub(crate) fn copy_into<A: Disk, B: Disk>(
 ) -> Result<(), Ending>
     requires live { replica.old.live ≡ true }
     requires begun { IsTarget target.old.layout replica.old.file.cluster [] [] target.old }
-    ensures copies { AreApart replica.old.table.sessions → CopiesInto target.old.layout replica.old (A.told from.old) (B.told to.old) (B.told to.new) result }
-    ensures leaves { Leaves (beside replica.old (A.told from.old) (A.faults from.old) (B.faults to.old)) (beside replica.new (A.told from.new) (A.faults from.new) (B.faults to.new)) result }
+    ensures copies { AreDistinctClients replica.old.table.sessions → CopiesInto target.old.layout replica.old (A.told from.old) (B.told to.old) (B.told to.new) result }
+    ensures leaves { LeavesSource (beside replica.old (A.told from.old) (A.faults from.old) (B.faults to.old)) (beside replica.new (A.told from.new) (A.faults from.new) (B.faults to.new)) result }
 {
     match plan_copy(replica, &target.layout) {
         Ok(plan) => copy_planned(plan, from, to, replica, target),

@@ -5,10 +5,10 @@ ghost use Rattle.df_disk.specs.Told.{Told};
 ghost use Rattle.df_layout.specs.declared.layout.Layout.{Layout as Shape};
 ghost use Rattle.df_opening.specs.Opened.{MendsAll};
 ghost use Rattle.df_telling.specs.Telling.{Writes};
-ghost use Rattle.df_telling.specs.Two.{HasCauses, around, counts};
-ghost use Rattle.df_copy.specs.Run.{CopiesFile, Does, Means, MeansNothing, Runs};
+ghost use Rattle.df_telling.specs.Two.{HasCausesOfTwo, around, counts};
+ghost use Rattle.df_copy.specs.Run.{CopiesFile, DoesCopy, MeansLayout, MeansNoLayout, RunsCopy};
 ghost use Rattle.df_copy.specs.Statuses.{EndsWithFiles};
-ghost use Rattle.df_copy.specs.Texts.{usage};
+ghost use Rattle.df_copy.specs.Texts.{copy_usage};
 
 use crate::copying::copy_into;
 use crate::status::Status;
@@ -26,8 +26,8 @@ use std::alloc::Global;
 
 // The layout that the words name: they are one word, and it is a layout's name.
 fn layout_in(words: &[String]) -> Option<Layout>
-    ensures found { IfSome result (Means (map string_bytes words.now)) }
-    ensures none { IfNone result (MeansNothing (map string_bytes words.now)) }
+    ensures found { IfSome result (MeansLayout (map string_bytes words.now)) }
+    ensures none { IfNone result (MeansNoLayout (map string_bytes words.now)) }
 {
     match words {
         [word] => layout_named(word.as_str()),
@@ -62,7 +62,7 @@ fn copy_opened<A: Disk, B: Disk, W: Sink>(
 ) -> Status
     requires live { replica.live ≡ true }
     ensures copies { (t : Told) → IsImage t.shown → MendsAll t replica (A.told from.old) → CopiesFile rooms.layout t (around (Some t) (B.told to.old) (W.written sink.old)) (around (A.told from.new) (B.told to.new) (W.written sink.new)) result }
-    ensures causes { HasCauses Status.DiskFault Status.WriteFault (counts (A.faults from.old) (B.faults to.old) (W.faults sink.old)) (counts (A.faults from.new) (B.faults to.new) (W.faults sink.new)) result }
+    ensures causes { HasCausesOfTwo Status.DiskFault Status.WriteFault (counts (A.faults from.old) (B.faults to.old) (W.faults sink.old)) (counts (A.faults from.new) (B.faults to.new) (W.faults sink.new)) result }
     ensures ends { EndsWithFiles result }
 {
     let mut replica = replica;
@@ -83,8 +83,8 @@ fn copy_reserved<A: Disk, B: Disk, W: Sink>(
     to: &mut B,
     sink: &mut W,
 ) -> Status
-    ensures does { (t : Told) → A.told from.old ≡ Some t → IsImage t.shown → Does reserved.target.layout reserved.source.layout t (around (A.told from.old) (B.told to.old) (W.written sink.old)) (around (A.told from.new) (B.told to.new) (W.written sink.new)) result }
-    ensures causes { HasCauses Status.DiskFault Status.WriteFault (counts (A.faults from.old) (B.faults to.old) (W.faults sink.old)) (counts (A.faults from.new) (B.faults to.new) (W.faults sink.new)) result }
+    ensures does { (t : Told) → A.told from.old ≡ Some t → IsImage t.shown → DoesCopy reserved.target.layout reserved.source.layout t (around (A.told from.old) (B.told to.old) (W.written sink.old)) (around (A.told from.new) (B.told to.new) (W.written sink.new)) result }
+    ensures causes { HasCausesOfTwo Status.DiskFault Status.WriteFault (counts (A.faults from.old) (B.faults to.old) (W.faults sink.old)) (counts (A.faults from.new) (B.faults to.new) (W.faults sink.new)) result }
     ensures ends { EndsWithFiles result }
 {
     let Reserved { source, target } = reserved;
@@ -102,8 +102,8 @@ fn copy_file<A: Disk, B: Disk, W: Sink>(
     to: &mut B,
     sink: &mut W,
 ) -> Status
-    ensures runs { Runs layout.now (around (A.told from.old) (B.told to.old) (W.written sink.old)) (around (A.told from.new) (B.told to.new) (W.written sink.new)) result }
-    ensures causes { HasCauses Status.DiskFault Status.WriteFault (counts (A.faults from.old) (B.faults to.old) (W.faults sink.old)) (counts (A.faults from.new) (B.faults to.new) (W.faults sink.new)) result }
+    ensures runs { RunsCopy layout.now (around (A.told from.old) (B.told to.old) (W.written sink.old)) (around (A.told from.new) (B.told to.new) (W.written sink.new)) result }
+    ensures causes { HasCausesOfTwo Status.DiskFault Status.WriteFault (counts (A.faults from.old) (B.faults to.old) (W.faults sink.old)) (counts (A.faults from.new) (B.faults to.new) (W.faults sink.new)) result }
     ensures memory { result ≡ Status.Memory → around (A.told from.new) (B.told to.new) (W.written sink.new) ≡ around (A.told from.old) (B.told to.old) (W.written sink.old) }
     ensures words { result ≡ Status.Words → ⊥ }
 {
@@ -129,17 +129,17 @@ pub fn copy<A: Disk, B: Disk, W: Sink>(
     sink: &mut W,
 ) -> Status
     // Other words print the usage line, and touch neither disk.
-    ensures usage { MeansNothing (map string_bytes words.now) → Writes Status.WriteFault usage Status.Words (W.written sink.old) (W.written sink.new) result }
-    ensures untouched { MeansNothing (map string_bytes words.now) → (A.told from.new ≡ A.told from.old) × (B.told to.new ≡ B.told to.old) }
-    ensures words { result ≡ Status.Words → MeansNothing (map string_bytes words.now) }
+    ensures usage { MeansNoLayout (map string_bytes words.now) → Writes Status.WriteFault copy_usage Status.Words (W.written sink.old) (W.written sink.new) result }
+    ensures untouched { MeansNoLayout (map string_bytes words.now) → (A.told from.new ≡ A.told from.old) × (B.told to.new ≡ B.told to.old) }
+    ensures words { result ≡ Status.Words → MeansNoLayout (map string_bytes words.now) }
 
     // The source is refused as any open of it refuses it, or for the first of the tests of a copy that holds; else the target holds its state in the new layout. What is written of the target is exact, its superblock comes last,
     // and the source is kept as an open keeps it.
-    ensures runs { (layout : Shape) → Means (map string_bytes words.now) layout → Runs layout (around (A.told from.old) (B.told to.old) (W.written sink.old)) (around (A.told from.new) (B.told to.new) (W.written sink.new)) result }
+    ensures runs { (layout : Shape) → MeansLayout (map string_bytes words.now) layout → RunsCopy layout (around (A.told from.old) (B.told to.old) (W.written sink.old)) (around (A.told from.new) (B.told to.new) (W.written sink.new)) result }
 
     // A call ends at its first fault: of the three counts one at most rises, once, that of what the status blames; want of memory
     // comes before anything was written.
-    ensures causes { HasCauses Status.DiskFault Status.WriteFault (counts (A.faults from.old) (B.faults to.old) (W.faults sink.old)) (counts (A.faults from.new) (B.faults to.new) (W.faults sink.new)) result }
+    ensures causes { HasCausesOfTwo Status.DiskFault Status.WriteFault (counts (A.faults from.old) (B.faults to.old) (W.faults sink.old)) (counts (A.faults from.new) (B.faults to.new) (W.faults sink.new)) result }
     ensures memory { result ≡ Status.Memory → around (A.told from.new) (B.told to.new) (W.written sink.new) ≡ around (A.told from.old) (B.told to.old) (W.written sink.old) }
 {
     a_name_is_of_one_layout();

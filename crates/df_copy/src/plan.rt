@@ -1,7 +1,7 @@
 // What is tested before the target is touched: the source is at rest, and the layout has room for its sessions and its blocks.
 ghost use Rattle.std.specs.Prelude.{◌≡◌, ◌<◌, ◌≤◌, ◌^◌, false, true, length, IfErr, IfOk};
 ghost use Rattle.df_opening.specs.Below.{memory};
-ghost use Rattle.df_copy.specs.Planning.{IsPlan, IsTested};
+ghost use Rattle.df_copy.specs.Planning.{IsCopyPlan, IsCopyTested};
 ghost use Rattle.df_copy.specs.Tests.{is_at_rest, needed, references};
 
 use crate::ending::Ending;
@@ -68,7 +68,7 @@ fn plan_trailer(replica: &Replica, layout: &Layout, count: u64) -> Plan
     requires sessions { length replica.now.table.sessions ≤ layout.now.clients }
     requires count { count ≡ length (references (memory replica.now)) }
     requires most { count ≤ 16384 }
-    ensures plan { IsPlan layout.now replica.now result }
+    ensures plan { IsCopyPlan layout.now replica.now result }
     ensures below { result.blocks ≤ 2 ^ 32 }
 {
     let mut size = 0;
@@ -87,7 +87,7 @@ fn plan_trailer(replica: &Replica, layout: &Layout, count: u64) -> Plan
 // Whether the layout has room for the blocks, and how long the trailer is to be.
 fn test_blocks(replica: &Replica, layout: &Layout) -> Result<Plan, Ending>
     requires sessions { length replica.now.table.sessions ≤ layout.now.clients }
-    ensures ok { IfOk result (λ plan. IsPlan layout.now replica.now plan × (needed layout.now (memory replica.now) ≤ layout.now.blocks)) }
+    ensures ok { IfOk result (λ plan. IsCopyPlan layout.now replica.now plan × (needed layout.now (memory replica.now) ≤ layout.now.blocks)) }
     ensures err { IfErr result (λ e. (layout.now.blocks < needed layout.now (memory replica.now)) × (e ≡ Ending.TooFewBlocks (needed layout.now (memory replica.now)) layout.now.blocks)) }
 {
     let count = count_references(replica);
@@ -103,7 +103,7 @@ fn test_blocks(replica: &Replica, layout: &Layout) -> Result<Plan, Ending>
 
 /// Tests the source against the layout, in the order of the refusals, and says how long the copy's trailer is to be. No disk is touched.
 pub(crate) fn plan_copy(replica: &Replica, layout: &Layout) -> Result<Plan, Ending>
-    ensures tested { IsTested layout.now replica.now result }
+    ensures tested { IsCopyTested layout.now replica.now result }
 {
     test_rest(replica)?;
     test_clients(replica, layout)?;

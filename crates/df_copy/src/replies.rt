@@ -1,10 +1,10 @@
 // The replies: each session's is read from the source once, and written into the same place of the target, as it is and without a sync.
 ghost use Rattle.std.specs.Prelude.{◌≡◌, ◌<◌, ℕ, List, [], length, OnOk};
-ghost use Rattle.df_sessions.specs.Table.{AreApart};
+ghost use Rattle.df_sessions.specs.Table.{AreDistinctClients};
 ghost use Rattle.df_base.specs.Causes.{HasCause, IsBlamed};
 ghost use Rattle.df_disk.specs.Adds.{Adds};
 ghost use Rattle.df_format.specs.Message.{Message};
-ghost use Rattle.df_copy.specs.Acts.{CopiesReplies, CopiesReply, HasPlace, IsReady, Leaves, MayPutReply, PutsReply, SetsCheck, beside};
+ghost use Rattle.df_copy.specs.Acts.{CopiesReplies, CopiesReply, HasReplyPlace, IsReadySource, LeavesSource, MayPutReply, PutsReply, SetsCheck, beside};
 ghost use Rattle.df_copy.specs.Statuses.{is_target, reply_ending};
 ghost use Rattle.df_copy.specs.Targets.{IsTarget, KeepsGrid};
 ghost use Rattle.df_copy.specs.Units.{reply_events};
@@ -44,7 +44,7 @@ fn put_again<B: Disk>(
 
 // Writes a reply that was read, where the layout has room for it.
 fn put_reply<B: Disk>(to: &mut B, target: &mut Target, unit: &Sound<Reply>) -> Result<(), Ending>
-    requires place { HasPlace target.old.layout unit.now.unit }
+    requires place { HasReplyPlace target.old.layout unit.now.unit }
     ensures puts { PutsReply unit.now.unit target.old target.new (B.told to.old) (B.told to.new) result }
     ensures grid { KeepsGrid target.old target.new }
     ensures disk { IsBlamed is_target (B.faults to.old) (B.faults to.new) result }
@@ -87,12 +87,12 @@ fn copy_reply<A: Disk, B: Disk>(
     target: &mut Target,
     place: u64,
 ) -> Result<(), Ending>
-    requires ready { IsReady target.old.layout replica.old }
+    requires ready { IsReadySource target.old.layout replica.old }
     requires place { place < length replica.old.table.sessions }
-    ensures copies { AreApart replica.old.table.sessions → CopiesReply target.old.layout place replica.old target.old.checks target.new.checks (A.told from.old) (B.told to.old) (B.told to.new) result }
+    ensures copies { AreDistinctClients replica.old.table.sessions → CopiesReply target.old.layout place replica.old target.old.checks target.new.checks (A.told from.old) (B.told to.old) (B.told to.new) result }
     ensures named { OnOk result (SetsCheck (length replica.old.table.sessions) target.old.checks target.new.checks) }
     ensures grid { KeepsGrid target.old target.new }
-    ensures leaves { Leaves (beside replica.old (A.told from.old) (A.faults from.old) (B.faults to.old)) (beside replica.new (A.told from.new) (A.faults from.new) (B.faults to.new)) result }
+    ensures leaves { LeavesSource (beside replica.old (A.told from.old) (A.faults from.old) (B.faults to.old)) (beside replica.new (A.told from.new) (A.faults from.new) (B.faults to.new)) result }
 {
     // The state makes sense.
     let _fields = replica.fields();
@@ -113,11 +113,11 @@ pub(crate) fn copy_replies<A: Disk, B: Disk>(
     target: &mut Target,
 ) -> Result<(), Ending>
     requires target { IsTarget target.old.layout replica.old.file.cluster [] [] target.old }
-    requires ready { IsReady target.old.layout replica.old }
-    ensures copies { AreApart replica.old.table.sessions → CopiesReplies target.old.layout replica.old target.new.checks (A.told from.old) (B.told to.old) (B.told to.new) result }
+    requires ready { IsReadySource target.old.layout replica.old }
+    ensures copies { AreDistinctClients replica.old.table.sessions → CopiesReplies target.old.layout replica.old target.new.checks (A.told from.old) (B.told to.old) (B.told to.new) result }
     ensures begun { OnOk result ((rs : List Message) × (length rs ≡ length replica.old.table.sessions) × IsTarget target.old.layout replica.old.file.cluster rs [] target.new) }
     ensures grid { KeepsGrid target.old target.new }
-    ensures leaves { Leaves (beside replica.old (A.told from.old) (A.faults from.old) (B.faults to.old)) (beside replica.new (A.told from.new) (A.faults from.new) (B.faults to.new)) result }
+    ensures leaves { LeavesSource (beside replica.old (A.told from.old) (A.faults from.old) (B.faults to.old)) (beside replica.new (A.told from.new) (A.faults from.new) (B.faults to.new)) result }
 {
     for place in 0..replica.summary().sessions {
         match copy_reply(from, to, replica, target, place) {

@@ -4,8 +4,8 @@ ghost use Rattle.df_format.specs.Message.{Message};
 ghost use Rattle.df_format.specs.Spelling.{IsCheck};
 ghost use Rattle.df_format.specs.declared.reference.Reference.{Reference};
 ghost use Rattle.df_opening.specs.Below.{memory};
-ghost use Rattle.df_copy.specs.Acts.{IsWritten};
-ghost use Rattle.df_copy.specs.Planning.{IsPlan};
+ghost use Rattle.df_copy.specs.Acts.{IsTrailerWritten};
+ghost use Rattle.df_copy.specs.Planning.{IsCopyPlan};
 ghost use Rattle.df_copy.specs.Targets.{fields_in, superblock_of};
 ghost use Rattle.df_copy.specs.Tests.{is_at_rest, needed, references};
 ghost use Rattle.df_copy.specs.Trailers.{IsLastOf, with_trailer};
@@ -74,11 +74,11 @@ fn with_trailer(fields: SuperFields, last: Reference, size: u64) -> SuperFields
 /// The superblock of a target whose other units are all written.
 pub(crate) fn copied_superblock(replica: &Replica, target: &Target, plan: Plan) -> Super
     requires rest { is_at_rest (memory replica.now) ≡ true }
-    requires plan { IsPlan target.now.layout replica.now plan }
+    requires plan { IsCopyPlan target.now.layout replica.now plan }
     requires fits { length replica.now.table.sessions ≤ target.now.layout.clients }
     requires room { needed target.now.layout (memory replica.now) ≤ target.now.layout.blocks }
-    requires written { (rs : List Message) × (bs : List Message) × IsWritten target.now.layout replica.now rs bs target.now × (length rs ≡ length replica.now.table.sessions) × (length bs ≡ length (references (memory replica.now))) }
-    ensures { (rs bs : List Message) → IsWritten target.now.layout replica.now rs bs target.now → (length bs ≡ length (references (memory replica.now))) → result ≡ superblock_of target.now.layout replica.now rs bs }
+    requires written { (rs : List Message) × (bs : List Message) × IsTrailerWritten target.now.layout replica.now rs bs target.now × (length rs ≡ length replica.now.table.sessions) × (length bs ≡ length (references (memory replica.now))) }
+    ensures { (rs bs : List Message) → IsTrailerWritten target.now.layout replica.now rs bs target.now → (length bs ≡ length (references (memory replica.now))) → result ≡ superblock_of target.now.layout replica.now rs bs }
 {
     let fields = fields_for(replica.fields(), target);
     match test_fields(&with_trailer(fields, last_block(target), plan.size)) {

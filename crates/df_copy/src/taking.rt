@@ -1,10 +1,10 @@
 // Where the life of a copied file begins.
-ghost use Rattle.df_copy.specs.Lives.{CopiedBegins};
+ghost use Rattle.df_copy.specs.Lives.{ShownCopyBegins};
 ghost use Rattle.df_copy.specs.Sample.{CopySampleLaw};
 
 /// A file that was copied may be taken as it is, and a history begins there.
 pub fn a_copied_file_begins()
-    ensures { CopiedBegins }
+    ensures { ShownCopyBegins }
 {}
 
 /// A copy with a reply and a block is damaged and opened: each premise is met, and so is what the laws of histories say.

@@ -5,7 +5,7 @@ ghost use Rattle.df_disk.specs.Adds.{Adds};
 ghost use Rattle.df_format.specs.Message.{Message};
 ghost use Rattle.df_grid.specs.Writes.{made_events};
 ghost use Rattle.df_opening.specs.Below.{memory};
-ghost use Rattle.df_copy.specs.Planning.{IsPlan};
+ghost use Rattle.df_copy.specs.Planning.{IsCopyPlan};
 ghost use Rattle.df_copy.specs.Statuses.{is_target};
 ghost use Rattle.df_copy.specs.Targets.{IsTarget, grid_behind, pieces_from, sequence_of};
 ghost use Rattle.df_copy.specs.Tests.{needed, references};
@@ -104,7 +104,7 @@ pub(crate) fn write_trailer<B: Disk>(
 ) -> Result<(), Ending>
     requires live { replica.now.live ≡ true }
     requires fits { length replica.now.table.sessions ≤ target.old.layout.clients }
-    requires plan { IsPlan target.old.layout replica.now plan }
+    requires plan { IsCopyPlan target.old.layout replica.now plan }
     requires room { needed target.old.layout (memory replica.now) ≤ target.old.layout.blocks }
     requires begun { (rs : List Message) × (bs : List Message) × IsTarget target.old.layout replica.now.file.cluster rs bs target.old × (length bs ≡ length (references (memory replica.now))) }
     ensures trailer { (rs bs : List Message) → IsTarget target.old.layout replica.now.file.cluster rs bs target.old → AddsTrailer replica.now rs bs target.old target.new (B.told to.old) (B.told to.new) result }

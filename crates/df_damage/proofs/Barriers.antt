@@ -22,7 +22,7 @@ use Rattle.df_units.specs.Format.{format_of}
 use Rattle.df_units.specs.Meaning.{place_of}
 use Rattle.df_units.proofs.Laws.{blank_empty, is_format}
 use Rattle.df_recovery.specs.Below.{DataFile, shape}
-use Rattle.df_damage.specs.Disks.{IsAtRest, MayBeHurtAs}
+use Rattle.df_damage.specs.Disks.{HasEqualCopies, MayBeHurtAs}
 use Rattle.df_damage.specs.Hurt.{HasTwoCopies, IsUnhurtZone}
 use Rattle.df_damage.specs.Past.{WasHad}
 use Rattle.df_damage.proofs.Pasts.{AreAmong, among_images, from_blank, settled_blank, was_held}
@@ -95,17 +95,17 @@ module _ {version : ℕ} (file : DataFile) (view : View) (t : Told) (may : MayBe
       }
 
   -- four equal copies are of the view's content
-  rest_content : (rest : IsAtRest file t.log) → rest.content ≡ view.checkpoint.content
+  rest_content : (rest : HasEqualCopies file t.log) → rest.content ≡ view.checkpoint.content
   rest_content rest =
       let here = may.found.chosen.agreed in
       let one : unit_at file.layout file.cluster (logs.now t.log) (CopyPlace here.second) ≡ Some (CopyUnit rest.content) = rest.copies here.second here.inside in
       let two : unit_at file.layout file.cluster (logs.now t.log) (CopyPlace here.second) ≡ Some (CopyUnit view.checkpoint.content) = here.at_second in
       cc
 
-  copy_stands : (rest : IsAtRest file t.log) (n : ℕ) → n < 4 → t.shown n ≡ logs.now t.log n → unit_at file.layout file.cluster t.shown (CopyPlace n) ≡ Some (CopyUnit view.checkpoint.content)
+  copy_stands : (rest : HasEqualCopies file t.log) (n : ℕ) → n < 4 → t.shown n ≡ logs.now t.log n → unit_at file.layout file.cluster t.shown (CopyPlace n) ≡ Some (CopyUnit view.checkpoint.content)
   copy_stands rest n inside same = unhurt_copy n same ∙ rest.copies n inside ∙ ap (λ (c : Content). Some (CopyUnit c)) (rest_content rest)
 
-  pub agreed_rest : IsAtRest file t.log → HasTwoCopies t → Agree (unit_at file.layout file.cluster t.shown) view.checkpoint.content
+  pub agreed_rest : HasEqualCopies file t.log → HasTwoCopies t → Agree (unit_at file.layout file.cluster t.shown) view.checkpoint.content
   agreed_rest rest two = record {
     first = two.first;
     second = two.second;

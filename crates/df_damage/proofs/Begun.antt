@@ -1,4 +1,4 @@
--- A log begun anew goes on as the whole one does.
+-- A log restarted goes on as the whole one does.
 use Rattle.std.proofs.Common.{◌≡◌, inl, inr, ℕ, Bool, ◌||◌, List, [], ◌∷◌, Some, refl, sym, ◌∙◌, ap}
 use Rattle.std.proofs.lemmas.Option.{same_Some}
 use Rattle.df_base.specs.Image.{Image, changed, covers, written}
@@ -6,7 +6,7 @@ use Rattle.df_base.specs.Log.{AreLoose, Event, IsLeft, Log, Stop, Sync, Write, a
 use Rattle.df_disk.specs.Told.{Told, did}
 use Rattle.df_disk.specs.Adds.{AddsPart}
 use Rattle.df_disk.proofs.Laws.{honest_did}
-use Rattle.df_damage.specs.Anew.{AddedIsTold, BarrierBegins, BegunIsHonest, HonestStays, LeavesTheSame, PartIsEvents, SameGoesOn, StopsAlike, begun, told_after}
+use Rattle.df_damage.specs.Anew.{AddedIsTold, BarrierBegins, BegunIsHonest, HonestStays, LeavesTheSame, PartIsEvents, SameGoesOn, StopsAlike, restarted, told_after}
 
 pub begun_is_honest : BegunIsHonest
 begun_is_honest t = record { shows = λ sector. refl }
@@ -65,9 +65,9 @@ alike_back a b alike = record { wet = λ sector. sym (alike.wet sector); image =
 
 pub leaves_the_same : LeavesTheSame
 leaves_the_same events t image honest still =
-    let start : Alike t.log (begun t).log = record { wet = still; image = λ i sector. sym (honest.shows sector) i } in
-    let then = alike_after events t (begun t) start in
-    (left_alike (told_after events t).log (told_after events (begun t)).log image then, left_alike (told_after events (begun t)).log (told_after events t).log image (alike_back (told_after events t).log (told_after events (begun t)).log then))
+    let start : Alike t.log (restarted t).log = record { wet = still; image = λ i sector. sym (honest.shows sector) i } in
+    let then = alike_after events t (restarted t) start in
+    (left_alike (told_after events t).log (told_after events (restarted t)).log image then, left_alike (told_after events (restarted t)).log (told_after events t).log image (alike_back (told_after events t).log (told_after events (restarted t)).log then))
 
 -- ---- after a barrier
 

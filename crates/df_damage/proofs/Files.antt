@@ -32,13 +32,13 @@ use Rattle.df_damage.proofs.Versions.{known_file}
 module _ {version : ℕ} (file : DataFile) (view : View) (t : Told) (may : MayBeHurtAs version file view t) where
   -- ---- what is chosen
 
-  pub tests : (c : Content) → Quorum.IsChosen (content_at t.shown) c → PassesTests (shape file) (content_of c) × IsReference (layout_of file.layout) (content_of c)
+  pub tests : (c : Content) → Quorum.IsChosenContent (content_at t.shown) c → PassesTests (shape file) (content_of c) × IsReference (layout_of file.layout) (content_of c)
   tests c chosen =
       let choice = choice_chosen file.layout file.cluster t.shown c may.whole chosen in
       let w = fields_hold_law (shape file) (settled (log file view t may)) view (rests file view t may).grows (empty file view t may) (distinct file view t may) (shown file view t may) (shows_settled file view t may) (content_of c) choice.agreed in
       (subst (PassesTests (shape file)) w.2 w.3.tests, subst (IsReference (layout_of file.layout)) w.2 w.3.trailer.reference)
 
-  pub rules : (c : Content) → Quorum.IsChosen (content_at t.shown) c → AreFieldsOf file.layout file.cluster c.fields × IsSuper c.fields
+  pub rules : (c : Content) → Quorum.IsChosenContent (content_at t.shown) c → AreFieldsOf file.layout file.cluster c.fields × IsSuper c.fields
   rules c chosen =
       let both = tests c chosen in
       passing_is_usable file.version file.layout file.cluster file.named (parse_of (layout_of file.layout)) c (known_file version file may.known may.version_is) (shown_checks t.shown chosen.agreed.first c may.whole chosen.agreed.at_first) both.0 both.1

@@ -20,7 +20,7 @@ use Rattle.df_theory.specs.Units.{Units}
 use Rattle.df_theory.specs.View.{PassesTests, View}
 use Rattle.df_theory.proofs.Laws.{changed_kept, disk_stop_law, firm_units, now_units}
 use Rattle.df_model.specs.Work.{opened}
-use Rattle.df_history.specs.Awakened.{IsLater}
+use Rattle.df_history.specs.Awakened.{IsLaterMoment}
 use Rattle.df_history.specs.Histories.{IsLivedMoment, MayHurtCopies, MayStart}
 use Rattle.df_history.specs.OpenLaws.{StartsWith}
 use Rattle.df_history.proofs.Laws.{begins_law, choice_stays_law, first_grown_law, found_since_law, grown_lived_law, rest_lived_law, synced_settled}
@@ -33,30 +33,30 @@ use Rattle.df_units.specs.Format.{format_of}
 use Rattle.df_units.specs.Meaning.{content_of, layout_of}
 use Rattle.df_units.specs.Superblocks.{AreFieldsOf}
 use Rattle.df_units.proofs.Laws.{choice_chosen, is_format, of_places, passing_is_usable, shown_checks}
-use Rattle.df_damage.specs.Histories.{BegunGoesOn, FindsSince, FirstGoesOn, FoundWasSince, HasLived, IsLivedDisk, LayoutStays, MayReopen, RaisedGoesOn, StoppedGoesOn, units_in, units_logs}
+use Rattle.df_damage.specs.Histories.{BegunGoesOn, FindsSince, FirstGoesOn, FoundWasSince, HasLived, IsLivedDisk, LayoutStays, MayReopen, RaisedGoesOn, StoppedGoesOn, unit_log_in, units_logs}
 
 -- ---- what an open finds
 
 module _ (file : DataFile) (log : Log) (older : List Log) (image : Image) (may : MayReopen file log older image) where
   -- the history of units may start its next log there
-  starts : MayStart (units_in file (logs.add Sync log)) (units_logs file older) (unit_at file.layout file.cluster image)
+  starts : MayStart (unit_log_in file (logs.add Sync log)) (units_logs file older) (unit_at file.layout file.cluster image)
   starts = record {
-    settled_is = synced_settled (units_in file log);
+    settled_is = synced_settled (unit_log_in file log);
     chance = may.chance;
     copies = subst (λ (was : Units). MayHurtCopies was (unit_at file.layout file.cluster image)) (sym (now_units (format_of file.layout file.cluster) log.start (Sync ∷ log.events))) may.copies;
   }
 
-  -- a log is begun anew there
-  pub begun_on : (view : View) → IsFound (shape file) (unit_at file.layout file.cluster image) view → IsLivedMoment (shape file) (units_logs file (logs.add Sync log ∷ older)) (units_in file (record { start = image; events = [] }))
+  -- a log is restarted there
+  pub begun_on : (view : View) → IsFound (shape file) (unit_at file.layout file.cluster image) view → IsLivedMoment (shape file) (units_logs file (logs.add Sync log ∷ older)) (unit_log_in file (record { start = image; events = [] }))
   begun_on view found =
-      (begins_law (shape file) (units_in file (logs.add Sync log)) (units_logs file older) (unit_at file.layout file.cluster image) view may.lived starts
+      (begins_law (shape file) (unit_log_in file (logs.add Sync log)) (units_logs file older) (unit_at file.layout file.cluster image) view may.lived starts
       (of_places file.layout file.cluster file.named (parse_of (layout_of file.layout)) image may.whole) found).1
 
   -- the superblock that is chosen is the file's
-  chosen : (c : Content) → Quorum.IsChosen (content_at image) c → StartsWith (shape file) (units_in file (logs.add Sync log)) (unit_at file.layout file.cluster image) (content_of c)
-  chosen c is = choice_stays_law (shape file) (units_in file (logs.add Sync log)) (units_logs file older) (unit_at file.layout file.cluster image) (content_of c) may.lived starts (choice_chosen file.layout file.cluster image c may.whole is)
+  chosen : (c : Content) → Quorum.IsChosenContent (content_at image) c → StartsWith (shape file) (unit_log_in file (logs.add Sync log)) (unit_at file.layout file.cluster image) (content_of c)
+  chosen c is = choice_stays_law (shape file) (unit_log_in file (logs.add Sync log)) (units_logs file older) (unit_at file.layout file.cluster image) (content_of c) may.lived starts (choice_chosen file.layout file.cluster image c may.whole is)
 
-  rules : (c : Content) → Quorum.IsChosen (content_at image) c → AreFieldsOf file.layout file.cluster c.fields × IsSuper c.fields
+  rules : (c : Content) → Quorum.IsChosenContent (content_at image) c → AreFieldsOf file.layout file.cluster c.fields × IsSuper c.fields
   rules c is =
       let from = chosen c is in
       let tests : PassesTests (shape file) (content_of c) = subst (PassesTests (shape file)) (sym from.content) from.holds.bears.sound.checkpoint.tests in
@@ -85,13 +85,13 @@ module _ (file : DataFile) (log : Log) (older : List Log) (image : Image) (may :
   found_since s is =
       let same = opened_file s is in
       let found : IsFound (shape file) (unit_at file.layout file.cluster image) is.view = subst (λ (x : DataFile). IsFound (shape x) (unit_at file.layout x.cluster image) is.view) same is.found in
-      let from = choice_stays_law (shape file) (units_in file (logs.add Sync log)) (units_logs file older) (unit_at file.layout file.cluster image) is.view.checkpoint.content may.lived starts found.chosen in
+      let from = choice_stays_law (shape file) (unit_log_in file (logs.add Sync log)) (units_logs file older) (unit_at file.layout file.cluster image) is.view.checkpoint.content may.lived starts found.chosen in
       record {
         of = same;
         found = is.view;
         is_found = found;
         stands = subst (λ (x : DataFile). Represents s (opened (shape x) (unit_at file.layout x.cluster image) is.view)) same is.stands;
-        since = found_since_law (shape file) (units_in file (logs.add Sync log)) (units_logs file older) (unit_at file.layout file.cluster image) is.view may.lived starts found;
+        since = found_since_law (shape file) (unit_log_in file (logs.add Sync log)) (units_logs file older) (unit_at file.layout file.cluster image) is.view may.lived starts found;
         begins = record { whole = may.whole; found = found; clean = from.clean is.view refl; distinct = from.distinct };
       }
 
@@ -118,7 +118,7 @@ new_units f start old ((Stop changes) ∷ new) =
     let e : UnitEvent = Stopped (f.unit_at (changed changes (logs.now_of start (new ++ old)))) in
     (e ∷ rest.0, ap (λ (us : List UnitEvent). e ∷ us) rest.1)
 
-later_units : (f : Format) (later log : Log) → Extends later log → IsLater (units_log f later) (units_log f log)
+later_units : (f : Format) (later log : Log) → Extends later log → IsLaterMoment (units_log f later) (units_log f log)
 later_units f later log (new, grew, same) =
     let rest = new_units f log.start log.events new in
     (rest.0, (λ i. units_of f (same i) (grew i)) ∙ rest.1, ap f.unit_at same)
@@ -126,7 +126,7 @@ later_units f later log (new, grew, same) =
 -- ---- how a history goes on
 
 -- what a moment of units is, a moment of sectors is
-pub moment_on_disk : (file : DataFile) (older : List Log) (log : Log) → IsLivedMoment (shape file) (units_logs file older) (units_in file log) → IsLivedDisk file older log
+pub moment_on_disk : (file : DataFile) (older : List Log) (log : Log) → IsLivedMoment (shape file) (units_logs file older) (unit_log_in file log) → IsLivedDisk file older log
 moment_on_disk file older log moment = record {
   lived = moment.lived;
   synced = moment.synced;
@@ -137,9 +137,9 @@ moment_on_disk file older log moment = record {
 
 pub first_goes_on : FirstGoesOn
 first_goes_on file log safe begins = record {
-  lived = first_grown_law (shape file) (units_in file log) safe.grown begins;
-  synced = first_grown_law (shape file) (units_in file (logs.add Sync log)) safe.synced begins;
-  stopped = λ changes loose chance. first_grown_law (shape file) (units_in file (logs.add (Stop changes) log)) (safe.stopped changes loose chance) begins;
+  lived = first_grown_law (shape file) (unit_log_in file log) safe.grown begins;
+  synced = first_grown_law (shape file) (unit_log_in file (logs.add Sync log)) safe.synced begins;
+  stopped = λ changes loose chance. first_grown_law (shape file) (unit_log_in file (logs.add (Stop changes) log)) (safe.stopped changes loose chance) begins;
 }
 
 pub begun_goes_on : BegunGoesOn
@@ -148,8 +148,8 @@ begun_goes_on file view log older image may found = moment_on_disk file (logs.ad
 pub raised_goes_on : RaisedGoesOn
 raised_goes_on file log later before older raised lived grew safe =
     let f = format_of file.layout file.cluster in
-    let on : (l : Log) → Extends l log → Grown (shape file) (units_in file l) → HasLived file (l ∷ before ∷ older) =
-    λ l more grown. ((grown_lived_law (shape file) (units_in file log) (units_in file l) (units_in file before) (units_logs file older) raised lived (later_units f l log more) grown).begun, lived) in
+    let on : (l : Log) → Extends l log → Grown (shape file) (unit_log_in file l) → HasLived file (l ∷ before ∷ older) =
+    λ l more grown. ((grown_lived_law (shape file) (unit_log_in file log) (unit_log_in file l) (unit_log_in file before) (units_logs file older) raised lived (later_units f l log more) grown).begun, lived) in
     record {
       lived = on later grew safe.grown;
       synced = on (logs.add Sync later) (extends_add Sync later log grew) safe.synced;
@@ -159,5 +159,5 @@ raised_goes_on file log later before older raised lived grew safe =
 pub stopped_goes_on : StoppedGoesOn
 stopped_goes_on file view log before older changes safe moment loose chance held =
     moment_on_disk file (before ∷ older) (logs.add (Stop changes) log)
-    (rest_lived_law (shape file) (units_in file (logs.add (Stop changes) log)) (units_in file before) (units_logs file older) view (moment.stopped changes loose chance)
+    (rest_lived_law (shape file) (unit_log_in file (logs.add (Stop changes) log)) (unit_log_in file before) (units_logs file older) view (moment.stopped changes loose chance)
     (disk_stop_law (format_of file.layout file.cluster) (shape file) view log changes safe loose chance held))

@@ -12,7 +12,7 @@ pub use Rattle.df_damage.proofs.Seconds.{answer_is_of_hurt, found_is_not_refused
 pub use Rattle.df_damage.proofs.Histories.{begun_goes_on, first_goes_on, found_was_since, lived_layout, moment_on_disk, raised_goes_on, stopped_goes_on}
 -- ---- what was written
 pub use Rattle.df_damage.proofs.Written.{had_is_written, opened_is_written}
--- ---- logs begun anew
+-- ---- logs restarted
 pub use Rattle.df_damage.proofs.Begun.{added_is_told, begun_is_honest, honest_stays, same_goes_on, stops_alike}
 pub use Rattle.df_damage.proofs.Started.{hurt_may_begin}
 -- ---- what an open finds

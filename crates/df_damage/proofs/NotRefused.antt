@@ -24,14 +24,14 @@ use Rattle.df_recovery.specs.Opening.{HasSuperAs, IsLayoutOf, RefusesAs}
 use Rattle.df_recovery.specs.Surveys.{HasFile, IsAsked, SurveysAs}
 use Rattle.df_recovery.proofs.Laws.{as_none, one_super_as, super_or_refusal_as, same_file}
 use Rattle.df_damage.specs.Unrefused.{FoundIsNotRefused, IsNotRefusedAs}
-use Rattle.df_damage.specs.Versions.{IsKnown, IsUnspent}
+use Rattle.df_damage.specs.Versions.{IsKnownVersion, IsUnspent}
 use Rattle.df_damage.proofs.Versions.{below_spent, known_file}
 
-module _ (version : ℕ) (file : DataFile) (image : Image) (view : View) (known : IsKnown version) (is_version : file.version ≡ version) (whole : IsImage image) (found : IsFound (shape file) (unit_at file.layout file.cluster image) view) where
+module _ (version : ℕ) (file : DataFile) (image : Image) (view : View) (known : IsKnownVersion version) (is_version : file.version ≡ version) (whole : IsImage image) (found : IsFound (shape file) (unit_at file.layout file.cluster image) view) where
   -- ---- the superblock
 
   -- the choice among the copies is the view's content
-  choice : (c : Content) × (content_of c ≡ view.checkpoint.content) × Quorum.IsChosen (content_at image) c
+  choice : (c : Content) × (content_of c ≡ view.checkpoint.content) × Quorum.IsChosenContent (content_at image) c
   choice = chosen_choice file.layout file.cluster image view.checkpoint.content whole found.chosen
 
   abbrev fields : SuperFields

@@ -32,7 +32,7 @@ use Rattle.df_recovery.proofs.Laws.{as_none, super_or_refusal_as}
 use Rattle.df_recovery.specs.Below.{DataFile, shape}
 use Rattle.df_damage.specs.Disks.{MayBeHurtAs}
 use Rattle.df_damage.specs.Hurt.{IsHurtFile, IsHurtPlace, IsUnhurt}
-use Rattle.df_damage.specs.Refusals.{BlamesHurt, IsBlamed, MayBeOfDamage, NamesSuperblock, ProbeIsOfHurt, RefusalsAreOfDamage, RefusalsBlameHurt, SpentIsTheFiles, SuperblockIsHurt}
+use Rattle.df_damage.specs.Refusals.{BlamesHurt, IsBlamedPlace, MayBeOfDamage, NamesSuperblock, ProbeIsOfHurt, RefusalsAreOfDamage, RefusalsBlameHurt, SpentIsTheFiles, SuperblockIsHurt}
 use Rattle.df_damage.specs.Versions.{IsUnspent}
 use Rattle.df_damage.proofs.Barriers.{agreed_rest, left, log, pooled, rests, shown}
 use Rattle.df_damage.proofs.Files.{no_bad_field, no_fault, own_layout, refused_here, rules, spent_here, tests}
@@ -160,7 +160,7 @@ module _ {version : ℕ} (file : DataFile) (view : View) (t : Told) (may : MayBe
   group_of_one p q at there group one =
       in_one file.layout.clients (view.checkpoint.content.op + 1) view.checkpoint.content.op_checksum 0 view.checkpoint.parts.sessions view.tail q p may.found.tail.chain there at (sym (alone one q there) ∙ group ∙ alone one p at)
 
-  blamed : (at : Units.Place) → laws.BlamesHurt (shape file) (log file view t may) view (shown file view t may) (opens.Damaged at) → IsBlamed file view t (place_of at).zone (place_of at).index
+  blamed : (at : Units.Place) → laws.RefusalBlamesHurt (shape file) (log file view t may) view (shown file view t may) (opens.Damaged at) → IsBlamedPlace file view t (place_of at).zone (place_of at).index
   blamed (CopyPlace n) blames = blames
   blamed (HeaderPlace s) blames = blames
   blamed (PreparePlace s) blames = hurt_there (PreparePlace s) blames
@@ -197,11 +197,11 @@ module _ {version : ℕ} (file : DataFile) (view : View) (t : Told) (may : MayBe
           usable = as_none version choice.0.fields ((tests file view t may choice.0 choice.2).0.version ∙ may.version_is) (rules file view t may choice.0 choice.2).1;
         }) refuses
 
-    blames_place : (place : Place) (class : Class) → SurveysAs version file.layout t.shown (Err (Damaged place class)) → IsBlamed file view t place.zone place.index
+    blames_place : (place : Place) (class : Class) → SurveysAs version file.layout t.shown (Err (Damaged place class)) → IsBlamedPlace file view t place.zone place.index
     blames_place place class is =
         let refused = refused_here file view t may is.file is.fields (opens.Damaged is.at) is.has is.of is.opens in
         let who = blame_law (shape file) (log file view t may) view (shown file view t may) (opens.Damaged is.at) (rests file view t may) may.no_chance agreed refused in
-        subst (λ (p : Place). IsBlamed file view t p.zone p.index) is.at_is (blamed is.at who)
+        subst (λ (p : Place). IsBlamedPlace file view t p.zone p.index) is.at_is (blamed is.at who)
 
     -- the superblock is never named
     unnamed : (e : OpenError) → SurveysAs version file.layout t.shown (Err e) → NamesSuperblock e → ⊥
@@ -210,7 +210,7 @@ module _ {version : ℕ} (file : DataFile) (view : View) (t : Told) (may : MayBe
     unnamed (Version found) is names = names
     unnamed (BadField field value) is names = names
     unnamed (LayoutDiffers reserved found) is names = names
-    unnamed (Damaged place class) is names = subst (λ (zone : Zone). IsBlamed file view t zone place.index) names (blames_place place class is)
+    unnamed (Damaged place class) is names = subst (λ (zone : Zone). IsBlamedPlace file view t zone place.index) names (blames_place place class is)
     unnamed DiskFault is names = names
     unnamed BootSpent is names = names
 

@@ -12,7 +12,7 @@ use Rattle.df_recovery.specs.Below.{DataFile, State, shape}
 use Rattle.df_recovery.specs.Opening.{Refuses}
 use Rattle.df_recovery.specs.Surveys.{Surveys}
 use Rattle.df_damage.specs.Answers.{AnswersHurt}
-use Rattle.df_damage.specs.Disks.{IsAtRest, MayBeHurt}
+use Rattle.df_damage.specs.Disks.{HasEqualCopies, MayBeHurt}
 use Rattle.df_damage.specs.Hurt.{HasTwoCopies, IsHurtInside}
 use Rattle.df_damage.specs.Openings.{OpensAsLeft}
 use Rattle.df_damage.specs.Refusals.{ProbesHurt}
@@ -28,7 +28,7 @@ found_is_not_refused file image view version unspent whole found = found_is_not_
 pub found_is_usable : (file : DataFile) (image : Image) (view : View) → file.version ≡ 2 → IsImage image → IsFound (shape file) (unit_at file.layout file.cluster image) view → (error : OpenError) → Refuses image error → ⊥
 found_is_usable file image view version whole found error refuses = usable_as 2 file image view (inr refl) version whole found error refuses
 
-pub two_copies_are_enough : (file : DataFile) (view : View) (t : Told) → MayBeHurt file view t → boot_of view < 2 ^ 62 → IsAtRest file t.log → HasTwoCopies t → IsHurtInside file.layout t Superblock → OpensAsLeft file view t
+pub two_copies_are_enough : (file : DataFile) (view : View) (t : Told) → MayBeHurt file view t → boot_of view < 2 ^ 62 → HasEqualCopies file t.log → HasTwoCopies t → IsHurtInside file.layout t Superblock → OpensAsLeft file view t
 two_copies_are_enough file view t may unspent rest two inside = two_copies_are_enough_as 2 file view t may (λ same. unspent) rest two inside
 
 pub headers_may_be_hurt : (file : DataFile) (view : View) (t : Told) → MayBeHurt file view t → boot_of view < 2 ^ 62 → IsHurtInside file.layout t WalHeaders → OpensAsLeft file view t

@@ -2,14 +2,14 @@
 use Rattle.std.proofs.Common.{◌≡◌, ◌⊎◌, inl, inr, ℕ, ◌<◌, ◌^◌, ◌∙◌, arith}
 use Rattle.df_theory.specs.View.{PassesTests, View, boot_of}
 use Rattle.df_recovery.specs.Below.{DataFile, shape}
-use Rattle.df_damage.specs.Versions.{IsKnown, IsUnspent}
+use Rattle.df_damage.specs.Versions.{IsKnownVersion, IsUnspent}
 
 -- the file of a version that is known has one
-pub known_file : (version : ℕ) (file : DataFile) → IsKnown version → file.version ≡ version → (file.version ≡ 1) ⊎ (file.version ≡ 2)
+pub known_file : (version : ℕ) (file : DataFile) → IsKnownVersion version → file.version ≡ version → (file.version ≡ 1) ⊎ (file.version ≡ 2)
 known_file version file (inl one) of = inl (of ∙ one)
 known_file version file (inr two) of = inr (of ∙ two)
 
 -- a boot that isn't spent can be raised, in both: in version 1 there is none
-pub below_spent : (version : ℕ) (file : DataFile) (view : View) → IsKnown version → file.version ≡ version → IsUnspent version view → PassesTests (shape file) view.checkpoint.content → boot_of view < 2 ^ 62
+pub below_spent : (version : ℕ) (file : DataFile) (view : View) → IsKnownVersion version → file.version ≡ version → IsUnspent version view → PassesTests (shape file) view.checkpoint.content → boot_of view < 2 ^ 62
 below_spent version file view (inl one) of unspent tests = omega (arith, (tests.of.one (tests.version ∙ of ∙ one)).0)
 below_spent version file view (inr two) of unspent tests = unspent two

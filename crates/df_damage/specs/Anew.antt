@@ -1,4 +1,4 @@
--- A log begun anew: what a disk shows at a moment is its start, and what happened before is forgotten. And on what image one may begin.
+-- A restarted log: what a disk shows at a moment is its start, and what happened before is forgotten. And on what image one may begin.
 use Rattle.std.specs.Prelude.{◌≡◌, ◌↔◌, ℕ, false, List, [], ◌∷◌, Some}
 use Rattle.df_base.specs.Image.{Image, IsImage}
 use Rattle.df_base.specs.Log.{AreLoose, Event, IsLeft, Log, Stop, Sync, loose}
@@ -8,12 +8,12 @@ use Rattle.df_theory.specs.Found.{IsClean, IsFound}
 use Rattle.df_theory.specs.View.{View}
 use Rattle.df_units.specs.Bytes.{unit_at}
 use Rattle.df_recovery.specs.Below.{DataFile, shape}
-use Rattle.df_recovery.specs.Plan.{AreDistinct}
+use Rattle.df_recovery.specs.Plan.{AreDistinctUnits}
 use Rattle.df_damage.specs.Disks.{MayBeHurtAs}
 
--- the log begun anew now
-abbrev pub begun : Told → Told
-begun t = record { log = record { start = t.shown; events = [] }; shown = t.shown }
+-- the log restarted now
+abbrev pub restarted : Told → Told
+restarted t = record { log = record { start = t.shown; events = [] }; shown = t.shown }
 
 -- what a disk that tells tells after these events
 abbrev pub told_after : List Event → Told → Told
@@ -24,19 +24,19 @@ told_after (e ∷ es) t = told_after es (did e t)
 abbrev pub IsStill : Log → Type 0
 IsStill log = (sector : ℕ) → loose log sector ≡ false
 
--- a view is found in the image, and a log may be begun anew there: beside copy 0 no copy shows a content above the choice, to which a later repair could be
+-- a view is found in the image, and a log may be restarted there: beside copy 0 no copy shows a content above the choice, to which a later repair could be
 -- misled, and one checksum is one unit
-pub record MayBegin (file : DataFile) (view : View) (image : Image) : Type 0 where
+pub record MayRestart (file : DataFile) (view : View) (image : Image) : Type 0 where
   pub whole : IsImage image
   pub found : IsFound (shape file) (unit_at file.layout file.cluster image) view
   pub clean : IsClean (unit_at file.layout file.cluster image) view
-  pub distinct : AreDistinct (unit_at file.layout file.cluster image)
+  pub distinct : AreDistinctUnits (unit_at file.layout file.cluster image)
 
 -- ---- the laws
 
 -- every disk is honest over it
 abbrev pub BegunIsHonest : Type 0
-BegunIsHonest = (t : Told) → IsHonest (begun t)
+BegunIsHonest = (t : Told) → IsHonest (restarted t)
 
 -- and stays so: an honest disk is honest after any events
 abbrev pub HonestStays : Type 0
@@ -44,7 +44,7 @@ HonestStays = (events : List Event) (t : Told) → IsHonest t → IsHonest (told
 
 -- a barrier shows nothing new: what is begun after it is what was begun before it
 abbrev pub BarrierBegins : Type 0
-BarrierBegins = (t : Told) → begun (did Sync t) ≡ begun t
+BarrierBegins = (t : Told) → restarted (did Sync t) ≡ restarted t
 
 -- what is told is told after events, by the call that adds them
 abbrev pub AddedIsTold : Type 0
@@ -63,9 +63,9 @@ pub record Part (events : List Event) (t n : Told) : Type 0 where
 abbrev pub PartIsEvents : Type 0
 PartIsEvents = (events : List Event) (t n : Told) → AddsPart events (Some t) (Some n) → Part events t n
 
--- Over an honest disk of which nothing is loose the log begun anew says of stops what the whole one says: from then on they leave the same images.
+-- Over an honest disk of which nothing is loose the log restarted says of stops what the whole one says: from then on they leave the same images.
 abbrev pub LeavesTheSame : Type 0
-LeavesTheSame = (events : List Event) (t : Told) (image : Image) → IsHonest t → IsStill t.log → IsLeft (told_after events t).log image ↔ IsLeft (told_after events (begun t)).log image
+LeavesTheSame = (events : List Event) (t : Told) (image : Image) → IsHonest t → IsStill t.log → IsLeft (told_after events t).log image ↔ IsLeft (told_after events (restarted t)).log image
 
 -- After a barrier a stop changes by the one log what it may change by the other, and then both show the same: so the next open has its base, too.
 abbrev pub StopsAlike : Type 0
@@ -73,8 +73,8 @@ StopsAlike =
     (events : List Event) (t b : Told) (changes : List (ℕ × List ℕ)) → b.shown ≡ t.shown → AreLoose (told_after events (did Sync t)).log.events changes
     → AreLoose (told_after events (did Sync b)).log.events changes × ((did (Stop changes) (told_after events (did Sync b))).shown ≡ (did (Stop changes) (told_after events (did Sync t))).shown)
 
--- Whatever of a file is hurt, a log may be begun anew at what it shows, where an open finds the file's own checkpoint there.
+-- Whatever of a file is hurt, a log may be restarted at what it shows, where an open finds the file's own checkpoint there.
 abbrev pub HurtMayBegin : Type 0
 HurtMayBegin =
     (version : ℕ) (file : DataFile) (view found : View) (t : Told) → MayBeHurtAs version file view t → IsFound (shape file) (unit_at file.layout file.cluster t.shown) found → (found.checkpoint ≡ view.checkpoint)
-    → MayBegin file found t.shown
+    → MayRestart file found t.shown

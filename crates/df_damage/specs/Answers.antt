@@ -12,35 +12,35 @@ use Rattle.df_theory.specs.View.{View}
 use Rattle.df_units.specs.Bytes.{unit_at}
 use Rattle.df_recovery.specs.Surveys.{SurveysAs}
 use Rattle.df_recovery.specs.Below.{DataFile, Represents, State, shape}
-use Rattle.df_damage.specs.Anew.{MayBegin}
-use Rattle.df_damage.specs.Disks.{IsAtRest, MayBeHurt, MayBeHurtAs}
+use Rattle.df_damage.specs.Anew.{MayRestart}
+use Rattle.df_damage.specs.Disks.{HasEqualCopies, MayBeHurt, MayBeHurtAs}
 use Rattle.df_damage.specs.Hurt.{HasTwoCopies, IsHurtFile, IsHurtInside, IsUnhurtZone}
 use Rattle.df_damage.specs.Openings.{HasEachHeader}
 use Rattle.df_damage.specs.Past.{WasHad}
 use Rattle.df_damage.specs.Refusals.{BlamesHurt, MayBeOfDamage}
 use Rattle.df_damage.specs.Versions.{IsUnspent}
 
--- what is hurt isn't needed: copies, at rest and at most two, or header sectors
+-- what is hurt isn't needed: copies, at most two of four equal ones, or header sectors
 abbrev pub IsNeedless : DataFile → Told → Type 0
-IsNeedless file t = (IsAtRest file t.log × HasTwoCopies t × IsHurtInside file.layout t Superblock) ⊎ IsHurtInside file.layout t WalHeaders
+IsNeedless file t = (HasEqualCopies file t.log × HasTwoCopies t × IsHurtInside file.layout t Superblock) ⊎ IsHurtInside file.layout t WalHeaders
 
--- a state that is found: it is of this file, and stands for the view that is found in what is shown, which the file had; where that has the file's checkpoint, a log may be begun anew there
+-- a state that is found: it is of this file, and stands for the view that is found in what is shown, which the file had; where that has the file's checkpoint, a log may be restarted there
 pub record FindsHad (file : DataFile) (view : View) (t : Told) (s : State) : Type 0 where
   pub of : s.file ≡ file
   pub found : View
   pub is_found : IsFound (shape file) (unit_at file.layout file.cluster t.shown) found
   pub stands : Represents s (opened (shape file) (unit_at file.layout file.cluster t.shown) found)
   pub had : WasHad file (add Sync t.log) found
-  pub checkpoint : IsAtRest file t.log → HasTwoCopies t → (found.checkpoint ≡ view.checkpoint)
-  pub begins : (found.checkpoint ≡ view.checkpoint) → MayBegin file found t.shown
+  pub checkpoint : HasEqualCopies file t.log → HasTwoCopies t → (found.checkpoint ≡ view.checkpoint)
+  pub begins : (found.checkpoint ≡ view.checkpoint) → MayRestart file found t.shown
   pub headers : IsUnhurtZone file.layout t WalHeaders → HasEachHeader file t found
   pub whole : IsNeedless file t → (found ≡ view)
 
--- a refusal: it is of damage, and a sector of the file is hurt; at rest, while two copies stand, it blames what is hurt; and it doesn't come where what is hurt isn't needed
+-- a refusal: it is of damage, and a sector of the file is hurt; where the four copies were equal and two stand, it blames what is hurt; and it doesn't come where what is hurt isn't needed
 pub record RefusesHurt (file : DataFile) (view : View) (t : Told) (e : OpenError) : Type 0 where
   pub damage : MayBeOfDamage e
   pub hurt : IsHurtFile file.layout t
-  pub blames : IsAtRest file t.log → HasTwoCopies t → BlamesHurt file view t e
+  pub blames : HasEqualCopies file t.log → HasTwoCopies t → BlamesHurt file view t e
   pub needed : IsNeedless file t → ⊥
 
 -- the answer of an open with rooms of the file's layout, a fault of the disk in the open itself aside

@@ -1,4 +1,4 @@
--- A file that was damaged before any number of opens: its logs, each begun anew at what an open found, and what an open finds then.
+-- A file that was damaged before any number of opens: its logs, each restarted at what an open found, and what an open finds then.
 use Rattle.std.specs.Prelude.{◌≡◌, ℕ, List, [], ◌∷◌, Option, Some, Result, Ok, Err}
 use Rattle.df_base.specs.Image.{Image, IsImage, changed}
 use Rattle.df_base.specs.Log.{AreLoose, Log, Stop, Sync, add, now}
@@ -20,19 +20,19 @@ use Rattle.df_units.specs.Format.{format_of}
 use Rattle.df_recovery.specs.Found.{IsLayoutShownAs}
 use Rattle.df_recovery.specs.Surveys.{IsOpenedAs}
 use Rattle.df_recovery.specs.Below.{DataFile, Represents, State, shape}
-use Rattle.df_damage.specs.Anew.{MayBegin}
+use Rattle.df_damage.specs.Anew.{MayRestart}
 
 -- ---- histories
 
 -- a log of a file's disk, and logs of it, read as logs of units
-abbrev pub units_in : DataFile → Log → UnitLog
-units_in file log = units_log (format_of file.layout file.cluster) log
+abbrev pub unit_log_in : DataFile → Log → UnitLog
+unit_log_in file log = units_log (format_of file.layout file.cluster) log
 
 abbrev pub units_logs : DataFile → List Log → List UnitLog
 units_logs file [] = []
-units_logs file (log ∷ logs) = units_in file log ∷ units_logs file logs
+units_logs file (log ∷ logs) = unit_log_in file log ∷ units_logs file logs
 
--- these are the logs of the file, the newest first: each grew, and each later one was begun anew at what an open found
+-- these are the logs of the file, the newest first: each grew, and each later one was restarted at what an open found
 abbrev pub HasLived : DataFile → List Log → Type 0
 HasLived file logs = IsLived (shape file) (units_logs file logs)
 
@@ -51,9 +51,9 @@ pub record IsLivedDisk (file : DataFile) (logs : List Log) (log : Log) : Type 0 
   pub synced : HasLived file (add Sync log ∷ logs)
   pub stopped : (changes : List (ℕ × List ℕ)) → AreLoose log.events changes → NoChanceOf (format_of file.layout file.cluster) log (changed changes (now log)) → HasLived file (add (Stop changes) log ∷ logs)
 
--- the log was begun anew after these, and its boot was raised since
+-- the log was restarted after these, and its boot was raised since
 abbrev pub HasRaised : DataFile → (log before : Log) → List Log → Type 0
-HasRaised file log before logs = IsAwakened (shape file) (units_in file log) (units_in file before) (units_logs file logs)
+HasRaised file log before logs = IsAwakened (shape file) (unit_log_in file log) (unit_log_in file before) (units_logs file logs)
 
 -- What follows after the barrier of an open keeps the history lived at each moment, and at the end the boot of the newest log is raised.
 pub record LivesOn (file : DataFile) (before : Log) (older : List Log) (entry exit : Log) : Type 0 where
@@ -66,14 +66,14 @@ pub record LivesOn (file : DataFile) (before : Log) (older : List Log) (entry ex
 abbrev pub WasHadSince : DataFile → List Log → View → Type 0
 WasHadSince file logs view = WasSince (shape file) (units_logs file logs) view
 
--- a state that is found: it is of this file, and stands for the view that is found in what is shown; the file had that since the last open that raised its boot, and a log may be begun anew there
+-- a state that is found: it is of this file, and stands for the view that is found in what is shown; the file had that since the last open that raised its boot, and a log may be restarted there
 pub record FindsSince (file : DataFile) (log : Log) (logs : List Log) (image : Image) (s : State) : Type 0 where
   pub of : s.file ≡ file
   pub found : View
   pub is_found : IsFound (shape file) (unit_at file.layout file.cluster image) found
   pub stands : Represents s (opened (shape file) (unit_at file.layout file.cluster image) found)
   pub since : WasHadSince file (add Sync log ∷ logs) found
-  pub begins : MayBegin file found image
+  pub begins : MayRestart file found image
 
 -- so it is of each state that an open finds after a history
 abbrev pub FoundWasSince : Type 0
@@ -98,7 +98,7 @@ TellsLived layout told result = (file : DataFile) (t : Told) (log : Log) (logs :
 abbrev pub FirstGoesOn : Type 0
 FirstGoesOn = (file : DataFile) (log : Log) → IsSafeDisk (format_of file.layout file.cluster) (shape file) log → BeginsHistory (shape file) (unit_at file.layout file.cluster log.start) → IsLivedDisk file [] log
 
--- it goes on with a log that is begun anew at what an open finds
+-- it goes on with a log that is restarted at what an open finds
 abbrev pub BegunGoesOn : Type 0
 BegunGoesOn =
     (file : DataFile) (view : View) (log : Log) (logs : List Log) (image : Image) → MayReopen file log logs image → IsFound (shape file) (unit_at file.layout file.cluster image) view

@@ -11,7 +11,7 @@ use Rattle.df_theory.specs.View.{View}
 use Rattle.df_units.specs.Bytes.{unit_at}
 use Rattle.df_recovery.specs.Surveys.{IsOpenedAs}
 use Rattle.df_recovery.specs.Below.{DataFile, State, shape}
-use Rattle.df_damage.specs.Disks.{IsAtRest, MayBeHurtAs}
+use Rattle.df_damage.specs.Disks.{HasEqualCopies, MayBeHurtAs}
 use Rattle.df_damage.specs.Hurt.{HasTwoCopies, IsHurtInside, IsUnhurtZone}
 use Rattle.df_damage.specs.Past.{WasHad}
 use Rattle.df_damage.specs.Unrefused.{IsNotRefusedAs}
@@ -31,19 +31,19 @@ pub record OpensAsLeftAs (version : ℕ) (file : DataFile) (view : View) (t : To
 abbrev pub OpensAsLeft : DataFile → View → Told → Type 0
 OpensAsLeft file view t = OpensAsLeftAs 2 file view t
 
--- a file at rest of which at most two superblock copies are hurt, and nothing else, is opened as it was left
+-- a file that had four equal superblock copies, of which at most two are hurt, and nothing else, is opened as it was left
 abbrev pub TwoCopiesAreEnough : Type 0
 TwoCopiesAreEnough =
-    (version : ℕ) (file : DataFile) (view : View) (t : Told) → MayBeHurtAs version file view t → IsUnspent version view → IsAtRest file t.log → HasTwoCopies t → IsHurtInside file.layout t Superblock → OpensAsLeftAs version file view t
+    (version : ℕ) (file : DataFile) (view : View) (t : Told) → MayBeHurtAs version file view t → IsUnspent version view → HasEqualCopies file t.log → HasTwoCopies t → IsHurtInside file.layout t Superblock → OpensAsLeftAs version file view t
 
--- so is one of which header sectors alone are hurt, at rest or not
+-- so is one of which header sectors alone are hurt, whether its copies were equal or not
 abbrev pub HeadersMayBeHurt : Type 0
 HeadersMayBeHurt = (version : ℕ) (file : DataFile) (view : View) (t : Told) → MayBeHurtAs version file view t → IsUnspent version view → IsHurtInside file.layout t WalHeaders → OpensAsLeftAs version file view t
 
--- at rest, with at most two copies and any other sectors hurt, a state that is found has the file's checkpoint
+-- of four equal copies, with at most two and any other sectors hurt, a state that is found has the file's checkpoint
 abbrev pub CheckpointStays : Type 0
 CheckpointStays =
-    (version : ℕ) (file : DataFile) (view : View) (t : Told) (s : State) → MayBeHurtAs version file view t → IsAtRest file t.log → HasTwoCopies t → (is : IsOpenedAs version file.layout t.shown s) → (is.view.checkpoint ≡ view.checkpoint)
+    (version : ℕ) (file : DataFile) (view : View) (t : Told) (s : State) → MayBeHurtAs version file view t → HasEqualCopies file t.log → HasTwoCopies t → (is : IsOpenedAs version file.layout t.shown s) → (is.view.checkpoint ≡ view.checkpoint)
 
 -- the tail has the prepare of each header of the ring whose op is above the checkpoint
 abbrev pub HasEachHeader : DataFile → Told → View → Type 0

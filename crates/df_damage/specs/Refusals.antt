@@ -16,7 +16,7 @@ use Rattle.df_recovery.specs.Found.{IsLayoutShownAs}
 use Rattle.df_recovery.specs.Opening.{RefusesAs}
 use Rattle.df_recovery.specs.Surveys.{SurveysAs}
 use Rattle.df_recovery.specs.Below.{DataFile, shape}
-use Rattle.df_damage.specs.Disks.{IsAtRest, MayBeHurtAs}
+use Rattle.df_damage.specs.Disks.{HasEqualCopies, MayBeHurtAs}
 use Rattle.df_damage.specs.Hurt.{HasTwoCopies, IsHurtFile, IsHurtPlace}
 use Rattle.df_damage.specs.Versions.{IsUnspent}
 
@@ -54,11 +54,11 @@ SuperblockIsHurt =
     (version : ℕ) (file : DataFile) (view : View) (t : Told) (e : OpenError) → MayBeHurtAs version file view t → SurveysAs version file.layout t.shown (Err e) → NamesSuperblock e
     → (n : ℕ) × IsHurtPlace file.layout t (CopyPlace n)
 
--- what a look at the copies answers, before there are rooms: the file's layout, or a refusal that is of damage, and none at rest while two copies stand
+-- what a look at the copies answers, before there are rooms: the file's layout, or a refusal that is of damage, and none where the four copies were equal and two stand
 pub record ProbesHurt (version : ℕ) (file : DataFile) (t : Told) : Type 0 where
   pub layout : (shown : Layout) → IsLayoutShownAs version t.shown shown → shown ≡ file.layout
   pub refused : (e : OpenError) → RefusesAs version t.shown e → MayBeOfDamage e × IsHurtFile file.layout t
-  pub usable : IsAtRest file t.log → HasTwoCopies t → (e : OpenError) → RefusesAs version t.shown e → ⊥
+  pub usable : HasEqualCopies file t.log → HasTwoCopies t → (e : OpenError) → RefusesAs version t.shown e → ⊥
 
 abbrev pub ProbeIsOfHurt : Type 0
 ProbeIsOfHurt = (version : ℕ) (file : DataFile) (view : View) (t : Told) → MayBeHurtAs version file view t → ProbesHurt version file t
@@ -80,20 +80,20 @@ pub record LacksLater (file : DataFile) (view : View) (t : Told) (k : ℕ) : Typ
   pub hurt : IsHurtPlace file.layout t (PreparePlace (lost.header.op % file.layout.slots))
 
 -- what is blamed is hurt: a block, the slot of a prepare, that of a reply or one of a later prepare of its client; never a copy or a header
-abbrev pub IsBlamed : DataFile → View → Told → Zone → ℕ → Type 0
-IsBlamed file view t Superblock n = ⊥
-IsBlamed file view t WalHeaders s = ⊥
-IsBlamed file view t WalPrepares s = IsHurtPlace file.layout t (PreparePlace s)
-IsBlamed file view t ClientReplies k = IsHurtPlace file.layout t (ReplyPlace k) ⊎ LacksLater file view t k
-IsBlamed file view t Grid a = IsHurtPlace file.layout t (BlockPlace a)
+abbrev pub IsBlamedPlace : DataFile → View → Told → Zone → ℕ → Type 0
+IsBlamedPlace file view t Superblock n = ⊥
+IsBlamedPlace file view t WalHeaders s = ⊥
+IsBlamedPlace file view t WalPrepares s = IsHurtPlace file.layout t (PreparePlace s)
+IsBlamedPlace file view t ClientReplies k = IsHurtPlace file.layout t (ReplyPlace k) ⊎ LacksLater file view t k
+IsBlamedPlace file view t Grid a = IsHurtPlace file.layout t (BlockPlace a)
 
--- the refusals of a file at rest: a place alone is named, and what is blamed is hurt
+-- the refusals of a file whose four copies were equal: a place alone is named, and what is blamed is hurt
 abbrev pub BlamesHurt : DataFile → View → Told → OpenError → Type 0
-BlamesHurt file view t (Damaged place class) = IsBlamed file view t place.zone place.index
+BlamesHurt file view t (Damaged place class) = IsBlamedPlace file view t place.zone place.index
 BlamesHurt file view t e = ⊥
 
--- at rest, with at most two superblock copies hurt, no other refusal comes
+-- of four equal superblock copies, with at most two hurt, no other refusal comes
 abbrev pub RefusalsBlameHurt : Type 0
 RefusalsBlameHurt =
-    (version : ℕ) (file : DataFile) (view : View) (t : Told) (e : OpenError) → MayBeHurtAs version file view t → IsUnspent version view → IsAtRest file t.log → HasTwoCopies t → SurveysAs version file.layout t.shown (Err e)
+    (version : ℕ) (file : DataFile) (view : View) (t : Told) (e : OpenError) → MayBeHurtAs version file view t → IsUnspent version view → HasEqualCopies file t.log → HasTwoCopies t → SurveysAs version file.layout t.shown (Err e)
     → (e ≡ DiskFault → ⊥) → BlamesHurt file view t e

@@ -11,7 +11,7 @@ use Rattle.df_recovery.specs.Below.{shape, DataFile}
 use Rattle.df_theory.specs.Found.{IsFound}
 use Rattle.df_theory.specs.View.{View}
 use Rattle.df_units.specs.Bytes.{unit_at}
-use Rattle.df_damage.specs.Versions.{IsKnown, IsUnspent}
+use Rattle.df_damage.specs.Versions.{IsKnownVersion, IsUnspent}
 
 -- no step of an open that asks for this version refuses the image: its superblock can be used and names the file's layout, and with rooms of that each error is the disk's
 pub record IsNotRefusedAs (version : ℕ) (file : DataFile) (image : Image) : Type 0 where
@@ -26,5 +26,5 @@ IsNotRefused file image = IsNotRefusedAs 2 file image
 -- an image in which a view is found, whatever was done to it, isn't refused, where the version of its file is asked for and its boot can be raised
 abbrev pub FoundIsNotRefused : Type 0
 FoundIsNotRefused =
-    (version : ℕ) (file : DataFile) (image : Image) (view : View) → IsKnown version → file.version ≡ version → IsUnspent version view → IsImage image → IsFound (shape file) (unit_at file.layout file.cluster image) view
+    (version : ℕ) (file : DataFile) (image : Image) (view : View) → IsKnownVersion version → file.version ≡ version → IsUnspent version view → IsImage image → IsFound (shape file) (unit_at file.layout file.cluster image) view
     → IsNotRefusedAs version file image

@@ -3,8 +3,8 @@ use Rattle.std.specs.Prelude.{◌≡◌, ◌⊎◌, ◌<◌, ◌^◌, ℕ}
 use Rattle.df_theory.specs.View.{View, boot_of}
 
 -- a version that an open may ask for
-abbrev pub IsKnown : ℕ → Type 0
-IsKnown version = (version ≡ 1) ⊎ (version ≡ 2)
+abbrev pub IsKnownVersion : ℕ → Type 0
+IsKnownVersion version = (version ≡ 1) ⊎ (version ≡ 2)
 
 -- an open may take this view once more, since its boot can be raised; in version 1 there is no boot
 abbrev pub IsUnspent : ℕ → View → Type 0

@@ -7,7 +7,7 @@ pub fn found_state_was_had()
     ensures { FoundWasHad }
 {}
 
-/// A file at rest of which at most two superblock copies are hurt, and nothing else, is opened as it was left.
+/// A file that had four equal superblock copies, of which at most two are hurt, and nothing else, is opened as it was left.
 pub fn two_copies_are_enough()
     ensures { TwoCopiesAreEnough }
 {}
@@ -17,7 +17,7 @@ pub fn headers_are_not_needed()
     ensures { HeadersMayBeHurt }
 {}
 
-/// At rest, while at most two superblock copies are hurt, what an open finds has the checkpoint of the file.
+/// Where the four superblock copies were equal and at most two are hurt, what an open finds has the checkpoint of the file.
 pub fn checkpoint_stays()
     ensures { CheckpointStays }
 {}

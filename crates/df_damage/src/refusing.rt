@@ -9,7 +9,7 @@ pub fn refusals_are_of_damage()
     ensures spent { SpentIsTheFiles }
 {}
 
-/// At rest, while at most two superblock copies are hurt, each refusal names a place that is hurt; and at any time the superblock is
+/// Where the four superblock copies were equal and at most two are hurt, each refusal names a place that is hurt; and always the superblock is
 /// named only where a copy of it is.
 pub fn refusals_blame_what_is_hurt()
     ensures rest { RefusalsBlameHurt }

@@ -12,7 +12,7 @@ use Rattle.df_layout.specs.declared.damage.Class.TheVariants.{Blank, Elsewhere, 
 use Rattle.df_layout.specs.declared.places.Zone.TheVariants.{Superblock}
 use Rattle.df_format.specs.Own.{place_in}
 use Rattle.df_format.specs.declared.superblock.SuperCopy.{SuperCopy}
-use Rattle.df_format.specs.Copies.{copy_in, if_here, copy_at, content_of, is_blank_copy, class_of_sound, class_of_copy, copy_or_class, own_copy}
+use Rattle.df_format.specs.Copies.{copy_in, if_here, copy_at, content_in_copy, is_blank_copy, class_of_sound, class_of_copy, copy_or_class, own_copy}
 use Rattle.df_format.specs.CopyLaws.{ValidCopyIsStale, StaleIsCopy, BlankShowsNoCopy}
 use Rattle.df_format.proofs.Digest.{check_of-zeros}
 use Rattle.df_format.proofs.CopySpelled.{read_as}
@@ -77,7 +77,7 @@ pub blank_copy_none : BlankShowsNoCopy
 unfolding copy_at
 blank_copy_none number =
     let none : copy_in (blank number) ≡ None = no_some _ (λ copy is. both_ways _ (copy_is_not_blank (blank number) copy is) (blank_is_blank number)) in
-    ap (λ (o : Option SuperCopy). content_of (if_here number o)) none
+    ap (λ (o : Option SuperCopy). content_in_copy (if_here number o)) none
 
 -- what a sector shows at a copy's place that is another copy
 pub copy_elsewhere : (number : ℕ) (bytes : List ℕ) (copy : SuperCopy) (class : Class) → Some copy ≡ copy_in bytes → copy.number ≢ number → class ≡ Elsewhere (place_in Superblock copy.number)

@@ -9,7 +9,7 @@ use Rattle.df_format.specs.declared.superblock.SuperCopy.{SuperCopy}
 use Rattle.df_format.specs.declared.superblock.SuperFields.{SuperFields}
 use Rattle.df_format.specs.Super.{NamesNone, covered_bytes, copy_bytes}
 use Rattle.df_format.specs.SuperRules.{IsSuper}
-use Rattle.df_format.specs.Copies.{copy_in, if_here, copy_at, content_of}
+use Rattle.df_format.specs.Copies.{copy_in, if_here, copy_at, content_in_copy}
 use Rattle.df_format.specs.CopyLaws.{WrittenCopyIsShown, OtherSectorsStay, OtherCopiesStay, CopyIsOneSector, SameSectorSameCopy}
 use Rattle.df_format.proofs.Sectors.{covered, uncovered_above, uncovered_below}
 use Rattle.df_format.proofs.CopySpelled.{copy_is_sector, copy_is_read}
@@ -33,7 +33,7 @@ written_beside at bytes image sector size other = elim (cases_order sector at) [
 
 pub same_copy : SameSectorSameCopy
 unfolding copy_at
-same_copy one two number same = ap (λ (bytes : List ℕ). content_of (if_here number (copy_in bytes))) same
+same_copy one two number same = ap (λ (bytes : List ℕ). content_in_copy (if_here number (copy_in bytes))) same
 
 pub one_sector : CopyIsOneSector
 one_sector number f fits =
@@ -47,8 +47,8 @@ pub other_copies : OtherCopiesStay
 other_copies image number other f differs fits = same_copy _ image other (other_sectors image number other f differs fits)
 
 -- a sector that is a copy's shows its content at the copy's place
-shown_by : (number : ℕ) (copy : SuperCopy) → copy.number ≡ number → content_of (if_here number (Some copy)) ≡ Some (record { checksum = copy.checksum; fields = copy.fields })
-shown_by number copy here = ap content_of (cond-true (copy.number == number) (Some copy) None (eq-eqb copy.number number here))
+shown_by : (number : ℕ) (copy : SuperCopy) → copy.number ≡ number → content_in_copy (if_here number (Some copy)) ≡ Some (record { checksum = copy.checksum; fields = copy.fields })
+shown_by number copy here = ap content_in_copy (cond-true (copy.number == number) (Some copy) None (eq-eqb copy.number number here))
 
 -- a superblock of version 1 names nothing
 nameless_unless_second : (f : SuperFields) → IsSuper f → f.version ≢ 2 → NamesNone f
@@ -59,6 +59,6 @@ unfolding copy_at
 written_copy image number f small is =
     let here = written_here number (copy_bytes number f) image (copy_is_sector number f is.fits).size in
     let read = copy_is_read number f small is.fits (nameless_unless_second f is.rules) is.rules.zero in
-    ap (λ (bytes : List ℕ). content_of (if_here number (copy_in bytes))) here
-    ∙ ap (λ (o : Option SuperCopy). content_of (if_here number o)) read
+    ap (λ (bytes : List ℕ). content_in_copy (if_here number (copy_in bytes))) here
+    ∙ ap (λ (o : Option SuperCopy). content_in_copy (if_here number o)) read
     ∙ shown_by number (record { number = number; checksum = check_of (covered_bytes f); fields = f }) refl

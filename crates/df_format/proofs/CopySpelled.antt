@@ -14,7 +14,7 @@ use Rattle.df_format.specs.Spelling.{no_checksum}
 use Rattle.df_base.specs.Text.{AreSo, Fit, AreRead}
 use Rattle.df_format.specs.Super.{AreChecks, FitsSuper, NamesNone, checks_bytes, fields, named, named_bytes, covered_bytes, front, copy_with, copy_bytes}
 use Rattle.df_format.specs.Copies.{nonzero_between, first_nonzero_of, checks_at, super_fields_of, has_checksum, has_zeros, is_copy, copy_in}
-use Rattle.df_format.specs.CopyLaws.{IsWritten, CopiesHaveOneSpelling, NamelessEndsInZeros}
+use Rattle.df_format.specs.CopyLaws.{IsWrittenCopy, CopiesHaveOneSpelling, NamelessEndsInZeros}
 use Rattle.df_base.proofs.Laws.{so_none, so_many_zeros, so_check, so_text, behind, read_back, spelled_back, fit_back}
 use Rattle.df_format.proofs.Checks.{so_many_checks, checks_zero, length-checks_at, are_checks, checks_read, read_checks, none_at}
 use Rattle.df_format.proofs.CopyParts.{zeros_within, neither, nothing_between}
@@ -217,16 +217,16 @@ fields_none : (bytes : List ℕ) → (super_fields_of bytes).first_nonzero ≡ f
 unfolding super_fields_of
 fields_none bytes = refl
 
-pub was_written : (bytes : List ℕ) (copy : SuperCopy) → IsSector bytes → copy.fields.first_nonzero ≡ None → copy_in bytes ≡ Some copy → IsWritten copy × (bytes ≡ copy_bytes copy.number copy.fields)
+pub was_written : (bytes : List ℕ) (copy : SuperCopy) → IsSector bytes → copy.fields.first_nonzero ≡ None → copy_in bytes ≡ Some copy → IsWrittenCopy copy × (bytes ≡ copy_bytes copy.number copy.fields)
 was_written bytes copy sector none is =
     let read = read_as bytes copy is in
     let here : first_nonzero_of (field_at 4 32 bytes) bytes ≡ None = sym (fields_none bytes) ∙ ap (λ (c : SuperCopy). c.fields.first_nonzero) read.is ∙ none in
     let covered = is_covered bytes sector read.sum read.rest here in
-    let all : IsWritten (record { number = field_at 4 16 bytes; checksum = take 16 bytes; fields = super_fields_of bytes }) × (bytes ≡ copy_bytes (field_at 4 16 bytes) (super_fields_of bytes)) = (
+    let all : IsWrittenCopy (record { number = field_at 4 16 bytes; checksum = take 16 bytes; fields = super_fields_of bytes }) × (bytes ≡ copy_bytes (field_at 4 16 bytes) (super_fields_of bytes)) = (
       record { number = read.number; fits = found_fits bytes sector read.sum read.rest here; named = none_named bytes sector read.sum read.rest here; checksum = read.sum ∙ ap check_of covered },
       is_all bytes sector read.sum read.rest here,
     ) in
-    subst (λ (c : SuperCopy). IsWritten c × (bytes ≡ copy_bytes c.number c.fields)) read.is all
+    subst (λ (c : SuperCopy). IsWrittenCopy c × (bytes ≡ copy_bytes c.number c.fields)) read.is all
 
 with_checksum : (copy : SuperCopy) → copy.checksum ≡ check_of (covered_bytes copy.fields) → record { number = copy.number; checksum = check_of (covered_bytes copy.fields); fields = copy.fields } ≡ copy
 with_checksum copy is i = record { number = copy.number; checksum = sym is i; fields = copy.fields }

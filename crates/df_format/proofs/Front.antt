@@ -6,7 +6,7 @@ use Rattle.df_base.specs.Fields.{check_of}
 use Rattle.df_layout.specs.declared.places.Zone.{Zone}
 use Rattle.df_layout.specs.declared.places.Zone.TheVariants.{WalHeaders}
 use Rattle.df_format.specs.declared.header.Header.{Header}
-use Rattle.df_format.specs.Message.{sectors_of, unit_of}
+use Rattle.df_format.specs.Message.{sectors_of, unit_bytes}
 use Rattle.df_format.specs.Reading.{header_in}
 use Rattle.df_format.specs.Whole.{body_in, has_body}
 use Rattle.df_format.specs.Brings.{FrontBrings, MadeBrings}
@@ -48,5 +48,5 @@ pub made_brings : MadeBrings
 unfolding sectors_of
 made_brings layout cluster place u other is = record {
   for = sectors_for_place layout cluster place u other is;
-  read = λ rest. begun_is_shown layout cluster place (sectors_of u ++ rest) u (record { is = is; rest = _; spelled = append_assoc (unit_of u) _ rest });
+  read = λ rest. begun_is_shown layout cluster place (sectors_of u ++ rest) u (record { is = is; rest = _; spelled = append_assoc (unit_bytes u) _ rest });
 }

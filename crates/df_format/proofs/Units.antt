@@ -17,7 +17,7 @@ use Rattle.df_layout.proofs.Laws.{are_apart, some_sectors}
 use Rattle.df_format.specs.declared.header.Header.{Header}
 use Rattle.df_format.specs.Spelling.{spelling}
 use Rattle.df_format.specs.Rules.{IsSealed}
-use Rattle.df_format.specs.Message.{Message, unit_of, sectors_of}
+use Rattle.df_format.specs.Message.{Message, unit_bytes, sectors_of}
 use Rattle.df_format.specs.Own.{place_in, own_place}
 use Rattle.df_format.specs.Shown.{part_in, bytes_of, unit_in, class_of, unit_at, class_at}
 use Rattle.df_format.specs.Valid.{IsBodyOf, HasBody, IsUnit}
@@ -120,7 +120,7 @@ written_shown layout cluster image place u other whole is =
     let span = span_of layout place in
     let begun = written_begins span.first (sectors_of u) image span.count (sectors_fit layout cluster place u other is) in
     let all = part_whole place.zone place.index (bytes_at (written span.first (sectors_of u) image) span.first span.count) other ∙ begun.1 in
-    begun_is_shown layout cluster place _ u (record { is = is; rest = _; spelled = all ∙ append_assoc (unit_of u) _ begun.0 })
+    begun_is_shown layout cluster place _ u (record { is = is; rest = _; spelled = all ∙ append_assoc (unit_bytes u) _ begun.0 })
 
 -- a write that fits a place covers no sector of another
 uncovered : (layout : Layout) (place other : Place) (bytes : List ℕ) → HasPlace layout place → IsOther layout place other → length bytes ≤ 4096 * (span_of layout place).count

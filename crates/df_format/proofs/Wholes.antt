@@ -26,7 +26,7 @@ use Rattle.df_format.specs.Message.{Message}
 use Rattle.df_format.specs.Own.{own_place}
 use Rattle.df_format.specs.Whole.{Whole, greatest_size, body_in, has_body, is_unit, with_own, if_unit, whole_in}
 use Rattle.df_format.specs.Shown.{same_place, if_own, unit_in, unit_at, bytes_of, is_blank, class_of_whole, class_of, class_at}
-use Rattle.df_format.specs.Valid.{IsBodyOf, HasBody, Begins}
+use Rattle.df_format.specs.Valid.{IsBodyOf, HasBody, BeginsWithUnit}
 use Rattle.df_format.specs.UnitLaws.{place_size, UnitsHaveOneSpelling, BodyFollows, RingHasNoBody, ValidIsStale, StaleIsValid, ElsewhereIsOther}
 use Rattle.df_format.proofs.Spelled.{read_as, reads, was_spelled, length-spelling}
 use Rattle.df_format.proofs.Owned.{own_is, same_place-true, same_place-self}
@@ -152,7 +152,7 @@ module _ (layout : Layout) (cluster : ℕ) (place : Place) (bytes : List ℕ) (u
       let least = length-take-le 256 bytes (omega (arith, size, least_size layout place.zone)) in
       was_spelled (take 256 bytes) u.header least (AreBytes-take 256 bytes are) (read_as _ _ is.header)
 
-  begins : Begins layout cluster place bytes u
+  begins : BeginsWithUnit layout cluster place bytes u
   begins =
       let rest = body_rest place.zone u.header.size bytes in
       let sealed : IsSealed u.header = was.0 in
@@ -178,7 +178,7 @@ body_found WalHeaders h body rest bytes behind is = (refl, sym is)
 body_found _ h body rest bytes behind is = body_back h body rest bytes behind is
 
 -- bytes that begin with a unit show it
-pub begun_is_shown : (layout : Layout) (cluster : ℕ) (place : Place) (bytes : List ℕ) (u : Message) → Begins layout cluster place bytes u → unit_in layout cluster place bytes ≡ Some u
+pub begun_is_shown : (layout : Layout) (cluster : ℕ) (place : Place) (bytes : List ℕ) (u : Message) → BeginsWithUnit layout cluster place bytes u → unit_in layout cluster place bytes ≡ Some u
 begun_is_shown layout cluster place bytes u begun =
     let is = begun.is in
     let long = length-spelling u.header is.sealed in

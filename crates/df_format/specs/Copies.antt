@@ -80,21 +80,21 @@ pub record Content : Type 0 where
   pub checksum : List ℕ
   pub fields : SuperFields
 
-abbrev pub content_of : Option SuperCopy → Option Content
-content_of None = None
-content_of (Some copy) = Some (record { checksum = copy.checksum; fields = copy.fields })
+abbrev pub content_in_copy : Option SuperCopy → Option Content
+content_in_copy None = None
+content_in_copy (Some copy) = Some (record { checksum = copy.checksum; fields = copy.fields })
 
 -- the content that an image shows at a copy's place
 abbrev pub content_at : Image → ℕ → Option Content
-content_at image number = content_of (copy_at image number)
+content_at image number = content_in_copy (copy_at image number)
 
 -- the content that copies of these fields are written with
 abbrev pub content_with : SuperFields → Content
 content_with f = record { checksum = check_of (covered_bytes f); fields = f }
 
 -- the order of contents, whatever their version: by sequence, and by boot where these are equal; a boot is below 2^64
-abbrev pub rank_of : Content → ℕ
-rank_of c = 18446744073709551616 * c.fields.sequence + c.fields.boot
+abbrev pub rank_of_copy : Content → ℕ
+rank_of_copy c = 18446744073709551616 * c.fields.sequence + c.fields.boot
 
 -- all bytes of the sector are zero, as one that was never written shows
 unfoldable pub is_blank_copy : List ℕ → Bool

@@ -10,7 +10,7 @@ use Rattle.df_format.specs.declared.superblock.SuperFields.{SuperFields}
 use Rattle.df_format.specs.declared.superblock.SuperCopy.{SuperCopy}
 
 -- a copy as it is written: one of the four, with the checksum that its fields give, and zeros where its version has no fields
-pub record IsWritten (copy : SuperCopy) : Type 0 where
+pub record IsWrittenCopy (copy : SuperCopy) : Type 0 where
   pub number : copy.number < 4
   pub fits : FitsSuper copy.fields
   pub named : copy.fields.version ≢ 2 → NamesNone copy.fields
@@ -20,7 +20,7 @@ pub record IsWritten (copy : SuperCopy) : Type 0 where
 abbrev pub CopiesHaveOneSpelling : Type 0
 CopiesHaveOneSpelling =
     (bytes : List ℕ) (copy : SuperCopy) → IsSector bytes → copy.fields.first_nonzero ≡ None
-    → (copy_in bytes ≡ Some copy) ↔ (IsWritten copy × (bytes ≡ copy_bytes copy.number copy.fields))
+    → (copy_in bytes ≡ Some copy) ↔ (IsWrittenCopy copy × (bytes ≡ copy_bytes copy.number copy.fields))
 
 -- after its boot a copy that names nothing ends in zeros
 abbrev pub NamelessEndsInZeros : Type 0

@@ -9,8 +9,8 @@ pub record Message : Type 0 where
   pub body : List ℕ
 
 -- the bytes of a whole unit
-abbrev pub unit_of : Message → List ℕ
-unit_of u = spelling u.header ++ u.body
+abbrev pub unit_bytes : Message → List ℕ
+unit_bytes u = spelling u.header ++ u.body
 
 -- how many bytes of whole sectors n bytes cover
 abbrev pub sectors_end : ℕ → ℕ
@@ -18,4 +18,4 @@ sectors_end n = 4096 * ((n + 4095) / 4096)
 
 -- the whole sectors of a unit, filled with zeros
 unfoldable pub sectors_of : Message → List ℕ
-sectors_of u = unit_of u ++ replicate (sectors_end (256 + length u.body) - (256 + length u.body)) 0
+sectors_of u = unit_bytes u ++ replicate (sectors_end (256 + length u.body) - (256 + length u.body)) 0

@@ -2,7 +2,7 @@
 use Rattle.std.specs.Prelude.{◌≡◌, ◌≢◌, ◌↔◌, ◌⊎◌, ◌<◌, ◌≤◌, ◌+◌, ◌*◌, ◌/◌, ◌%◌, ◌^◌, ◌==◌, ◌&&◌, ◌||◌, ℕ, Bool, not, nat_le, nat_lt, is_none, if◌then◌else◌, List, [], ◌∷◌, ◌++◌, drop, position, option_map, Option, Some, None}
 use Rattle.std.specs.Str.{bytes_eq}
 use Rattle.df_base.specs.Fields.{field_at}
-use Rattle.df_layout.specs.Limits.{AreWithin}
+use Rattle.df_layout.specs.Limits.{AreWithinLimits}
 use Rattle.df_layout.specs.declared.fields.Field.{Field}
 use Rattle.df_layout.specs.declared.fields.Field.TheVariants.{Slots, MessageSize, Clients, BlockSize, Blocks, Cluster, Sequence, Op, OpChecksum, Head, Replies, TrailerAddress, TrailerChecksum, TrailerSize, Boot, Zero}
 use Rattle.df_format.specs.Spelling.{no_checksum}
@@ -33,7 +33,7 @@ pub record IsSecondSuper (f : SuperFields) : Type 0 where
 -- replies in order, a trailer where there is a checkpoint, and zeros where its version has no fields.
 pub record IsSuper (f : SuperFields) : Type 0 where
   pub version : IsFirstSuper f ⊎ IsSecondSuper f
-  pub layout : AreWithin f.slots f.message_size f.clients f.block_size f.blocks
+  pub layout : AreWithinLimits f.slots f.message_size f.clients f.block_size f.blocks
   pub cluster : 0 < f.cluster
   pub sequence : (0 < f.sequence) × (f.sequence ≤ 2 ^ 62)
   pub op : f.op ≤ 2 ^ 62

@@ -18,7 +18,7 @@ use Rattle.df_format.specs.Message.{Message, sectors_of}
 use Rattle.df_format.specs.Own.{place_in, own_place}
 use Rattle.df_format.specs.Whole.{greatest_size}
 use Rattle.df_format.specs.Shown.{part_in, unit_in, class_of, unit_at, class_at}
-use Rattle.df_format.specs.Valid.{IsUnit, Begins, Belongs}
+use Rattle.df_format.specs.Valid.{IsUnit, BeginsWithUnit, Belongs}
 
 -- 256 bytes are read as a header exactly where it is sealed and they are its spelling
 abbrev pub HeadersHaveOneSpelling : Type 0
@@ -37,7 +37,7 @@ place_size layout zone = 4096 * place_sectors layout zone
 abbrev pub UnitsHaveOneSpelling : Type 0
 UnitsHaveOneSpelling =
     (layout : Layout) (cluster : ℕ) (place : Place) (bytes : List ℕ) (u : Message) → length bytes ≡ place_size layout place.zone → AreBytes bytes
-    → (unit_in layout cluster place bytes ≡ Some u) ↔ Begins layout cluster place bytes u
+    → (unit_in layout cluster place bytes ≡ Some u) ↔ BeginsWithUnit layout cluster place bytes u
 
 -- a place that shows a unit is one of the layout, and the unit's header says that it belongs there
 pub record IsAtPlace (layout : Layout) (place : Place) (u : Message) : Type 0 where
@@ -87,13 +87,13 @@ abbrev pub AgreeAt : Layout → Place → Image → Image → Type 0
 AgreeAt layout place one two = (k : ℕ) → k < (span_of layout place).count → one ((span_of layout place).first + k) ≡ two ((span_of layout place).first + k)
 
 -- two images show the same at a place
-pub record ShowSame (layout : Layout) (cluster : ℕ) (place : Place) (one two : Image) : Type 0 where
+pub record ShowSameAt (layout : Layout) (cluster : ℕ) (place : Place) (one two : Image) : Type 0 where
   pub unit : unit_at layout cluster one place ≡ unit_at layout cluster two place
   pub class : class_at layout cluster one place ≡ class_at layout cluster two place
 
 -- what a place shows depends on its own sectors alone
 abbrev pub SameIsShown : Type 0
-SameIsShown = (layout : Layout) (cluster : ℕ) (place : Place) (one two : Image) → AgreeAt layout place one two → ShowSame layout cluster place one two
+SameIsShown = (layout : Layout) (cluster : ℕ) (place : Place) (one two : Image) → AgreeAt layout place one two → ShowSameAt layout cluster place one two
 
 -- elsewhere than in the header ring the sectors of a place, as they are read, are what it shows
 abbrev pub ReadIsShown : Type 0
@@ -130,7 +130,7 @@ pub record IsOther (layout : Layout) (place other : Place) : Type 0 where
 abbrev pub WrittenIsApart : Type 0
 WrittenIsApart =
     (layout : Layout) (cluster : ℕ) (image : Image) (place other : Place) (bytes : List ℕ) → HasPlace layout place → IsOther layout place other
-    → length bytes ≤ 4096 * (span_of layout place).count → ShowSame layout cluster other (put layout place bytes image) image
+    → length bytes ≤ 4096 * (span_of layout place).count → ShowSameAt layout cluster other (put layout place bytes image) image
 
 -- a header sector that is written shows at each of its sixteen slots what its part of the bytes says
 abbrev pub SectorIsShown : Type 0
@@ -163,15 +163,15 @@ abbrev pub BlankShowsNone : Type 0
 BlankShowsNone = (layout : Layout) (cluster : ℕ) (place : Place) → (unit_at layout cluster blank place ≡ None) × (class_at layout cluster blank place ≡ Blank)
 
 -- no sector of a place was written since the last sync or stop
-abbrev pub IsQuiet : Layout → Log → Place → Type 0
-IsQuiet layout log place = (k : ℕ) → k < (span_of layout place).count → loose log ((span_of layout place).first + k) ≡ false
+abbrev pub IsQuietPlace : Layout → Log → Place → Type 0
+IsQuietPlace layout log place = (k : ℕ) → k < (span_of layout place).count → loose log ((span_of layout place).first + k) ≡ false
 
 -- what a stop within a write to one place leaves shows at every other quiet place what was there
 abbrev pub LeftIsApart : Type 0
 LeftIsApart =
     (layout : Layout) (cluster : ℕ) (log : Log) (image : Image) (place other : Place) (bytes : List ℕ) → HasPlace layout place → IsOther layout place other
-    → length bytes ≤ 4096 * (span_of layout place).count → IsQuiet layout log other → IsLeft (add (Write (span_of layout place).first bytes) log) image
-    → ShowSame layout cluster other image (now log)
+    → length bytes ≤ 4096 * (span_of layout place).count → IsQuietPlace layout log other → IsLeft (add (Write (span_of layout place).first bytes) log) image
+    → ShowSameAt layout cluster other image (now log)
 
 -- a unit that was made is valid at its own place, where it fits that; in the header ring it has no body
 abbrev pub MadeIsUnit : Message → Type 0

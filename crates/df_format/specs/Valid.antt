@@ -8,7 +8,7 @@ use Rattle.df_layout.specs.declared.places.Zone.TheVariants.{Superblock, WalHead
 use Rattle.df_format.specs.declared.header.Header.{Header}
 use Rattle.df_format.specs.declared.kind.Kind.TheVariants.{Reserved, Prepare, Reply, Block, Trailer}
 use Rattle.df_format.specs.Rules.{IsSealed}
-use Rattle.df_format.specs.Message.{Message, unit_of}
+use Rattle.df_format.specs.Message.{Message, unit_bytes}
 use Rattle.df_format.specs.Own.{own_place}
 use Rattle.df_format.specs.Whole.{greatest_size}
 
@@ -33,10 +33,10 @@ pub record IsUnit (layout : Layout) (cluster : ℕ) (place : Place) (u : Message
   pub own : own_place layout place.zone u.header ≡ Some place
 
 -- the bytes of a place begin with a unit that is valid there
-pub record Begins (layout : Layout) (cluster : ℕ) (place : Place) (bytes : List ℕ) (u : Message) : Type 0 where
+pub record BeginsWithUnit (layout : Layout) (cluster : ℕ) (place : Place) (bytes : List ℕ) (u : Message) : Type 0 where
   pub is : IsUnit layout cluster place u
   pub rest : List ℕ
-  pub spelled : bytes ≡ unit_of u ++ rest
+  pub spelled : bytes ≡ unit_bytes u ++ rest
 
 -- a prepare's header belongs in the slot of its op
 pub record IsInSlot (layout : Layout) (index : ℕ) (h : Header) : Type 0 where

@@ -4,16 +4,16 @@ use Rattle.std.specs.Prelude.{slice_index, sum_by, count_ones}
 use Rattle.std.specs.Global.{Vec}
 use Rattle.std.specs.Vec.{with_items}
 use Rattle.std.proofs.lemmas.List.{with_items_is, length-set, get_or_read}
-use Rattle.df_freeset.specs.Addresses.{HasAddress, free_of}
+use Rattle.df_freeset.specs.Addresses.{SetHasAddress, count_free}
 use Rattle.df_freeset.specs.Bits.{IsRoom, taken_in, setting, clearing}
 use Rattle.df_freeset.proofs.Counts.{free_and_ones}
 use Rattle.df_freeset.proofs.Words.{length_taken, taken_written, set_writes, clear_writes, word_inside}
 
 -- the bit of an address of the set is one of the room's
-pub bit_below : (words : List ℕ) (n : ℕ) (now : List Bool) (address : ℕ) → taken_in words n ≡ now → HasAddress now address → address - 1 < n
+pub bit_below : (words : List ℕ) (n : ℕ) (now : List Bool) (address : ℕ) → taken_in words n ≡ now → SetHasAddress now address → address - 1 < n
 bit_below words n now address view has = omega (arith, length_taken words n, ap length view)
 
-pub word_there : (words : List ℕ) (n : ℕ) (now : List Bool) (address : ℕ) → IsRoom words n → taken_in words n ≡ now → HasAddress now address → (address - 1) / 64 < length words
+pub word_there : (words : List ℕ) (n : ℕ) (now : List Bool) (address : ℕ) → IsRoom words n → taken_in words n ≡ now → SetHasAddress now address → (address - 1) / 64 < length words
 word_there words n now address room view has = word_inside words n (address - 1) room (bit_below words n now address view has)
 
 -- words that are written back into their room are its words
@@ -27,18 +27,18 @@ read_back room new k w word read is inside found =
     get_or_read (set room.items k word) w read (omega (arith, length-set room.items k word)) whole 0
 
 -- the list of taken addresses, as its callers see it, has this address taken, or given back
-pub taken_view : (words : List ℕ) (n : ℕ) (now : List Bool) (address : ℕ) → IsRoom words n → taken_in words n ≡ now → HasAddress now address
+pub taken_view : (words : List ℕ) (n : ℕ) (now : List Bool) (address : ℕ) → IsRoom words n → taken_in words n ≡ now → SetHasAddress now address
     → taken_in (setting words (address - 1)) n ≡ set now (address - 1) true
 taken_view words n now address room view has =
     let inside : address - 1 < n = bit_below words n now address view has in
     taken_written words (setting words (address - 1)) n (address - 1) true inside (set_writes words n (address - 1) room inside) ∙ ap (λ (all : List Bool). set all (address - 1) true) view
 
-pub given_view : (words : List ℕ) (n : ℕ) (now : List Bool) (address : ℕ) → IsRoom words n → taken_in words n ≡ now → HasAddress now address
+pub given_view : (words : List ℕ) (n : ℕ) (now : List Bool) (address : ℕ) → IsRoom words n → taken_in words n ≡ now → SetHasAddress now address
     → taken_in (clearing words (address - 1)) n ≡ set now (address - 1) false
 given_view words n now address room view has =
     let inside : address - 1 < n = bit_below words n now address view has in
     taken_written words (clearing words (address - 1)) n (address - 1) false inside (clear_writes words n (address - 1) room inside) ∙ ap (λ (all : List Bool). set all (address - 1) false) view
 
 -- the free ones are those that aren't counted
-pub free_left : (words : List ℕ) (n : ℕ) (now : List Bool) → IsRoom words n → taken_in words n ≡ now → free_of now + sum_by count_ones words ≡ n
-free_left words n now room view = subst (λ (all : List Bool). free_of all + sum_by count_ones words ≡ n) view (free_and_ones words n room)
+pub free_left : (words : List ℕ) (n : ℕ) (now : List Bool) → IsRoom words n → taken_in words n ≡ now → count_free now + sum_by count_ones words ≡ n
+free_left words n now room view = subst (λ (all : List Bool). count_free all + sum_by count_ones words ≡ n) view (free_and_ones words n room)

@@ -1,6 +1,6 @@
 // The free set over rooms that its owner lends: words of a bit for each address, and a summary of a bit for each full word.
 ghost use Rattle.std.specs.Prelude.{◌≡◌, ◌+◌, ◌-◌, ◌/◌, ◌↔◌, Bool, true, false, List, length, replicate, vec_len, slice_set, All, IsNone, IfSome};
-ghost use Rattle.df_freeset.specs.Addresses.{HasAddress, IsTaken, IsFree, IsLeastFree, AreAllTaken, free_of};
+ghost use Rattle.df_freeset.specs.Addresses.{SetHasAddress, IsTaken, IsFree, IsLeastFree, AreAllTaken, count_free};
 
 use crate::bits::{WORD, clear_bit, lowest_zero, ones_in, set_bit};
 use std::marker::Model;
@@ -56,9 +56,9 @@ impl FreeSet {
 
     /// Takes an address; one that is taken stays so.
     pub fn take(&mut self, address: u64)
-        requires { HasAddress self.old address }
+        requires { SetHasAddress self.old address }
         ensures taken { self.new ≡ slice_set self.old (address - 1) true }
-        ensures fewer { IsFree self.old address → free_of self.new + 1 ≡ free_of self.old }
+        ensures fewer { IsFree self.old address → count_free self.new + 1 ≡ count_free self.old }
     {
         let bit = address - 1;
         set_bit(&mut self.words, bit);
@@ -69,9 +69,9 @@ impl FreeSet {
 
     /// Gives an address back; one that is free stays so.
     pub fn give(&mut self, address: u64)
-        requires { HasAddress self.old address }
+        requires { SetHasAddress self.old address }
         ensures free { self.new ≡ slice_set self.old (address - 1) false }
-        ensures more { IsTaken self.old address → free_of self.new ≡ free_of self.old + 1 }
+        ensures more { IsTaken self.old address → count_free self.new ≡ count_free self.old + 1 }
     {
         let bit = address - 1;
         clear_bit(&mut self.words, bit);
@@ -95,7 +95,7 @@ impl FreeSet {
 
     /// How many addresses are free.
     pub fn free(&self) -> u64
-        ensures value { result ≡ free_of self.now }
+        ensures value { result ≡ count_free self.now }
         ensures none { (result ≡ 0) ↔ AreAllTaken self.now }
     {
         u64::from(self.blocks) - ones_in(&self.words)

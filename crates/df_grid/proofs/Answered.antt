@@ -3,7 +3,7 @@ use Rattle.std.proofs.Common.{◌≡◌, ℕ, zero, suc, ◌+◌, ◌<◌, ◌�
 use Rattle.std.specs.Prelude.{IfSome, slice_get}
 use Rattle.std.specs.List.{filter, range_with_len}
 use Rattle.df_model.specs.Blocks.{is_held_in}
-use Rattle.df_grid.specs.Grid.{GridState, IsUnheld, free_of}
+use Rattle.df_grid.specs.Grid.{GridState, IsUnheld, free_addresses}
 
 first_case : (held : ℕ → Bool) (s a : ℕ) (rest : List ℕ) (b : Bool) → held s ≡ b → slice_get (cond (not b) (s ∷ rest) rest) 0 ≡ Some a → {P : Type 0} → (s ≡ a → held a ≡ false → P) → (slice_get rest 0 ≡ Some a → P) → P
 first_case held s a rest true is first {P} here later = later first
@@ -16,7 +16,7 @@ first_unheld held s (suc n) a first =
     (λ same unheld. (omega arith, omega arith, unheld))
     (λ rest. (let later = first_unheld held (s + 1) n a rest in (omega (arith, later.0), omega (arith, later.1), later.2)))
 
-pub next_unheld : (g : GridState) (o : Option ℕ) → o ≡ slice_get (free_of g) 0 → IfSome o (IsUnheld g)
+pub next_unheld : (g : GridState) (o : Option ℕ) → o ≡ slice_get (free_addresses g) 0 → IfSome o (IsUnheld g)
 next_unheld g None is = tt
 next_unheld g (Some a) is =
     let found = first_unheld (is_held_in g.blocks) 1 g.layout.blocks a (sym is) in

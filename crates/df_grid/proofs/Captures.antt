@@ -11,7 +11,7 @@ use Rattle.df_model.proofs.Laws.{rise_take}
 use Rattle.df_units.specs.Meaning.{number_of}
 use Rattle.df_grid.specs.declared.entry.Entry.{Entry}
 use Rattle.df_grid.specs.Entries.{is_marked}
-use Rattle.df_grid.specs.Table.{AreTaken, IsTable, blocks_in, capturing, finishing, is_captured, is_durable, is_live, open_from, paired, picked}
+use Rattle.df_grid.specs.Table.{AreTaken, IsGridTable, blocks_in, capturing, finishing, is_captured, is_durable, is_live, open_from, paired, picked}
 use Rattle.df_grid.proofs.Picks.{pick_at, pick_map, pick_none}
 use Rattle.df_grid.proofs.Chains.{pair_same, sum_map}
 use Rattle.df_grid.proofs.Free.{open_rise}
@@ -59,7 +59,7 @@ marks_stay true c w d h clear none = refl
 marks_stay false true w d h clear none = absurd (cc)
 marks_stay false false w d h clear none = refl
 
-module _ (es : List Entry) (taken : List Bool) (chain : List ℕ) (is : IsTable es taken [] [] chain) (none : picked is_captured 1 es ≡ []) (n : ℕ) (few : n ≤ 70) (after : List Bool) (left : List ℕ) (so : AreTaken n taken after left) where
+module _ (es : List Entry) (taken : List Bool) (chain : List ℕ) (is : IsGridTable es taken [] [] chain) (none : picked is_captured 1 es ≡ []) (n : ℕ) (few : n ≤ 70) (after : List Bool) (left : List ℕ) (so : AreTaken n taken after left) where
   not_captured : (i : ℕ) (e : Entry) → slice_get es i ≡ Some e → e.captured ≡ false
   not_captured i e at = unknown e.captured (number_of e.checksum) (sym (pick_at is_captured (1 + i) 1 i es e refl at) ∙ ap (sum_at (1 + i)) none)
 
@@ -81,7 +81,7 @@ module _ (es : List Entry) (taken : List Bool) (chain : List ℕ) (is : IsTable 
     so.least,
   ) refl
 
-  pub captured_kept : IsTable (map capturing es) after [] left chain
+  pub captured_kept : IsGridTable (map capturing es) after [] left chain
   captured_kept = record {
     size = so.size ∙ is.size ∙ sym (length-map es capturing);
     holds = λ a j x there found. (let was = get_map capturing es j x found in
@@ -99,7 +99,7 @@ module _ (es : List Entry) (taken : List Bool) (chain : List ℕ) (is : IsTable 
     room = omega (arith, few, ap length so.least, length-take n (open_from 1 taken));
   }
 
-module _ (es : List Entry) (taken : List Bool) (written chain : List ℕ) (is : IsTable es taken written [] chain) (after : List Bool) (size : length after ≡ length es) (marks : (i : ℕ) (e : Entry) → slice_get (map finishing es) i ≡ Some e → slice_get after i ≡ Some (is_marked e)) where
+module _ (es : List Entry) (taken : List Bool) (written chain : List ℕ) (is : IsGridTable es taken written [] chain) (after : List Bool) (size : length after ≡ length es) (marks : (i : ℕ) (e : Entry) → slice_get (map finishing es) i ≡ Some e → slice_get after i ≡ Some (is_marked e)) where
   pub finished_blocks : blocks_in (map finishing es) [] [] written ≡ capture_finished (blocks_in es written [] chain)
   finished_blocks = rw (
     pick_map finishing is_live is_live 1 es (λ e. refl) (λ e. refl),
@@ -108,7 +108,7 @@ module _ (es : List Entry) (taken : List Bool) (written chain : List ℕ) (is : 
     pairs_map finishing es written (λ e. refl),
   ) refl
 
-  pub finished_kept : IsTable (map finishing es) after [] [] written
+  pub finished_kept : IsGridTable (map finishing es) after [] [] written
   finished_kept = record {
     size = size ∙ sym (length-map es finishing);
     holds = λ a j x there found. marks j x found ∙ ap Some (sym (or-false (is_marked x)));

@@ -5,13 +5,13 @@ use Rattle.std.proofs.lemmas.List.{length-set}
 use Rattle.std.proofs.lemmas.List.Sums.{sum_by-cons}
 use Rattle.std.proofs.lemmas.Bool.{eqb-false}
 use Rattle.df_base.proofs.Laws.{get_set_other, or_false}
-use Rattle.df_freeset.specs.Addresses.{AreAllTaken, IsLeastFree, free_of}
+use Rattle.df_freeset.specs.Addresses.{AreAllTaken, IsLeastFree, count_free}
 use Rattle.df_model.specs.Work.{is_in}
 use Rattle.df_model.specs.Sense.{RiseFrom}
 use Rattle.df_grid.specs.Table.{AreTaken, open_from}
 use Rattle.df_grid.proofs.Single.{get_set_same}
 
-pub open_count : (s : ℕ) (taken : List Bool) → length (open_from s taken) ≡ free_of taken
+pub open_count : (s : ℕ) (taken : List Bool) → length (open_from s taken) ≡ count_free taken
 open_count s [] = refl
 open_count s (true ∷ ts) = omega (arith, open_count (s + 1) ts, sum_by-cons (λ x. cond (not x) 1 0) true ts)
 open_count s (false ∷ ts) = omega (arith, open_count (s + 1) ts, sum_by-cons (λ x. cond (not x) 1 0) false ts)

@@ -8,7 +8,7 @@ use Rattle.df_model.specs.Blocks.{entries, entry, is_held_in, reference_in, sum_
 use Rattle.df_units.specs.Meaning.{number_of}
 use Rattle.df_grid.specs.declared.entry.Entry.{Entry}
 use Rattle.df_grid.specs.Entries.{is_marked}
-use Rattle.df_grid.specs.Table.{IsTable, blocks_in, entry_at, is_captured, is_durable, is_live, open_from, paired, picked, unheld}
+use Rattle.df_grid.specs.Table.{IsGridTable, blocks_in, entry_at, is_captured, is_durable, is_live, open_from, paired, picked, unheld}
 use Rattle.df_grid.proofs.Picks.{below, past, pick_at}
 use Rattle.df_grid.proofs.Chains.{pair_at, sum_there}
 
@@ -38,7 +38,7 @@ chosen false false false true h n = refl
 chosen false false false false true n = refl
 chosen false false false false false n = refl
 
-module _ (es : List Entry) (taken : List Bool) (written left chain : List ℕ) (is : IsTable es taken written left chain) (a i : ℕ) (e : Entry) (there : a ≡ suc i) (at : slice_get es i ≡ Some e) where
+module _ (es : List Entry) (taken : List Bool) (written left chain : List ℕ) (is : IsGridTable es taken written left chain) (a i : ℕ) (e : Entry) (there : a ≡ suc i) (at : slice_get es i ≡ Some e) where
   picked_at : (test : Entry → Bool) → sum_at a (picked test 1 es) ≡ cond (test e) (Some (number_of e.checksum)) None
   picked_at test = pick_at test a 1 i es e (omega (arith, there)) at
 
@@ -93,7 +93,7 @@ entry_there [] i less = absurd (omega arith)
 entry_there (e ∷ es) zero less = (e, refl)
 entry_there (e ∷ es) (suc i) less = entry_there es i (omega arith)
 
-module _ (es : List Entry) (taken : List Bool) (written left chain : List ℕ) (is : IsTable es taken written left chain) where
+module _ (es : List Entry) (taken : List Bool) (written left chain : List ℕ) (is : IsGridTable es taken written left chain) where
   pub unheld_open : unheld (length es) (blocks_in es written left chain) ≡ open_from 1 taken
   unheld_open = subst (λ (n : ℕ). filter (λ a. not (is_held_in (blocks_in es written left chain) a)) (range_with_len 1 n) ≡ open_from 1 taken) is.size
       (open_unheld (is_held_in (blocks_in es written left chain)) 1 taken (λ i b at.

@@ -11,7 +11,7 @@ use Rattle.df_model.specs.Sense.{RiseFrom}
 use Rattle.df_model.specs.Blocks.{is_held_in}
 use Rattle.df_grid.specs.declared.entry.Entry.{Entry}
 use Rattle.df_grid.specs.Entries.{HasEntry, is_marked}
-use Rattle.df_grid.specs.Table.{IsTable, blocks_in}
+use Rattle.df_grid.specs.Table.{IsGridTable, blocks_in}
 use Rattle.df_grid.proofs.Single.{get_set_same, not_both, one_there}
 use Rattle.df_grid.proofs.Held.{held_at}
 
@@ -25,7 +25,7 @@ pub record Agrees (es : List Entry) (written left chain : List ℕ) (a : ℕ) (e
   pub once : RiseFrom 1 left2
   pub room : length written2 + length left2 ≤ 70
 
-module _ (es : List Entry) (taken : List Bool) (written left chain : List ℕ) (is : IsTable es taken written left chain) (a i : ℕ) (old e : Entry) (there : a ≡ suc i) (at : slice_get es i ≡ Some old) (written2 left2 chain2 : List ℕ) (agrees : Agrees es written left chain a e written2 left2 chain2) where
+module _ (es : List Entry) (taken : List Bool) (written left chain : List ℕ) (is : IsGridTable es taken written left chain) (a i : ℕ) (old e : Entry) (there : a ≡ suc i) (at : slice_get es i ≡ Some old) (written2 left2 chain2 : List ℕ) (agrees : Agrees es written left chain a e written2 left2 chain2) where
   at_place : {P : Type 0} (k j : ℕ) (x : Entry) → k ≡ suc j → slice_get (set es i e) j ≡ Some x → (k ≡ a → j ≡ i → x ≡ e → P) → (k ≢ a → j ≢ i → slice_get es j ≡ Some x → P) → P
   at_place {P} k j x here found same other = go (k == a) refl
     where
@@ -39,7 +39,7 @@ module _ (es : List Entry) (taken : List Bool) (written left chain : List ℕ) (
           let index : j ≢ i = λ eq. one (omega (arith, eq, here, there)) in
           other one index (sym (get_set_other es i j e index) ∙ found)
 
-  pub kept : IsTable (set es i e) (set taken i (is_marked e)) written2 left2 chain2
+  pub kept : IsGridTable (set es i e) (set taken i (is_marked e)) written2 left2 chain2
   kept = record {
     size = length-set taken i (is_marked e) ∙ is.size ∙ sym (length-set es i e);
     holds = λ k j x here found. at_place k j x here found
@@ -56,7 +56,7 @@ module _ (es : List Entry) (taken : List Bool) (written left chain : List ℕ) (
   }
 
 -- an address that isn't held has no mark, and isn't to come
-pub unheld_entry : (es : List Entry) (taken : List Bool) (written left chain : List ℕ) → IsTable es taken written left chain → (a i : ℕ) (e : Entry) → a ≡ suc i → slice_get es i ≡ Some e → is_held_in (blocks_in es written left chain) a ≡ false
+pub unheld_entry : (es : List Entry) (taken : List Bool) (written left chain : List ℕ) → IsGridTable es taken written left chain → (a i : ℕ) (e : Entry) → a ≡ suc i → slice_get es i ≡ Some e → is_held_in (blocks_in es written left chain) a ≡ false
     → (is_marked e ≡ false) × (is_in a left ≡ false)
 unheld_entry es taken written left chain is a i e there at unheld = or_parts (is_marked e) (is_in a left) (sym (held_at es taken written left chain is a i e there at) ∙ unheld)
 

@@ -8,7 +8,7 @@ use Rattle.df_model.specs.Sense.{RiseFrom}
 use Rattle.df_units.specs.Meaning.{number_of}
 use Rattle.df_grid.specs.declared.entry.Entry.{Entry}
 use Rattle.df_grid.specs.Entries.{HasEntry, is_marked}
-use Rattle.df_grid.specs.Table.{IsTable, adopted, blocks_in, is_captured, is_durable, is_live, paired, sum_of}
+use Rattle.df_grid.specs.Table.{IsGridTable, adopted, blocks_in, is_captured, is_durable, is_live, paired, sum_at_address}
 use Rattle.df_grid.proofs.Single.{get_set_same, not_both}
 use Rattle.df_grid.proofs.Picks.{pick_keep, pick_set, pick_unset}
 use Rattle.df_grid.proofs.Chains.{pair_same, rise_out, sum_keep, sum_other, sum_there}
@@ -17,7 +17,7 @@ use Rattle.df_grid.proofs.Keeping.{Agrees, HasNone, has_none, kept}
 falls : {P : Type 0} (b : Bool) → b ≡ false → b ≡ true → P
 falls b clear is = not_both b is clear
 
-module _ (es : List Entry) (taken : List Bool) (written left chain : List ℕ) (is : IsTable es taken written left chain) (a i : ℕ) (old : Entry) (there : a ≡ suc i) (at : slice_get es i ≡ Some old) where
+module _ (es : List Entry) (taken : List Bool) (written left chain : List ℕ) (is : IsGridTable es taken written left chain) (a i : ℕ) (old : Entry) (there : a ≡ suc i) (at : slice_get es i ≡ Some old) where
   here : a ≡ 1 + i
   here = omega (arith, there)
 
@@ -69,7 +69,7 @@ module _ (es : List Entry) (taken : List Bool) (written left chain : List ℕ) (
         pairs_keep now_live chain out_chain,
       ) refl
 
-      pub live_kept : is_in a left ≡ false → IsTable (set es i now_live) (set taken i (is_marked now_live)) written left chain
+      pub live_kept : is_in a left ≡ false → IsGridTable (set es i now_live) (set taken i (is_marked now_live)) written left chain
       live_kept gone = kept es taken written left chain is a i old now_live there at written left chain (same_lists now_live refl refl gone)
 
       -- ---- a block is adopted
@@ -86,13 +86,13 @@ module _ (es : List Entry) (taken : List Bool) (written left chain : List ℕ) (
         pairs_keep now_durable chain out_chain,
       ) refl
 
-      pub durable_kept : is_in a left ≡ false → IsTable (set es i now_durable) (set taken i (is_marked now_durable)) written left chain
+      pub durable_kept : is_in a left ≡ false → IsGridTable (set es i now_durable) (set taken i (is_marked now_durable)) written left chain
       durable_kept gone = kept es taken written left chain is a i old now_durable there at written left chain (same_lists now_durable refl (sym was.chained) gone)
 
       abbrev now_chained : Entry
       now_chained = record old { checksum = c; live = false; durable = false; chained = true }
 
-      sum_now : (e : Entry) → e.checksum ≡ c → sum_of (set es i e) a ≡ number_of c
+      sum_now : (e : Entry) → e.checksum ≡ c → sum_at_address (set es i e) a ≡ number_of c
       sum_now e same = sum_there a i (set es i e) e there (get_set_same es i old e at) ∙ ap number_of same
 
       pub chained_blocks : blocks_in (set es i now_chained) written left (a ∷ chain) ≡ adopted (blocks_in es written left chain) false a (number_of c)
@@ -105,7 +105,7 @@ module _ (es : List Entry) (taken : List Bool) (written left chain : List ℕ) (
         sum_now now_chained refl,
       ) refl
 
-      pub chained_kept : is_in a left ≡ false → IsTable (set es i now_chained) (set taken i (is_marked now_chained)) written left (a ∷ chain)
+      pub chained_kept : is_in a left ≡ false → IsGridTable (set es i now_chained) (set taken i (is_marked now_chained)) written left (a ∷ chain)
       chained_kept gone = kept es taken written left chain is a i old now_chained there at written left (a ∷ chain) (record {
         writes = is.writes a i old there at;
         chains = sym (or_left (a == a) (is_in a chain) (eq-eqb a a refl));
@@ -145,7 +145,7 @@ module _ (es : List Entry) (taken : List Bool) (written left chain : List ℕ) (
     pairs_same now_dead chain refl,
   ) refl
 
-  pub dead_kept : old.live ≡ true → IsTable (set es i now_dead) (set taken i (is_marked now_dead)) written left chain
+  pub dead_kept : old.live ≡ true → IsGridTable (set es i now_dead) (set taken i (is_marked now_dead)) written left chain
   dead_kept live = kept es taken written left chain is a i old now_dead there at written left chain (same_lists now_dead refl refl (marked_gone (or_left old.live _ live)))
 
 lower : (s : ℕ) (xs : List ℕ) → RiseFrom (s + 1) xs → RiseFrom 1 xs
@@ -157,8 +157,8 @@ aside true true m = refl
 aside true false m = refl
 aside false w m = refl
 
-pub written_kept : (es : List Entry) (taken : List Bool) (written more chain : List ℕ) (a i : ℕ) (old : Entry) (c : List ℕ) → IsTable es taken written (a ∷ more) chain → a ≡ suc i → slice_get es i ≡ Some old
-    → IsTable (set es i (record old { checksum = c; written = true })) (set taken i (is_marked (record old { checksum = c; written = true }))) (a ∷ written) more chain
+pub written_kept : (es : List Entry) (taken : List Bool) (written more chain : List ℕ) (a i : ℕ) (old : Entry) (c : List ℕ) → IsGridTable es taken written (a ∷ more) chain → a ≡ suc i → slice_get es i ≡ Some old
+    → IsGridTable (set es i (record old { checksum = c; written = true })) (set taken i (is_marked (record old { checksum = c; written = true }))) (a ∷ written) more chain
 written_kept es taken written more chain a i old c is there at = kept es taken written (a ∷ more) chain is a i old (record old { checksum = c; written = true }) there at (a ∷ written) more chain (record {
   writes = sym (or_left (a == a) (is_in a written) (eq-eqb a a refl));
   chains = is.chains a i old there at;
@@ -170,9 +170,9 @@ written_kept es taken written more chain a i old c is there at = kept es taken w
 })
 
 -- the address that is next isn't marked
-pub next_spare : (es : List Entry) (taken : List Bool) (written more chain : List ℕ) (a i : ℕ) (old : Entry) → IsTable es taken written (a ∷ more) chain → a ≡ suc i → slice_get es i ≡ Some old → is_marked old ≡ false
+pub next_spare : (es : List Entry) (taken : List Bool) (written more chain : List ℕ) (a i : ℕ) (old : Entry) → IsGridTable es taken written (a ∷ more) chain → a ≡ suc i → slice_get es i ≡ Some old → is_marked old ≡ false
 next_spare es taken written more chain a i old is there at = is.spare a i old there at (or_left (a == a) (is_in a more) (eq-eqb a a refl))
 
 -- and is one of the table's
-pub next_inside : (es : List Entry) (taken : List Bool) (written more chain : List ℕ) (a : ℕ) → IsTable es taken written (a ∷ more) chain → HasEntry es a
+pub next_inside : (es : List Entry) (taken : List Bool) (written more chain : List ℕ) (a : ℕ) → IsGridTable es taken written (a ∷ more) chain → HasEntry es a
 next_inside es taken written more chain a is = is.inside a (or_right (is_in a written) (or_left (a == a) (is_in a more) (eq-eqb a a refl)))

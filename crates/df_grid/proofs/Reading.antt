@@ -30,8 +30,8 @@ use Rattle.df_units.specs.Meaning.{block_of, number_of}
 use Rattle.df_units.specs.Bytes.{message_unit}
 use Rattle.df_units.proofs.Laws.{one_number, sealed_check}
 use Rattle.df_places.specs.Units.{IsSeen}
-use Rattle.df_grid.specs.Grid.{IsKnownUnit}
-use Rattle.df_places.specs.Shelves.{HoldsFound, IsFound, IsOf, IsRead}
+use Rattle.df_grid.specs.Grid.{IsKnownBlock}
+use Rattle.df_places.specs.Shelves.{HoldsFound, IsFoundUnit, IsOf, IsRead}
 use Rattle.df_grid.specs.Reads.{IsFaultOf, at_address, ReadsBlock, ReadsTrailer, Tests, class_in, shown_of, trailer_alone}
 use Rattle.df_grid.proofs.Single.{not_both}
 
@@ -96,7 +96,7 @@ module _ (layout : Layout) (cluster a : ℕ) (check : List ℕ) (image : Image) 
   wanted_answer = sieve p (given (Some (number_of check)) (Shown.unit_at layout cluster image (place_in Grid a)) (Shown.class_at layout cluster image (place_in Grid a)))
 
   -- the unit wanted is answered
-  found_is : (h : Holding) → IsFound kind (at_address layout cluster a check) h.unit → IsOf kind (at_address layout cluster a check) image None (Some h) → Ok (block_of h.unit) ≡ wanted_answer
+  found_is : (h : Holding) → IsFoundUnit kind (at_address layout cluster a check) h.unit → IsOf kind (at_address layout cluster a check) image None (Some h) → Ok (block_of h.unit) ≡ wanted_answer
   unfolding wanted_answer
   found_is h found read =
       let u = h.unit in
@@ -130,7 +130,7 @@ module _ (layout : Layout) (cluster a : ℕ) (check : List ℕ) (fits : IsCheck 
   shown : Image → Result Units.Block Class
   shown image = given (Some (number_of check)) (Shown.unit_at layout cluster image (place_in Grid a)) (Shown.class_at layout cluster image (place_in Grid a))
 
-  pub block_read : (told : Option Told) (h : Holding) → IsFound Block (at_address layout cluster a check) h.unit → IsRead Block (at_address layout cluster a check) told None (Some h) → ReadsBlock layout cluster told a (Some (number_of check)) (Ok (block_of h.unit))
+  pub block_read : (told : Option Told) (h : Holding) → IsFoundUnit Block (at_address layout cluster a check) h.unit → IsRead Block (at_address layout cluster a check) told None (Some h) → ReadsBlock layout cluster told a (Some (number_of check)) (Ok (block_of h.unit))
   unfolding wanted_answer shown
   block_read None h found read = tt
   block_read (Some t) h found read = found_is layout cluster a check t.shown Block (λ b. not (b.kind == 0)) fits (blocks_tell layout cluster a) h found read
@@ -142,7 +142,7 @@ module _ (layout : Layout) (cluster a : ℕ) (check : List ℕ) (fits : IsCheck 
   block_lacks (Some t) class held read = lacks_is layout cluster a check t.shown Block (λ b. not (b.kind == 0)) fits (blocks_tell layout cluster a) class held read
       ∙ sym (ap no_trailer (block_image layout cluster a t.shown (Some (number_of check))) ∙ of_blocks (shown t.shown))
 
-  pub trailer_read : (told : Option Told) (h : Holding) → IsFound Trailer (at_address layout cluster a check) h.unit → IsRead Trailer (at_address layout cluster a check) told None (Some h) → ReadsTrailer layout cluster told a (number_of check) (Ok (block_of h.unit))
+  pub trailer_read : (told : Option Told) (h : Holding) → IsFoundUnit Trailer (at_address layout cluster a check) h.unit → IsRead Trailer (at_address layout cluster a check) told None (Some h) → ReadsTrailer layout cluster told a (number_of check) (Ok (block_of h.unit))
   unfolding wanted_answer shown
   trailer_read None h found read = tt
   trailer_read (Some t) h found read = found_is layout cluster a check t.shown Trailer (λ b. b.kind == 0) fits (trailers_tell layout cluster a) h found read
@@ -162,7 +162,7 @@ module _ (layout : Layout) (cluster a : ℕ) (check : List ℕ) (fits : IsCheck 
   read_there kind read o is p has = subst (λ (r : Option Holding). IsRead kind (at_address layout cluster a check) told o r) has
       (subst (λ (r : Option Class). IsRead kind (at_address layout cluster a check) told r held) is (subst (λ (i : Identity). IsRead kind i told wrong held) there read))
 
-  found_there : (kind : Kind) (h : Holding) → HoldsFound kind identity wrong held → wrong ≡ None → held ≡ Some h → IsFound kind (at_address layout cluster a check) h.unit
+  found_there : (kind : Kind) (h : Holding) → HoldsFound kind identity wrong held → wrong ≡ None → held ≡ Some h → IsFoundUnit kind (at_address layout cluster a check) h.unit
   found_there kind h holds is has = subst (λ (r : Option Holding). HoldsFound kind (at_address layout cluster a check) None r) has
       (subst (λ (r : Option Class). HoldsFound kind (at_address layout cluster a check) r held) is (subst (λ (i : Identity). HoldsFound kind i wrong held) there holds))
 
@@ -179,7 +179,7 @@ module _ (layout : Layout) (cluster a : ℕ) (check : List ℕ) (fits : IsCheck 
   pub shows_trailer : (h : Holding) → wrong ≡ None → held ≡ Some h → HoldsFound Trailer identity wrong held → IsRead Trailer identity told wrong held → ReadsTrailer layout cluster told a (number_of check) (Ok (block_of h.unit))
   shows_trailer h is has holds read = trailer_read layout cluster a check fits told h (found_there Trailer h holds is has) (read_there Trailer read None is (Some h) has)
 
-  pub shows_valid : (kind : Kind) (known : Option ℕ) (h : Holding) → wrong ≡ None → held ≡ Some h → HoldsFound kind identity wrong held → known ≡ Some (number_of check) → IsKnownUnit kind layout cluster a known h.unit
+  pub shows_valid : (kind : Kind) (known : Option ℕ) (h : Holding) → wrong ≡ None → held ≡ Some h → HoldsFound kind identity wrong held → known ≡ Some (number_of check) → IsKnownBlock kind layout cluster a known h.unit
   shows_valid kind known h is has holds same =
       let found = found_there kind h holds is has in
       record { is = found.is; of_kind = found.of_kind; sum = same ∙ ap (λ (b : List ℕ). Some (number_of b)) (sym found.wanted) }

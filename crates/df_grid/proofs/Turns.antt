@@ -8,7 +8,7 @@ use Rattle.std.proofs.lemmas.Option.{get_or_from_slice_get}
 use Rattle.std.proofs.lemmas.Bool.Decides.{nat_tests}
 use Rattle.std.proofs.lemmas.Bool.{cond-true, cond-false}
 use Rattle.df_base.proofs.Laws.{get_set_other}
-use Rattle.df_freeset.specs.Addresses.{AreAllTaken, free_of}
+use Rattle.df_freeset.specs.Addresses.{AreAllTaken, count_free}
 use Rattle.df_units.specs.Meaning.{number_of}
 use Rattle.df_grid.specs.declared.entry.Entry.{Entry}
 use Rattle.df_grid.specs.Entries.{is_marked}
@@ -80,7 +80,7 @@ module _ (n i : ℕ) (before es : List Entry) (taken : List Bool) (x : Entry) (s
 pub few_taken : (n : ℕ) (before after : List Bool) (left : List ℕ) → AreTaken n before after left → length left ≤ n
 few_taken n before after left so = omega (arith, ap length so.least, length-take n (open_from 1 before))
 
-pub none_left : (n all : ℕ) (before after : List Bool) (left : List ℕ) → AreTaken n before after left → AreAllTaken after → n < all → all ≤ free_of before → ⊥
+pub none_left : (n all : ℕ) (before after : List Bool) (left : List ℕ) → AreTaken n before after left → AreAllTaken after → n < all → all ≤ count_free before → ⊥
 none_left n all before after left so taken less enough =
     let gone : drop n (open_from 1 before) ≡ [] = sym so.rest ∙ all_none after taken in
     omega (arith, less, enough, ap length gone, length-drop n (open_from 1 before), open_count 1 before)

@@ -8,7 +8,7 @@ use Rattle.df_units.specs.Meaning.{number_of}
 use Rattle.df_trailer.specs.Rooms.{number_in}
 use Rattle.df_grid.specs.declared.entry.Entry.{Entry}
 use Rattle.df_grid.specs.Entries.{HasEntry, entries_of, entry_of, is_marked}
-use Rattle.df_grid.specs.Table.{IsTable, TableState, adopted, blocks_in, entry_at, is_captured, is_durable, is_live, next_written, no_blocks, paired, picked, unheld, written_of}
+use Rattle.df_grid.specs.Table.{IsGridTable, TableState, adopted, blocks_in, entry_at, is_captured, is_durable, is_live, next_written, no_blocks, paired, picked, unheld, written_of}
 use Rattle.std.proofs.lemmas.List.{length-replicate, length-set}
 use Rattle.std.proofs.lemmas.Option.{slice_get_within}
 use Rattle.std.proofs.lemmas.Bool.{or_left}
@@ -49,7 +49,7 @@ module _ (cs : List (List ℕ)) (ms : List ℕ) (same : length cs ≡ length ms)
   none : (i : ℕ) (e : Entry) → slice_get (entries_of cs ms) i ≡ Some e → HasNone e
   none i e at = has_none e (new_entry cs ms i e zeros at)
 
-  pub new_table : IsTable (entries_of cs ms) (replicate (length cs) false) [] [] []
+  pub new_table : IsGridTable (entries_of cs ms) (replicate (length cs) false) [] [] []
   new_table = record {
     size = length-replicate (length cs) false ∙ sym (length_entries cs ms same);
     holds = λ a i e there at. all_same (length cs) i (omega (arith, slice_get_within (entries_of cs ms) i e at, length_entries cs ms same)) ∙ ap (λ (b : Bool). Some (b || false)) (sym (new_entry cs ms i e zeros at));
@@ -73,7 +73,7 @@ nothing = None
 
 -- ---- which addresses are free
 
-module _ (es : List Entry) (taken : List Bool) (written left chain : List ℕ) (is : IsTable es taken written left chain) where
+module _ (es : List Entry) (taken : List Bool) (written left chain : List ℕ) (is : IsGridTable es taken written left chain) where
   pub least_unheld : (a : ℕ) → IsLeastFree taken a → Some a ≡ slice_get (unheld (length es) (blocks_in es written left chain)) 0
   least_unheld a least = sym (ap (λ (l : List ℕ). slice_get l 0) (unheld_open es taken written left chain is ∙ least_first taken a least))
 
@@ -111,7 +111,7 @@ first_is [] a is = absurd (cc)
 first_is (x ∷ xs) a is = let same : x ≡ a = cc in ap (λ (k : ℕ). k ∷ xs) same
 
 -- the last written block is one of the table's
-pub written_inside : (es : List Entry) (taken : List Bool) (written left chain : List ℕ) (a : ℕ) → IsTable es taken written left chain → slice_get written 0 ≡ Some a → HasEntry es a
+pub written_inside : (es : List Entry) (taken : List Bool) (written left chain : List ℕ) (a : ℕ) → IsGridTable es taken written left chain → slice_get written 0 ≡ Some a → HasEntry es a
 written_inside es taken written left chain a is first =
     is.inside a (or_left (is_in a written) (is_in a left) (ap (λ (l : List ℕ). is_in a l) (first_is written a first) ∙ or_left (a == a) (is_in a (drop 1 written)) (eq-eqb a a refl)))
 
@@ -132,17 +132,17 @@ length_pairs es (x ∷ xs) = omega (arith, length_pairs es xs)
 abbrev pub taking : Entry → List ℕ → Bool → Entry
 taking old c b = record old { checksum = c; live = b; durable = b; chained = not b }
 
-module _ (es : List Entry) (taken : List Bool) (written left chain : List ℕ) (is : IsTable es taken written left chain) (a i : ℕ) (old : Entry) (there : a ≡ suc i) (at : slice_get es i ≡ Some old) (unheld : (is_marked old ≡ false) × (is_in a left ≡ false)) (c : List ℕ) where
-  pub adopt_live : (b : Bool) → b ≡ true → IsTable (set es i (taking old c b)) (set taken i (is_marked (taking old c b))) written left chain
-  adopt_live b same = subst (λ (x : Bool). IsTable (set es i (taking old c x)) (set taken i (is_marked (taking old c x))) written left chain) (sym same)
+module _ (es : List Entry) (taken : List Bool) (written left chain : List ℕ) (is : IsGridTable es taken written left chain) (a i : ℕ) (old : Entry) (there : a ≡ suc i) (at : slice_get es i ≡ Some old) (unheld : (is_marked old ≡ false) × (is_in a left ≡ false)) (c : List ℕ) where
+  pub adopt_live : (b : Bool) → b ≡ true → IsGridTable (set es i (taking old c b)) (set taken i (is_marked (taking old c b))) written left chain
+  adopt_live b same = subst (λ (x : Bool). IsGridTable (set es i (taking old c x)) (set taken i (is_marked (taking old c x))) written left chain) (sym same)
       (durable_kept es taken written left chain is a i old there at unheld.0 c unheld.1)
 
   pub adopt_live_state : (b : Bool) → b ≡ true → state_of (length (set es i (taking old c b))) (blocks_in (set es i (taking old c b)) written left chain) ≡ state_of (length es) (adopted (blocks_in es written left chain) b a (number_of c))
   adopt_live_state b same = subst (λ (x : Bool). state_of (length (set es i (taking old c x))) (blocks_in (set es i (taking old c x)) written left chain) ≡ state_of (length es) (adopted (blocks_in es written left chain) x a (number_of c))) (sym same)
       (viewed es (set es i (taking old c true)) written left chain (adopted (blocks_in es written left chain) true a (number_of c)) (length-set es i (taking old c true)) (durable_blocks es taken written left chain is a i old there at unheld.0 c))
 
-  pub adopt_chained : (b : Bool) → b ≡ false → IsTable (set es i (taking old c b)) (set taken i (is_marked (taking old c b))) written left (a ∷ chain)
-  adopt_chained b same = subst (λ (x : Bool). IsTable (set es i (taking old c x)) (set taken i (is_marked (taking old c x))) written left (a ∷ chain)) (sym same)
+  pub adopt_chained : (b : Bool) → b ≡ false → IsGridTable (set es i (taking old c b)) (set taken i (is_marked (taking old c b))) written left (a ∷ chain)
+  adopt_chained b same = subst (λ (x : Bool). IsGridTable (set es i (taking old c x)) (set taken i (is_marked (taking old c x))) written left (a ∷ chain)) (sym same)
       (chained_kept es taken written left chain is a i old there at unheld.0 c unheld.1)
 
   pub adopt_chained_state : (b : Bool) → b ≡ false → state_of (length (set es i (taking old c b))) (blocks_in (set es i (taking old c b)) written left (a ∷ chain)) ≡ state_of (length es) (adopted (blocks_in es written left chain) b a (number_of c))
@@ -151,9 +151,9 @@ module _ (es : List Entry) (taken : List Bool) (written left chain : List ℕ) (
 
 -- ---- the trailer's next block
 
-module _ (es : List Entry) (taken : List Bool) (written left chain : List ℕ) (is : IsTable es taken written left chain) (a : ℕ) (shape : left ≡ a ∷ drop 1 left) where
-  shaped : IsTable es taken written (a ∷ drop 1 left) chain
-  shaped = subst (λ (l : List ℕ). IsTable es taken written l chain) shape is
+module _ (es : List Entry) (taken : List Bool) (written left chain : List ℕ) (is : IsGridTable es taken written left chain) (a : ℕ) (shape : left ≡ a ∷ drop 1 left) where
+  shaped : IsGridTable es taken written (a ∷ drop 1 left) chain
+  shaped = subst (λ (l : List ℕ). IsGridTable es taken written l chain) shape is
 
   pub coming_inside : HasEntry es a
   coming_inside = next_inside es taken written (drop 1 left) chain a shaped
@@ -162,7 +162,7 @@ module _ (es : List Entry) (taken : List Bool) (written left chain : List ℕ) (
     abbrev wrote : Entry
     wrote = record old { checksum = c; written = true }
 
-    pub coming_kept : IsTable (set es i wrote) (set taken i (is_marked wrote)) (a ∷ written) (drop 1 left) chain
+    pub coming_kept : IsGridTable (set es i wrote) (set taken i (is_marked wrote)) (a ∷ written) (drop 1 left) chain
     coming_kept = written_kept es taken written (drop 1 left) chain a i old c shaped there at
 
     pub coming_state : state_of (length (set es i wrote)) (blocks_in (set es i wrote) (a ∷ written) (drop 1 left) chain) ≡ state_of (length es) (next_written (blocks_in es written left chain) (number_of c))
@@ -186,14 +186,14 @@ not_live es a e at dead = look_some is_live es a e at ∙ ap (λ (b : Bool). con
 pub is_live_there : (es : List Entry) (a : ℕ) (e : Entry) → entry_at es a ≡ Some e → e.live ≡ true → true ≡ is_known (sum_at a (picked is_live 1 es))
 is_live_there es a e at live = sym (ap is_known (look_some is_live es a e at ∙ ap (λ (b : Bool). cond b (Some (number_of e.checksum)) None) live))
 
-pub released_state : (es : List Entry) (taken : List Bool) (written left chain : List ℕ) → IsTable es taken written left chain → (a : ℕ) (e : Entry) → entry_at es a ≡ Some e
+pub released_state : (es : List Entry) (taken : List Bool) (written left chain : List ℕ) → IsGridTable es taken written left chain → (a : ℕ) (e : Entry) → entry_at es a ≡ Some e
     → state_of (length (set es (a - 1) (record e { live = false }))) (blocks_in (set es (a - 1) (record e { live = false })) written left chain) ≡ state_of (length es) (block_released (blocks_in es written left chain) a)
 released_state es taken written left chain is a e at =
     let there = entry_is es a e at in
     viewed es (set es (a - 1) (record e { live = false })) written left chain (block_released (blocks_in es written left chain) a) (length-set es (a - 1) (record e { live = false })) (dead_blocks es taken written left chain is a (a - 1) e there.2 there.1)
 
-pub released_kept : (es : List Entry) (taken : List Bool) (written left chain : List ℕ) → IsTable es taken written left chain → (a : ℕ) (e : Entry) → entry_at es a ≡ Some e → e.live ≡ true
-    → IsTable (set es (a - 1) (record e { live = false })) (set taken (a - 1) (is_marked (record e { live = false }))) written left chain
+pub released_kept : (es : List Entry) (taken : List Bool) (written left chain : List ℕ) → IsGridTable es taken written left chain → (a : ℕ) (e : Entry) → entry_at es a ≡ Some e → e.live ≡ true
+    → IsGridTable (set es (a - 1) (record e { live = false })) (set taken (a - 1) (is_marked (record e { live = false }))) written left chain
 released_kept es taken written left chain is a e at live = let there = entry_is es a e at in dead_kept es taken written left chain is a (a - 1) e there.2 there.1 live
 
 -- ---- what is said of an answer, if there is one
@@ -207,6 +207,6 @@ if_some P None fact = tt
 if_some P (Some x) fact = fact
 
 -- the next address of the running trailer is one of the table's
-pub left_inside : (es : List Entry) (taken : List Bool) (written left chain : List ℕ) → IsTable es taken written left chain → (o : Option ℕ) → o ≡ slice_get left 0 → IfSome o (λ a. (1 ≤ a) × (a ≤ length es))
+pub left_inside : (es : List Entry) (taken : List Bool) (written left chain : List ℕ) → IsGridTable es taken written left chain → (o : Option ℕ) → o ≡ slice_get left 0 → IfSome o (λ a. (1 ≤ a) × (a ≤ length es))
 left_inside es taken written left chain is None at = tt
 left_inside es taken written left chain is (Some a) at = coming_inside es taken written left chain is a (first_is left a (sym at))

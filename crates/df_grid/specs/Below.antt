@@ -5,7 +5,7 @@ pub use Rattle.df_buffers.specs.Below.{Block, Grid, Trailer}
 pub use Rattle.df_units.specs.Meaning.{block_of, layout_of, number_of}
 pub use Rattle.df_model.specs.Blocks.{block_released, block_written, blocks_captured, capture_finished, entries, is_held_in, reference_in, sum_at}
 pub use Rattle.df_model.specs.Work.{is_known}
-pub use Rattle.df_freeset.specs.Addresses.{free_of}
+pub use Rattle.df_freeset.specs.Addresses.{count_free}
 pub use Rattle.df_trailer.specs.Rooms.{number_in}
 pub use Rattle.df_trailer.specs.Spelling.{is_referenced}
 pub use Rattle.df_trailer.specs.Text.{ones}

@@ -24,8 +24,8 @@ abbrev pub with_boot : GridState → ℕ → GridState
 with_boot g boot = record { layout = g.layout; cluster = g.cluster; boot = boot; blocks = g.blocks }
 
 -- the addresses that aren't held, from the least on
-abbrev pub free_of : GridState → List ℕ
-free_of g = free_in (layout_of g.layout) g.blocks
+abbrev pub free_addresses : GridState → List ℕ
+free_addresses g = free_in (layout_of g.layout) g.blocks
 
 -- each referenced address with its checksum, from the least on
 abbrev pub referenced_of : GridState → List (ℕ × ℕ)
@@ -50,7 +50,7 @@ pub record IsGrid (layout : Layout) (cluster boot size : ℕ) (of_block of_trail
   pub trailer : of_trailer ≡ layout
 
 -- the unit is one of the kind that is valid at the address, with the checksum that is known
-pub record IsKnownUnit (kind : Kind) (layout : Layout) (cluster address : ℕ) (known : Option ℕ) (u : Message) : Type 0 where
+pub record IsKnownBlock (kind : Kind) (layout : Layout) (cluster address : ℕ) (known : Option ℕ) (u : Message) : Type 0 where
   pub is : IsUnit layout cluster (place_in Grid address) u
   pub of_kind : u.header.kind ≡ kind
   pub sum : known ≡ Some (number_of u.header.checksum)

@@ -19,7 +19,7 @@ use Rattle.df_model.specs.Supply.{Shown, block_at, given_if, no_trailer}
 use Rattle.df_units.specs.Bytes.{unit_at}
 use Rattle.df_units.specs.Meaning.{block_of}
 use Rattle.df_units.specs.Wanted.{class_at}
-use Rattle.df_grid.specs.Grid.{IsKnownUnit}
+use Rattle.df_grid.specs.Grid.{IsKnownBlock}
 
 -- what an image shows, place by place, in the words of the machine
 abbrev pub shown_of : Layout → ℕ → Image → Shown
@@ -38,7 +38,7 @@ Loads layout cluster told address known (Some class) held = ReadsBlock layout cl
 
 -- whatever the disk tells, where nothing is wrong the room holds the known block
 abbrev pub HoldsKnown : Layout → ℕ → ℕ → Option ℕ → Option Class → Option Holding → Type 0
-HoldsKnown layout cluster address known None (Some held) = IsKnownUnit AsBlock layout cluster address known held.unit
+HoldsKnown layout cluster address known None (Some held) = IsKnownBlock AsBlock layout cluster address known held.unit
 HoldsKnown layout cluster address known None None = ⊥
 HoldsKnown layout cluster address known (Some class) held = Unit {0}
 

@@ -64,14 +64,14 @@ sum_from (e ∷ es) zero = number_of e.checksum
 sum_from (e ∷ es) (suc i) = sum_from es i
 
 -- the checksum of an address
-abbrev pub sum_of : List Entry → ℕ → ℕ
-sum_of es zero = 0
-sum_of es (suc i) = sum_from es i
+abbrev pub sum_at_address : List Entry → ℕ → ℕ
+sum_at_address es zero = 0
+sum_at_address es (suc i) = sum_from es i
 
 -- addresses, each with its checksum
 abbrev pub paired : List Entry → List ℕ → List (ℕ × ℕ)
 paired es [] = []
-paired es (a ∷ rest) = (a, sum_of es a) ∷ paired es rest
+paired es (a ∷ rest) = (a, sum_at_address es a) ∷ paired es rest
 
 -- what the table says: the chains are from the last block to the first
 abbrev pub blocks_in : List Entry → (written left chain : List ℕ) → Blocks
@@ -106,7 +106,7 @@ pub record IsIdle (b : Blocks) : Type 0 where
   pub left : b.left ≡ []
 
 -- a checkpoint was begun: no block of its trailer is written, and there is a next one
-pub record IsReady (b : Blocks) : Type 0 where
+pub record IsReadyTrailer (b : Blocks) : Type 0 where
   pub written : b.written ≡ []
   pub left : b.left ≡ [] → ⊥
 
@@ -157,15 +157,15 @@ pair_in None = None
 pair_in (Some r) = Some (r.address, number_of r.checksum)
 
 -- the last block of the running trailer, where all are written
-abbrev pub last_of : List ℕ → List (ℕ × ℕ) → Option (ℕ × ℕ)
-last_of [] written = slice_get written 0
-last_of (a ∷ more) written = None
+abbrev pub last_trailer_block : List ℕ → List (ℕ × ℕ) → Option (ℕ × ℕ)
+last_trailer_block [] written = slice_get written 0
+last_trailer_block (a ∷ more) written = None
 
 -- ---- what holds of every table
 
 -- An address is taken exactly where it is marked or is one of the running trailer's that are to come; the marks of trailer blocks are
 -- those of the chains. The addresses that are to come rise, and nothing is known of them yet.
-pub record IsTable (es : List Entry) (taken : List Bool) (written left chain : List ℕ) : Type 0 where
+pub record IsGridTable (es : List Entry) (taken : List Bool) (written left chain : List ℕ) : Type 0 where
   pub size : length taken ≡ length es
   pub holds : (a i : ℕ) (e : Entry) → a ≡ suc i → slice_get es i ≡ Some e → slice_get taken i ≡ Some (is_marked e || is_in a left)
   pub writes : (a i : ℕ) (e : Entry) → a ≡ suc i → slice_get es i ≡ Some e → e.written ≡ is_in a written

@@ -1,6 +1,6 @@
 // How entries and the free set change together: one address, all of them for a capture or its end, and the least free ones.
 ghost use Rattle.std.specs.Prelude.{◌≡◌, ◌-◌, ◌≤◌, length, map, slice_get, slice_set, Some};
-ghost use Rattle.df_grid.specs.Below.{free_of};
+ghost use Rattle.df_grid.specs.Below.{count_free};
 ghost use Rattle.df_grid.specs.declared.entry.Entry.{Entry as AnyEntry};
 ghost use Rattle.df_grid.specs.Entries.{HasEntry, is_marked};
 ghost use Rattle.df_grid.specs.Table.{AreFinished, AreTaken, capturing, finishing};
@@ -90,7 +90,7 @@ pub(crate) fn finish_all(entries: &mut Entries, free: &mut FreeSet)
 
 /// Takes so many of the least free addresses, and answers them.
 pub(crate) fn take_least(free: &mut FreeSet, blocks: u64) -> ArrayVec<u64, LINKS>
-    requires enough { blocks ≤ free_of free.old }
+    requires enough { blocks ≤ count_free free.old }
     requires few { blocks ≤ 70 }
     ensures { AreTaken blocks free.old free.new result.items }
 {

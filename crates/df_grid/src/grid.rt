@@ -2,8 +2,8 @@
 ghost use Rattle.std.specs.Prelude.{◌≡◌, ◌≢◌, ◌*◌, ◌^◌, ◌<◌, ◌≤◌, false, [], length, map, take, replicate, slice_get, All, IfSome, IsSome, nat_lt};
 ghost use Rattle.std.specs.List.{filter};
 ghost use Rattle.df_grid.specs.Below.{block_released, blocks_captured, capture_finished, sum_at, is_known, number_in, is_referenced, ones, captured_blocks, referenced_among, number_of};
-ghost use Rattle.df_grid.specs.Grid.{GridState, HasAddress, IsUnheld, free_of, referenced_of, with_blocks, with_boot};
-ghost use Rattle.df_grid.specs.Table.{IsIdle, adopted, last_of, no_blocks, pair_in};
+ghost use Rattle.df_grid.specs.Grid.{GridState, HasAddress, IsUnheld, free_addresses, referenced_of, with_blocks, with_boot};
+ghost use Rattle.df_grid.specs.Table.{IsIdle, adopted, last_trailer_block, no_blocks, pair_in};
 
 use crate::table::Table;
 use df_base::Check;
@@ -119,7 +119,7 @@ impl Grid {
 
     /// The least address that isn't held, None exactly where all are.
     pub fn next(&self) -> Option<u64>
-        ensures next { result ≡ slice_get (free_of self.now) 0 }
+        ensures next { result ≡ slice_get (free_addresses self.now) 0 }
         ensures unheld { IfSome result (IsUnheld self.now) }
     {
         self.table.next()
@@ -127,7 +127,7 @@ impl Grid {
 
     /// How many addresses aren't held.
     pub fn free(&self) -> u64
-        ensures { result ≡ length (free_of self.now) }
+        ensures { result ≡ length (free_addresses self.now) }
     {
         self.table.free()
     }
@@ -168,9 +168,9 @@ impl Grid {
     pub fn capture(&mut self, blocks: u64)
         requires idle { IsIdle self.old.blocks }
         requires some { 1 ≤ blocks }
-        requires free { blocks ≤ length (free_of self.old) }
+        requires free { blocks ≤ length (free_addresses self.old) }
         requires few { blocks ≤ 70 }
-        ensures { self.new ≡ with_blocks self.old (blocks_captured self.old.blocks (take blocks (free_of self.old))) }
+        ensures { self.new ≡ with_blocks self.old (blocks_captured self.old.blocks (take blocks (free_addresses self.old))) }
     {
         self.table.capture(blocks);
     }
@@ -202,7 +202,7 @@ impl Grid {
 
     /// The last block of the running trailer, None exactly where no checkpoint runs or that block isn't written yet.
     pub fn trailer(&self) -> Option<Reference>
-        ensures pair { pair_in result ≡ last_of self.now.blocks.left self.now.blocks.written }
+        ensures pair { pair_in result ≡ last_trailer_block self.now.blocks.left self.now.blocks.written }
         ensures inside { IfSome result (λ r. HasAddress self.now r.address) }
     {
         self.table.trailer()

@@ -3,7 +3,7 @@ ghost use Rattle.std.specs.Prelude.{◌≡◌, ◌==◌, true, IfErr, IfOk, Ok, 
 ghost use Rattle.std.specs.Borrow.{sem};
 ghost use Rattle.std.specs.Io.BufRead.{Rests};
 ghost use Rattle.df_grid.specs.Below.{HasCause, place_in, IsCheck, Block as AsBlock, Trailer as AsTrailer, Grid as InGrid, sum_at, is_known, block_of, number_of};
-ghost use Rattle.df_grid.specs.Grid.{HasAddress, IsKnownUnit};
+ghost use Rattle.df_grid.specs.Grid.{HasAddress, IsKnownBlock};
 ghost use Rattle.df_grid.specs.Reads.{HoldsKnown, Loads, ReadsBlock, ReadsTrailer, Tests, IsFaultOf, at_address, differs};
 ghost use Rattle.df_grid.specs.contracts.grid.Grid.{the_row};
 
@@ -70,7 +70,7 @@ impl Grid {
         ensures* after { sem 𝓛 (Rests the_row self.entry (λ n. n ≡ self.entry.now)) }
         ensures block { IfOk result (λ shown. IfOk shown (λ u. ReadsBlock self.old.layout self.old.cluster (D.told disk.old) address (sum_at address self.old.blocks.live) (Ok (block_of u.now.unit)))) }
         ensures class { IfOk result (λ shown. IfErr shown (λ class. ReadsBlock self.old.layout self.old.cluster (D.told disk.old) address (sum_at address self.old.blocks.live) (Err class))) }
-        ensures valid { IfOk result (λ shown. IfOk shown (λ u. IsKnownUnit AsBlock self.old.layout self.old.cluster address (sum_at address self.old.blocks.live) u.now.unit)) }
+        ensures valid { IfOk result (λ shown. IfOk shown (λ u. IsKnownBlock AsBlock self.old.layout self.old.cluster address (sum_at address self.old.blocks.live) u.now.unit)) }
         ensures same { D.told disk.new ≡ D.told disk.old }
         ensures cause { HasCause (D.faults disk.old) (D.faults disk.new) result }
     {
@@ -117,7 +117,7 @@ impl Grid {
         ensures* after { sem 𝓛 (Rests the_row self.entry (λ n. n ≡ self.entry.now)) }
         ensures block { IfOk result (λ shown. IfOk shown (λ u. ReadsTrailer self.old.layout self.old.cluster (D.told disk.old) reference.address (number_of reference.checksum) (Ok (block_of u.now.unit)))) }
         ensures class { IfOk result (λ shown. IfErr shown (λ class. ReadsTrailer self.old.layout self.old.cluster (D.told disk.old) reference.address (number_of reference.checksum) (Err class))) }
-        ensures valid { IfOk result (λ shown. IfOk shown (λ u. IsKnownUnit AsTrailer self.old.layout self.old.cluster reference.address (Some (number_of reference.checksum)) u.now.unit)) }
+        ensures valid { IfOk result (λ shown. IfOk shown (λ u. IsKnownBlock AsTrailer self.old.layout self.old.cluster reference.address (Some (number_of reference.checksum)) u.now.unit)) }
         ensures same { D.told disk.new ≡ D.told disk.old }
         ensures cause { HasCause (D.faults disk.old) (D.faults disk.new) result }
     {

@@ -2,7 +2,7 @@
 ghost use Rattle.std.specs.Prelude.{◌≡◌, ◌≢◌, ◌-◌, ◌*◌, ◌<◌, ◌≤◌, true, false, [], Some, None, length, map, take, replicate, slice_get, All, IfSome, IsSome, nat_lt};
 ghost use Rattle.std.specs.List.{filter, range_with_len};
 ghost use Rattle.df_grid.specs.Below.{block_released, block_written, blocks_captured, capture_finished, entries, is_held_in, reference_in, sum_at, is_known, number_in, is_referenced, ones, captured_blocks, referenced_among, number_of};
-ghost use Rattle.df_grid.specs.Table.{IsIdle, TableState, adopted, last_of, next_written, no_blocks, pair_in, unheld};
+ghost use Rattle.df_grid.specs.Table.{IsIdle, TableState, adopted, last_trailer_block, next_written, no_blocks, pair_in, unheld};
 
 use crate::changes::{capture_all, finish_all, replace, take_least};
 use crate::entries::Entries;
@@ -30,13 +30,13 @@ pub struct Table {
 
 impl Model for Table {
     ghost use Rattle.std.specs.Prelude.{length};
-    ghost use Rattle.df_grid.specs.Table.{TableState, IsCounted, IsTable, blocks_in};
+    ghost use Rattle.df_grid.specs.Table.{TableState, IsCounted, IsGridTable, blocks_in};
 
     ghost Value = { TableState };
 
     ghost view = { λ t. record { size = length t.entries; blocks = blocks_in t.entries t.written.items t.left.items t.chain.items } };
 
-    ghost invariant = { λ t. IsTable t.entries t.free t.written.items t.left.items t.chain.items × IsCounted t.entries t.left.items t.counts.items };
+    ghost invariant = { λ t. IsGridTable t.entries t.free t.written.items t.left.items t.chain.items × IsCounted t.entries t.left.items t.counts.items };
 }
 
 impl Table {
@@ -171,7 +171,7 @@ impl Table {
 
     /// The last block of the running trailer, None where it isn't written yet.
     pub(crate) fn trailer(&self) -> Option<Reference>
-        ensures pair { pair_in result ≡ last_of self.now.blocks.left self.now.blocks.written }
+        ensures pair { pair_in result ≡ last_trailer_block self.now.blocks.left self.now.blocks.written }
         ensures inside { IfSome result (λ r. (1 ≤ r.address) × (r.address ≤ self.now.size)) }
     {
         if self.left.is_empty() {

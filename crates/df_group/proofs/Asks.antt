@@ -9,7 +9,7 @@ use Rattle.std.proofs.lemmas.Option.{get_or_from_slice_get}
 use Rattle.df_format.specs.declared.header.Header.{Header}
 use Rattle.df_sessions.specs.declared.session.Session.{Session}
 use Rattle.df_sessions.specs.Requests.{session_of, sessions_of}
-use Rattle.df_sessions.specs.Table.{IsKnown, has_client, with_request}
+use Rattle.df_sessions.specs.Table.{IsKnownClient, has_client, with_request}
 use Rattle.df_sessions.proofs.Laws.{IsFirst, first_place}
 use Rattle.df_theory.specs.Units
 use Rattle.df_theory.specs.Sessions.{MayAsk, noted}
@@ -72,13 +72,13 @@ asks_new room h ss none =
     asks_last room h ss d (none_passes (has_client h.client) ss d none)
 
 -- a client that may ask has a place, or there is one
-pub asks_room : (room : ℕ) (h : Header) (ss : List Session) → MayAsk room (header_of h) (sessions_of ss) → IsKnown h.client ss ⊎ (length ss < room)
+pub asks_room : (room : ℕ) (h : Header) (ss : List Session) → MayAsk room (header_of h) (sessions_of ss) → IsKnownClient h.client ss ⊎ (length ss < room)
 asks_room room h ss asks = by (position (has_client h.client) ss) refl
   where
-    by : (o : Option ℕ) → position (has_client h.client) ss ≡ o → IsKnown h.client ss ⊎ (length ss < room)
+    by : (o : Option ℕ) → position (has_client h.client) ss ≡ o → IsKnownClient h.client ss ⊎ (length ss < room)
     by (Some k) is = inl (rw is refl)
     by None is = inr ((asks_new room h ss is).0 asks).1
 
 -- the same by another word for the room
-pub asks_within : (room places : ℕ) (h : Header) (ss : List Session) → room ≡ places → MayAsk room (header_of h) (sessions_of ss) → IsKnown h.client ss ⊎ (length ss < places)
-asks_within room places h ss same asks = subst (λ (n : ℕ). IsKnown h.client ss ⊎ (length ss < n)) same (asks_room room h ss asks)
+pub asks_within : (room places : ℕ) (h : Header) (ss : List Session) → room ≡ places → MayAsk room (header_of h) (sessions_of ss) → IsKnownClient h.client ss ⊎ (length ss < places)
+asks_within room places h ss same asks = subst (λ (n : ℕ). IsKnownClient h.client ss ⊎ (length ss < n)) same (asks_room room h ss asks)

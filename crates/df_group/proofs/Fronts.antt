@@ -7,7 +7,7 @@ use Rattle.std.proofs.lemmas.Option.{slice_get-get_or}
 use Rattle.df_format.specs.declared.header.Header.{Header}
 use Rattle.df_sessions.specs.declared.session.Session.{Session}
 use Rattle.df_sessions.specs.Requests.{sessions_of}
-use Rattle.df_sessions.specs.Table.{IsKnown, Table, with_request}
+use Rattle.df_sessions.specs.Table.{IsKnownClient, Table, with_request}
 use Rattle.df_theory.specs.Sessions.{MayAsk}
 use Rattle.df_theory.specs.Opens.{AreFitting}
 use Rattle.df_theory.specs.Shape.{Shape, clients}
@@ -87,7 +87,7 @@ along_turn sh b hs i tail end kept new at next ahead after room head d along wit
     (subst (λ (ss : List Session). IsAlong sh b hs (i + 1) end new.sessions (position_of h) ss) (sym after_is) more)
 
 -- the next one's client may ask, so it has a place or there is one
-pub asks_next : (room places : ℕ) (hs : List Header) (i : ℕ) (d : Header) (ss : List Session) → room ≡ places → MayAsk room (header_of (get_or hs i d)) (sessions_of ss) → IsKnown (get_or hs i d).client ss ⊎ (length ss < places)
+pub asks_next : (room places : ℕ) (hs : List Header) (i : ℕ) (d : Header) (ss : List Session) → room ≡ places → MayAsk room (header_of (get_or hs i d)) (sessions_of ss) → IsKnownClient (get_or hs i d).client ss ⊎ (length ss < places)
 asks_next room places hs i d ss same asks = asks_within room places (get_or hs i d) ss same asks
 
 module _ (sh : Shape) (b : Checkpoint) (hs : List Header) (i : ℕ) (tail : Tail) (kept : List Session) (at : Position) (ahead : List Session) (along : IsAlong sh b hs i tail kept at ahead) where

@@ -8,7 +8,7 @@ use Rattle.df_theory.specs.View.{Checkpoint}
 use Rattle.df_theory.specs.Found.{NotLost}
 use Rattle.df_theory.specs.GroupLaws.{HaveGroups, ShowsGroup, Walks}
 use Rattle.df_theory.proofs.Laws.{chain_append, in_either, lost_law}
-use Rattle.df_group.specs.Words.{HeadLaw, IsHeadBy, IsOpen, IsTornAt, NoneLostBy, SurvivorLaw, last_of}
+use Rattle.df_group.specs.Words.{HeadLaw, IsHeadBy, IsOpenGroup, IsTornAt, NoneLostBy, SurvivorLaw, last_prepare}
 use Rattle.df_group.proofs.Grouping.{in_some}
 
 pub survivor_law : SurvivorLaw
@@ -19,7 +19,7 @@ survivor_law image c top s p have low shown above = (
 
 -- the last of a chain is one of it, with the op of its end
 last_chain : (places op parent mark : ℕ) (ss : List Session) (p : Message) (ps : List Message) → Chain places op parent mark ss (p ∷ ps)
-    → (q : Message) × (last_of (Some p) ps ≡ Some q) × In q (p ∷ ps) × (q.header.op + 1 ≡ op + length (p ∷ ps)) × (q.header.op ≤ q.header.group_last)
+    → (q : Message) × (last_prepare (Some p) ps ≡ Some q) × In q (p ∷ ps) × (q.header.op + 1 ≡ op + length (p ∷ ps)) × (q.header.op ≤ q.header.group_last)
 last_chain places op parent mark ss p [] chain = (p, refl, inl refl, omega (arith, chain.0.op_is), omega (arith, chain.0.op_is, chain.0.group))
 last_chain places op parent mark ss p (r ∷ rs) chain =
     let last = last_chain places (op + 1) p.header.checksum p.header.mark (noted p.header ss) r rs chain.1 in
@@ -74,7 +74,7 @@ reached sh image b tail more top q have walks at op from by =
       | inr new ↦
           let some : 0 < length more = in_some q more new in
           let group : q.header.group ≡ end + 1 = one_group end (b.content.op + 1 + length tail) reach more walks.reach.behind.grouped (omega arith) (omega arith) walks.goes_on q new in
-          let goes : IsOpen b.content q = record { above = omega (arith, walks.reaches, op, some); open_yet = λ over. omega (arith, over, op, walks.goes_on q new) } in
+          let goes : IsOpenGroup b.content q = record { above = omega (arith, walks.reaches, op, some); open_yet = λ over. omega (arith, over, op, walks.goes_on q new) } in
           elim by [
             | inl cut ↦
                 let same : top ≡ end = omega (arith, cut.1, group) in
@@ -84,12 +84,12 @@ reached sh image b tail more top q have walks at op from by =
     ]
 
 some_reached : (sh : Shape) (image : Units) (b : Checkpoint) (tail more : List Message) (top : ℕ) (p : Message) (rest : List Message) → tail ++ more ≡ p ∷ rest → HaveGroups image → Walks sh image b tail more
-    → IsHeadBy image b.content (b.content.op + length tail + length more) (last_of None (tail ++ more)) top
-    → NoneLostBy image b.content (b.content.op + length tail + length more) top (last_of None (tail ++ more)) ↔ (NotLost image b.content (b.content.op + length tail) × (top ≡ b.content.op + length tail))
+    → IsHeadBy image b.content (b.content.op + length tail + length more) (last_prepare None (tail ++ more)) top
+    → NoneLostBy image b.content (b.content.op + length tail + length more) top (last_prepare None (tail ++ more)) ↔ (NotLost image b.content (b.content.op + length tail) × (top ≡ b.content.op + length tail))
 some_reached sh image b tail more top p rest are have walks by =
     let all = chain_append (clients sh) (b.content.op + 1) b.content.op_checksum 0 b.parts.sessions tail more walks.chain walks.reach.behind.chain in
     let last = last_chain (clients sh) (b.content.op + 1) b.content.op_checksum 0 b.parts.sessions p rest (subst (λ (l : List Message). Chain (clients sh) (b.content.op + 1) b.content.op_checksum 0 b.parts.sessions l) are all) in
-    let is : last_of None (tail ++ more) ≡ Some last.0 = ap (λ (l : List Message). last_of None l) are ∙ last.1 in
+    let is : last_prepare None (tail ++ more) ≡ Some last.0 = ap (λ (l : List Message). last_prepare None l) are ∙ last.1 in
     let size : length (p ∷ rest) ≡ length tail + length more = sym (ap (λ (l : List Message). length l) are) ∙ length-append tail more in
     let told = reached sh image b tail more top last.0 have walks (subst (λ (l : List Message). In last.0 l) (sym are) last.2) (omega (arith, last.3, size)) last.4 (subst (λ (x : Option Message). IsHeadBy image b.content (b.content.op + length tail + length more) x top) is by) in
     subst (λ (x : Option Message). NoneLostBy image b.content (b.content.op + length tail + length more) top x ↔ (NotLost image b.content (b.content.op + length tail) × (top ≡ b.content.op + length tail))) (sym is) told

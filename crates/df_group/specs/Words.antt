@@ -18,18 +18,18 @@ SurvivorLaw =
     → IsSurvivorOf image c top p ↔ IsCutOff top p.header
 
 -- the last of some prepares, if there is one
-abbrev pub last_of : Option Message → List Message → Option Message
-last_of q [] = q
-last_of q (p ∷ ps) = last_of (Some p) ps
+abbrev pub last_prepare : Option Message → List Message → Option Message
+last_prepare q [] = q
+last_prepare q (p ∷ ps) = last_prepare (Some p) ps
 
 -- a group that isn't over with this prepare, above the head that the superblock names
-pub record IsOpen (c : Content) (q : Message) : Type 0 where
+pub record IsOpenGroup (c : Content) (q : Message) : Type 0 where
   pub above : c.pin < q.header.op
   pub open_yet : q.header.group_last ≡ q.header.op → ⊥
 
 -- it is cut off where no header of it is shown
 pub record IsCut (image : Units) (c : Content) (q : Message) : Type 0 where
-  pub is_open : IsOpen c q
+  pub is_open : IsOpenGroup c q
   pub untold : ShowsGroup image c q.header.group → ⊥
 
 -- the head as it is told by the prepare that is reached last: the op before its group, where that is cut off, and else the reach
@@ -40,7 +40,7 @@ IsHeadBy image c reach (Some q) top = (IsCut image c q × (top + 1 ≡ q.header.
 -- the prepare that is reached last is of a group that isn't over, and which isn't cut off either
 abbrev pub IsTornAt : Content → ℕ → ℕ → Option Message → Type 0
 IsTornAt c reach top None = ⊥
-IsTornAt c reach top (Some q) = IsOpen c q × (top ≡ reach)
+IsTornAt c reach top (Some q) = IsOpenGroup c q × (top ≡ reach)
 
 -- what is lost after such a head, case by case: none of them is so
 pub record NoneLostBy (image : Units) (c : Content) (reach top : ℕ) (last : Option Message) : Type 0 where
@@ -54,5 +54,5 @@ pub record NoneLostBy (image : Units) (c : Content) (reach top : ℕ) (last : Op
 abbrev pub HeadLaw : Type 0
 HeadLaw =
     (sh : Shape) (image : Units) (b : Checkpoint) (tail more : List Message) (top : ℕ) → HaveGroups image → Walks sh image b tail more
-    → IsHeadBy image b.content (b.content.op + length tail + length more) (last_of None (tail ++ more)) top
-    → NoneLostBy image b.content (b.content.op + length tail + length more) top (last_of None (tail ++ more)) ↔ (NotLost image b.content (b.content.op + length tail) × (top ≡ b.content.op + length tail))
+    → IsHeadBy image b.content (b.content.op + length tail + length more) (last_prepare None (tail ++ more)) top
+    → NoneLostBy image b.content (b.content.op + length tail + length more) top (last_prepare None (tail ++ more)) ↔ (NotLost image b.content (b.content.op + length tail) × (top ≡ b.content.op + length tail))

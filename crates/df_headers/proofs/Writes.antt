@@ -5,11 +5,11 @@ use Rattle.df_format.specs.declared.header.Header.{Header}
 use Rattle.df_theory.specs.Device.{AreSteps}
 use Rattle.df_units.specs.Format.{format_of}
 use Rattle.df_units.proofs.Laws.{headers_put}
-use Rattle.df_headers.specs.Ring.{AreOfRing, IsTable, in_sector, sector_writes, write_steps}
+use Rattle.df_headers.specs.Ring.{AreOfRing, IsHeaderTable, header_write_steps, in_sector, sector_writes}
 use Rattle.df_headers.proofs.Tables.{table_written}
 
-pub writes_are_steps : (layout : Layout) (cluster : ℕ) (table : List Header) (sectors : List ℕ) → IsTable layout cluster table → AreOfRing layout sectors
-    → AreSteps (format_of layout cluster) (sector_writes layout table sectors) (write_steps table sectors)
+pub writes_are_steps : (layout : Layout) (cluster : ℕ) (table : List Header) (sectors : List ℕ) → IsHeaderTable layout cluster table → AreOfRing layout sectors
+    → AreSteps (format_of layout cluster) (sector_writes layout table sectors) (header_write_steps table sectors)
 writes_are_steps layout cluster table [] is are = tt
 writes_are_steps layout cluster table (k ∷ ks) is are = (
   headers_put layout cluster k (in_sector k table) (table_written layout cluster k table is (are zero k refl)),

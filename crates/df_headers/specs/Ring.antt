@@ -18,7 +18,7 @@ abbrev pub IsHeader : Layout → ℕ → ℕ → Header → Type 0
 IsHeader layout cluster slot h = IsUnit layout cluster (place_in WalHeaders slot) (record { header = h; body = [] })
 
 -- one header for each slot of the layout, each valid in its slot
-pub record IsTable (layout : Layout) (cluster : ℕ) (table : List Header) : Type 0 where
+pub record IsHeaderTable (layout : Layout) (cluster : ℕ) (table : List Header) : Type 0 where
   pub count : length table ≡ layout.slots
   pub each : (slot : ℕ) (h : Header) → slice_get table slot ≡ Some h → IsHeader layout cluster slot h
 
@@ -44,17 +44,17 @@ sector_writes layout table [] = []
 sector_writes layout table (sector ∷ sectors) = sector_events layout sector table ++ sector_writes layout table sectors
 
 -- in the words of the theory
-abbrev pub write_steps : List Header → List ℕ → List Step
-write_steps table [] = []
-write_steps table (sector ∷ sectors) = sector_steps sector table ++ write_steps table sectors
+abbrev pub header_write_steps : List Header → List ℕ → List Step
+header_write_steps table [] = []
+header_write_steps table (sector ∷ sectors) = sector_steps sector table ++ header_write_steps table sectors
 
 -- each sector of a table may be written
 abbrev pub TableIsWritten : Type 0
-TableIsWritten = (layout : Layout) (cluster sector : ℕ) (table : List Header) → IsTable layout cluster table → sector < layout.slots / 16 → AreHeaders layout cluster sector (in_sector sector table)
+TableIsWritten = (layout : Layout) (cluster sector : ℕ) (table : List Header) → IsHeaderTable layout cluster table → sector < layout.slots / 16 → AreHeaders layout cluster sector (in_sector sector table)
 
 -- with a valid header put into its slot it is still a table
 abbrev pub TableIsKept : Type 0
-TableIsKept = (layout : Layout) (cluster slot : ℕ) (table : List Header) (h : Header) → IsTable layout cluster table → IsHeader layout cluster slot h → IsTable layout cluster (slice_set table slot h)
+TableIsKept = (layout : Layout) (cluster slot : ℕ) (table : List Header) (h : Header) → IsHeaderTable layout cluster table → IsHeader layout cluster slot h → IsHeaderTable layout cluster (slice_set table slot h)
 
 -- each slot has a reserved header
 abbrev pub AreReserved : ℕ → List Header → Type 0
@@ -62,4 +62,4 @@ AreReserved cluster table = (slot : ℕ) → slot < length table → slice_get t
 
 -- such a table may be written
 abbrev pub ReservedIsTable : Type 0
-ReservedIsTable = (layout : Layout) (cluster : ℕ) (table : List Header) → 0 < cluster → cluster < 2 ^ 128 → length table ≡ layout.slots → AreReserved cluster table → IsTable layout cluster table
+ReservedIsTable = (layout : Layout) (cluster : ℕ) (table : List Header) → 0 < cluster → cluster < 2 ^ 128 → length table ≡ layout.slots → AreReserved cluster table → IsHeaderTable layout cluster table

@@ -6,9 +6,9 @@ use Rattle.df_theory.specs.Shape.{Shape}
 use Rattle.df_theory.specs.Copies.{rank_of}
 use Rattle.df_theory.specs.View.{Checkpoint, View, boot_of, head, sequence}
 use Rattle.df_theory.specs.Chance.{InImages}
-use Rattle.df_theory.specs.Grown.{IsClear, IsLeft}
+use Rattle.df_theory.specs.Grown.{IsClear, IsLeftGroup}
 use Rattle.df_theory.proofs.Laws.{gap_left, HasGap, IsNew, appended_clear, next_in, same_slot, append_here, reply_here, base_here}
-use Rattle.df_history.specs.Lives.{Asleep, Awake, Follows, Lived, Lives, Steps, Turn, first_of}
+use Rattle.df_history.specs.Lives.{Asleep, Awake, Lived, Lives, Steps, Turn, TurnFollows, first_view_of}
 use Rattle.df_history.proofs.Steps.{lived_self}
 
 -- ---- prepares
@@ -31,7 +31,7 @@ record IsMade (images : List Units) (u : View) (v : View) (t : Turn) (p : Messag
   pub sequence : sequence v ≡ p.header.checkpoint
   pub boot : boot_of v ≡ p.header.boot
 
-follow_tail : (images : List Units) (u : View) (s : Turn) (v : View) (t : Turn) → Follows images u s v t → (p : Message) → In p v.tail → In p u.tail ⊎ IsMade images u v t p
+follow_tail : (images : List Units) (u : View) (s : Turn) (v : View) (t : Turn) → TurnFollows images u s v t → (p : Message) → In p v.tail → In p u.tail ⊎ IsMade images u v t p
 follow_tail images u Awake v Awake goes p at = elim (next_in u v p goes.next at) [
   | inl old ↦ inl old
   | inr new ↦ elim (append_here u v p goes.next at) [
@@ -45,7 +45,7 @@ follow_tail images u Asleep v Awake (d, is, same) p at = inl (subst (λ (x : Vie
 
 -- where a prepare that an image shows comes from: it was settled before, it was appended in this step, or it survived
 abbrev ComesFrom : List Units → Units → View → View → Turn → Message → Type 0
-ComesFrom images image u v t p = ((k : ℕ) × InImages images (PreparePlace k) (PrepareUnit p)) ⊎ (In p v.tail × IsMade images u v t p) ⊎ IsLeft images image v p
+ComesFrom images image u v t p = ((k : ℕ) × InImages images (PreparePlace k) (PrepareUnit p)) ⊎ (In p v.tail × IsMade images u v t p) ⊎ IsLeftGroup images image v p
 
 comes : (sh : Shape) (images : List Units) (image : Units) (u : View) (s : Turn) (v : View) (t : Turn) → Steps images image u s v t → Lives sh images u s → (k : ℕ) (p : Message) → image (PreparePlace k) ≡ Some (PrepareUnit p) → ComesFrom images image u v t p
 comes sh images image u s v t (inr anew) lives k p here = inl (k, anew.0 (PreparePlace k) (PrepareUnit p) here)
@@ -60,7 +60,7 @@ comes sh images image u s v t (inl goes) lives k p here = elim (goes.0 (PrepareP
       ]
   | inr survivor ↦
       let same : survivor.0 ≡ p = (let e = survivor.1 in cc) in
-      inr (inr (subst (λ (q : Message). IsLeft images image v q) same survivor.2))
+      inr (inr (subst (λ (q : Message). IsLeftGroup images image v q) same survivor.2))
 ]
 
 -- ---- one prepare an op and a boot
@@ -76,7 +76,7 @@ one_later sh images image u s v t step lives i j p q here there op boot before =
 
 -- the settled prepares of one op and boot are one
 pub settled_one : (sh : Shape) (images : List Units) (v : View) (t : Turn) (lives : Lives sh images v t) (i j : ℕ) (p q : Message) → InImages images (PreparePlace i) (PrepareUnit p) → InImages images (PreparePlace j) (PrepareUnit q)
-    → boot_of (first_of sh images v t lives) ≤ p.header.boot → p.header.op ≡ q.header.op → p.header.boot ≡ q.header.boot → p ≡ q
+    → boot_of (first_view_of sh images v t lives) ≤ p.header.boot → p.header.op ≡ q.header.op → p.header.boot ≡ q.header.boot → p ≡ q
 settled_one sh [] v t lives i j p q at there young op boot = absurd at
 settled_one sh (image ∷ images) v t (holds, inl starts) i j p q at there young op boot = absurd (omega (arith, starts.1.prepares i p at))
 settled_one sh (image ∷ images) v t (holds, inr (u, s, step, lives)) i j p q (inl here) (inl there) young op boot = same_slot sh image v holds i j p q here there op
@@ -100,7 +100,7 @@ gap_stays sh images image u s v t step lives k p at holds gap = record { missing
     ]
 
 pub born_prepare : (sh : Shape) (images : List Units) (v : View) (t : Turn) (lives : Lives sh images v t) (k : ℕ) (p : Message) → InImages images (PreparePlace k) (PrepareUnit p) → p.header.group ≤ p.header.op
-    → (p.header.boot < boot_of (first_of sh images v t lives)) ⊎ Appended sh images v t lives p ⊎ HasGap images p
+    → (p.header.boot < boot_of (first_view_of sh images v t lives)) ⊎ Appended sh images v t lives p ⊎ HasGap images p
 born_prepare sh [] v t lives k p at group = absurd at
 born_prepare sh (image ∷ images) v t (holds, inl starts) k p at group = inl (starts.1.prepares k p at)
 born_prepare sh (image ∷ images) v t (holds, inr (u, s, step, lives)) k p (inr there) group = elim (born_prepare sh images u s lives k p there group) [
@@ -128,13 +128,13 @@ stored_shown : (sh : Shape) (images : List Units) (u : View) (s : Turn) → Live
 stored_shown sh [] u s lives k r at = absurd lives
 stored_shown sh (image ∷ images) u s lives k r at = inl (lives.0.bears.needs (ReplyPlace k) (ReplyUnit r) (r, at, refl))
 
-follow_stored : (images : List Units) (u : View) (s : Turn) (v : View) (t : Turn) → Follows images u s v t → (k : ℕ) (r : Message) → v.stored k ≡ Some r → (u.stored k ≡ Some r) ⊎ ((t ≡ Awake) × (v.replies ≡ r.header.op) × (head v ≡ r.header.mark) × (sequence v ≡ r.header.checkpoint) × (boot_of v ≡ r.header.boot))
+follow_stored : (images : List Units) (u : View) (s : Turn) (v : View) (t : Turn) → TurnFollows images u s v t → (k : ℕ) (r : Message) → v.stored k ≡ Some r → (u.stored k ≡ Some r) ⊎ ((t ≡ Awake) × (v.replies ≡ r.header.op) × (head v ≡ r.header.mark) × (sequence v ≡ r.header.checkpoint) × (boot_of v ≡ r.header.boot))
 follow_stored images u Awake v Awake next k r at = elim (reply_here u v k r next.next at) [ inl old ↦ inl old | inr new ↦ inr (refl, new.0, new.1, new.2, new.3) ]
 follow_stored images u Awake v Asleep none k r at = absurd none
 follow_stored images u Asleep v Asleep same k r at = inl (ap (λ (x : View). x.stored k) (sym same) ∙ at)
 follow_stored images u Asleep v Awake (d, is, same) k r at = inl (ap (λ (x : View). x.stored k) (sym same) ∙ at)
 
-pub born_reply : (sh : Shape) (images : List Units) (v : View) (t : Turn) (lives : Lives sh images v t) (k : ℕ) (r : Message) → InImages images (ReplyPlace k) (ReplyUnit r) → (r.header.boot < boot_of (first_of sh images v t lives)) ⊎ Stored sh images v t lives k r
+pub born_reply : (sh : Shape) (images : List Units) (v : View) (t : Turn) (lives : Lives sh images v t) (k : ℕ) (r : Message) → InImages images (ReplyPlace k) (ReplyUnit r) → (r.header.boot < boot_of (first_view_of sh images v t lives)) ⊎ Stored sh images v t lives k r
 born_reply sh [] v t lives k r at = absurd at
 born_reply sh (image ∷ images) v t (holds, inl starts) k r at = inl (starts.1.replies k r at)
 born_reply sh (image ∷ images) v t (holds, inr (u, s, step, lives)) k r (inr there) = elim (born_reply sh images u s lives k r there) [
@@ -167,7 +167,7 @@ born_reply sh (image ∷ images) v t (holds, inr (u, s, inl goes, lives)) k r (i
 
 -- what copies 1 to 3 ever showed is the content of a view, or older than each
 pub settled_content : (sh : Shape) (images : List Units) (v : View) (t : Turn) (lives : Lives sh images v t) (n : ℕ) (c : Content) → (n ≡ 0 → ⊥) → InImages images (CopyPlace n) (CopyUnit c)
-    → ((w : View) × (a : Turn) × Lived sh images v t lives w a × (c ≡ w.checkpoint.content)) ⊎ (rank_of c < rank_of (first_of sh images v t lives).checkpoint.content)
+    → ((w : View) × (a : Turn) × Lived sh images v t lives w a × (c ≡ w.checkpoint.content)) ⊎ (rank_of c < rank_of (first_view_of sh images v t lives).checkpoint.content)
 settled_content sh [] v t lives n c away at = absurd at
 settled_content sh (image ∷ images) v t (holds, inl starts) n c away at = elim (starts.1.copies n c away at) [ inl same ↦ inl (v, t, (refl, refl), same) | inr older ↦ inr older ]
 settled_content sh (image ∷ images) v t (holds, inr (u, s, step, lives)) n c away (inr there) = elim (settled_content sh images u s lives n c away there) [
@@ -208,7 +208,7 @@ awake_content sh (image ∷ images) v Asleep (holds, inr (u, Asleep, inl goes, l
     (b.0, inr b.1, b.2 ∙ ap (λ (x : View). x.checkpoint.content) (sym goes.1) ∙ ap (λ (x : View). x.checkpoint.content) (sym is.0))
 awake_content sh (image ∷ images) v Asleep (holds, inr (u, Awake, inl goes, lives)) w a (inl is) = absurd goes.1
 
-follow_base : (images : List Units) (u : View) (s : Turn) (v : View) → Follows images u s v Awake → ((s ≡ Awake) × (u.checkpoint.content ≡ v.checkpoint.content)) ⊎ ((head v ≡ v.checkpoint.content.head) × (v.replies ≡ v.checkpoint.content.replies))
+follow_base : (images : List Units) (u : View) (s : Turn) (v : View) → TurnFollows images u s v Awake → ((s ≡ Awake) × (u.checkpoint.content ≡ v.checkpoint.content)) ⊎ ((head v ≡ v.checkpoint.content.head) × (v.replies ≡ v.checkpoint.content.replies))
 follow_base images u Awake v next = elim (base_here u v next.next) [ inl same ↦ inl (refl, ap (λ (b : Checkpoint). b.content) (sym same)) | inr new ↦ inr new ]
 follow_base images u Asleep v (d, is, same) =
     inr (omega (arith, is.head, is.same.op.0, ap head same, ap (λ (x : View). x.checkpoint.content.head) same), omega (arith, is.replies, ap (λ (x : View). x.replies) same, ap (λ (x : View). x.checkpoint.content.replies) same))

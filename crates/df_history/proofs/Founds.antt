@@ -11,14 +11,14 @@ use Rattle.df_theory.specs.HistoryLaws.{AreDistinct, ShowsSettled}
 use Rattle.df_theory.specs.Found.{IsFound}
 use Rattle.df_theory.proofs.Laws.{take_boot, rank_low, view_is_found, no_gap, last_of, no_mark, same_named, group_holds}
 use Rattle.df_theory.specs.Chance.{InImages}
-use Rattle.df_history.specs.Lives.{Awake, Lived, Lives, Turn, first_of}
+use Rattle.df_history.specs.Lives.{Awake, Lived, Lives, Turn, first_view_of}
 use Rattle.df_history.specs.Laws.{FoundLivedLaw, OneContentLaw, OnePrepareLaw, OneReplyLaw}
 use Rattle.df_history.proofs.Steps.{first_low, lived_base, lived_needs, lived_sound}
 use Rattle.df_history.proofs.Born.{Appended, Stored, after_base, awake_content, born_prepare, born_reply, settled_content, settled_one}
 use Rattle.df_history.proofs.Stamps.{HasAll, one_of_stored, stamps}
 
 module _ (sh : Shape) (images : List Units) (v : View) (t : Turn) (lives : Lives sh images v t) (distinct : AreDistinct images)
-    (shown : Units) (of : ShowsSettled images shown) (w : View) (f : IsFound sh shown w) (young : rank_of (first_of sh images v t lives).checkpoint.content ≤ rank_of w.checkpoint.content) where
+    (shown : Units) (of : ShowsSettled images shown) (w : View) (f : IsFound sh shown w) (young : rank_of (first_view_of sh images v t lives).checkpoint.content ≤ rank_of w.checkpoint.content) where
   abbrev WasAwake : View → Type 0
   WasAwake z = Lived sh images v t lives z Awake
 
@@ -33,7 +33,7 @@ module _ (sh : Shape) (images : List Units) (v : View) (t : Turn) (lives : Lives
     | inr older ↦ absurd (omega arith)
   ]
 
-  first_boot : boot_of (first_of sh images v t lives) ≤ boot_of w
+  first_boot : boot_of (first_view_of sh images v t lives) ≤ boot_of w
   first_boot = let a = checkpoint_event in omega (arith, (first_low sh images v t lives a.0 Awake a.1).1, ap (λ (c : Content). c.boot) a.2)
 
   settled_at : (p : Message) → In p w.tail → InImages images (PreparePlace (p.header.op % sh.layout.slots)) (PrepareUnit p)

@@ -13,7 +13,7 @@ use Rattle.df_theory.specs.Grown.{AllInHistory, GoesOn, Grows}
 use Rattle.df_theory.specs.Past.{FromEmpty, Was}
 use Rattle.df_theory.specs.HistoryLaws.{ShowsSettled}
 use Rattle.df_theory.proofs.Laws.{one_view, no_made, made_content, made_reply, next_grew, unheld}
-use Rattle.df_history.specs.Lives.{Asleep, Awake, Lived, Lives, Starts, Turn, first_of}
+use Rattle.df_history.specs.Lives.{Asleep, Awake, Lived, Lives, Starts, Turn, first_view_of}
 use Rattle.df_history.specs.Histories.{Among, GrowsOn, StaysBare}
 
 -- ---- lists of images
@@ -60,7 +60,7 @@ made_ends c (i ∷ j ∷ images) start made ends place = made_ends c (j ∷ imag
 pub record OneLog (sh : Shape) (images : List Units) (v : View) (grows : Grows sh images v) : Type 0 where
   pub lives : Lives sh images v Awake
   pub was : (w : View) (a : Turn) → Lived sh images v Awake lives w a → Was sh images v grows w
-  pub low : rank_of (first_of sh images v Awake lives).checkpoint.content ≤ 18446744073709551616
+  pub low : rank_of (first_view_of sh images v Awake lives).checkpoint.content ≤ 18446744073709551616
 
 pub one_log : (sh : Shape) (images : List Units) (v : View) (grows : Grows sh images v) → FromEmpty sh images v grows → OneLog sh images v grows
 one_log sh [] v grows empty = absurd grows

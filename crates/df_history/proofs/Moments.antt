@@ -315,7 +315,7 @@ boot_lived_law sh log before logs w d puts lived rests dry may copies =
     two_bare same low x y (inl is_x) (inr is_y) boot = subst (λ (z : View). IsSameBare z y) (sym is_x) (subst (λ (z : View). IsSameBare w z) (sym is_y) same)
     two_bare same low x y (inr is_x) other boot = absurd (omega (arith, ap boot_of is_x, may.is.boot))
 
--- ---- at rest
+-- ---- a log that rests on a view
 
 pub rest_lived_law : RestLivedLaw
 rest_lived_law sh log before logs v lived rests =

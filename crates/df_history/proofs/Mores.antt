@@ -1,4 +1,4 @@
--- One image more in a log that was begun anew: what its own log says of it, said of the history.
+-- One image more in a log that was restarted: what its own log says of it, said of the history.
 use Rattle.std.proofs.Common.{◌≡◌, ◌⊎◌, inl, inr, ℕ, ◌<◌, ◌≤◌, List, [], ◌∷◌, ◌++◌, Some, ap, subst, arith}
 use Rattle.df_theory.specs.Units.{AnyUnit, BlockPlace, CopyPlace, HeaderPlace, Message, Place, PreparePlace, PrepareUnit, ReplyPlace, Units}
 use Rattle.df_theory.specs.Shape.{Shape}

@@ -14,7 +14,7 @@ use Rattle.df_theory.specs.Grown.{IsClear, IsSafe}
 use Rattle.df_theory.specs.Rests.{IsGoodLog, IsQuiet, RestsOn}
 use Rattle.df_theory.specs.Runs.{AtEach, Puts, Step, Syncs, after_steps}
 use Rattle.df_theory.specs.MakingLaws.{blank_log}
-use Rattle.df_theory.specs.WriterLaws.{Appends}
+use Rattle.df_theory.specs.WriterLaws.{AppendsPrepare}
 use Rattle.df_theory.specs.TidyLaws.{IsTidy}
 use Rattle.df_theory.specs.Found.{AreOfPlaces, IsFound, IsInRange, IsOfPlace}
 use Rattle.df_theory.proofs.Laws.{anew_law, append_law, each_weaker, put_one_law, holds_found, low_steps, low_update, All, Shows, now_all, pools_all, all_reserved, bare, copies_of, first_of, is_first_bare, made_of, reserved, sector, shape_of, tidy_of, copies_are, grouped, header_put, may_append, may_raise, prepare_put, quiet_updated, AreTold, copies_all, distinct_of, made_all, put_all}
@@ -202,7 +202,7 @@ append_steps p = Puts (prepare_put p) ∷ Syncs ∷ Puts (header_put p) ∷ Sync
 
 pub appends_to :
     (b : ℕ) (log : UnitLog) (p : Message) → RestsOn shape log (first b) → IsQuiet log → IsClear (settled log) (first b) → MayAppend shape (first b) (p ∷ [])
-    → Appends shape log (first b) (appended (first b) (p ∷ [])) (prepare_put p) (header_put p)
+    → AppendsPrepare shape log (first b) (appended (first b) (p ∷ [])) (prepare_put p) (header_put p)
 appends_to b log p rests quiet clear may = append_law shape log (first b) p (prepare_put p) (header_put p) rests quiet clear may (put_one_law (PreparePlace (p.header.op % 16)) (PrepareUnit p)) (sector shape (now log) p)
 
 pub append_ours : (p : Message) (log : UnitLog) → IsOurs (PrepareUnit p) → All IsOurs log.start log.events → All IsOurs log.start (after_steps (append_steps p) log).events
@@ -241,7 +241,7 @@ quiet1 = quiet_updated (content 1) (record { start = now made; events = [] })
 pub clear1 : IsClear (settled booted1) (first 1)
 clear1 = clear_of 1 (now made) (λ s p is own. absurd (let both : None ≡ Some (PrepareUnit p) = is in cc))
 
-pub appends : Appends shape booted1 (first 1) kept (prepare_put prepare) (header_put prepare)
+pub appends : AppendsPrepare shape booted1 (first 1) kept (prepare_put prepare) (header_put prepare)
 appends = appends_to 1 booted1 prepare opened1.0 quiet1 clear1
     (may_append shape (first 1) (prepare ∷ []) (omega arith) (refl, refl, tt) (record { mark = refl; checkpoint = refl; boot = refl; group = refl; group_last = refl }, tt) (omega arith, omega arith, omega arith) ((refl, omega arith), tt))
 

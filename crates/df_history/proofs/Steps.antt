@@ -9,7 +9,7 @@ use Rattle.df_theory.specs.Holds.{Sound}
 use Rattle.df_theory.specs.Chance.{InImages}
 use Rattle.df_theory.specs.Grown.{GoesOn}
 use Rattle.df_theory.proofs.Laws.{boot_higher, prepare_agrees, next_grew}
-use Rattle.df_history.specs.Lives.{Asleep, Awake, Follows, Lived, Lives, Steps, Turn, first_of}
+use Rattle.df_history.specs.Lives.{Asleep, Awake, Lived, Lives, Steps, Turn, TurnFollows, first_view_of}
 
 pub lives_sound : (sh : Shape) (images : List Units) (v : View) (t : Turn) → Lives sh images v t → Sound sh v
 lives_sound sh [] v t lives = absurd lives
@@ -17,13 +17,13 @@ lives_sound sh (image ∷ images) v t lives = lives.0.bears.sound
 
 -- ---- one step
 
-follow_rank : (sh : Shape) (images : List Units) (u : View) (s : Turn) (v : View) (t : Turn) → Sound sh u → Follows images u s v t → (u.checkpoint.content ≡ v.checkpoint.content) ⊎ (rank_of u.checkpoint.content < rank_of v.checkpoint.content)
+follow_rank : (sh : Shape) (images : List Units) (u : View) (s : Turn) (v : View) (t : Turn) → Sound sh u → TurnFollows images u s v t → (u.checkpoint.content ≡ v.checkpoint.content) ⊎ (rank_of u.checkpoint.content < rank_of v.checkpoint.content)
 follow_rank sh images u Awake v Awake sound next = elim (next_grew sh u v sound next.next).checkpoint [ inl same ↦ inl (ap (λ (b : Checkpoint). b.content) same) | inr less ↦ inr less ]
 follow_rank sh images u Awake v Asleep sound none = absurd none
 follow_rank sh images u Asleep v Asleep sound same = inl (ap (λ (x : View). x.checkpoint.content) (sym same))
 follow_rank sh images u Asleep v Awake sound (d, is, same) = inr (omega (arith, boot_higher u d is, ap (λ (x : View). rank_of x.checkpoint.content) same))
 
-follow_boot : (sh : Shape) (images : List Units) (u : View) (s : Turn) (v : View) (t : Turn) → Sound sh u → Follows images u s v t → boot_of u ≤ boot_of v
+follow_boot : (sh : Shape) (images : List Units) (u : View) (s : Turn) (v : View) (t : Turn) → Sound sh u → TurnFollows images u s v t → boot_of u ≤ boot_of v
 follow_boot sh images u Awake v Awake sound next = (next_grew sh u v sound next.next).boot
 follow_boot sh images u Awake v Asleep sound none = absurd none
 follow_boot sh images u Asleep v Asleep sound same = omega (arith, ap boot_of same)
@@ -67,7 +67,7 @@ lived_self sh (image ∷ images) v t (holds, inl starts) = (refl, refl)
 lived_self sh (image ∷ images) v t (holds, inr (u, s, step, lives)) = inl (refl, refl)
 
 pub first_low : (sh : Shape) (images : List Units) (v : View) (t : Turn) (lives : Lives sh images v t) (w : View) (a : Turn) → Lived sh images v t lives w a
-    → (rank_of (first_of sh images v t lives).checkpoint.content ≤ rank_of w.checkpoint.content) × (boot_of (first_of sh images v t lives) ≤ boot_of w)
+    → (rank_of (first_view_of sh images v t lives).checkpoint.content ≤ rank_of w.checkpoint.content) × (boot_of (first_view_of sh images v t lives) ≤ boot_of w)
 first_low sh [] v t lives w a lived = absurd lived
 first_low sh (image ∷ images) v t (holds, inl starts) w a lived = (omega (arith, ap (λ (x : View). rank_of x.checkpoint.content) lived.0), omega (arith, ap boot_of lived.0))
 first_low sh (image ∷ images) v t (holds, inr (u, s, step, lives)) w a (inl is) =

@@ -13,7 +13,7 @@ use Rattle.df_theory.specs.Grown.{IsSafe}
 use Rattle.df_theory.specs.Rests.{IsGoodLog, RestsOn}
 use Rattle.df_theory.specs.Runs.{AtEach, Puts, Step, Syncs, after_steps}
 use Rattle.df_theory.specs.MendLaws.{IsSlotHeader, Reaches, mend_steps}
-use Rattle.df_theory.specs.WriterLaws.{Appends}
+use Rattle.df_theory.specs.WriterLaws.{AppendsPrepare}
 use Rattle.df_theory.specs.Found.{AreOfPlaces, IsFound, IsInRange, IsOfPlace}
 use Rattle.df_theory.proofs.Laws.{anew_law, each_weaker, four, hurt_law, put_one_law, rests_law, short_same, holds_found, bears_open, chosen_same, pool_pools, All, IsOpen, now_all, pools_all, copies_of, reserved, copies_are, header_put, may_append, may_raise, prepare_put, quiet_updated, copies_all, put_all, never_kept}
 use Rattle.df_history.specs.Histories.{InHistoryPool, InHistoryPools, IsLived, IsLivedMoment, IsSettled, MayStart}
@@ -66,7 +66,7 @@ renewing = after_steps (append_steps renewed) third
 abbrev view : Content → View
 view c = booted (appended (first 2) (renewed ∷ [])) c
 
-renews : Appends shape third (first 2) (view (content 2)) (prepare_put renewed) (header_put renewed)
+renews : AppendsPrepare shape third (first 2) (view (content 2)) (prepare_put renewed) (header_put renewed)
 renews = appends_to 2 third renewed opened2.0 (quiet_updated (content 2) (record { start = shown; events = [] })) (clear_of 2 shown (λ s p is own. absurd (let both : None ≡ Some (PrepareUnit p) = is in cc)))
     (may_append shape (first 2) (renewed ∷ []) (omega arith) (refl, refl, tt) (record { mark = refl; checkpoint = refl; boot = refl; group = refl; group_last = refl }, tt) (omega arith, omega arith, omega arith) ((refl, omega arith), tt))
 

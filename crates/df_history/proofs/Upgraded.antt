@@ -8,7 +8,7 @@ use Rattle.df_theory.specs.Holds.{Holds}
 use Rattle.df_theory.specs.Next.{MayBoot, booted}
 use Rattle.df_theory.specs.Chance.{EachLeft}
 use Rattle.df_theory.specs.Rests.{RestsOn}
-use Rattle.df_theory.specs.Upgrades.{IsRaised, as_version, begun, of_version, raise_steps}
+use Rattle.df_theory.specs.Upgrades.{IsRaised, as_version, of_version, raise_steps, restarted_at}
 use Rattle.df_theory.proofs.Laws.{anew_law, each_weaker, rests_safe, raise_anew_law, raise_ends_law}
 use Rattle.df_history.specs.Lives.{Starts}
 use Rattle.df_history.specs.Histories.{IsLivedMoment}
@@ -29,10 +29,10 @@ raised_starts sh n image v d may raised = record {
         let same : a.0 ≡ c = (let e = a.1 in cc) in
         subst (λ (x : Content). (x ≡ d) ⊎ (rank_of x < rank_of d)) same (a.2 differs)
 
-raised_begins : (sh : Shape) (n : ℕ) (image : Units) (v : View) (d : Content) → MayBoot (as_version n v) d → IsRaised sh image (booted v d) → IsLivedMoment sh [] (begun image) × RestsOn sh (begun image) (booted v d)
+raised_begins : (sh : Shape) (n : ℕ) (image : Units) (v : View) (d : Content) → MayBoot (as_version n v) d → IsRaised sh image (booted v d) → IsLivedMoment sh [] (restarted_at image) × RestsOn sh (restarted_at image) (booted v d)
 raised_begins sh n image v d may raised =
-    let rests : RestsOn sh (begun image) (booted v d) = anew_law sh image (booted v d) raised.holds in
-    (first_lived_law sh (begun image) (rests_safe sh (begun image) (booted v d) rests) (inr (booted v d, raised.holds, raised_starts sh n image v d may raised)), rests)
+    let rests : RestsOn sh (restarted_at image) (booted v d) = anew_law sh image (booted v d) raised.holds in
+    (first_lived_law sh (restarted_at image) (rests_safe sh (restarted_at image) (booted v d) rests) (inr (booted v d, raised.holds, raised_starts sh n image v d may raised)), rests)
 
 pub upgraded_law : UpgradedLaw
 upgraded_law sh n image v table headers copies d puts may beyond =
@@ -42,6 +42,6 @@ pub stopped_upgrade_law : StoppedUpgradeLaw
 stopped_upgrade_law sh n image v table headers copies d puts may clean =
     each_weaker
     (λ log. EachLeft log (λ left. Holds sh left v ⊎ IsRaised (of_version n sh) left (booted v d)))
-    (λ log. EachLeft log (λ left. Holds sh left v ⊎ (IsLivedMoment (of_version n sh) [] (begun left) × RestsOn (of_version n sh) (begun left) (booted v d))))
+    (λ log. EachLeft log (λ left. Holds sh left v ⊎ (IsLivedMoment (of_version n sh) [] (restarted_at left) × RestsOn (of_version n sh) (restarted_at left) (booted v d))))
     (λ log each left is chance. elim (each left is chance) [ inl old ↦ inl old | inr new ↦ inr (raised_begins (of_version n sh) n left v d may.boot new) ])
-    (raise_steps headers copies puts) (begun image) (raise_anew_law sh n image v table headers copies d puts may clean)
+    (raise_steps headers copies puts) (restarted_at image) (raise_anew_law sh n image v table headers copies d puts may clean)

@@ -1,4 +1,4 @@
--- A log that was begun anew, from its open on: the open raises its boot, and after that the history stays lived however the log grows.
+-- A log that was restarted, from its open on: the open raises its boot, and after that the history stays lived however the log grows.
 use Rattle.std.specs.Prelude.{◌≡◌, ◌<◌, ℕ, List, ◌∷◌, ◌++◌}
 use Rattle.df_theory.specs.CopyPuts.{PutsCopies}
 use Rattle.df_theory.specs.Units.{Content, Header, Units}
@@ -13,14 +13,14 @@ use Rattle.df_theory.specs.MendLaws.{MayMend}
 use Rattle.df_theory.specs.Upgrades.{raise_steps}
 use Rattle.df_history.specs.Histories.{IsBegunAnew, IsLived, IsLivedMoment}
 
--- the log was begun anew after these logs, and its boot was raised since
+-- the log was restarted after these logs, and its boot was raised since
 pub record IsAwakened (sh : Shape) (log before : UnitLog) (logs : List UnitLog) : Type 0 where
   pub begun : IsBegunAnew sh log before logs
   pub raised : boot_of begun.view < boot_of begun.newest
 
 -- a later moment of the same log: it began as this one did, and more happened
-abbrev pub IsLater : UnitLog → UnitLog → Type 0
-IsLater later log = (new : List UnitEvent) × (later.events ≡ new ++ log.events) × (later.start ≡ log.start)
+abbrev pub IsLaterMoment : UnitLog → UnitLog → Type 0
+IsLaterMoment later log = (new : List UnitEvent) × (later.events ≡ new ++ log.events) × (later.start ≡ log.start)
 
 -- An open of a log that rests on a view: at each moment of its mending and its boot update the history is lived, and at the end the log is awake.
 abbrev pub RaiseLivedLaw : Type 0
@@ -31,7 +31,7 @@ RaiseLivedLaw =
 
 -- From there on the history is lived wherever the log grew as it should, with no list of steps; and so it is a moment of a lived history wherever it is safe.
 abbrev pub GrownLivedLaw : Type 0
-GrownLivedLaw = (sh : Shape) (log later before : UnitLog) (logs : List UnitLog) → IsAwakened sh log before logs → IsLived sh (before ∷ logs) → IsLater later log → Grown sh later → IsAwakened sh later before logs
+GrownLivedLaw = (sh : Shape) (log later before : UnitLog) (logs : List UnitLog) → IsAwakened sh log before logs → IsLived sh (before ∷ logs) → IsLaterMoment later log → Grown sh later → IsAwakened sh later before logs
 
 abbrev pub SafeLivedLaw : Type 0
-SafeLivedLaw = (sh : Shape) (log later before : UnitLog) (logs : List UnitLog) → IsAwakened sh log before logs → IsLived sh (before ∷ logs) → IsLater later log → IsSafe sh later → IsLivedMoment sh (before ∷ logs) later
+SafeLivedLaw = (sh : Shape) (log later before : UnitLog) (logs : List UnitLog) → IsAwakened sh log before logs → IsLived sh (before ∷ logs) → IsLaterMoment later log → IsSafe sh later → IsLivedMoment sh (before ∷ logs) later

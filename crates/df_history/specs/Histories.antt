@@ -1,4 +1,4 @@
--- Histories: a list of logs, the newest first, each begun anew at the image that an open found.
+-- Histories: a list of logs, the newest first, each restarted at the image that an open found.
 use Rattle.std.specs.Prelude.{◌≡◌, ◌⊎◌, ◌<◌, ℕ, List, [], ◌∷◌, ◌++◌, Some, None}
 use Rattle.df_theory.specs.Units.{AnyUnit, Content, CopyPlace, CopyUnit, Place, Units}
 use Rattle.df_theory.specs.Shape.{Shape}
@@ -32,7 +32,7 @@ pub record NoChanceOver (logs : List UnitLog) (image : Units) : Type 0 where
   pub pooled : (place : Place) (x : AnyUnit) → image place ≡ Some x → InHistoryPool logs place x
   pub distinct : (place other : Place) (x y : AnyUnit) → InHistoryPools logs place x → InHistoryPools logs other y → Distinct x y
 
--- ---- where a log begins anew
+-- ---- where a log restarts
 
 -- nothing is loose: the image as it is now is settled, and nothing is being written. So it is after a sync, as after the barrier of an open, and after a stop
 pub record IsSettled (log : UnitLog) : Type 0 where
@@ -62,13 +62,13 @@ StaysBare sh b [] = Unit {0}
 StaysBare sh b (j ∷ []) = Unit {0}
 StaysBare sh b (j ∷ i ∷ images) = ((u v : View) → Holds sh i u → Holds sh j v → boot_of u ≡ b → IsSameBare u v) × StaysBare sh b (i ∷ images)
 
--- the images of a log that was begun anew after these images: each has a view, next to the one before it, and shows units of the history or of its view, or what survived of it; what was settled before counts as in one log
+-- the images of a log that was restarted after these images: each has a view, next to the one before it, and shows units of the history or of its view, or what survived of it; what was settled before counts as in one log
 abbrev pub GrowsOn : Shape → List Units → List Units → View → Type 0
 GrowsOn sh rest [] v = ⊥
 GrowsOn sh rest (image ∷ []) v = Holds sh image v
 GrowsOn sh rest (image ∷ before ∷ images) v = Holds sh image v × AllInHistory ((before ∷ images) ++ rest) image v × ((u : View) × GoesOn ((before ∷ images) ++ rest) u v × GrowsOn sh rest (before ∷ images) u)
 
--- a log that was begun anew after these logs: it grew, and its bare view stayed until its boot was raised
+-- a log that was restarted after these logs: it grew, and its bare view stayed until its boot was raised
 pub record IsBegunAnew (sh : Shape) (log before : UnitLog) (logs : List UnitLog) : Type 0 where
   pub start : MayStart before logs log.start
   pub view : View
@@ -105,10 +105,10 @@ abbrev pub HadBy : Shape → UnitLog → View → Type 0
 HadBy sh log w = (image : Units) × Among (settled log) image × Holds sh image w
 
 -- a settled image of the log has a boot above that of its start
-abbrev pub Raises : Shape → UnitLog → Type 0
-Raises sh log = (image : Units) × Among (settled log) image × (s u : View) × Holds sh log.start s × Holds sh image u × (boot_of s < boot_of u)
+abbrev pub RaisesBoot : Shape → UnitLog → Type 0
+RaisesBoot sh log = (image : Units) × Among (settled log) image × (s u : View) × Holds sh log.start s × Holds sh image u × (boot_of s < boot_of u)
 
 -- a settled image had this view, of the last log that raised its boot or of a later one, or of any log where none did
 abbrev pub WasSince : Shape → List UnitLog → View → Type 0
 WasSince sh [] w = ⊥
-WasSince sh (log ∷ logs) w = HadBy sh log w ⊎ ((Raises sh log → ⊥) × WasSince sh logs w)
+WasSince sh (log ∷ logs) w = HadBy sh log w ⊎ ((RaisesBoot sh log → ⊥) × WasSince sh logs w)

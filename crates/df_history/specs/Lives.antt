@@ -1,4 +1,4 @@
--- Settled images of several logs, one after the other. Each has a view; a log that was begun anew sleeps until its boot is raised.
+-- Settled images of several logs, one after the other. Each has a view; a log that was restarted sleeps until its boot is raised.
 use Rattle.std.specs.Prelude.{◌≡◌, ◌⊎◌, ◌<◌, ℕ, List, [], ◌∷◌}
 use Rattle.std.proofs.Common.{inl, inr}
 use Rattle.df_theory.specs.Units.{Content, CopyPlace, CopyUnit, Message, PreparePlace, PrepareUnit, ReplyPlace, ReplyUnit, Units}
@@ -11,21 +11,21 @@ use Rattle.df_theory.specs.Chance.{InImages}
 use Rattle.df_theory.specs.Grown.{AllInHistory, GoesOn}
 use Rattle.df_theory.specs.HistoryLaws.{ShowsSettled}
 
--- a log that was begun anew sleeps: its view stays until its boot is raised. From then on it is awake
+-- a log that was restarted sleeps: its view stays until its boot is raised. From then on it is awake
 pub data Turn : Type 0 where
   Asleep : Turn
   Awake : Turn
 
 -- how a view follows another in one log, after these images
-abbrev pub Follows : List Units → View → Turn → View → Turn → Type 0
-Follows images u Awake v Awake = GoesOn images u v
-Follows images u Awake v Asleep = ⊥
-Follows images u Asleep v Asleep = v ≡ u
-Follows images u Asleep v Awake = (d : Content) × IsBoot u d × (v ≡ booted u d)
+abbrev pub TurnFollows : List Units → View → Turn → View → Turn → Type 0
+TurnFollows images u Awake v Awake = GoesOn images u v
+TurnFollows images u Awake v Asleep = ⊥
+TurnFollows images u Asleep v Asleep = v ≡ u
+TurnFollows images u Asleep v Awake = (d : Content) × IsBoot u d × (v ≡ booted u d)
 
--- the next settled image: of the same log, or the first of a log that is begun anew, which shows any of the units that were settled before, and has the same superblock
+-- the next settled image: of the same log, or the first of a log that is restarted, which shows any of the units that were settled before, and has the same superblock
 abbrev pub Steps : List Units → Units → View → Turn → View → Turn → Type 0
-Steps images image u s v t = (AllInHistory images image v × Follows images u s v t) ⊎ (ShowsSettled images image × (t ≡ Asleep) × (v.checkpoint.content ≡ u.checkpoint.content))
+Steps images image u s v t = (AllInHistory images image v × TurnFollows images u s v t) ⊎ (ShowsSettled images image × (t ≡ Asleep) × (v.checkpoint.content ≡ u.checkpoint.content))
 
 -- the first image with a view: what was settled until then is older than its superblock, or this one
 pub record Starts (image : Units) (images : List Units) (v : View) : Type 0 where
@@ -46,7 +46,7 @@ Lived sh (image ∷ images) v t (holds, inl starts) w a = (w ≡ v) × (a ≡ t)
 Lived sh (image ∷ images) v t (holds, inr (u, s, step, lives)) w a = ((w ≡ v) × (a ≡ t)) ⊎ Lived sh images u s lives w a
 
 -- the first view
-abbrev pub first_of : (sh : Shape) (images : List Units) (v : View) (t : Turn) → Lives sh images v t → View
-first_of sh [] v t lives = v
-first_of sh (image ∷ images) v t (holds, inl starts) = v
-first_of sh (image ∷ images) v t (holds, inr (u, s, step, lives)) = first_of sh images u s lives
+abbrev pub first_view_of : (sh : Shape) (images : List Units) (v : View) (t : Turn) → Lives sh images v t → View
+first_view_of sh [] v t lives = v
+first_view_of sh (image ∷ images) v t (holds, inl starts) = v
+first_view_of sh (image ∷ images) v t (holds, inr (u, s, step, lives)) = first_view_of sh images u s lives

@@ -59,7 +59,7 @@ AwakeLivedLaw =
     (sh : Shape) (log before : UnitLog) (logs : List UnitLog) (begun : IsBegunAnew sh log before logs) → IsLived sh (before ∷ logs) → boot_of begun.view < boot_of begun.newest → (ss : List Step)
     → AtEach (IsSafe sh) log ss → AtEach (IsLivedMoment sh (before ∷ logs)) log ss
 
--- an open: its mending and its boot update, of a log that is begun anew
+-- an open: its mending and its boot update, of a log that is restarted
 pub record IsOpening (sh : Shape) (shown : Units) (w : View) (table : ℕ → Header) (headers : List Units) (copies : List (ℕ × Units)) (d : Content) : Type 0 where
   pub may_mend : MayMend sh (record { start = shown; events = [] }) w table headers copies
   pub may_boot : MayBoot w d

@@ -2,10 +2,10 @@
 ghost use Rattle.std.specs.Prelude.{◌≡◌};
 ghost use Rattle.df_base.specs.Causes.{HasCause};
 ghost use Rattle.df_model.specs.declared.commands.Answer.TheVariants as answers;
-ghost use Rattle.df_script_model.specs.Script.{address_in, op_in};
+ghost use Rattle.df_script_model.specs.Script.{address_named, op_in};
 ghost use Rattle.df_model.specs.Commands.{Command as Asked};
 ghost use Rattle.df_script_model.specs.Texts.{progress_text};
-ghost use Rattle.df_inspect.specs.Answers.{command_of, text_of};
+ghost use Rattle.df_inspect.specs.Answers.{command_of, line_of_answer};
 ghost use Rattle.df_inspect.specs.Prints.{Prints};
 
 use crate::blocks::scrubbed_line;
@@ -22,14 +22,14 @@ use df_model::{
 
 /// What was answered to a command, or why it is refused. A failing disk has no line, nor has a unit that was read, which prints itself.
 pub fn print_answer<W: Sink>(sink: &mut W, command: &Command, answer: &Answer) -> Result<(), Failed>
-    ensures prints { Prints (text_of (command_of command.now) answer.now) (W.written sink.old) (W.written sink.new) result }
+    ensures prints { Prints (line_of_answer (command_of command.now) answer.now) (W.written sink.old) (W.written sink.new) result }
     ensures cause { HasCause (W.faults sink.old) (W.faults sink.new) result }
 {
     write_line(sink, &answer_line(command, answer))
 }
 
 fn answer_line(command: &Command, answer: &Answer) -> Line
-    ensures { result.items ≡ text_of (command_of command.now) answer.now }
+    ensures { result.items ≡ line_of_answer (command_of command.now) answer.now }
 {
     match *answer {
         Answer::Append(answer) => append_line(answer),
@@ -63,7 +63,7 @@ fn op_in(command: &Command) -> u64
 
 // The address that a release names.
 fn address_in(command: &Command) -> u64
-    ensures { result ≡ address_in (command_of command.now) }
+    ensures { result ≡ address_named (command_of command.now) }
 {
     match *command {
         Command::Release { address } | Command::ReadBlock { address } => address,
@@ -73,7 +73,7 @@ fn address_in(command: &Command) -> u64
 
 // `appended OP`: the op that the prepare got.
 fn append_line(answer: Result<Receipt, AppendError>) -> Line
-    ensures { (c : Asked) → result.items ≡ text_of c (answers.Append answer) }
+    ensures { (c : Asked) → result.items ≡ line_of_answer c (answers.Append answer) }
 {
     match answer {
         Ok(receipt) => number_line("appended", u128::from(receipt.op)),
@@ -83,7 +83,7 @@ fn append_line(answer: Result<Receipt, AppendError>) -> Line
 
 // `staged OP`: the op that the request is to get.
 fn stage_line(answer: Result<u64, AppendError>) -> Line
-    ensures { (c : Asked) → result.items ≡ text_of c (answers.Stage answer) }
+    ensures { (c : Asked) → result.items ≡ line_of_answer c (answers.Stage answer) }
 {
     match answer {
         Ok(op) => number_line("staged", u128::from(op)),
@@ -93,7 +93,7 @@ fn stage_line(answer: Result<u64, AppendError>) -> Line
 
 // `flushed COUNT`: how many prepares were appended.
 fn flush_line(answer: Result<u64, FlushError>) -> Line
-    ensures { (c : Asked) → result.items ≡ text_of c (answers.Flush answer) }
+    ensures { (c : Asked) → result.items ≡ line_of_answer c (answers.Flush answer) }
 {
     match answer {
         Ok(count) => number_line("flushed", u128::from(count)),
@@ -103,7 +103,7 @@ fn flush_line(answer: Result<u64, FlushError>) -> Line
 
 // `replied OP`: the op whose reply is stored.
 fn reply_line(op: u64, answer: Result<Check, ReplyError>) -> Line
-    ensures { (c : Asked) → op ≡ op_in c → result.items ≡ text_of c (answers.Reply answer) }
+    ensures { (c : Asked) → op ≡ op_in c → result.items ≡ line_of_answer c (answers.Reply answer) }
 {
     match answer {
         Ok(_) => number_line("replied", u128::from(op)),
@@ -113,7 +113,7 @@ fn reply_line(op: u64, answer: Result<Check, ReplyError>) -> Line
 
 // `wrote ADDRESS`: where the block was written.
 fn wrote_line(answer: Result<Reference, BlockError>) -> Line
-    ensures { (c : Asked) → result.items ≡ text_of c (answers.WriteBlock answer) }
+    ensures { (c : Asked) → result.items ≡ line_of_answer c (answers.WriteBlock answer) }
 {
     match answer {
         Ok(reference) => number_line("wrote", u128::from(reference.address)),
@@ -123,7 +123,7 @@ fn wrote_line(answer: Result<Reference, BlockError>) -> Line
 
 // `released ADDRESS`: the block that is live no longer.
 fn release_line(address: u64, answer: Result<(), NotLive>) -> Line
-    ensures { (c : Asked) → address ≡ address_in c → result.items ≡ text_of c (answers.Release answer) }
+    ensures { (c : Asked) → address ≡ address_named c → result.items ≡ line_of_answer c (answers.Release answer) }
 {
     match answer {
         Ok(()) => number_line("released", u128::from(address)),
@@ -133,7 +133,7 @@ fn release_line(address: u64, answer: Result<(), NotLive>) -> Line
 
 // `begun BLOCKS`: how many trailer blocks the checkpoint that was begun has.
 fn begin_line(answer: Result<u64, BeginError>) -> Line
-    ensures { (c : Asked) → result.items ≡ text_of c (answers.Begin answer) }
+    ensures { (c : Asked) → result.items ≡ line_of_answer c (answers.Begin answer) }
 {
     match answer {
         Ok(blocks) => number_line("begun", u128::from(blocks)),
@@ -143,7 +143,7 @@ fn begin_line(answer: Result<u64, BeginError>) -> Line
 
 // `working LEFT` or `done SEQUENCE`: how far the running checkpoint came.
 fn step_line(answer: Result<Progress, StepError>) -> Line
-    ensures { (c : Asked) → result.items ≡ text_of c (answers.Advance answer) }
+    ensures { (c : Asked) → result.items ≡ line_of_answer c (answers.Advance answer) }
 {
     match answer {
         Ok(progress) => progress_line(progress),

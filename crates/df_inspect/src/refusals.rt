@@ -1,7 +1,7 @@
 // The lines that say why a command is refused: the name of the cause and its numbers. A failing disk has no line.
 ghost use Rattle.std.specs.Prelude.{◌≡◌};
 ghost use Rattle.df_model.specs.declared.errors.AppendError.TheVariants as append;
-ghost use Rattle.df_script_model.specs.Texts.{append_refusal, begin_refusal, block_refusal, flush_refusal, lookup_refusal, prepare_refusal, read_refusal, reply_refusal, step_refusal};
+ghost use Rattle.df_script_model.specs.Texts.{append_refusal, begin_refusal_line, block_refusal, flush_refusal, lookup_refusal, prepare_refusal, read_refusal, reply_refusal, step_refusal};
 
 use crate::line::{Line, number_line, text_line, two_numbers_line};
 use crate::names::damaged_line;
@@ -87,7 +87,7 @@ pub(crate) fn block_refusal(error: BlockError) -> Line
 
 /// Why a checkpoint isn't begun.
 pub(crate) fn begin_refusal(error: BeginError) -> Line
-    ensures { result.items ≡ begin_refusal error }
+    ensures { result.items ≡ begin_refusal_line error }
 {
     match error {
         BeginError::Running { left } => number_line("refused Running left", u128::from(left)),

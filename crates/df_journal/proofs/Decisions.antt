@@ -28,8 +28,8 @@ use Rattle.df_journal.specs.Scan.{Scan}
 use Rattle.df_journal.proofs.Ops.{one_op}
 use Rattle.df_journal.specs.declared.table.Start.{Start}
 use Rattle.df_journal.specs.Planned.{has_header_of, named, named_by, named_on, planned, planned_on, shows_header}
-use Rattle.df_journal.specs.Seen.{HasChecks, IsOfCheck, IsOpOf, IsTaken, TakesNow, decision_on, seen_in}
-use Rattle.df_journal.specs.Shows.{IsHeaderThere, IsTable, ShowsHeader, ShowsPrepare, ShowsSlot, TellsRings}
+use Rattle.df_journal.specs.Seen.{HasChecks, IsOfCheck, IsOpOf, IsTakenPrepare, TakesNow, decision_on, seen_in}
+use Rattle.df_journal.specs.Shows.{IsHeaderThere, IsSeenTable, ShowsHeader, ShowsPrepare, ShowsSlot, TellsRings}
 
 header_seen : (b o : ℕ) (x : Option AnyUnit) (r : Result Header Class) → ShowsHeader x r → Cases.seen_header b o x ≡ seen_in b o r
 header_seen b o x (Ok h) is = ap (Cases.seen_header b o) is
@@ -60,12 +60,12 @@ prepare_check : (layout : Layout) (cluster s : ℕ) (r : Result Header Class) �
 prepare_check layout cluster s (Ok h) is = unit_check layout cluster _ _ is.1
 prepare_check layout cluster s (Err class) is = tt
 
-pub slot_checks : (layout : Layout) (cluster s : ℕ) (table : List SlotSeen) (seen : SlotSeen) → IsTable layout cluster table → slice_get table s ≡ Some seen → HasChecks seen
+pub slot_checks : (layout : Layout) (cluster s : ℕ) (table : List SlotSeen) (seen : SlotSeen) → IsSeenTable layout cluster table → slice_get table s ≡ Some seen → HasChecks seen
 slot_checks layout cluster s table seen is at = (header_check layout cluster s seen.header (is.each s seen at).header, prepare_check layout cluster s seen.prepare (is.each s seen at).prepare)
 
 -- ---- a prepare that is shown is a unit
 
-pub shown_unit : (layout : Layout) (cluster s : ℕ) (table : List SlotSeen) (seen : SlotSeen) (h : Header) → IsTable layout cluster table → slice_get table s ≡ Some seen → seen.prepare ≡ Ok h → IsThere layout cluster (place_in WalPrepares s) (Ok h)
+pub shown_unit : (layout : Layout) (cluster s : ℕ) (table : List SlotSeen) (seen : SlotSeen) (h : Header) → IsSeenTable layout cluster table → slice_get table s ≡ Some seen → seen.prepare ≡ Ok h → IsThere layout cluster (place_in WalPrepares s) (Ok h)
 shown_unit layout cluster s table seen h is at shown = subst (λ (r : Result Header Class). IsThere layout cluster (place_in WalPrepares s) r) shown (is.each s seen at).prepare
 
 pub taken_parent : (layout : Layout) (cluster s : ℕ) (h : Header) → IsThere layout cluster (place_in WalPrepares s) (Ok h) → IsCheck h.parent
@@ -108,17 +108,17 @@ taken_group layout cluster s h (body, is) =
     group_reaches h (subst (λ (kind : Kind). ObeysVersion kind h) in_slot.kind is.sealed.rules.version)
 
 -- both of its checksums have sixteen bytes
-pub shown_checks : (layout : Layout) (cluster s : ℕ) (table : List SlotSeen) (seen : SlotSeen) (h : Header) → IsTable layout cluster table → slice_get table s ≡ Some seen → seen.prepare ≡ Ok h → IsCheck h.checksum × IsCheck h.parent
+pub shown_checks : (layout : Layout) (cluster s : ℕ) (table : List SlotSeen) (seen : SlotSeen) (h : Header) → IsSeenTable layout cluster table → slice_get table s ≡ Some seen → seen.prepare ≡ Ok h → IsCheck h.checksum × IsCheck h.parent
 shown_checks layout cluster s table seen h is at shown =
     let there = shown_unit layout cluster s table seen h is at shown in
     (taken_check layout cluster s h there, taken_parent layout cluster s h there)
 
 -- what isn't taken from the entry of a slot isn't taken from that slot
-pub not_taken : (start : Start) (op : ℕ) (table : List SlotSeen) (s t : ℕ) (seen other : SlotSeen) (h : Header) → s ≡ t → slice_get table s ≡ Some seen → slice_get table t ≡ Some other → TakesNow start op seen None → IsTaken start op other h → ⊥
+pub not_taken : (start : Start) (op : ℕ) (table : List SlotSeen) (s t : ℕ) (seen other : SlotSeen) (h : Header) → s ≡ t → slice_get table s ≡ Some seen → slice_get table t ≡ Some other → TakesNow start op seen None → IsTakenPrepare start op other h → ⊥
 not_taken start op table s t seen other h same here there none taken =
     let both : Some other ≡ Some seen = sym there ∙ ap (slice_get table) (sym same) ∙ here in
     let one : other ≡ seen = cc in
-    none h (subst (λ (x : SlotSeen). IsTaken start op x h) one taken)
+    none h (subst (λ (x : SlotSeen). IsTakenPrepare start op x h) one taken)
 
 -- ---- the decision that is given on a slot
 

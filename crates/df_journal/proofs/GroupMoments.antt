@@ -33,49 +33,49 @@ use Rattle.df_units.specs.Bytes.{unit_at}
 use Rattle.df_units.specs.Format.{format_of, shape_of}
 use Rattle.df_units.specs.Meaning.{header_of, message_of}
 use Rattle.df_units.proofs.Laws.{all_added, is_format, part_moments, prepare_put}
-use Rattle.df_headers.specs.Ring.{AreOfRing, IsTable}
-use Rattle.df_prepares.specs.Slots.{IsInOwnSlot, put_events, put_steps}
+use Rattle.df_headers.specs.Ring.{AreOfRing, IsHeaderTable}
+use Rattle.df_prepares.specs.Slots.{IsInOwnSlot, prepare_put_events, put_steps}
 use Rattle.df_journal.specs.Append.{ShowsRing, settle_events, settle_steps}
-use Rattle.df_journal.specs.Flush.{AreOwn, EndsFlushed, LeavesGroup, MayFlushOn, MayPut, first_slot, flush_events, flush_steps, group_puts, group_steps, last_slot, messages_of, sectors_between, sectors_of, units_of, with_headers}
+use Rattle.df_journal.specs.Flush.{AreOwn, EndsFlushed, LeavesGroup, MayFlushOn, MayPutGroup, first_slot, flush_events, flush_steps, group_puts, group_steps, held_prepares, last_slot, messages_of, sectors_between, sectors_of, with_headers}
 use Rattle.df_journal.proofs.GroupTables.{AreIn, at_slot, at_slot_is, ends_of_ring, get_cases, group_kept, own_get, reach_inside, sector_of_two, sector_units, sectors_put, slot_is, turn_apart, two_reach, writes_are_puts}
 use Rattle.df_journal.proofs.Moments.{stays}
 use Rattle.df_journal.proofs.RingWrites.{settle_are_steps}
 
 -- ---- what the rooms hold
 
-held_at : (helds : List Holding) (i : ℕ) (u : Message) → slice_get (units_of helds) i ≡ Some u → (held : Holding) × (slice_get helds i ≡ Some held) × (held.unit ≡ u)
+held_at : (helds : List Holding) (i : ℕ) (u : Message) → slice_get (held_prepares helds) i ≡ Some u → (held : Holding) × (slice_get helds i ≡ Some held) × (held.unit ≡ u)
 held_at [] i u at = absurd (cc)
 held_at (held ∷ helds) zero u at = (held, refl, (let both : Some held.unit ≡ Some u = at in cc))
 held_at (held ∷ helds) (suc i) u at = held_at helds i u at
 
-pub are_in : (layout : Layout) (cluster : ℕ) (helds : List Holding) (table : List Header) → MayPut layout cluster helds table → AreOwn layout helds → AreIn layout cluster (units_of helds)
+pub are_in : (layout : Layout) (cluster : ℕ) (helds : List Holding) (table : List Header) → MayPutGroup layout cluster helds table → AreOwn layout helds → AreIn layout cluster (held_prepares helds)
 are_in layout cluster helds table may own i u at =
     let one = held_at helds i u at in
     subst (λ (w : Message). IsInOwnSlot layout w × (w.header.cluster ≡ cluster)) one.2 ((own i one.0 one.1).own, (may.each i one.0 one.1).1)
 
-pub length_of_units : (helds : List Holding) → length (units_of helds) ≡ length helds
+pub length_of_units : (helds : List Holding) → length (held_prepares helds) ≡ length helds
 length_of_units [] = refl
 length_of_units (held ∷ helds) = omega (arith, length_of_units helds)
 
 -- ---- its device calls are steps
 
-puts_are_steps : (layout : Layout) (cluster : ℕ) (helds : List Holding) → AreOwn layout helds → ((i : ℕ) (held : Holding) → slice_get helds i ≡ Some held → held.unit.header.cluster ≡ cluster) → AreSteps (format_of layout cluster) (group_puts layout helds) (group_steps (units_of helds))
+puts_are_steps : (layout : Layout) (cluster : ℕ) (helds : List Holding) → AreOwn layout helds → ((i : ℕ) (held : Holding) → slice_get helds i ≡ Some held → held.unit.header.cluster ≡ cluster) → AreSteps (format_of layout cluster) (group_puts layout helds) (group_steps (held_prepares helds))
 puts_are_steps layout cluster [] own of_file = tt
 puts_are_steps layout cluster (held ∷ helds) own of_file =
-    let one : AreSteps (format_of layout held.unit.header.cluster) (put_events layout held) (put_steps held.unit) = (prepare_put layout held.unit.header.cluster held.unit.header.slot held.unit _ (own 0 held refl).brings, tt) in
-    steps_join_law (format_of layout cluster) (put_events layout held) (group_puts layout helds) (put_steps held.unit) (group_steps (units_of helds))
-    (subst (λ (c : ℕ). AreSteps (format_of layout c) (put_events layout held) (put_steps held.unit)) (of_file 0 held refl) one)
+    let one : AreSteps (format_of layout held.unit.header.cluster) (prepare_put_events layout held) (put_steps held.unit) = (prepare_put layout held.unit.header.cluster held.unit.header.slot held.unit _ (own 0 held refl).brings, tt) in
+    steps_join_law (format_of layout cluster) (prepare_put_events layout held) (group_puts layout helds) (put_steps held.unit) (group_steps (held_prepares helds))
+    (subst (λ (c : ℕ). AreSteps (format_of layout c) (prepare_put_events layout held) (put_steps held.unit)) (of_file 0 held refl) one)
     (puts_are_steps layout cluster helds (λ i x at. own (suc i) x at) (λ i x at. of_file (suc i) x at))
 
 -- a ring is whole sectors
 ring_whole : (layout : Layout) → layout.slots ≡ 16 * (layout.slots / 16)
 ring_whole layout = omega (arith, layout.slots_within.2)
 
-pub flush_are_steps : (layout : Layout) (cluster : ℕ) (helds : List Holding) (table : List Header) → 0 < length helds → MayPut layout cluster helds table → AreOwn layout helds
-    → AreSteps (format_of layout cluster) (flush_events layout helds table) (flush_steps (units_of helds) table)
+pub flush_are_steps : (layout : Layout) (cluster : ℕ) (helds : List Holding) (table : List Header) → 0 < length helds → MayPutGroup layout cluster helds table → AreOwn layout helds
+    → AreSteps (format_of layout cluster) (flush_events layout helds table) (flush_steps (held_prepares helds) table)
 flush_are_steps layout cluster helds table some may own =
     let all = are_in layout cluster helds table may own in
-    let us = units_of helds in
+    let us = held_prepares helds in
     steps_join_law (format_of layout cluster) (group_puts layout helds) (settle_events layout (with_headers us table) (sectors_of us)) (group_steps us) (settle_steps (with_headers us table) (sectors_of us))
     (puts_are_steps layout cluster helds own (λ i held at. (may.each i held at).1))
     (settle_are_steps layout (with_headers us table) (sectors_of us) (ends_of_ring layout cluster us all (omega (arith, some, length_of_units helds)) (ring_whole layout)) cluster (group_kept layout cluster us table all may.table_is))
@@ -128,9 +128,9 @@ pub record GroupPuts (sh : Shape) (units : Units.Units) (us : List Message) (ste
   pub is_table : IsGroupTable sh units (messages_of us) table headers
   pub are : steps ≡ theory_steps prepares headers
 
-module _ (layout : Layout) (cluster : ℕ) (helds : List Holding) (table : List Header) (t : Told) (put : MayPut layout cluster helds table) (own : AreOwn layout helds) (some : 0 < length helds) (may : MayFlushOn layout cluster (units_of helds) table t) where
+module _ (layout : Layout) (cluster : ℕ) (helds : List Holding) (table : List Header) (t : Told) (put : MayPutGroup layout cluster helds table) (own : AreOwn layout helds) (some : 0 < length helds) (may : MayFlushOn layout cluster (held_prepares helds) table t) where
   abbrev us : List Message
-  us = units_of helds
+  us = held_prepares helds
 
   abbrev v : View
   v = may.view
@@ -162,7 +162,7 @@ module _ (layout : Layout) (cluster : ℕ) (helds : List Holding) (table : List 
   few : length us ≤ 8
   few = omega (arith, may.may.pipeline, count, may.tidy.rests.holds.bears.sound.pipeline.0)
 
-  is : IsTable layout cluster new
+  is : IsHeaderTable layout cluster new
   is = group_kept layout cluster us table all put.table_is
 
   some_slots : 0 < layout.slots
@@ -273,27 +273,27 @@ module _ (layout : Layout) (cluster : ℕ) (helds : List Holding) (table : List 
 
 -- ---- of what a disk told
 
-module _ (layout : Layout) (cluster : ℕ) (helds : List Holding) (table : List Header) (put : MayPut layout cluster helds table) (own : AreOwn layout helds) (some : 0 < length helds) (old new : Option Told) where
-  pub group_moments : AddsPart (flush_events layout helds table) old new → (before after : Told) → old ≡ Some before → new ≡ Some after → (may : MayFlushOn layout cluster (units_of helds) table before)
-      → EachMoment before.log after.log (LeavesGroup layout cluster (units_of helds) table before may)
+module _ (layout : Layout) (cluster : ℕ) (helds : List Holding) (table : List Header) (put : MayPutGroup layout cluster helds table) (own : AreOwn layout helds) (some : 0 < length helds) (old new : Option Told) where
+  pub group_moments : AddsPart (flush_events layout helds table) old new → (before after : Told) → old ≡ Some before → new ≡ Some after → (may : MayFlushOn layout cluster (held_prepares helds) table before)
+      → EachMoment before.log after.log (LeavesGroup layout cluster (held_prepares helds) table before may)
   group_moments part before after first last may =
       flush_moments layout cluster helds table before put own some may after
       (subst (λ (o : Option Told). AddsPart (flush_events layout helds table) o (Some after)) first (subst (λ (o : Option Told). AddsPart (flush_events layout helds table) old o) last part))
 
-  pub group_ends : (made : List Header) (result : Result Unit Failed) → Adds (flush_events layout helds table) old new result → made ≡ with_headers (units_of helds) table → (before after : Told) → old ≡ Some before → new ≡ Some after
-      → (may : MayFlushOn layout cluster (units_of helds) table before) → OnOk result (EndsFlushed layout cluster (units_of helds) table before may after made)
+  pub group_ends : (made : List Header) (result : Result Unit Failed) → Adds (flush_events layout helds table) old new result → made ≡ with_headers (held_prepares helds) table → (before after : Told) → old ≡ Some before → new ≡ Some after
+      → (may : MayFlushOn layout cluster (held_prepares helds) table before) → OnOk result (EndsFlushed layout cluster (held_prepares helds) table before may after made)
   group_ends made result adds same before after first last may =
       go result (subst (λ (o : Option Told). Adds (flush_events layout helds table) o (Some after) result) first (subst (λ (o : Option Told). Adds (flush_events layout helds table) old o result) last adds))
     where
-      go : (r : Result Unit Failed) → Adds (flush_events layout helds table) (Some before) (Some after) r → OnOk r (EndsFlushed layout cluster (units_of helds) table before may after made)
+      go : (r : Result Unit Failed) → Adds (flush_events layout helds table) (Some before) (Some after) r → OnOk r (EndsFlushed layout cluster (held_prepares helds) table before may after made)
       go (Ok done) told = flush_ends layout cluster helds table before put own some may after made told same
       go (Err failed) told = tt
 
 -- the two sectors are of the ring
-pub between_of_ring : (layout room : Layout) (cluster : ℕ) (helds : List Holding) (table : List Header) (first last : ℕ) → MayPut layout cluster helds table → AreOwn layout helds → 0 < length helds → room ≡ layout
-    → first ≡ first_slot (units_of helds) / 16 → last ≡ last_slot 0 (units_of helds) / 16 → AreOfRing room (sectors_between first last)
+pub between_of_ring : (layout room : Layout) (cluster : ℕ) (helds : List Holding) (table : List Header) (first last : ℕ) → MayPutGroup layout cluster helds table → AreOwn layout helds → 0 < length helds → room ≡ layout
+    → first ≡ first_slot (held_prepares helds) / 16 → last ≡ last_slot 0 (held_prepares helds) / 16 → AreOfRing room (sectors_between first last)
 between_of_ring layout room cluster helds table first last put own some here one two =
-    let us = units_of helds in
+    let us = held_prepares helds in
     let are = ends_of_ring layout cluster us (are_in layout cluster helds table put own) (omega (arith, some, length_of_units helds)) (ring_whole layout) in
     let path : sectors_between first last ≡ sectors_of us = λ i. sectors_between (one i) (two i) in
     subst (λ (l : Layout). AreOfRing l (sectors_between first last)) (sym here) (subst (AreOfRing layout) (sym path) are)

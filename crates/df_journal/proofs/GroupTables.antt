@@ -21,7 +21,7 @@ use Rattle.df_theory.proofs.Laws.{mod_apart}
 use Rattle.df_units.specs.Meaning.{header_of, message_of}
 use Rattle.df_units.specs.Puts.{header_unit, put_headers}
 use Rattle.df_units.proofs.Laws.{sector_puts, table_put}
-use Rattle.df_headers.specs.Ring.{AreOfRing, IsHeader, IsTable, in_sector, write_steps}
+use Rattle.df_headers.specs.Ring.{AreOfRing, IsHeader, IsHeaderTable, header_write_steps, in_sector}
 use Rattle.df_headers.proofs.Laws.{sector_at, sector_has, table_kept}
 use Rattle.df_prepares.specs.Slots.{IsInOwnSlot}
 use Rattle.df_journal.specs.Append.{with_header}
@@ -38,10 +38,10 @@ AreApart us = (i j : ℕ) (u x : Message) → slice_get us i ≡ Some u → slic
 
 -- ---- the table
 
-kept_one : (layout : Layout) (cluster : ℕ) (u : Message) (table : List Header) → IsTable layout cluster table → IsInOwnSlot layout u × (u.header.cluster ≡ cluster) → IsTable layout cluster (with_header u table)
+kept_one : (layout : Layout) (cluster : ℕ) (u : Message) (table : List Header) → IsHeaderTable layout cluster table → IsInOwnSlot layout u × (u.header.cluster ≡ cluster) → IsHeaderTable layout cluster (with_header u table)
 kept_one layout cluster u table is in_slot = table_kept layout cluster u.header.slot table u.header is (subst (λ (c : ℕ). IsHeader layout c u.header.slot u.header) in_slot.1 (in_header_ring layout u in_slot.0))
 
-pub group_kept : (layout : Layout) (cluster : ℕ) (us : List Message) (table : List Header) → AreIn layout cluster us → IsTable layout cluster table → IsTable layout cluster (with_headers us table)
+pub group_kept : (layout : Layout) (cluster : ℕ) (us : List Message) (table : List Header) → AreIn layout cluster us → IsHeaderTable layout cluster table → IsHeaderTable layout cluster (with_headers us table)
 group_kept layout cluster [] table all is = is
 group_kept layout cluster (u ∷ us) table all is = group_kept layout cluster us (with_header u table) (λ i x at. all (suc i) x at) (kept_one layout cluster u table is (all 0 u refl))
 
@@ -50,10 +50,10 @@ abbrev IsNew : List Message → List Header → ℕ → Type 0
 IsNew us new s = (i : ℕ) × (u : Message) × (slice_get us i ≡ Some u) × (s ≡ u.header.slot) × (slice_get new s ≡ Some u.header)
 
 module _ (layout : Layout) (cluster : ℕ) where
-  within : (u : Message) (table : List Header) → IsTable layout cluster table → IsInOwnSlot layout u → u.header.slot < length table
+  within : (u : Message) (table : List Header) → IsHeaderTable layout cluster table → IsInOwnSlot layout u → u.header.slot < length table
   within u table is own = omega (arith, slot_below layout u own, is.count)
 
-  pub get_cases : (us : List Message) (table : List Header) (s : ℕ) → AreIn layout cluster us → IsTable layout cluster table → IsNew us (with_headers us table) s ⊎ (slice_get (with_headers us table) s ≡ slice_get table s)
+  pub get_cases : (us : List Message) (table : List Header) (s : ℕ) → AreIn layout cluster us → IsHeaderTable layout cluster table → IsNew us (with_headers us table) s ⊎ (slice_get (with_headers us table) s ≡ slice_get table s)
   get_cases [] table s all is = inr refl
   get_cases (u ∷ us) table s all is = elim (get_cases us (with_header u table) s (λ i x at. all (suc i) x at) (kept_one layout cluster u table is (all 0 u refl))) [
     | inl new ↦ inl (suc new.0, new.1, new.2, new.3, new.4)
@@ -63,7 +63,7 @@ module _ (layout : Layout) (cluster : ℕ) where
     ]
   ]
 
-  pub own_get : (us : List Message) (table : List Header) (i : ℕ) (u : Message) → AreIn layout cluster us → AreApart us → IsTable layout cluster table → slice_get us i ≡ Some u → slice_get (with_headers us table) u.header.slot ≡ Some u.header
+  pub own_get : (us : List Message) (table : List Header) (i : ℕ) (u : Message) → AreIn layout cluster us → AreApart us → IsHeaderTable layout cluster table → slice_get us i ≡ Some u → slice_get (with_headers us table) u.header.slot ≡ Some u.header
   own_get [] table i u all apart is at = absurd (cc)
   own_get (x ∷ us) table zero u all apart is at =
       let one : x ≡ u = same_Some _ _ at in
@@ -181,7 +181,7 @@ abbrev pub sector_units : List Header → List ℕ → List Units
 sector_units table [] = []
 sector_units table (sector ∷ sectors) = put_headers sector (in_sector sector table) ∷ sector_units table sectors
 
-pub writes_are_puts : (table : List Header) (sectors : List ℕ) → write_steps table sectors ≡ all_puts (sector_units table sectors)
+pub writes_are_puts : (table : List Header) (sectors : List ℕ) → header_write_steps table sectors ≡ all_puts (sector_units table sectors)
 writes_are_puts table [] = refl
 writes_are_puts table (sector ∷ sectors) = ap (λ (ss : List Step). all_puts (put_headers sector (in_sector sector table) ∷ []) ++ ss) (writes_are_puts table sectors)
 

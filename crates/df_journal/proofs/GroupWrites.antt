@@ -12,9 +12,9 @@ use Rattle.df_disk.proofs.Laws.{adds_then, part_then}
 use Rattle.df_layout.specs.declared.layout.Layout.{Layout}
 use Rattle.df_format.specs.declared.header.Header.{Header}
 use Rattle.df_buffers.specs.Sounds.{Holding}
-use Rattle.df_prepares.specs.Slots.{put_events}
+use Rattle.df_prepares.specs.Slots.{prepare_put_events}
 use Rattle.df_journal.specs.Append.{settle_events, with_header}
-use Rattle.df_journal.specs.Flush.{IsOwn, flush_events, group_puts, last_slot, sectors_of, units_of, with_headers}
+use Rattle.df_journal.specs.Flush.{IsOwn, flush_events, group_puts, held_prepares, last_slot, sectors_of, with_headers}
 use Rattle.df_journal.proofs.RingWrites.{LeadsAs, drop_all, drop_from, leads_more}
 
 -- what an index gives stands there
@@ -30,7 +30,7 @@ own_more layout helds n one there new old k held less at = elim (cases_eq k n) [
 ]
 
 -- the slot of the last
-pub last_held : (slot : ℕ) (helds : List Holding) (k : ℕ) (held : Holding) → k + 1 ≡ length helds → slice_get helds k ≡ Some held → held.unit.header.slot ≡ last_slot slot (units_of helds)
+pub last_held : (slot : ℕ) (helds : List Holding) (k : ℕ) (held : Holding) → k + 1 ≡ length helds → slice_get helds k ≡ Some held → held.unit.header.slot ≡ last_slot slot (held_prepares helds)
 last_held slot [] k held last at = absurd (omega (arith, last))
 last_held slot (x ∷ []) zero held last at = ap (λ (h : Holding). h.unit.header.slot) (same_Some _ _ (sym at))
 last_held slot (x ∷ []) (suc k) held last at = absurd (omega (arith, last))
@@ -44,34 +44,34 @@ module _ (layout : Layout) (helds : List Holding) (k : ℕ) (held : Holding) (at
   from_here : drop k helds ≡ held ∷ drop (k + 1) helds
   from_here = let one : suc k ≡ k + 1 = omega arith in drop_from k helds held at ∙ ap (λ (n : ℕ). held ∷ drop n helds) one
 
-  pub group_leads : (all : List Event) (old mid new : Option Told) → LeadsAs all (group_puts layout (drop k helds)) old mid → new ≡ after_all (put_events layout held) mid → LeadsAs all (group_puts layout (drop (k + 1) helds)) old new
+  pub group_leads : (all : List Event) (old mid new : Option Told) → LeadsAs all (group_puts layout (drop k helds)) old mid → new ≡ after_all (prepare_put_events layout held) mid → LeadsAs all (group_puts layout (drop (k + 1) helds)) old new
   group_leads all old mid new before turn =
-      leads_more all (put_events layout held) (group_puts layout (drop (k + 1) helds)) old mid new (subst (λ (es : List Event). LeadsAs all es old mid) (ap (group_puts layout) from_here) before) turn
+      leads_more all (prepare_put_events layout held) (group_puts layout (drop (k + 1) helds)) old mid new (subst (λ (es : List Event). LeadsAs all es old mid) (ap (group_puts layout) from_here) before) turn
 
-  pub group_fails : (all : List Event) (old mid new : Option Told) → LeadsAs all (group_puts layout (drop k helds)) old mid → AddsPart (put_events layout held) mid new → AddsPart all old new
+  pub group_fails : (all : List Event) (old mid new : Option Told) → LeadsAs all (group_puts layout (drop k helds)) old mid → AddsPart (prepare_put_events layout held) mid new → AddsPart all old new
   group_fails all old mid new before part =
-      before.part new (subst (λ (es : List Event). AddsPart es mid new) (sym (ap (group_puts layout) from_here)) (part_then (put_events layout held) (group_puts layout (drop (k + 1) helds)) mid new part))
+      before.part new (subst (λ (es : List Event). AddsPart es mid new) (sym (ap (group_puts layout) from_here)) (part_then (prepare_put_events layout held) (group_puts layout (drop (k + 1) helds)) mid new part))
 
   -- and so are the headers
-  pub headers_turn : (old new goal : List Header) → new ≡ with_header held.unit old → with_headers (units_of (drop k helds)) old ≡ goal → with_headers (units_of (drop (k + 1) helds)) new ≡ goal
-  headers_turn old new goal turn before = ap (with_headers (units_of (drop (k + 1) helds))) turn ∙ sym (ap (λ (hs : List Holding). with_headers (units_of hs) old) from_here) ∙ before
+  pub headers_turn : (old new goal : List Header) → new ≡ with_header held.unit old → with_headers (held_prepares (drop k helds)) old ≡ goal → with_headers (held_prepares (drop (k + 1) helds)) new ≡ goal
+  headers_turn old new goal turn before = ap (with_headers (held_prepares (drop (k + 1) helds))) turn ∙ sym (ap (λ (hs : List Holding). with_headers (held_prepares hs) old) from_here) ∙ before
 
 pub group_end : (layout : Layout) (helds : List Holding) (k : ℕ) (all : List Event) (old mid : Option Told) → length helds ≤ k → LeadsAs all (group_puts layout (drop k helds)) old mid → mid ≡ after_all all old
 group_end layout helds k all old mid past leads =
     ap (λ (es : List Event). after_all es mid) (sym (ap (group_puts layout) (drop_all k helds past))) ∙ leads.whole
 
-pub headers_end : (helds : List Holding) (k : ℕ) (table goal : List Header) → length helds ≤ k → with_headers (units_of (drop k helds)) table ≡ goal → table ≡ goal
-headers_end helds k table goal past before = sym (ap (λ (hs : List Holding). with_headers (units_of hs) table) (drop_all k helds past)) ∙ before
+pub headers_end : (helds : List Holding) (k : ℕ) (table goal : List Header) → length helds ≤ k → with_headers (held_prepares (drop k helds)) table ≡ goal → table ≡ goal
+headers_end helds k table goal past before = sym (ap (λ (hs : List Holding). with_headers (held_prepares hs) table) (drop_all k helds past)) ∙ before
 
 -- ---- a settling after them
 
 pub puts_fail : (layout : Layout) (helds : List Holding) (table : List Header) (old new : Option Told) → AddsPart (group_puts layout helds) old new → AddsPart (flush_events layout helds table) old new
-puts_fail layout helds table old new part = part_then (group_puts layout helds) (settle_events layout (with_headers (units_of helds) table) (sectors_of (units_of helds))) old new part
+puts_fail layout helds table old new part = part_then (group_puts layout helds) (settle_events layout (with_headers (held_prepares helds) table) (sectors_of (held_prepares helds))) old new part
 
-pub flush_adds : (layout room : Layout) (helds : List Holding) (table made : List Header) (sectors : List ℕ) (old mid new : Option Told) (result : Result Unit Failed) → room ≡ layout → made ≡ with_headers (units_of helds) table → sectors ≡ sectors_of (units_of helds)
+pub flush_adds : (layout room : Layout) (helds : List Holding) (table made : List Header) (sectors : List ℕ) (old mid new : Option Told) (result : Result Unit Failed) → room ≡ layout → made ≡ with_headers (held_prepares helds) table → sectors ≡ sectors_of (held_prepares helds)
     → mid ≡ after_all (group_puts layout helds) old → Adds (settle_events room made sectors) mid new result → Adds (flush_events layout helds table) old new result
 flush_adds layout room helds table made sectors old mid new result here same there first more =
-    adds_then (group_puts layout helds) (settle_events layout (with_headers (units_of helds) table) (sectors_of (units_of helds))) old mid new result first
-    (subst (λ (l : Layout). Adds (settle_events l (with_headers (units_of helds) table) (sectors_of (units_of helds))) mid new result) here
-    (subst (λ (hs : List Header). Adds (settle_events room hs (sectors_of (units_of helds))) mid new result) same
+    adds_then (group_puts layout helds) (settle_events layout (with_headers (held_prepares helds) table) (sectors_of (held_prepares helds))) old mid new result first
+    (subst (λ (l : Layout). Adds (settle_events l (with_headers (held_prepares helds) table) (sectors_of (held_prepares helds))) mid new result) here
+    (subst (λ (hs : List Header). Adds (settle_events room hs (sectors_of (held_prepares helds))) mid new result) same
     (subst (λ (ss : List ℕ). Adds (settle_events room made ss) mid new result) there more)))

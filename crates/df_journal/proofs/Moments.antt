@@ -36,16 +36,16 @@ use Rattle.df_theory.specs.Next.{appended}
 use Rattle.df_theory.specs.Shape.{slots}
 use Rattle.df_theory.specs.View.{Checkpoint, View, boot_of, head}
 use Rattle.df_theory.proofs.Laws.{found_law, in_front, slot_law, decided_above}
-use Rattle.df_units.specs.Append.{LeadsOnDisk, append_events}
+use Rattle.df_units.specs.Append.{AppendLeadsOnDisk, append_events}
 use Rattle.df_units.specs.Bytes.{first_at, unit_at}
 use Rattle.df_units.specs.Format.{format_of, shape_of}
 use Rattle.df_units.specs.Meaning.{header_of, message_of}
 use Rattle.df_units.specs.Puts.{IsNextSector, header_unit, put_headers}
 use Rattle.df_units.proofs.Laws.{all_added, append_on_disk, headers_put, of_places, part_moments, prepare_put}
-use Rattle.df_headers.specs.Ring.{AreOfRing, IsHeader, IsTable, in_sector}
+use Rattle.df_headers.specs.Ring.{AreOfRing, IsHeader, IsHeaderTable, in_sector}
 use Rattle.df_headers.proofs.Laws.{sector_at, sector_has, set_cases, table_kept, table_written}
 use Rattle.df_prepares.specs.Slots.{IsInOwnSlot, slot_place}
-use Rattle.df_journal.specs.Append.{EndsAppended, Leaves, MayAppendOn, OthersStay, ShowsRing, journal_events, journal_steps, new_sector, with_header}
+use Rattle.df_journal.specs.Append.{AppendLeaves, EndsAppended, MayAppendOn, OthersStay, ShowsRing, journal_events, journal_steps, new_sector, with_header}
 
 -- the header of a prepare is valid in its slot of the header ring
 pub in_header_ring : (layout : Layout) (u : Message) → IsInOwnSlot layout u → IsHeader layout u.header.cluster u.header.slot u.header
@@ -71,7 +71,7 @@ sector_inside : (layout : Layout) (u : Message) → IsInOwnSlot layout u → u.h
 sector_inside layout u is = omega (arith, slot_below layout u is, layout.slots_within.2)
 
 -- the sector that is written has the new header, and the others of the ring
-pub next_sector : (layout : Layout) (u : Message) (table : List Header) (image : Image) → IsInOwnSlot layout u → IsTable layout u.header.cluster table → ShowsRing layout u.header.cluster image table
+pub next_sector : (layout : Layout) (u : Message) (table : List Header) (image : Image) → IsInOwnSlot layout u → IsHeaderTable layout u.header.cluster table → ShowsRing layout u.header.cluster image table
     → IsNextSector layout u.header.cluster image u.header (u.header.slot / 16) (new_sector u table)
 next_sector layout u table image own is shows =
     let slot = u.header.slot in
@@ -90,14 +90,14 @@ next_sector layout u table image own is shows =
     }
 
 -- the table with the new header is one of the layout, and its sector may be written
-pub header_set : (layout : Layout) (u : Message) (table : List Header) (h : Header) (new : List Header) → h ≡ u.header → new ≡ set table h.slot h → IsInOwnSlot layout u → IsTable layout u.header.cluster table → IsTable layout u.header.cluster new
+pub header_set : (layout : Layout) (u : Message) (table : List Header) (h : Header) (new : List Header) → h ≡ u.header → new ≡ set table h.slot h → IsInOwnSlot layout u → IsHeaderTable layout u.header.cluster table → IsHeaderTable layout u.header.cluster new
 header_set layout u table h new same put own is =
-    subst (IsTable layout u.header.cluster) (sym (put ∙ ap (λ (x : Header). set table x.slot x) same)) (table_kept layout u.header.cluster u.header.slot table u.header is (in_header_ring layout u own))
+    subst (IsHeaderTable layout u.header.cluster) (sym (put ∙ ap (λ (x : Header). set table x.slot x) same)) (table_kept layout u.header.cluster u.header.slot table u.header is (in_header_ring layout u own))
 
-pub sector_sealed : (layout : Layout) (u : Message) (table : List Header) → IsInOwnSlot layout u → IsTable layout u.header.cluster table → AreSixteen (in_sector (u.header.slot / 16) table)
+pub sector_sealed : (layout : Layout) (u : Message) (table : List Header) → IsInOwnSlot layout u → IsHeaderTable layout u.header.cluster table → AreSixteen (in_sector (u.header.slot / 16) table)
 sector_sealed layout u table own is = (table_written layout u.header.cluster (u.header.slot / 16) table is (sector_inside layout u own)).sixteen
 
-pub append_steps : (layout : Layout) (u : Message) (table : List Header) → IsInOwnSlot layout u → IsTable layout u.header.cluster table → (bytes : List ℕ) → Brings layout u.header.cluster (place_in WalPrepares u.header.slot) u bytes
+pub append_steps : (layout : Layout) (u : Message) (table : List Header) → IsInOwnSlot layout u → IsHeaderTable layout u.header.cluster table → (bytes : List ℕ) → Brings layout u.header.cluster (place_in WalPrepares u.header.slot) u bytes
     → AreSteps (format_of layout u.header.cluster) (append_events layout u.header.slot bytes (u.header.slot / 16) (new_sector u table)) (journal_steps u table)
 append_steps layout u table own is bytes brings = (
   prepare_put layout u.header.cluster u.header.slot u bytes brings,
@@ -123,17 +123,17 @@ stays layout cluster named parse image v u count whole held same tail low high =
           (subst (λ (b : ℕ). IsEmpty (decided (slots sh) b (head u) units o)) boot (law.1 (omega (arith, above, high))));
     }
 
-module _ (layout : Layout) (u : Message) (table : List Header) (t : Told) (may : MayAppendOn layout u table t) (own : IsInOwnSlot layout u) (is : IsTable layout u.header.cluster table) (bytes : List ℕ) (brings : Brings layout u.header.cluster (place_in WalPrepares u.header.slot) u bytes) where
+module _ (layout : Layout) (u : Message) (table : List Header) (t : Told) (may : MayAppendOn layout u table t) (own : IsInOwnSlot layout u) (is : IsHeaderTable layout u.header.cluster table) (bytes : List ℕ) (brings : Brings layout u.header.cluster (place_in WalPrepares u.header.slot) u bytes) where
   abbrev pub events : List Event
   events = append_events layout u.header.slot bytes (u.header.slot / 16) (new_sector u table)
 
-  leads : LeadsOnDisk (format_of layout u.header.cluster) (shape_of layout u.header.cluster may.named may.parse) t.log (adds events t.log) may.view (appended may.view (message_of u ∷ []))
+  leads : AppendLeadsOnDisk (format_of layout u.header.cluster) (shape_of layout u.header.cluster may.named may.parse) t.log (adds events t.log) may.view (appended may.view (message_of u ∷ []))
   leads = append_on_disk layout u.header.cluster may.named may.parse t.log may.view u bytes (u.header.slot / 16) (new_sector u table) may.is_log may.tidy may.may brings (next_sector layout u table (Log.now t.log) own is may.ring)
 
   more : head (appended may.view (message_of u ∷ [])) ≡ head may.view + 1
   more = omega (arith, length-append may.view.tail (message_of u ∷ []))
 
-  pub append_moments : (after : Told) → AddsPart events (Some t) (Some after) → EachMoment t.log after.log (Leaves layout u table t may)
+  pub append_moments : (after : Told) → AddsPart events (Some t) (Some after) → EachMoment t.log after.log (AppendLeaves layout u table t may)
   append_moments after part log moment =
       let good = part_moments events t after (IsGoodDisk (format_of layout u.header.cluster) (shape_of layout u.header.cluster may.named may.parse) may.view (appended may.view (message_of u ∷ []))) part leads.moments log moment in
       record {
@@ -205,8 +205,8 @@ sector_of_ring layout room u h here same own zero sector at =
     subst (λ (n : ℕ). n < room.slots / 16) (same_Some _ _ at) (omega (arith, sector_inside layout u own, ap (λ (x : Header). x.slot) same, ap (λ (l : Layout). l.slots) here))
 sector_of_ring layout room u h here same own (suc i) sector at = absurd (cc)
 
-module _ (layout : Layout) (held : Holding) (table : List Header) (own : IsInOwnSlot layout held.unit) (is : IsTable layout held.unit.header.cluster table) (brings : Brings layout held.unit.header.cluster (slot_place held.unit.header.slot) held.unit (take (sectors_end held.unit.header.size) held.bytes)) (old new : Option Told) where
-  pub moments_of : AddsPart (journal_events layout held table) old new → (before after : Told) → old ≡ Some before → new ≡ Some after → (may : MayAppendOn layout held.unit table before) → EachMoment before.log after.log (Leaves layout held.unit table before may)
+module _ (layout : Layout) (held : Holding) (table : List Header) (own : IsInOwnSlot layout held.unit) (is : IsHeaderTable layout held.unit.header.cluster table) (brings : Brings layout held.unit.header.cluster (slot_place held.unit.header.slot) held.unit (take (sectors_end held.unit.header.size) held.bytes)) (old new : Option Told) where
+  pub moments_of : AddsPart (journal_events layout held table) old new → (before after : Told) → old ≡ Some before → new ≡ Some after → (may : MayAppendOn layout held.unit table before) → EachMoment before.log after.log (AppendLeaves layout held.unit table before may)
   moments_of part before after first last may =
       append_moments layout held.unit table before may own is _ brings after
       (subst (λ (o : Option Told). AddsPart (journal_events layout held table) o (Some after)) first (subst (λ (o : Option Told). AddsPart (journal_events layout held table) old o) last part))

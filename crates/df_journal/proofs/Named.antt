@@ -17,7 +17,7 @@ use Rattle.df_units.proofs.Laws.{one_number}
 use Rattle.df_buffers.specs.declared.slots.SlotSeen.{SlotSeen}
 use Rattle.df_journal.specs.declared.table.Start.{Start}
 use Rattle.df_journal.specs.Known.{AllKnown, HasSum, NamesFrom}
-use Rattle.df_journal.specs.Shows.{IsTable, ShowsPrepare, ShowsTable}
+use Rattle.df_journal.specs.Shows.{IsSeenTable, ShowsPrepare, ShowsTable}
 use Rattle.df_journal.proofs.Decisions.{shown_checks}
 
 -- ---- down
@@ -54,7 +54,7 @@ read_more sh image c table slot op low seen wanted h shows at slot_is next found
     }
 
 -- the next one isn't shown
-pub read_lacks : (sh : Shape) (image : Images) (c : Content) (layout : Layout) (cluster : ℕ) (table : List SlotSeen) (slot op : ℕ) (seen : SlotSeen) (wanted : List ℕ) → IsTable layout cluster table → ShowsTable image table → slice_get table slot ≡ Some seen → slot ≡ op % slots sh
+pub read_lacks : (sh : Shape) (image : Images) (c : Content) (layout : Layout) (cluster : ℕ) (table : List SlotSeen) (slot op : ℕ) (seen : SlotSeen) (wanted : List ℕ) → IsSeenTable layout cluster table → ShowsTable image table → slice_get table slot ≡ Some seen → slot ≡ op % slots sh
     → IsCheck wanted → HasSum seen wanted None → c.op < op → IsRead sh image c op wanted → LacksKnown sh image c op
 read_lacks sh image c layout cluster table slot op seen wanted is_table shows at slot_is check none above is = record {
   read = is.read;

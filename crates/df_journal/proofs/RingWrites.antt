@@ -15,9 +15,9 @@ use Rattle.df_theory.specs.Device.{AreSteps}
 use Rattle.df_theory.specs.Runs.{Syncs}
 use Rattle.df_theory.proofs.Laws.{steps_join_law}
 use Rattle.df_units.specs.Format.{format_of}
-use Rattle.df_headers.specs.Ring.{AreOfRing, IsTable, sector_events, sector_writes, write_steps}
+use Rattle.df_headers.specs.Ring.{AreOfRing, IsHeaderTable, header_write_steps, sector_events, sector_writes}
 use Rattle.df_headers.proofs.Laws.{writes_are_steps}
-use Rattle.df_prepares.specs.Slots.{put_events}
+use Rattle.df_prepares.specs.Slots.{prepare_put_events}
 use Rattle.df_journal.specs.Append.{journal_events, settle_events, settle_steps, with_header}
 
 -- ---- calls that fail, and a sync
@@ -69,13 +69,13 @@ module _ (layout : Layout) (table : List Header) (sectors : List ℕ) (k past : 
   there = slice_get-get_or sectors k past inside
 
   -- each is a sector of the table
-  pub in_table : (cluster : ℕ) → IsTable layout cluster table → AreOfRing layout sectors → 16 * at_k + 16 ≤ length table
+  pub in_table : (cluster : ℕ) → IsHeaderTable layout cluster table → AreOfRing layout sectors → 16 * at_k + 16 ≤ length table
   in_table cluster is are = omega (arith, are k at_k there, is.count, layout.slots_within.2)
 
   pub in_ring : AreOfRing layout sectors → at_k < 64
   in_ring are = omega (arith, are k at_k there, layout.slots_within.1)
 
-  pub may_write : (cluster : ℕ) → IsTable layout cluster table → AreOfRing layout sectors → IsTable layout cluster table × (at_k < layout.slots / 16)
+  pub may_write : (cluster : ℕ) → IsHeaderTable layout cluster table → AreOfRing layout sectors → IsHeaderTable layout cluster table × (at_k < layout.slots / 16)
   may_write cluster is are = (is, are k at_k there)
 
   pub turn_leads : (room : Layout) (all : List Event) (old mid new : Option Told) → room ≡ layout → LeadsAs all (sector_writes layout table (drop k sectors)) old mid → new ≡ after_all (sector_events room at_k table) mid
@@ -106,21 +106,21 @@ settle_adds layout table sectors old mid last new result first more ok err =
     adds_then (Sync ∷ []) (sector_writes layout table sectors ++ Sync ∷ []) old mid new result first
     (adds_then (sector_writes layout table sectors) (Sync ∷ []) mid last new result more (sync_adds last new result ok err))
 
-pub settle_are_steps : (layout : Layout) (table : List Header) (sectors : List ℕ) → AreOfRing layout sectors → (cluster : ℕ) → IsTable layout cluster table
+pub settle_are_steps : (layout : Layout) (table : List Header) (sectors : List ℕ) → AreOfRing layout sectors → (cluster : ℕ) → IsHeaderTable layout cluster table
     → AreSteps (format_of layout cluster) (settle_events layout table sectors) (settle_steps table sectors)
 settle_are_steps layout table sectors are cluster is =
-    steps_join_law (format_of layout cluster) (sector_writes layout table sectors) (Sync ∷ []) (write_steps table sectors) (Syncs ∷ []) (writes_are_steps layout cluster table sectors is are) tt
+    steps_join_law (format_of layout cluster) (sector_writes layout table sectors) (Sync ∷ []) (header_write_steps table sectors) (Syncs ∷ []) (writes_are_steps layout cluster table sectors is are) tt
 
 -- ---- an append: a put, and a settling after it
 
-pub put_fails : (layout : Layout) (held : Holding) (table : List Header) (old new : Option Told) → AddsPart (put_events layout held) old new → AddsPart (journal_events layout held table) old new
-put_fails layout held table old new part = part_then (put_events layout held) (settle_events layout (with_header held.unit table) (held.unit.header.slot / 16 ∷ [])) old new part
+pub put_fails : (layout : Layout) (held : Holding) (table : List Header) (old new : Option Told) → AddsPart (prepare_put_events layout held) old new → AddsPart (journal_events layout held table) old new
+put_fails layout held table old new part = part_then (prepare_put_events layout held) (settle_events layout (with_header held.unit table) (held.unit.header.slot / 16 ∷ [])) old new part
 
 pub both_add : (layout room : Layout) (held : Holding) (table made : List Header) (sectors : List ℕ) (old mid new : Option Told) (result : Result Unit Failed) → room ≡ layout → made ≡ with_header held.unit table → sectors ≡ held.unit.header.slot / 16 ∷ []
-    → mid ≡ after_all (put_events layout held) old → Adds (settle_events room made sectors) mid new result → Adds (journal_events layout held table) old new result
+    → mid ≡ after_all (prepare_put_events layout held) old → Adds (settle_events room made sectors) mid new result → Adds (journal_events layout held table) old new result
 both_add layout room held table made sectors old mid new result here set one put settled =
     let slot = held.unit.header.slot in
-    adds_then (put_events layout held) (settle_events layout (with_header held.unit table) (slot / 16 ∷ [])) old mid new result put
+    adds_then (prepare_put_events layout held) (settle_events layout (with_header held.unit table) (slot / 16 ∷ [])) old mid new result put
     (subst (λ (l : Layout). Adds (settle_events l (with_header held.unit table) (slot / 16 ∷ [])) mid new result) here
     (subst (λ (t : List Header). Adds (settle_events room t (slot / 16 ∷ [])) mid new result) set
     (subst (λ (ks : List ℕ). Adds (settle_events room made ks) mid new result) one settled)))

@@ -25,7 +25,7 @@ use Rattle.df_places.specs.Units.{IsSeen as IsPlaceSeen}
 use Rattle.df_journal.specs.Seen.{class_of as class_where}
 use Rattle.df_journal.specs.Shows.{IsSlot, ShowsHeader, ShowsPrepare, ShowsTable}
 use Rattle.df_journal.specs.Scan.{Scan, entry, or_blank}
-use Rattle.df_journal.specs.Scanned.{AreSeen, ClassIsShown, HoldsSector, IsScanned, IsSeen, RingsAreShown, header_first, seen_at}
+use Rattle.df_journal.specs.Scanned.{AreSeen, ClassIsShown, HoldsSector, IsScanned, IsSlotSeen, RingsAreShown, header_first, seen_at}
 
 -- ---- bytes
 
@@ -43,7 +43,7 @@ at_place layout cluster image place bytes is = ap (λ (b : List ℕ). header_or_
 -- what is read of a slot is what the disk shows there
 pub slot_seen : (layout : Layout) (cluster slot : ℕ) (told : Option Told) (sector : List ℕ) (seen : SlotSeen) → length sector ≡ 4096 → Shows told (header_first layout slot) sector
     → seen.header ≡ header_or_class (unit_in layout cluster (place_in WalHeaders slot) (header_bytes (slot % 16) sector)) (class_of layout cluster (place_in WalHeaders slot) (header_bytes (slot % 16) sector))
-    → IsPlaceSeen layout cluster told (place_in WalPrepares slot) seen.prepare → IsSeen layout cluster told slot seen
+    → IsPlaceSeen layout cluster told (place_in WalPrepares slot) seen.prepare → IsSlotSeen layout cluster told slot seen
 slot_seen layout cluster slot None sector seen size shows header prepare = tt
 slot_seen layout cluster slot (Some t) sector seen size shows header prepare =
     let one = header ∙ at_place layout cluster t.shown (place_in WalHeaders slot) (header_bytes (slot % 16) sector) (header_part layout t.shown slot sector size shows) in
@@ -70,7 +70,7 @@ held_still layout slot told bytes some holds = record { shows = subst (λ (n : �
 pub seen_none : (layout : Layout) (cluster : ℕ) (told : Option Told) (table : List SlotSeen) → AreSeen layout cluster told 0 table
 seen_none layout cluster told table = record { seen = λ s seen less at. absurd (omega arith); valid = λ s seen less at. absurd (omega arith) }
 
-pub seen_more : (layout : Layout) (cluster : ℕ) (told : Option Told) (k : ℕ) (table new : List SlotSeen) (seen : SlotSeen) → k < length table → new ≡ set table k seen → IsSeen layout cluster told k seen → IsSlot layout cluster k seen
+pub seen_more : (layout : Layout) (cluster : ℕ) (told : Option Told) (k : ℕ) (table new : List SlotSeen) (seen : SlotSeen) → k < length table → new ≡ set table k seen → IsSlotSeen layout cluster told k seen → IsSlot layout cluster k seen
     → AreSeen layout cluster told k table → AreSeen layout cluster told (k + 1) new
 seen_more layout cluster told k table new seen within put is valid are = record {
   seen = λ s other less at. elim (cases_eq s k) [
@@ -78,7 +78,7 @@ seen_more layout cluster told k table new seen within put is valid are = record 
         let same : s ≡ k = here in
         let both : Some other ≡ Some seen = sym at ∙ ap (λ (l : List SlotSeen). slice_get l s) put ∙ ap (slice_get (set table k seen)) same ∙ get_set table k seen within in
         let one : seen ≡ other = cc in
-        subst (λ (n : ℕ). IsSeen layout cluster told n other) (sym same) (subst (IsSeen layout cluster told k) one is)
+        subst (λ (n : ℕ). IsSlotSeen layout cluster told n other) (sym same) (subst (IsSlotSeen layout cluster told k) one is)
     | inr elsewhere ↦ are.seen s other (omega arith) (sym (ap (λ (l : List SlotSeen). slice_get l s) put ∙ get_set_other table k s seen elsewhere) ∙ at)
   ];
   valid = λ s other less at. elim (cases_eq s k) [

@@ -27,8 +27,8 @@ use Rattle.df_group.proofs.Laws.{IsAhead, IsWalk, behind, chain_end, end_at, fir
 use Rattle.df_buffers.specs.declared.slots.SlotSeen.{SlotSeen}
 use Rattle.df_journal.specs.declared.table.Start.{Start}
 use Rattle.df_journal.specs.Known.{AllKnown}
-use Rattle.df_journal.specs.Seen.{IsTaken, decision_on}
-use Rattle.df_journal.specs.Shows.{IsTable, ShowsTable}
+use Rattle.df_journal.specs.Seen.{IsTakenPrepare, decision_on}
+use Rattle.df_journal.specs.Shows.{IsSeenTable, ShowsTable}
 use Rattle.df_journal.specs.Tail.{AreNumbered, AreUnstored, BeginsAt, IsNext, IsReached, StopsAt, position_of, tail_to}
 use Rattle.df_journal.proofs.Decisions.{decision_is}
 use Rattle.df_journal.proofs.Named.{ArePlaced, known_front, known_here, known_last, known_taken, seen_prepare, shown_prepare}
@@ -40,9 +40,9 @@ pub record IsStartOf (c : Units.Content) (start : Start) : Type 0 where
   pub boot : c.boot ≡ start.boot
   pub pin : c.pin ≡ start.head
 
-module _ (layout : Layout) (cluster : ℕ) (table : List SlotSeen) (image : Units.Units) (is : IsTable layout cluster table) (shows : ShowsTable image table) (c : Units.Content) (start : Start) (of : IsStartOf c start) where
+module _ (layout : Layout) (cluster : ℕ) (table : List SlotSeen) (image : Units.Units) (is : IsSeenTable layout cluster table) (shows : ShowsTable image table) (c : Units.Content) (start : Start) (of : IsStartOf c start) where
   -- what the table takes, the image shows to be taken
-  pub taken_shown : (op : ℕ) (seen : SlotSeen) (h : Header) → slice_get table (op % layout.slots) ≡ Some seen → IsTaken start op seen h → (p : Units.Message) × Cases.Takes layout.slots image c p × (p.header ≡ header_of h)
+  pub taken_shown : (op : ℕ) (seen : SlotSeen) (h : Header) → slice_get table (op % layout.slots) ≡ Some seen → IsTakenPrepare start op seen h → (p : Units.Message) × Cases.Takes layout.slots image c p × (p.header ≡ header_of h)
   taken_shown op seen h at taken =
       let slot = op % layout.slots in
       let found = shown_prepare (image (PreparePlace slot)) seen.prepare h (shows.each slot seen at).prepare taken.shown in
@@ -63,7 +63,7 @@ module _ (layout : Layout) (cluster : ℕ) (table : List SlotSeen) (image : Unit
     pub seen : SlotSeen
     pub header : Header
     pub at : slice_get table (op % layout.slots) ≡ Some seen
-    pub taken : IsTaken start op seen header
+    pub taken : IsTakenPrepare start op seen header
     pub same : p.header ≡ header_of header
 
   -- and what the image shows to be taken, the table takes
@@ -108,7 +108,7 @@ taken_begins image sh b layout start checksum sessions starts tail at ahead tail
 }
 
 -- a prepare that comes next leads on: the tail ends there where its group is over, and else stays
-pub taken_on : (layout : Layout) (cluster : ℕ) (table : List SlotSeen) (image : Units.Units) (b : Checkpoint) (start : Start) (tail end : Tail) (kept new : List Session) (at : Position) (ahead : List Session) (h : Header) → IsTable layout cluster table → ShowsTable image table → IsStartOf b.content start
+pub taken_on : (layout : Layout) (cluster : ℕ) (table : List SlotSeen) (image : Units.Units) (b : Checkpoint) (start : Start) (tail end : Tail) (kept new : List Session) (at : Position) (ahead : List Session) (h : Header) → IsSeenTable layout cluster table → ShowsTable image table → IsStartOf b.content start
     → IsTakenWalk layout.clients layout.slots image b tail kept at ahead → IsNext layout start table at ahead h
     → ((header_of h).group_last ≤ h.op → (end ≡ tail_to h) × (new ≡ with_request h.client h.request h.op ahead)) → (h.op < (header_of h).group_last → (end ≡ tail) × (new ≡ kept))
     → IsTakenWalk layout.clients layout.slots image b end new (position_of h) (with_request h.client h.request h.op ahead)
@@ -131,7 +131,7 @@ shape_walk sh image b layout tail kept at ahead slots_are clients_are walk =
 abbrev pub EndsThere : Layout → Start → List SlotSeen → Position → List Session → Type 0
 EndsThere layout start table at ahead = (h : Header) → at.last.op < start.op + layout.slots → IsNext layout start table at ahead h → ⊥
 
-module _ (layout : Layout) (cluster : ℕ) (table : List SlotSeen) (image : Units.Units) (is : IsTable layout cluster table) (shows : ShowsTable image table)
+module _ (layout : Layout) (cluster : ℕ) (table : List SlotSeen) (image : Units.Units) (is : IsSeenTable layout cluster table) (shows : ShowsTable image table)
     (sh : Shape) (b : Checkpoint) (start : Start) (checksum : List ℕ) (first : List Session) (starts : BeginsAt sh b layout start checksum first) (known : AllKnown sh image b.content)
     (tail : Tail) (kept : List Session) (at : Position) (ahead : List Session) (so_far : IsTakenWalk (clients sh) (slots sh) image b tail kept at ahead) (within : at.last.op ≤ start.op + layout.slots) (none : EndsThere layout start table at ahead) where
   of_start : IsStartOf b.content start

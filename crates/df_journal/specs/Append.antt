@@ -21,8 +21,8 @@ use Rattle.df_theory.specs.View.{View, boot_of, head}
 use Rattle.df_units.specs.Meaning.{header_of, message_of}
 use Rattle.df_units.specs.Bytes.{unit_at}
 use Rattle.df_units.specs.Format.{format_of, shape_of}
-use Rattle.df_headers.specs.Ring.{in_sector, sector_writes, write_steps}
-use Rattle.df_prepares.specs.Slots.{put_events, put_steps}
+use Rattle.df_headers.specs.Ring.{header_write_steps, in_sector, sector_writes}
+use Rattle.df_prepares.specs.Slots.{prepare_put_events, put_steps}
 
 -- the table with the header of a prepare in its slot
 abbrev pub with_header : Message → List Header → List Header
@@ -38,11 +38,11 @@ settle_events layout table sectors = Sync ∷ (sector_writes layout table sector
 
 -- in the words of the theory
 abbrev pub settle_steps : List Header → List ℕ → List Step
-settle_steps table sectors = Syncs ∷ (write_steps table sectors ++ Syncs ∷ [])
+settle_steps table sectors = Syncs ∷ (header_write_steps table sectors ++ Syncs ∷ [])
 
 -- the device calls of an append: the prepare is put, and the sector of its header is settled
 abbrev pub journal_events : Layout → Holding → List Header → List Event
-journal_events layout held table = put_events layout held ++ settle_events layout (with_header held.unit table) (held.unit.header.slot / 16 ∷ [])
+journal_events layout held table = prepare_put_events layout held ++ settle_events layout (with_header held.unit table) (held.unit.header.slot / 16 ∷ [])
 
 -- in the words of the theory
 abbrev pub journal_steps : Message → List Header → List Step
@@ -68,7 +68,7 @@ pub record OthersStay (sh : Shape) (image : Units.Units) (v : View) (count : ℕ
   pub empty : (o : ℕ) → head v + count < o → o ≤ v.checkpoint.content.op + slots sh → IsEmpty (decided (slots sh) (boot_of v) (head v) image o)
 
 -- at a moment of the append the log is good for the view before it and the one after it, and in whatever a stop leaves, under no chance, every other slot stays taken or stays empty
-pub record Leaves (layout : Layout) (u : Message) (table : List Header) (t : Told) (may : MayAppendOn layout u table t) (log : Log.Log) : Type 0 where
+pub record AppendLeaves (layout : Layout) (u : Message) (table : List Header) (t : Told) (may : MayAppendOn layout u table t) (log : Log.Log) : Type 0 where
   pub good : IsGoodDisk (format_of layout u.header.cluster) (shape_of layout u.header.cluster may.named may.parse) may.view (appended may.view (message_of u ∷ [])) log
   pub others : (image : Image) → IsLeft log image → NoChanceOf (format_of layout u.header.cluster) log image
       → OthersStay (shape_of layout u.header.cluster may.named may.parse) (unit_at layout u.header.cluster image) may.view 1

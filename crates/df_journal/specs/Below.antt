@@ -18,5 +18,5 @@ pub use Rattle.df_cases.specs.Cases.{HasCheck, decision_of, seen_of}
 pub use Rattle.df_sessions.specs.Requests.{sessions_of}
 pub use Rattle.df_sessions.specs.declared.session.Session.{Session}
 pub use Rattle.df_places.specs.Below.{Adds, AreSteps, Brings, HasCause, Shows, class_of, format_of, header_or_class, sectors_end, unit_in}
-pub use Rattle.df_prepares.specs.Slots.{IsInOwnSlot, put_events, put_steps, slot_place}
-pub use Rattle.df_headers.specs.Ring.{AreOfRing, IsTable, sector_writes}
+pub use Rattle.df_prepares.specs.Slots.{IsInOwnSlot, prepare_put_events, put_steps, slot_place}
+pub use Rattle.df_headers.specs.Ring.{AreOfRing, IsHeaderTable, sector_writes}

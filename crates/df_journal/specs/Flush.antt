@@ -18,14 +18,14 @@ use Rattle.df_theory.specs.View.{View, boot_of}
 use Rattle.df_units.specs.Meaning.{message_of}
 use Rattle.df_units.specs.Bytes.{unit_at}
 use Rattle.df_units.specs.Format.{format_of, shape_of}
-use Rattle.df_headers.specs.Ring.{IsTable}
-use Rattle.df_prepares.specs.Slots.{IsInOwnSlot, put_events, put_steps, slot_place}
+use Rattle.df_headers.specs.Ring.{IsHeaderTable}
+use Rattle.df_prepares.specs.Slots.{IsInOwnSlot, prepare_put_events, put_steps, slot_place}
 use Rattle.df_journal.specs.Append.{OthersStay, ShowsRing, settle_events, settle_steps, with_header}
 
 -- the prepares that these rooms hold
-abbrev pub units_of : List Holding → List Message
-units_of [] = []
-units_of (held ∷ more) = held.unit ∷ units_of more
+abbrev pub held_prepares : List Holding → List Message
+held_prepares [] = []
+held_prepares (held ∷ more) = held.unit ∷ held_prepares more
 
 abbrev pub messages_of : List Message → List Units.Message
 messages_of [] = []
@@ -41,7 +41,7 @@ with_headers (u ∷ us) table = with_headers us (with_header u table)
 -- each prepare is put, in order
 abbrev pub group_puts : Layout → List Holding → List Event
 group_puts layout [] = []
-group_puts layout (held ∷ more) = put_events layout held ++ group_puts layout more
+group_puts layout (held ∷ more) = prepare_put_events layout held ++ group_puts layout more
 
 -- in the words of the theory
 abbrev pub group_steps : List Message → List Step
@@ -66,7 +66,7 @@ sectors_of us = sectors_between (first_slot us / 16) (last_slot 0 us / 16)
 
 -- the device calls of a flush: the prepares are put, and the sectors of their headers settled
 abbrev pub flush_events : Layout → List Holding → List Header → List Event
-flush_events layout helds table = group_puts layout helds ++ settle_events layout (with_headers (units_of helds) table) (sectors_of (units_of helds))
+flush_events layout helds table = group_puts layout helds ++ settle_events layout (with_headers (held_prepares helds) table) (sectors_of (held_prepares helds))
 
 -- in the words of the theory
 abbrev pub flush_steps : List Message → List Header → List Step
@@ -75,8 +75,8 @@ flush_steps us table = group_steps us ++ settle_steps (with_headers us table) (s
 -- ---- what may be flushed
 
 -- the rooms are of the layout, their prepares of the file's cluster, and the table is one of the file
-pub record MayPut (layout : Layout) (cluster : ℕ) (helds : List Holding) (table : List Header) : Type 0 where
-  pub table_is : IsTable layout cluster table
+pub record MayPutGroup (layout : Layout) (cluster : ℕ) (helds : List Holding) (table : List Header) : Type 0 where
+  pub table_is : IsHeaderTable layout cluster table
   pub each : (i : ℕ) (held : Holding) → slice_get helds i ≡ Some held → (held.layout ≡ layout) × (held.unit.header.cluster ≡ cluster)
 
 -- the prepare is valid in its own slot, and its sectors bring it there

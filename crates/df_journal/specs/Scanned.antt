@@ -12,26 +12,26 @@ use Rattle.df_buffers.specs.declared.slots.SlotSeen.{SlotSeen}
 use Rattle.df_places.specs.Units.{header_at}
 use Rattle.df_journal.specs.Scan.{Scan, entry}
 use Rattle.df_journal.specs.Seen.{class_of}
-use Rattle.df_journal.specs.Shows.{IsSlot, IsTable, TellsRings}
+use Rattle.df_journal.specs.Shows.{IsSeenTable, IsSlot, TellsRings}
 
 -- what an image shows at a slot
 abbrev pub seen_at : Layout → ℕ → Image → ℕ → SlotSeen
 seen_at layout cluster image s = record { header = header_at layout cluster image (place_in WalHeaders s); prepare = header_at layout cluster image (place_in WalPrepares s) }
 
 -- the entry is what the disk shows, where it tells that
-abbrev pub IsSeen : Layout → ℕ → Option Told → ℕ → SlotSeen → Type 0
-IsSeen layout cluster None s seen = Unit {0}
-IsSeen layout cluster (Some t) s seen = seen ≡ seen_at layout cluster t.shown s
+abbrev pub IsSlotSeen : Layout → ℕ → Option Told → ℕ → SlotSeen → Type 0
+IsSlotSeen layout cluster None s seen = Unit {0}
+IsSlotSeen layout cluster (Some t) s seen = seen ≡ seen_at layout cluster t.shown s
 
 -- so are the first k entries, and each is of units that are valid there
 pub record AreSeen (layout : Layout) (cluster : ℕ) (told : Option Told) (k : ℕ) (table : List SlotSeen) : Type 0 where
-  pub seen : (s : ℕ) (seen : SlotSeen) → s < k → slice_get table s ≡ Some seen → IsSeen layout cluster told s seen
+  pub seen : (s : ℕ) (seen : SlotSeen) → s < k → slice_get table s ≡ Some seen → IsSlotSeen layout cluster told s seen
   pub valid : (s : ℕ) (seen : SlotSeen) → s < k → slice_get table s ≡ Some seen → IsSlot layout cluster s seen
 
 -- the whole table is what the disk shows
 pub record IsScanned (layout : Layout) (told : Option Told) (scan : Scan) : Type 0 where
-  pub seen : (s : ℕ) (seen : SlotSeen) → slice_get scan.slots s ≡ Some seen → IsSeen layout scan.start.cluster told s seen
-  pub is_table : IsTable layout scan.start.cluster scan.slots
+  pub seen : (s : ℕ) (seen : SlotSeen) → slice_get scan.slots s ≡ Some seen → IsSlotSeen layout scan.start.cluster told s seen
+  pub is_table : IsSeenTable layout scan.start.cluster scan.slots
 
 -- the first sector of a slot's header
 abbrev pub header_first : Layout → ℕ → ℕ
@@ -47,7 +47,7 @@ abbrev pub IsHeld : Layout → Option Told → ℕ → List ℕ → Type 0
 IsHeld layout told slot bytes = 0 < slot % 16 → HoldsSector layout told slot bytes
 
 -- a table has the start and the number of entries that it had
-pub record KeepsTable (before after : Scan) : Type 0 where
+pub record KeepsScan (before after : Scan) : Type 0 where
   pub start : after.start ≡ before.start
   pub size : length after.slots ≡ length before.slots
 

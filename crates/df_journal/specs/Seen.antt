@@ -28,14 +28,14 @@ abbrev pub HasChecks : SlotSeen → Type 0
 HasChecks seen = IsOfCheck seen.header × IsOfCheck seen.prepare
 
 -- the prepare with this header is taken: above the head that the superblock names by the table, and up to that head, where its checksum is known, as it is shown
-pub record IsTaken (start : Start) (op : ℕ) (seen : SlotSeen) (h : Header) : Type 0 where
+pub record IsTakenPrepare (start : Start) (op : ℕ) (seen : SlotSeen) (h : Header) : Type 0 where
   pub shown : seen.prepare ≡ Ok h
   pub op_is : h.op ≡ op
   pub take : start.head < op → IsTake (decision_on start.boot op seen)
 
 -- that op's prepare may be taken from the slot: the superblock names it, or the table takes it
-abbrev pub MayTake : Start → ℕ → SlotSeen → Type 0
-MayTake start op seen = (op ≤ start.head) ⊎ IsTake (decision_on start.boot op seen)
+abbrev pub MayTakeSlot : Start → ℕ → SlotSeen → Type 0
+MayTakeSlot start op seen = (op ≤ start.head) ⊎ IsTake (decision_on start.boot op seen)
 
 -- the prepare that is shown, if it has the op
 abbrev pub ShowsNow : ℕ → SlotSeen → Option Header → Type 0
@@ -44,8 +44,8 @@ ShowsNow op seen (Some h) = (seen.prepare ≡ Ok h) × (h.op ≡ op)
 
 -- as an answer
 abbrev pub TakesNow : Start → ℕ → SlotSeen → Option Header → Type 0
-TakesNow start op seen None = (h : Header) → IsTaken start op seen h → ⊥
-TakesNow start op seen (Some h) = IsTaken start op seen h
+TakesNow start op seen None = (h : Header) → IsTakenPrepare start op seen h → ⊥
+TakesNow start op seen (Some h) = IsTakenPrepare start op seen h
 
 -- the class of a slot where another unit is wanted
 abbrev pub class_of : Result Header Class → Class

@@ -43,11 +43,11 @@ pub record IsSlot (layout : Layout) (cluster s : ℕ) (seen : SlotSeen) : Type 0
   pub prepare : IsThere layout cluster (place_in WalPrepares s) seen.prepare
 
 -- a table of this layout and cluster
-pub record IsTable (layout : Layout) (cluster : ℕ) (table : List SlotSeen) : Type 0 where
+pub record IsSeenTable (layout : Layout) (cluster : ℕ) (table : List SlotSeen) : Type 0 where
   pub size : length table ≡ layout.slots
   pub each : (s : ℕ) (seen : SlotSeen) → slice_get table s ≡ Some seen → IsSlot layout cluster s seen
 
 -- the table, which is one of this layout, says what the rings of an image show
 pub record TellsRings (layout : Layout) (image : Units.Units) (scan : Scan) : Type 0 where
-  pub table : IsTable layout scan.start.cluster scan.slots
+  pub table : IsSeenTable layout scan.start.cluster scan.slots
   pub shows : ShowsTable image scan.slots

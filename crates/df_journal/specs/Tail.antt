@@ -5,7 +5,7 @@ use Rattle.df_format.specs.declared.header.Header.{Header}
 use Rattle.df_format.specs.Spelling.{IsCheck}
 use Rattle.df_sessions.specs.declared.session.Session.{Session}
 use Rattle.df_sessions.specs.Requests.{sessions_of}
-use Rattle.df_sessions.specs.Table.{IsKnown, Table}
+use Rattle.df_sessions.specs.Table.{IsKnownClient, Table}
 use Rattle.df_theory.specs.Units
 use Rattle.df_theory.specs.Shape.{Shape, clients, slots}
 use Rattle.df_theory.specs.View.{Checkpoint}
@@ -18,7 +18,7 @@ use Rattle.df_group.specs.declared.groups.Position.{Position}
 use Rattle.df_group.specs.declared.reach.Reach.{Reach}
 use Rattle.df_buffers.specs.declared.slots.SlotSeen.{SlotSeen}
 use Rattle.df_journal.specs.declared.table.Start.{Start}
-use Rattle.df_journal.specs.Seen.{IsTaken}
+use Rattle.df_journal.specs.Seen.{IsTakenPrepare}
 
 -- the checkpoint that the walk starts from, and what its superblock says of the prepares that it names
 pub record BeginsAt (sh : Shape) (b : Checkpoint) (layout : Layout) (start : Start) (checksum : List ℕ) (sessions : List Session) : Type 0 where
@@ -56,7 +56,7 @@ pub record FindsReach (sh : Shape) (image : Units.Units) (b : Checkpoint) (reach
 pub record IsNext (layout : Layout) (start : Start) (table : List SlotSeen) (at : Position) (sessions : List Session) (h : Header) : Type 0 where
   pub seen : SlotSeen
   pub there : slice_get table ((at.last.op + 1) % layout.slots) ≡ Some seen
-  pub taken : IsTaken start (at.last.op + 1) seen h
+  pub taken : IsTakenPrepare start (at.last.op + 1) seen h
   pub fits : FitsAt layout.clients start.head at sessions h
 
 -- no session's reply is stored in the table
@@ -68,7 +68,7 @@ abbrev pub AreNumbered : List Session → Type 0
 AreNumbered sessions = (k : ℕ) (s : Session) → slice_get sessions k ≡ Some s → s.request ≤ 2 ^ 62
 
 -- a walk from this op on, whose prepare has this checksum, stays within the ring and the greatest op, and its tail ends no later
-pub record IsWithin (op slots : ℕ) (sum : List ℕ) (reach : Reach) : Type 0 where
+pub record IsWithinRing (op slots : ℕ) (sum : List ℕ) (reach : Reach) : Type 0 where
   pub from : op ≤ reach.tail.op
   pub order : reach.tail.op ≤ reach.op
   pub within : reach.op ≤ op + slots
@@ -83,14 +83,14 @@ pub record KeepsRules (old new : Table) : Type 0 where
   pub numbered : AreNumbered old.sessions → AreNumbered new.sessions
 
 -- as an answer
-abbrev pub GoesOn : Layout → Start → List SlotSeen → Position → List Session → Option Header → Type 0
-GoesOn layout start table at sessions None = (h : Header) → IsNext layout start table at sessions h → ⊥
-GoesOn layout start table at sessions (Some h) = IsNext layout start table at sessions h
+abbrev pub TailWalkGoesOn : Layout → Start → List SlotSeen → Position → List Session → Option Header → Type 0
+TailWalkGoesOn layout start table at sessions None = (h : Header) → IsNext layout start table at sessions h → ⊥
+TailWalkGoesOn layout start table at sessions (Some h) = IsNext layout start table at sessions h
 
 -- the prepare's request can be noted
-pub record IsSound (sessions : Table) (h : Header) : Type 0 where
+pub record CanBeNoted (sessions : Table) (h : Header) : Type 0 where
   pub client : h.client ≢ 0
-  pub room : IsKnown h.client sessions.sessions ⊎ (length sessions.sessions < sessions.max)
+  pub room : IsKnownClient h.client sessions.sessions ⊎ (length sessions.sessions < sessions.max)
   pub checksum : IsCheck h.checksum
   pub request : h.request ≤ 2 ^ 62
   pub op : h.op ≤ 2 ^ 62

@@ -1,8 +1,8 @@
 // The append of a prepare with its header: the prepare is put and its header noted in the table, and then both are settled. The
 // prepare is durable before its header sector is written, so that a header never stands before its prepare.
 ghost use Rattle.std.specs.Prelude.{◌≡◌, Some, take, OnErr, OnOk};
-ghost use Rattle.df_journal.specs.Below.{HasCause, EachMoment, Told, Adds, Brings, sectors_end, IsInOwnSlot, put_events, put_steps, slot_place, AreSteps, format_of, IsTable};
-ghost use Rattle.df_journal.specs.Append.{EndsAppended, Leaves, MayAppendOn, journal_events, journal_steps, with_header};
+ghost use Rattle.df_journal.specs.Below.{HasCause, EachMoment, Told, Adds, Brings, sectors_end, IsInOwnSlot, prepare_put_events, put_steps, slot_place, AreSteps, format_of, IsHeaderTable};
+ghost use Rattle.df_journal.specs.Append.{AppendLeaves, EndsAppended, MayAppendOn, journal_events, journal_steps, with_header};
 
 use crate::settling::settle;
 use df_base::Failed;
@@ -21,12 +21,12 @@ pub fn put<D: Disk>(
     table: &mut HeaderTable,
 ) -> Result<(), Failed>
     requires layout { unit.now.layout ≡ layout.now }
-    requires table { IsTable layout.now unit.now.unit.header.cluster table.old }
-    ensures events { Adds (put_events layout.now unit.now) (D.told disk.old) (D.told disk.new) result }
-    ensures steps { AreSteps (format_of layout.now unit.now.unit.header.cluster) (put_events layout.now unit.now) (put_steps unit.now.unit) }
+    requires table { IsHeaderTable layout.now unit.now.unit.header.cluster table.old }
+    ensures events { Adds (prepare_put_events layout.now unit.now) (D.told disk.old) (D.told disk.new) result }
+    ensures steps { AreSteps (format_of layout.now unit.now.unit.header.cluster) (prepare_put_events layout.now unit.now) (put_steps unit.now.unit) }
     ensures table { OnOk result (table.new ≡ with_header unit.now.unit table.old) }
     ensures kept { OnErr result (table.new ≡ table.old) }
-    ensures valid { IsTable layout.now unit.now.unit.header.cluster table.new }
+    ensures valid { IsHeaderTable layout.now unit.now.unit.header.cluster table.new }
     ensures own { IsInOwnSlot layout.now unit.now.unit }
     ensures brings { Brings layout.now unit.now.unit.header.cluster (slot_place unit.now.unit.header.slot) unit.now.unit (take (sectors_end unit.now.unit.header.size) unit.now.bytes) }
     ensures cause { HasCause (D.faults disk.old) (D.faults disk.new) result }
@@ -48,16 +48,16 @@ pub fn append<D: Disk>(
     room: &mut Raw<HeaderSector>,
 ) -> Result<(), Failed>
     requires layout { unit.now.layout ≡ layout.now }
-    requires table { IsTable layout.now unit.now.unit.header.cluster table.old }
+    requires table { IsHeaderTable layout.now unit.now.unit.header.cluster table.old }
     requires room { room.old.layout ≡ layout.now }
     ensures events { Adds (journal_events layout.now unit.now table.old) (D.told disk.old) (D.told disk.new) result }
     ensures steps { AreSteps (format_of layout.now unit.now.unit.header.cluster) (journal_events layout.now unit.now table.old) (journal_steps unit.now.unit table.old) }
     ensures moments { (before after : Told) → D.told disk.old ≡ Some before → D.told disk.new ≡ Some after
-        → (may : MayAppendOn layout.now unit.now.unit table.old before) → EachMoment before.log after.log (Leaves layout.now unit.now.unit table.old before may) }
+        → (may : MayAppendOn layout.now unit.now.unit table.old before) → EachMoment before.log after.log (AppendLeaves layout.now unit.now.unit table.old before may) }
     ensures appended { (before after : Told) → D.told disk.old ≡ Some before → D.told disk.new ≡ Some after
         → (may : MayAppendOn layout.now unit.now.unit table.old before) → OnOk result (EndsAppended layout.now unit.now.unit table.old before may after table.new) }
     ensures table { OnOk result (table.new ≡ with_header unit.now.unit table.old) }
-    ensures valid { IsTable layout.now unit.now.unit.header.cluster table.new }
+    ensures valid { IsHeaderTable layout.now unit.now.unit.header.cluster table.new }
     ensures room { room.new.layout ≡ layout.now }
     ensures own { IsInOwnSlot layout.now unit.now.unit }
     ensures cause { HasCause (D.faults disk.old) (D.faults disk.new) result }

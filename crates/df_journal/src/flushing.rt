@@ -2,9 +2,9 @@
 // prepare of its group is durable, so that a stop leaves the whole group or none of it.
 ghost use Rattle.std.specs.Prelude.{◌≡◌, ◌<◌, ◌/◌, ℕ, length, slice_get, Some, OnOk};
 ghost use Rattle.df_buffers.specs.Sounds.{Holding};
-ghost use Rattle.df_journal.specs.Below.{HasCause, EachMoment, Told, Adds, AreSteps, format_of, AreOfRing, IsTable};
+ghost use Rattle.df_journal.specs.Below.{HasCause, EachMoment, Told, Adds, AreSteps, format_of, AreOfRing, IsHeaderTable};
 ghost use Rattle.df_journal.specs.Append.{settle_events};
-ghost use Rattle.df_journal.specs.Flush.{AreOwn, EndsFlushed, LeavesGroup, MayFlushOn, MayPut, first_slot, flush_events, flush_steps, group_puts, last_slot, sectors_between, units_of, with_headers};
+ghost use Rattle.df_journal.specs.Flush.{AreOwn, EndsFlushed, LeavesGroup, MayFlushOn, MayPutGroup, first_slot, flush_events, flush_steps, group_puts, held_prepares, last_slot, sectors_between, with_headers};
 
 use crate::appends::put;
 use crate::settling::settle;
@@ -34,10 +34,10 @@ fn put_all<D: Disk>(
     group: &[Sound<Prepare>],
     table: &mut HeaderTable,
 ) -> Result<(), Failed>
-    requires { (cluster : ℕ) × MayPut layout.now cluster group.now table.old }
+    requires { (cluster : ℕ) × MayPutGroup layout.now cluster group.now table.old }
     ensures events { Adds (group_puts layout.now group.now) (D.told disk.old) (D.told disk.new) result }
-    ensures table { OnOk result (table.new ≡ with_headers (units_of group.now) table.old) }
-    ensures valid { (cluster : ℕ) → MayPut layout.now cluster group.now table.old → IsTable layout.now cluster table.new }
+    ensures table { OnOk result (table.new ≡ with_headers (held_prepares group.now) table.old) }
+    ensures valid { (cluster : ℕ) → MayPutGroup layout.now cluster group.now table.old → IsHeaderTable layout.now cluster table.new }
     ensures cause { HasCause (D.faults disk.old) (D.faults disk.new) result }
 {
     let mut i = 0;
@@ -56,7 +56,7 @@ fn settle_between<D: Disk>(
     first: u32,
     last: u32,
 ) -> Result<(), Failed>
-    requires table { (cluster : ℕ) × IsTable room.old.layout cluster table.now }
+    requires table { (cluster : ℕ) × IsHeaderTable room.old.layout cluster table.now }
     requires sectors { AreOfRing room.old.layout (sectors_between first last) }
     ensures events { Adds (settle_events room.old.layout table.now (sectors_between first last)) (D.told disk.old) (D.told disk.new) result }
     ensures room { room.new.layout ≡ room.old.layout }
@@ -72,8 +72,8 @@ fn settle_between<D: Disk>(
 // The header sectors of the first and of the last of these prepares.
 fn ends(group: &[Sound<Prepare>]) -> (u32, u32)
     requires { 0 < length group.now }
-    ensures first { result.0 ≡ first_slot (units_of group.now) / 16 }
-    ensures last { result.1 ≡ last_slot 0 (units_of group.now) / 16 }
+    ensures first { result.0 ≡ first_slot (held_prepares group.now) / 16 }
+    ensures last { result.1 ≡ last_slot 0 (held_prepares group.now) / 16 }
 {
     let first = group[0].header().slot / SECTOR_HEADERS;
     let last = group[group.len() - 1].header().slot / SECTOR_HEADERS;
@@ -91,17 +91,17 @@ pub fn flush<D: Disk>(
     room: &mut Raw<HeaderSector>,
 ) -> Result<(), Failed>
     requires some { 0 < length group.now }
-    requires may { (cluster : ℕ) × MayPut layout.now cluster group.now table.old }
+    requires may { (cluster : ℕ) × MayPutGroup layout.now cluster group.now table.old }
     requires room { room.old.layout ≡ layout.now }
     ensures events { Adds (flush_events layout.now group.now table.old) (D.told disk.old) (D.told disk.new) result }
-    ensures steps { (cluster : ℕ) → MayPut layout.now cluster group.now table.old
-        → AreSteps (format_of layout.now cluster) (flush_events layout.now group.now table.old) (flush_steps (units_of group.now) table.old) }
-    ensures moments { (cluster : ℕ) (before after : Told) → MayPut layout.now cluster group.now table.old → D.told disk.old ≡ Some before → D.told disk.new ≡ Some after
-        → (may : MayFlushOn layout.now cluster (units_of group.now) table.old before) → EachMoment before.log after.log (LeavesGroup layout.now cluster (units_of group.now) table.old before may) }
-    ensures flushed { (cluster : ℕ) (before after : Told) → MayPut layout.now cluster group.now table.old → D.told disk.old ≡ Some before → D.told disk.new ≡ Some after
-        → (may : MayFlushOn layout.now cluster (units_of group.now) table.old before) → OnOk result (EndsFlushed layout.now cluster (units_of group.now) table.old before may after table.new) }
-    ensures table { OnOk result (table.new ≡ with_headers (units_of group.now) table.old) }
-    ensures valid { (cluster : ℕ) → MayPut layout.now cluster group.now table.old → IsTable layout.now cluster table.new }
+    ensures steps { (cluster : ℕ) → MayPutGroup layout.now cluster group.now table.old
+        → AreSteps (format_of layout.now cluster) (flush_events layout.now group.now table.old) (flush_steps (held_prepares group.now) table.old) }
+    ensures moments { (cluster : ℕ) (before after : Told) → MayPutGroup layout.now cluster group.now table.old → D.told disk.old ≡ Some before → D.told disk.new ≡ Some after
+        → (may : MayFlushOn layout.now cluster (held_prepares group.now) table.old before) → EachMoment before.log after.log (LeavesGroup layout.now cluster (held_prepares group.now) table.old before may) }
+    ensures flushed { (cluster : ℕ) (before after : Told) → MayPutGroup layout.now cluster group.now table.old → D.told disk.old ≡ Some before → D.told disk.new ≡ Some after
+        → (may : MayFlushOn layout.now cluster (held_prepares group.now) table.old before) → OnOk result (EndsFlushed layout.now cluster (held_prepares group.now) table.old before may after table.new) }
+    ensures table { OnOk result (table.new ≡ with_headers (held_prepares group.now) table.old) }
+    ensures valid { (cluster : ℕ) → MayPutGroup layout.now cluster group.now table.old → IsHeaderTable layout.now cluster table.new }
     ensures room { room.new.layout ≡ layout.now }
     ensures own { AreOwn layout.now group.now }
     ensures cause { HasCause (D.faults disk.old) (D.faults disk.new) result }

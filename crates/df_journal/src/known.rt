@@ -3,7 +3,7 @@
 ghost use Rattle.std.specs.Prelude.{◌≡◌, ◌≤◌, ◌<◌, ◌%◌, IfSome};
 ghost use Rattle.df_journal.specs.Below.{Content, IsCheck, Shape, Units};
 ghost use Rattle.df_journal.specs.Known.{HasSum, NamesFrom, TellsKnown};
-ghost use Rattle.df_journal.specs.Shows.{IsTable, TellsRings};
+ghost use Rattle.df_journal.specs.Shows.{IsSeenTable, TellsRings};
 
 use crate::SlotTable;
 use df_base::Check;
@@ -38,7 +38,7 @@ fn with_sum(seen: &SlotSeen, checksum: &Check) -> Option<Header>
 /// Of the ops that a superblock names, whose head has this checksum, the greatest one whose slot doesn't show the prepare that is
 /// named; None where all are shown. Of a file of version 1, whose superblock names none, it is None.
 pub fn lacking_known(layout: &Layout, found: &SlotTable, checksum: &Check) -> Option<u64>
-    requires table { IsTable layout.now found.now.start.cluster found.now.slots }
+    requires table { IsSeenTable layout.now found.now.start.cluster found.now.slots }
     requires checksum { IsCheck checksum.now }
     ensures tells { (sh : Shape) (image : Units) (c : Content) → TellsRings layout.now image found.now
         → NamesFrom sh c layout.now found.now.start checksum.now → TellsKnown sh image c result }

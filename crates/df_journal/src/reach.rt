@@ -3,8 +3,8 @@
 ghost use Rattle.std.specs.Prelude.{◌≡◌, ◌≤◌, ◌<◌, ◌+◌, ◌^◌, IfSome};
 ghost use Rattle.df_journal.specs.Below.{IsCheck, Units, Shape, Checkpoint};
 ghost use Rattle.df_journal.specs.Known.{AllKnown};
-ghost use Rattle.df_journal.specs.Shows.{IsTable, TellsRings};
-ghost use Rattle.df_journal.specs.Tail.{BeginsAt, FindsReach, GoesOn, IsSound, IsWithin, KeepsRules};
+ghost use Rattle.df_journal.specs.Shows.{IsSeenTable, TellsRings};
+ghost use Rattle.df_journal.specs.Tail.{BeginsAt, CanBeNoted, FindsReach, IsWithinRing, KeepsRules, TailWalkGoesOn};
 
 use crate::seen::taken;
 use crate::{SlotTable, Start};
@@ -22,12 +22,12 @@ fn next(
     at: &Position,
     sessions: &SessionTable,
 ) -> Option<Header>
-    requires table { IsTable layout.now found.now.start.cluster found.now.slots }
+    requires table { IsSeenTable layout.now found.now.start.cluster found.now.slots }
     requires op { at.now.last.op < 2 ^ 63 }
     requires places { sessions.now.max ≡ layout.now.clients }
-    ensures next { GoesOn layout.now start.now found.now.slots at.now sessions.now.sessions result }
+    ensures next { TailWalkGoesOn layout.now start.now found.now.slots at.now sessions.now.sessions result }
     ensures op { IfSome result (λ h. h.op ≡ at.now.last.op + 1) }
-    ensures sound { IfSome result (IsSound sessions.now) }
+    ensures sound { IfSome result (CanBeNoted sessions.now) }
 {
     let op = at.last.op + 1;
     let seen = found.seen((op % u64::from(layout.slots)) as u32);
@@ -49,13 +49,13 @@ pub fn find_reach(
     checksum: &Check,
     sessions: &mut SessionTable,
 ) -> Reach
-    requires table { IsTable layout.now found.now.start.cluster found.now.slots }
+    requires table { IsSeenTable layout.now found.now.start.cluster found.now.slots }
     requires op { found.now.start.op ≤ 2 ^ 62 }
     requires checksum { IsCheck checksum.now }
     requires places { sessions.old.max ≡ layout.now.clients }
     ensures reach { (sh : Shape) (image : Units) (b : Checkpoint) → TellsRings layout.now image found.now
         → BeginsAt sh b layout.now found.now.start checksum.now sessions.old.sessions → AllKnown sh image b.content → FindsReach sh image b result sessions.new.sessions }
-    ensures bounds { IsWithin found.now.start.op layout.now.slots checksum.now result }
+    ensures bounds { IsWithinRing found.now.start.op layout.now.slots checksum.now result }
     ensures sessions { KeepsRules sessions.old sessions.new }
 {
     let start = found.start;

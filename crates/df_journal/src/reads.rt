@@ -2,7 +2,7 @@
 ghost use Rattle.std.specs.Prelude.{◌≡◌, ◌<◌, ◌≤◌, ◌%◌, ◌^◌, length, IfOk, OnOk};
 ghost use Rattle.df_journal.specs.Below.{HasCause, WalHeaders, place_in, class_of, header_or_class, unit_in, header_bytes};
 ghost use Rattle.df_journal.specs.Shows.{IsHeaderThere, IsSlot};
-ghost use Rattle.df_journal.specs.Scanned.{ClassIsShown, HoldsSector, IsHeld, IsScanned, IsSeen, KeepsTable, RingsAreShown};
+ghost use Rattle.df_journal.specs.Scanned.{ClassIsShown, HoldsSector, IsHeld, IsScanned, IsSlotSeen, KeepsScan, RingsAreShown};
 
 use crate::{SlotTable, Start};
 use df_base::Failed;
@@ -53,7 +53,7 @@ fn scan_slot<D: Disk>(
     requires slot { slot < layout.now.slots }
     requires sector { HoldsSector layout.now (D.told disk.old) slot sector.now.bytes }
     requires shelf { shelf.old.layout ≡ layout.now }
-    ensures seen { IfOk result (IsSeen layout.now cluster (D.told disk.old) slot) }
+    ensures seen { IfOk result (IsSlotSeen layout.now cluster (D.told disk.old) slot) }
     ensures valid { IfOk result (IsSlot layout.now cluster slot) }
     ensures shelf { shelf.new.layout ≡ layout.now }
     ensures same { D.told disk.new ≡ D.told disk.old }
@@ -96,7 +96,7 @@ fn scan_all<D: Disk>(
     requires table { length found.old.slots ≡ layout.now.slots }
     requires shelf { shelf.old.layout ≡ layout.now }
     ensures scanned { OnOk result (IsScanned layout.now (D.told disk.old) found.new) }
-    ensures table { KeepsTable found.old found.new }
+    ensures table { KeepsScan found.old found.new }
     ensures shelf { shelf.new.layout ≡ layout.now }
     ensures sector { sector.new.layout ≡ sector.old.layout }
     ensures same { D.told disk.new ≡ D.told disk.old }

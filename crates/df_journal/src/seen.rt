@@ -2,7 +2,7 @@
 // taken from it, up to the superblock's head and above it.
 ghost use Rattle.std.specs.Prelude.{◌≡◌, ◌↔◌, IsTrue};
 ghost use Rattle.df_journal.specs.Below.{IsTake, HasCheck, decision_of, seen_of};
-ghost use Rattle.df_journal.specs.Seen.{decision_on, seen_in, HasChecks, IsOfCheck, MayTake, ShowsNow, TakesNow};
+ghost use Rattle.df_journal.specs.Seen.{decision_on, seen_in, HasChecks, IsOfCheck, MayTakeSlot, ShowsNow, TakesNow};
 
 use crate::Start;
 use df_buffers::SlotSeen;
@@ -62,7 +62,7 @@ fn shown(seen: &SlotSeen, op: u64) -> Option<Header>
 // Whether the op is one of those whose prepares the superblock names, or the table takes it.
 fn may_take(seen: &SlotSeen, start: &Start, op: u64) -> bool
     requires { HasChecks seen.now }
-    ensures { IsTrue result ↔ MayTake start.now op seen.now }
+    ensures { IsTrue result ↔ MayTakeSlot start.now op seen.now }
 {
     op <= start.head || is_take(&decision_on(seen, op, start.boot))
 }

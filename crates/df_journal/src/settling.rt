@@ -1,6 +1,6 @@
 // The settling of what was put: a sync, so that a header never stands before its prepare, then the header sectors, and a sync.
 ghost use Rattle.std.specs.Prelude.{◌≡◌, ℕ};
-ghost use Rattle.df_journal.specs.Below.{HasCause, Adds, AreSteps, format_of, AreOfRing, IsTable, sector_writes};
+ghost use Rattle.df_journal.specs.Below.{HasCause, Adds, AreSteps, format_of, AreOfRing, IsHeaderTable, sector_writes};
 ghost use Rattle.df_journal.specs.Append.{settle_events, settle_steps};
 
 use df_base::Failed;
@@ -15,7 +15,7 @@ fn write_sectors<D: Disk>(
     table: &HeaderTable,
     room: &mut Raw<HeaderSector>,
 ) -> Result<(), Failed>
-    requires table { (cluster : ℕ) × IsTable room.old.layout cluster table.now }
+    requires table { (cluster : ℕ) × IsHeaderTable room.old.layout cluster table.now }
     requires sectors { AreOfRing room.old.layout sectors.now }
     ensures events { Adds (sector_writes room.old.layout table.now sectors.now) (D.told disk.old) (D.told disk.new) result }
     ensures room { room.new.layout ≡ room.old.layout }
@@ -38,10 +38,10 @@ pub fn settle<D: Disk>(
     room: &mut Raw<HeaderSector>,
     sectors: &[u32],
 ) -> Result<(), Failed>
-    requires table { (cluster : ℕ) × IsTable room.old.layout cluster table.now }
+    requires table { (cluster : ℕ) × IsHeaderTable room.old.layout cluster table.now }
     requires sectors { AreOfRing room.old.layout sectors.now }
     ensures events { Adds (settle_events room.old.layout table.now sectors.now) (D.told disk.old) (D.told disk.new) result }
-    ensures steps { (cluster : ℕ) → IsTable room.old.layout cluster table.now
+    ensures steps { (cluster : ℕ) → IsHeaderTable room.old.layout cluster table.now
         → AreSteps (format_of room.old.layout cluster) (settle_events room.old.layout table.now sectors.now) (settle_steps table.now sectors.now) }
     ensures room { room.new.layout ≡ room.old.layout }
     ensures cause { HasCause (D.faults disk.old) (D.faults disk.new) result }

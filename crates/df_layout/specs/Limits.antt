@@ -24,7 +24,7 @@ abbrev pub AreBlocks : ℕ → Type 0
 AreBlocks n = (8 ≤ n) × (n ≤ 16384)
 
 -- the five numbers are within their limits
-pub record AreWithin (slots message_size clients block_size blocks : ℕ) : Type 0 where
+pub record AreWithinLimits (slots message_size clients block_size blocks : ℕ) : Type 0 where
   pub slots_within : AreSlots slots
   pub message_size_within : IsMessageSize message_size
   pub clients_within : AreClients clients

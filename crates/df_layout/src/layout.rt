@@ -1,6 +1,6 @@
 // The layout of a data file: five numbers within their limits, from which every place follows.
 ghost use Rattle.std.specs.Prelude.{◌≡◌, ◌↔◌, IsTrue, IsOk, IfOk, IfErr};
-ghost use Rattle.df_layout.specs.Limits.{AreSlots, IsMessageSize, AreClients, IsBlockSize, AreBlocks, AreWithin, FirstOutside};
+ghost use Rattle.df_layout.specs.Limits.{AreSlots, IsMessageSize, AreClients, IsBlockSize, AreBlocks, AreWithinLimits, FirstOutside};
 
 use crate::{Field, Place, SECTOR_HEADERS, Span, Zone};
 
@@ -39,7 +39,7 @@ impl Layout {
         block_size: u32,
         blocks: u32,
     ) -> Result<Layout, Field>
-        ensures within { IsOk result ↔ AreWithin slots message_size clients block_size blocks }
+        ensures within { IsOk result ↔ AreWithinLimits slots message_size clients block_size blocks }
         ensures slots { IfOk result (λ layout. layout.slots ≡ slots) }
         ensures message_size { IfOk result (λ layout. layout.message_size ≡ message_size) }
         ensures clients { IfOk result (λ layout. layout.clients ≡ clients) }

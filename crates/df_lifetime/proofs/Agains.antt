@@ -16,7 +16,7 @@ use Rattle.df_theory.proofs.Laws.{disk_stop_law, rests_safe, safe_disk_law}
 use Rattle.df_history.specs.OpenLaws.{BeginsHistory}
 use Rattle.df_units.specs.Bytes.{unit_at}
 use Rattle.df_units.proofs.Laws.{is_format}
-use Rattle.df_replica.specs.Below.{DataFile, FindsSince, IsLivedDisk, IsOpened, MayReopen, State as Replica, begun, shape, told_after}
+use Rattle.df_replica.specs.Below.{DataFile, FindsSince, IsLivedDisk, IsOpened, MayReopen, State as Replica, restarted, shape, told_after}
 use Rattle.df_replica.specs.Following.{MayOpen}
 use Rattle.df_replica.specs.Serving.{Firm, format}
 use Rattle.df_replica.proofs.Laws.{added_is_told, begun_may_open, first_goes_on, found_was_since, layout_shown, lived_layout, stopped_goes_on}
@@ -163,15 +163,15 @@ module _ (file : DataFile) (log : Log) (older : List Log) (t : Told) (may : MayR
   ]
 
 word_lives : (file : DataFile) (older : List Log) (b t n p m : Told) (word : Word t n) → IsSound file older b → IsSpared file b.log older t.shown → (AddsPart (Sync ∷ []) (Some t) (Some n) → ⊥)
-    → Extends n.log p.log → GoesAlong (did Sync t) p (did Sync (begun t)) m → IsLivedFile file (add Sync b.log ∷ older) m.log
+    → Extends n.log p.log → GoesAlong (did Sync t) p (did Sync (restarted t)) m → IsLivedFile file (add Sync b.log ∷ older) m.log
 word_lives file older b t n p m word is spared wrote until along =
     elim (carried_lives file b.log older t (may_reopen file older b t.shown is spared) word.mode word.old word.new word.status word.from word.carried) [
       | inl synced ↦ absurd (wrote (subst (λ (o : Option Told). AddsPart (Sync ∷ []) (Some t) o) word.to synced))
       | inr lives ↦
-          let end : Told = told_after lives.events (did Sync (begun t)) in
+          let end : Told = told_after lives.events (did Sync (restarted t)) in
           let told : n ≡ told_after lives.events (did Sync t) = same_Some n (told_after lives.events (did Sync t)) (sym word.to ∙ lives.told ∙ added_is_told lives.events (did Sync t)) in
-          let all : GoesAlong (did Sync t) n (did Sync (begun t)) end = subst (λ (x : Told). GoesAlong (did Sync t) x (did Sync (begun t)) end) (sym told) (after_along lives.events (did Sync t) (did Sync (begun t)) refl) in
-          lives.moments m.log (moment_along (did Sync t) p n (did Sync (begun t)) m end all along until)
+          let all : GoesAlong (did Sync t) n (did Sync (restarted t)) end = subst (λ (x : Told). GoesAlong (did Sync t) x (did Sync (restarted t)) end) (sym told) (after_along lives.events (did Sync t) (did Sync (restarted t)) refl) in
+          lives.moments m.log (moment_along (did Sync t) p n (did Sync (restarted t)) m end all along until)
     ]
 
 -- ---- the laws
@@ -201,7 +201,7 @@ every_life_is_lived _ _ _ (Halted file older b changes life loose chance) =
     )
 
 pub upgraded_may_be_damaged : UpgradedMayBeDamaged
-upgraded_may_be_damaged file view t new = Once (second file) new.first (begun t) [] (Taken (second file) new.first t new.may) new.begins
+upgraded_may_be_damaged file view t new = Once (second file) new.first (restarted t) [] (Taken (second file) new.first t new.may) new.begins
 
 pub every_open_finds_since : EveryOpenFindsSince
 every_open_finds_since file older b image s life spared is = found_was_since file b.log older image s (may_reopen file older b image (every_life_is_lived file older b life) spared) is
@@ -211,16 +211,16 @@ life_begins_anew file older b t s life spared finds stands = Taken file finds.fo
 
 -- ---- a session
 
--- it may be opened by the log that is begun anew
-opens_anew : (file : DataFile) (older : List Log) (b t : Told) (s : Replica) → Again file older b → (finds : FindsSince file b.log older t.shown s) → MayOpen file finds.found (begun t)
+-- it may be opened by the log that is restarted
+opens_anew : (file : DataFile) (older : List Log) (b t : Told) (s : Replica) → Again file older b → (finds : FindsSince file b.log older t.shown s) → MayOpen file finds.found (restarted t)
 opens_anew file older b t s life finds = begun_may_open file finds.found t (every_life_is_lived file older b life).0 finds.begins
 
 pub scripts_keep_since : ScriptsKeepSince
 scripts_keep_since file older b t old new status pace found serves life spared =
     let finds : FindsSince file b.log older t.shown found.found = every_open_finds_since file older b t.shown found.found life spared found.is_opened in
-    record { finds = finds; keeps = λ g stands. scripts_keep_on g file finds.found t (begun t) old new status pace found serves refl (opens_anew file older b t found.found life finds) stands }
+    record { finds = finds; keeps = λ g stands. scripts_keep_on g file finds.found t (restarted t) old new status pace found serves refl (opens_anew file older b t found.found life finds) stands }
 
 pub runs_keep_since : RunsKeepSince
 runs_keep_since file older b t old new status seed count found works life spared =
     let finds : FindsSince file b.log older t.shown found.found = every_open_finds_since file older b t.shown found.found life spared found.is_opened in
-    record { finds = finds; keeps = λ g stands. runs_keep_on g file finds.found t (begun t) old new status seed count found works refl (opens_anew file older b t found.found life finds) stands }
+    record { finds = finds; keeps = λ g stands. runs_keep_on g file finds.found t (restarted t) old new status seed count found works refl (opens_anew file older b t found.found life finds) stands }

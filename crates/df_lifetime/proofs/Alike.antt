@@ -5,7 +5,7 @@ use Rattle.df_disk.specs.Told.{Told}
 use Rattle.df_format.specs.Copies.{Content, content_at}
 use Rattle.df_format.specs.declared.superblock.SuperFields.{SuperFields}
 use Rattle.df_layout.specs.declared.layout.Layout.{Layout}
-use Rattle.df_quorum.specs.Quorum.{IsChosen}
+use Rattle.df_quorum.specs.Quorum.{IsChosenContent}
 use Rattle.df_theory.specs.Found.{IsFound}
 use Rattle.df_theory.specs.Units.{AnyUnit, BlockPlace, Place, PreparePlace, ReplyPlace}
 use Rattle.df_theory.specs.View.{View}
@@ -29,7 +29,7 @@ module _ (layout : Layout) (a b : Image) (same : ShowSame layout a b) where
     pub fields_alike : s.fields ≡ u.fields
     fields_alike =
         let own = super_shown layout a s one in
-        let chosen : IsChosen (content_at b) own.content = subst (λ (shown : ℕ → Option Content). IsChosen shown own.content) (λ i n. same.copies n i) own.chosen in
+        let chosen : IsChosenContent (content_at b) own.content = subst (λ (shown : ℕ → Option Content). IsChosenContent shown own.content) (λ i n. same.copies n i) own.chosen in
         one_super b s.fields u.fields (record { content = own.content; chosen = chosen; fields = own.fields; usable = own.usable }) (super_shown layout b u other)
 
     pub file_alike : s.file ≡ u.file

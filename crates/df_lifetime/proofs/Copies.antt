@@ -8,20 +8,20 @@ use Rattle.df_disk.specs.Told.{Told}
 use Rattle.df_layout.specs.declared.layout.Layout.{Layout}
 use Rattle.df_theory.specs.View.{View}
 use Rattle.df_units.specs.Bytes.{unit_at}
-use Rattle.df_replica.specs.Below.{AreDistinct, DataFile, begun, told_after}
+use Rattle.df_replica.specs.Below.{AreDistinct, DataFile, restarted, told_after}
 use Rattle.df_replica.proofs.Laws.{added_is_told}
 use Rattle.df_copy.specs.Lives.{MayGoOn}
 use Rattle.df_copy.specs.Views.{HoldsCopy, ShowsCopy, file_in}
 use Rattle.df_copy.proofs.Laws.{copied_begins}
 use Rattle.df_lifetime.specs.Again.Again.{Once}
-use Rattle.df_lifetime.specs.Copied.{CopiedBegins, IsCopied, MadeIsCopied, StoppedIsCopied, file_of, view_of}
+use Rattle.df_lifetime.specs.Copied.{CopiedBegins, IsCopiedImage, MadeIsCopied, StoppedIsCopied, file_of, view_of}
 use Rattle.df_lifetime.specs.Life.{GoesAlong}
 use Rattle.df_lifetime.specs.Life.Life.{Taken}
 use Rattle.df_lifetime.proofs.Along.{after_along, moment_along}
 use Rattle.df_lifetime.proofs.Openings.{distinct_left}
 
 -- what shows the copy may be taken
-is_copied : (layout : Layout) (file : DataFile) (source : Image) (v : View) (image : Image) → ShowsCopy layout file source v image → AreDistinct (unit_at layout file.cluster image) → IsCopied layout file source v image
+is_copied : (layout : Layout) (file : DataFile) (source : Image) (v : View) (image : Image) → ShowsCopy layout file source v image → AreDistinct (unit_at layout file.cluster image) → IsCopiedImage layout file source v image
 is_copied layout file source v image shows distinct =
     let may : MayGoOn (file_in layout file) shows.view image = copied_begins layout file source v image shows distinct in
     record { first = shows.view; copy = shows.copy; may = record { version = may.version; begins = may.begins; stands = may.stands }; begins = may.history }
@@ -29,7 +29,7 @@ is_copied layout file source v image shows distinct =
 pub copied_life : CopiedBegins
 copied_life layout file source v t new =
     let life = Taken (file_in layout file) new.first t new.may in
-    (life, Once (file_in layout file) new.first (begun t) [] life new.begins)
+    (life, Once (file_in layout file) new.first (restarted t) [] life new.begins)
 
 pub made_is_copied : MadeIsCopied
 made_is_copied layout t read o n run done empty honest distinct =
@@ -41,8 +41,8 @@ pub stopped_is_copied : StoppedIsCopied
 stopped_is_copied layout t read o n p m run image empty until along left chance =
     let stops = run.copies.stops read o run.source run.target empty run.view run.found in
     let told : told_after stops.events o ≡ n = one_some run.new.second (told_after stops.events o) n (stops.told ∙ added_is_told stops.events o) run.later in
-    let all : GoesAlong o n (begun o) (told_after stops.events (begun o)) = subst (λ (x : Told). GoesAlong o x (begun o) (told_after stops.events (begun o))) told (after_along stops.events o (begun o) refl) in
-    let moment : IsMoment (begun o).log (told_after stops.events (begun o)).log m.log = moment_along o p n (begun o) m (told_after stops.events (begun o)) all along until in
+    let all : GoesAlong o n (restarted o) (told_after stops.events (restarted o)) = subst (λ (x : Told). GoesAlong o x (restarted o) (told_after stops.events (restarted o))) told (after_along stops.events o (restarted o) refl) in
+    let moment : IsMoment (restarted o).log (told_after stops.events (restarted o)).log m.log = moment_along o p n (restarted o) m (told_after stops.events (restarted o)) all along until in
     elim (stops.moments m.log moment image left chance) [
       | inl split ↦ inl split
       | inr shows ↦ inr (is_copied layout (file_of run) read.shown (view_of run) image shows (distinct_left (file_in layout (file_of run)) m.log image chance))

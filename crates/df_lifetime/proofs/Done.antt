@@ -18,7 +18,7 @@ use Rattle.df_model.specs.declared.errors.AppendError.{AppendError}
 use Rattle.df_model.specs.declared.errors.FlushError.{FlushError}
 use Rattle.df_model.specs.declared.errors.ReplyError.{ReplyError}
 use Rattle.df_model.proofs.Laws.{all_pass, length_in, reply_may_law}
-use Rattle.df_lifetime.specs.There.{HavePrepares, IsThere, Promised, promised_from, promised_in}
+use Rattle.df_lifetime.specs.There.{HavePrepares, IsAnswerThere, Promised, promised_from, promised_in}
 
 at_end : (p : Message) (ps : List Message) → In p (ps ++ p ∷ [])
 at_end p [] = inl refl
@@ -36,7 +36,7 @@ module _ (sh : Shape) (spell : Parts → List ℕ) (w : Work) where
       → let p = prepare_of (memory_of sh spell w) sum client request body in
       let x : ℕ × ℕ = (p.header.op, sum) in
       let done = as_answer ToAppend (outcome o w (with_prepare w p) x) in
-      IsThere (kept done.0) rs given (Append client request body) done.1
+      IsAnswerThere (kept done.0) rs given (Append client request body) done.1
   append_there rs given sum client request body (Some e) = tt
   append_there rs given sum client request body None =
       let p = prepare_of (memory_of sh spell w) sum client request body in
@@ -53,7 +53,7 @@ module _ (sh : Shape) (spell : Parts → List ℕ) (w : Work) where
   flush_there : (given : Given) (o : Option FlushError)
       → let m = memory_of sh spell w in
       let done = as_answer ToFlush (outcome o w (with_group w (group_of m (supplied_sums given))) (length w.staged)) in
-      IsThere (kept done.0) (promised_in w) given Flush done.1
+      IsAnswerThere (kept done.0) (promised_in w) given Flush done.1
   flush_there given (Some e) = tt
   flush_there given None =
       let m = memory_of sh spell w in
@@ -67,7 +67,7 @@ module _ (sh : Shape) (spell : Parts → List ℕ) (w : Work) where
   reply_there : (rs : List Promised) (given : Given) (sum op : ℕ) (body : List ℕ) (o : Option ReplyError) → first_refusal (reply_refusals (memory_of sh spell w) op body) ≡ o → IsWork sh spell w
       → let m = memory_of sh spell w in
       let done = as_answer ToReply (outcome o w (with_reply w (place_of_reply m) (reply_of m sum body)) sum) in
-      IsThere (kept done.0) rs given (Reply op body) done.1
+      IsAnswerThere (kept done.0) rs given (Reply op body) done.1
   reply_there rs given sum op body (Some e) is work = tt
   reply_there rs given sum op body None is work =
       let m = memory_of sh spell w in
@@ -86,17 +86,17 @@ module _ (sh : Shape) (spell : Parts → List ℕ) (w : Work) where
 
   step_there : (rs : List Promised) (given : Given) (sum : ℕ) (left : List ℕ) (r : Running)
       → let done = as_answer ToAdvance (after_running sh spell w sum r left) in
-      IsThere (kept done.0) rs given Advance done.1
+      IsAnswerThere (kept done.0) rs given Advance done.1
   step_there rs given sum [] r = omega arith
   step_there rs given sum (a ∷ more) r = tt
 
   advance_there : (rs : List Promised) (given : Given) (sum : ℕ) (o : Option Running)
       → let done = as_answer ToAdvance (after_step_of sh spell w sum o) in
-      IsThere (kept done.0) rs given Advance done.1
+      IsAnswerThere (kept done.0) rs given Advance done.1
   advance_there rs given sum None = tt
   advance_there rs given sum (Some r) = step_there rs given sum r.left r
 
-  pub just_there : (given : Given) (command : Command) → IsWork sh spell w → let done = after sh spell w given command in IsThere (kept done.0) (promised_in w) given command done.1
+  pub just_there : (given : Given) (command : Command) → IsWork sh spell w → let done = after sh spell w given command in IsAnswerThere (kept done.0) (promised_in w) given command done.1
   just_there given (Append client request body) work = append_there (promised_in w) given (supplied_sum given) client request body (first_refusal (append_refusals (memory_of sh spell w) client request body))
   just_there given Flush work = flush_there given (first_refusal (flush_refusals (memory_of sh spell w)))
   just_there given (Reply op body) work = reply_there (promised_in w) given (supplied_sum given) op body (first_refusal (reply_refusals (memory_of sh spell w) op body)) refl work

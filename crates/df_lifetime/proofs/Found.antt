@@ -24,7 +24,7 @@ use Rattle.df_session.specs.Begun.{begun_work}
 use Rattle.df_session.specs.Below.{codec}
 use Rattle.df_lifetime.specs.Acknowledged.{AcknowledgedIsFound, AllThere, AreThere}
 use Rattle.df_lifetime.specs.Life.{Chapter, GoesBy, LeadsTo, MayHave}
-use Rattle.df_lifetime.specs.There.{IsThere, Promised, promised_by, promised_in}
+use Rattle.df_lifetime.specs.There.{IsAnswerThere, Promised, promised_by, promised_in}
 use Rattle.df_lifetime.proofs.Done.{just_there}
 use Rattle.df_lifetime.proofs.Haves.{are_there, begun_bare}
 use Rattle.df_lifetime.proofs.Lives.{every_life_goes_on}
@@ -44,7 +44,7 @@ begun_makes_sense file image view version whole found unspent =
 -- ---- what was answered stays, whatever is done next
 
 module _ (file : DataFile) where
-  stays_behind : (acts : List Act) (w : Work) (rs : List Promised) (given : Given) (command : Command) (x : Answer) → IsWork (shape file) (spelling file) w → AreInputs acts → IsThere (kept w) rs given command x → IsThere (kept (work_after file w acts)) rs given command x
+  stays_behind : (acts : List Act) (w : Work) (rs : List Promised) (given : Given) (command : Command) (x : Answer) → IsWork (shape file) (spelling file) w → AreInputs acts → IsAnswerThere (kept w) rs given command x → IsAnswerThere (kept (work_after file w acts)) rs given command x
   stays_behind [] w rs given command x work inputs there = there
   stays_behind (a ∷ acts) w rs given command x work inputs there =
       stays_behind acts (next file w a.given a.command).0 rs given command x (sense_law (shape file) (spelling file) w a.given a.command inputs.0 work) inputs.1

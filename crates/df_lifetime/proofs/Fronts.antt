@@ -11,7 +11,7 @@ use Rattle.df_inspect.specs.Opening.{script_text}
 use Rattle.df_layout.specs.declared.layout.Layout.{Layout}
 use Rattle.df_lines.specs.Grammar.{Said}
 use Rattle.df_lines.specs.Room.{line_bound}
-use Rattle.df_lines.specs.Script.{Begins, IsRefused, IsScript}
+use Rattle.df_lines.specs.Script.{BeginsWithLines, IsRefused, IsScript}
 use Rattle.df_lines.specs.Text.{after_line, line_of as first_line, taken}
 use Rattle.df_lines.proofs.Laws.{one_said, one_script, no_line, begins_one}
 use Rattle.df_theory.specs.Shape.{Shape}
@@ -29,7 +29,7 @@ use Rattle.df_session.specs.Begun.{begun_work}
 use Rattle.df_session.specs.Found.{FoundFile}
 use Rattle.df_session.specs.Links.{events_made}
 use Rattle.df_top.specs.Acknowledging.{script_calls}
-use Rattle.df_top.specs.Lines.{Failing, Turned, act_of, all_said, all_text, command_of, printed as prints, said_of}
+use Rattle.df_top.specs.Lines.{Failing, Turned, act_of, all_said, all_text, command_of_line, printed as prints, said_of}
 use Rattle.df_top.specs.OneText.{text_by}
 use Rattle.df_top.specs.Outside.{Outside}
 use Rattle.df_top.specs.Resulting.{joined, text_over}
@@ -57,7 +57,7 @@ all_is_part old new xs wrote = (length xs, omega arith, subst (Appends old new) 
 -- ---- the lines that were executed
 
 -- lines with which a text begins are the first ones of its script
-lines_front : (bound budget : ℕ) (text : List ℕ) (lines says : List Said) (left last : ℕ) (rest end : List ℕ) → Begins bound budget text lines left rest → Begins bound budget text says last end → (end ≡ []) ⊎ IsRefused bound last end → IsFront lines says
+lines_front : (bound budget : ℕ) (text : List ℕ) (lines says : List Said) (left last : ℕ) (rest end : List ℕ) → BeginsWithLines bound budget text lines left rest → BeginsWithLines bound budget text says last end → (end ≡ []) ⊎ IsRefused bound last end → IsFront lines says
 lines_front bound budget text [] says left last rest end first all ends = (says, refl)
 lines_front bound budget text (a ∷ lines) [] left last rest end first all ends = absurd (no_line bound budget last text end a first.0 all.0 all.1 ends)
 lines_front bound budget text (a ∷ lines) (b ∷ says) left last rest end first all ends =
@@ -65,14 +65,14 @@ lines_front bound budget text (a ∷ lines) (b ∷ says) left last rest end firs
     let same : b ≡ a = one_said (first_line text) b a all.0.says first.0.says in
     (more.0, (λ i. same i ∷ more.1 i))
 
-begins_first : (bound budget : ℕ) (text : List ℕ) (lines more : List Said) (left : ℕ) (rest : List ℕ) → Begins bound budget text (lines ++ more) left rest → (n : ℕ) × (end : List ℕ) × Begins bound budget text lines n end
+begins_first : (bound budget : ℕ) (text : List ℕ) (lines more : List Said) (left : ℕ) (rest : List ℕ) → BeginsWithLines bound budget text (lines ++ more) left rest → (n : ℕ) × (end : List ℕ) × BeginsWithLines bound budget text lines n end
 begins_first bound budget text [] more left rest begins = (budget, text, (refl, refl))
 begins_first bound budget text (said ∷ lines) more left rest begins =
     let first = begins_first bound (budget - taken text) (after_line text) lines more left rest begins.1 in
     (first.0, first.1, (begins.0, first.2))
 
 -- of a text that is cut: what its lines print, and the line that refuses the next one
-cut_text : (bound budget : ℕ) (text : List ℕ) (lines says : List Said) (script : IsScript bound budget text says) (left : ℕ) (rest : List ℕ) → Begins bound budget text lines left rest → IsRefused bound left rest
+cut_text : (bound budget : ℕ) (text : List ℕ) (lines says : List Said) (script : IsScript bound budget text says) (left : ℕ) (rest : List ℕ) → BeginsWithLines bound budget text lines left rest → IsRefused bound left rest
     → (lines ≡ says) × ((n : ℕ) (line : List ℕ) → text_by script.ends n line ≡ line ++ script_text (n + 1))
 cut_text bound budget text lines says script left rest begins refused = (same, λ n line. by script.ends n line)
   where
@@ -80,7 +80,7 @@ cut_text bound budget text lines says script left rest begins refused = (same, �
     same = one_script bound budget text lines says (record { left = left; rest = rest; begins = begins; ends = inr refused }) script
 
     by : (e : (script.rest ≡ []) ⊎ IsRefused bound script.left script.rest) (n : ℕ) (line : List ℕ) → text_by e n line ≡ line ++ script_text (n + 1)
-    by (inl none) n line = absurd (refused.some (begins_one bound budget text says left script.left rest script.rest (subst (λ (l : List Said). Begins bound budget text l left rest) same begins) script.begins ∙ none))
+    by (inl none) n line = absurd (refused.some (begins_one bound budget text says left script.left rest script.rest (subst (λ (l : List Said). BeginsWithLines bound budget text l left rest) same begins) script.begins ∙ none))
     by (inr other) n line = refl
 
 -- ---- what they print
@@ -95,8 +95,8 @@ over_front sh by pace x (c ∷ xs) ys =
 
 text_front : (pace : Pace) (file : DataFile) (shown : Shown) (w : Work) (lines says : List Said) → IsFront lines says → IsFront (text_over pace file shown w lines) (text_over pace file shown w says)
 text_front pace file shown w lines says (more, is) =
-    let front = over_front (shape file) (codec file) pace (stand_at shown w) (map command_of lines) (map command_of more) in
-    (front.0, ap (λ (l : List Command). joined (paced (shape file) (codec file) pace (stand_at shown w) l)) (ap (map command_of) is ∙ map-append command_of lines more) ∙ front.1)
+    let front = over_front (shape file) (codec file) pace (stand_at shown w) (map command_of_line lines) (map command_of_line more) in
+    (front.0, ap (λ (l : List Command). joined (paced (shape file) (codec file) pace (stand_at shown w) l)) (ap (map command_of_line) is ∙ map-append command_of_line lines more) ∙ front.1)
 
 by_front : {A B : Type 0} (e : A ⊎ B) (n : ℕ) (line : List ℕ) → IsFront line (text_by e n line)
 by_front (inl none) n line = ([], sym (append-nil line))
@@ -138,7 +138,7 @@ module _ (pace : Pace) (layout : Layout) (t : Told) (old new : Outside) (status 
       cc
 
   -- the lines that were executed print a front of the text
-  printed_front : (left : ℕ) (rest : List ℕ) → Begins (line_bound layout) script_budget s.text (all_said turns) left rest → (cut : Bool) → (cut ≡ true → IsRefused (line_bound layout) left rest) → IsFront (prints 0 turns cut) (whole_text s)
+  printed_front : (left : ℕ) (rest : List ℕ) → BeginsWithLines (line_bound layout) script_budget s.text (all_said turns) left rest → (cut : Bool) → (cut ≡ true → IsRefused (line_bound layout) left rest) → IsFront (prints 0 turns cut) (whole_text s)
   printed_front left rest begins false refused =
       let lines = lines_front (line_bound layout) script_budget s.text (all_said turns) s.says left s.script.left rest s.script.rest begins s.script.begins s.script.ends in
       let text = text_front pace file (shown_of file t.shown) (begun_work file t.shown s.view) (all_said turns) s.says lines in
@@ -185,9 +185,9 @@ module _ (pace : Pace) (layout : Layout) (t : Told) (old new : Outside) (status 
     some_written f cut Memory front ends = absurd ends
     some_written f cut Found front ends = absurd ends
 
-    written : (failing : Option Failing) (cut : Bool) → Begins (line_bound layout) script_budget s.text (all_said turns ++ said_of failing) left rest → (cut ≡ true → IsRefused (line_bound layout) left rest) → Ends failing cut status → Writes
+    written : (failing : Option Failing) (cut : Bool) → BeginsWithLines (line_bound layout) script_budget s.text (all_said turns ++ said_of failing) left rest → (cut ≡ true → IsRefused (line_bound layout) left rest) → Ends failing cut status → Writes
     written None cut begins refused ends =
-        none_written cut status (printed_front left rest (subst (λ (l : List Said). Begins (line_bound layout) script_budget s.text l left rest) (append-nil (all_said turns)) begins) cut refused) ends
+        none_written cut status (printed_front left rest (subst (λ (l : List Said). BeginsWithLines (line_bound layout) script_budget s.text l left rest) (append-nil (all_said turns)) begins) cut refused) ends
     written (Some f) cut begins refused ends =
         let some = begins_first (line_bound layout) script_budget s.text (all_said turns) (said_of (Some f)) left rest begins in
         some_written f cut status (printed_front some.0 some.1 some.2 false (λ is. absurd (cc))) ends

@@ -19,7 +19,7 @@ use Rattle.df_replica.proofs.Laws.{keeps_on}
 use Rattle.df_session.specs.Begun.{begun_work}
 use Rattle.df_lifetime.specs.Acknowledged.{AreThere}
 use Rattle.df_lifetime.specs.Life.{Chapter, LeadsTo, MayHave}
-use Rattle.df_lifetime.specs.There.{HasPrepare, HasReply, HavePrepares, IsThere, Promised, promised_by}
+use Rattle.df_lifetime.specs.There.{HasPrepare, HasReply, HavePrepares, IsAnswerThere, Promised, promised_by}
 
 -- ---- what a file may have come to
 
@@ -63,7 +63,7 @@ module _ (v u : View) (keeps : KeepsView v u) where
   prepares_there [] sums have = tt
   prepares_there (r ∷ rs) sums have = (prepare_there r.op (first_of sums) r.client r.request r.body have.0, prepares_there rs (drop 1 sums) have.1)
 
-  one_there : (rs : List Promised) (given : Given) (command : Command) (answer : Answer) → IsThere v rs given command answer → IsThere u rs given command answer
+  one_there : (rs : List Promised) (given : Given) (command : Command) (answer : Answer) → IsAnswerThere v rs given command answer → IsAnswerThere u rs given command answer
   one_there rs given (commands.Append client request body) (ToAppend (Ok x)) there = prepare_there x.0 x.1 client request body there
   one_there rs given commands.Flush (ToFlush (Ok count)) there = (there.0, prepares_there rs (supplied_sums given) there.1)
   one_there rs given (commands.Reply op body) (ToReply (Ok sum)) there = reply_there op sum body there

@@ -20,7 +20,7 @@ use Rattle.df_model.specs.Commands.{Answer}
 use Rattle.df_model.specs.Sense.{IsWork}
 use Rattle.df_model.specs.Views.{KeepsView}
 use Rattle.df_model.specs.Work.{Work, kept}
-use Rattle.df_replica.specs.Below.{DataFile, State, begun, shape, spelling, told_after}
+use Rattle.df_replica.specs.Below.{DataFile, State, restarted, shape, spelling, told_after}
 use Rattle.df_replica.specs.Following.{MayOpen}
 use Rattle.df_replica.specs.HeldBlocks.{AreInputs}
 use Rattle.df_replica.specs.Serving.{Firm, Grade, StandsFor, Whole, format}
@@ -202,11 +202,11 @@ of_one file s same version = ap (λ (f : DataFile). f.version) (sym same) ∙ ve
 
 pub hurt_scripts_keep : HurtScriptsKeep
 hurt_scripts_keep g file view t old new status pace found serves had same stands =
-    scripts_keep_on g file had.found t (begun t) old new status pace found serves refl (begun_may_open file had.found t (of_one file found.found had.of found.is_opened.of.version_is) (had.begins same)) stands
+    scripts_keep_on g file had.found t (restarted t) old new status pace found serves refl (begun_may_open file had.found t (of_one file found.found had.of found.is_opened.of.version_is) (had.begins same)) stands
 
 pub hurt_runs_keep : HurtRunsKeep
 hurt_runs_keep g file view t old new status seed count found works had same stands =
-    runs_keep_on g file had.found t (begun t) old new status seed count found works refl (begun_may_open file had.found t (of_one file found.found had.of found.is_opened.of.version_is) (had.begins same)) stands
+    runs_keep_on g file had.found t (restarted t) old new status seed count found works refl (begun_may_open file had.found t (of_one file found.found had.of found.is_opened.of.version_is) (had.begins same)) stands
 
 -- ---- whatever was done before
 

@@ -26,7 +26,7 @@ use Rattle.df_model.proofs.Laws.{block_read_law, prepare_read_law, reply_read_la
 use Rattle.df_replica.specs.Below.{memory, shape, spelling, DataFile}
 use Rattle.df_replica.specs.Reading.{shown_of}
 use Rattle.df_replica.specs.Serving.{Firm, Grade, KeptFor, Whole, format, next}
-use Rattle.df_lifetime.specs.Reads.{IsRead, KeptPreparesAreRead, KeptRepliesAreRead, LiveBlocksAreRead}
+use Rattle.df_lifetime.specs.Reads.{IsAnsweredRead, KeptPreparesAreRead, KeptRepliesAreRead, LiveBlocksAreRead}
 
 -- ---- the tests of a read
 
@@ -74,7 +74,7 @@ firm : (g : Grade) (sh : Shape) (spell : Units.Parts → List ℕ) (log : UnitLo
 firm Firm sh spell log w by = by
 firm Whole sh spell log w by = by.0
 
-module _ (g : Grade) (w : Work) (command : Command) (x : Answer) (is : IsRead g w command x) where
+module _ (g : Grade) (w : Work) (command : Command) (x : Answer) (is : IsAnsweredRead g w command x) where
   abbrev file : DataFile
   file = is.state.file
 

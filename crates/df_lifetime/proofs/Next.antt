@@ -16,7 +16,7 @@ use Rattle.df_model.specs.Commands as commands
 use Rattle.df_model.specs.Commands.{Answer, Command, Given, ToAdvance, ToAppend, ToFlush, ToReply, supplied_sums}
 use Rattle.df_model.specs.Making.{first_of}
 use Rattle.df_model.specs.declared.answers.Progress.TheVariants.{Done}
-use Rattle.df_lifetime.specs.There.{HasPrepare, HasReply, HavePrepares, IsThere, Promised}
+use Rattle.df_lifetime.specs.There.{HasPrepare, HasReply, HavePrepares, IsAnswerThere, Promised}
 
 -- ---- prepares
 
@@ -116,7 +116,7 @@ prepares_stay : (sh : Shape) (v u : View) (rs : List Promised) (sums : List ℕ)
 prepares_stay sh v u [] sums sound next have = tt
 prepares_stay sh v u (r ∷ rs) sums sound next have = (prepare_stays sh r.op (first_of sums) r.client r.request r.body v u sound next have.0, prepares_stay sh v u rs (drop 1 sums) sound next have.1)
 
-pub stays : (sh : Shape) (v u : View) (rs : List Promised) (given : Given) (command : Command) (answer : Answer) → Sound sh v → Next v u → IsThere v rs given command answer → IsThere u rs given command answer
+pub stays : (sh : Shape) (v u : View) (rs : List Promised) (given : Given) (command : Command) (answer : Answer) → Sound sh v → Next v u → IsAnswerThere v rs given command answer → IsAnswerThere u rs given command answer
 stays sh v u rs given (commands.Append client request body) (ToAppend (Ok x)) sound next there = prepare_stays sh x.0 x.1 client request body v u sound next there
 stays sh v u rs given commands.Flush (ToFlush (Ok count)) sound next there = (there.0, prepares_stay sh v u rs (supplied_sums given) sound next there.1)
 stays sh v u rs given (commands.Reply op body) (ToReply (Ok sum)) sound next there = reply_stays sh op sum body v u sound next there

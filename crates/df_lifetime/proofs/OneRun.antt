@@ -43,7 +43,7 @@ use Rattle.df_session.specs.Links.{AreCalls, EndsCalls, command_in}
 use Rattle.df_session.proofs.Laws.{file_there, layout_there, view_there, agree_self}
 use Rattle.df_top.specs.Outside.{Outside}
 use Rattle.df_top.specs.Working.{WorksThrough}
-use Rattle.df_top.specs.Works.{Writes, asked_by, workload_of}
+use Rattle.df_top.specs.Works.{WritesReport, asked_by, workload_of}
 use Rattle.df_top.specs.declared.status.Status.{Status}
 use Rattle.df_top.specs.declared.status.Status.TheVariants.{Done, Script, Words, Refused, Memory as NoMemory, DiskFault, ReadFault, WriteFault, Found}
 use Rattle.df_lifetime.specs.Printed.{HasEnded, OnFile, PrintsOne, Twice, WorkloadHasOneText}
@@ -178,7 +178,7 @@ calls_count s u old new (a ∷ acts) (x ∷ answers) w calls k =
 
 -- it has no call without an answer, and printed what it counted
 module _ (run : Run) (t : Replica) (told : Option Told) (old new : Option (List ℕ)) where
-  run_ended : (failed : Option Act) (status : Status) → HasEnded status → Writes run t told failed old new status → (failed ≡ None) × (status ≡ Done) × Appends old new (workload_text (workload_of run t))
+  run_ended : (failed : Option Act) (status : Status) → HasEnded status → WritesReport run t told failed old new status → (failed ≡ None) × (status ≡ Done) × Appends old new (workload_text (workload_of run t))
   run_ended None Done ended wrote = (refl, refl, wrote)
   run_ended None Found ended wrote = absurd wrote
   run_ended (Some a) Done ended wrote = absurd wrote

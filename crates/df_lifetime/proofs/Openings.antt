@@ -1,4 +1,4 @@
--- Calls on a file that was opened, whatever was done to its disk before: what they leave by the log that is begun anew at the end of the open.
+-- Calls on a file that was opened, whatever was done to its disk before: what they leave by the log that is restarted at the end of the open.
 use Rattle.std.proofs.Common.{◌≡◌, ◌<◌, ◌^◌, inl, inr, ℕ, List, [], ◌∷◌, ◌++◌, Option, Some, None, refl, sym, ◌∙◌, ap, subst}
 use Rattle.std.specs.Prelude.{take, drop}
 use Rattle.std.proofs.lemmas.List.{append-nil}

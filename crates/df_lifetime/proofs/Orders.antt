@@ -18,7 +18,7 @@ use Rattle.df_units.specs.Making.{first_view}
 use Rattle.df_units.specs.Meaning.{layout_of}
 use Rattle.df_units.proofs.Laws.{is_format, of_places}
 use Rattle.df_trailer.specs.Text.{parse_of}
-use Rattle.df_replica.specs.Below.{shape, DataFile, begun}
+use Rattle.df_replica.specs.Below.{shape, DataFile, restarted}
 use Rattle.df_replica.specs.Following.{MayOpen}
 use Rattle.df_replica.specs.Making.{MayMakeOn, file_of, making_events}
 use Rattle.df_replica.specs.Serving.{format}
@@ -154,11 +154,11 @@ made_in_order layout cluster t n may honest word =
 
 -- ---- as it was taken
 
-pub taken_in_order : (file : DataFile) (first : View) (t : Told) → MayTake file first t.shown → IsInOrder file first [] (begun t)
+pub taken_in_order : (file : DataFile) (first : View) (t : Told) → MayTake file first t.shown → IsInOrder file first [] (restarted t)
 taken_in_order file first t may =
-    let opens : MayOpen file first (begun t) = begun_may_open file first t may.version may.begins in
+    let opens : MayOpen file first (restarted t) = begun_may_open file first t may.version may.begins in
     let held : Held (shape file) (unit_at file.layout file.cluster t.shown) first =
     (found_law (shape file) (unit_at file.layout file.cluster t.shown) first).1 (of_places file.layout file.cluster file.named (parse_of (layout_of file.layout)) t.shown may.begins.whole) may.begins.found may.begins.clean in
-    let only : (image : Image) → IsLeft (begun t).log image → t.shown ≡ image = λ image left. λ i sector. sym (left.kept sector refl) i in
-    in_order file first [] (begun t) may.version opens.honest
+    let only : (image : Image) → IsLeft (restarted t).log image → t.shown ≡ image = λ image left. λ i sector. sym (left.kept sector refl) i in
+    in_order file first [] (restarted t) may.version opens.honest
     (record { safe = opens.safe; left = λ image left no. subst (Has file first []) (only image left) (record { view = first; had = keeps_self first; held = held; stands = may.stands }) })

@@ -7,7 +7,7 @@ use Rattle.df_base.specs.Log as logs
 use Rattle.df_base.specs.Log.{Log, Sync}
 use Rattle.df_base.proofs.Laws.{one_some}
 use Rattle.df_disk.specs.Told.{Told}
-use Rattle.df_format.specs.Copies.{content_of as content_of_copy, copy_at, copy_in, if_here, is_blank_copy}
+use Rattle.df_format.specs.Copies.{content_in_copy as content_of_copy, copy_at, copy_in, if_here, is_blank_copy}
 use Rattle.df_format.specs.declared.superblock.SuperCopy.{SuperCopy}
 use Rattle.df_format.proofs.Laws.{copy_is_not_blank}
 use Rattle.df_history.specs.Histories.{MayHurtCopies, MayStart}

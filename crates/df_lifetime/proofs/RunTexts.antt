@@ -30,7 +30,7 @@ use Rattle.df_session.specs.Below.{codec}
 use Rattle.df_workload.specs.Asking.{asks_at, number_body}
 use Rattle.df_workload.specs.Draw.{drawn_body}
 use Rattle.df_workload.specs.Following.{Follows}
-use Rattle.df_workload.specs.Hearing.{appended, begun, heard, outcome_of, released, replied, stepped, told_at, wrote}
+use Rattle.df_workload.specs.Hearing.{append_heard, begin_heard, block_heard, heard, outcome_of, release_heard, reply_heard, stepped, told_at}
 use Rattle.df_workload.specs.Rounds.{after_reply, start, to_begin, to_block, to_next, to_release, to_replies, to_step}
 use Rattle.df_workload.specs.declared.state.Point.{Point}
 use Rattle.df_workload.specs.declared.state.Point.TheVariants.{Appending, Replying, Stepping, Writing, Releasing, Beginning, Ending}
@@ -80,30 +80,30 @@ reply_counts : (op : ℕ) (s : Run) → counted (after_reply op s) ≡ counted s
 reply_counts op s = either_counts _ (counted s) _ _ refl (step_counts s)
 
 -- an answer to what is asked for counts as it does for the file
-heard_append : (s : Run) (r : Result (ℕ × ℕ) AppendError) → counted (to_replies (appended (outcome_of (ToAppend r)) s)) ≡ after_answer (ToAppend r) (counted s)
-heard_append s (Ok receipt) = replies_counts (appended (outcome_of (ToAppend (Ok receipt))) s)
-heard_append s (Err e) = replies_counts (appended (outcome_of (ToAppend (Err e))) s)
+heard_append : (s : Run) (r : Result (ℕ × ℕ) AppendError) → counted (to_replies (append_heard (outcome_of (ToAppend r)) s)) ≡ after_answer (ToAppend r) (counted s)
+heard_append s (Ok receipt) = replies_counts (append_heard (outcome_of (ToAppend (Ok receipt))) s)
+heard_append s (Err e) = replies_counts (append_heard (outcome_of (ToAppend (Err e))) s)
 
-heard_reply : (op : ℕ) (s : Run) (r : Result ℕ ReplyError) → counted (after_reply op (replied (outcome_of (ToReply r)) s)) ≡ after_answer (ToReply r) (counted s)
-heard_reply op s (Ok sum) = reply_counts op (replied (outcome_of (ToReply (Ok sum))) s)
-heard_reply op s (Err e) = reply_counts op (replied (outcome_of (ToReply (Err e))) s)
+heard_reply : (op : ℕ) (s : Run) (r : Result ℕ ReplyError) → counted (after_reply op (reply_heard (outcome_of (ToReply r)) s)) ≡ after_answer (ToReply r) (counted s)
+heard_reply op s (Ok sum) = reply_counts op (reply_heard (outcome_of (ToReply (Ok sum))) s)
+heard_reply op s (Err e) = reply_counts op (reply_heard (outcome_of (ToReply (Err e))) s)
 
 heard_step : (s : Run) (r : Result Progress StepError) → counted (stepped (outcome_of (ToAdvance r)) s) ≡ after_answer (ToAdvance r) (counted s)
 heard_step s (Ok (Working left)) = refl
 heard_step s (Ok (Ended sequence)) = refl
 heard_step s (Err e) = refl
 
-heard_write : (s : Run) (r : Result (ℕ × ℕ) BlockError) → counted (to_release (wrote (outcome_of (ToWriteBlock r)) s)) ≡ counted s
-heard_write s (Ok reference) = release_counts (wrote (outcome_of (ToWriteBlock (Ok reference))) s)
-heard_write s (Err e) = release_counts (wrote (outcome_of (ToWriteBlock (Err e))) s)
+heard_write : (s : Run) (r : Result (ℕ × ℕ) BlockError) → counted (to_release (block_heard (outcome_of (ToWriteBlock r)) s)) ≡ counted s
+heard_write s (Ok reference) = release_counts (block_heard (outcome_of (ToWriteBlock (Ok reference))) s)
+heard_write s (Err e) = release_counts (block_heard (outcome_of (ToWriteBlock (Err e))) s)
 
-heard_release : (s : Run) (r : Result (Unit {0}) NotLive) → counted (to_begin (released (outcome_of (ToRelease r)) s)) ≡ counted s
-heard_release s (Ok done) = begin_counts (released (outcome_of (ToRelease (Ok done))) s)
-heard_release s (Err e) = begin_counts (released (outcome_of (ToRelease (Err e))) s)
+heard_release : (s : Run) (r : Result (Unit {0}) NotLive) → counted (to_begin (release_heard (outcome_of (ToRelease r)) s)) ≡ counted s
+heard_release s (Ok done) = begin_counts (release_heard (outcome_of (ToRelease (Ok done))) s)
+heard_release s (Err e) = begin_counts (release_heard (outcome_of (ToRelease (Err e))) s)
 
-heard_begin : (s : Run) (r : Result ℕ BeginError) → counted (to_next (begun (outcome_of (ToBegin r)) s)) ≡ counted s
-heard_begin s (Ok blocks) = next_counts (begun (outcome_of (ToBegin (Ok blocks))) s)
-heard_begin s (Err e) = next_counts (begun (outcome_of (ToBegin (Err e))) s)
+heard_begin : (s : Run) (r : Result ℕ BeginError) → counted (to_next (begin_heard (outcome_of (ToBegin r)) s)) ≡ counted s
+heard_begin s (Ok blocks) = next_counts (begin_heard (outcome_of (ToBegin (Ok blocks))) s)
+heard_begin s (Err e) = next_counts (begin_heard (outcome_of (ToBegin (Err e))) s)
 
 same_command : (a c : Command) → Some a ≡ Some c → a ≡ c
 same_command a c is = cc is

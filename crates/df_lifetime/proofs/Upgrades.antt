@@ -17,14 +17,14 @@ use Rattle.df_theory.specs.Upgrades.{as_version}
 use Rattle.df_theory.specs.View.{View}
 use Rattle.df_units.specs.Bytes.{unit_at}
 use Rattle.df_model.specs.Result.{AgreeReads}
-use Rattle.df_replica.specs.Below.{AreDistinct, DataFile, State as Replica, begun, shape, told_after}
+use Rattle.df_replica.specs.Below.{AreDistinct, DataFile, State as Replica, restarted, shape, told_after}
 use Rattle.df_replica.specs.Leaving.{SparesReads, image_after}
 use Rattle.df_replica.specs.Serving.{format}
 use Rattle.df_replica.proofs.Laws.{added_is_told, honest_stays, shown_after}
 use Rattle.df_upgrade.specs.Base.{base_fields}
 use Rattle.df_upgrade.specs.Below.{IsOpenedAs}
 use Rattle.df_upgrade.specs.Upgraded.{UpgradesAll}
-use Rattle.df_upgrade.specs.Upgrading.{Leaves, StaysBare, UpgradesAnew, second, upgraded}
+use Rattle.df_upgrade.specs.Upgrading.{IsLeftByUpgrade, UpgradeStaysBare, UpgradesAnew, second, upgraded}
 use Rattle.df_top.specs.Upgrading.{ComesToUpgrade, UpgradesOwn}
 use Rattle.df_top.specs.declared.status.Status.{Status}
 use Rattle.df_top.specs.declared.status.Status.TheVariants.{Done}
@@ -52,15 +52,15 @@ IsEither file view image = (IsOld file view image × IsClean (unit_at file.layou
 
 module _ (t : Told) (s : Replica) (view : View) (old : IsOld s.file view t.shown) (opened : IsOpenedAs 1 s.file.layout t.shown s) (es : List Event) where
   -- at its end
-  module _ (n : Told) (is : told_after es (did Sync t) ≡ n) (anew : UpgradesAnew view s es (begun t)) (spares : (image : Image) → IsImage image → SparesReads s.file image (image_after es image)) where
+  module _ (n : Told) (is : told_after es (did Sync t) ≡ n) (anew : UpgradesAnew view s es (restarted t)) (spares : (image : Image) → IsImage image → SparesReads s.file image (image_after es image)) where
     abbrev end : Told
-    end = told_after es (begun t)
+    end = told_after es (restarted t)
 
     shown : image_after es t.shown ≡ n.shown
     shown = sym (shown_after es (did Sync t)) ∙ ap (λ (x : Told). x.shown) is
 
     shows_now : now end.log ≡ n.shown
-    shows_now = (λ i sector. sym ((honest_stays es (begun t) (record { shows = λ k. refl })).shows sector) i) ∙ shown_after es (begun t) ∙ shown
+    shows_now = (λ i sector. sym ((honest_stays es (restarted t) (record { shows = λ k. refl })).shows sector) i) ∙ shown_after es (restarted t) ∙ shown
 
     -- what is there at the end
     there : IsImage n.shown
@@ -89,10 +89,10 @@ module _ (t : Told) (s : Replica) (view : View) (old : IsOld s.file view t.shown
 
   -- after a stop
   module _ (clean : IsClean (unit_at s.file.layout s.file.cluster t.shown) view) (bare : IsSameBare (as_version 2 view) (upgraded view (base_fields s))) where
-    stays_either : (log : Log) → log.start ≡ t.shown → StaysBare s.file view (base_fields s) log → (image : Image) → IsLeft log image → NoChanceOf (format s.file) log image → IsEither s.file view image
+    stays_either : (log : Log) → log.start ≡ t.shown → UpgradeStaysBare s.file view (base_fields s) log → (image : Image) → IsLeft log image → NoChanceOf (format s.file) log image → IsEither s.file view image
     stays_either log starts stays image left chance = elim (stays.left image left chance) [
       | inl before ↦
-          let is : Leaves s.file view view t.shown image = subst (λ (i : Image). Leaves s.file view view i image) starts before in
+          let is : IsLeftByUpgrade s.file view view t.shown image = subst (λ (i : Image). IsLeftByUpgrade s.file view view i image) starts before in
           inl (
             record {
               version = old.version;
@@ -104,7 +104,7 @@ module _ (t : Told) (s : Replica) (view : View) (old : IsOld s.file view t.shown
             is.clean clean,
           )
       | inr after ↦
-          let is : Leaves (second s.file) view (upgraded view (base_fields s)) t.shown image = subst (λ (i : Image). Leaves (second s.file) view (upgraded view (base_fields s)) i image) starts after in
+          let is : IsLeftByUpgrade (second s.file) view (upgraded view (base_fields s)) t.shown image = subst (λ (i : Image). IsLeftByUpgrade (second s.file) view (upgraded view (base_fields s)) i image) starts after in
           inr (record {
             first = upgraded view (base_fields s);
             bare = bare;
@@ -163,7 +163,7 @@ module _ (file : DataFile) (view : View) (t n : Told) (status : Status) (old : I
 
   -- ---- after a stop
 
-  module _ (clean : IsClean (unit_at file.layout file.cluster t.shown) view) (p m : Told) (until : Extends n.log p.log) (along : GoesAlong (did Sync t) p (begun t) m) where
+  module _ (clean : IsClean (unit_at file.layout file.cluster t.shown) view) (p m : Told) (until : Extends n.log p.log) (along : GoesAlong (did Sync t) p (restarted t) m) where
     abbrev IsKeptBy : Log → Type 0
     IsKeptBy log = (image : Image) → IsLeft log image → NoChanceOf (format file) log image → IsEither file view image
 
@@ -174,18 +174,18 @@ module _ (file : DataFile) (view : View) (t n : Told) (status : Status) (old : I
         omega (arith, ap length events, length-append until.0 (along.events ++ Sync ∷ t.log.events), length-append along.events (Sync ∷ t.log.events))
 
     -- at each moment after it
-    by_moments : (es : List Event) → told_after es (did Sync t) ≡ n → EachMoment (begun t).log (told_after es (begun t)).log IsKeptBy → IsKeptBy m.log
+    by_moments : (es : List Event) → told_after es (did Sync t) ≡ n → EachMoment (restarted t).log (told_after es (restarted t)).log IsKeptBy → IsKeptBy m.log
     by_moments es is each =
-        let all : GoesAlong (did Sync t) n (begun t) (told_after es (begun t)) = subst (λ (x : Told). GoesAlong (did Sync t) x (begun t) (told_after es (begun t))) is (after_along es (did Sync t) (begun t) refl) in
-        each m.log (moment_along (did Sync t) p n (begun t) m (told_after es (begun t)) all along until)
+        let all : GoesAlong (did Sync t) n (restarted t) (told_after es (restarted t)) = subst (λ (x : Told). GoesAlong (did Sync t) x (restarted t) (told_after es (restarted t))) is (after_along es (did Sync t) (restarted t) refl) in
+        each m.log (moment_along (did Sync t) p n (restarted t) m (told_after es (restarted t)) all along until)
 
     -- nothing was done after it
     by_barrier : did Sync t ≡ n → IsKeptBy m.log
     by_barrier is =
-        by_moments [] is (started (begun t).log IsKeptBy (λ image left chance. subst (IsEither file view) (λ i sector. sym (left.kept sector refl) i) (inl (old, clean))))
+        by_moments [] is (started (restarted t).log IsKeptBy (λ image left chance. subst (IsEither file view) (λ i sector. sym (left.kept sector refl) i) (inl (old, clean))))
 
     by_upgrade : (layout : Layout) (s : Replica) (es : List Event) → IsOpenedAs 1 layout t.shown s → told_after es (did Sync t) ≡ n
-        → (IsOld s.file view t.shown → EachMoment (begun t).log (told_after es (begun t)).log (StaysBare s.file view (base_fields s)) × IsSameBare (as_version 2 view) (upgraded view (base_fields s))) → IsKeptBy m.log
+        → (IsOld s.file view t.shown → EachMoment (restarted t).log (told_after es (restarted t)).log (UpgradeStaysBare s.file view (base_fields s)) × IsSameBare (as_version 2 view) (upgraded view (base_fields s))) → IsKeptBy m.log
     by_upgrade layout s es opened is anew =
         let one : s.file ≡ file = opened_one file view t layout s old opened in
         let own : IsOld s.file view t.shown = at_file file view t s one old in

@@ -11,12 +11,12 @@ use Rattle.df_replica.specs.Below.{shape, DataFile}
 use Rattle.df_replica.specs.Serving.{format}
 use Rattle.df_replica.specs.Session.{Act}
 use Rattle.df_lifetime.specs.Life.{Chapter, Life}
-use Rattle.df_lifetime.specs.There.{IsThere, Promised, promised_by}
+use Rattle.df_lifetime.specs.There.{IsAnswerThere, Promised, promised_by}
 
 -- what each of these acts was answered is there, where these requests are staged before the first of them
 abbrev pub AreThere : View → List Promised → List Act → List Answer → Type 0
 AreThere v rs [] [] = Unit {0}
-AreThere v rs (a ∷ acts) (x ∷ answers) = IsThere v rs a.given a.command x × AreThere v (promised_by rs a.command x) acts answers
+AreThere v rs (a ∷ acts) (x ∷ answers) = IsAnswerThere v rs a.given a.command x × AreThere v (promised_by rs a.command x) acts answers
 AreThere v rs acts answers = ⊥
 
 -- and so is what was answered in each of these sessions, which begin with nothing staged

@@ -12,7 +12,7 @@ use Rattle.df_theory.specs.Device.{NoChanceOf}
 use Rattle.df_theory.specs.Holds.{Stands}
 use Rattle.df_theory.specs.View.{View}
 use Rattle.df_units.specs.Bytes.{unit_at}
-use Rattle.df_replica.specs.Below.{DataFile, FindsSince, IsOpened, State as Replica, begun, shape, units_logs}
+use Rattle.df_replica.specs.Below.{DataFile, FindsSince, IsOpened, State as Replica, restarted, shape, units_logs}
 use Rattle.df_replica.specs.Serving.{Firm, Grade, StandsFor, format}
 use Rattle.df_upgrade.specs.Upgrading.{second}
 use Rattle.df_session.specs.Begun.{begun_work}
@@ -47,13 +47,13 @@ pub data Again : DataFile → List Log → Told → Type 0 where
   -- then sectors were damaged, lost or swapped, or none were, and a word was run over what the disk showed, to its end or up to a moment. It wrote to the file, so its open began a log at its barrier; a word that
   -- wrote nothing leaves a file as it was
   Damaged : (file : DataFile) (older : List Log) (b t n p m : Told) (word : Word t n) → Again file older b → IsSpared file b.log older t.shown → (AddsPart (Sync ∷ []) (Some t) (Some n) → ⊥)
-      → Extends n.log p.log → GoesAlong (did Sync t) p (did Sync (begun t)) m → IsHonest m → Again file (add Sync b.log ∷ older) m
+      → Extends n.log p.log → GoesAlong (did Sync t) p (did Sync (restarted t)) m → IsHonest m → Again file (add Sync b.log ∷ older) m
   -- or the machine stopped, and left any bytes in the sectors that were loose
   Halted : (file : DataFile) (older : List Log) (b : Told) (changes : List (ℕ × List ℕ)) → Again file older b → AreLoose b.log.events changes → NoChanceOf (format file) b.log (changed changes (now b.log)) → Again file older (did (Stop changes) b)
 
 -- It may begin where the word `upgrade` ended, or was stopped and left the file of version 2.
 abbrev pub UpgradedMayBeDamaged : Type 0
-UpgradedMayBeDamaged = (file : DataFile) (view : View) (t : Told) → IsUpgraded file view t.shown → Again (second file) [] (begun t)
+UpgradedMayBeDamaged = (file : DataFile) (view : View) (t : Told) → IsUpgraded file view t.shown → Again (second file) [] (restarted t)
 
 -- whatever life a file has had, its log is safe now, whatever a stop leaves has a view, and its history is lived
 abbrev pub EveryLifeIsLived : Type 0
@@ -70,13 +70,13 @@ OtherWordsLeaveIt = (file : DataFile) (older : List Log) (b t n : Told) → Agai
 -- And a life begins anew with what it finds, where each block stands that this references: all that is acknowledged from there on is found, as long as nothing more is hurt.
 abbrev pub LifeBeginsAnew : Type 0
 LifeBeginsAnew =
-    (file : DataFile) (older : List Log) (b t : Told) (s : Replica) → Again file older b → (spared : IsSpared file b.log older t.shown) → (finds : FindsSince file b.log older t.shown s) → Stands (unit_at file.layout file.cluster t.shown) finds.found → Life file finds.found (begun t) []
+    (file : DataFile) (older : List Log) (b t : Told) (s : Replica) → Again file older b → (spared : IsSpared file b.log older t.shown) → (finds : FindsSince file b.log older t.shown s) → Stands (unit_at file.layout file.cluster t.shown) finds.found → Life file finds.found (restarted t) []
 
--- Each session keeps its file from there on, by the log that is begun anew at its open: the next open goes on from there with all that was answered, after its end or after a stop at any moment, as long as nothing more is hurt.
+-- Each session keeps its file from there on, by the log that is restarted at its open: the next open goes on from there with all that was answered, after its end or after a stop at any moment, as long as nothing more is hurt.
 -- At the lower grade nothing more is asked of what it found; at the higher one each block stands that this references, and stays.
 pub record KeepsSince (file : DataFile) (log : Log) (older : List Log) (t : Told) (found : FoundFile file.layout t) (c : CallsMade) : Type 0 where
   pub finds : FindsSince file log older t.shown found.found
-  pub keeps : (g : Grade) → StandsFor g (unit_at file.layout file.cluster t.shown) finds.found → KeepsOn file g (begun_work file t.shown finds.found) (begun t) found.mending.events c
+  pub keeps : (g : Grade) → StandsFor g (unit_at file.layout file.cluster t.shown) finds.found → KeepsOn file g (begun_work file t.shown finds.found) (restarted t) found.mending.events c
 
 -- so a script does that is served, with work beside it or with none
 abbrev pub ScriptsKeepSince : Type 0

@@ -13,12 +13,12 @@ use Rattle.df_theory.specs.View.{View}
 use Rattle.df_history.specs.OpenLaws.{BeginsHistory}
 use Rattle.df_units.specs.Bytes.{unit_at}
 use Rattle.df_units.specs.Meaning.{layout_of}
-use Rattle.df_replica.specs.Below.{AreDistinct, DataFile, begun, shape}
+use Rattle.df_replica.specs.Below.{AreDistinct, DataFile, restarted, shape}
 use Rattle.df_replica.specs.Serving.{format}
 use Rattle.df_telling.specs.Two.{Outside}
 use Rattle.df_copy.specs.Run.{CopiesFile, source_view}
 use Rattle.df_copy.specs.Stops.{AreSplit}
-use Rattle.df_copy.specs.Views.{IsCopyOf, IsEmpty, file_in}
+use Rattle.df_copy.specs.Views.{IsCopyOf, IsEmptyImage, file_in}
 use Rattle.df_copy.specs.declared.status.Status.{Status}
 use Rattle.df_lifetime.specs.Again.{Again}
 use Rattle.df_lifetime.specs.Life.{GoesAlong, Life, MayTake}
@@ -43,7 +43,7 @@ abbrev pub view_of : {layout : Layout} {t read o n : Told} → CopyRun layout t 
 view_of {t = t} run = source_view run.copies.state t run.view
 
 -- an image shows the copy of a view, and a file may be taken there: an open finds this view, the other one with other addresses. And a history begins there, since all units are of earlier boots than the superblock
-pub record IsCopied (layout : Layout) (file : DataFile) (source : Image) (v : View) (image : Image) : Type 0 where
+pub record IsCopiedImage (layout : Layout) (file : DataFile) (source : Image) (v : View) (image : Image) : Type 0 where
   pub first : View
   pub copy : IsCopyOf (layout_of layout) (unit_at file.layout file.cluster source) v (unit_at layout file.cluster image) first
   pub may : MayTake (file_in layout file) first image
@@ -52,17 +52,17 @@ pub record IsCopied (layout : Layout) (file : DataFile) (source : Image) (v : Vi
 -- where a life begins, and one with damage before any number of opens
 abbrev pub CopiedBegins : Type 0
 CopiedBegins =
-    (layout : Layout) (file : DataFile) (source : Image) (v : View) (t : Told) (new : IsCopied layout file source v t.shown) → Life (file_in layout file) new.first (begun t) [] × Again (file_in layout file) [] (begun t)
+    (layout : Layout) (file : DataFile) (source : Image) (v : View) (t : Told) (new : IsCopiedImage layout file source v t.shown) → Life (file_in layout file) new.first (restarted t) [] × Again (file_in layout file) [] (restarted t)
 
 -- a copy that was made on a target on which nothing had been written leaves that, where the target's disk is honest and no two units have one checksum
 abbrev pub MadeIsCopied : Type 0
 MadeIsCopied =
-    (layout : Layout) (t read o n : Told) (run : CopyRun layout t read o n) → run.copies.result ≡ Ok tt → IsEmpty (now o.log) → IsHonest n → AreDistinct (unit_at layout (file_of run).cluster n.shown)
-    → IsCopied layout (file_of run) read.shown (view_of run) n.shown
+    (layout : Layout) (t read o n : Told) (run : CopyRun layout t read o n) → run.copies.result ≡ Ok tt → IsEmptyImage (now o.log) → IsHonest n → AreDistinct (unit_at layout (file_of run).cluster n.shown)
+    → IsCopiedImage layout (file_of run) read.shown (view_of run) n.shown
 
 -- And whatever it came to, a stop at any moment leaves that, or an image in which no two copies of the superblock agree; the second no more once an image is durable in which two do, as it is after the sync of the second copy.
 abbrev pub StoppedIsCopied : Type 0
 StoppedIsCopied =
-    (layout : Layout) (t read o n p m : Told) (run : CopyRun layout t read o n) (image : Image) → IsEmpty o.shown → Extends n.log p.log → GoesAlong o p (begun o) m → IsLeft m.log image
+    (layout : Layout) (t read o n p m : Told) (run : CopyRun layout t read o n) (image : Image) → IsEmptyImage o.shown → Extends n.log p.log → GoesAlong o p (restarted o) m → IsLeft m.log image
     → NoChanceOf (format (file_in layout (file_of run))) m.log image
-    → (IsSplit (unit_at layout (file_of run).cluster image) × AreSplit (settled (units_log (format (file_in layout (file_of run))) m.log))) ⊎ IsCopied layout (file_of run) read.shown (view_of run) image
+    → (IsSplit (unit_at layout (file_of run).cluster image) × AreSplit (settled (units_log (format (file_in layout (file_of run))) m.log))) ⊎ IsCopiedImage layout (file_of run) read.shown (view_of run) image

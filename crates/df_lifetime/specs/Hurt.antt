@@ -1,4 +1,4 @@
--- What a session keeps by any log by which its file may be opened: on a hurt disk by the one that is begun anew at what its open found. So sessions compose there, too. And that
+-- What a session keeps by any log by which its file may be opened: on a hurt disk by the one that is restarted at what its open found. So sessions compose there, too. And that
 -- whatever life a file has had, it may be hurt.
 use Rattle.std.specs.Prelude.{◌≡◌, ℕ, zero, suc, List, [], ◌++◌, take, drop, Some}
 use Rattle.df_base.specs.Image.{Image, IsImage, blank, changed}
@@ -12,7 +12,7 @@ use Rattle.df_units.specs.Bytes.{unit_at}
 use Rattle.df_model.specs.Commands.{Answer}
 use Rattle.df_model.specs.Views.{SomeKeeps}
 use Rattle.df_model.specs.Work.{Work, kept}
-use Rattle.df_replica.specs.Below.{DataFile, FindsHad, MayBeHurt, begun, told_after}
+use Rattle.df_replica.specs.Below.{DataFile, FindsHad, MayBeHurt, restarted, told_after}
 use Rattle.df_replica.specs.Following.{MayOpen}
 use Rattle.df_replica.specs.Serving.{Grade, StandsFor, format}
 use Rattle.df_replica.specs.Session.{Act, work_after}
@@ -74,18 +74,18 @@ RunsKeepOn =
     (g : Grade) (file : DataFile) (view : View) (t base : Told) (old new : Outside) (status : Status) (seed count : ℕ) (found : FoundFile file.layout t) (works : WorksThrough seed count file.layout t found old new status) → base.shown ≡ t.shown → MayOpen file view base
     → StandsFor g (unit_at file.layout file.cluster t.shown) view → KeepsOn file g (begun_work file t.shown view) base found.mending.events (run_calls works.worked)
 
--- A session on a hurt disk keeps it by the log that is begun anew, where its open finds the file's own checkpoint, as it does at rest while two copies stand.
+-- A session on a hurt disk keeps it by the log that is restarted, where its open finds the file's own checkpoint, as it does where the four copies were equal and two stand.
 abbrev pub HurtScriptsKeep : Type 0
 HurtScriptsKeep =
     (g : Grade) (file : DataFile) (view : View) (t : Told) (old new : Outside) (status : Status) (pace : Pace) (found : FoundFile file.layout t) (serves : ServesScript pace file.layout t found old new status) (had : FindsHad file view t found.found) → (had.found.checkpoint ≡ view.checkpoint)
-    → StandsFor g (unit_at file.layout file.cluster t.shown) had.found → KeepsOn file g (begun_work file t.shown had.found) (begun t) found.mending.events (script_calls serves.session)
+    → StandsFor g (unit_at file.layout file.cluster t.shown) had.found → KeepsOn file g (begun_work file t.shown had.found) (restarted t) found.mending.events (script_calls serves.session)
 
 abbrev pub HurtRunsKeep : Type 0
 HurtRunsKeep =
     (g : Grade) (file : DataFile) (view : View) (t : Told) (old new : Outside) (status : Status) (seed count : ℕ) (found : FoundFile file.layout t) (works : WorksThrough seed count file.layout t found old new status) (had : FindsHad file view t found.found) → (had.found.checkpoint ≡ view.checkpoint)
-    → StandsFor g (unit_at file.layout file.cluster t.shown) had.found → KeepsOn file g (begun_work file t.shown had.found) (begun t) found.mending.events (run_calls works.worked)
+    → StandsFor g (unit_at file.layout file.cluster t.shown) had.found → KeepsOn file g (begun_work file t.shown had.found) (restarted t) found.mending.events (run_calls works.worked)
 
--- Whatever was done to the disk before, and whatever its copies show: where an open answered, all that is answered after it is kept by the log that is begun anew at its end. Nothing is asked of the start but that the
+-- Whatever was done to the disk before, and whatever its copies show: where an open answered, all that is answered after it is kept by the log that is restarted at its end. Nothing is asked of the start but that the
 -- file is found, and that one checksum is one unit.
 abbrev pub ScriptsKeepAnew : Type 0
 ScriptsKeepAnew =
@@ -97,11 +97,11 @@ RunsKeepAnew =
     (g : Grade) (file : DataFile) (view : View) (t : Told) (old new : Outside) (status : Status) (seed count : ℕ) (found : FoundFile file.layout t) (works : WorksThrough seed count file.layout t found old new status) → ShowsFile g file view t.shown
     → KeepsOn file g (begun_work file t.shown view) (begun_after found.mending.events t) [] (run_calls works.worked)
 
--- And a stop within such an open leaves the view that was found, but for its boot, by the log that is begun anew at its barrier: so the next open begins anew.
+-- And a stop within such an open leaves the view that was found, but for its boot, by the log that is restarted at its barrier: so the next open starts over.
 abbrev pub StoppedOpensBegin : Type 0
 StoppedOpensBegin =
     (g : Grade) (file : DataFile) (view : View) (t m : Told) (image : Image) (layout : Layout) (found : FoundFile layout t) (c : CallsMade) → ShowsFile g file view t.shown → CallsKeep t found.replica found.mended found.mending c
-    → IsMoment (begun t).log (told_after found.mending.events (begun t)).log m.log → IsLeft m.log image → NoChanceOf (format file) m.log image → SomeKeeps view (λ next. ShowsFile g file next image)
+    → IsMoment (restarted t).log (told_after found.mending.events (restarted t)).log m.log → IsLeft m.log image → NoChanceOf (format file) m.log image → SomeKeeps view (λ next. ShowsFile g file next image)
 
 -- ---- damage at any time of a life
 

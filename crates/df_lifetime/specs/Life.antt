@@ -16,7 +16,7 @@ use Rattle.df_units.specs.Making.{first_view}
 use Rattle.df_model.specs.Commands.{Answer}
 use Rattle.df_model.specs.Views.{KeepsView}
 use Rattle.df_model.specs.Work.{kept}
-use Rattle.df_replica.specs.Below.{AreDistinct, DataFile, begun, shape, told_after}
+use Rattle.df_replica.specs.Below.{AreDistinct, DataFile, restarted, shape, told_after}
 use Rattle.df_replica.specs.Following.{MayOpen}
 use Rattle.df_replica.specs.HeldBlocks.{AreInputs}
 use Rattle.df_replica.specs.Making.{MayMakeOn, file_of}
@@ -32,7 +32,7 @@ use Rattle.df_session.specs.Acknowledging.{WereAnswered}
 use Rattle.df_top.specs.Acknowledging.{run_calls, script_calls}
 use Rattle.df_top.specs.Formats.{Formats, MakesFile}
 use Rattle.df_top.specs.Outside.{Outside}
-use Rattle.df_upgrade.specs.Below.{MayBegin}
+use Rattle.df_upgrade.specs.Below.{MayRestart}
 use Rattle.df_top.specs.Upgrading.{RunsUpgrade}
 use Rattle.df_top.specs.Run.{ComesTo, DidNothing, Does, RefusesSuperblock, Runs, ServesIn, ServesOwn, Works}
 use Rattle.df_top.specs.declared.mode.Mode.{Mode}
@@ -190,10 +190,10 @@ pub record GoesAlong (t n b m : Told) : Type 0 where
   pub start : m.log.start ≡ b.log.start
   pub shows : m.shown ≡ n.shown
 
--- A file may be taken as it is found in this image: it is of version 2, an open finds this view, with each block that it references, and a log may be begun anew there.
+-- A file may be taken as it is found in this image: it is of version 2, an open finds this view, with each block that it references, and a log may be restarted there.
 pub record MayTake (file : DataFile) (view : View) (image : Image) : Type 0 where
   pub version : file.version ≡ 2
-  pub begins : MayBegin file view image
+  pub begins : MayRestart file view image
   pub stands : Stands (unit_at file.layout file.cluster image) view
 
 -- A file of version 2 is shown: an open finds this view in the image, at the higher grade with each block that it references, and one checksum is one unit. Nothing is asked of its copies.
@@ -219,7 +219,7 @@ pub data Life : DataFile → (first : View) → Told → List Chapter → Type 0
       → Held (shape (file_of layout cluster makable.named)) ((format_of layout cluster).unit_at (changed changes (now m.log))) (first_view layout cluster)
       → Life (file_of layout cluster makable.named) (first_view layout cluster) (did (Stop changes) m) []
   -- or it was there, as one is that was upgraded, or copied: its log begins with what the disk shows
-  Taken : (file : DataFile) (first : View) (t : Told) → MayTake file first t.shown → Life file first (begun t) []
+  Taken : (file : DataFile) (first : View) (t : Told) → MayTake file first t.shown → Life file first (restarted t) []
   -- or it was opened, whatever was done to its disk before, and calls were made on it, to their end or up to a moment: its log begins with what the disk shows at the end of that open
   Opened : (file : DataFile) (first : View) (t m : Told) (layout : Layout) (found : FoundFile layout t) (c : CallsMade) (extent : Extent) → ShowsFile Whole file first t.shown → CallsKeep t found.replica found.mended found.mending c
       → AreMade extent (begun_after found.mending.events t) c m → Life file first m (chapter_of extent t.shown c ∷ [])

@@ -12,7 +12,7 @@ use Rattle.df_replica.specs.Serving.{Grade, IsCall, IsKept, Whole}
 
 -- A call that was answered so, from a state of the replica that keeps the file for this state of the machine, by a log over which the disk is honest: the one that is
 -- told, or another base with the same shown image
-pub record IsRead (g : Grade) (w : Work) (command : Command) (x : Answer) : Type 0 where
+pub record IsAnsweredRead (g : Grade) (w : Work) (command : Command) (x : Answer) : Type 0 where
   pub given : Given
   pub state : State
   pub later : State
@@ -27,14 +27,14 @@ pub record IsRead (g : Grade) (w : Work) (command : Command) (x : Answer) : Type
 -- a prepare of the tail is read: any op above the checkpoint's and at most the head
 abbrev pub KeptPreparesAreRead : Type 0
 KeptPreparesAreRead =
-    (g : Grade) (w : Work) (op : ℕ) (x : Answer) → IsRead g w (ReadPrepare op) x → w.view.checkpoint.content.op < op → op ≤ head w.view
+    (g : Grade) (w : Work) (op : ℕ) (x : Answer) → IsAnsweredRead g w (ReadPrepare op) x → w.view.checkpoint.content.op < op → op ≤ head w.view
     → (p : Message) × In p w.view.tail × (p.header.op ≡ op) × (x ≡ ToReadPrepare (Ok p))
 
 -- so is the reply that is stored for a client
 abbrev pub KeptRepliesAreRead : Type 0
 KeptRepliesAreRead =
-    (g : Grade) (w : Work) (k : ℕ) (s : Session) (r : Message) (x : Answer) → IsRead g w (ReadReply s.client) x → slice_get (sessions w.view) k ≡ Some s → w.view.stored k ≡ Some r → x ≡ ToReadReply (Ok r)
+    (g : Grade) (w : Work) (k : ℕ) (s : Session) (r : Message) (x : Answer) → IsAnsweredRead g w (ReadReply s.client) x → slice_get (sessions w.view) k ≡ Some s → w.view.stored k ≡ Some r → x ≡ ToReadReply (Ok r)
 
 -- and a block that is live, in a file that shows each block that it references
 abbrev pub LiveBlocksAreRead : Type 0
-LiveBlocksAreRead = (w : Work) (a c : ℕ) (x : Answer) → IsRead Whole w (ReadBlock a) x → w.live a ≡ Some c → (b : Block) × (b.checksum ≡ c) × (x ≡ ToReadBlock (Ok b))
+LiveBlocksAreRead = (w : Work) (a c : ℕ) (x : Answer) → IsAnsweredRead Whole w (ReadBlock a) x → w.live a ≡ Some c → (b : Block) × (b.checksum ≡ c) × (x ≡ ToReadBlock (Ok b))

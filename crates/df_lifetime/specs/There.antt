@@ -51,9 +51,9 @@ HavePrepares v (r ∷ rs) sums = HasPrepare v r.op (first_of sums) r.client r.re
 -- ---- what was answered
 
 -- What a command was answered is in the view, where that was a prepare, all prepares of a group, a reply or a finished checkpoint. A flush acknowledges each request that was staged before it.
-abbrev pub IsThere : View → List Promised → Given → Command → Answer → Type 0
-IsThere v rs given (Append client request body) (ToAppend (Ok answer)) = HasPrepare v answer.0 answer.1 client request body
-IsThere v rs given Flush (ToFlush (Ok count)) = (length rs ≡ count) × HavePrepares v rs (supplied_sums given)
-IsThere v rs given (Reply op body) (ToReply (Ok sum)) = HasReply v op sum body
-IsThere v rs given Advance (ToAdvance (Ok (Done n))) = n ≤ sequence v
-IsThere v rs given command answer = Unit {0}
+abbrev pub IsAnswerThere : View → List Promised → Given → Command → Answer → Type 0
+IsAnswerThere v rs given (Append client request body) (ToAppend (Ok answer)) = HasPrepare v answer.0 answer.1 client request body
+IsAnswerThere v rs given Flush (ToFlush (Ok count)) = (length rs ≡ count) × HavePrepares v rs (supplied_sums given)
+IsAnswerThere v rs given (Reply op body) (ToReply (Ok sum)) = HasReply v op sum body
+IsAnswerThere v rs given Advance (ToAdvance (Ok (Done n))) = n ≤ sequence v
+IsAnswerThere v rs given command answer = Unit {0}

@@ -12,7 +12,7 @@ use Rattle.df_theory.specs.Upgrades.{as_version}
 use Rattle.df_theory.specs.View.{View}
 use Rattle.df_history.specs.OpenLaws.{BeginsHistory}
 use Rattle.df_units.specs.Bytes.{unit_at}
-use Rattle.df_replica.specs.Below.{AreDistinct, DataFile, begun, shape}
+use Rattle.df_replica.specs.Below.{AreDistinct, DataFile, restarted, shape}
 use Rattle.df_replica.specs.Serving.{format}
 use Rattle.df_upgrade.specs.Upgrading.{second}
 use Rattle.df_top.specs.declared.status.Status.{Status}
@@ -36,7 +36,7 @@ pub record IsUpgraded (file : DataFile) (view : View) (image : Image) : Type 0 w
 
 -- where a life begins
 abbrev pub UpgradedBegins : Type 0
-UpgradedBegins = (file : DataFile) (view : View) (t : Told) (new : IsUpgraded file view t.shown) → Life (second file) new.first (begun t) []
+UpgradedBegins = (file : DataFile) (view : View) (t : Told) (new : IsUpgraded file view t.shown) → Life (second file) new.first (restarted t) []
 
 -- an upgrade that ends Done leaves that, whatever the copies of the old file showed
 abbrev pub DoneIsUpgraded : Type 0
@@ -46,5 +46,5 @@ DoneIsUpgraded = (file : DataFile) (view : View) (t n : Told) → IsOld file vie
 abbrev pub StoppedIsUpgraded : Type 0
 StoppedIsUpgraded =
     (file : DataFile) (view : View) (t p n m : Told) (status : Status) (image : Image) → IsOld file view t.shown → IsClean (unit_at file.layout file.cluster t.shown) view → UpgradeWord t n status
-    → Extends n.log p.log → GoesAlong (did Sync t) p (begun t) m → IsLeft m.log image → NoChanceOf (format file) m.log image
+    → Extends n.log p.log → GoesAlong (did Sync t) p (restarted t) m → IsLeft m.log image → NoChanceOf (format file) m.log image
     → (IsOld file view image × IsClean (unit_at file.layout file.cluster image) view) ⊎ IsUpgraded file view image

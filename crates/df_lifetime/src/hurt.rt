@@ -2,9 +2,9 @@
 ghost use Rattle.df_lifetime.specs.Hurt.{HurtRunsKeep, HurtScriptsKeep, LifeMayBeHurt, RunsKeepAnew, RunsKeepOn, ScriptsKeepAnew, ScriptsKeepOn, StoppedOpensBegin};
 
 /// A script that is served, or a generated run, keeps its file by each log that shows what the disk shows and by which the file may be
-/// opened, and the next open by that log finds what was answered. On a hurt disk the log begun anew at the open is one, where the
+/// opened, and the next open by that log finds what was answered. On a hurt disk the log restarted at the open is one, where the
 /// file's own checkpoint is found. And whatever was done to the disk before: where an open answered, so it is by the log that is begun
-/// anew at its end; and a stop within that open leaves what it found, where the next one begins anew.
+/// anew at its end; and a stop within that open leaves what it found, where the next one starts over.
 pub fn hurt_sessions_keep()
     ensures scripts { ScriptsKeepOn }
     ensures runs { RunsKeepOn }

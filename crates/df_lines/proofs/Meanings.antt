@@ -2,7 +2,7 @@
 use Rattle.std.proofs.Common.{◌≡◌, inl, inr, ℕ, ◌<◌, if◌then◌else◌, List, [], ◌∷◌, ◌++◌, length, refl, sym, ap, subst, ◌∙◌, arith}
 use Rattle.std.specs.Prelude.{codes}
 use Rattle.std.specs.Str.{bytes_eq}
-use Rattle.df_lines.specs.Grammar.{Said, Append, Stage, Flush, Reply, Block, Release, Checkpoint, Step, Prepare, Lookup, Read, Scrub, Recent, Says}
+use Rattle.df_lines.specs.Grammar.{Said, Append, Stage, Flush, Reply, Block, Release, Checkpoint, Step, Prepare, Lookup, Read, Scrub, Recent, SaysLine}
 use Rattle.df_lines.specs.Words.{Cuts}
 use Rattle.df_lines.proofs.Naming.{Begun, bare_name, cut_name}
 
@@ -82,7 +82,7 @@ is_named (Read address) name is = rw is refl
 is_named Scrub name is = rw is refl
 is_named Recent name is = rw is refl
 
-pub begun : (line : List ℕ) (said : Said) → Says line said → Begun line (name_of said)
+pub begun : (line : List ℕ) (said : Said) → SaysLine line said → Begun line (name_of said)
 begun line (Append client request body) says = record { rest = _; is = inr says.is; word = refl }
 begun line (Stage client request body) says = record { rest = _; is = inr says.is; word = refl }
 begun line Flush says = record { rest = []; is = inl says.is; word = refl }
@@ -101,12 +101,12 @@ some_name : (said : Said) → 0 < length (name_of said)
 some_name (Append client request body) = omega arith
 some_name said = omega arith
 
-pub nothing_said : (said : Said) → Says [] said → ⊥
+pub nothing_said : (said : Said) → SaysLine [] said → ⊥
 nothing_said said says = omega (arith, ap length (bare_name [] (name_of said) refl (begun [] said says)), some_name said)
 
 -- a line of this name is the one that the name stands for
-pub only : (line name words known : List ℕ) → Cuts line name words → name ≡ known → ((first second : ℕ) (body : List ℕ) → Says (known ++ (32 ∷ words)) (line_named known first second body) → ⊥) → (said : Said) → Says line said → ⊥
+pub only : (line name words known : List ℕ) → Cuts line name words → name ≡ known → ((first second : ℕ) (body : List ℕ) → SaysLine (known ++ (32 ∷ words)) (line_named known first second body) → ⊥) → (said : Said) → SaysLine line said → ⊥
 only line name words known cuts is none said says =
     let same = is_named said known (sym is ∙ cut_name line name words (name_of said) cuts (begun line said says)) in
     let whole : line ≡ known ++ (32 ∷ words) = cuts.whole ∙ ap (λ (l : List ℕ). l ++ (32 ∷ words)) is in
-    none (first_of said) (second_of said) (body_of said) (subst (λ (s : Said). Says (known ++ (32 ∷ words)) s) same (subst (λ (l : List ℕ). Says l said) whole says))
+    none (first_of said) (second_of said) (body_of said) (subst (λ (s : Said). SaysLine (known ++ (32 ∷ words)) s) same (subst (λ (l : List ℕ). SaysLine l said) whole says))

@@ -2,9 +2,9 @@
 use Rattle.std.proofs.Common.{◌≡◌, ◌⊎◌, ℕ, ◌-◌, ◌^◌, ◌<◌, inl, inr, List, [], ◌∷◌, ◌++◌, refl, sym, ap, subst, ◌∙◌, arith}
 use Rattle.std.specs.Prelude.{decimal, codes, Ok}
 use Rattle.hex.specs.Hex.{decode_of}
-use Rattle.df_lines.specs.Grammar.{AreRequest, IsBody, Said, spaced, Append, Stage, Flush, Reply, Block, Release, Checkpoint, Step, Prepare, Lookup, Read, Scrub, Recent, Says}
-use Rattle.df_lines.specs.Laws.{OneMeaning, OneText, OneScript, WholeScript}
-use Rattle.df_lines.specs.Script.{Begins, IsLine, IsRefused}
+use Rattle.df_lines.specs.Grammar.{AreRequest, IsBody, Said, spaced, Append, Stage, Flush, Reply, Block, Release, Checkpoint, Step, Prepare, Lookup, Read, Scrub, Recent, SaysLine}
+use Rattle.df_lines.specs.Laws.{OneLineMeaning, OneListOfLines, OneScript, WholeScript}
+use Rattle.df_lines.specs.Script.{BeginsWithLines, IsLine, IsRefused}
 use Rattle.df_lines.specs.Text.{line_of, after_line, taken}
 use Rattle.df_lines.proofs.Cutting.{decimal_no_space, one_split}
 use Rattle.df_lines.proofs.Decimals.{one_number}
@@ -52,14 +52,14 @@ one_request words c r d s x y one other =
     (first.0, second.0, body_split one.word other.word x y second.1 one.fits.2 other.fits.2)
 
 -- two lines of one name say the same
-one_of_name : (line : List ℕ) (one : Said) (first second : ℕ) (body : List ℕ) → Says line one → Says line (line_named (name_of one) first second body) → one ≡ line_named (name_of one) first second body
+one_of_name : (line : List ℕ) (one : Said) (first second : ℕ) (body : List ℕ) → SaysLine line one → SaysLine line (line_named (name_of one) first second body) → one ≡ line_named (name_of one) first second body
 one_of_name line (Append c r x) m s y one other =
     let words = spaced (decimal c ∷ decimal r ∷ one.word ∷ []) in
-    let parts = one_request words c r m s x y (appended words c r x (subst (λ (l : List ℕ). Says l (Append c r x)) one.is one)) (appended words m s y (subst (λ (l : List ℕ). Says l (Append m s y)) one.is other)) in
+    let parts = one_request words c r m s x y (appended words c r x (subst (λ (l : List ℕ). SaysLine l (Append c r x)) one.is one)) (appended words m s y (subst (λ (l : List ℕ). SaysLine l (Append m s y)) one.is other)) in
     same_asked Append c m r s x y parts.0 parts.1 parts.2
 one_of_name line (Stage c r x) m s y one other =
     let words = spaced (decimal c ∷ decimal r ∷ one.word ∷ []) in
-    let parts = one_request words c r m s x y (staged words c r x (subst (λ (l : List ℕ). Says l (Stage c r x)) one.is one)) (staged words m s y (subst (λ (l : List ℕ). Says l (Stage m s y)) one.is other)) in
+    let parts = one_request words c r m s x y (staged words c r x (subst (λ (l : List ℕ). SaysLine l (Stage c r x)) one.is one)) (staged words m s y (subst (λ (l : List ℕ). SaysLine l (Stage m s y)) one.is other)) in
     same_asked Stage c m r s x y parts.0 parts.1 parts.2
 one_of_name line Flush m s y one other = refl
 one_of_name line (Reply n x) m s y one other =
@@ -77,17 +77,17 @@ one_of_name line (Prepare n) m s y one other = ap Prepare (one_word (codes "prep
 one_of_name line (Lookup n) m s y one other = ap Lookup (one_word (codes "lookup ") n m line one.is other.is one.fits other.fits)
 one_of_name line (Read n) m s y one other = ap Read (one_word (codes "read ") n m line one.is other.is (omega (arith, one.fits)) (omega (arith, other.fits)))
 
-pub one_said : OneMeaning
+pub one_said : OneLineMeaning
 one_said line one other says says' =
     let named = is_named other (name_of one) (one_name line (name_of one) (name_of other) (begun line one says) (begun line other says')) in
-    one_of_name line one (first_of other) (second_of other) (body_of other) says (subst (Says line) named says') ∙ sym named
+    one_of_name line one (first_of other) (second_of other) (body_of other) says (subst (SaysLine line) named says') ∙ sym named
 
 -- ---- texts
 
 same_lists : (a b : Said) (one other : List Said) → a ≡ b → one ≡ other → a ∷ one ≡ b ∷ other
 same_lists a b one other same more = cc
 
-pub one_text : OneText
+pub one_text : OneListOfLines
 one_text text [] [] one other = refl
 one_text text [] (b ∷ other) one lines = absurd (lines.0 one)
 one_text text (a ∷ one) [] lines other = absurd (lines.0 other)
@@ -97,16 +97,16 @@ one_text text (a ∷ one) (b ∷ other) lines others =
 -- a line isn't refused, and doesn't stand in an empty text
 pub no_line : (bound budget left : ℕ) (text rest : List ℕ) (said : Said) → IsLine bound budget text said → left ≡ budget → rest ≡ text → (rest ≡ []) ⊎ IsRefused bound left rest → ⊥
 no_line bound budget left text rest said line same_left same_rest (inl none) =
-    nothing_said said (subst (λ (t : List ℕ). Says (line_of t) said) (sym same_rest ∙ none) line.says)
+    nothing_said said (subst (λ (t : List ℕ). SaysLine (line_of t) said) (sym same_rest ∙ none) line.says)
 no_line bound budget left text rest said line same_left same_rest (inr refused) =
     refused.none said (subst (λ (n : ℕ). IsLine bound n rest said) (sym same_left) (subst (λ (t : List ℕ). IsLine bound budget t said) (sym same_rest) line))
 
 -- how much a text leaves after its lines is one
-pub begins_one : (bound budget : ℕ) (text : List ℕ) (says : List Said) (left other : ℕ) (rest more : List ℕ) → Begins bound budget text says left rest → Begins bound budget text says other more → rest ≡ more
+pub begins_one : (bound budget : ℕ) (text : List ℕ) (says : List Said) (left other : ℕ) (rest more : List ℕ) → BeginsWithLines bound budget text says left rest → BeginsWithLines bound budget text says other more → rest ≡ more
 begins_one bound budget text [] left other rest more one two = one.1 ∙ sym two.1
 begins_one bound budget text (said ∷ says) left other rest more one two = begins_one bound (budget - taken text) (after_line text) says left other rest more one.1 two.1
 
-same_script : (bound budget : ℕ) (text : List ℕ) (one other : List Said) (left left' : ℕ) (rest rest' : List ℕ) → Begins bound budget text one left rest → Begins bound budget text other left' rest'
+same_script : (bound budget : ℕ) (text : List ℕ) (one other : List Said) (left left' : ℕ) (rest rest' : List ℕ) → BeginsWithLines bound budget text one left rest → BeginsWithLines bound budget text other left' rest'
     → (rest ≡ []) ⊎ IsRefused bound left rest → (rest' ≡ []) ⊎ IsRefused bound left' rest' → one ≡ other
 same_script bound budget text [] [] left left' rest rest' first second ends ends' = refl
 same_script bound budget text [] (b ∷ other) left left' rest rest' first second ends ends' = absurd (no_line bound budget left text rest b second.0 first.0 first.1 ends)
@@ -120,7 +120,7 @@ one_script bound budget text one other first second = same_script bound budget t
 pub whole_script : WholeScript
 whole_script bound budget text [] left begins = sym begins.1
 whole_script bound budget text (said ∷ more) left begins = (
-  λ none. nothing_said said (subst (λ (t : List ℕ). Says (line_of t) said) none begins.0.says),
+  λ none. nothing_said said (subst (λ (t : List ℕ). SaysLine (line_of t) said) none begins.0.says),
   begins.0.says,
   whole_script bound (budget - taken text) (after_line text) more left begins.1,
 )

@@ -8,10 +8,10 @@ use Rattle.df_lines.specs.declared.next.Next.{Next}
 use Rattle.df_lines.specs.declared.next.Next.TheVariants as nexts
 use Rattle.df_lines.specs.Kind.{Grammar}
 use Rattle.df_lines.specs.Reads.{GivesNext, Takes, text_after}
-use Rattle.df_lines.specs.Room.{Contents, Room, IsAtEnd, Tells}
+use Rattle.df_lines.specs.Room.{Contents, ReaderParts, IsAtEnd, HasTextToCome}
 use Rattle.df_lines.specs.Text.{line_of, after_line, unread}
 use Rattle.df_lines.specs.Text as text
-use Rattle.df_lines.specs.Window.{is_feed, line_end, IsWhole, IsOverfull}
+use Rattle.df_lines.specs.Window.{is_feed, line_end, IsWholeLine, IsOverfull}
 use Rattle.df_lines.proofs.Cutting.{position_past, position_within, position_le}
 
 -- the text whose front is held
@@ -69,7 +69,7 @@ last window size is all some =
       read = ap (λ (n : ℕ). take n b) (sym is) ∙ sym line;
     }
 
-front_line : (window : Contents) (size taken : ℕ) (left : Option (List ℕ)) (all : List ℕ) → IsWhole window size taken → unread window.bytes left ≡ Some all → (IsTrue window.ended → IsAtEnd left) → Front window size taken left all
+front_line : (window : Contents) (size taken : ℕ) (left : Option (List ℕ)) (all : List ℕ) → IsWholeLine window size taken → unread window.bytes left ≡ Some all → (IsTrue window.ended → IsAtEnd left) → Front window size taken left all
 front_line window size taken left all whole is at_end =
     let parts = parts_of window.bytes all left is in
     let FrontOf : ℕ → List ℕ → Type 0 = λ n l. Front window size n (Some l) (window.bytes ++ l) in
@@ -83,7 +83,7 @@ front_line window size taken left all whole is at_end =
     subst (λ (l : List ℕ). Front window size taken left l) (sym parts.2) here
 
 module _ {L : Type 0} (grammar : Grammar L) where
-  gives_line : (old : Room) (window new : Contents) (size taken rest : ℕ) (left : Option (List ℕ)) (all body : List ℕ) (next : Next L) → old.reading.bound ≡ window.size - 1 → size < window.size → unread window.bytes left ≡ Some all → Front window size taken left all → Takes grammar window new old.reading.budget rest body size taken next → GivesNext grammar old (record { reading = record { held = new.bytes; bound = new.size - 1; budget = rest }; ended = new.ended; body = body }) all left next
+  gives_line : (old : ReaderParts) (window new : Contents) (size taken rest : ℕ) (left : Option (List ℕ)) (all body : List ℕ) (next : Next L) → old.reading.bound ≡ window.size - 1 → size < window.size → unread window.bytes left ≡ Some all → Front window size taken left all → Takes grammar window new old.reading.budget rest body size taken next → GivesNext grammar old (record { reading = record { held = new.bytes; bound = new.size - 1; budget = rest }; ended = new.ended; body = body }) all left next
   gives_line old window new size taken rest left all body (nexts.Line l) bound fits is front takes = record {
     line = record {
       within = record { line = omega (arith, front.size_is); all = omega (arith, front.taken_is, takes.0) };
@@ -103,7 +103,7 @@ module _ {L : Type 0} (grammar : Grammar L) where
   gives_line old window new size taken rest left all body nexts.End bound fits is front takes = absurd takes
 
   -- what is still unread after it
-  tells_line : (bound : ℕ) (window new : Contents) (size taken budget rest : ℕ) (left : Option (List ℕ)) (all body : List ℕ) (next : Next L) → unread window.bytes left ≡ Some all → (IsTrue window.ended → IsAtEnd left) → Front window size taken left all → Takes grammar window new budget rest body size taken next → Tells (record { reading = record { held = new.bytes; bound = bound; budget = rest }; ended = new.ended; body = body }) left (text_after {E = Failed} (Ok next) all)
+  tells_line : (bound : ℕ) (window new : Contents) (size taken budget rest : ℕ) (left : Option (List ℕ)) (all body : List ℕ) (next : Next L) → unread window.bytes left ≡ Some all → (IsTrue window.ended → IsAtEnd left) → Front window size taken left all → Takes grammar window new budget rest body size taken next → HasTextToCome (record { reading = record { held = new.bytes; bound = bound; budget = rest }; ended = new.ended; body = body }) left (text_after {E = Failed} (Ok next) all)
   tells_line bound window new size taken budget rest left all body (nexts.Line l) is at_end front takes = record {
     is = ap (λ (b : List ℕ). unread b left) takes.2 ∙ front.rest;
     ended = λ now. at_end (sym takes.3 ∙ now);
@@ -115,15 +115,15 @@ module _ {L : Type 0} (grammar : Grammar L) where
   tells_line bound window new size taken budget rest left all body nexts.End is at_end front takes = absurd takes
 
   -- what a reader gives of a text whose next line is whole in the window, and what is still unread then
-  pub next_line : (old : Room) (window new : Contents) (size taken rest : ℕ) (before left : Option (List ℕ)) (all body : List ℕ) (next : Next L) → old.reading.bound ≡ window.size - 1 → IsWhole window size taken → unread window.bytes left ≡ unread old.reading.held before → ((IsTrue old.ended → IsAtEnd before) → IsTrue window.ended → IsAtEnd left) → Takes grammar window new old.reading.budget rest body size taken next → Tells old before all
-      → let room : Room = record { reading = record { held = new.bytes; bound = new.size - 1; budget = rest }; ended = new.ended; body = body } in GivesNext grammar old room all left next × Tells room left (text_after {E = Failed} (Ok next) all)
+  pub next_line : (old : ReaderParts) (window new : Contents) (size taken rest : ℕ) (before left : Option (List ℕ)) (all body : List ℕ) (next : Next L) → old.reading.bound ≡ window.size - 1 → IsWholeLine window size taken → unread window.bytes left ≡ unread old.reading.held before → ((IsTrue old.ended → IsAtEnd before) → IsTrue window.ended → IsAtEnd left) → Takes grammar window new old.reading.budget rest body size taken next → HasTextToCome old before all
+      → let room : ReaderParts = record { reading = record { held = new.bytes; bound = new.size - 1; budget = rest }; ended = new.ended; body = body } in GivesNext grammar old room all left next × HasTextToCome room left (text_after {E = Failed} (Ok next) all)
   next_line old window new size taken rest before left all body next bound whole same ended takes tells =
       let is = same ∙ tells.is in
       let at_end = ended tells.ended in
       let front = front_line window size taken left all whole is at_end in
       (gives_line old window new size taken rest left all body next bound whole.fits is front takes, tells_line (new.size - 1) window new size taken old.reading.budget rest left all body next is at_end front takes)
 
-  pub gives_refusal : (old : Room) (window : Contents) (left : Option (List ℕ)) (all body : List ℕ) → old.reading.bound ≡ window.size - 1 → 0 < window.size → IsOverfull window → unread window.bytes left ≡ Some all → GivesNext grammar old (record { reading = record { held = window.bytes; bound = window.size - 1; budget = old.reading.budget }; ended = window.ended; body = body }) all left nexts.Refused
+  pub gives_refusal : (old : ReaderParts) (window : Contents) (left : Option (List ℕ)) (all body : List ℕ) → old.reading.bound ≡ window.size - 1 → 0 < window.size → IsOverfull window → unread window.bytes left ≡ Some all → GivesNext grammar old (record { reading = record { held = window.bytes; bound = window.size - 1; budget = old.reading.budget }; ended = window.ended; body = body }) all left nexts.Refused
   gives_refusal old window left all body bound some over is =
       let b = window.bytes in
       let parts = parts_of b all left is in

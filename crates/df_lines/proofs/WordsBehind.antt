@@ -1,7 +1,7 @@
 -- The words after a line's name.
 use Rattle.std.proofs.Common.{◌≡◌, ℕ, ◌+◌, ◌^◌, ◌<◌, ◌≤◌, List, [], ◌∷◌, ◌++◌, sym, subst, arith}
 use Rattle.std.specs.Prelude.{decimal, codes}
-use Rattle.df_lines.specs.Grammar.{AreRequest, AreSized, IsBody, Append, Block, Checkpoint, Reply, Says, Stage}
+use Rattle.df_lines.specs.Grammar.{AreRequest, AreSized, IsBody, Append, Block, Checkpoint, Reply, SaysLine, Stage}
 use Rattle.df_lines.specs.Words.{HasNoSpace, Cuts}
 use Rattle.df_lines.proofs.Cutting.{decimal_no_space, no_cut, one_cut}
 
@@ -37,17 +37,17 @@ request_next words before rest most client request body wide cuts are = record {
 
 -- ---- what lines that have a body ask for
 
-pub appended : (words : List ℕ) (client request : ℕ) (body : List ℕ) → Says (codes "append " ++ words) (Append client request body) → AreRequest words client request body
+pub appended : (words : List ℕ) (client request : ℕ) (body : List ℕ) → SaysLine (codes "append " ++ words) (Append client request body) → AreRequest words client request body
 appended words client request body says = record { word = says.word; is = same_rest (codes "append ") words _ says.is; fits = says.fits }
 
-pub staged : (words : List ℕ) (client request : ℕ) (body : List ℕ) → Says (codes "stage " ++ words) (Stage client request body) → AreRequest words client request body
+pub staged : (words : List ℕ) (client request : ℕ) (body : List ℕ) → SaysLine (codes "stage " ++ words) (Stage client request body) → AreRequest words client request body
 staged words client request body says = record { word = says.word; is = same_rest (codes "stage ") words _ says.is; fits = says.fits }
 
-pub replied : (words : List ℕ) (most op : ℕ) (body : List ℕ) → 2 ^ 64 ≤ most + 1 → Says (codes "reply " ++ words) (Reply op body) → AreSized words most op body
+pub replied : (words : List ℕ) (most op : ℕ) (body : List ℕ) → 2 ^ 64 ≤ most + 1 → SaysLine (codes "reply " ++ words) (Reply op body) → AreSized words most op body
 replied words most op body wide says = record { word = says.word; is = same_rest (codes "reply ") words _ says.is; fits = (omega (arith, says.fits.0), says.fits.1) }
 
-pub blocked : (words : List ℕ) (most kind : ℕ) (body : List ℕ) → 2 ^ 8 ≤ most + 1 → Says (codes "block " ++ words) (Block kind body) → AreSized words most kind body
+pub blocked : (words : List ℕ) (most kind : ℕ) (body : List ℕ) → 2 ^ 8 ≤ most + 1 → SaysLine (codes "block " ++ words) (Block kind body) → AreSized words most kind body
 blocked words most kind body wide says = record { word = says.word; is = same_rest (codes "block ") words _ says.is; fits = (omega (arith, says.fits.0), says.fits.1) }
 
-pub rooted : (word body : List ℕ) → Says (codes "checkpoint " ++ word) (Checkpoint body) → IsBody word body
+pub rooted : (word body : List ℕ) → SaysLine (codes "checkpoint " ++ word) (Checkpoint body) → IsBody word body
 rooted word body says = subst (λ (w : List ℕ). IsBody w body) (sym (same_rest (codes "checkpoint ") word says.word says.is)) says.fits

@@ -26,20 +26,20 @@ abbrev pub IsBody : List ℕ → List ℕ → Type 0
 IsBody word body = ((word ≡ codes "-") × (body ≡ [])) ⊎ ((0 < length word) × (decode_of word ≡ Ok body))
 
 -- The words of a line, where this word stands for its body. A number is its decimal digits, with no zero before them.
-abbrev pub words_of : Said → List ℕ → List (List ℕ)
-words_of (Append client request body) word = codes "append" ∷ decimal client ∷ decimal request ∷ word ∷ []
-words_of (Stage client request body) word = codes "stage" ∷ decimal client ∷ decimal request ∷ word ∷ []
-words_of Flush word = codes "flush" ∷ []
-words_of (Reply op body) word = codes "reply" ∷ decimal op ∷ word ∷ []
-words_of (Block kind body) word = codes "block" ∷ decimal kind ∷ word ∷ []
-words_of (Release address) word = codes "release" ∷ decimal address ∷ []
-words_of (Checkpoint body) word = codes "checkpoint" ∷ word ∷ []
-words_of Step word = codes "step" ∷ []
-words_of (Prepare op) word = codes "prepare" ∷ decimal op ∷ []
-words_of (Lookup client) word = codes "lookup" ∷ decimal client ∷ []
-words_of (Read address) word = codes "read" ∷ decimal address ∷ []
-words_of Scrub word = codes "scrub" ∷ []
-words_of Recent word = codes "recent" ∷ []
+abbrev pub line_words : Said → List ℕ → List (List ℕ)
+line_words (Append client request body) word = codes "append" ∷ decimal client ∷ decimal request ∷ word ∷ []
+line_words (Stage client request body) word = codes "stage" ∷ decimal client ∷ decimal request ∷ word ∷ []
+line_words Flush word = codes "flush" ∷ []
+line_words (Reply op body) word = codes "reply" ∷ decimal op ∷ word ∷ []
+line_words (Block kind body) word = codes "block" ∷ decimal kind ∷ word ∷ []
+line_words (Release address) word = codes "release" ∷ decimal address ∷ []
+line_words (Checkpoint body) word = codes "checkpoint" ∷ word ∷ []
+line_words Step word = codes "step" ∷ []
+line_words (Prepare op) word = codes "prepare" ∷ decimal op ∷ []
+line_words (Lookup client) word = codes "lookup" ∷ decimal client ∷ []
+line_words (Read address) word = codes "read" ∷ decimal address ∷ []
+line_words Scrub word = codes "scrub" ∷ []
+line_words Recent word = codes "recent" ∷ []
 
 -- words, with exactly one space between two of them
 abbrev pub spaced : List (List ℕ) → List ℕ
@@ -48,20 +48,20 @@ spaced (word ∷ []) = word
 spaced (word ∷ next ∷ more) = word ++ (32 ∷ spaced (next ∷ more))
 
 -- a client is below 2^128, a block's kind below 2^8, any other number below 2^64, and this word stands for the body
-abbrev pub Fits : Said → List ℕ → Type 0
-Fits (Append client request body) word = (client < 2 ^ 128) × (request < 2 ^ 64) × IsBody word body
-Fits (Stage client request body) word = (client < 2 ^ 128) × (request < 2 ^ 64) × IsBody word body
-Fits Flush word = ⊤
-Fits (Reply op body) word = (op < 2 ^ 64) × IsBody word body
-Fits (Block kind body) word = (kind < 2 ^ 8) × IsBody word body
-Fits (Release address) word = address < 2 ^ 64
-Fits (Checkpoint body) word = IsBody word body
-Fits Step word = ⊤
-Fits (Prepare op) word = op < 2 ^ 64
-Fits (Lookup client) word = client < 2 ^ 128
-Fits (Read address) word = address < 2 ^ 64
-Fits Scrub word = ⊤
-Fits Recent word = ⊤
+abbrev pub FitsLine : Said → List ℕ → Type 0
+FitsLine (Append client request body) word = (client < 2 ^ 128) × (request < 2 ^ 64) × IsBody word body
+FitsLine (Stage client request body) word = (client < 2 ^ 128) × (request < 2 ^ 64) × IsBody word body
+FitsLine Flush word = ⊤
+FitsLine (Reply op body) word = (op < 2 ^ 64) × IsBody word body
+FitsLine (Block kind body) word = (kind < 2 ^ 8) × IsBody word body
+FitsLine (Release address) word = address < 2 ^ 64
+FitsLine (Checkpoint body) word = IsBody word body
+FitsLine Step word = ⊤
+FitsLine (Prepare op) word = op < 2 ^ 64
+FitsLine (Lookup client) word = client < 2 ^ 128
+FitsLine (Read address) word = address < 2 ^ 64
+FitsLine Scrub word = ⊤
+FitsLine Recent word = ⊤
 
 -- The words after the name of a line that asks for a request: its client, its number, and the word of its body.
 pub record AreRequest (words : List ℕ) (client request : ℕ) (body : List ℕ) : Type 0 where
@@ -76,10 +76,10 @@ pub record AreSized (words : List ℕ) (most n : ℕ) (body : List ℕ) : Type 0
   pub fits : (n ≤ most) × IsBody word body
 
 -- The line says this. Only numbers' widths bound what a line may say; what a call takes is the call's own matter.
-pub record Says (line : List ℕ) (said : Said) : Type 0 where
+pub record SaysLine (line : List ℕ) (said : Said) : Type 0 where
   pub word : List ℕ
-  pub is : line ≡ spaced (words_of said word)
-  pub fits : Fits said word
+  pub is : line ≡ spaced (line_words said word)
+  pub fits : FitsLine said word
 
 -- what was read of a line, with its body at the front of the buffer
 abbrev pub said_with : List ℕ → Line → Said
@@ -108,4 +108,4 @@ body_length line = 0
 
 -- all of this, for a reader
 abbrev pub script_lines : Grammar Line
-script_lines = record { Said = Said; says = Says; said_with = said_with; body_length = body_length }
+script_lines = record { Said = Said; says = SaysLine; said_with = said_with; body_length = body_length }

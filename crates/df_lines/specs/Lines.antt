@@ -1,6 +1,6 @@
 -- Which lines a text has, of a grammar in which a line means this.
 use Rattle.std.specs.Prelude.{◌≡◌, ◌≢◌, ◌⊎◌, ◌-◌, ℕ, List, [], ◌∷◌}
-use Rattle.df_lines.specs.Text.{IsWithin, line_of, after_line, taken}
+use Rattle.df_lines.specs.Text.{IsLineWithin, line_of, after_line, taken}
 
 module _ {Said : Type 0} (means : List ℕ → Said → Type 0) where
   -- The lines of a text, each ended by byte 10; the last may end with the text instead. A text that ends after a byte 10 has no
@@ -11,7 +11,7 @@ module _ {Said : Type 0} (means : List ℕ → Said → Type 0) where
 
   -- the first line of the text says this, within the bound and the budget
   pub record IsLine (bound budget : ℕ) (text : List ℕ) (said : Said) : Type 0 where
-    pub within : IsWithin bound budget text
+    pub within : IsLineWithin bound budget text
     pub says : means (line_of text) said
 
   -- there is a next line, and it is no line of a script, too long, or past the budget

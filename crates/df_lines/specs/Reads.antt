@@ -5,10 +5,10 @@ use Rattle.df_lines.specs.declared.next.Next.TheVariants as nexts
 use Rattle.df_lines.specs.Kind.{Grammar}
 use Rattle.df_lines.specs.Lines.{IsLine, IsRefused}
 use Rattle.df_lines.specs.Text.{Reading, line_of, after_line, taken, unread}
-use Rattle.df_lines.specs.Room.{Contents, Room}
+use Rattle.df_lines.specs.Room.{Contents, ReaderParts}
 
 -- The text is at its end, and the source was read to its end.
-pub record Ends (text : List ℕ) (after left : Option (List ℕ)) : Type 0 where
+pub record EndsReading (text : List ℕ) (after left : Option (List ℕ)) : Type 0 where
   pub none : text ≡ []
   pub rest : after ≡ Some []
   pub ended : left ≡ Some []
@@ -21,7 +21,7 @@ text_after (Ok nexts.End) text = text
 text_after (Err e) text = text
 
 -- a line costs at least one byte of the budget and has its body in the buffer; nothing else costs any
-abbrev pub Spends : {L : Type 0} → Grammar L → Room → Room → Next L → Type 0
+abbrev pub Spends : {L : Type 0} → Grammar L → ReaderParts → ReaderParts → Next L → Type 0
 Spends grammar old new (nexts.Line l) = (new.reading.budget < old.reading.budget) × (grammar.body_length l ≤ length new.body)
 Spends grammar old new nexts.Refused = new.reading.budget ≡ old.reading.budget
 Spends grammar old new nexts.End = new.reading.budget ≡ old.reading.budget
@@ -42,12 +42,12 @@ module _ {Said : Type 0} (says : List ℕ → Said → Type 0) where
 
 module _ {L : Type 0} (grammar : Grammar L) where
   -- what a reader gives of a text, where left is what the source has left then
-  abbrev pub GivesNext : Room → Room → List ℕ → Option (List ℕ) → Next L → Type 0
+  abbrev pub GivesNext : ReaderParts → ReaderParts → List ℕ → Option (List ℕ) → Next L → Type 0
   GivesNext old new text left (nexts.Line l) =
       TakesLine grammar.says old.reading new.reading text (unread new.reading.held left) (grammar.said_with new.body l)
   GivesNext old new text left nexts.Refused =
       RefusesNext grammar.says old.reading new.reading text (unread new.reading.held left)
-  GivesNext old new text left nexts.End = Ends text (unread new.reading.held left) left
+  GivesNext old new text left nexts.End = EndsReading text (unread new.reading.held left) left
 
   -- The line at the window's front, of this size and with its end of this many bytes, was taken; or nothing was, since the
   -- line is past the budget or says nothing.

@@ -10,7 +10,7 @@ pub record Contents : Type 0 where
   pub ended : Bool
 
 -- a reader: what it has of the script, whether the source has said that it has ended, and the buffer of the bodies
-pub record Room : Type 0 where
+pub record ReaderParts : Type 0 where
   pub reading : Reading
   pub ended : Bool
   pub body : List ℕ
@@ -20,7 +20,7 @@ abbrev pub line_bound : Layout → ℕ
 line_bound layout = 2 * max layout.message_size layout.block_size + 64
 
 -- a reader for lines of at most so many bytes that has read nothing
-pub record IsFresh (bound : ℕ) (room : Room) : Type 0 where
+pub record IsFresh (bound : ℕ) (room : ReaderParts) : Type 0 where
   pub reading : room.reading ≡ record { held = []; bound = bound; budget = 2 ^ 32 }
   pub ended : room.ended ≡ false
   pub body : length room.body ≡ bound / 2 + 1
@@ -31,6 +31,6 @@ IsAtEnd None = ⊤
 IsAtEnd (Some left) = left ≡ []
 
 -- This text is still to be executed, and a source that has said that it has ended has nothing left.
-pub record Tells (room : Room) (left : Option (List ℕ)) (text : List ℕ) : Type 0 where
+pub record HasTextToCome (room : ReaderParts) (left : Option (List ℕ)) (text : List ℕ) : Type 0 where
   pub is : unread room.reading.held left ≡ Some text
   pub ended : IsTrue room.ended → IsAtEnd left

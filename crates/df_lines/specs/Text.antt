@@ -22,7 +22,7 @@ pub record Reading : Type 0 where
   pub budget : ℕ
 
 -- the first line is within the bound, and within the budget with its byte 10
-pub record IsWithin (bound budget : ℕ) (text : List ℕ) : Type 0 where
+pub record IsLineWithin (bound budget : ℕ) (text : List ℕ) : Type 0 where
   pub line : length (line_of text) ≤ bound
   pub all : taken text ≤ budget
 

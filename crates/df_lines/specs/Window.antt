@@ -14,7 +14,7 @@ abbrev pub line_end : List ℕ → ℕ
 line_end bytes = position_or_len is_feed bytes
 
 -- a line of this size is whole: it ends before a byte 10 or with the source, and the buffer has room for a byte more
-pub record IsWhole (window : Contents) (size taken : ℕ) : Type 0 where
+pub record IsWholeLine (window : Contents) (size taken : ℕ) : Type 0 where
   pub line : size ≡ line_end window.bytes
   pub fits : size < window.size
   pub ends : ((size < length window.bytes) × (taken ≡ size + 1))
@@ -26,12 +26,12 @@ pub record IsOverfull (window : Contents) : Type 0 where
   pub full : window.size ≤ length window.bytes
 
 -- nothing is held, and the source has ended
-pub record IsSpent (window : Contents) : Type 0 where
+pub record IsSpentWindow (window : Contents) : Type 0 where
   pub none : window.bytes ≡ []
   pub ended : IsTrue window.ended
 
 -- what the window has of the next line
-abbrev pub Finds : Contents → Found → Type 0
-Finds window (founds.Line line taken) = IsWhole window line taken
-Finds window founds.TooLong = IsOverfull window
-Finds window founds.End = IsSpent window
+abbrev pub FindsLine : Contents → Found → Type 0
+FindsLine window (founds.Line line taken) = IsWholeLine window line taken
+FindsLine window founds.TooLong = IsOverfull window
+FindsLine window founds.End = IsSpentWindow window

@@ -1,6 +1,6 @@
 // What a line of a script says, by cases of its first word. The grammar has one meaning for a line at most.
 ghost use Rattle.std.specs.Prelude.{◌≡◌, List, ℕ, IfSome, IfNone};
-ghost use Rattle.df_lines.specs.Grammar.{Said, Says, said_with, body_length, script_lines};
+ghost use Rattle.df_lines.specs.Grammar.{Said, SaysLine, said_with, body_length, script_lines};
 ghost use Rattle.df_lines.specs.Words.{HasNoSpace};
 
 use crate::arguments::{decode, request, sized};
@@ -58,8 +58,8 @@ impl LineKind for Line {
 /// What a line of one word says.
 fn alone(line: &[u8]) -> Option<Line>
     requires { HasNoSpace line.now }
-    ensures found { IfSome result (λ l. (body : List ℕ) → Says line.now (said_with body l)) }
-    ensures none { IfNone result ((said : Said) → Says line.now said → ⊥) }
+    ensures found { IfSome result (λ l. (body : List ℕ) → SaysLine line.now (said_with body l)) }
+    ensures none { IfNone result ((said : Said) → SaysLine line.now said → ⊥) }
     ensures size { IfSome result (λ l. body_length l ≡ 0) }
 {
     if line == b"step".as_slice() {

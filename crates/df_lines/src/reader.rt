@@ -2,7 +2,7 @@
 ghost use Rattle.std.specs.Prelude.{◌≡◌, ◌<◌, ◌≤◌, ◌*◌, ◌^◌, List, ℕ, length, take, vec_len};
 ghost use Rattle.std.specs.Prelude.{IsTrue, IfOk, OnErr};
 ghost use Rattle.df_base.specs.Causes.{HasCause};
-ghost use Rattle.df_lines.specs.Room.{IsAtEnd, IsFresh, Tells, line_bound};
+ghost use Rattle.df_lines.specs.Room.{HasTextToCome, IsAtEnd, IsFresh, line_bound};
 ghost use Rattle.df_lines.specs.Reads.{GivesNext, Spends, Takes, text_after};
 ghost use Rattle.df_lines.specs.Text.{unread};
 
@@ -30,9 +30,9 @@ pub struct LineRoom {
 
 impl Model for LineRoom {
     ghost use Rattle.std.specs.Prelude.{◌<◌, ◌≤◌, ◌-◌, ◌*◌, vec_len};
-    ghost use Rattle.df_lines.specs.Room.{Room};
+    ghost use Rattle.df_lines.specs.Room.{ReaderParts};
 
-    ghost Value = { Room };
+    ghost Value = { ReaderParts };
 
     ghost view = { λ r. record {
       reading = record { held = r.window.bytes; bound = r.window.size - 1; budget = r.budget };
@@ -71,11 +71,11 @@ impl LineRoom {
     /// Takes the next line of the script. `Failed` is the source's: nothing of the script is lost,
     /// and the call may be made again. After `Next::Refused` the line is still there.
     pub fn next<L: LineKind, S: Source>(&mut self, source: &mut S) -> Result<Next<L>, Failed>
-        ensures gives { (text : List ℕ) → Tells self.old (S.left source.old) text
+        ensures gives { (text : List ℕ) → HasTextToCome self.old (S.left source.old) text
             → IfOk result (GivesNext L.grammar self.old self.new text (S.left source.new)) }
         ensures spends { IfOk result (Spends L.grammar self.old self.new) }
-        ensures tells { (text : List ℕ) → Tells self.old (S.left source.old) text
-            → Tells self.new (S.left source.new) (text_after result text) }
+        ensures tells { (text : List ℕ) → HasTextToCome self.old (S.left source.old) text
+            → HasTextToCome self.new (S.left source.new) (text_after result text) }
         ensures at_end { (IsTrue self.old.ended → IsAtEnd (S.left source.old))
             → IsTrue self.new.ended → IsAtEnd (S.left source.new) }
         ensures unasked { IsTrue self.old.ended → source.new ≡ source.old }

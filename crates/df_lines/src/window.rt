@@ -5,7 +5,7 @@ ghost use Rattle.df_base.specs.Causes.{HasCause};
 ghost use Rattle.df_base.specs.Streams.{Gives};
 ghost use Rattle.df_lines.specs.Room.{Contents, IsAtEnd};
 ghost use Rattle.df_lines.specs.Text.{unread};
-ghost use Rattle.df_lines.specs.Window.{Finds, is_feed, line_end};
+ghost use Rattle.df_lines.specs.Window.{FindsLine, is_feed, line_end};
 
 use df_base::{Failed, OutOfMemory, Source};
 use memchr::memchr;
@@ -133,7 +133,7 @@ impl Window {
             ≡ unread self.old.bytes (S.left source.old) }
         ensures ended { (IsTrue self.old.ended → IsAtEnd (S.left source.old))
             → IsTrue self.new.ended → IsAtEnd (S.left source.new) }
-        ensures found { IfOk result (λ found. Finds self.new found) }
+        ensures found { IfOk result (λ found. FindsLine self.new found) }
         ensures unasked { IsTrue self.old.ended → source.new ≡ source.old }
         ensures cause { HasCause (S.faults source.old) (S.faults source.new) result }
     {
@@ -161,7 +161,7 @@ impl Window {
         requires ended { IsTrue self.now.ended }
         requires none { line_end self.now.bytes ≡ length self.now.bytes }
         requires room { length self.now.bytes < self.now.size }
-        ensures { Finds self.now result }
+        ensures { FindsLine self.now result }
     {
         let held = self.bytes().len();
         if held == 0 {

@@ -13,7 +13,7 @@ use Rattle.df_memdisk.specs.Struck.{first_events, events_since, strike_of, left_
 use Rattle.df_memdisk.specs.declared.history.Happened.{Happened}
 use Rattle.df_memdisk.specs.declared.shown.Struck.{Struck}
 use Rattle.df_memdisk.specs.State.{told_by}
-use Rattle.df_memdisk.specs.Strikes.{bytes_by, hit, ShowsLog}
+use Rattle.df_memdisk.specs.Strikes.{bytes_by, hit, StrikeShowsLog}
 use Rattle.df_memdisk.specs.declared.strike.Strike.{Strike}
 use Rattle.df_memdisk.specs.declared.strike.Strike.TheVariants.{Fill, Earlier, Like}
 use Rattle.df_memdisk.proofs.Now.{after_is}
@@ -114,12 +114,12 @@ first-all n es within =
     let all : length (reverse es) ≤ n = omega (arith, length-reverse es) in
     ap (λ (fs : List Event). reverse fs) (take_all n (reverse es) all) ∙ reverse-reverse es
 
-shows-log : (strike : Strike) (t : Told) (sector : ℕ) → ShowsLog strike t.log.events → bytes_by strike sector t ≡ now t.log sector
+shows-log : (strike : Strike) (t : Told) (sector : ℕ) → StrikeShowsLog strike t.log.events → bytes_by strike sector t ≡ now t.log sector
 shows-log (Fill byte) t sector shows = absurd shows
 shows-log (Earlier n) t sector shows = ap (λ (es : List Event). now_of t.log.start es sector) (first-all n t.log.events shows)
 shows-log (Like other) t sector shows = absurd shows
 
 -- a strike that shows what all events left makes its sector show what the log left
-pub hit-log : (sector : ℕ) (strike : Strike) (t : Told) → ShowsLog strike t.log.events → (hit sector strike t).shown sector ≡ now t.log sector
+pub hit-log : (sector : ℕ) (strike : Strike) (t : Told) → StrikeShowsLog strike t.log.events → (hit sector strike t).shown sector ≡ now t.log sector
 hit-log sector strike t shows =
     ap (λ (b : Bool). if b then bytes_by strike sector t else t.shown sector) (eq-eqb sector sector refl) ∙ shows-log strike t sector shows

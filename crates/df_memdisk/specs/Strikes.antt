@@ -22,7 +22,7 @@ abbrev pub hit : ℕ → Strike → Told → Told
 hit sector strike t = record { log = t.log; shown = changed ((sector, bytes_by strike sector t) ∷ []) t.shown }
 
 -- the strike shows what all events of the log left
-abbrev pub ShowsLog : Strike → List Event → Type 0
-ShowsLog (Fill byte) events = ⊥
-ShowsLog (Earlier n) events = length events ≤ n
-ShowsLog (Like other) events = ⊥
+abbrev pub StrikeShowsLog : Strike → List Event → Type 0
+StrikeShowsLog (Fill byte) events = ⊥
+StrikeShowsLog (Earlier n) events = length events ≤ n
+StrikeShowsLog (Like other) events = ⊥

@@ -4,7 +4,7 @@ ghost use Rattle.std.specs.Prelude.{◌≡◌, length, reverse, OnOk, OnErr};
 ghost use Rattle.df_base.specs.Log.{now};
 ghost use Rattle.df_memdisk.specs.History.{events_of};
 ghost use Rattle.df_memdisk.specs.State.{log_of, told_of, told_by};
-ghost use Rattle.df_memdisk.specs.Strikes.{bytes_by, hit, ShowsLog};
+ghost use Rattle.df_memdisk.specs.Strikes.{bytes_by, hit, StrikeShowsLog};
 ghost use Rattle.df_memdisk.specs.Struck.{AreBehind, first_events};
 
 use crate::MemoryDisk;
@@ -63,7 +63,7 @@ impl MemoryDisk {
         ensures struck { OnOk result (told_of self.new ≡ hit sector strike (told_of self.old)) }
         ensures same { self.new ≡ record self.old { strikes = self.new.strikes } }
         ensures unchanged { OnErr result (self.new ≡ self.old) }
-        ensures mended { OnOk result (ShowsLog strike self.old.events → (told_of self.new).shown sector ≡ now (log_of self.new) sector) }
+        ensures mended { OnOk result (StrikeShowsLog strike self.old.events → (told_of self.new).shown sector ≡ now (log_of self.new) sector) }
     {
         let bytes = bytes_of_strike(&self.past, &self.strikes, sector, strike);
         let struck = Struck {

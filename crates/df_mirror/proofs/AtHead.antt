@@ -26,10 +26,10 @@ use Rattle.df_units.proofs.Laws.{no_number, one_number}
 use Rattle.df_opening.specs.Below.{shape}
 use Rattle.df_mirror.specs.declared.ending.Ending.{Ending}
 use Rattle.df_mirror.specs.declared.superblock.Superblock.{Superblock}
-use Rattle.df_mirror.specs.Known.{AreShown, HasSessions, IsKnown, IsRecorded, IsShownAs}
+use Rattle.df_mirror.specs.Known.{AreShown, HasSessions, IsKnownAt, IsRecordedReply, IsShownAs}
 use Rattle.df_mirror.specs.Mends.{AreOfKind}
 use Rattle.df_mirror.specs.Outside.{Outside, Tell}
-use Rattle.df_mirror.specs.Walks.{HasHead, HasLater, HasNewer, Mended, MendsRecorded, ShowsReplies, content_of, units_of}
+use Rattle.df_mirror.specs.Walks.{HasHead, HasLater, HasNewer, Mended, MendsRecorded, ShowsKnownReplies, content_of_superblock, superblock_units}
 use Rattle.df_mirror.proofs.Frames.{other_place}
 use Rattle.df_mirror.proofs.Named.{ring_there}
 use Rattle.df_mirror.proofs.Ones.{one_trailer, trailer_there}
@@ -45,10 +45,10 @@ front_get (suc n) (x ∷ ss) zero s at = at
 front_get (suc n) (x ∷ ss) (suc k) s at = front_get n ss k s at
 
 -- an image has one list of sessions at the head
-one_head : (b : Superblock) (image : Units) (ss others : List units.Session) → HasSessions (shape b.file) image (content_of b) ss → HasSessions (shape b.file) image (content_of b) others → ss ≡ others
+one_head : (b : Superblock) (image : Units) (ss others : List units.Session) → HasSessions (shape b.file) image (content_of_superblock b) ss → HasSessions (shape b.file) image (content_of_superblock b) others → ss ≡ others
 one_head b image ss others one two =
-    let parts = one_trailer (shape b.file) image (content_of b) one.says two.says in
-    let named = known_one b.file.layout.slots image (b.content.op + 1) (content_of b).pin_checksum one.named two.named one.known two.known (omega (arith, one.count, two.count)) in
+    let parts = one_trailer (shape b.file) image (content_of_superblock b) one.says two.says in
+    let named = known_one b.file.layout.slots image (b.content.op + 1) (content_of_superblock b).pin_checksum one.named two.named one.known two.known (omega (arith, one.count, two.count)) in
     one.sessions_are ∙ ap (λ (p : Parts). sessions_after p.sessions one.named) parts ∙ ap (λ (l : List Message). sessions_after two.says.parts.sessions l) named ∙ sym two.sessions_are
 
 -- ---- where replies alone differ
@@ -61,11 +61,11 @@ module _ (b : Superblock) (k : ℕ) (image other : Units) (alike : AreAlike k im
   same_slot : (s : ℕ) → other (PreparePlace s) ≡ image (PreparePlace s)
   same_slot s = alike (PreparePlace s) (λ (same : PreparePlace s ≡ ReplyPlace k). cc)
 
-  sessions_there : (ss : List units.Session) → HasSessions (shape b.file) image (content_of b) ss → HasSessions (shape b.file) other (content_of b) ss
+  sessions_there : (ss : List units.Session) → HasSessions (shape b.file) image (content_of_superblock b) ss → HasSessions (shape b.file) other (content_of_superblock b) ss
   sessions_there ss has = record {
-    says = trailer_there (shape b.file) image other (content_of b) has.says (λ a x at. alike (BlockPlace a) (λ (same : BlockPlace a ≡ ReplyPlace k). cc));
+    says = trailer_there (shape b.file) image other (content_of_superblock b) has.says (λ a x at. alike (BlockPlace a) (λ (same : BlockPlace a ≡ ReplyPlace k). cc));
     named = has.named;
-    known = ring_there b.file.layout.slots image other (b.content.op + 1) (content_of b).pin_checksum has.named has.known (λ o low high. same_slot _);
+    known = ring_there b.file.layout.slots image other (b.content.op + 1) (content_of_superblock b).pin_checksum has.named has.known (λ o low high. same_slot _);
     count = has.count;
     sessions_are = has.sessions_are;
   }
@@ -90,7 +90,7 @@ module _ (b : Superblock) (k : ℕ) (image other : Units) (alike : AreAlike k im
   }
 
   -- another reply that is recorded is so in either
-  recorded_there : (j sum : ℕ) → (j ≡ k → ⊥) → IsRecorded (shape b.file) image (content_of b) j sum → IsRecorded (shape b.file) other (content_of b) j sum
+  recorded_there : (j sum : ℕ) → (j ≡ k → ⊥) → IsRecordedReply (shape b.file) image (content_of_superblock b) j sum → IsRecordedReply (shape b.file) other (content_of_superblock b) j sum
   recorded_there j sum apart is = record {
     sessions = is.sessions;
     has = sessions_there is.sessions is.has;
@@ -112,7 +112,7 @@ module _ (b : Superblock) (image : Units) (slots : Scan) (table : Table) (k : �
         front_get b.file.layout.clients head.sessions k (session_of s) (ap (λ (l : List units.Session). slice_get l k) (sym head.table_is) ∙ here)
 
     -- it is known, where nothing newer is shown
-    pub is_recorded : (check : List ℕ) → slice_get b.content.reply_checksums k ≡ Some check → IsCheck check → (check ≡ no_checksum → ⊥) → (HasLater b image s.client → ⊥) → (HasNewer b image k → ⊥) → IsRecorded (shape b.file) image (content_of b) k (number_of check)
+    pub is_recorded : (check : List ℕ) → slice_get b.content.reply_checksums k ≡ Some check → IsCheck check → (check ≡ no_checksum → ⊥) → (HasLater b image s.client → ⊥) → (HasNewer b image k → ⊥) → IsRecordedReply (shape b.file) image (content_of_superblock b) k (number_of check)
     is_recorded check sum fits some no_later no_newer = record {
       sessions = head.sessions;
       has = head.has;
@@ -120,69 +120,69 @@ module _ (b : Superblock) (image : Units) (slots : Scan) (table : Table) (k : �
       at = session_there;
       sum_is = sym (recorded_sum b k check sum);
       some = elim (cases_lt 0 (number_of check)) [ inl above ↦ above | inr none ↦ absurd (some (one_number check no_checksum fits no_check (omega (arith, none, no_number)))) ];
-      no_reply = λ r shown boot. elim (cases_lt (content_of b).replies r.header.op) [ inl above ↦ absurd (no_newer (r, shown, boot, above)) | inr within ↦ within ];
+      no_reply = λ r shown boot. elim (cases_lt (content_of_superblock b).replies r.header.op) [ inl above ↦ absurd (no_newer (r, shown, boot, above)) | inr within ↦ within ];
       no_prepare = λ n p shown boot above client. no_later (n, p, shown, record { boot = boot; above = above; of_client = client });
     }
 
     -- it isn't, where a later request of its client is shown
-    pub not_behind : HasLater b image s.client → (sum : ℕ) → IsRecorded (shape b.file) image (content_of b) k sum → ⊥
+    pub not_behind : HasLater b image s.client → (sum : ℕ) → IsRecordedReply (shape b.file) image (content_of_superblock b) k sum → ⊥
     not_behind later sum is =
         let both : Some is.session ≡ Some (session_of s) = sym is.at ∙ ap (λ (l : List units.Session). slice_get l k) (one_head b image is.sessions head.sessions is.has head.has) ∙ session_there in
         let session : is.session ≡ session_of s = same_Some _ _ both in
         is.no_prepare later.0 later.1 later.2 later.3.boot later.3.above (later.3.of_client ∙ ap (λ (x : units.Session). x.client) (sym session))
 
   -- nor where none is recorded
-  pub not_named : (check : List ℕ) → slice_get b.content.reply_checksums k ≡ Some check → check ≡ no_checksum → (sum : ℕ) → IsRecorded (shape b.file) image (content_of b) k sum → ⊥
+  pub not_named : (check : List ℕ) → slice_get b.content.reply_checksums k ≡ Some check → check ≡ no_checksum → (sum : ℕ) → IsRecordedReply (shape b.file) image (content_of_superblock b) k sum → ⊥
   not_named check sum none n is =
       let zero : number_of check ≡ 0 = ap number_of none ∙ no_number in
       omega (arith, is.some, is.sum_is ∙ recorded_sum b k check sum, zero)
 
 -- ---- one place further
 
-module _ (b : Superblock) (slots : Scan) (table : Table) (k : ℕ) (t o : Told) (old new : Outside) (tell : Tell t o old) (shows : ShowsReplies b (units_of b t.shown) slots table k) where
+module _ (b : Superblock) (slots : Scan) (table : Table) (k : ℕ) (t o : Told) (old new : Outside) (tell : Tell t o old) (shows : ShowsKnownReplies b (superblock_units b t.shown) slots table k) where
   -- no reply is known there
-  pub reply_none : new.first ≡ old.first → new.written ≡ old.written → ((sum : ℕ) → IsRecorded (shape b.file) (units_of b t.shown) (content_of b) k sum → ⊥) → Mended b (AreOfKind Reply) t o old new (Ok 0) (λ image. ShowsReplies b image slots table (k + 1))
-  reply_none same silent none = none_mended b (AreOfKind Reply) tt t o old new tell same silent (λ image. ShowsReplies b image slots table (k + 1)) (record {
+  pub reply_none : new.first ≡ old.first → new.written ≡ old.written → ((sum : ℕ) → IsRecordedReply (shape b.file) (superblock_units b t.shown) (content_of_superblock b) k sum → ⊥) → Mended b (AreOfKind Reply) t o old new (Ok 0) (λ image. ShowsKnownReplies b image slots table (k + 1))
+  reply_none same silent none = none_mended b (AreOfKind Reply) tt t o old new tell same silent (λ image. ShowsKnownReplies b image slots table (k + 1)) (record {
     has = shows.has;
     shown = λ j sum below known. elim (cases_eq j k) [
-      | inl here ↦ absurd (none sum (subst (λ (n : ℕ). IsRecorded (shape b.file) (units_of b t.shown) (content_of b) n sum) here known))
+      | inl here ↦ absurd (none sum (subst (λ (n : ℕ). IsRecordedReply (shape b.file) (superblock_units b t.shown) (content_of_superblock b) n sum) here known))
       | inr other ↦ shows.shown j sum (omega (arith, below, other)) known
     ];
   })
 
-  module _ (check : List ℕ) (sum_at : slice_get b.content.reply_checksums k ≡ Some check) (known : (HasNewer b (units_of b t.shown) k → ⊥) → IsRecorded (shape b.file) (units_of b t.shown) (content_of b) k (number_of check)) where
-    one_more : (answer : Result ℕ Ending) → MendsRecorded b k check t o old new answer → (u : Told) → new.first ≡ Some u → OnOk answer (ShowsReplies b (units_of b u.shown) slots table (k + 1))
+  module _ (check : List ℕ) (sum_at : slice_get b.content.reply_checksums k ≡ Some check) (known : (HasNewer b (superblock_units b t.shown) k → ⊥) → IsRecordedReply (shape b.file) (superblock_units b t.shown) (content_of_superblock b) k (number_of check)) where
+    one_more : (answer : Result ℕ Ending) → MendsRecorded b k check t o old new answer → (u : Told) → new.first ≡ Some u → OnOk answer (ShowsKnownReplies b (superblock_units b u.shown) slots table (k + 1))
     one_more (Err e) mends u is = tt
     one_more (Ok count) mends u is =
-        let alike : AreAlike k (units_of b t.shown) (units_of b u.shown) = λ place apart. other_place b.file (content_of b) t o u new.first old.written new.written tell.whole is place Reply (ReplyPlace k) count (mends.answers known) (λ same. apart (sym same)) in
-        let back : AreAlike k (units_of b u.shown) (units_of b t.shown) = λ place apart. sym (alike place apart) in
+        let alike : AreAlike k (superblock_units b t.shown) (superblock_units b u.shown) = λ place apart. other_place b.file (content_of_superblock b) t o u new.first old.written new.written tell.whole is place Reply (ReplyPlace k) count (mends.answers known) (λ same. apart (sym same)) in
+        let back : AreAlike k (superblock_units b u.shown) (superblock_units b t.shown) = λ place apart. sym (alike place apart) in
         record {
-          has = head_there b k (units_of b t.shown) (units_of b u.shown) alike slots table shows.has;
+          has = head_there b k (superblock_units b t.shown) (superblock_units b u.shown) alike slots table shows.has;
           shown = λ j sum below recorded. elim (cases_eq j k) [
             | inl here ↦ elim (mends.shown u is) [
-              | inl newer ↦ absurd (let most = recorded.no_reply newer.0 (ap (λ (n : ℕ). units_of b u.shown (ReplyPlace n)) here ∙ newer.1) newer.2 in omega (arith, most, newer.3))
+              | inl newer ↦ absurd (let most = recorded.no_reply newer.0 (ap (λ (n : ℕ). superblock_units b u.shown (ReplyPlace n)) here ∙ newer.1) newer.2 in omega (arith, most, newer.3))
               | inr seen ↦
-                  let same : number_of check ≡ sum = sym (recorded_sum b k check sum_at) ∙ ap (λ (n : ℕ). slice_index (content_of b).reply_checksums n) (sym here) ∙ sym recorded.sum_is in
-                  subst (λ (n : ℕ). IsShownAs (units_of b u.shown) Reply (ReplyPlace n) sum) (sym here) (subst (λ (n : ℕ). IsShownAs (units_of b u.shown) Reply (ReplyPlace k) n) same seen)
+                  let same : number_of check ≡ sum = sym (recorded_sum b k check sum_at) ∙ ap (λ (n : ℕ). slice_index (content_of_superblock b).reply_checksums n) (sym here) ∙ sym recorded.sum_is in
+                  subst (λ (n : ℕ). IsShownAs (superblock_units b u.shown) Reply (ReplyPlace n) sum) (sym here) (subst (λ (n : ℕ). IsShownAs (superblock_units b u.shown) Reply (ReplyPlace k) n) same seen)
             ]
-            | inr other ↦ shown_there (units_of b t.shown) (units_of b u.shown) Reply (ReplyPlace j) sum (alike (ReplyPlace j) (λ (same : ReplyPlace j ≡ ReplyPlace k). other (cc)))
-                (shows.shown j sum (omega (arith, below, other)) (recorded_there b k (units_of b u.shown) (units_of b t.shown) back j sum other recorded))
+            | inr other ↦ shown_there (superblock_units b t.shown) (superblock_units b u.shown) Reply (ReplyPlace j) sum (alike (ReplyPlace j) (λ (same : ReplyPlace j ≡ ReplyPlace k). other (cc)))
+                (shows.shown j sum (omega (arith, below, other)) (recorded_there b k (superblock_units b u.shown) (superblock_units b t.shown) back j sum other recorded))
           ];
         }
 
-    pub reply_mended : (answer : Result ℕ Ending) → MendsRecorded b k check t o old new answer → Mended b (AreOfKind Reply) t o old new answer (λ image. ShowsReplies b image slots table (k + 1))
-    reply_mended answer mends = of_one b Reply (ReplyPlace k) t o old new answer (λ image. ShowsReplies b image slots table (k + 1)) (mends.answers known) (one_more answer mends)
+    pub reply_mended : (answer : Result ℕ Ending) → MendsRecorded b k check t o old new answer → Mended b (AreOfKind Reply) t o old new answer (λ image. ShowsKnownReplies b image slots table (k + 1))
+    reply_mended answer mends = of_one b Reply (ReplyPlace k) t o old new answer (λ image. ShowsKnownReplies b image slots table (k + 1)) (mends.answers known) (one_more answer mends)
 
 -- ---- all of them
 
-pub none_yet : (b : Superblock) (image : Units) (slots : Scan) (table : Table) → HasHead b image slots table → ShowsReplies b image slots table 0
+pub none_yet : (b : Superblock) (image : Units) (slots : Scan) (table : Table) → HasHead b image slots table → ShowsKnownReplies b image slots table 0
 none_yet b image slots table head = record { has = head; shown = λ k sum below known. absurd (omega (arith, below)) }
 
 -- past the sessions that a file may have none is recorded
 abbrev checks_of : Superblock → List (List ℕ)
 checks_of b = b.content.reply_checksums
 
-none_past : (b : Superblock) (k : ℕ) → b.content.clients ≤ k → slice_index (content_of b).reply_checksums k ≡ 0
+none_past : (b : Superblock) (k : ℕ) → b.content.clients ≤ k → slice_index (content_of_superblock b).reply_checksums k ≡ 0
 none_past b k past = elim (cases_lt k (length (checks_of b))) [
   | inl within ↦
       let at : slice_get (checks_of b) k ≡ Some (get_or (checks_of b) k no_checksum) = slice_get-get_or (checks_of b) k no_checksum within in
@@ -195,10 +195,10 @@ none_past b k past = elim (cases_lt k (length (checks_of b))) [
       ap (λ (v : ℕ). slice_index (if v == 2 then map number_of (checks_of b) else []) k) b.second ∙ get_or_past (map number_of (checks_of b)) k 0 (omega (arith, beyond, length-map (checks_of b) number_of))
 ]
 
-pub all_replies : (b : Superblock) (image : Units) (slots : Scan) (table : Table) → ShowsReplies b image slots table (length table.sessions) → AreShown (shape b.file) image (content_of b) Reply
+pub all_replies : (b : Superblock) (image : Units) (slots : Scan) (table : Table) → ShowsKnownReplies b image slots table (length table.sessions) → AreShown (shape b.file) image (content_of_superblock b) Reply
 all_replies b image slots table shows place sum known = by place known
   where
-    among : (k : ℕ) → IsRecorded (shape b.file) image (content_of b) k sum → k < length table.sessions
+    among : (k : ℕ) → IsRecordedReply (shape b.file) image (content_of_superblock b) k sum → k < length table.sessions
     among k is = elim (cases_lt k (length table.sessions)) [
       | inl within ↦ within
       | inr past ↦
@@ -208,7 +208,7 @@ all_replies b image slots table shows place sum known = by place known
           absurd (omega (arith, is.some, is.sum_is, none_past b k clients))
     ]
 
-    by : (place : Place) → IsKnown (shape b.file) image (content_of b) Reply place sum → IsShownAs image Reply place sum
+    by : (place : Place) → IsKnownAt (shape b.file) image (content_of_superblock b) Reply place sum → IsShownAs image Reply place sum
     by (ReplyPlace k) is = shows.shown k sum (among k is) is
     by place is = absurd is
 

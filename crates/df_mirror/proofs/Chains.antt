@@ -15,7 +15,7 @@ use Rattle.df_units.specs.Wanted.{IsOfKind, checksum_of}
 use Rattle.df_grid.specs.Reads.{trailer_alone}
 use Rattle.df_checkpoint.specs.Chain.{asked}
 use Rattle.df_checkpoint.proofs.Laws.{whole_shown}
-use Rattle.df_mirror.specs.Known.{AreShown, IsKnown, IsShownAs, IsSpare, ShowsTrailer}
+use Rattle.df_mirror.specs.Known.{AreShown, IsKnownAt, IsShownAs, IsSparePlace, ShowsTrailer}
 
 -- ---- shown as a block of the trailer
 
@@ -102,14 +102,14 @@ module _ (sh : Shape) (image : Units) (c : Content) (n : ℕ) (chain : List (ℕ
   reads less = record { count = n; read = chain; counts = counts; arrives = arrives; links = links; more = less }
 
   -- where it isn't shown, no known unit that is shown stands at its place
-  pub chain_spare : length chain < n → ((e : ℕ) (b : Block) → InChain e b chain → e ≡ a → ⊥) → (IsShownAs image Trailer (BlockPlace a) k → ⊥) → IsSpare sh image c (BlockPlace a)
+  pub chain_spare : length chain < n → ((e : ℕ) (b : Block) → InChain e b chain → e ≡ a → ⊥) → (IsShownAs image Trailer (BlockPlace a) k → ⊥) → IsSparePlace sh image c (BlockPlace a)
   unfolding reads
   chain_spare less new lacks = at_kind
     where
       missing : IsShown image a k → ⊥
       missing shown = lacks (shown_block image a k shown)
 
-      at_kind : (kind : Kind) (at : Place) (sum : ℕ) → IsKnown sh image c kind at sum → IsShownAs image kind at sum → at ≡ BlockPlace a → ⊥
+      at_kind : (kind : Kind) (at : Place) (sum : ℕ) → IsKnownAt sh image c kind at sum → IsShownAs image kind at sum → at ≡ BlockPlace a → ⊥
       at_kind Trailer (BlockPlace e) sum known shown same =
           let of : ReadsTo sh image c e sum = known in
           let there = was_read image chain of.read c.trailer c.trailer_checksum a k e sum arrives of.arrives missing (block_shown image e sum shown) in
@@ -123,7 +123,7 @@ module _ (sh : Shape) (image : Units) (c : Content) (n : ℕ) (chain : List (ℕ
   pub walk_ends : length chain ≡ n → AreShown sh image c Trailer
   walk_ends all place sum known = by place sum known
     where
-      by : (place : Place) (sum : ℕ) → IsKnown sh image c Trailer place sum → IsShownAs image Trailer place sum
+      by : (place : Place) (sum : ℕ) → IsKnownAt sh image c Trailer place sum → IsShownAs image Trailer place sum
       by (BlockPlace e) sum known =
           let of : ReadsTo sh image c e sum = known in
           let most = count_le (sh.layout.block_size - 256) c.trailer_size of.count n of.counts counts in

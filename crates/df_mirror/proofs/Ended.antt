@@ -16,7 +16,7 @@ use Rattle.df_opening.proofs.Laws.{superblock_refused}
 use Rattle.df_damage.specs.Found.{Syncs, TellsFoundAs}
 use Rattle.df_damage.specs.Opening.{HasSuperAs}
 use Rattle.df_telling.specs.Telling.{Blames, PrintsError}
-use Rattle.df_telling.specs.Two.{Faults, HasCauses, Outside, counts}
+use Rattle.df_telling.specs.Two.{Faults, HasCausesOfTwo, Outside, counts}
 use Rattle.df_telling.proofs.Laws.{first_causes, its_blame, neither_causes, no_blame, open_fault, printed_causes, refusal_ends, second_causes, text_ends, unopened_causes}
 use Rattle.df_mirror.specs.declared.ending.Ending.{Ending}
 use Rattle.df_mirror.specs.declared.ending.Ending.TheVariants.{First, Neither, Second, Sink, Unopened}
@@ -24,11 +24,11 @@ use Rattle.df_mirror.specs.declared.status.Status.{Status}
 use Rattle.df_mirror.specs.declared.status.Status.TheVariants as ends
 use Rattle.df_mirror.specs.Outside.{ended}
 use Rattle.df_mirror.specs.declared.superblock.Superblock.{Superblock}
-use Rattle.df_mirror.specs.Mends.{Answers, AreInOrder}
-use Rattle.df_mirror.specs.Run.{DidNothing, Mirrored, Mirrors, RefusesSuperblock, Tells}
+use Rattle.df_mirror.specs.Mends.{AnswersMending, AreInOrder}
+use Rattle.df_mirror.specs.Run.{Mirrored, MirroredNothing, Mirrors, RefusesFirstSuperblock, TellsEnd}
 use Rattle.df_mirror.specs.Statuses.{AreBlamed, is_first}
 use Rattle.df_mirror.specs.Texts.{count_text, neither_text}
-use Rattle.df_mirror.specs.Walks.{content_of}
+use Rattle.df_mirror.specs.Walks.{content_of_superblock}
 
 -- no status is two of these
 done_or_found : (b : Bool) (other : Status) → (ends.Done ≡ other → ⊥) → (ends.Found ≡ other → ⊥) → (if b then ends.Done else ends.Found) ≡ other → ⊥
@@ -59,7 +59,7 @@ refusal_otherwise e old new status prints = (
   refusal_ends ends.Refused ends.DiskFault ends.WriteFault ends.Words e old new status prints (λ no. cc) (λ no. cc) (λ no. cc),
 )
 
-pub tells_otherwise : (result : Result ℕ Ending) (old new : Option (List ℕ)) (status : Status) → Tells result old new status → EndsOtherwise status
+pub tells_otherwise : (result : Result ℕ Ending) (old new : Option (List ℕ)) (status : Status) → TellsEnd result old new status → EndsOtherwise status
 tells_otherwise (Ok count) old new status tells = (
   text_ends ends.WriteFault (count_text count) (ended count) ends.Memory old new status tells (ended_not count ends.Memory (λ no. cc) (λ no. cc)) (λ no. cc),
   text_ends ends.WriteFault (count_text count) (ended count) ends.Words old new status tells (ended_not count ends.Words (λ no. cc) (λ no. cc)) (λ no. cc),
@@ -76,7 +76,7 @@ tells_otherwise (Err Sink) old new status tells = let is = tells.0 in (λ memory
 -- ---- causes
 
 -- nothing failed
-pub nothing_causes : (before now : Faults) (status : Status) → now.first ≡ before.first → now.second ≡ before.second → now.sink ≡ before.sink → (status ≡ ends.DiskFault → ⊥) → (status ≡ ends.WriteFault → ⊥) → HasCauses ends.DiskFault ends.WriteFault before now status
+pub nothing_causes : (before now : Faults) (status : Status) → now.first ≡ before.first → now.second ≡ before.second → now.sink ≡ before.sink → (status ≡ ends.DiskFault → ⊥) → (status ≡ ends.WriteFault → ⊥) → HasCausesOfTwo ends.DiskFault ends.WriteFault before now status
 nothing_causes before now status one two three disk sink = neither_causes ends.DiskFault ends.WriteFault before now status (no_blame ends.WriteFault before.sink now.sink status three sink) one two disk
 
 first_open : (e : OpenError) → is_first (Unopened e) ≡ is_open_fault e
@@ -95,7 +95,7 @@ module _ (before now : Faults) (old new : Option (List ℕ)) (status : Status) w
 
   -- a mending ended so; the sink's count in between is this
   pub mended_causes : (mid : ℕ) (result : Result ℕ Ending) → AreBlamed before (counts now.first now.second mid) result
-      → ((result ≡ Err Sink → ⊥) → Blames ends.WriteFault mid now.sink status) → (result ≡ Err Sink → now.sink ≡ mid) → Tells result old new status → HasCauses ends.DiskFault ends.WriteFault before now status
+      → ((result ≡ Err Sink → ⊥) → Blames ends.WriteFault mid now.sink status) → (result ≡ Err Sink → now.sink ≡ mid) → TellsEnd result old new status → HasCausesOfTwo ends.DiskFault ends.WriteFault before now status
   mended_causes mid (Ok count) blamed blame failed tells =
       printed_causes ends.DiskFault ends.WriteFault before now status (since_then mid blamed.2 (blame (λ no. cc))) (λ no. cc) old new (count_text count) (ended count) (ended_not count ends.DiskFault (λ no. cc) (λ no. cc)) blamed.0 blamed.1 tells
   mended_causes mid (Err (Neither place class)) blamed blame failed tells =
@@ -127,7 +127,7 @@ syncs_part T old new e fault is = subst (λ (x : OpenError). Syncs {T = T} old n
 -- ---- the superblock can't be used
 
 module _ (T : Type 0) (e : OpenError) (old new : Outside) (status : Status) (barrier : Syncs {T = T} old.first new.first (Err e)) (prints : PrintsError ends.Refused ends.DiskFault ends.WriteFault e old.written new.written status) where
-  pub not_found : (t : Told) → old.first ≡ Some t → TellsFoundAs 2 old.first (Err e) → DidNothing old new status ⊎ RefusesSuperblock t old new status
+  pub not_found : (t : Told) → old.first ≡ Some t → TellsFoundAs 2 old.first (Err e) → MirroredNothing old new status ⊎ RefusesFirstSuperblock t old new status
   not_found t told answer = elim (open_fault e) [
     | inl fault ↦ inl (record { undone = record { written = (prints.failing fault).1; told = syncs_part T old.first new.first e fault barrier }; why = inr (prints.failing fault).0 })
     | inr other ↦ inr (record {
@@ -157,7 +157,7 @@ has_file b image f super same = record {
 
 -- the mending of it began after the barrier
 pub mirrored_then : (b : Superblock) (t o : Told) (old mid new : Outside) (status : Status) → HasFile t.shown b.file b.content → mid.first ≡ Some (did Sync t) → mid.written ≡ old.written → (status ≡ ends.Memory → (new.first ≡ mid.first) × (new.written ≡ mid.written))
-    → ((status ≡ ends.Memory → ⊥) → Mirrored b (did Sync t) o mid new status) → old.first ≡ Some t → DidNothing old new status ⊎ RefusesSuperblock t old new status ⊎ Mirrors t o old new status
+    → ((status ≡ ends.Memory → ⊥) → Mirrored b (did Sync t) o mid new status) → old.first ≡ Some t → MirroredNothing old new status ⊎ RefusesFirstSuperblock t old new status ⊎ Mirrors t o old new status
 mirrored_then b t o old mid new status has barrier silent memory mirrors told = elim (memory_or status) [
   | inl is ↦ inl (record { undone = record { written = (memory is).1 ∙ silent; told = inr ((memory is).0 ∙ barrier ∙ ap (after Sync) (sym told)) }; why = inl is })
   | inr other ↦
@@ -168,7 +168,7 @@ mirrored_then b t o old mid new status has barrier silent memory mirrors told = 
         mirrored = record {
           text = m.text;
           result = m.result;
-          answers = subst (λ (x : Option (List ℕ)). Answers b.file (content_of b) AreInOrder (did Sync t) o new.first x m.text m.result) silent m.answers;
+          answers = subst (λ (x : Option (List ℕ)). AnswersMending b.file (content_of_superblock b) AreInOrder (did Sync t) o new.first x m.text m.result) silent m.answers;
           shown = m.shown;
           tells = m.tells;
         };

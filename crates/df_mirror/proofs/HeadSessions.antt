@@ -13,7 +13,7 @@ use Rattle.df_journal.specs.Seen.{header_of_seen}
 use Rattle.df_journal.specs.Shows.{TellsRings}
 use Rattle.df_sessions.specs.declared.session.Session.{Session}
 use Rattle.df_sessions.specs.Requests.{session_of, sessions_of}
-use Rattle.df_sessions.specs.Table.{IsKnown, has_client}
+use Rattle.df_sessions.specs.Table.{IsKnownClient, has_client}
 use Rattle.df_sessions.proofs.Laws.{first_place}
 use Rattle.df_theory.specs.Opens.{AreKnown}
 use Rattle.df_theory.specs.Sessions as theory
@@ -23,7 +23,7 @@ use Rattle.df_theory.specs.Units as units
 use Rattle.df_theory.proofs.Laws.{sessions-append}
 use Rattle.df_units.specs.Meaning.{header_of}
 use Rattle.df_mirror.specs.declared.superblock.Superblock.{Superblock}
-use Rattle.df_mirror.specs.Walks.{HasLater, IsLater, content_of}
+use Rattle.df_mirror.specs.Walks.{HasLater, IsLater, content_of_superblock}
 use Rattle.df_mirror.proofs.Named.{pin_is}
 use Rattle.df_mirror.proofs.RingSeen.{prepare_seen, prepare_shown}
 
@@ -44,7 +44,7 @@ noted_most h (s ∷ ss) = elim (cases_Bool (s.client == h.client)) [
 ]
 
 -- so it is where a place is left
-noted_few : (h : Header) (xs : List Session) (max : ℕ) → length xs ≤ max → IsKnown h.client xs → length (noted h (sessions_of xs)) ≤ max
+noted_few : (h : Header) (xs : List Session) (max : ℕ) → length xs ≤ max → IsKnownClient h.client xs → length (noted h (sessions_of xs)) ≤ max
 noted_few h xs max fits known = by (position (has_client h.client) xs) refl known
   where
     by : (place : Option ℕ) → position (has_client h.client) xs ≡ place → IsSome place → length (noted h (sessions_of xs)) ≤ max
@@ -57,7 +57,7 @@ noted_few h xs max fits known = by (position (has_client h.client) xs) refl know
 -- what is noted among the first so many is among the first so many that are noted, where there is room
 noted_front : (n : ℕ) (h : Header) (ss : List units.Session) → length (noted h (take n ss)) ≤ n → noted h (take n ss) ≡ take n (noted h ss)
 noted_front zero h ss fits = absurd (omega (arith, fits))
-noted_front (suc n) h [] fits = front_one n (theory.session_of h)
+noted_front (suc n) h [] fits = front_one n (theory.session_of_header h)
   where
     front_one : (n : ℕ) (s : units.Session) → s ∷ [] ≡ take (suc n) (s ∷ [])
     front_one zero s = refl
@@ -88,7 +88,7 @@ module _ (h : Header) (xs : List Session) (places : ℕ) (ss : List units.Sessio
   noted_in : (new : List Session) → length (noted h (sessions_of xs)) ≤ places → sessions_of new ≡ noted h (sessions_of xs) → sessions_of new ≡ take places (noted h ss)
   noted_in new few same = same ∙ ap (noted h) is ∙ noted_front places h ss (subst (λ (l : List units.Session). length (noted h l) ≤ places) is few)
 
-  pub noted_known : (new : List Session) → IsKnown h.client xs → sessions_of new ≡ noted h (sessions_of xs) → sessions_of new ≡ take places (noted h ss)
+  pub noted_known : (new : List Session) → IsKnownClient h.client xs → sessions_of new ≡ noted h (sessions_of xs) → sessions_of new ≡ take places (noted h ss)
   noted_known new known same = noted_in new (noted_few h xs places fits known) same
 
   pub noted_last : (new : List Session) → length xs < places → sessions_of new ≡ noted h (sessions_of xs) → sessions_of new ≡ take places (noted h ss)
@@ -128,16 +128,16 @@ after_one ss ps i p at = sym (ap (theory.sessions_after ss) (take_one ps i p at)
 -- so many of the prepares that are named were noted in the table
 abbrev pub HasNoted : Superblock → Scan → (start now : List Session) → ℕ → Type 0
 HasNoted b slots start now i =
-    (image : Units) (named : List Message) → TellsRings b.file.layout image slots → AreKnown b.file.layout.slots image (b.content.op + 1) (content_of b).pin_checksum named → b.content.op + length named ≡ (content_of b).pin
+    (image : Units) (named : List Message) → TellsRings b.file.layout image slots → AreKnown b.file.layout.slots image (b.content.op + 1) (content_of_superblock b).pin_checksum named → b.content.op + length named ≡ (content_of_superblock b).pin
     → sessions_of now ≡ take b.file.layout.clients (theory.sessions_after (sessions_of start) (take i named))
 
 pub noted_none : (b : Superblock) (slots : Scan) (start : List Session) → length start ≤ b.file.layout.clients → HasNoted b slots start start 0
 noted_none b slots start few image named tells known count = sym (take_all b.file.layout.clients (sessions_of start) (omega (arith, few, length-map start session_of)))
 
-module _ (b : Superblock) (slots : Scan) (start now : List Session) (i : ℕ) (has : HasNoted b slots start now i) (below : b.content.op + i < (content_of b).pin) where
-  module _ (image : Units) (named : List Message) (tells : TellsRings b.file.layout image slots) (known : AreKnown b.file.layout.slots image (b.content.op + 1) (content_of b).pin_checksum named) (count : b.content.op + length named ≡ (content_of b).pin) where
+module _ (b : Superblock) (slots : Scan) (start now : List Session) (i : ℕ) (has : HasNoted b slots start now i) (below : b.content.op + i < (content_of_superblock b).pin) where
+  module _ (image : Units) (named : List Message) (tells : TellsRings b.file.layout image slots) (known : AreKnown b.file.layout.slots image (b.content.op + 1) (content_of_superblock b).pin_checksum named) (count : b.content.op + length named ≡ (content_of_superblock b).pin) where
     at : (p : Message) × (slice_get named i ≡ Some p) × (image (PreparePlace ((b.content.op + 1 + i) % b.file.layout.slots)) ≡ Some (PrepareUnit p))
-    at = known_get b.file.layout.slots image (b.content.op + 1) (content_of b).pin_checksum named i known (omega (arith, below, count))
+    at = known_get b.file.layout.slots image (b.content.op + 1) (content_of_superblock b).pin_checksum named i known (omega (arith, below, count))
 
     seen : (h : file.Header) × (header_of_seen (entry slots ((b.content.op + 1 + i) % b.file.layout.slots)).prepare ≡ Some h) × (at.0.header ≡ header_of h)
     seen = prepare_seen b.file.layout image slots ((b.content.op + 1 + i) % b.file.layout.slots) tells at.0 at.2
@@ -167,7 +167,7 @@ module _ (b : Superblock) (slots : Scan) (start now : List Session) (fields : Su
   next_slot : slot ≡ (b.content.op + 1 + (op - fields.op)) % b.file.layout.slots
   next_slot = let one : op + 1 ≡ b.content.op + 1 + (op - fields.op) = omega (arith, low, from_op) in is_slot ∙ ap (λ (n : ℕ). n % b.file.layout.slots) one
 
-  up_to_pin : b.content.op + (op - fields.op) < (content_of b).pin
+  up_to_pin : b.content.op + (op - fields.op) < (content_of_superblock b).pin
   up_to_pin = omega (arith, low, below, from_op, ap (λ (f : SuperFields). f.head) same, pin_is b)
 
   one_more : (new : List Session) → HasNoted b slots start new (suc (op - fields.op)) → HasNoted b slots start new (op + 1 - fields.op)
@@ -182,8 +182,8 @@ module _ (b : Superblock) (slots : Scan) (start now : List Session) (fields : Su
   pub none_next : header_of_seen (entry slots slot).prepare ≡ None → HasNoted b slots start now (op + 1 - fields.op)
   none_next none = one_more now (noted_lost b slots start now (op - fields.op) has up_to_pin (subst (λ (s : ℕ). header_of_seen (entry slots s).prepare ≡ None) next_slot none))
 
-pub noted_all : (b : Superblock) (slots : Scan) (start now : List Session) (i : ℕ) → b.content.op + i ≡ (content_of b).pin → HasNoted b slots start now i
-    → (image : Units) (named : List Message) → TellsRings b.file.layout image slots → AreKnown b.file.layout.slots image (b.content.op + 1) (content_of b).pin_checksum named → b.content.op + length named ≡ (content_of b).pin
+pub noted_all : (b : Superblock) (slots : Scan) (start now : List Session) (i : ℕ) → b.content.op + i ≡ (content_of_superblock b).pin → HasNoted b slots start now i
+    → (image : Units) (named : List Message) → TellsRings b.file.layout image slots → AreKnown b.file.layout.slots image (b.content.op + 1) (content_of_superblock b).pin_checksum named → b.content.op + length named ≡ (content_of_superblock b).pin
     → sessions_of now ≡ take b.file.layout.clients (theory.sessions_after (sessions_of start) named)
 noted_all b slots start now i end has image named tells known count =
     has image named tells known count ∙ ap (λ (l : List Message). take b.file.layout.clients (theory.sessions_after (sessions_of start) l)) (take_all i named (omega (arith, end, count)))
@@ -194,7 +194,7 @@ module _ (b : Superblock) (slots : Scan) (slot client : ℕ) (image : Units) (te
   pub later_shown : (h : file.Header) → slot < length slots.slots → header_of_seen (entry slots slot).prepare ≡ Some h → h.boot ≡ b.content.boot → b.content.head < h.op → h.client ≡ client → HasLater b image client
   later_shown h within is boot above of =
       let it = prepare_shown b.file.layout image slots slot tells h within is in
-      (slot, it.0, it.1, record { boot = ap (λ (x : Header). x.boot) it.2 ∙ boot; above = subst (λ (x : Header). (content_of b).pin < x.op) (sym it.2) (omega (arith, pin_is b, above)); of_client = ap (λ (x : Header). x.client) it.2 ∙ of })
+      (slot, it.0, it.1, record { boot = ap (λ (x : Header). x.boot) it.2 ∙ boot; above = subst (λ (x : Header). (content_of_superblock b).pin < x.op) (sym it.2) (omega (arith, pin_is b, above)); of_client = ap (λ (x : Header). x.client) it.2 ∙ of })
 
   pub later_seen : (p : Message) → image (PreparePlace slot) ≡ Some (PrepareUnit p) → IsLater b client p → (h : file.Header) × (header_of_seen (entry slots slot).prepare ≡ Some h) × (h.boot ≡ b.content.boot) × (b.content.head < h.op) × (h.client ≡ client)
   later_seen p shown later =

@@ -19,7 +19,7 @@ use Rattle.df_opening.specs.Below.{DataFile}
 use Rattle.df_mirror.specs.declared.ending.Ending.{Ending}
 use Rattle.df_mirror.specs.declared.ending.Ending.TheVariants.{First, Neither, Second, Sink, Unopened}
 use Rattle.df_mirror.specs.Laws.{MendsGoOn, UnitsComeInOrder}
-use Rattle.df_mirror.specs.Mends.{Answers, AreAt, AreFrom, AreMends, AreOfKind, Came, Failed, Mend, Mends, events_of, lines_of, rank_of}
+use Rattle.df_mirror.specs.Mends.{AnswersMending, AreAt, AreFrom, AreMends, AreOfKind, Came, Failed, Mend, MendsUnits, lines_of, mirrored_events, rank_of_kind}
 use Rattle.df_mirror.specs.Texts.{mended_text}
 
 -- ---- lists
@@ -28,7 +28,7 @@ told_append : (es fs : List Event) (t : Told) → told_after (es ++ fs) t ≡ to
 told_append [] fs t = refl
 told_append (e ∷ es) fs t = told_append es fs (did e t)
 
-events_append : (file : DataFile) (ms ls : List Mend) → events_of file (ms ++ ls) ≡ events_of file ms ++ events_of file ls
+events_append : (file : DataFile) (ms ls : List Mend) → mirrored_events file (ms ++ ls) ≡ mirrored_events file ms ++ mirrored_events file ls
 events_append file [] ls = refl
 events_append file (m ∷ ms) ls = ap (λ (es : List Event). Write (first_at file.layout m.place) m.bytes ∷ Sync ∷ es) (events_append file ms ls)
 
@@ -36,33 +36,33 @@ lines_append : (ms ls : List Mend) → lines_of (ms ++ ls) ≡ lines_of ms ++ li
 lines_append [] ls = refl
 lines_append (m ∷ ms) ls = ap (λ (rest : List ℕ). mended_text (place_of m.place) ++ rest) (lines_append ms ls) ∙ sym (append_assoc (mended_text (place_of m.place)) (lines_of ms) (lines_of ls))
 
-pub told_behind : (file : DataFile) (ms ls : List Mend) (t : Told) → told_after (events_of file (ms ++ ls)) t ≡ told_after (events_of file ls) (told_after (events_of file ms) t)
-told_behind file ms ls t = ap (λ (es : List Event). told_after es t) (events_append file ms ls) ∙ told_append (events_of file ms) (events_of file ls) t
+pub told_behind : (file : DataFile) (ms ls : List Mend) (t : Told) → told_after (mirrored_events file (ms ++ ls)) t ≡ told_after (mirrored_events file ls) (told_after (mirrored_events file ms) t)
+told_behind file ms ls t = ap (λ (es : List Event). told_after es t) (events_append file ms ls) ∙ told_append (mirrored_events file ms) (mirrored_events file ls) t
 
 pub mends_go_on : MendsGoOn
 mends_go_on file c second t [] later are then = then
-mends_go_on file c second t (m ∷ ms) later are then = (are.0, mends_go_on file c second (told_after (events_of file (m ∷ [])) t) ms later are.1 then)
+mends_go_on file c second t (m ∷ ms) later are then = (are.0, mends_go_on file c second (told_after (mirrored_events file (m ∷ [])) t) ms later are.1 then)
 
 pub after_told : (es : List Event) (t : Told) → after_all es (Some t) ≡ Some (told_after es t)
 after_told [] t = refl
 after_told (e ∷ es) t = after_told es (did e t)
 
 -- sectors stay whole
-pub image_after : (file : DataFile) (c : Content) (second : Image) (t : Told) (ms : List Mend) → IsImage t.shown → AreMends file c second t ms → IsImage (told_after (events_of file ms) t).shown
+pub image_after : (file : DataFile) (c : Content) (second : Image) (t : Told) (ms : List Mend) → IsImage t.shown → AreMends file c second t ms → IsImage (told_after (mirrored_events file ms) t).shown
 image_after file c second t [] whole are = whole
 image_after file c second t (m ∷ ms) whole are =
-    image_after file c second (told_after (events_of file (m ∷ [])) t) ms (written_is_image (first_at file.layout m.place) m.bytes t.shown are.0.puts.piece whole) are.1
+    image_after file c second (told_after (mirrored_events file (m ∷ [])) t) ms (written_is_image (first_at file.layout m.place) m.bytes t.shown are.0.puts.piece whole) are.1
 
 -- ---- the order of kinds
 
 -- what follows is no earlier
-none_before : (rank : ℕ) (between back : List Mend) (n : Mend) → AreFrom rank (between ++ n ∷ back) → rank ≤ rank_of n.kind
+none_before : (rank : ℕ) (between back : List Mend) (n : Mend) → AreFrom rank (between ++ n ∷ back) → rank ≤ rank_of_kind n.kind
 none_before rank [] back n are = are.0
-none_before rank (m ∷ between) back n are = omega (arith, are.0, none_before (rank_of m.kind) between back n are.1)
+none_before rank (m ∷ between) back n are = omega (arith, are.0, none_before (rank_of_kind m.kind) between back n are.1)
 
-from_any : (rank : ℕ) (front between back : List Mend) (m n : Mend) → AreFrom rank (front ++ m ∷ between ++ n ∷ back) → rank_of m.kind ≤ rank_of n.kind
-from_any rank [] between back m n are = none_before (rank_of m.kind) between back n are.1
-from_any rank (l ∷ front) between back m n are = from_any (rank_of l.kind) front between back m n are.1
+from_any : (rank : ℕ) (front between back : List Mend) (m n : Mend) → AreFrom rank (front ++ m ∷ between ++ n ∷ back) → rank_of_kind m.kind ≤ rank_of_kind n.kind
+from_any rank [] between back m n are = none_before (rank_of_kind m.kind) between back n are.1
+from_any rank (l ∷ front) between back m n are = from_any (rank_of_kind l.kind) front between back m n are.1
 
 pub units_come_in_order : UnitsComeInOrder
 units_come_in_order front between back m n are = from_any 0 front between back m n are
@@ -95,8 +95,8 @@ came_with file c Of Also t o new old text One Other of last came = record { mend
 failed_with : (file : DataFile) (c : Content) (Of Also : List Mend → Type 0) (t o : Told) (new : Option Told) (old text : Option (List ℕ)) → ((ms : List Mend) → Of ms → Also ms) → Failed file c Of t o new old text → Failed file c Also t o new old text
 failed_with file c Of Also t o new old text of failed = record { mends = failed.mends; are_of = of failed.mends failed.are_of; does = failed.does }
 
-pub answers_with : (file : DataFile) (c : Content) (Of Also : List Mend → Type 0) (t o : Told) (new : Option Told) (old text : Option (List ℕ)) (result : Result ℕ Ending) → ((ms : List Mend) → Of ms → Also ms) → Answers file c Of t o new old text result
-    → Answers file c Also t o new old text result
+pub answers_with : (file : DataFile) (c : Content) (Of Also : List Mend → Type 0) (t o : Told) (new : Option Told) (old text : Option (List ℕ)) (result : Result ℕ Ending) → ((ms : List Mend) → Of ms → Also ms) → AnswersMending file c Of t o new old text result
+    → AnswersMending file c Also t o new old text result
 answers_with file c Of Also t o new old text (Ok n) of is = came_with file c Of Also t o new old text _ _ of (λ ms n same last. last) is
 answers_with file c Of Also t o new old text (Err (Neither place class)) of is = came_with file c Of Also t o new old text _ _ of (λ ms n same last. last) is
 answers_with file c Of Also t o new old text (Err (Unopened e)) of is = came_with file c Of Also t o new old text _ _ of (λ ms n same last. last) is
@@ -109,9 +109,9 @@ abbrev pub more : ℕ → Result ℕ Ending → Result ℕ Ending
 more a (Ok b) = Ok (a + b)
 more a (Err e) = Err e
 
-module _ (file : DataFile) (c : Content) (Of Then All : List Mend → Type 0) (closed : (ms ls : List Mend) → Of ms → Then ls → All (ms ++ ls)) (t o : Told) (ms : List Mend) (of : Of ms) (old text : Option (List ℕ)) (does : Mends file c t o (told_after (events_of file ms) t) old text ms) where
+module _ (file : DataFile) (c : Content) (Of Then All : List Mend → Type 0) (closed : (ms ls : List Mend) → Of ms → Then ls → All (ms ++ ls)) (t o : Told) (ms : List Mend) (of : Of ms) (old text : Option (List ℕ)) (does : MendsUnits file c t o (told_after (mirrored_events file ms) t) old text ms) where
   abbrev Mid : Told
-  Mid = told_after (events_of file ms) t
+  Mid = told_after (mirrored_events file ms) t
 
   join : (new : Option Told) (later : Option (List ℕ)) (One Other : List Mend → Told → Type 0) → ((ls : List Mend) (n : Told) → One ls n → Other (ms ++ ls) n) → Came file c Then Mid o new text later One → Came file c All t o new old later Other
   join new later One Other last came = record {
@@ -133,12 +133,12 @@ module _ (file : DataFile) (c : Content) (Of Then All : List Mend → Type 0) (c
     are_of = closed ms failed.mends of failed.are_of;
     does = record {
       are = mends_go_on file c o.shown t ms failed.mends does.are failed.does.are;
-      told = subst (λ (es : List Event). AddsPart es (Some t) new) (sym (events_append file ms failed.mends)) (all_then (events_of file ms) (events_of file failed.mends) (Some t) (Some Mid) new (sym (after_told (events_of file ms) t)) failed.does.told);
+      told = subst (λ (es : List Event). AddsPart es (Some t) new) (sym (events_append file ms failed.mends)) (all_then (mirrored_events file ms) (mirrored_events file failed.mends) (Some t) (Some Mid) new (sym (after_told (mirrored_events file ms) t)) failed.does.told);
       printed = subst (λ (p : List ℕ). AppendsPart old later p) (sym (lines_append ms failed.mends)) (appends_part old text later (lines_of ms) (lines_of failed.mends) does.printed failed.does.printed);
     };
   }
 
-  pub joined : (a : ℕ) → a ≡ length ms → (new : Option Told) (later : Option (List ℕ)) (result : Result ℕ Ending) → Answers file c Then Mid o new text later result → Answers file c All t o new old later (more a result)
+  pub joined : (a : ℕ) → a ≡ length ms → (new : Option Told) (later : Option (List ℕ)) (result : Result ℕ Ending) → AnswersMending file c Then Mid o new text later result → AnswersMending file c All t o new old later (more a result)
   joined a size new later (Ok b) is = join new later (λ ls n. b ≡ length ls) (λ ls n. a + b ≡ length ls) (λ ls n count. omega (arith, size, count, length-append ms ls)) is
   joined a size new later (Err (Neither place class)) is = join new later _ _ (λ ls n last. last) is
   joined a size new later (Err (Unopened e)) is = join new later _ _ (λ ls n last. last) is
@@ -148,14 +148,14 @@ module _ (file : DataFile) (c : Content) (Of Then All : List Mend → Type 0) (c
 
 -- what one walk mended, and what the next one does
 pub answers_then : (file : DataFile) (c : Content) (Of Then All : List Mend → Type 0) → ((ms ls : List Mend) → Of ms → Then ls → All (ms ++ ls)) → (t o m : Told) (mid new : Option Told) (old text later : Option (List ℕ)) (a : ℕ) (result : Result ℕ Ending)
-    → Answers file c Of t o mid old text (Ok a) → mid ≡ Some m → Answers file c Then m o new text later result → Answers file c All t o new old later (more a result)
+    → AnswersMending file c Of t o mid old text (Ok a) → mid ≡ Some m → AnswersMending file c Then m o new text later result → AnswersMending file c All t o new old later (more a result)
 answers_then file c Of Then All closed t o m mid new old text later a result came is rest =
-    let same : m ≡ told_after (events_of file came.mends) t = sym (same_Some _ _ (sym came.after_is ∙ is)) ∙ came.does.told in
-    let does : Mends file c t o (told_after (events_of file came.mends) t) old text came.mends = record { are = came.does.are; told = refl; printed = came.does.printed } in
-    joined file c Of Then All closed t o came.mends came.are_of old text does a came.last new later result (subst (λ (x : Told). Answers file c Then x o new text later result) same rest)
+    let same : m ≡ told_after (mirrored_events file came.mends) t = sym (same_Some _ _ (sym came.after_is ∙ is)) ∙ came.does.told in
+    let does : MendsUnits file c t o (told_after (mirrored_events file came.mends) t) old text came.mends = record { are = came.does.are; told = refl; printed = came.does.printed } in
+    joined file c Of Then All closed t o came.mends came.are_of old text does a came.last new later result (subst (λ (x : Told). AnswersMending file c Then x o new text later result) same rest)
 
 -- what is told after a walk is whole
-pub told_is_whole : (file : DataFile) (c : Content) (Of : List Mend → Type 0) (t o m : Told) (mid : Option Told) (old text : Option (List ℕ)) (a : ℕ) → IsImage t.shown → Answers file c Of t o mid old text (Ok a) → mid ≡ Some m → IsImage m.shown
+pub told_is_whole : (file : DataFile) (c : Content) (Of : List Mend → Type 0) (t o m : Told) (mid : Option Told) (old text : Option (List ℕ)) (a : ℕ) → IsImage t.shown → AnswersMending file c Of t o mid old text (Ok a) → mid ≡ Some m → IsImage m.shown
 told_is_whole file c Of t o m mid old text a whole came is =
-    let same : m ≡ told_after (events_of file came.mends) t = sym (same_Some _ _ (sym came.after_is ∙ is)) ∙ came.does.told in
+    let same : m ≡ told_after (mirrored_events file came.mends) t = sym (same_Some _ _ (sym came.after_is ∙ is)) ∙ came.does.told in
     subst (λ (x : Told). IsImage x.shown) (sym same) (image_after file c o.shown t came.mends whole came.does.are)

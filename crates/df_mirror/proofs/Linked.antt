@@ -28,9 +28,9 @@ use Rattle.df_mirror.specs.declared.superblock.Superblock.{Superblock}
 use Rattle.df_mirror.specs.Known.{IsDue}
 use Rattle.df_mirror.specs.Mends.{AreOfKind}
 use Rattle.df_mirror.specs.Outside.{Outside, Tell}
-use Rattle.df_mirror.specs.Refusals.{ComesAgain, RefusesTrailer}
+use Rattle.df_mirror.specs.Refusals.{ComesAgain, RefusesFirstTrailer}
 use Rattle.df_mirror.specs.Taking.{HoldsShown, MendsUnit, ShowsUnit, count_in}
-use Rattle.df_mirror.specs.Walks.{GoesOn, HasWalked, Mended, broken_at, content_of, units_of}
+use Rattle.df_mirror.specs.Walks.{HasWalkedChain, Mended, WalkGoesOn, broken_at, content_of_superblock, superblock_units}
 use Rattle.df_mirror.proofs.Chains.{among, arrives_there, asked_shown, chain_spare, not_among}
 use Rattle.df_mirror.proofs.Frames.{other_place}
 use Rattle.df_mirror.proofs.Joined.{came_with, kind_at, none_came}
@@ -47,7 +47,7 @@ pub record IsThere (image : Units) (a k : ℕ) (u : Message) : Type 0 where
   pub sum : (block_of u).checksum ≡ k
   pub kind : (block_of u).kind ≡ 0
 
-pub it_is_there : (b : Superblock) (a : ℕ) (check : List ℕ) (t : Told) (u : Message) → ShowsUnit b.file Trailer (BlockPlace a) check t.shown u → IsThere (units_of b t.shown) a (number_of check) u
+pub it_is_there : (b : Superblock) (a : ℕ) (check : List ℕ) (t : Told) (u : Message) → ShowsUnit b.file Trailer (BlockPlace a) check t.shown u → IsThere (superblock_units b t.shown) a (number_of check) u
 it_is_there b a check t u is =
     let same : is.unit ≡ BlockUnit (block_of u) = same_Some _ _ (sym is.unit_is) in
     record {
@@ -56,14 +56,14 @@ it_is_there b a check t u is =
       kind = subst (λ (x : AnyUnit). IsOfKind Trailer x) same is.of_kind;
     }
 
-module _ (b : Superblock) (n index : ℕ) (walk : Walk) (t o : Told) (counts : IsCount (b.file.layout.block_size - 256) b.content.trailer_size n) (size : n ≡ length walk.read.items + (index + 1)) (walked : HasWalked b (units_of b t.shown) n walk) where
+module _ (b : Superblock) (n index : ℕ) (walk : Walk) (t o : Told) (counts : IsCount (b.file.layout.block_size - 256) b.content.trailer_size n) (size : n ≡ length walk.read.items + (index + 1)) (walked : HasWalkedChain b (superblock_units b t.shown) n walk) where
   pub counted : n ≡ length walked.chain + (index + 1)
   counted = size ∙ ap (λ (m : ℕ). m + (index + 1)) (sym (length-map walk.read.items (λ r. r.address)) ∙ ap length walked.addresses ∙ length-map walked.chain (λ x. x.0))
 
   some_more : length walked.chain < n
   some_more = omega (arith, counted)
 
-  abbrev Its : ReadsTo (shape b.file) (units_of b t.shown) (content_of b) walk.at.address (number_of walk.at.checksum)
+  abbrev Its : ReadsTo (shape b.file) (superblock_units b t.shown) (content_of_superblock b) walk.at.address (number_of walk.at.checksum)
   Its = record { count = n; read = walked.chain; counts = counts; arrives = walked.arrives; links = walked.links; more = some_more }
 
   -- an address is one of those that were read where it is one of the chain's
@@ -74,9 +74,9 @@ module _ (b : Superblock) (n index : ℕ) (walk : Walk) (t o : Told) (counts : I
   pub link_again : (read : List Link) → read ≡ walk.read.items → is_among walk.at.address read ≡ true → (old : Outside) (e : Ending) (Shows : Units → Type 0) → Tell t o old → e ≡ broken_at walk.at.address → Mended b (AreOfKind Trailer) t o old old (Err e) Shows
   link_again read same some old e Shows tell is =
       let there = among walked.chain walk.at.address (sym (among_walked read same) ∙ some) in
-      let again : ComesAgain (shape b.file) (units_of b t.shown) (content_of b) walk.at.address = record { sum = number_of walk.at.checksum; reads = Its; block = there.0; chained = there.1 } in
+      let again : ComesAgain (shape b.file) (superblock_units b t.shown) (content_of_superblock b) walk.at.address = record { sum = number_of walk.at.checksum; reads = Its; block = there.0; chained = there.1 } in
       subst (λ (x : Ending). Mended b (AreOfKind Trailer) t o old old (Err x) Shows) (sym is) (record {
-        answers = none_came b.file (content_of b) (AreOfKind Trailer) tt t o old.first old.written old.written tell.first refl (λ ms m. RefusesTrailer b.file m.shown (content_of b) (BadField TrailerChain walk.at.address)) (inr (refl, again));
+        answers = none_came b.file (content_of_superblock b) (AreOfKind Trailer) tt t o old.first old.written old.written tell.first refl (λ ms m. RefusesFirstTrailer b.file m.shown (content_of_superblock b) (BadField TrailerChain walk.at.address)) (inr (refl, again));
         shown = λ u is. tt;
       })
 
@@ -84,10 +84,10 @@ module _ (b : Superblock) (n index : ℕ) (walk : Walk) (t o : Told) (counts : I
     apart : (e : ℕ) (x : Block) → InChain e x walked.chain → e ≡ walk.at.address → ⊥
     apart e x at = not_among walked.chain walk.at.address e x (sym (among_walked read same_read) ∙ fresh) at
 
-    link_due : IsDue (shape b.file) (units_of b t.shown) (content_of b) Trailer (BlockPlace walk.at.address) (number_of walk.at.checksum)
+    link_due : IsDue (shape b.file) (superblock_units b t.shown) (content_of_superblock b) Trailer (BlockPlace walk.at.address) (number_of walk.at.checksum)
     link_due = record {
       known = Its;
-      spare = λ lacks. chain_spare (shape b.file) (units_of b t.shown) (content_of b) n walked.chain walk.at.address (number_of walk.at.checksum) counts walked.arrives walked.links some_more apart lacks;
+      spare = λ lacks. chain_spare (shape b.file) (superblock_units b t.shown) (content_of_superblock b) n walked.chain walk.at.address (number_of walk.at.checksum) counts walked.arrives walked.links some_more apart lacks;
     }
 
     module _ (identity : Identity) (is_at : identity ≡ at_address b.file.layout b.file.cluster walk.at.address walk.at.checksum) (fits : IsCheck walk.at.checksum) (old new : Outside) (tell : Tell t o old) where
@@ -104,28 +104,28 @@ module _ (b : Superblock) (n index : ℕ) (walk : Walk) (t o : Told) (counts : I
         it = due (Ok (held, more)) mends holds
 
         module _ (m : Told) (is : new.first ≡ Some m) where
-          same_chain : (e : ℕ) (x : Block) → InChain e x walked.chain → units_of b m.shown (BlockPlace e) ≡ units_of b t.shown (BlockPlace e)
+          same_chain : (e : ℕ) (x : Block) → InChain e x walked.chain → superblock_units b m.shown (BlockPlace e) ≡ superblock_units b t.shown (BlockPlace e)
           same_chain e x at =
-              other_place b.file (content_of b) t o m new.first old.written new.written tell.whole is (BlockPlace e) Trailer (BlockPlace walk.at.address) more it.answers (λ (same : BlockPlace walk.at.address ≡ BlockPlace e). apart e x at (cc))
+              other_place b.file (content_of_superblock b) t o m new.first old.written new.written tell.whole is (BlockPlace e) Trailer (BlockPlace walk.at.address) more it.answers (λ (same : BlockPlace walk.at.address ≡ BlockPlace e). apart e x at (cc))
 
-          arrives : Arrives (units_of b m.shown) walked.chain (content_of b).trailer (content_of b).trailer_checksum walk.at.address (number_of walk.at.checksum)
-          arrives = arrives_there (units_of b t.shown) (units_of b m.shown) walked.chain (content_of b).trailer (content_of b).trailer_checksum walk.at.address (number_of walk.at.checksum) walked.arrives same_chain
+          arrives : Arrives (superblock_units b m.shown) walked.chain (content_of_superblock b).trailer (content_of_superblock b).trailer_checksum walk.at.address (number_of walk.at.checksum)
+          arrives = arrives_there (superblock_units b t.shown) (superblock_units b m.shown) walked.chain (content_of_superblock b).trailer (content_of_superblock b).trailer_checksum walk.at.address (number_of walk.at.checksum) walked.arrives same_chain
 
-          there : IsThere (units_of b m.shown) walk.at.address (number_of walk.at.checksum) held.unit
+          there : IsThere (superblock_units b m.shown) walk.at.address (number_of walk.at.checksum) held.unit
           there = it_is_there b walk.at.address walk.at.checksum m held.unit (it.shows m is)
 
-          walks_on : (next : Walk) → 0 < walk.at.address → GoesOn b walk.at walk.read.items index held.unit (Ok next) → HasWalked b (units_of b m.shown) n next
+          walks_on : (next : Walk) → 0 < walk.at.address → WalkGoesOn b walk.at walk.read.items index held.unit (Ok next) → HasWalkedChain b (superblock_units b m.shown) n next
           walks_on next above goes =
               let d : ℕ × Block = (walk.at.address, block_of held.unit) in
-              let on = arrives_more (units_of b m.shown) walked.chain d (content_of b).trailer (content_of b).trailer_checksum walk.at.address (number_of walk.at.checksum) arrives above refl there.sum there.kind there.shown in
+              let on = arrives_more (superblock_units b m.shown) walked.chain d (content_of_superblock b).trailer (content_of_superblock b).trailer_checksum walk.at.address (number_of walk.at.checksum) arrives above refl there.sum there.kind there.shown in
               record {
                 chain = walked.chain ++ d ∷ [];
                 addresses = ap (λ (l : List Link). map (λ r. r.address) l) goes.2 ∙ map-append (λ r. r.address) walk.read.items (walk.at ∷ []) ∙ ap (λ (l : List ℕ). l ++ walk.at.address ∷ []) walked.addresses ∙ sym (map-append (λ x. x.0) walked.chain (d ∷ []));
-                arrives = subst (λ (r : Link). Arrives (units_of b m.shown) (walked.chain ++ d ∷ []) (content_of b).trailer (content_of b).trailer_checksum r.address (number_of r.checksum)) (sym goes.1) on;
-                links = links_more (shape b.file) (content_of b) n index walked.chain d walked.links counted goes.0;
+                arrives = subst (λ (r : Link). Arrives (superblock_units b m.shown) (walked.chain ++ d ∷ []) (content_of_superblock b).trailer (content_of_superblock b).trailer_checksum r.address (number_of r.checksum)) (sym goes.1) on;
+                links = links_more (shape b.file) (content_of_superblock b) n index walked.chain d walked.links counted goes.0;
               }
 
-          breaks : (IsLink (shape b.file) (content_of b) index (block_of held.unit) → ⊥) → RefusesTrailer b.file m.shown (content_of b) (BadField TrailerChain walk.at.address)
+          breaks : (IsLink (shape b.file) (content_of_superblock b) index (block_of held.unit) → ⊥) → RefusesFirstTrailer b.file m.shown (content_of_superblock b) (BadField TrailerChain walk.at.address)
           breaks broken = inl (inl (
             refl,
             record {
@@ -139,12 +139,12 @@ module _ (b : Superblock) (n index : ℕ) (walk : Walk) (t o : Told) (counts : I
             },
           ))
 
-        pub link_on : (next : Walk) → 0 < walk.at.address → GoesOn b walk.at walk.read.items index held.unit (Ok next) → Mended b (AreOfKind Trailer) t o old new (Ok more) (λ image. HasWalked b image n next)
-        link_on next above goes = of_one b Trailer (BlockPlace walk.at.address) t o old new (Ok more) (λ image. HasWalked b image n next) it.answers (λ m is. walks_on m is next above goes)
+        pub link_on : (next : Walk) → 0 < walk.at.address → WalkGoesOn b walk.at walk.read.items index held.unit (Ok next) → Mended b (AreOfKind Trailer) t o old new (Ok more) (λ image. HasWalkedChain b image n next)
+        link_on next above goes = of_one b Trailer (BlockPlace walk.at.address) t o old new (Ok more) (λ image. HasWalkedChain b image n next) it.answers (λ m is. walks_on m is next above goes)
 
-        pub link_broken : (e : Ending) (Shows : Units → Type 0) → GoesOn b walk.at walk.read.items index held.unit (Err e) → Mended b (AreOfKind Trailer) t o old new (Err e) Shows
+        pub link_broken : (e : Ending) (Shows : Units → Type 0) → WalkGoesOn b walk.at walk.read.items index held.unit (Err e) → Mended b (AreOfKind Trailer) t o old new (Err e) Shows
         link_broken e Shows goes = subst (λ (x : Ending). Mended b (AreOfKind Trailer) t o old new (Err x) Shows) (sym goes.0) (record {
-          answers = came_with b.file (content_of b) _ (AreOfKind Trailer) t o new.first old.written new.written _ (λ ms m. RefusesTrailer b.file m.shown (content_of b) (BadField TrailerChain walk.at.address)) (kind_at Trailer (BlockPlace walk.at.address))
+          answers = came_with b.file (content_of_superblock b) _ (AreOfKind Trailer) t o new.first old.written new.written _ (λ ms m. RefusesFirstTrailer b.file m.shown (content_of_superblock b) (BadField TrailerChain walk.at.address)) (kind_at Trailer (BlockPlace walk.at.address))
               (λ ms m is last. breaks m is goes.1) it.answers;
           shown = λ m is. tt;
         })

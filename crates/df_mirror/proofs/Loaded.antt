@@ -18,11 +18,11 @@ use Rattle.df_format.specs.Wanted as words
 use Rattle.df_format.proofs.Laws.{shown_is_unit}
 use Rattle.df_buffers.specs.declared.identity.Identity.{Identity}
 use Rattle.df_buffers.specs.declared.identity.Wanted.TheVariants.{Checksum}
-use Rattle.df_buffers.specs.Found.{FindsKind, IsThere, class_for}
+use Rattle.df_buffers.specs.Found.{FindsKind, IsValidUnit, class_for}
 use Rattle.df_buffers.specs.Rooms.{FillsRoom, Room, StandsIn}
 use Rattle.df_buffers.specs.Sounds.{Holding}
 use Rattle.df_buffers.proofs.Laws.{is_no_ring}
-use Rattle.df_places.specs.Shelves.{IsFound, shown_at}
+use Rattle.df_places.specs.Shelves.{IsFoundUnit, shown_at}
 use Rattle.df_theory.specs.Units.{AnyUnit, BlockPlace, CopyPlace, HeaderPlace, Place, PreparePlace, ReplyPlace}
 use Rattle.df_units.specs.Bytes.{message_unit}
 use Rattle.df_units.specs.Meaning.{number_of, place_of, unit_of}
@@ -31,8 +31,8 @@ use Rattle.df_units.proofs.Laws.{none_wanted, units_told}
 use Rattle.df_places.proofs.Laws.{all_own}
 use Rattle.df_opening.specs.Below.{DataFile}
 use Rattle.df_mirror.specs.Known.{IsShownAs}
-use Rattle.df_mirror.specs.Mends.{units_in}
-use Rattle.df_mirror.specs.Taking.{IsFor, LacksIt, Loads, ShowsIt, ShowsUnit}
+use Rattle.df_mirror.specs.Mends.{units_shown}
+use Rattle.df_mirror.specs.Taking.{IsFor, LacksIt, LoadsUnit, ShowsIt, ShowsUnit}
 
 -- ---- bytes
 
@@ -68,8 +68,8 @@ module _ (kind : Kind) (zone : Zone) (identity : Identity) (bytes : List ℕ) (s
   )
 
   -- all that is answered of it
-  pub loads_all : (room : Room) → room.layout ≡ identity.layout → (told : Option Told) (result : Result Holding (Room × Class)) → Shows told (span_of identity.layout identity.place).first bytes → IfOk result (λ s. FindsKind kind identity bytes s.unit) → IfOk result (λ s. IsThere identity s.unit)
-      → IfOk result (λ s. (s.layout ≡ room.layout) × (s.bytes ≡ bytes)) → IfErr result (λ _. (u : Message) → FindsKind kind identity bytes u → ⊥) → IfErr result (λ refused. refused.1 ≡ class_for identity bytes) → IfErr result (λ refused. refused.0 ≡ room) → Loads kind identity told result
+  pub loads_all : (room : Room) → room.layout ≡ identity.layout → (told : Option Told) (result : Result Holding (Room × Class)) → Shows told (span_of identity.layout identity.place).first bytes → IfOk result (λ s. FindsKind kind identity bytes s.unit) → IfOk result (λ s. IsValidUnit identity s.unit)
+      → IfOk result (λ s. (s.layout ≡ room.layout) × (s.bytes ≡ bytes)) → IfErr result (λ _. (u : Message) → FindsKind kind identity bytes u → ⊥) → IfErr result (λ refused. refused.1 ≡ class_for identity bytes) → IfErr result (λ refused. refused.0 ≡ room) → LoadsUnit kind identity told result
   loads_all room layout told (Ok s) shows finds there same none class back = (same.0 ∙ layout, record { is = there; of_kind = finds.of_kind; wanted = finds.found.wanted }, it_is_shown told s.unit shows finds)
   loads_all room layout told (Err refused) shows finds there same none class back = (ap (λ (r : Room). r.layout) back ∙ layout, it_is_lacking told refused.1 shows none class)
 
@@ -84,7 +84,7 @@ no_copy Block stands = stands
 no_copy Trailer stands = stands
 
 -- a place that isn't of the copies shows the unit that its message is
-message_at : (file : DataFile) (image : Image) (at : Place) (kind : Kind) → StandsIn kind (place_of at).zone → units_in file image at ≡ message_unit at (Shown.unit_at file.layout file.cluster image (place_of at))
+message_at : (file : DataFile) (image : Image) (at : Place) (kind : Kind) → StandsIn kind (place_of at).zone → units_shown file image at ≡ message_unit at (Shown.unit_at file.layout file.cluster image (place_of at))
 message_at file image (CopyPlace n) kind stands = absurd (no_copy kind stands)
 message_at file image (HeaderPlace s) kind stands = refl
 message_at file image (PreparePlace s) kind stands = refl
@@ -107,24 +107,24 @@ pub record IsUnitOf (kind : Kind) (at : Place) (check : List ℕ) (u : Message) 
   pub sum_is : checksum_of unit ≡ number_of check
 
 module _ (file : DataFile) (kind : Kind) (at : Place) (check : List ℕ) (identity : Identity) (for : IsFor file kind at check identity) where
-  pub found_unit : (u : Message) → IsFound kind identity u → IsUnitOf kind at check u
+  pub found_unit : (u : Message) → IsFoundUnit kind identity u → IsUnitOf kind at check u
   found_unit u found =
       let some = some_unit at u kind for.stands in
-      let own : IsFound kind (record { layout = file.layout; cluster = file.cluster; place = place_of at; wanted = Checksum check }) u = subst (λ (i : Identity). IsFound kind i u) for.is found in
+      let own : IsFoundUnit kind (record { layout = file.layout; cluster = file.cluster; place = place_of at; wanted = Checksum check }) u = subst (λ (i : Identity). IsFoundUnit kind i u) for.is found in
       let told = units_told file.layout file.cluster at kind (words.Checksum check) u some.0 for.fits own.is some.1 in
       record { unit = some.0; unit_is = some.1; of_kind = told.of_kind.0 own.of_kind; sum_is = told.is_wanted.0 own.wanted }
 
   -- the unit that is wanted, where an image shows it
-  pub shows_unit : (image : Image) (u : Message) → shown_at identity image ≡ Some u → IsFound kind identity u → ShowsUnit file kind at check image u
+  pub shows_unit : (image : Image) (u : Message) → shown_at identity image ≡ Some u → IsFoundUnit kind identity u → ShowsUnit file kind at check image u
   shows_unit image u shown found =
       let is = found_unit u found in
       let here : Shown.unit_at file.layout file.cluster image (place_of at) ≡ Some u = subst (λ (i : Identity). shown_at i image ≡ Some u) for.is shown in
       record { unit = is.unit; unit_is = is.unit_is; shown = message_at file image at kind for.stands ∙ ap (message_unit at) here ∙ is.unit_is; of_kind = is.of_kind; sum_is = is.sum_is }
 
   -- and where it shows none that is wanted
-  pub lacks_unit : (image : Image) → IsImage image → ((u : Message) → shown_at identity image ≡ Some u → IsFound kind identity u → ⊥) → IsShownAs (units_in file image) kind at (number_of check) → ⊥
+  pub lacks_unit : (image : Image) → IsImage image → ((u : Message) → shown_at identity image ≡ Some u → IsFoundUnit kind identity u → ⊥) → IsShownAs (units_shown file image) kind at (number_of check) → ⊥
   lacks_unit image whole none shown =
-      let own = subst (λ (i : Identity). (u : Message) → shown_at i image ≡ Some u → IsFound kind i u → ⊥) for.is none in
+      let own = subst (λ (i : Identity). (u : Message) → shown_at i image ≡ Some u → IsFoundUnit kind i u → ⊥) for.is none in
       none_wanted file.layout file.cluster image at kind (words.Checksum check) whole for.fits
       (λ u is of_kind wanted. own u is (record { is = shown_is_unit file.layout file.cluster image (place_of at) u whole is; of_kind = of_kind; wanted = wanted })) shown.unit shown.shown shown.of_kind shown.sum_is
 

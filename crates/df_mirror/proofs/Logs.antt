@@ -26,11 +26,11 @@ use Rattle.df_opening.specs.Below.{shape}
 use Rattle.df_mirror.specs.declared.ending.Ending.{Ending}
 use Rattle.df_mirror.specs.declared.ending.Ending.TheVariants.{First, Neither, Second, Sink, Unopened}
 use Rattle.df_mirror.specs.declared.superblock.Superblock.{Superblock}
-use Rattle.df_mirror.specs.Known.{AllShown, AreShown, IsKnown, IsNamed, IsShownAs, ShowsTrailer}
-use Rattle.df_mirror.specs.Mends.{Answers, AreFrom, AreInOrder, AreLate, AreOfKind, Mend, rank_of}
+use Rattle.df_mirror.specs.Known.{AllShown, AreShown, IsKnownAt, IsNamedPrepare, IsShownAs, ShowsTrailer}
+use Rattle.df_mirror.specs.Mends.{AnswersMending, AreFrom, AreInOrder, AreLate, AreOfKind, Mend, rank_of_kind}
 use Rattle.df_mirror.specs.Outside.{Outside, Tell, around}
-use Rattle.df_mirror.specs.Refusals.{RefusesTrailer}
-use Rattle.df_mirror.specs.Walks.{HasHead, HasText, Mended, ReadsText, ShowsBlocks, ShowsLog, ShowsNamed, content_of, units_of}
+use Rattle.df_mirror.specs.Refusals.{RefusesFirstTrailer}
+use Rattle.df_mirror.specs.Walks.{HasHead, HasTrailerText, Mended, ReadsChainText, ShowsBlocks, ShowsLog, ShowsNamed, content_of_superblock, superblock_units}
 use Rattle.df_mirror.proofs.Referenced.{shown_there}
 use Rattle.df_mirror.proofs.Chains.{all_of_it, shown_block}
 use Rattle.df_mirror.proofs.Frames.{other_kind}
@@ -44,29 +44,29 @@ from_lower : (low high : ℕ) (ls : List Mend) → low ≤ high → AreFrom high
 from_lower low high [] less from = tt
 from_lower low high (m ∷ ls) less from = (omega (arith, less, from.0), from.1)
 
-pub from_kind : (rank : ℕ) (kind : Kind) (ms : List Mend) → rank ≤ rank_of kind → AreOfKind kind ms → AreFrom rank ms
+pub from_kind : (rank : ℕ) (kind : Kind) (ms : List Mend) → rank ≤ rank_of_kind kind → AreOfKind kind ms → AreFrom rank ms
 from_kind rank kind [] less are = tt
-from_kind rank kind (m ∷ ms) less are = (subst (λ (k : Kind). rank ≤ rank_of k) (sym are.0) less, subst (λ (k : Kind). AreFrom (rank_of k) ms) (sym are.0) (from_kind (rank_of kind) kind ms (omega arith) are.1))
+from_kind rank kind (m ∷ ms) less are = (subst (λ (k : Kind). rank ≤ rank_of_kind k) (sym are.0) less, subst (λ (k : Kind). AreFrom (rank_of_kind k) ms) (sym are.0) (from_kind (rank_of_kind kind) kind ms (omega arith) are.1))
 
-pub then_from : (rank : ℕ) (kind : Kind) (ms ls : List Mend) → rank ≤ rank_of kind → AreOfKind kind ms → AreFrom (rank_of kind) ls → AreFrom rank (ms ++ ls)
-then_from rank kind [] ls less are from = from_lower rank (rank_of kind) ls less from
+pub then_from : (rank : ℕ) (kind : Kind) (ms ls : List Mend) → rank ≤ rank_of_kind kind → AreOfKind kind ms → AreFrom (rank_of_kind kind) ls → AreFrom rank (ms ++ ls)
+then_from rank kind [] ls less are from = from_lower rank (rank_of_kind kind) ls less from
 then_from rank kind (m ∷ ms) ls less are from =
-    (subst (λ (k : Kind). rank ≤ rank_of k) (sym are.0) less, subst (λ (k : Kind). AreFrom (rank_of k) (ms ++ ls)) (sym are.0) (then_from (rank_of kind) kind ms ls (omega arith) are.1 from))
+    (subst (λ (k : Kind). rank ≤ rank_of_kind k) (sym are.0) less, subst (λ (k : Kind). AreFrom (rank_of_kind k) (ms ++ ls)) (sym are.0) (then_from (rank_of_kind kind) kind ms ls (omega arith) are.1 from))
 
 -- so many of one kind were mended, a read comes after them, and then those that follow in the order
-pub walk_then : {b : Superblock} {t o : Told} {old mid new : Outside} {told : Option Told} {a : ℕ} {Before After : Units → Type 0} (low high : ℕ) (kind : Kind) → low ≤ rank_of kind → rank_of kind ≤ high → Tell t o old → Mended b (AreOfKind kind) t o old mid (Ok a) Before → mid.second ≡ old.second
-    → told ≡ mid.first → (result : Result ℕ Ending) → ((m : Told) → Tell m o (around told mid.second mid.written) → Before (units_of b m.shown) → Mended b (AreFrom high) m o (around told mid.second mid.written) new result After)
+pub walk_then : {b : Superblock} {t o : Told} {old mid new : Outside} {told : Option Told} {a : ℕ} {Before After : Units → Type 0} (low high : ℕ) (kind : Kind) → low ≤ rank_of_kind kind → rank_of_kind kind ≤ high → Tell t o old → Mended b (AreOfKind kind) t o old mid (Ok a) Before → mid.second ≡ old.second
+    → told ≡ mid.first → (result : Result ℕ Ending) → ((m : Told) → Tell m o (around told mid.second mid.written) → Before (superblock_units b m.shown) → Mended b (AreFrom high) m o (around told mid.second mid.written) new result After)
     → Mended b (AreFrom low) t o old new (more a result) After
 walk_then {mid = mid} {told = told} low high kind from to tell has same read result next =
-    then_mended {mid = around told mid.second mid.written} (λ ms ls of then. then_from low kind ms ls from of (from_lower (rank_of kind) high ls to then)) tell same (read_behind has read refl) result next
+    then_mended {mid = around told mid.second mid.written} (λ ms ls of then. then_from low kind ms ls from of (from_lower (rank_of_kind kind) high ls to then)) tell same (read_behind has read refl) result next
 
 -- the trailer is refused
-pub refused_here : (b : Superblock) (rank : ℕ) (m o : Told) (old : Outside) (e : Ending) (Shows : Units → Type 0) → Tell m o old → ReadsText b m.shown (Err e) → Mended b (AreFrom rank) m o old old (Err e) Shows
+pub refused_here : (b : Superblock) (rank : ℕ) (m o : Told) (old : Outside) (e : Ending) (Shows : Units → Type 0) → Tell m o old → ReadsChainText b m.shown (Err e) → Mended b (AreFrom rank) m o old old (Err e) Shows
 refused_here b rank m o old e Shows tell reads = record { answers = by e reads; shown = λ u is. tt }
   where
-    by : (e : Ending) → ReadsText b m.shown (Err e) → Answers b.file (content_of b) (AreFrom rank) m o old.first old.written old.written (Err e)
-    by (Unopened e) reads = none_came b.file (content_of b) (AreFrom rank) tt m o old.first old.written old.written tell.first refl (λ ms n. RefusesTrailer b.file n.shown (content_of b) e) reads
-    by First reads = none_failed b.file (content_of b) (AreFrom rank) tt m o old.first old.written old.written tell.first refl
+    by : (e : Ending) → ReadsChainText b m.shown (Err e) → AnswersMending b.file (content_of_superblock b) (AreFrom rank) m o old.first old.written old.written (Err e)
+    by (Unopened e) reads = none_came b.file (content_of_superblock b) (AreFrom rank) tt m o old.first old.written old.written tell.first refl (λ ms n. RefusesFirstTrailer b.file n.shown (content_of_superblock b) e) reads
+    by First reads = none_failed b.file (content_of_superblock b) (AreFrom rank) tt m o old.first old.written old.written tell.first refl
     by Second reads = absurd reads
     by Sink reads = absurd reads
     by (Neither place class) reads = absurd reads
@@ -85,13 +85,13 @@ named_shown n image sum pin op a (p ∷ ps) later known count above also size = 
 ]
 
 -- all that are known are shown
-pub prepares_shown : (b : Superblock) (image : Units) → ShowsNamed b image → AreShown (shape b.file) image (content_of b) Prepare
+pub prepares_shown : (b : Superblock) (image : Units) → ShowsNamed b image → AreShown (shape b.file) image (content_of_superblock b) Prepare
 prepares_shown b image named place sum known = by place known
   where
-    by : (place : Place) → IsKnown (shape b.file) image (content_of b) Prepare place sum → IsShownAs image Prepare place sum
+    by : (place : Place) → IsKnownAt (shape b.file) image (content_of_superblock b) Prepare place sum → IsShownAs image Prepare place sum
     by (PreparePlace s) is =
-        let of : IsNamed (shape b.file) image (content_of b) s sum = is in
-        let there = named_shown b.file.layout.slots image (content_of b).pin_checksum (content_of b).pin b.content.op of.op named.named of.later named.known named.count of.above of.known of.count in
+        let of : IsNamedPrepare (shape b.file) image (content_of_superblock b) s sum = is in
+        let there = named_shown b.file.layout.slots image (content_of_superblock b).pin_checksum (content_of_superblock b).pin b.content.op of.op named.named of.later named.known named.count of.above of.known of.count in
         record { unit = PrepareUnit there.0; shown = ap (λ (x : ℕ). image (PreparePlace x)) of.slot_is ∙ there.1; of_kind = tt; sum_is = there.2 ∙ sym of.sum_is }
     by place is = absurd is
 
@@ -100,13 +100,13 @@ known_there n image other op sum [] same known = tt
 known_there n image other op sum (p ∷ ps) same known = (same (op % n) ∙ known.0, known.1, known_there n image other (op + 1) sum ps same known.2)
 
 pub named_there : (b : Superblock) (image other : Units) → ((s : ℕ) → other (PreparePlace s) ≡ image (PreparePlace s)) → ShowsNamed b image → ShowsNamed b other
-named_there b image other same is = record { named = is.named; known = known_there b.file.layout.slots image other (b.content.op + 1) (content_of b).pin_checksum is.named same is.known; count = is.count }
+named_there b image other same is = record { named = is.named; known = known_there b.file.layout.slots image other (b.content.op + 1) (content_of_superblock b).pin_checksum is.named same is.known; count = is.count }
 
 -- ---- the sessions at the head
 
-pub head_is : (b : Superblock) (image now : Units) (slots : Scan) (table : Table) (ss : List model.Session) (says : ShowsTrailer (shape b.file) image (content_of b)) → says.parts.sessions ≡ ss → ((a : ℕ) → now (BlockPlace a) ≡ image (BlockPlace a)) → ShowsNamed b now
+pub head_is : (b : Superblock) (image now : Units) (slots : Scan) (table : Table) (ss : List model.Session) (says : ShowsTrailer (shape b.file) image (content_of_superblock b)) → says.parts.sessions ≡ ss → ((a : ℕ) → now (BlockPlace a) ≡ image (BlockPlace a)) → ShowsNamed b now
     → TellsRings b.file.layout now slots → table.max ≡ b.file.layout.clients
-    → ((named : List Message) → AreKnown b.file.layout.slots now (b.content.op + 1) (content_of b).pin_checksum named → b.content.op + length named ≡ (content_of b).pin → sessions_of table.sessions ≡ take b.file.layout.clients (sessions_after ss named)) → HasHead b now slots table
+    → ((named : List Message) → AreKnown b.file.layout.slots now (b.content.op + 1) (content_of_superblock b).pin_checksum named → b.content.op + length named ≡ (content_of_superblock b).pin → sessions_of table.sessions ≡ take b.file.layout.clients (sessions_after ss named)) → HasHead b now slots table
 head_is b image now slots table ss says same blocks named tells places given = record {
   tells = tells;
   sessions = sessions_after says.parts.sessions named.named;
@@ -122,57 +122,57 @@ module _ (b : Superblock) (t o : Told) (old mid : Outside) (a : ℕ) (tell : Tel
   log_unread Shows = walk_then 3 3 Prepare (omega arith) (omega arith) tell came same read (Err First) (λ m on named. none_read b (AreFrom 3) tt m o (around told mid.second mid.written) (around told mid.second mid.written) on refl refl Shows)
 
   -- and then the replies are mended
-  module _ (says : ShowsTrailer (shape b.file) (units_of b t.shown) (content_of b)) (ss : List model.Session) (of_trailer : says.parts.sessions ≡ ss) (layout : Layout) (of_file : layout ≡ b.file.layout) (slots : Scan) (start : Start) (begun : slots.start ≡ start)
+  module _ (says : ShowsTrailer (shape b.file) (superblock_units b t.shown) (content_of_superblock b)) (ss : List model.Session) (of_trailer : says.parts.sessions ≡ ss) (layout : Layout) (of_file : layout ≡ b.file.layout) (slots : Scan) (start : Start) (begun : slots.start ≡ start)
       (cluster : start.cluster ≡ b.file.cluster) (scanned : IsScanned layout mid.first slots) (table : Table) (places : table.max ≡ b.file.layout.clients)
-      (brought : (image : Units) (named : List Message) → TellsRings b.file.layout image slots → AreKnown b.file.layout.slots image (b.content.op + 1) (content_of b).pin_checksum named → b.content.op + length named ≡ (content_of b).pin
+      (brought : (image : Units) (named : List Message) → TellsRings b.file.layout image slots → AreKnown b.file.layout.slots image (b.content.op + 1) (content_of_superblock b).pin_checksum named → b.content.op + length named ≡ (content_of_superblock b).pin
       → sessions_of table.sessions ≡ take b.file.layout.clients (sessions_after ss named)) where
-    module _ (m : Told) (on : Tell m o (around told mid.second mid.written)) (named : ShowsNamed b (units_of b m.shown)) where
+    module _ (m : Told) (on : Tell m o (around told mid.second mid.written)) (named : ShowsNamed b (superblock_units b m.shown)) where
       came_there : mid.first ≡ Some m
       came_there = sym read ∙ on.first
 
-      blocks_there : (x : ℕ) → units_of b m.shown (BlockPlace x) ≡ units_of b t.shown (BlockPlace x)
-      blocks_there x = other_kind b.file (content_of b) t o m mid.first old.written mid.written tell.whole came_there (BlockPlace x) Prepare a came.answers (λ no. no)
+      blocks_there : (x : ℕ) → superblock_units b m.shown (BlockPlace x) ≡ superblock_units b t.shown (BlockPlace x)
+      blocks_there x = other_kind b.file (content_of_superblock b) t o m mid.first old.written mid.written tell.whole came_there (BlockPlace x) Prepare a came.answers (λ no. no)
 
-      rings : TellsRings b.file.layout (units_of b m.shown) slots
+      rings : TellsRings b.file.layout (superblock_units b m.shown) slots
       rings =
           let here : IsScanned b.file.layout (Some m) slots = subst (λ (l : Layout). IsScanned l (Some m) slots) of_file (subst (λ (x : Option Told). IsScanned layout x slots) came_there scanned) in
           subst (λ (n : ℕ). TellsRings b.file.layout (unit_at b.file.layout n m.shown) slots) (ap (λ (x : Start). x.cluster) begun ∙ cluster) (rings_shown b.file.layout m slots here)
 
-      head : HasHead b (units_of b m.shown) slots table
-      head = head_is b (units_of b t.shown) (units_of b m.shown) slots table ss says of_trailer blocks_there named rings places (λ ps known count. brought (units_of b m.shown) ps rings known count)
+      head : HasHead b (superblock_units b m.shown) slots table
+      head = head_is b (superblock_units b t.shown) (superblock_units b m.shown) slots table ss says of_trailer blocks_there named rings places (λ ps known count. brought (superblock_units b m.shown) ps rings known count)
 
-      log_shown : (new : Outside) (result : Result ℕ Ending) → Mended b (AreOfKind Reply) m o (around told mid.second mid.written) new result (λ image. AreShown (shape b.file) image (content_of b) Reply) → (u : Told) → new.first ≡ Some u
-          → OnOk result (ShowsLog b (units_of b t.shown) (units_of b u.shown))
+      log_shown : (new : Outside) (result : Result ℕ Ending) → Mended b (AreOfKind Reply) m o (around told mid.second mid.written) new result (λ image. AreShown (shape b.file) image (content_of_superblock b) Reply) → (u : Told) → new.first ≡ Some u
+          → OnOk result (ShowsLog b (superblock_units b t.shown) (superblock_units b u.shown))
       log_shown new (Err e) rest u is = tt
       log_shown new (Ok k) rest u is = record {
-        blocks = λ x. other_kind b.file (content_of b) m o u new.first mid.written new.written on.whole is (BlockPlace x) Reply k rest.answers (λ no. no) ∙ blocks_there x;
-        prepares = prepares_shown b (units_of b u.shown) (named_there b (units_of b m.shown) (units_of b u.shown) (λ s. other_kind b.file (content_of b) m o u new.first mid.written new.written on.whole is (PreparePlace s) Reply k rest.answers (λ no. no)) named);
+        blocks = λ x. other_kind b.file (content_of_superblock b) m o u new.first mid.written new.written on.whole is (BlockPlace x) Reply k rest.answers (λ no. no) ∙ blocks_there x;
+        prepares = prepares_shown b (superblock_units b u.shown) (named_there b (superblock_units b m.shown) (superblock_units b u.shown) (λ s. other_kind b.file (content_of_superblock b) m o u new.first mid.written new.written on.whole is (PreparePlace s) Reply k rest.answers (λ no. no)) named);
         replies = rest.shown u is;
       }
 
     pub log_mended : (new : Outside) (result : Result ℕ Ending)
-        → ((m : Told) → Tell m o (around told mid.second mid.written) → HasHead b (units_of b m.shown) slots table → Mended b (AreOfKind Reply) m o (around told mid.second mid.written) new result (λ image. AreShown (shape b.file) image (content_of b) Reply))
-        → Mended b AreLate t o old new (more a result) (ShowsLog b (units_of b t.shown))
+        → ((m : Told) → Tell m o (around told mid.second mid.written) → HasHead b (superblock_units b m.shown) slots table → Mended b (AreOfKind Reply) m o (around told mid.second mid.written) new result (λ image. AreShown (shape b.file) image (content_of_superblock b) Reply))
+        → Mended b AreLate t o old new (more a result) (ShowsLog b (superblock_units b t.shown))
     log_mended new result next =
         walk_then 3 3 Prepare (omega arith) (omega arith) tell came same read result (λ m on named.
         let rest = next m on (head m on named) in
         record {
-          answers = answers_with b.file (content_of b) (AreOfKind Reply) (AreFrom 3) m o new.first mid.written new.written result (λ ms are. from_kind 3 Reply ms (omega arith) are) rest.answers;
+          answers = answers_with b.file (content_of_superblock b) (AreOfKind Reply) (AreFrom 3) m o new.first mid.written new.written result (λ ms are. from_kind 3 Reply ms (omega arith) are) rest.answers;
           shown = log_shown m on named new result rest;
         })
 
 -- ---- all of it
 
-pub all_shown : (b : Superblock) (grid : GridState) (ss : List Session) (image now : Units) → ShowsBlocks b image grid ss b.file.layout.blocks → ShowsLog b image now → AllShown (shape b.file) now (content_of b)
+pub all_shown : (b : Superblock) (grid : GridState) (ss : List Session) (image now : Units) → ShowsBlocks b image grid ss b.file.layout.blocks → ShowsLog b image now → AllShown (shape b.file) now (content_of_superblock b)
 all_shown b grid ss image now blocks log = by
   where
-    by : (kind : Kind) (place : Place) (sum : ℕ) → IsKnown (shape b.file) now (content_of b) kind place sum → IsShownAs now kind place sum
+    by : (kind : Kind) (place : Place) (sum : ℕ) → IsKnownAt (shape b.file) now (content_of_superblock b) kind place sum → IsShownAs now kind place sum
     by Trailer (BlockPlace a) sum known =
-        let says = trailer_there (shape b.file) image now (content_of b) blocks.has.says (λ e x at. log.blocks e) in
-        shown_block now a sum (all_of_it (shape b.file) now (content_of b) says a sum known)
+        let says = trailer_there (shape b.file) image now (content_of_superblock b) blocks.has.says (λ e x at. log.blocks e) in
+        shown_block now a sum (all_of_it (shape b.file) now (content_of_superblock b) says a sum known)
     by AsBlock (BlockPlace a) sum known =
-        let says = trailer_there (shape b.file) image now (content_of b) blocks.has.says (λ e x at. log.blocks e) in
-        let parts : known.says.parts ≡ blocks.has.says.parts = one_trailer (shape b.file) now (content_of b) known.says says in
+        let says = trailer_there (shape b.file) image now (content_of_superblock b) blocks.has.says (λ e x at. log.blocks e) in
+        let parts : known.says.parts ≡ blocks.has.says.parts = one_trailer (shape b.file) now (content_of_superblock b) known.says says in
         let reference : blocks.has.says.parts.references a ≡ Some sum = ap (λ (p : Parts). p.references a) (sym parts) ∙ known.reference in
         shown_there image now AsBlock (BlockPlace a) sum (log.blocks a) (blocks.shown a sum (blocks.has.inside a sum reference).1 (blocks.has.live a ∙ reference))
     by Prepare (PreparePlace s) sum known = log.prepares (PreparePlace s) sum known
@@ -183,13 +183,13 @@ all_shown b grid ss image now blocks log = by
 
 -- so many blocks of the trailer were mended, and it was read, and of those that it references so many; and then the log is
 pub all_mended : {b : Superblock} {t o : Told} {old mid late new : Outside} {told : Option Told} {a k : ℕ} (grid : GridState) (ss : List Session) → Tell t o old
-    → Mended b (AreOfKind Trailer) t o old mid (Ok a) (λ image. AreShown (shape b.file) image (content_of b) Trailer) → mid.second ≡ old.second
-    → told ≡ mid.first → ((m : Told) → mid.first ≡ Some m → IsImage m.shown → AreShown (shape b.file) (units_of b m.shown) (content_of b) Trailer → HasText b (units_of b m.shown) grid ss)
-    → ((m : Told) → Tell m o (around told mid.second mid.written) → HasText b (units_of b m.shown) grid ss → Mended b (AreOfKind AsBlock) m o (around told mid.second mid.written) late (Ok k) (λ image. ShowsBlocks b image grid ss b.file.layout.blocks)) → late.second ≡ mid.second
-    → (result : Result ℕ Ending) → ((m : Told) → Tell m o late → (says : ShowsTrailer (shape b.file) (units_of b m.shown) (content_of b)) → says.parts.sessions ≡ sessions_of ss → Mended b AreLate m o late new result (ShowsLog b (units_of b m.shown)))
-    → Mended b AreInOrder t o old new (more a (more k result)) (λ image. AllShown (shape b.file) image (content_of b))
+    → Mended b (AreOfKind Trailer) t o old mid (Ok a) (λ image. AreShown (shape b.file) image (content_of_superblock b) Trailer) → mid.second ≡ old.second
+    → told ≡ mid.first → ((m : Told) → mid.first ≡ Some m → IsImage m.shown → AreShown (shape b.file) (superblock_units b m.shown) (content_of_superblock b) Trailer → HasTrailerText b (superblock_units b m.shown) grid ss)
+    → ((m : Told) → Tell m o (around told mid.second mid.written) → HasTrailerText b (superblock_units b m.shown) grid ss → Mended b (AreOfKind AsBlock) m o (around told mid.second mid.written) late (Ok k) (λ image. ShowsBlocks b image grid ss b.file.layout.blocks)) → late.second ≡ mid.second
+    → (result : Result ℕ Ending) → ((m : Told) → Tell m o late → (says : ShowsTrailer (shape b.file) (superblock_units b m.shown) (content_of_superblock b)) → says.parts.sessions ≡ sessions_of ss → Mended b AreLate m o late new result (ShowsLog b (superblock_units b m.shown)))
+    → Mended b AreInOrder t o old new (more a (more k result)) (λ image. AllShown (shape b.file) image (content_of_superblock b))
 all_mended {b = b} {k = k} grid ss tell chain same read has blocks also result log =
     walk_then 0 1 Trailer (omega arith) (omega arith) tell chain same read (more k result) (λ m on shown.
     let text = has m (sym read ∙ on.first) on.whole shown in
     walk_then 1 3 AsBlock (omega arith) (omega arith) on (blocks m on text) also refl result (λ n then shows.
-    shows_more (λ image shown. all_shown b grid ss (units_of b n.shown) image shows shown) (log n then shows.has.says shows.has.sessions_are)))
+    shows_more (λ image shown. all_shown b grid ss (superblock_units b n.shown) image shows shown) (log n then shows.has.says shows.has.sessions_are)))

@@ -18,11 +18,11 @@ use Rattle.df_units.specs.Wanted.{checksum_of}
 use Rattle.df_opening.specs.Below.{shape}
 use Rattle.df_mirror.specs.declared.ending.Ending.{Ending}
 use Rattle.df_mirror.specs.declared.superblock.Superblock.{Superblock}
-use Rattle.df_mirror.specs.Known.{IsDue, IsKnown, IsShownAs, IsSpare}
+use Rattle.df_mirror.specs.Known.{IsDue, IsKnownAt, IsShownAs, IsSparePlace}
 use Rattle.df_mirror.specs.Mends.{AreOfKind}
 use Rattle.df_mirror.specs.Outside.{Outside, Tell}
 use Rattle.df_mirror.specs.Taking.{HoldsShown, IsFor, MendsUnit, count_in}
-use Rattle.df_mirror.specs.Walks.{Mended, NamesFrom, ShowsNamed, content_of, units_of}
+use Rattle.df_mirror.specs.Walks.{Mended, NamesPreparesFrom, ShowsNamed, content_of_superblock, superblock_units}
 use Rattle.df_mirror.proofs.Frames.{other_place}
 use Rattle.df_mirror.proofs.Turns.{MendsDue, due_mended, of_one}
 
@@ -46,70 +46,70 @@ one_slot n low o q some above within above' within' same = elim (cases_lt o q) [
 ]
 
 module _ (b : Superblock) where
-  pub pin_is : (content_of b).pin ≡ b.content.head
+  pub pin_is : (content_of_superblock b).pin ≡ b.content.head
   pin_is = ap (λ (v : ℕ). if v == 2 then b.content.head else b.content.op) b.second
 
-  pin_checksum_is : (content_of b).pin_checksum ≡ number_of b.content.head_checksum
+  pin_checksum_is : (content_of_superblock b).pin_checksum ≡ number_of b.content.head_checksum
   pin_checksum_is = ap (λ (v : ℕ). number_of (if v == 2 then b.content.head_checksum else b.content.op_checksum)) b.second
 
   -- at the head none is above
-  pub names_head : (image : Units) → NamesFrom b image b.content.head (number_of b.content.head_checksum)
+  pub names_head : (image : Units) → NamesPreparesFrom b image b.content.head (number_of b.content.head_checksum)
   names_head image = record { later = []; known = tt; count = omega (arith, pin_is); sum_is = sym pin_checksum_is }
 
   -- and at the checkpoint all are
-  pub names_all : (image : Units) (op sum : ℕ) → NamesFrom b image op sum → op ≡ b.content.op → ShowsNamed b image
+  pub names_all : (image : Units) (op sum : ℕ) → NamesPreparesFrom b image op sum → op ≡ b.content.op → ShowsNamed b image
   names_all image op sum from is = record {
     named = from.later;
-    known = subst (λ (o : ℕ). AreKnown b.file.layout.slots image (o + 1) (content_of b).pin_checksum from.later) is from.known;
-    count = subst (λ (o : ℕ). o + length from.later ≡ (content_of b).pin) is from.count;
+    known = subst (λ (o : ℕ). AreKnown b.file.layout.slots image (o + 1) (content_of_superblock b).pin_checksum from.later) is from.known;
+    count = subst (λ (o : ℕ). o + length from.later ≡ (content_of_superblock b).pin) is from.count;
   }
 
   -- the prepares that are named are within one turn of the ring
-  within : IsUsable b.content → (content_of b).pin ≤ b.content.op + b.file.layout.slots
+  within : IsUsable b.content → (content_of_superblock b).pin ≤ b.content.op + b.file.layout.slots
   within usable = omega (arith, usable.rules.head, b.fields.slots, pin_is)
 
   some : 0 < b.file.layout.slots
   some = (shape b.file).some
 
-  module _ (usable : IsUsable b.content) (t : Told) (op sum : ℕ) (above : b.content.op < op) (from : NamesFrom b (units_of b t.shown) op sum) where
-    up_to_pin : op ≤ (content_of b).pin
+  module _ (usable : IsUsable b.content) (t : Told) (op sum : ℕ) (above : b.content.op < op) (from : NamesPreparesFrom b (superblock_units b t.shown) op sum) where
+    up_to_pin : op ≤ (content_of_superblock b).pin
     up_to_pin = omega (arith, from.count)
 
-    spare : (IsShownAs (units_of b t.shown) Prepare (PreparePlace (op % b.file.layout.slots)) sum → ⊥) → IsSpare (shape b.file) (units_of b t.shown) (content_of b) (PreparePlace (op % b.file.layout.slots))
+    spare : (IsShownAs (superblock_units b t.shown) Prepare (PreparePlace (op % b.file.layout.slots)) sum → ⊥) → IsSparePlace (shape b.file) (superblock_units b t.shown) (content_of_superblock b) (PreparePlace (op % b.file.layout.slots))
     spare lacks = at_kind
       where
-        at_kind : (kind : Kind) (at : Place) (k : ℕ) → IsKnown (shape b.file) (units_of b t.shown) (content_of b) kind at k → IsShownAs (units_of b t.shown) kind at k → at ≡ PreparePlace (op % b.file.layout.slots) → ⊥
+        at_kind : (kind : Kind) (at : Place) (k : ℕ) → IsKnownAt (shape b.file) (superblock_units b t.shown) (content_of_superblock b) kind at k → IsShownAs (superblock_units b t.shown) kind at k → at ≡ PreparePlace (op % b.file.layout.slots) → ⊥
         at_kind Prepare (PreparePlace s) k known shown same =
             let slot : s ≡ op % b.file.layout.slots = cc in
-            let high : known.op ≤ (content_of b).pin = omega (arith, known.count) in
+            let high : known.op ≤ (content_of_superblock b).pin = omega (arith, known.count) in
             let one : known.op ≡ op = one_slot b.file.layout.slots b.content.op known.op op some known.above (omega (arith, high, within usable)) above (omega (arith, up_to_pin, within usable)) (sym known.slot_is ∙ slot) in
-            let there : AreKnown b.file.layout.slots (units_of b t.shown) (op + 1) (content_of b).pin_checksum known.later = subst (λ (o : ℕ). AreKnown b.file.layout.slots (units_of b t.shown) (o + 1) (content_of b).pin_checksum known.later) one known.known in
-            let later : known.later ≡ from.later = known_one b.file.layout.slots (units_of b t.shown) (op + 1) (content_of b).pin_checksum known.later from.later there from.known (omega (arith, known.count, from.count, one)) in
-            let sums : k ≡ sum = known.sum_is ∙ ap (λ (l : List Message). named_by (content_of b).pin_checksum l) later ∙ sym from.sum_is in
-            lacks (subst (λ (n : ℕ). IsShownAs (units_of b t.shown) Prepare (PreparePlace (op % b.file.layout.slots)) n) sums (subst (λ (p : Place). IsShownAs (units_of b t.shown) Prepare p k) same shown))
+            let there : AreKnown b.file.layout.slots (superblock_units b t.shown) (op + 1) (content_of_superblock b).pin_checksum known.later = subst (λ (o : ℕ). AreKnown b.file.layout.slots (superblock_units b t.shown) (o + 1) (content_of_superblock b).pin_checksum known.later) one known.known in
+            let later : known.later ≡ from.later = known_one b.file.layout.slots (superblock_units b t.shown) (op + 1) (content_of_superblock b).pin_checksum known.later from.later there from.known (omega (arith, known.count, from.count, one)) in
+            let sums : k ≡ sum = known.sum_is ∙ ap (λ (l : List Message). named_by (content_of_superblock b).pin_checksum l) later ∙ sym from.sum_is in
+            lacks (subst (λ (n : ℕ). IsShownAs (superblock_units b t.shown) Prepare (PreparePlace (op % b.file.layout.slots)) n) sums (subst (λ (p : Place). IsShownAs (superblock_units b t.shown) Prepare p k) same shown))
         at_kind Trailer (BlockPlace a) k known shown same = cc
         at_kind AsBlock (BlockPlace a) k known shown same = cc
         at_kind Reply (ReplyPlace p) k known shown same = cc
         at_kind kind at k known shown same = absurd known
 
-    named_due : IsDue (shape b.file) (units_of b t.shown) (content_of b) Prepare (PreparePlace (op % b.file.layout.slots)) sum
+    named_due : IsDue (shape b.file) (superblock_units b t.shown) (content_of_superblock b) Prepare (PreparePlace (op % b.file.layout.slots)) sum
     named_due = record { known = record { op = op; above = above; slot_is = refl; later = from.later; known = from.known; count = from.count; sum_is = from.sum_is }; spare = spare }
 
   -- the prepare that is named is mended, and names the one before it
   module _ (usable : IsUsable b.content) (op : ℕ) (check : List ℕ) (above : b.content.op < op) (identity : Identity) (for : IsFor b.file Prepare (PreparePlace (op % b.file.layout.slots)) check identity) (t o : Told) (old new : Outside) (tell : Tell t o old)
-      (from : NamesFrom b (units_of b t.shown) op (number_of check)) where
-    names_on : (held : Holding) (more : ℕ) → MendsDue b Prepare (PreparePlace (op % b.file.layout.slots)) check t o old new (Ok (held, more)) → (m : Told) → new.first ≡ Some m → NamesFrom b (units_of b m.shown) (op - 1) (number_of held.unit.header.parent)
+      (from : NamesPreparesFrom b (superblock_units b t.shown) op (number_of check)) where
+    names_on : (held : Holding) (more : ℕ) → MendsDue b Prepare (PreparePlace (op % b.file.layout.slots)) check t o old new (Ok (held, more)) → (m : Told) → new.first ≡ Some m → NamesPreparesFrom b (superblock_units b m.shown) (op - 1) (number_of held.unit.header.parent)
     names_on held more mends m is =
         let n = b.file.layout.slots in
-        let image = units_of b m.shown in
-        let pin = (content_of b).pin_checksum in
+        let image = superblock_units b m.shown in
+        let pin = (content_of_superblock b).pin_checksum in
         let u = held.unit in
         let shows = mends.shows m is in
         let same : shows.unit ≡ PrepareUnit (message_of u) = same_Some _ _ (sym shows.unit_is) in
         let there : image (PreparePlace (op % n)) ≡ Some (PrepareUnit (message_of u)) = shows.shown ∙ sym shows.unit_is in
         let sum : (message_of u).header.checksum ≡ named_by pin from.later = sym (ap checksum_of same) ∙ shows.sum_is ∙ from.sum_is in
-        let later : AreKnown n image (op + 1) pin from.later = ring_there n (units_of b t.shown) image (op + 1) pin from.later from.known
-        (λ q low high. other_place b.file (content_of b) t o m new.first old.written new.written tell.whole is (PreparePlace (q % n)) Prepare (PreparePlace (op % n)) more mends.answers
+        let later : AreKnown n image (op + 1) pin from.later = ring_there n (superblock_units b t.shown) image (op + 1) pin from.later from.known
+        (λ q low high. other_place b.file (content_of_superblock b) t o m new.first old.written new.written tell.whole is (PreparePlace (q % n)) Prepare (PreparePlace (op % n)) more mends.answers
         (λ (one : PreparePlace (op % n) ≡ PreparePlace (q % n)). mod_apart n op q some (omega (arith, low)) (omega (arith, high, from.count, within usable, above)) (cc))) in
         let one : op ≡ (op - 1) + 1 = omega (arith, above) in
         record {
@@ -123,11 +123,11 @@ module _ (b : Superblock) where
     due result mends shown = due_mended b Prepare (PreparePlace (op % b.file.layout.slots)) check identity for t o old new tell (named_due usable t op (number_of check) above from) result mends shown
 
     pub prepare_mended : (held : Holding) (more : ℕ) → MendsUnit Prepare identity old new (Ok more) → HoldsShown Prepare identity old.first new.first held → (h : Header) → h ≡ held.unit.header
-        → Mended b (AreOfKind Prepare) t o old new (Ok more) (λ image. NamesFrom b image (op - 1) (number_of h.parent))
+        → Mended b (AreOfKind Prepare) t o old new (Ok more) (λ image. NamesPreparesFrom b image (op - 1) (number_of h.parent))
     prepare_mended held more mends shown h is =
         let it = due (Ok (held, more)) mends shown in
-        of_one b Prepare (PreparePlace (op % b.file.layout.slots)) t o old new (Ok more) (λ image. NamesFrom b image (op - 1) (number_of h.parent)) it.answers
-        (λ m there. subst (λ (x : Header). NamesFrom b (units_of b m.shown) (op - 1) (number_of x.parent)) (sym is) (names_on held more it m there))
+        of_one b Prepare (PreparePlace (op % b.file.layout.slots)) t o old new (Ok more) (λ image. NamesPreparesFrom b image (op - 1) (number_of h.parent)) it.answers
+        (λ m there. subst (λ (x : Header). NamesPreparesFrom b (superblock_units b m.shown) (op - 1) (number_of x.parent)) (sym is) (names_on held more it m there))
 
     pub prepare_failed : (e : Ending) → MendsUnit Prepare identity old new (Err e) → Mended b (AreOfKind Prepare) t o old new (Err e) (λ image. Unit {0})
     prepare_failed e mends = of_one b Prepare (PreparePlace (op % b.file.layout.slots)) t o old new (Err e) (λ image. Unit {0}) (due (Err e) mends tt).answers (λ m is. tt)

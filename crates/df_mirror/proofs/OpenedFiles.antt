@@ -25,9 +25,9 @@ use Rattle.df_damage.specs.Histories as histories
 use Rattle.df_damage.specs.Histories.{MayReopen, units_logs}
 use Rattle.df_damage.proofs.Laws.{found_is_not_refused_as}
 use Rattle.df_opening.specs.Below.{DataFile, shape}
-use Rattle.df_mirror.specs.Known.{AllShown, IsNamed, IsRecorded}
+use Rattle.df_mirror.specs.Known.{AllShown, IsNamedPrepare, IsRecordedReply}
 use Rattle.df_mirror.specs.Laws.{HasWoken, IsHurtKnown, MirroredIsOpened, NoneCameBack}
-use Rattle.df_mirror.specs.Mends.{units_in}
+use Rattle.df_mirror.specs.Mends.{units_shown}
 use Rattle.df_mirror.proofs.OpenedKnown.{reply_of}
 use Rattle.df_mirror.proofs.OpenedPasts.{raised_own}
 use Rattle.df_mirror.proofs.OpenedPlaces.{IsMendedAt, known_prepare, known_reply, mends_left, no_copy, no_header, place_left}
@@ -35,45 +35,45 @@ use Rattle.df_mirror.proofs.OpenedViews.{IsNamedSlot, IsRecordedAnew, ShowsLeft,
 
 -- after mends a place shows what it did, or a unit that was mended there
 abbrev IsMendedOr : DataFile → Content → (old new : Image) → Place → Type 0
-IsMendedOr file c old new place = (units_in file new place ≡ units_in file old place) ⊎ IsMendedAt file c place (units_in file old place) (units_in file new place)
+IsMendedOr file c old new place = (units_shown file new place ≡ units_shown file old place) ⊎ IsMendedAt file c place (units_shown file old place) (units_shown file new place)
 
-named_slot : (file : DataFile) (image : Units) (c : Content) (s sum : ℕ) → IsNamed (shape file) image c s sum → IsNamedSlot (shape file) c s
+named_slot : (file : DataFile) (image : Units) (c : Content) (s sum : ℕ) → IsNamedPrepare (shape file) image c s sum → IsNamedSlot (shape file) c s
 named_slot file image c s sum named = (named.op, named.above, omega (arith, named.count), named.slot_is)
 
 -- ---- what was left
 
 module _ (file : DataFile) (c : Content) (t : Told) (hurt : IsHurtKnown file c t) (shown : Image) (mended : (place : Place) → IsMendedOr file c t.shown shown place) where
   abbrev was : Units
-  was = units_in file (logs.now t.log)
+  was = units_shown file (logs.now t.log)
 
-  header_left : (s : ℕ) → units_in file shown (HeaderPlace s) ≡ was (HeaderPlace s)
+  header_left : (s : ℕ) → units_shown file shown (HeaderPlace s) ≡ was (HeaderPlace s)
   header_left s = elim (mended (HeaderPlace s)) [
     | inl same ↦ elim (place_left file c t hurt (HeaderPlace s) (λ zone. let both : WalHeaders ≡ Superblock = zone in cc)) [
       | inl left ↦ same ∙ left
       | inr known ↦ absurd (no_header (shape file) was c known.0 s known.1 known.2)
     ]
-    | inr m ↦ absurd (no_header (shape file) (units_in file m.first.image) c m.first.kind s m.first.sum m.first.known)
+    | inr m ↦ absurd (no_header (shape file) (units_shown file m.first.image) c m.first.kind s m.first.sum m.first.known)
   ]
 
-  prepare_left : (s : ℕ) → (units_in file shown (PreparePlace s) ≡ was (PreparePlace s)) ⊎ IsNamedSlot (shape file) c s
+  prepare_left : (s : ℕ) → (units_shown file shown (PreparePlace s) ≡ was (PreparePlace s)) ⊎ IsNamedSlot (shape file) c s
   prepare_left s = elim (mended (PreparePlace s)) [
     | inl same ↦ elim (place_left file c t hurt (PreparePlace s) (λ zone. let both : WalPrepares ≡ Superblock = zone in cc)) [
       | inl left ↦ inl (same ∙ left)
       | inr known ↦ inr (named_slot file was c s known.1 (known_prepare (shape file) was c known.0 s known.1 known.2))
     ]
-    | inr m ↦ inr (named_slot file (units_in file m.first.image) c s m.first.sum (known_prepare (shape file) (units_in file m.first.image) c m.first.kind s m.first.sum m.first.known))
+    | inr m ↦ inr (named_slot file (units_shown file m.first.image) c s m.first.sum (known_prepare (shape file) (units_shown file m.first.image) c m.first.kind s m.first.sum m.first.known))
   ]
 
-  reply_place : (k : ℕ) → (units_in file t.shown (ReplyPlace k) ≡ was (ReplyPlace k)) ⊎ ((sum : ℕ) × IsRecorded (shape file) was c k sum)
+  reply_place : (k : ℕ) → (units_shown file t.shown (ReplyPlace k) ≡ was (ReplyPlace k)) ⊎ ((sum : ℕ) × IsRecordedReply (shape file) was c k sum)
   reply_place k = elim (place_left file c t hurt (ReplyPlace k) (λ zone. let both : ClientReplies ≡ Superblock = zone in cc)) [
     | inl left ↦ inl left
     | inr known ↦ inr (known.1, (known_reply (shape file) was c known.0 k known.1 known.2).1)
   ]
 
-  recorded_anew : (k : ℕ) → IsMendedAt file c (ReplyPlace k) (units_in file t.shown (ReplyPlace k)) (units_in file shown (ReplyPlace k)) → IsRecordedAnew was (units_in file shown) c k
+  recorded_anew : (k : ℕ) → IsMendedAt file c (ReplyPlace k) (units_shown file t.shown (ReplyPlace k)) (units_shown file shown (ReplyPlace k)) → IsRecordedAnew was (units_shown file shown) c k
   recorded_anew k m =
-      let first = known_reply (shape file) (units_in file m.first.image) c m.first.kind k m.first.sum m.first.known in
-      let last = known_reply (shape file) (units_in file m.last.image) c m.last.kind k (checksum_of m.last.unit) m.last.known in
+      let first = known_reply (shape file) (units_shown file m.first.image) c m.first.kind k m.first.sum m.first.known in
+      let last = known_reply (shape file) (units_shown file m.last.image) c m.last.kind k (checksum_of m.last.unit) m.last.known in
       let r = reply_of m.last.unit (subst (λ (kind : Kind). IsOfKind kind m.last.unit) last.0 m.last.of_kind) in
       record {
         reply = r.0;
@@ -85,36 +85,36 @@ module _ (file : DataFile) (c : Content) (t : Told) (hurt : IsHurtKnown file c t
         ];
       }
 
-  reply_left : (k : ℕ) → (units_in file shown (ReplyPlace k) ≡ was (ReplyPlace k)) ⊎ IsRecordedAnew was (units_in file shown) c k ⊎ ((sum : ℕ) × IsRecorded (shape file) was c k sum)
+  reply_left : (k : ℕ) → (units_shown file shown (ReplyPlace k) ≡ was (ReplyPlace k)) ⊎ IsRecordedAnew was (units_shown file shown) c k ⊎ ((sum : ℕ) × IsRecordedReply (shape file) was c k sum)
   reply_left k = elim (mended (ReplyPlace k)) [
     | inl same ↦ elim (reply_place k) [ inl left ↦ inl (same ∙ left) | inr known ↦ inr (inr known) ]
     | inr m ↦ inr (inl (recorded_anew k m))
   ]
 
-  pub shows_left : ShowsLeft (shape file) was (units_in file shown) c
+  pub shows_left : ShowsLeft (shape file) was (units_shown file shown) c
   shows_left = record { headers = header_left; prepares = prepare_left; replies = reply_left }
 
 -- ---- what is found
 
-module _ (file : DataFile) (view : View) (t : Told) (older : List Log) (shown : Image) (found : IsFound (shape file) (units_in file (logs.now t.log)) view) (may : MayReopen file t.log older shown) where
+module _ (file : DataFile) (view : View) (t : Told) (older : List Log) (shown : Image) (found : IsFound (shape file) (units_shown file (logs.now t.log)) view) (may : MayReopen file t.log older shown) where
   abbrev log : UnitLog
-  log = histories.units_in file (logs.add Sync t.log)
+  log = histories.unit_log_in file (logs.add Sync t.log)
 
-  now_is : now log ≡ units_in file (logs.now t.log)
+  now_is : now log ≡ units_shown file (logs.now t.log)
   now_is = now_units (format_of file.layout file.cluster) t.log.start (Sync ∷ t.log.events)
 
-  starts : MayStart log (units_logs file older) (units_in file shown)
+  starts : MayStart log (units_logs file older) (units_shown file shown)
   starts = record {
-    settled_is = synced_settled (histories.units_in file t.log);
+    settled_is = synced_settled (histories.unit_log_in file t.log);
     chance = may.chance;
-    copies = subst (λ (was : Units). MayHurtCopies was (units_in file shown)) (sym now_is) may.copies;
+    copies = subst (λ (was : Units). MayHurtCopies was (units_shown file shown)) (sym now_is) may.copies;
   }
 
   -- the superblock that is chosen is the view's, which the log left
-  pub stays : (c : Content) → IsChosen (units_in file shown) c → (c ≡ view.checkpoint.content) × Holds (shape file) (now log) view
+  pub stays : (c : Content) → IsChosen (units_shown file shown) c → (c ≡ view.checkpoint.content) × Holds (shape file) (now log) view
   stays c chosen =
-      let from = choice_stays_law (shape file) log (units_logs file older) (units_in file shown) c may.lived starts chosen in
-      let same : from.view ≡ view = one_found_law (shape file) (units_in file (logs.now t.log)) from.view view (holds_found (shape file) (units_in file (logs.now t.log)) from.view (subst (λ (was : Units). Holds (shape file) was from.view) now_is from.holds)) found in
+      let from = choice_stays_law (shape file) log (units_logs file older) (units_shown file shown) c may.lived starts chosen in
+      let same : from.view ≡ view = one_found_law (shape file) (units_shown file (logs.now t.log)) from.view view (holds_found (shape file) (units_shown file (logs.now t.log)) from.view (subst (λ (was : Units). Holds (shape file) was from.view) now_is from.holds)) found in
       (from.content ∙ ap (λ (v : View). v.checkpoint.content) same, subst (λ (v : View). Holds (shape file) (now log) v) same from.holds)
 
   own_by : (rest : List Log) → IsLived (shape file) (log ∷ units_logs file rest) → HasWoken file t.log rest → Holds (shape file) (now log) view → (k : ℕ) (r : Message) → r.header.boot ≡ boot_of view
@@ -122,36 +122,36 @@ module _ (file : DataFile) (view : View) (t : Told) (older : List Log) (shown : 
   own_by [] lived woken holds k r boot (inl pool) = pool
   own_by [] lived woken holds k r boot (inr none) = absurd none
   own_by (before ∷ rest) lived woken holds k r boot pool =
-      raised_own (shape file) (histories.units_in file t.log) (histories.units_in file before) (units_logs file rest) view woken lived holds k r boot pool
+      raised_own (shape file) (histories.unit_log_in file t.log) (histories.unit_log_in file before) (units_logs file rest) view woken lived holds k r boot pool
 
   module _ (hurt : IsHurtKnown file view.checkpoint.content t) (own : HasWoken file t.log older ⊎ NoneCameBack file view.checkpoint.content (logs.now t.log) shown) (mended : (place : Place) → IsMendedOr file view.checkpoint.content t.shown shown place)
-      (chosen : IsChosen (units_in file shown) view.checkpoint.content) (all : AllShown (shape file) (units_in file shown) view.checkpoint.content) where
-    own_replies : ShowsOwn log (units_in file shown) view ⊎ ShowsNoNewer (now log) (units_in file shown) view
+      (chosen : IsChosen (units_shown file shown) view.checkpoint.content) (all : AllShown (shape file) (units_shown file shown) view.checkpoint.content) where
+    own_replies : ShowsOwn log (units_shown file shown) view ⊎ ShowsNoNewer (now log) (units_shown file shown) view
     own_replies = elim own [
       | inl woken ↦ inl (λ k r at boot. own_by older may.lived woken (stays view.checkpoint.content chosen).1 k r boot (may.chance.pooled (ReplyPlace k) (ReplyUnit r) at))
       | inr none ↦ inr (λ k r at boot above. ap (λ (was : Units). was (ReplyPlace k)) now_is ∙ none k r at boot above)
     ]
 
-    pub mended_found : IsFound (shape file) (units_in file shown) view
+    pub mended_found : IsFound (shape file) (units_shown file shown) view
     mended_found =
-        holds_found (shape file) (units_in file shown) view
-        (left_holds (shape file) may.version log (units_logs file older) view (units_in file shown) may.lived starts (stays view.checkpoint.content chosen).1 (of_places file.layout file.cluster file.named (parse_of (layout_of file.layout)) shown may.whole) chosen all
-        (subst (λ (was : Units). ShowsLeft (shape file) was (units_in file shown) view.checkpoint.content) (sym now_is) (shows_left file view.checkpoint.content t hurt shown mended)) own_replies)
+        holds_found (shape file) (units_shown file shown) view
+        (left_holds (shape file) may.version log (units_logs file older) view (units_shown file shown) may.lived starts (stays view.checkpoint.content chosen).1 (of_places file.layout file.cluster file.named (parse_of (layout_of file.layout)) shown may.whole) chosen all
+        (subst (λ (was : Units). ShowsLeft (shape file) was (units_shown file shown) view.checkpoint.content) (sym now_is) (shows_left file view.checkpoint.content t hurt shown mended)) own_replies)
 
 -- ---- the law
 
 -- the copies are those that were shown before the mends
-copy_same : (file : DataFile) (c : Content) (old new : Image) → ((place : Place) → IsMendedOr file c old new place) → (n : ℕ) → units_in file new (CopyPlace n) ≡ units_in file old (CopyPlace n)
+copy_same : (file : DataFile) (c : Content) (old new : Image) → ((place : Place) → IsMendedOr file c old new place) → (n : ℕ) → units_shown file new (CopyPlace n) ≡ units_shown file old (CopyPlace n)
 copy_same file c old new mended n = elim (mended (CopyPlace n)) [
   | inl same ↦ same
-  | inr m ↦ absurd (no_copy (shape file) (units_in file m.first.image) c m.first.kind n m.first.sum m.first.known)
+  | inr m ↦ absurd (no_copy (shape file) (units_shown file m.first.image) c m.first.kind n m.first.sum m.first.known)
 ]
 
 pub mirrored_is_opened : MirroredIsOpened
 mirrored_is_opened file view c second t n older ms found unspent hurt may own whole chosen are is all =
     let mended : (place : Place) → IsMendedOr file c t.shown n.shown place = λ place. subst (λ (m : Told). IsMendedOr file c t.shown m.shown place) (sym is) (mends_left file c second (did Sync t) ms are whole place) in
-    let stays_chosen : IsChosen (units_in file n.shown) c = chosen_same (units_in file t.shown) (units_in file n.shown) c (copy_same file c t.shown n.shown mended) chosen in
+    let stays_chosen : IsChosen (units_shown file n.shown) c = chosen_same (units_shown file t.shown) (units_shown file n.shown) c (copy_same file c t.shown n.shown mended) chosen in
     let same : c ≡ view.checkpoint.content = (stays file view t older n.shown found may c stays_chosen).0 in
-    let opened : IsFound (shape file) (units_in file n.shown) view = mended_found file view t older n.shown found may hurt own (subst (λ (d : Content). (place : Place) → IsMendedOr file d t.shown n.shown place) same mended)
-    (subst (λ (d : Content). IsChosen (units_in file n.shown) d) same stays_chosen) (subst (λ (d : Content). AllShown (shape file) (units_in file n.shown) d) same all) in
+    let opened : IsFound (shape file) (units_shown file n.shown) view = mended_found file view t older n.shown found may hurt own (subst (λ (d : Content). (place : Place) → IsMendedOr file d t.shown n.shown place) same mended)
+    (subst (λ (d : Content). IsChosen (units_shown file n.shown) d) same stays_chosen) (subst (λ (d : Content). AllShown (shape file) (units_shown file n.shown) d) same all) in
     (opened, found_is_not_refused_as 2 file n.shown view (inr refl) may.version unspent may.whole opened)

@@ -13,7 +13,7 @@ use Rattle.df_theory.specs.Tails.{Chain, In, last_checksum}
 use Rattle.df_theory.specs.Trailer.{InChain, IsCount, Links}
 use Rattle.df_theory.proofs.Laws.{arrives_more, links_more}
 use Rattle.df_units.specs.Wanted.{IsOfKind, checksum_of}
-use Rattle.df_mirror.specs.Known.{AllShown, IsNamed, IsShownAs, ShowsTrailer}
+use Rattle.df_mirror.specs.Known.{AllShown, IsNamedPrepare, IsShownAs, ShowsTrailer}
 
 -- ---- units of a kind
 
@@ -95,7 +95,7 @@ module _ (sh : Shape) (was shown : Units) (c : Content) (places : AreOfPlaces sh
   first_named (suc k) clients op mark ss p (q ∷ ps) chain size ends = sym chain.0.parent_is
 
   -- the named prepare is the one that was shown there
-  prepare_same : (op sum : ℕ) (p : Message) → p.header.op ≡ op → p.header.checksum ≡ sum → was (PreparePlace (p.header.op % sh.layout.slots)) ≡ Some (PrepareUnit p) → IsNamed sh shown c (op % sh.layout.slots) sum
+  prepare_same : (op sum : ℕ) (p : Message) → p.header.op ≡ op → p.header.checksum ≡ sum → was (PreparePlace (p.header.op % sh.layout.slots)) ≡ Some (PrepareUnit p) → IsNamedPrepare sh shown c (op % sh.layout.slots) sum
       → (was (PreparePlace (op % sh.layout.slots)) ≡ Some (PrepareUnit p)) × (shown (PreparePlace (op % sh.layout.slots)) ≡ Some (PrepareUnit p))
   prepare_same op sum p ops sums had named =
       let q = prepare_shown sh shown (op % sh.layout.slots) sum places (all AsPrepare (PreparePlace (op % sh.layout.slots)) sum named) in

@@ -152,7 +152,7 @@ pooled_settled log sync place x (inr written) = absurd (sync.writes place x writ
 same_low : (w v : View) → w ≡ v → (boot_of w ≤ boot_of v) × (sequence w ≤ sequence v)
 same_low w v same = (omega (arith, ap boot_of same), omega (arith, ap sequence same))
 
--- the views of a log that was begun anew are no older than that of its start
+-- the views of a log that was restarted are no older than that of its start
 pub among_low : (sh : Shape) (rest images : List Units) (v : View) → GrowsOn sh rest images v → (i : Units) → Among images i → (w : View) → Holds sh i w → (boot_of w ≤ boot_of v) × (sequence w ≤ sequence v)
 among_low sh rest [] v grows i among w holds = absurd among
 among_low sh rest (image ∷ []) v grows i (inl is) w holds = same_low w v (one_view sh image w v (subst (λ (j : Units). Holds sh j w) is holds) grows)

@@ -26,9 +26,9 @@ use Rattle.df_units.proofs.Laws.{is_format}
 use Rattle.df_damage.specs.Anew.{told_after}
 use Rattle.df_damage.specs.Hurt.{IsUnhurt}
 use Rattle.df_opening.specs.Below.{DataFile, shape}
-use Rattle.df_mirror.specs.Known.{IsKnown, IsNamed, IsRecorded}
+use Rattle.df_mirror.specs.Known.{IsKnownAt, IsNamedPrepare, IsRecordedReply}
 use Rattle.df_mirror.specs.Laws.{IsHurtKnown, IsOfKnown}
-use Rattle.df_mirror.specs.Mends.{AreMends, Mend, events_of, units_in}
+use Rattle.df_mirror.specs.Mends.{AreMends, Mend, mirrored_events, units_shown}
 
 -- ---- where units are known
 
@@ -42,21 +42,21 @@ each_kind P reserved prepare reply block trailer kinds.Trailer = trailer
 
 module _ (sh : Shape) (image : Units) (c : Content) where
   -- none is in the superblock or in the header ring
-  pub no_copy : (kind : Kind) (n sum : ℕ) → IsKnown sh image c kind (CopyPlace n) sum → ⊥
-  no_copy kind n sum = each_kind (λ k. IsKnown sh image c k (CopyPlace n) sum → ⊥) (λ none. none) (λ none. none) (λ none. none) (λ none. none) (λ none. none) kind
+  pub no_copy : (kind : Kind) (n sum : ℕ) → IsKnownAt sh image c kind (CopyPlace n) sum → ⊥
+  no_copy kind n sum = each_kind (λ k. IsKnownAt sh image c k (CopyPlace n) sum → ⊥) (λ none. none) (λ none. none) (λ none. none) (λ none. none) (λ none. none) kind
 
-  pub no_header : (kind : Kind) (s sum : ℕ) → IsKnown sh image c kind (HeaderPlace s) sum → ⊥
-  no_header kind s sum = each_kind (λ k. IsKnown sh image c k (HeaderPlace s) sum → ⊥) (λ none. none) (λ none. none) (λ none. none) (λ none. none) (λ none. none) kind
+  pub no_header : (kind : Kind) (s sum : ℕ) → IsKnownAt sh image c kind (HeaderPlace s) sum → ⊥
+  no_header kind s sum = each_kind (λ k. IsKnownAt sh image c k (HeaderPlace s) sum → ⊥) (λ none. none) (λ none. none) (λ none. none) (λ none. none) (λ none. none) kind
 
-  pub known_prepare : (kind : Kind) (s sum : ℕ) → IsKnown sh image c kind (PreparePlace s) sum → IsNamed sh image c s sum
+  pub known_prepare : (kind : Kind) (s sum : ℕ) → IsKnownAt sh image c kind (PreparePlace s) sum → IsNamedPrepare sh image c s sum
   known_prepare kind s sum =
-      each_kind (λ k. IsKnown sh image c k (PreparePlace s) sum → IsNamed sh image c s sum) (λ none. absurd none) (λ known. known) (λ none. absurd none) (λ none. absurd none) (λ none. absurd none) kind
+      each_kind (λ k. IsKnownAt sh image c k (PreparePlace s) sum → IsNamedPrepare sh image c s sum) (λ none. absurd none) (λ known. known) (λ none. absurd none) (λ none. absurd none) (λ none. absurd none) kind
 
-  pub known_reply : (kind : Kind) (k sum : ℕ) → IsKnown sh image c kind (ReplyPlace k) sum → (kind ≡ kinds.Reply) × IsRecorded sh image c k sum
+  pub known_reply : (kind : Kind) (k sum : ℕ) → IsKnownAt sh image c kind (ReplyPlace k) sum → (kind ≡ kinds.Reply) × IsRecordedReply sh image c k sum
   known_reply kind k sum =
-      each_kind (λ j. IsKnown sh image c j (ReplyPlace k) sum → (j ≡ kinds.Reply) × IsRecorded sh image c k sum) (λ none. absurd none) (λ none. absurd none) (λ known. (refl, known)) (λ none. absurd none) (λ none. absurd none) kind
+      each_kind (λ j. IsKnownAt sh image c j (ReplyPlace k) sum → (j ≡ kinds.Reply) × IsRecordedReply sh image c k sum) (λ none. absurd none) (λ none. absurd none) (λ known. (refl, known)) (λ none. absurd none) (λ none. absurd none) kind
 
-  outside_header : (kind : Kind) (place : Place) (sum : ℕ) → IsKnown sh image c kind place sum → (place_of place).zone ≡ WalHeaders → ⊥
+  outside_header : (kind : Kind) (place : Place) (sum : ℕ) → IsKnownAt sh image c kind place sum → (place_of place).zone ≡ WalHeaders → ⊥
   outside_header kind (CopyPlace n) sum known zone = no_copy kind n sum known
   outside_header kind (HeaderPlace s) sum known zone = no_header kind s sum known
   outside_header kind (PreparePlace s) sum known zone = (let both : WalPrepares ≡ WalHeaders = zone in cc)
@@ -130,7 +130,7 @@ module _ (file : DataFile) (c : Content) (t : Told) (hurt : IsHurtKnown file c t
   ]
 
   -- a place beside the superblock shows what was left, or a unit is known there
-  pub place_left : (place : Place) → ((place_of place).zone ≡ Superblock → ⊥) → (units_in file t.shown place ≡ units_in file (now t.log) place) ⊎ ((kind : Kind) × (sum : ℕ) × IsKnown (shape file) (units_in file (now t.log)) c kind place sum)
+  pub place_left : (place : Place) → ((place_of place).zone ≡ Superblock → ⊥) → (units_shown file t.shown place ≡ units_shown file (now t.log) place) ⊎ ((kind : Kind) × (sum : ℕ) × IsKnownAt (shape file) (units_shown file (now t.log)) c kind place sum)
   place_left place beside = elim (cases_Bool (has_place file.layout place)) [
     | inl there ↦ elim (search (span_at file.layout place).first (span_at file.layout place).count) [
       | inl found ↦ inr (known_there there found.0 found.1 found.2 found.3)
@@ -139,17 +139,17 @@ module _ (file : DataFile) (c : Content) (t : Told) (hurt : IsHurtKnown file c t
     | inr outside ↦ inl (local (λ sector here. absurd (let yes = (inside_span file.layout place sector here).0 in let both : true ≡ false = sym yes ∙ outside in cc)))
   ]
     where
-      local : ((sector : ℕ) → has file.layout place sector ≡ true → IsUnhurt t sector) → units_in file t.shown place ≡ units_in file (now t.log) place
+      local : ((sector : ℕ) → has file.layout place sector ≡ true → IsUnhurt t sector) → units_shown file t.shown place ≡ units_shown file (now t.log) place
       local same = (is_format file.layout file.cluster).local t.shown (now t.log) place same
 
       known_there : has_place file.layout place ≡ true → (sector : ℕ) → (span_at file.layout place).first ≤ sector → sector < (span_at file.layout place).first + (span_at file.layout place).count → MayBeHurt sector
-          → (kind : Kind) × (sum : ℕ) × IsKnown (shape file) (units_in file (now t.log)) c kind place sum
+          → (kind : Kind) × (sum : ℕ) × IsKnownAt (shape file) (units_shown file (now t.log)) c kind place sum
       known_there there sector from below (inl copy) =
           absurd (omega (arith, behind_copies file.layout (place_of place).zone beside, (lies_inside file.layout (place_of place) (has-true file.layout (place_of place).zone (place_of place).index there)).begins))
       known_there there sector from below (inr of) =
           let here : has file.layout place sector ≡ true = and_from _ _ there (and_from _ _ (le-leb (span_at file.layout place).first sector from) (lt-ltb sector ((span_at file.layout place).first + (span_at file.layout place).count) below)) in
-          let same = one_place file.layout place of.place sector (outside_header (shape file) (units_in file (now t.log)) c of.kind of.place of.sum of.known) here of.has_it in
-          (of.kind, of.sum, subst (λ (p : Place). IsKnown (shape file) (units_in file (now t.log)) c of.kind p of.sum) (sym same) of.known)
+          let same = one_place file.layout place of.place sector (outside_header (shape file) (units_shown file (now t.log)) c of.kind of.place of.sum of.known) here of.has_it in
+          (of.kind, of.sum, subst (λ (p : Place). IsKnownAt (shape file) (units_shown file (now t.log)) c of.kind p of.sum) (sym same) of.known)
 
 -- ---- mends
 
@@ -158,8 +158,8 @@ pub record WasKnown (file : DataFile) (c : Content) (place : Place) (old : Optio
   pub image : Image
   pub kind : Kind
   pub sum : ℕ
-  pub known : IsKnown (shape file) (units_in file image) c kind place sum
-  pub old_is : units_in file image place ≡ old
+  pub known : IsKnownAt (shape file) (units_shown file image) c kind place sum
+  pub old_is : units_shown file image place ≡ old
 
 -- the place shows a unit that was known there
 pub record WasPut (file : DataFile) (c : Content) (place : Place) (new : Option AnyUnit) : Type 0 where
@@ -167,7 +167,7 @@ pub record WasPut (file : DataFile) (c : Content) (place : Place) (new : Option 
   pub kind : Kind
   pub unit : AnyUnit
   pub of_kind : IsOfKind kind unit
-  pub known : IsKnown (shape file) (units_in file image) c kind place (checksum_of unit)
+  pub known : IsKnownAt (shape file) (units_shown file image) c kind place (checksum_of unit)
   pub new_is : new ≡ Some unit
 
 -- units were mended there, the first as the place showed what it did at first, and the last is shown
@@ -177,28 +177,28 @@ pub record IsMendedAt (file : DataFile) (c : Content) (place : Place) (old new :
 
 -- after mends a place shows what it did, or a unit that was mended there
 pub mends_left : (file : DataFile) (c : Content) (second : Image) (t : Told) (ms : List Mend) → AreMends file c second t ms → IsImage t.shown → (place : Place)
-    → (units_in file (told_after (events_of file ms) t).shown place ≡ units_in file t.shown place) ⊎ IsMendedAt file c place (units_in file t.shown place) (units_in file (told_after (events_of file ms) t).shown place)
+    → (units_shown file (told_after (mirrored_events file ms) t).shown place ≡ units_shown file t.shown place) ⊎ IsMendedAt file c place (units_shown file t.shown place) (units_shown file (told_after (mirrored_events file ms) t).shown place)
 mends_left file c second t [] are whole place = inl refl
 mends_left file c second t (m ∷ ms) are whole place =
     go (put_one m.place m.unit place) refl (mends_left file c second next ms are.1 (written_is_image (first_at file.layout m.place) m.bytes t.shown are.0.puts.piece whole) place)
   where
     next : Told
-    next = told_after (events_of file (m ∷ [])) t
+    next = told_after (mirrored_events file (m ∷ [])) t
 
     old : Option AnyUnit
-    old = units_in file t.shown place
+    old = units_shown file t.shown place
 
     new : Option AnyUnit
-    new = units_in file (told_after (events_of file (m ∷ ms)) t).shown place
+    new = units_shown file (told_after (mirrored_events file (m ∷ ms)) t).shown place
 
-    shows : (o : Option AnyUnit) → put_one m.place m.unit place ≡ o → units_in file next.shown place ≡ or_else o old
+    shows : (o : Option AnyUnit) → put_one m.place m.unit place ≡ o → units_shown file next.shown place ≡ or_else o old
     shows o put = are.0.puts.shows t.shown place whole ∙ ap (λ (p : Option AnyUnit). or_else p old) put
 
-    go : (o : Option AnyUnit) → put_one m.place m.unit place ≡ o → (new ≡ units_in file next.shown place) ⊎ IsMendedAt file c place (units_in file next.shown place) new → (new ≡ old) ⊎ IsMendedAt file c place old new
+    go : (o : Option AnyUnit) → put_one m.place m.unit place ≡ o → (new ≡ units_shown file next.shown place) ⊎ IsMendedAt file c place (units_shown file next.shown place) new → (new ≡ old) ⊎ IsMendedAt file c place old new
     go None put rest = subst (λ (o : Option AnyUnit). (new ≡ o) ⊎ IsMendedAt file c place o new) (shows None put) rest
     go (Some y) put rest =
         let is = (put_one_law m.place m.unit).only place y put in
-        let known : IsKnown (shape file) (units_in file t.shown) c m.kind place (checksum_of m.unit) = subst (λ (p : Place). IsKnown (shape file) (units_in file t.shown) c m.kind p (checksum_of m.unit)) (sym is.0) are.0.known in
+        let known : IsKnownAt (shape file) (units_shown file t.shown) c m.kind place (checksum_of m.unit) = subst (λ (p : Place). IsKnownAt (shape file) (units_shown file t.shown) c m.kind p (checksum_of m.unit)) (sym is.0) are.0.known in
         inr (record {
           first = record { image = t.shown; kind = m.kind; sum = checksum_of m.unit; known = known; old_is = refl };
           last = elim rest [

@@ -14,10 +14,10 @@ use Rattle.df_mirror.specs.declared.ending.Ending.TheVariants.{First, Neither, S
 use Rattle.df_mirror.specs.declared.status.Status.{Status}
 use Rattle.df_mirror.specs.declared.status.Status.TheVariants as ends
 use Rattle.df_mirror.specs.Laws.{MendedIsOpened}
-use Rattle.df_mirror.specs.Mends.{Answers, AreInOrder, Came, units_in}
-use Rattle.df_mirror.specs.Run.{Tells}
+use Rattle.df_mirror.specs.Mends.{AnswersMending, AreInOrder, Came, units_shown}
+use Rattle.df_mirror.specs.Run.{TellsEnd}
 use Rattle.df_mirror.specs.Texts.{neither_text}
-use Rattle.df_mirror.specs.Walks.{content_of}
+use Rattle.df_mirror.specs.Walks.{content_of_superblock}
 use Rattle.df_mirror.proofs.OpenedFiles.{mirrored_is_opened}
 
 -- the two statuses of a run that came to its end
@@ -29,7 +29,7 @@ neither status (inl done) one two = one done
 neither status (inr found) one two = two found
 
 -- only of so many units
-ends_well : (result : Result ℕ Ending) (old new : Option (List ℕ)) (status : Status) → Tells result old new status → EndsWell status → (count : ℕ) × (result ≡ Ok count)
+ends_well : (result : Result ℕ Ending) (old new : Option (List ℕ)) (status : Status) → TellsEnd result old new status → EndsWell status → (count : ℕ) × (result ≡ Ok count)
 ends_well (Ok count) old new status tells well = (count, refl)
 ends_well (Err (Neither place class)) old new status tells well = absurd (neither status well (text_ends ends.WriteFault (neither_text place class) ends.Refused ends.Done old new status tells (λ no. cc) (λ no. cc))
     (text_ends ends.WriteFault (neither_text place class) ends.Refused ends.Found old new status tells (λ no. cc) (λ no. cc)))
@@ -42,9 +42,9 @@ ends_well (Err Sink) old new status tells well = let is = tells.0 in absurd (nei
 pub mended_is_opened : MendedIsOpened
 mended_is_opened view t o n logs old new status is tell well told found unspent hurt may own =
     let b = is.base in
-    let c = content_of b in
+    let c = content_of_superblock b in
     let end = ends_well is.mirrored.result is.mirrored.text new.written status is.mirrored.tells well in
-    let came : Came b.file c AreInOrder (did Sync t) o new.first old.written is.mirrored.text (λ ms after. end.0 ≡ _) = subst (λ (r : Result ℕ Ending). Answers b.file c AreInOrder (did Sync t) o new.first old.written is.mirrored.text r) end.1 is.mirrored.answers in
+    let came : Came b.file c AreInOrder (did Sync t) o new.first old.written is.mirrored.text (λ ms after. end.0 ≡ _) = subst (λ (r : Result ℕ Ending). AnswersMending b.file c AreInOrder (did Sync t) o new.first old.written is.mirrored.text r) end.1 is.mirrored.answers in
     let after : came.after ≡ n = same_Some came.after n (sym came.after_is ∙ told) in
-    let chosen : IsChosen (units_in b.file t.shown) c = choice_chosen b.file.layout b.file.cluster t.shown (content_with b.content) tell.whole (super_is_written_as b.file.version t.shown b.content tell.whole is.has.super) in
+    let chosen : IsChosen (units_shown b.file t.shown) c = choice_chosen b.file.layout b.file.cluster t.shown (content_with b.content) tell.whole (super_is_written_as b.file.version t.shown b.content tell.whole is.has.super) in
     mirrored_is_opened b.file view c o.shown t n logs came.mends found unspent hurt may own tell.whole chosen came.does.are (sym after ∙ came.does.told) (is.mirrored.shown end.0 n end.1 told)

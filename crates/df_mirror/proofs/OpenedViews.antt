@@ -15,7 +15,7 @@ use Rattle.df_theory.proofs.Laws.{pool_pools, short_same}
 use Rattle.df_units.specs.Wanted.{checksum_of}
 use Rattle.df_history.specs.Histories.{IsLived, MayStart}
 use Rattle.df_history.proofs.Laws.{choice_stays_law, history_pools}
-use Rattle.df_mirror.specs.Known.{AllShown, IsRecorded, ShowsTrailer}
+use Rattle.df_mirror.specs.Known.{AllShown, IsRecordedReply, ShowsTrailer}
 use Rattle.df_mirror.proofs.OpenedKnown.{chain_shown, front_shown, reply_of}
 use Rattle.df_mirror.proofs.OpenedMarks.{agrees_as, all_counted, same_reply}
 use Rattle.df_mirror.proofs.OpenedPasts.{Rises, newest_rises, old_replies, pooled_settled, reply_low}
@@ -38,7 +38,7 @@ pub record IsRecordedAnew (was image : Units) (c : Content) (k : ℕ) : Type 0 w
 pub record ShowsLeft (sh : Shape) (was image : Units) (c : Content) : Type 0 where
   pub headers : (s : ℕ) → image (HeaderPlace s) ≡ was (HeaderPlace s)
   pub prepares : (s : ℕ) → (image (PreparePlace s) ≡ was (PreparePlace s)) ⊎ IsNamedSlot sh c s
-  pub replies : (k : ℕ) → (image (ReplyPlace k) ≡ was (ReplyPlace k)) ⊎ IsRecordedAnew was image c k ⊎ ((sum : ℕ) × IsRecorded sh was c k sum)
+  pub replies : (k : ℕ) → (image (ReplyPlace k) ≡ was (ReplyPlace k)) ⊎ IsRecordedAnew was image c k ⊎ ((sum : ℕ) × IsRecordedReply sh was c k sum)
 
 -- each reply of the view's boot that is shown is of the log's own pool
 abbrev pub ShowsOwn : UnitLog → Units → View → Type 0
@@ -131,7 +131,7 @@ module _ (sh : Shape) (second : sh.version ≡ 2) (log : UnitLog) (logs : List U
   ]
 
   -- what was recorded is recorded, where nothing later of this boot is shown
-  still_recorded : (k sum : ℕ) → IsRecorded sh was c k sum → ((r : Message) → image (ReplyPlace k) ≡ Some (ReplyUnit r) → r.header.boot ≡ c.boot → r.header.op ≤ c.replies) → IsRecorded sh image c k sum
+  still_recorded : (k sum : ℕ) → IsRecordedReply sh was c k sum → ((r : Message) → image (ReplyPlace k) ≡ Some (ReplyUnit r) → r.header.boot ≡ c.boot → r.header.op ≤ c.replies) → IsRecordedReply sh image c k sum
   still_recorded k sum is none = record {
     sessions = is.sessions;
     has = record {

@@ -23,25 +23,25 @@ use Rattle.df_opening.specs.Below.{shape}
 use Rattle.df_mirror.specs.declared.ending.Ending.{Ending}
 use Rattle.df_mirror.specs.declared.ending.Ending.TheVariants.{First}
 use Rattle.df_mirror.specs.declared.superblock.Superblock.{Superblock}
-use Rattle.df_mirror.specs.Known.{IsDue, IsKnown, IsRecorded, IsShownAs}
+use Rattle.df_mirror.specs.Known.{IsDue, IsKnownAt, IsRecordedReply, IsShownAs}
 use Rattle.df_mirror.specs.Mends.{AreAt}
 use Rattle.df_mirror.specs.Outside.{Outside, Tell, around}
 use Rattle.df_mirror.specs.Taking.{HoldsShown, IsFor, MendsUnit, ShowsUnit, count_in}
-use Rattle.df_mirror.specs.Walks.{HasNewer, IsNewer, MendsRecorded, content_of, units_of}
+use Rattle.df_mirror.specs.Walks.{HasNewer, IsNewer, MendsRecorded, content_of_superblock, superblock_units}
 use Rattle.df_mirror.proofs.Joined.{none_came, none_failed}
 use Rattle.df_mirror.proofs.Turns.{holds}
 
 -- ---- what is seen in a slot
 
-newer_in : (b : Superblock) (k : ℕ) (o : Option format.Message) (class : Class) → IsNewer b (header_or_class o class) → (r : Message) × (message_unit (ReplyPlace k) o ≡ Some (ReplyUnit r)) × (r.header.boot ≡ (content_of b).boot) × ((content_of b).replies < r.header.op)
+newer_in : (b : Superblock) (k : ℕ) (o : Option format.Message) (class : Class) → IsNewer b (header_or_class o class) → (r : Message) × (message_unit (ReplyPlace k) o ≡ Some (ReplyUnit r)) × (r.header.boot ≡ (content_of_superblock b).boot) × ((content_of_superblock b).replies < r.header.op)
 newer_in b k None class newer = absurd newer
 newer_in b k (Some u) class newer = (message_of u, refl, newer.0, newer.1)
 
-newer_out : (b : Superblock) (k : ℕ) (o : Option format.Message) (class : Class) (r : Message) → message_unit (ReplyPlace k) o ≡ Some (ReplyUnit r) → r.header.boot ≡ (content_of b).boot → (content_of b).replies < r.header.op → IsNewer b (header_or_class o class)
+newer_out : (b : Superblock) (k : ℕ) (o : Option format.Message) (class : Class) (r : Message) → message_unit (ReplyPlace k) o ≡ Some (ReplyUnit r) → r.header.boot ≡ (content_of_superblock b).boot → (content_of_superblock b).replies < r.header.op → IsNewer b (header_or_class o class)
 newer_out b k None class r is boot above = absurd (cc)
 newer_out b k (Some u) class r is boot above =
     let same : message_of u ≡ r = cc in
-    (ap (λ (m : Message). m.header.boot) same ∙ boot, subst (λ (m : Message). (content_of b).replies < m.header.op) (sym same) above)
+    (ap (λ (m : Message). m.header.boot) same ∙ boot, subst (λ (m : Message). (content_of_superblock b).replies < m.header.op) (sym same) above)
 
 module _ (b : Superblock) (t : Told) (k : ℕ) (seen : Result Header Class) (is : seen ≡ header_at b.file.layout b.file.cluster t.shown (place_of (ReplyPlace k))) where
   abbrev Shown : Option format.Message
@@ -50,27 +50,27 @@ module _ (b : Superblock) (t : Told) (k : ℕ) (seen : Result Header Class) (is 
   abbrev AsClass : Class
   AsClass = class_at b.file.layout b.file.cluster t.shown (place_of (ReplyPlace k))
 
-  pub newer_shown : IsNewer b seen → HasNewer b (units_of b t.shown) k
+  pub newer_shown : IsNewer b seen → HasNewer b (superblock_units b t.shown) k
   newer_shown newer = newer_in b k Shown AsClass (subst (IsNewer b) is newer)
 
-  pub newer_seen : HasNewer b (units_of b t.shown) k → IsNewer b seen
+  pub newer_seen : HasNewer b (superblock_units b t.shown) k → IsNewer b seen
   newer_seen newer = subst (IsNewer b) (sym is) (newer_out b k Shown AsClass newer.0 newer.1 newer.2 newer.3)
 
 -- ---- a reply that is recorded
 
-pub recorded_sum : (b : Superblock) (k : ℕ) (check : List ℕ) → slice_get b.content.reply_checksums k ≡ Some check → slice_index (content_of b).reply_checksums k ≡ number_of check
+pub recorded_sum : (b : Superblock) (k : ℕ) (check : List ℕ) → slice_get b.content.reply_checksums k ≡ Some check → slice_index (content_of_superblock b).reply_checksums k ≡ number_of check
 recorded_sum b k check at =
     ap (λ (v : ℕ). slice_index (if v == 2 then map number_of b.content.reply_checksums else []) k) b.second
     ∙ get_or_from_slice_get (map number_of b.content.reply_checksums) k (number_of check) 0 (slice_get-map number_of b.content.reply_checksums k ∙ ap (option_map number_of) at)
 
-pub reply_due : (b : Superblock) (t : Told) (k sum : ℕ) → IsRecorded (shape b.file) (units_of b t.shown) (content_of b) k sum → IsDue (shape b.file) (units_of b t.shown) (content_of b) Reply (ReplyPlace k) sum
+pub reply_due : (b : Superblock) (t : Told) (k sum : ℕ) → IsRecordedReply (shape b.file) (superblock_units b t.shown) (content_of_superblock b) k sum → IsDue (shape b.file) (superblock_units b t.shown) (content_of_superblock b) Reply (ReplyPlace k) sum
 reply_due b t k sum recorded = record { known = recorded; spare = λ lacks. at_kind lacks }
   where
-    at_kind : (IsShownAs (units_of b t.shown) Reply (ReplyPlace k) sum → ⊥) → (kind : Kind) (at : Place) (other : ℕ) → IsKnown (shape b.file) (units_of b t.shown) (content_of b) kind at other → IsShownAs (units_of b t.shown) kind at other → at ≡ ReplyPlace k → ⊥
+    at_kind : (IsShownAs (superblock_units b t.shown) Reply (ReplyPlace k) sum → ⊥) → (kind : Kind) (at : Place) (other : ℕ) → IsKnownAt (shape b.file) (superblock_units b t.shown) (content_of_superblock b) kind at other → IsShownAs (superblock_units b t.shown) kind at other → at ≡ ReplyPlace k → ⊥
     at_kind lacks Reply (ReplyPlace p) other known shown same =
         let place : p ≡ k = cc in
-        let sums : other ≡ sum = known.sum_is ∙ ap (λ (n : ℕ). slice_index (content_of b).reply_checksums n) place ∙ sym recorded.sum_is in
-        lacks (subst (λ (n : ℕ). IsShownAs (units_of b t.shown) Reply (ReplyPlace k) n) sums (subst (λ (at : Place). IsShownAs (units_of b t.shown) Reply at other) same shown))
+        let sums : other ≡ sum = known.sum_is ∙ ap (λ (n : ℕ). slice_index (content_of_superblock b).reply_checksums n) place ∙ sym recorded.sum_is in
+        lacks (subst (λ (n : ℕ). IsShownAs (superblock_units b t.shown) Reply (ReplyPlace k) n) sums (subst (λ (at : Place). IsShownAs (superblock_units b t.shown) Reply at other) same shown))
     at_kind lacks Trailer (BlockPlace a) other known shown same = cc
     at_kind lacks AsBlock (BlockPlace a) other known shown same = cc
     at_kind lacks Prepare (PreparePlace s) other known shown same = cc
@@ -82,7 +82,7 @@ module _ (b : Superblock) (k : ℕ) (check : List ℕ) (t o : Told) (old : Outsi
 
   -- the place can't be read
   pub recorded_unread : MendsRecorded b k check t o old mid (Err First)
-  recorded_unread = record { answers = λ known. none_failed b.file (content_of b) (AreAt Reply (ReplyPlace k)) tt t o told old.written old.written (same ∙ tell.first) refl; shown = λ u is. tt }
+  recorded_unread = record { answers = λ known. none_failed b.file (content_of_superblock b) (AreAt Reply (ReplyPlace k)) tt t o told old.written old.written (same ∙ tell.first) refl; shown = λ u is. tt }
 
   module _ (identity : Identity) (is : identity ≡ record { layout = b.file.layout; cluster = b.file.cluster; place = place_of (ReplyPlace k); wanted = Checksum check }) (seen : Result Header Class)
       (sees : IsSeen b.file.layout b.file.cluster old.first identity.place seen) where
@@ -94,8 +94,8 @@ module _ (b : Superblock) (k : ℕ) (check : List ℕ) (t o : Told) (old : Outsi
     -- something newer is shown
     pub recorded_newer : IsNewer b seen → MendsRecorded b k check t o old mid (Ok 0)
     recorded_newer newer = record {
-      answers = λ known. none_came b.file (content_of b) (AreAt Reply (ReplyPlace k)) tt t o told old.written old.written (same ∙ tell.first) refl (λ ms n. 0 ≡ length ms) refl;
-      shown = λ u there. inl (subst (λ (x : Told). HasNewer b (units_of b x.shown) k) (same_Some _ _ (sym (same ∙ tell.first) ∙ there)) (newer_shown b t k seen seen_is newer));
+      answers = λ known. none_came b.file (content_of_superblock b) (AreAt Reply (ReplyPlace k)) tt t o told old.written old.written (same ∙ tell.first) refl (λ ms n. 0 ≡ length ms) refl;
+      shown = λ u there. inl (subst (λ (x : Told). HasNewer b (superblock_units b x.shown) k) (same_Some _ _ (sym (same ∙ tell.first) ∙ there)) (newer_shown b t k seen seen_is newer));
     }
 
     module _ (none : IsNewer b seen → ⊥) (fits : IsCheck check) (new : Outside) where
@@ -106,13 +106,13 @@ module _ (b : Superblock) (k : ℕ) (check : List ℕ) (t o : Told) (old : Outsi
       for = record { is = is; stands = tt; fits = fits }
 
       is_shown : (m : Told) (result : Result (Holding × ℕ) Ending) → IfOk result (λ done. ShowsUnit b.file Reply (ReplyPlace k) check m.shown done.0.unit)
-          → OnOk (count_in result) (HasNewer b (units_of b m.shown) k ⊎ IsShownAs (units_of b m.shown) Reply (ReplyPlace k) (number_of check))
+          → OnOk (count_in result) (HasNewer b (superblock_units b m.shown) k ⊎ IsShownAs (superblock_units b m.shown) Reply (ReplyPlace k) (number_of check))
       is_shown m (Ok done) it = inr (record { unit = it.unit; shown = it.shown; of_kind = it.of_kind; sum_is = it.sum_is })
       is_shown m (Err e) it = tt
 
       -- nothing newer is, and it is mended
       pub recorded_mended : (result : Result (Holding × ℕ) Ending) → MendsUnit Reply identity mid new (count_in result) → IfOk result (λ done. HoldsShown Reply identity told new.first done.0) → MendsRecorded b k check t o old new (count_in result)
       recorded_mended result mends shown = record {
-        answers = λ known. mends b.file (content_of b) (ReplyPlace k) check t o for on (reply_due b t k (number_of check) (known (λ newer. none (newer_seen b t k seen seen_is newer))));
+        answers = λ known. mends b.file (content_of_superblock b) (ReplyPlace k) check t o for on (reply_due b t k (number_of check) (known (λ newer. none (newer_seen b t k seen seen_is newer))));
         shown = λ m there. is_shown m result (holds b Reply (ReplyPlace k) check identity for t o mid new on result shown m there);
       }

@@ -19,11 +19,11 @@ use Rattle.df_grid.specs.Reads.{at_address}
 use Rattle.df_opening.specs.Below.{shape}
 use Rattle.df_mirror.specs.declared.ending.Ending.{Ending}
 use Rattle.df_mirror.specs.declared.superblock.Superblock.{Superblock}
-use Rattle.df_mirror.specs.Known.{IsDue, IsKnown, IsShownAs, IsSpare}
+use Rattle.df_mirror.specs.Known.{IsDue, IsKnownAt, IsShownAs, IsSparePlace}
 use Rattle.df_mirror.specs.Mends.{AreOfKind}
 use Rattle.df_mirror.specs.Outside.{Outside, Tell}
 use Rattle.df_mirror.specs.Taking.{HoldsShown, MendsUnit, count_in}
-use Rattle.df_mirror.specs.Walks.{HasText, Mended, ShowsBlocks, content_of, units_of}
+use Rattle.df_mirror.specs.Walks.{HasTrailerText, Mended, ShowsBlocks, content_of_superblock, superblock_units}
 use Rattle.df_mirror.proofs.Frames.{other_place}
 use Rattle.df_mirror.proofs.Ones.{one_trailer, trailer_there, wanted_block}
 use Rattle.df_mirror.proofs.Turns.{MendsDue, due_mended, none_mended, of_one}
@@ -32,7 +32,7 @@ use Rattle.df_mirror.proofs.Turns.{MendsDue, due_mended, none_mended, of_one}
 pub shown_there : (image other : Units) (kind : Kind) (place : Place) (sum : ℕ) → other place ≡ image place → IsShownAs image kind place sum → IsShownAs other kind place sum
 shown_there image other kind place sum same is = record { unit = is.unit; shown = same ∙ is.shown; of_kind = is.of_kind; sum_is = is.sum_is }
 
-module _ (b : Superblock) (grid : GridState) (ss : List Session) (before : ℕ) (t o : Told) (shows : ShowsBlocks b (units_of b t.shown) grid ss before) where
+module _ (b : Superblock) (grid : GridState) (ss : List Session) (before : ℕ) (t o : Told) (shows : ShowsBlocks b (superblock_units b t.shown) grid ss before) where
   -- nothing is referenced there
   pub block_none : (old new : Outside) → Tell t o old → sum_at (before + 1) grid.blocks.live ≡ None → new.first ≡ old.first → new.written ≡ old.written → Mended b (AreOfKind AsBlock) t o old new (Ok 0) (λ image. ShowsBlocks b image grid ss (before + 1))
   block_none old new tell none same silent = none_mended b (AreOfKind AsBlock) tt t o old new tell same silent (λ image. ShowsBlocks b image grid ss (before + 1)) (record {
@@ -53,35 +53,35 @@ module _ (b : Superblock) (grid : GridState) (ss : List Session) (before : ℕ) 
         let no : None ≡ Some (number_of check) = sym (shows.has.says.trailer.spare e x at) ∙ ap shows.has.says.parts.references same ∙ referenced in
         cc
 
-    spare : (IsShownAs (units_of b t.shown) AsBlock (BlockPlace (before + 1)) (number_of check) → ⊥) → IsSpare (shape b.file) (units_of b t.shown) (content_of b) (BlockPlace (before + 1))
+    spare : (IsShownAs (superblock_units b t.shown) AsBlock (BlockPlace (before + 1)) (number_of check) → ⊥) → IsSparePlace (shape b.file) (superblock_units b t.shown) (content_of_superblock b) (BlockPlace (before + 1))
     spare lacks = at_kind
       where
-        at_kind : (kind : Kind) (at : Place) (sum : ℕ) → IsKnown (shape b.file) (units_of b t.shown) (content_of b) kind at sum → IsShownAs (units_of b t.shown) kind at sum → at ≡ BlockPlace (before + 1) → ⊥
+        at_kind : (kind : Kind) (at : Place) (sum : ℕ) → IsKnownAt (shape b.file) (superblock_units b t.shown) (content_of_superblock b) kind at sum → IsShownAs (superblock_units b t.shown) kind at sum → at ≡ BlockPlace (before + 1) → ⊥
         at_kind Trailer (BlockPlace e) sum known shown same =
-            let there = wanted_block (shape b.file) (units_of b t.shown) (content_of b) shows.has.says e sum known in
+            let there = wanted_block (shape b.file) (superblock_units b t.shown) (content_of_superblock b) shows.has.says e sum known in
             apart e there.0 there.1 (cc)
         at_kind AsBlock (BlockPlace e) sum known shown same =
             let place : e ≡ before + 1 = cc in
-            let parts = one_trailer (shape b.file) (units_of b t.shown) (content_of b) known.says shows.has.says in
+            let parts = one_trailer (shape b.file) (superblock_units b t.shown) (content_of_superblock b) known.says shows.has.says in
             let both : Some sum ≡ Some (number_of check) = sym known.reference ∙ ap (λ (p : Parts). p.references e) parts ∙ ap shows.has.says.parts.references place ∙ referenced in
             let one : sum ≡ number_of check = same_Some _ _ both in
-            lacks (subst (λ (n : ℕ). IsShownAs (units_of b t.shown) AsBlock (BlockPlace (before + 1)) n) one (subst (λ (p : Place). IsShownAs (units_of b t.shown) AsBlock p sum) same shown))
+            lacks (subst (λ (n : ℕ). IsShownAs (superblock_units b t.shown) AsBlock (BlockPlace (before + 1)) n) one (subst (λ (p : Place). IsShownAs (superblock_units b t.shown) AsBlock p sum) same shown))
         at_kind Prepare (PreparePlace s) sum known shown same = cc
         at_kind Reply (ReplyPlace k) sum known shown same = cc
         at_kind kind at sum known shown same = absurd known
 
-    block_due : IsDue (shape b.file) (units_of b t.shown) (content_of b) AsBlock (BlockPlace (before + 1)) (number_of check)
+    block_due : IsDue (shape b.file) (superblock_units b t.shown) (content_of_superblock b) AsBlock (BlockPlace (before + 1)) (number_of check)
     block_due = record { known = record { says = shows.has.says; reference = referenced }; spare = spare }
 
     module _ (identity : Identity) (is : identity ≡ at_address b.file.layout b.file.cluster (before + 1) check) (fits : IsCheck check) (old new : Outside) (tell : Tell t o old) where
-      one_more : (result : Result (Holding × ℕ) Ending) → MendsDue b AsBlock (BlockPlace (before + 1)) check t o old new result → (m : Told) → new.first ≡ Some m → OnOk (count_in result) (ShowsBlocks b (units_of b m.shown) grid ss (before + 1))
+      one_more : (result : Result (Holding × ℕ) Ending) → MendsDue b AsBlock (BlockPlace (before + 1)) check t o old new result → (m : Told) → new.first ≡ Some m → OnOk (count_in result) (ShowsBlocks b (superblock_units b m.shown) grid ss (before + 1))
       one_more (Err e) mends m is = tt
       one_more (Ok done) mends m is =
-          let same : (e : ℕ) → (e ≡ before + 1 → ⊥) → units_of b m.shown (BlockPlace e) ≡ units_of b t.shown (BlockPlace e) =
-          λ e other. other_place b.file (content_of b) t o m new.first old.written new.written tell.whole is (BlockPlace e) AsBlock (BlockPlace (before + 1)) done.1 mends.answers (λ (one : BlockPlace (before + 1) ≡ BlockPlace e). other (cc)) in
+          let same : (e : ℕ) → (e ≡ before + 1 → ⊥) → superblock_units b m.shown (BlockPlace e) ≡ superblock_units b t.shown (BlockPlace e) =
+          λ e other. other_place b.file (content_of_superblock b) t o m new.first old.written new.written tell.whole is (BlockPlace e) AsBlock (BlockPlace (before + 1)) done.1 mends.answers (λ (one : BlockPlace (before + 1) ≡ BlockPlace e). other (cc)) in
           record {
             has = record {
-              says = trailer_there (shape b.file) (units_of b t.shown) (units_of b m.shown) (content_of b) shows.has.says (λ e x at. same e (apart e x at));
+              says = trailer_there (shape b.file) (superblock_units b t.shown) (superblock_units b m.shown) (content_of_superblock b) shows.has.says (λ e x at. same e (apart e x at));
               inside = shows.has.inside;
               live = shows.has.live;
               sessions_are = shows.has.sessions_are;
@@ -90,8 +90,8 @@ module _ (b : Superblock) (grid : GridState) (ss : List Session) (before : ℕ) 
               | inl here ↦
                   let it = mends.shows m is in
                   let one : number_of check ≡ sum = same_Some _ _ (sym live ∙ ap (λ (n : ℕ). sum_at n grid.blocks.live) (sym here) ∙ known) in
-                  subst (λ (n : ℕ). IsShownAs (units_of b m.shown) AsBlock (BlockPlace n) sum) (sym here) (record { unit = it.unit; shown = it.shown; of_kind = it.of_kind; sum_is = it.sum_is ∙ one })
-              | inr other ↦ shown_there (units_of b t.shown) (units_of b m.shown) AsBlock (BlockPlace a) sum (same a other) (shows.shown a sum (omega (arith, to, other)) known)
+                  subst (λ (n : ℕ). IsShownAs (superblock_units b m.shown) AsBlock (BlockPlace n) sum) (sym here) (record { unit = it.unit; shown = it.shown; of_kind = it.of_kind; sum_is = it.sum_is ∙ one })
+              | inr other ↦ shown_there (superblock_units b t.shown) (superblock_units b m.shown) AsBlock (BlockPlace a) sum (same a other) (shows.shown a sum (omega (arith, to, other)) known)
             ];
           }
 
@@ -103,7 +103,7 @@ module _ (b : Superblock) (grid : GridState) (ss : List Session) (before : ℕ) 
           of_one b AsBlock (BlockPlace (before + 1)) t o old new (count_in result) (λ image. ShowsBlocks b image grid ss (before + 1)) due.answers (one_more result due)
 
 -- no address is 0
-pub none_yet : (b : Superblock) (grid : GridState) (ss : List Session) (t : Told) → HasText b (units_of b t.shown) grid ss → ShowsBlocks b (units_of b t.shown) grid ss 0
+pub none_yet : (b : Superblock) (grid : GridState) (ss : List Session) (t : Told) → HasTrailerText b (superblock_units b t.shown) grid ss → ShowsBlocks b (superblock_units b t.shown) grid ss 0
 none_yet b grid ss t has = record {
   has = has;
   shown = λ a sum to known. absurd (let above = (has.inside a sum (sym (has.live a) ∙ known)).0 in omega (arith, above, to));

@@ -16,7 +16,7 @@ use Rattle.df_layout.specs.declared.layout.Layout.{Layout}
 use Rattle.df_layout.specs.declared.places.Zone.TheVariants.{WalPrepares}
 use Rattle.df_journal.specs.Scan.{Scan, entry, or_blank}
 use Rattle.df_journal.specs.Seen.{header_of_seen}
-use Rattle.df_journal.specs.Shows.{IsTable, ShowsPrepare, TellsRings}
+use Rattle.df_journal.specs.Shows.{IsSeenTable, ShowsPrepare, TellsRings}
 use Rattle.df_places.specs.Units.{IsThere}
 use Rattle.df_theory.specs.Units.{AnyUnit, Message, PreparePlace, PrepareUnit, Units}
 use Rattle.df_units.specs.Meaning.{header_of}
@@ -64,7 +64,7 @@ has_client layout cluster s (Ok g) h there seen =
 has_client layout cluster s (Err class) h there seen = absurd (cc)
 
 -- a prepare in the table has a client
-pub seen_client : (layout : Layout) (cluster : ℕ) (scan : Scan) (s : ℕ) (h : Header) → IsTable layout cluster scan.slots → s < length scan.slots → header_of_seen (entry scan s).prepare ≡ Some h → h.client ≢ 0
+pub seen_client : (layout : Layout) (cluster : ℕ) (scan : Scan) (s : ℕ) (h : Header) → IsSeenTable layout cluster scan.slots → s < length scan.slots → header_of_seen (entry scan s).prepare ≡ Some h → h.client ≢ 0
 seen_client layout cluster scan s h table within seen =
     let at = at_slot scan.slots s within in
     has_client layout cluster s at.0.prepare h (table.each s at.0 at.1).prepare (subst (λ (o : Option SlotSeen). header_of_seen (or_blank o).prepare ≡ Some h) at.1 seen)

@@ -19,9 +19,9 @@ use Rattle.df_units.specs.Wanted.{checksum_of}
 use Rattle.df_units.proofs.Laws.{is_format}
 use Rattle.df_damage.specs.Anew.{IsStill, told_after}
 use Rattle.df_opening.specs.Below.{DataFile, shape}
-use Rattle.df_mirror.specs.Known.{IsKnown, IsNamed, IsShownAs, IsSpare}
-use Rattle.df_mirror.specs.Laws.{KnownStays, LeavesShown}
-use Rattle.df_mirror.specs.Mends.{AreMends, IsMend, Mend, events_of, units_in}
+use Rattle.df_mirror.specs.Known.{IsKnownAt, IsNamedPrepare, IsShownAs, IsSparePlace}
+use Rattle.df_mirror.specs.Laws.{KnownStays, LeavesKnownShown}
+use Rattle.df_mirror.specs.Mends.{AreMends, IsMend, Mend, mirrored_events, units_shown}
 use Rattle.df_mirror.proofs.Chains.{arrives_there, shown_block}
 use Rattle.df_mirror.proofs.Frames.{put_elsewhere, stays}
 use Rattle.df_mirror.proofs.Ones.{trailer_there}
@@ -68,9 +68,9 @@ module _ (sh : Shape) (image : Units) (c : Content) (count : ℕ) (counts : IsCo
 -- a reply is known by the superblock's checksum of it, and all else by what is shown
 abbrev pub Keeps : Shape → Units → Content → Kind → Place → ℕ → Type 0
 Keeps sh image c Reply (ReplyPlace k) sum = sum ≡ slice_index c.reply_checksums k
-Keeps sh image c kind place sum = IsKnown sh image c kind place sum
+Keeps sh image c kind place sum = IsKnownAt sh image c kind place sum
 
-keeps_known : (sh : Shape) (image : Units) (c : Content) (kind : Kind) (place : Place) (sum : ℕ) → IsKnown sh image c kind place sum → Keeps sh image c kind place sum
+keeps_known : (sh : Shape) (image : Units) (c : Content) (kind : Kind) (place : Place) (sum : ℕ) → IsKnownAt sh image c kind place sum → Keeps sh image c kind place sum
 keeps_known sh image c Trailer place sum known = known
 keeps_known sh image c AsBlock place sum known = known
 keeps_known sh image c Prepare place sum known = known
@@ -81,14 +81,14 @@ keeps_known sh image c Reply (HeaderPlace s) sum known = known
 keeps_known sh image c Reply (PreparePlace s) sum known = known
 keeps_known sh image c Reply (BlockPlace a) sum known = known
 
-module _ (sh : Shape) (image other : Units) (c : Content) (at : Place) (spare : IsSpare sh image c at) (same : (p : Place) → (p ≡ at → ⊥) → other p ≡ image p) where
+module _ (sh : Shape) (image other : Units) (c : Content) (at : Place) (spare : IsSparePlace sh image c at) (same : (p : Place) → (p ≡ at → ⊥) → other p ≡ image p) where
   block_stays : (count : ℕ) (counts : IsCount (sh.layout.block_size - 256) c.trailer_size count) (e : ℕ) (x : Block) → IsThere sh image c count counts e x.checksum → other (BlockPlace e) ≡ image (BlockPlace e)
   block_stays count counts e x is = same (BlockPlace e) (spare Trailer (BlockPlace e) x.checksum is.0 is.1)
 
   named_stays : (op : ℕ) (ps : List Message) → c.op < op → op + length ps ≡ c.pin + 1 → AreKnown (slots sh) image op c.pin_checksum ps → AreKnown (slots sh) other op c.pin_checksum ps
   named_stays op [] above count known = tt
   named_stays op (p ∷ ps) above count known =
-      let named : IsNamed sh image c (op % slots sh) p.header.checksum = record { op = op; above = above; slot_is = refl; later = ps; known = known.2; count = omega (arith, count); sum_is = known.1 } in
+      let named : IsNamedPrepare sh image c (op % slots sh) p.header.checksum = record { op = op; above = above; slot_is = refl; later = ps; known = known.2; count = omega (arith, count); sum_is = known.1 } in
       let shown : IsShownAs image Prepare (PreparePlace (op % slots sh)) p.header.checksum = record { unit = PrepareUnit p; shown = known.0; of_kind = tt; sum_is = refl } in
       (same (PreparePlace (op % slots sh)) (spare Prepare (PreparePlace (op % slots sh)) p.header.checksum named shown) ∙ known.0, known.1, named_stays (op + 1) ps (omega (arith, above)) (omega (arith, count)) known.2)
 
@@ -112,8 +112,8 @@ module _ (sh : Shape) (image other : Units) (c : Content) (at : Place) (spare : 
     reference = is.reference;
   }
   keeps_on Prepare (PreparePlace s) sum is =
-      let of : IsNamed sh image c s sum = is in
-      let named : IsNamed sh other c s sum = record { op = of.op; above = of.above; slot_is = of.slot_is; later = of.later; known = named_stays (of.op + 1) of.later (omega (arith, of.above)) (omega (arith, of.count)) of.known; count = of.count; sum_is = of.sum_is } in
+      let of : IsNamedPrepare sh image c s sum = is in
+      let named : IsNamedPrepare sh other c s sum = record { op = of.op; above = of.above; slot_is = of.slot_is; later = of.later; known = named_stays (of.op + 1) of.later (omega (arith, of.above)) (omega (arith, of.count)) of.known; count = of.count; sum_is = of.sum_is } in
       named
   keeps_on Trailer (CopyPlace n) sum is = absurd is
   keeps_on Trailer (HeaderPlace s) sum is = absurd is
@@ -139,21 +139,21 @@ module _ (file : DataFile) (c : Content) (second : Image) (v : Told) (m : Mend) 
   abbrev W : Told
   W = did (Write (first_at file.layout m.place) m.bytes) v
 
-  pub same_after : (p : Place) → (p ≡ m.place → ⊥) → units_in file (did Sync W).shown p ≡ units_in file v.shown p
+  pub same_after : (p : Place) → (p ≡ m.place → ⊥) → units_shown file (did Sync W).shown p ≡ units_shown file v.shown p
   same_after p other = stays file c second v (m ∷ []) p whole (is, tt) ((λ same. other (sym same)), tt)
 
   -- within it a stop leaves each other place
-  pub left_within : IsStill v.log → (left : Image) → IsLeft W.log left → (p : Place) → (p ≡ m.place → ⊥) → units_in file left p ≡ units_in file v.shown p
+  pub left_within : IsStill v.log → (left : Image) → IsLeft W.log left → (p : Place) → (p ≡ m.place → ⊥) → units_shown file left p ≡ units_shown file v.shown p
   left_within still left is_left p other =
       let none = put_elsewhere m.place p m.unit (λ same. other (sym same)) in
       let touches = is.puts.touches p ∙ ap (λ (o : Option AnyUnit). is_some o) none in
       let shows = (honest_did (Write (first_at file.layout m.place) m.bytes) v honest).shows in
       (is_format file.layout file.cluster).local left W.shown p (λ sector inside.
       is_left.kept sector (ap (λ (b : Bool). b || loose v.log sector) ((is_format file.layout file.cluster).apart (first_at file.layout m.place) m.bytes p sector touches inside) ∙ still sector) ∙ sym (shows sector))
-      ∙ is.puts.shows v.shown p whole ∙ ap (λ (o : Option AnyUnit). or_else o (units_in file v.shown p)) none
+      ∙ is.puts.shows v.shown p whole ∙ ap (λ (o : Option AnyUnit). or_else o (units_shown file v.shown p)) none
 
 -- nothing is loose: a stop leaves what is shown
-left_still : (file : DataFile) (v : Told) → IsHonest v → IsStill v.log → (left : Image) → IsLeft v.log left → (p : Place) → units_in file left p ≡ units_in file v.shown p
+left_still : (file : DataFile) (v : Told) → IsHonest v → IsStill v.log → (left : Image) → IsLeft v.log left → (p : Place) → units_shown file left p ≡ units_shown file v.shown p
 left_still file v honest still left is_left p = (is_format file.layout file.cluster).local left v.shown p (λ sector inside. is_left.kept sector (still sector) ∙ sym (honest.shows sector))
 
 told_extends : (es : List Event) (t : Told) → Extends (told_after es t).log t.log
@@ -162,50 +162,50 @@ told_extends (e ∷ es) t = extends_on (told_after es (did e t)).log (did e t).l
 
 module _ (file : DataFile) (c : Content) (second : Image) (kind : Kind) (place : Place) (sum : ℕ) where
   -- it isn't mended where it stands
-  apart : (v : Told) (m : Mend) → IsMend file c v.shown second m → IsShownAs (units_in file v.shown) kind place sum → Keeps (shape file) (units_in file v.shown) c kind place sum → place ≡ m.place → ⊥
+  apart : (v : Told) (m : Mend) → IsMend file c v.shown second m → IsShownAs (units_shown file v.shown) kind place sum → Keeps (shape file) (units_shown file v.shown) c kind place sum → place ≡ m.place → ⊥
   apart v m is = by kind place
     where
-      by : (kind : Kind) (place : Place) → IsShownAs (units_in file v.shown) kind place sum → Keeps (shape file) (units_in file v.shown) c kind place sum → place ≡ m.place → ⊥
+      by : (kind : Kind) (place : Place) → IsShownAs (units_shown file v.shown) kind place sum → Keeps (shape file) (units_shown file v.shown) c kind place sum → place ≡ m.place → ⊥
       by Trailer place shown keeps same = is.spare Trailer place sum keeps shown same
       by AsBlock place shown keeps same = is.spare AsBlock place sum keeps shown same
       by Prepare place shown keeps same = is.spare Prepare place sum keeps shown same
       by Reserved place shown keeps same = is.spare Reserved place sum keeps shown same
       by Reply (ReplyPlace k) shown keeps same =
-          let known = known_reply (shape file) (units_in file v.shown) c m.kind k (checksum_of m.unit) (subst (λ (p : Place). IsKnown (shape file) (units_in file v.shown) c m.kind p (checksum_of m.unit)) (sym same) is.known) in
+          let known = known_reply (shape file) (units_shown file v.shown) c m.kind k (checksum_of m.unit) (subst (λ (p : Place). IsKnownAt (shape file) (units_shown file v.shown) c m.kind p (checksum_of m.unit)) (sym same) is.known) in
           let sums : sum ≡ checksum_of m.unit = keeps ∙ sym known.1.sum_is in
-          is.lacks (subst (λ (j : Kind). IsShownAs (units_in file v.shown) j m.place (checksum_of m.unit)) (sym known.0)
-          (subst (λ (p : Place). IsShownAs (units_in file v.shown) Reply p (checksum_of m.unit)) same (subst (λ (n : ℕ). IsShownAs (units_in file v.shown) Reply (ReplyPlace k) n) sums shown)))
+          is.lacks (subst (λ (j : Kind). IsShownAs (units_shown file v.shown) j m.place (checksum_of m.unit)) (sym known.0)
+          (subst (λ (p : Place). IsShownAs (units_shown file v.shown) Reply p (checksum_of m.unit)) same (subst (λ (n : ℕ). IsShownAs (units_shown file v.shown) Reply (ReplyPlace k) n) sums shown)))
       by Reply (CopyPlace n) shown keeps same = absurd keeps
       by Reply (HeaderPlace s) shown keeps same = absurd keeps
       by Reply (PreparePlace s) shown keeps same = absurd keeps
       by Reply (BlockPlace a) shown keeps same = absurd keeps
 
   abbrev Shows : Log → Type 0
-  Shows log = (left : Image) → IsLeft log left → IsShownAs (units_in file left) kind place sum
+  Shows log = (left : Image) → IsLeft log left → IsShownAs (units_shown file left) kind place sum
 
-  through : (later : List Mend) (v : Told) → IsHonest v → IsStill v.log → IsImage v.shown → AreMends file c second v later → IsShownAs (units_in file v.shown) kind place sum → Keeps (shape file) (units_in file v.shown) c kind place sum
-      → EachMoment v.log (told_after (events_of file later) v).log Shows
-  through [] v honest still whole are shown keeps = started v.log Shows (λ left is_left. shown_there (units_in file v.shown) (units_in file left) kind place sum (left_still file v honest still left is_left place) shown)
+  through : (later : List Mend) (v : Told) → IsHonest v → IsStill v.log → IsImage v.shown → AreMends file c second v later → IsShownAs (units_shown file v.shown) kind place sum → Keeps (shape file) (units_shown file v.shown) c kind place sum
+      → EachMoment v.log (told_after (mirrored_events file later) v).log Shows
+  through [] v honest still whole are shown keeps = started v.log Shows (λ left is_left. shown_there (units_shown file v.shown) (units_shown file left) kind place sum (left_still file v honest still left is_left place) shown)
   through (m ∷ ms) v honest still whole are shown keeps =
       let write : Event = Write (first_at file.layout m.place) m.bytes in
       let w : Told = did write v in
       let n : Told = did Sync w in
       let other : place ≡ m.place → ⊥ = apart v m are.0 shown keeps in
       let rest = through ms n (honest_did Sync w (honest_did write v honest)) (λ sector. refl) (written_is_image (first_at file.layout m.place) m.bytes v.shown are.0.puts.piece whole) are.1
-      (shown_there (units_in file v.shown) (units_in file n.shown) kind place sum (same_after file c second v m honest whole are.0 place other) shown)
-      (keeps_on (shape file) (units_in file v.shown) (units_in file n.shown) c m.place are.0.spare (same_after file c second v m honest whole are.0) kind place sum keeps) in
-      let exit : Log = (told_after (events_of file ms) n).log in
-      from_before write v.log exit Shows (λ left is_left. shown_there (units_in file v.shown) (units_in file left) kind place sum (left_still file v honest still left is_left place) shown) (told_extends (Sync ∷ events_of file ms) w)
-      (from_before Sync w.log exit Shows (λ left is_left. shown_there (units_in file v.shown) (units_in file left) kind place sum (left_within file c second v m honest whole are.0 still left is_left place other) shown) (told_extends (events_of file ms) n) rest)
+      (shown_there (units_shown file v.shown) (units_shown file n.shown) kind place sum (same_after file c second v m honest whole are.0 place other) shown)
+      (keeps_on (shape file) (units_shown file v.shown) (units_shown file n.shown) c m.place are.0.spare (same_after file c second v m honest whole are.0) kind place sum keeps) in
+      let exit : Log = (told_after (mirrored_events file ms) n).log in
+      from_before write v.log exit Shows (λ left is_left. shown_there (units_shown file v.shown) (units_shown file left) kind place sum (left_still file v honest still left is_left place) shown) (told_extends (Sync ∷ mirrored_events file ms) w)
+      (from_before Sync w.log exit Shows (λ left is_left. shown_there (units_shown file v.shown) (units_shown file left) kind place sum (left_within file c second v m honest whole are.0 still left is_left place other) shown) (told_extends (mirrored_events file ms) n) rest)
 
 -- ---- after some mends
 
-behind : (file : DataFile) (c : Content) (second : Image) (t : Told) (ms later : List Mend) → AreMends file c second t (ms ++ later) → AreMends file c second (told_after (events_of file ms) t) later
+behind : (file : DataFile) (c : Content) (second : Image) (t : Told) (ms later : List Mend) → AreMends file c second t (ms ++ later) → AreMends file c second (told_after (mirrored_events file ms) t) later
 behind file c second t [] later are = are
-behind file c second t (m ∷ ms) later are = behind file c second (told_after (events_of file (m ∷ [])) t) ms later are.1
+behind file c second t (m ∷ ms) later are = behind file c second (told_after (mirrored_events file (m ∷ [])) t) ms later are.1
 
 reaches : (file : DataFile) (c : Content) (second : Image) (t : Told) (ms later : List Mend) → IsHonest t → IsStill t.log → IsImage t.shown → AreMends file c second t (ms ++ later)
-    → IsHonest (told_after (events_of file ms) t) × IsStill (told_after (events_of file ms) t).log × IsImage (told_after (events_of file ms) t).shown
+    → IsHonest (told_after (mirrored_events file ms) t) × IsStill (told_after (mirrored_events file ms) t).log × IsImage (told_after (mirrored_events file ms) t).shown
 reaches file c second t [] later honest still whole are = (honest, still, whole)
 reaches file c second t (m ∷ ms) later honest still whole are =
     let write : Event = Write (first_at file.layout m.place) m.bytes in
@@ -213,8 +213,8 @@ reaches file c second t (m ∷ ms) later honest still whole are =
 
 pub known_stays : KnownStays
 known_stays file c second t u ms later honest still whole are is =
-    let n : Told = told_after (events_of file ms) t in
+    let n : Told = told_after (mirrored_events file ms) t in
     let at = reaches file c second t ms later honest still whole are in
-    let each : EachMoment n.log (told_after (events_of file later) n).log (LeavesShown file c n.shown) = λ log moment left is_left kind place sum known shown.
-    through file c second kind place sum later n at.0 at.1 at.2 (behind file c second t ms later are) shown (keeps_known (shape file) (units_in file n.shown) c kind place sum known) log moment left is_left in
-    subst (λ (x : Told). EachMoment x.log (told_after (events_of file later) x).log (LeavesShown file c x.shown)) (sym is) each
+    let each : EachMoment n.log (told_after (mirrored_events file later) n).log (LeavesKnownShown file c n.shown) = λ log moment left is_left kind place sum known shown.
+    through file c second kind place sum later n at.0 at.1 at.2 (behind file c second t ms later are) shown (keeps_known (shape file) (units_shown file n.shown) c kind place sum known) log moment left is_left in
+    subst (λ (x : Told). EachMoment x.log (told_after (mirrored_events file later) x).log (LeavesKnownShown file c x.shown)) (sym is) each

@@ -15,7 +15,7 @@ use Rattle.df_format.specs.declared.kind.Kind.{Kind}
 use Rattle.df_format.specs.Message.{sectors_end}
 use Rattle.df_buffers.specs.declared.identity.Identity.{Identity}
 use Rattle.df_buffers.specs.Sounds.{Holding}
-use Rattle.df_places.specs.Shelves.{IsFound, shown_at}
+use Rattle.df_places.specs.Shelves.{IsFoundUnit, shown_at}
 use Rattle.df_places.specs.Units.{unit_events}
 use Rattle.df_theory.specs.Device.{IsPut}
 use Rattle.df_theory.specs.UnitLog.{put_one}
@@ -27,10 +27,10 @@ use Rattle.df_units.specs.Meaning.{number_of, place_of}
 use Rattle.df_opening.specs.Below.{DataFile, shape}
 use Rattle.df_mirror.specs.declared.ending.Ending.{Ending}
 use Rattle.df_mirror.specs.declared.ending.Ending.TheVariants.{First, Neither, Second, Sink, Unopened}
-use Rattle.df_mirror.specs.Known.{IsDue, IsKnown, IsShownAs}
-use Rattle.df_mirror.specs.Mends.{Answers, AreAt, Came, Failed, IsMend, IsNeither, Mend, units_in}
+use Rattle.df_mirror.specs.Known.{IsDue, IsKnownAt, IsShownAs}
+use Rattle.df_mirror.specs.Mends.{AnswersMending, AreAt, Came, Failed, IsMend, IsNeither, Mend, units_shown}
 use Rattle.df_mirror.specs.Outside.{Outside}
-use Rattle.df_mirror.specs.Taking.{IsFilled, IsFor, LacksIt, PutsUnit, ShowsIt, ShowsUnit, Takes, TakesUnit, WritesUnit}
+use Rattle.df_mirror.specs.Taking.{IsFor, IsZeroFilled, LacksIt, PutsUnit, ShowsIt, ShowsUnit, TakesFromSecond, TakesUnit, WritesUnit}
 use Rattle.df_mirror.specs.Texts.{mended_text}
 use Rattle.df_mirror.proofs.Joined.{none_came, none_failed}
 use Rattle.df_mirror.proofs.Loaded.{IsUnitOf, class_is, found_unit, lacks_unit, shows_unit}
@@ -38,10 +38,10 @@ use Rattle.df_mirror.proofs.Loaded.{IsUnitOf, class_is, found_unit, lacks_unit, 
 -- ---- one
 
 -- what was written of the second file's unit
-pub takes_all : (kind : Kind) (identity : Identity) (class : Class) (old new : Outside) (held : Holding) (result : Result Holding Ending) → IsFound kind identity held.unit → ShowsIt identity old.second held.unit → PutsUnit identity.layout identity.place held → IsFilled held
+pub takes_all : (kind : Kind) (identity : Identity) (class : Class) (old new : Outside) (held : Holding) (result : Result Holding Ending) → IsFoundUnit kind identity held.unit → ShowsIt identity old.second held.unit → PutsUnit identity.layout identity.place held → IsZeroFilled held
     → WritesUnit identity.layout identity.place held old.first new.first old.written new.written result → IfOk result (λ back. back ≡ held) → TakesUnit kind identity class old new result
 takes_all kind identity class old new held (Ok back) found shown puts filled writes same =
-    subst (λ (h : Holding). Takes kind identity old new h (Ok tt)) (sym same) (record { found = found; shown = shown; puts = puts; filled = filled; writes = writes })
+    subst (λ (h : Holding). TakesFromSecond kind identity old new h (Ok tt)) (sym same) (record { found = found; shown = shown; puts = puts; filled = filled; writes = writes })
 takes_all kind identity class old new held (Err First) found shown puts filled writes same = (held, record { found = found; shown = shown; puts = puts; filled = filled; writes = writes })
 takes_all kind identity class old new held (Err Sink) found shown puts filled writes same = (held, record { found = found; shown = shown; puts = puts; filled = filled; writes = writes })
 takes_all kind identity class old new held (Err Second) found shown puts filled writes same = absurd writes
@@ -51,7 +51,7 @@ takes_all kind identity class old new held (Err (Neither place other)) found sho
 abbrev bytes_of : Holding → List ℕ
 bytes_of held = take (sectors_end held.unit.header.size) held.bytes
 
-module _ (file : DataFile) (kind : Kind) (at : Place) (check : List ℕ) (identity : Identity) (for : IsFor file kind at check identity) (held : Holding) (found : IsFound kind identity held.unit) (puts : PutsUnit identity.layout identity.place held) (filled : IsFilled held) where
+module _ (file : DataFile) (kind : Kind) (at : Place) (check : List ℕ) (identity : Identity) (for : IsFor file kind at check identity) (held : Holding) (found : IsFoundUnit kind identity held.unit) (puts : PutsUnit identity.layout identity.place held) (filled : IsZeroFilled held) where
   there : IsUnitOf kind at check held.unit
   there = found_unit file kind at check identity for held.unit found
 
@@ -76,20 +76,20 @@ module _ (file : DataFile) (kind : Kind) (at : Place) (check : List ℕ) (identi
       record {
         unit = there.unit;
         unit_is = there.unit_is;
-        shown = ap (λ (m : Told). units_in file m.shown at) same ∙ put.shows t.shown at seen ∙ ap (λ (y : Option AnyUnit). or_else y (units_in file t.shown at)) (put_one_law at there.unit).at;
+        shown = ap (λ (m : Told). units_shown file m.shown at) same ∙ put.shows t.shown at seen ∙ ap (λ (y : Option AnyUnit). or_else y (units_shown file t.shown at)) (put_one_law at there.unit).at;
         of_kind = there.of_kind;
         sum_is = there.sum_is;
       }
 
-  module _ (c : Content) (t o : Told) (shown : shown_at identity o.shown ≡ Some held.unit) (due : IsDue (shape file) (units_in file t.shown) c kind at (number_of check)) (lacks : IsShownAs (units_in file t.shown) kind at (number_of check) → ⊥) where
+  module _ (c : Content) (t o : Told) (shown : shown_at identity o.shown ≡ Some held.unit) (due : IsDue (shape file) (units_shown file t.shown) c kind at (number_of check)) (lacks : IsShownAs (units_shown file t.shown) kind at (number_of check) → ⊥) where
     is_mend : IsMend file c t.shown o.shown the_mend
     unfolding the_mend there
     is_mend =
         let from = shows_unit file kind at check identity for o.shown held.unit shown found in
         let sum = sym there.sum_is in
         record {
-          known = subst (λ (n : ℕ). IsKnown (shape file) (units_in file t.shown) c kind at n) sum due.known;
-          lacks = subst (λ (n : ℕ). IsShownAs (units_in file t.shown) kind at n → ⊥) sum lacks;
+          known = subst (λ (n : ℕ). IsKnownAt (shape file) (units_shown file t.shown) c kind at n) sum due.known;
+          lacks = subst (λ (n : ℕ). IsShownAs (units_shown file t.shown) kind at n → ⊥) sum lacks;
           spare = due.spare lacks;
           of_kind = there.of_kind;
           from = from.shown ∙ sym from.unit_is ∙ there.unit_is;
@@ -126,8 +126,8 @@ module _ (file : DataFile) (kind : Kind) (at : Place) (check : List ℕ) (identi
           does = record { are = (is_mend, tt); told = all_is_part (unit_events file.layout (place_of at) held) (Some t) new own.0; printed = subst (λ (p : List ℕ). AppendsPart old text p) (sym (append-nil (mended_text (place_of at)))) own.1 };
         }
 
-module _ (file : DataFile) (c : Content) (kind : Kind) (at : Place) (check : List ℕ) (identity : Identity) (for : IsFor file kind at check identity) (t o : Told) (due : IsDue (shape file) (units_in file t.shown) c kind at (number_of check))
-    (lacks : IsShownAs (units_in file t.shown) kind at (number_of check) → ⊥) where
+module _ (file : DataFile) (c : Content) (kind : Kind) (at : Place) (check : List ℕ) (identity : Identity) (for : IsFor file kind at check identity) (t o : Told) (due : IsDue (shape file) (units_shown file t.shown) c kind at (number_of check))
+    (lacks : IsShownAs (units_shown file t.shown) kind at (number_of check) → ⊥) where
   -- ---- whatever the second file shows
 
   abbrev From : Option (List ℕ) → Outside
@@ -151,7 +151,7 @@ module _ (file : DataFile) (c : Content) (kind : Kind) (at : Place) (check : Lis
   }
 
   pub taken : (class : Class) (old : Option (List ℕ)) (new : Outside) (result : Result Holding Ending) → IsImage o.shown → LacksIt kind identity (Some t) class → TakesUnit kind identity class (From old) new result
-      → Answers file c (AreAt kind at) t o new.first old new.written (one_in result)
+      → AnswersMending file c (AreAt kind at) t o new.first old new.written (one_in result)
   taken class old new (Ok held) whole first takes = one_mended file kind at check identity for held takes.found takes.puts takes.filled c t o takes.shown due lacks new.first old new.written takes.writes
   taken class old new (Err First) whole first takes = let h = takes.0 in let by = takes.1 in one_unwritten file kind at check identity for h by.found by.puts by.filled c t o by.shown due lacks new.first old new.written by.writes
   taken class old new (Err Sink) whole first takes = let h = takes.0 in let by = takes.1 in one_unprinted file kind at check identity for h by.found by.puts by.filled c t o by.shown due lacks new.first old new.written by.writes

@@ -9,11 +9,11 @@ use Rattle.df_layout.specs.declared.places.Zone.TheVariants.{Superblock, WalHead
 use Rattle.df_layout.specs.declared.layout.Layout.{Layout}
 use Rattle.df_format.specs.declared.header.Header.{Header}
 use Rattle.df_format.specs.declared.kind.Kind.{Kind}
-use Rattle.df_format.specs.Message.{Message, sectors_end, unit_of}
+use Rattle.df_format.specs.Message.{Message, sectors_end, unit_bytes}
 use Rattle.df_format.specs.Shown.{unit_in}
 use Rattle.df_format.specs.Spelling.{spelling}
 use Rattle.df_format.specs.UnitLaws.{place_size}
-use Rattle.df_format.specs.Valid.{Begins, HasBody, IsBodyOf, IsUnit}
+use Rattle.df_format.specs.Valid.{BeginsWithUnit, HasBody, IsBodyOf, IsUnit}
 use Rattle.df_format.proofs.Laws.{begun_is_shown, one_unit}
 use Rattle.df_format.proofs.Spelled.{length-spelling}
 use Rattle.df_buffers.specs.Rooms.{Room, StandsIn, room_size}
@@ -21,8 +21,8 @@ use Rattle.df_buffers.specs.Sounds.{Holding, IsSound}
 use Rattle.df_buffers.specs.declared.identity.Identity.{Identity}
 use Rattle.df_buffers.specs.Found.{FindsKind}
 use Rattle.df_buffers.proofs.Laws.{is_no_ring}
-use Rattle.df_places.specs.Shelves.{IsFound}
-use Rattle.df_mirror.specs.Taking.{IsFilled}
+use Rattle.df_places.specs.Shelves.{IsFoundUnit}
+use Rattle.df_mirror.specs.Taking.{IsZeroFilled}
 use Rattle.df_mirror.specs.Mends.{EndsInZeros}
 
 -- elsewhere than in the header ring a place has whole sectors, and a unit its body
@@ -70,18 +70,18 @@ module _ (zone : Zone) (kind : Kind) (held : Holding) (stands : StandsIn kind zo
   parts : (place_size held.layout sound.place.zone ≡ room_size held.layout sound.place.zone) × (HasBody sound.place.zone u.header u.body → IsBodyOf u.header u.body)
   parts = beside_ring held.layout sound.place.zone u.header u.body beside
 
-  begun : Begins held.layout u.header.cluster sound.place held.bytes u
+  begun : BeginsWithUnit held.layout u.header.cluster sound.place held.bytes u
   begun = (one_unit held.layout u.header.cluster sound.place held.bytes u (subst (λ (z : Zone). length held.bytes ≡ room_size held.layout z) (sym sound.in_zone) sound.fills ∙ sym parts.0) bytes).0 sound.valid
 
-  long : length (unit_of u) ≡ u.header.size
+  long : length (unit_bytes u) ≡ u.header.size
   long = omega (arith, length-append (spelling u.header) u.body, length-spelling u.header sound.is.sealed, (parts.1 sound.is.body).size)
 
   -- it is no longer than its room
   pub within : u.header.size ≤ length held.bytes
-  within = omega (arith, ap (λ (l : List ℕ). length l) begun.spelled, length-append (unit_of u) begun.rest, long)
+  within = omega (arith, ap (λ (l : List ℕ). length l) begun.spelled, length-append (unit_bytes u) begun.rest, long)
 
-  front : take u.header.size held.bytes ≡ unit_of u
-  front = ap (λ (n : ℕ). take n held.bytes) (sym long) ∙ ap (λ (l : List ℕ). take (length (unit_of u)) l) begun.spelled ∙ cut (unit_of u) begun.rest
+  front : take u.header.size held.bytes ≡ unit_bytes u
+  front = ap (λ (n : ℕ). take n held.bytes) (sym long) ∙ ap (λ (l : List ℕ). take (length (unit_bytes u)) l) begun.spelled ∙ cut (unit_bytes u) begun.rest
 
   -- blanked after it, the room still holds it
   pub still_there : (layout : Layout) (cluster : ℕ) (place : Place) (after : List ℕ) → IsUnit layout cluster place u → after ≡ take u.header.size held.bytes ++ replicate (length held.bytes - u.header.size) 0 → unit_in layout cluster place after ≡ Some u
@@ -90,10 +90,10 @@ module _ (zone : Zone) (kind : Kind) (held : Holding) (stands : StandsIn kind zo
   pub now_filled : (after : List ℕ) → after ≡ take u.header.size held.bytes ++ replicate (length held.bytes - u.header.size) 0 → EndsInZeros (256 + length u.body) (take (sectors_end u.header.size) after)
   now_filled after blank =
       let rest : List ℕ = replicate (length held.bytes - u.header.size) 0 in
-      let is : after ≡ unit_of u ++ rest = blank ∙ ap (λ (l : List ℕ). l ++ rest) front in
-      let own : length (unit_of u) ≡ 256 + length u.body = omega (arith, length-append (spelling u.header) u.body, length-spelling u.header sound.is.sealed) in
+      let is : after ≡ unit_bytes u ++ rest = blank ∙ ap (λ (l : List ℕ). l ++ rest) front in
+      let own : length (unit_bytes u) ≡ 256 + length u.body = omega (arith, length-append (spelling u.header) u.body, length-spelling u.header sound.is.sealed) in
       subst (λ (l : List ℕ). EndsInZeros (256 + length u.body) (take (sectors_end u.header.size) l)) (sym is)
-      (subst (λ (n : ℕ). EndsInZeros n (take (sectors_end u.header.size) (unit_of u ++ rest))) own (zeros_behind (unit_of u) (sectors_end u.header.size) (length held.bytes - u.header.size) (omega (arith, long))))
+      (subst (λ (n : ℕ). EndsInZeros n (take (sectors_end u.header.size) (unit_bytes u ++ rest))) own (zeros_behind (unit_bytes u) (sectors_end u.header.size) (length held.bytes - u.header.size) (omega (arith, long))))
 
   -- the bytes of the room, once they are written back
   pub written_back : (room old w : List ℕ) (size : ℕ) → room ≡ held.bytes → old ≡ room → size ≡ u.header.size → (size ≤ length old → w ≡ take size old ++ replicate (length old - size) 0)
@@ -106,7 +106,7 @@ module _ (zone : Zone) (kind : Kind) (held : Holding) (stands : StandsIn kind zo
       let all : length w ≡ length room = omega (arith, ap (λ (l : List ℕ). length l) is, length-append (take u.header.size held.bytes) (replicate (length held.bytes - u.header.size) 0), length-take u.header.size held.bytes, length-replicate {A = ℕ} (length held.bytes - u.header.size) 0, within, long_room) in
       ap (λ (n : ℕ). take n (w ++ drop (length w) room)) (sym all) ∙ cut w (drop (length w) room) ∙ is
 
-  module _ (identity : Identity) (found : IsFound kind identity u) (after : List ℕ) (blank : after ≡ take u.header.size held.bytes ++ replicate (length held.bytes - u.header.size) 0) where
+  module _ (identity : Identity) (found : IsFoundUnit kind identity u) (after : List ℕ) (blank : after ≡ take u.header.size held.bytes ++ replicate (length held.bytes - u.header.size) 0) where
     pub finds : FindsKind kind identity after u
     finds = record { found = record { valid = still_there identity.layout identity.cluster identity.place after found.is blank; wanted = found.wanted }; of_kind = found.of_kind }
 
@@ -114,7 +114,7 @@ module _ (zone : Zone) (kind : Kind) (held : Holding) (stands : StandsIn kind zo
     pub same_unit : (s : Holding) → FindsKind kind identity after s.unit → s.unit ≡ u
     same_unit s other = same_Some s.unit u (sym other.found.valid ∙ finds.found.valid)
 
-    pub is_filled : (s : Holding) → FindsKind kind identity after s.unit → s.bytes ≡ after → IsFilled s
+    pub is_filled : (s : Holding) → FindsKind kind identity after s.unit → s.bytes ≡ after → IsZeroFilled s
     is_filled s other bytes_are =
         subst (λ (v : Message). EndsInZeros (256 + length v.body) (take (sectors_end v.header.size) s.bytes)) (sym (same_unit s other)) (subst (λ (l : List ℕ). EndsInZeros (256 + length u.body) (take (sectors_end u.header.size) l)) (sym bytes_are) (now_filled after blank))
 
@@ -124,9 +124,9 @@ module _ (zone : Zone) (kind : Kind) (held : Holding) (stands : StandsIn kind zo
 pub record IsStill (kind : Kind) (identity : Identity) (held : Holding) (after : List ℕ) : Type 0 where
   pub finds : FindsKind kind identity after held.unit
   pub same : (s : Holding) → FindsKind kind identity after s.unit → s.unit ≡ held.unit
-  pub filled : (s : Holding) → FindsKind kind identity after s.unit → s.bytes ≡ after → IsFilled s
+  pub filled : (s : Holding) → FindsKind kind identity after s.unit → s.bytes ≡ after → IsZeroFilled s
 
-pub still : (zone : Zone) (kind : Kind) (held : Holding) → StandsIn kind zone → IsSound zone kind held → (identity : Identity) → IsFound kind identity held.unit
+pub still : (zone : Zone) (kind : Kind) (held : Holding) → StandsIn kind zone → IsSound zone kind held → (identity : Identity) → IsFoundUnit kind identity held.unit
     → (room : Room) (old w : List ℕ) (h : Header) → room ≡ record { layout = held.layout; bytes = held.bytes } → old ≡ room.bytes → AreBytes old → h ≡ held.unit.header → (h.size ≤ length old → w ≡ take h.size old ++ replicate (length old - h.size) 0)
     → IsStill kind identity held (take (length room.bytes) (w ++ drop (length w) room.bytes))
 still zone kind held stands sound identity found room old w h room_is old_is are h_is blank =

@@ -32,7 +32,7 @@ use Rattle.df_grid.specs.Reads.{shown_of}
 use Rattle.df_grid.specs.Table.{no_blocks}
 use Rattle.df_checkpoint.specs.Chain.{OfTold}
 use Rattle.df_checkpoint.specs.Reads.{ChainAnswer, IsAdopted}
-use Rattle.df_checkpoint.specs.Waiting.{IsPending}
+use Rattle.df_checkpoint.specs.Waiting.{IsPendingReply}
 use Rattle.df_checkpoint.specs.declared.fault.TrailerFault.{TrailerFault}
 use Rattle.df_checkpoint.specs.declared.fault.TrailerFault.TheVariants as trailer
 use Rattle.df_checkpoint.proofs.Laws.{its_text, some_chain, sessions_back, has_is, has_not}
@@ -41,9 +41,9 @@ use Rattle.df_mirror.specs.declared.ending.Ending.{Ending}
 use Rattle.df_mirror.specs.declared.ending.Ending.TheVariants.{First, Neither, Second, Sink, Unopened}
 use Rattle.df_mirror.specs.declared.superblock.Superblock.{Superblock}
 use Rattle.df_mirror.specs.Known.{AreShown}
-use Rattle.df_mirror.specs.Refusals.{RefusesTrailer}
+use Rattle.df_mirror.specs.Refusals.{RefusesFirstTrailer}
 use Rattle.df_mirror.specs.Trailers.{ReadsNamed, empty_grid, ending_of}
-use Rattle.df_mirror.specs.Walks.{HasText, ReadsText, content_of, units_of}
+use Rattle.df_mirror.specs.Walks.{HasTrailerText, ReadsChainText, content_of_superblock, superblock_units}
 use Rattle.df_mirror.proofs.Chains.{asked_shown, block_shown}
 use Rattle.df_mirror.proofs.Counts.{reference}
 
@@ -55,19 +55,19 @@ abbrev pub GivesParts : Reader → rooms.Parts → Type 0
 GivesParts reader parts = (layout : Layout) (op : ℕ) (text : List ℕ) → HasRead layout op reader text → AreParts (layout_of layout) parts (parts_of (layout_of layout) text)
 
 module _ (b : Superblock) (usable : IsSuper b.content) (t : Told) (whole : IsImage t.shown) (g : GridState) (reader : Reader) (parts : rooms.Parts) (named : b.content.trailer_address ≢ 0)
-    (adopted : IsAdopted (shape b.file) (shown_of b.file.layout b.file.cluster t.shown) (content_of b) g reader) (same : g.layout ≡ b.file.layout) (gives : GivesParts reader parts) where
+    (adopted : IsAdopted (shape b.file) (shown_of b.file.layout b.file.cluster t.shown) (content_of_superblock b) g reader) (same : g.layout ≡ b.file.layout) (gives : GivesParts reader parts) where
   said : AreParts (layout_of b.file.layout) parts adopted.parts
   said = subst (AreParts (layout_of b.file.layout) parts) (sym adopted.parts_are) (gives b.file.layout b.content.op (text_of adopted.chain) (subst (λ (l : Layout). HasRead l b.content.op reader (text_of adopted.chain)) same adopted.has))
 
   bytes : AreBytes (text_of adopted.chain)
-  bytes = text_bytes (shape b.file) (units_of b t.shown) adopted.chain (of_places b.file.layout b.file.cluster b.file.named (parse_of (layout_of b.file.layout)) t.shown whole) adopted.shows
+  bytes = text_bytes (shape b.file) (superblock_units b t.shown) adopted.chain (of_places b.file.layout b.file.cluster b.file.named (parse_of (layout_of b.file.layout)) t.shown whole) adopted.shows
 
   -- a reference is one to a block of the grid
   inside : (a c : ℕ) → adopted.parts.references a ≡ Some c → (0 < a) × (a ≤ b.file.layout.blocks)
   inside a c is =
       let l = layout_of b.file.layout in
       let text = text_of adopted.chain in
-      let parsed = its_text (shape b.file) b.content.op adopted.chain adopted.parts (some_chain (b.file.layout.block_size - 256) (content_of b) adopted.chain (some_number b.content.trailer_address named) adopted.trailer.links) adopted.trailer.says in
+      let parsed = its_text (shape b.file) b.content.op adopted.chain adopted.parts (some_chain (b.file.layout.block_size - 256) (content_of_superblock b) adopted.chain (some_number b.content.trailer_address named) adopted.trailer.links) adopted.trailer.says in
       let read = text_read l (min b.content.op (2 ^ 62)) text adopted.parts (omega arith) bytes parsed in
       (read.lawful.references a c is).0
 
@@ -79,7 +79,7 @@ module _ (b : Superblock) (usable : IsSuper b.content) (t : Told) (whole : IsIma
       by None is (Some c) at = at ∙ sym (entry_in adopted.parts.references (addresses (layout_of b.file.layout)) a c at)
       by None is None at = at ∙ sym is
 
-  pub named_text : HasText b (units_of b t.shown) g parts.sessions.items
+  pub named_text : HasTrailerText b (superblock_units b t.shown) g parts.sessions.items
   named_text = record {
     says = record { chain = adopted.chain; parts = adopted.parts; trailer = adopted.trailer; shown = adopted.shows };
     inside = inside;
@@ -89,7 +89,7 @@ module _ (b : Superblock) (usable : IsSuper b.content) (t : Told) (whole : IsIma
 
 -- ---- why it isn't read
 
-pub named_refused : (b : Superblock) (image : Image) (g h : GridState) (reader : Reader) (e : TrailerFault) → ChainAnswer (shape b.file) (shown_of b.file.layout b.file.cluster image) (content_of b) g reader (Err e) → ReadsNamed b image h (Err (ending_of e))
+pub named_refused : (b : Superblock) (image : Image) (g h : GridState) (reader : Reader) (e : TrailerFault) → ChainAnswer (shape b.file) (shown_of b.file.layout b.file.cluster image) (content_of_superblock b) g reader (Err e) → ReadsNamed b image h (Err (ending_of e))
 named_refused b image g h reader (trailer.Damaged address class) answer = (address, answer)
 named_refused b image g h reader (trailer.BadField field value) (inl broken) = inl (inl broken)
 named_refused b image g h reader (trailer.BadField field value) (inr (inl text)) = inl (inr (inl text))
@@ -97,9 +97,9 @@ named_refused b image g h reader (trailer.BadField field value) (inr (inr refere
 named_refused b image g h reader trailer.DiskFault answer = tt
 
 -- where each block that is wanted is shown, none is refused as damaged
-pub text_refused : (b : Superblock) (image : Image) (g : GridState) (e : Ending) → AreShown (shape b.file) (units_of b image) (content_of b) Trailer → ReadsNamed b image g (Err e) → ReadsText b image (Err e)
+pub text_refused : (b : Superblock) (image : Image) (g : GridState) (e : Ending) → AreShown (shape b.file) (superblock_units b image) (content_of_superblock b) Trailer → ReadsNamed b image g (Err e) → ReadsChainText b image (Err e)
 text_refused b image g (Unopened (Damaged place class)) shown (a, lacking) =
-    let there = block_shown (units_of b image) a lacking.sum (shown (BlockPlace a) lacking.sum lacking.reads) in
+    let there = block_shown (superblock_units b image) a lacking.sum (shown (BlockPlace a) lacking.sum lacking.reads) in
     let ok = asked_shown (shown_of b.file.layout b.file.cluster image) a lacking.sum there.0 there.1 there.2 there.3 in
     let both : Ok there.0 ≡ Err class = sym ok ∙ lacking.is in
     absurd (cc)
@@ -117,20 +117,20 @@ text_refused b image g (Neither place class) shown is = is
 
 -- what is answered of a disk that is told
 pub told_answer : (b : Superblock) (h g : GridState) (reader : Reader) (result : Result (Unit {0}) TrailerFault) (told : Option Told) → h ≡ empty_grid b
-    → OfTold h told (λ shown. ChainAnswer (shape b.file) shown (content_of b) g reader result) → (t : Told) → told ≡ Some t → ChainAnswer (shape b.file) (shown_of b.file.layout b.file.cluster t.shown) (content_of b) g reader result
+    → OfTold h told (λ shown. ChainAnswer (shape b.file) shown (content_of_superblock b) g reader result) → (t : Told) → told ≡ Some t → ChainAnswer (shape b.file) (shown_of b.file.layout b.file.cluster t.shown) (content_of_superblock b) g reader result
 told_answer b h g reader result told same answer t is =
-    subst (λ (x : GridState). ChainAnswer (shape b.file) (shown_of x.layout x.cluster t.shown) (content_of b) g reader result) same (subst (λ (o : Option Told). OfTold h o (λ shown. ChainAnswer (shape b.file) shown (content_of b) g reader result)) is answer)
+    subst (λ (x : GridState). ChainAnswer (shape b.file) (shown_of x.layout x.cluster t.shown) (content_of_superblock b) g reader result) same (subst (λ (o : Option Told). OfTold h o (λ shown. ChainAnswer (shape b.file) shown (content_of_superblock b) g reader result)) is answer)
 
 -- ---- the ops that wait
 
-pub text_untracked : (b : Superblock) (image : Image) (g : GridState) (ss : List Session) (n : ℕ) → b.content.trailer_address ≢ 0 → HasText b (units_of b image) g ss → IsPending ss b.content.replies b.content.op (Some n) → RefusesTrailer b.file image (content_of b) (BadField Pending n)
+pub text_untracked : (b : Superblock) (image : Image) (g : GridState) (ss : List Session) (n : ℕ) → b.content.trailer_address ≢ 0 → HasTrailerText b (superblock_units b image) g ss → IsPendingReply ss b.content.replies b.content.op (Some n) → RefusesFirstTrailer b.file image (content_of_superblock b) (BadField Pending n)
 text_untracked b image g ss n named text lacking = inl (inr (inr (inr (
   refl,
   record {
     chain = text.says.chain;
     whole = record { links = text.says.trailer.links; count = text.says.trailer.count; inside = text.says.trailer.inside; size = text.says.trailer.size; shows = text.says.shown };
     parts = text.says.parts;
-    says = its_text (shape b.file) b.content.op text.says.chain text.says.parts (some_chain (b.file.layout.block_size - 256) (content_of b) text.says.chain (some_number b.content.trailer_address named) text.says.trailer.links) text.says.trailer.says;
+    says = its_text (shape b.file) b.content.op text.says.chain text.says.parts (some_chain (b.file.layout.block_size - 256) (content_of_superblock b) text.says.chain (some_number b.content.trailer_address named) text.says.trailer.links) text.says.trailer.says;
     spare = text.says.trailer.spare;
     above = lacking.above;
     reached = lacking.reached;
@@ -144,7 +144,7 @@ text_untracked b image g ss n named text lacking = inl (inr (inr (inr (
 pub grid_is : (b : Superblock) (g : GridState) (l : Layout) → g ≡ record { layout = l; cluster = b.file.cluster; boot = 0; blocks = no_blocks } → l ≡ b.file.layout → g ≡ empty_grid b
 grid_is b g l is same = subst (λ (x : Layout). g ≡ record { layout = x; cluster = b.file.cluster; boot = 0; blocks = no_blocks }) same is
 
-pub no_text : (b : Superblock) (image : Units) → IsSuper b.content → b.content.trailer_address ≡ 0 → HasText b image (empty_grid b) []
+pub no_text : (b : Superblock) (image : Units) → IsSuper b.content → b.content.trailer_address ≡ 0 → HasTrailerText b image (empty_grid b) []
 no_text b image usable none =
     let is = reference b usable in
     let zero : b.content.trailer_size ≡ 0 = (is.none none).1 in

@@ -15,26 +15,26 @@ use Rattle.df_mirror.specs.declared.ending.Ending.{Ending}
 use Rattle.df_mirror.specs.declared.ending.Ending.TheVariants.{First}
 use Rattle.df_mirror.specs.declared.superblock.Superblock.{Superblock}
 use Rattle.df_mirror.specs.Known.{IsDue}
-use Rattle.df_mirror.specs.Mends.{Answers, AreAt, AreOfKind, Mend}
+use Rattle.df_mirror.specs.Mends.{AnswersMending, AreAt, AreOfKind, Mend}
 use Rattle.df_mirror.specs.Outside.{Outside, Tell}
 use Rattle.df_mirror.specs.Statuses.{AreBlamed}
 use Rattle.df_mirror.specs.Taking.{HoldsShown, IsFor, MendsUnit, ShowsUnit, count_in}
-use Rattle.df_mirror.specs.Walks.{Mended, content_of, units_of}
+use Rattle.df_mirror.specs.Walks.{Mended, content_of_superblock, superblock_units}
 use Rattle.df_mirror.proofs.Joined.{answers_then, answers_with, kind_at, kinds_append, more, none_came, none_failed, told_is_whole}
 
 -- ---- nothing was mended
 
 module _ (b : Superblock) (Of : List Mend → Type 0) (none : Of []) (t o : Told) (old new : Outside) (tell : Tell t o old) (same : new.first ≡ old.first) (silent : new.written ≡ old.written) (Shows : Units → Type 0) where
   -- what was shown is
-  pub none_mended : Shows (units_of b t.shown) → Mended b Of t o old new (Ok 0) Shows
+  pub none_mended : Shows (superblock_units b t.shown) → Mended b Of t o old new (Ok 0) Shows
   none_mended shows = record {
-    answers = none_came b.file (content_of b) Of none t o new.first old.written new.written (same ∙ tell.first) silent (λ ms n. 0 ≡ length ms) refl;
-    shown = λ u is. subst (λ (x : Told). Shows (units_of b x.shown)) (same_Some _ _ (sym (same ∙ tell.first) ∙ is)) shows;
+    answers = none_came b.file (content_of_superblock b) Of none t o new.first old.written new.written (same ∙ tell.first) silent (λ ms n. 0 ≡ length ms) refl;
+    shown = λ u is. subst (λ (x : Told). Shows (superblock_units b x.shown)) (same_Some _ _ (sym (same ∙ tell.first) ∙ is)) shows;
   }
 
   -- the first file can't be read
   pub none_read : Mended b Of t o old new (Err First) Shows
-  none_read = record { answers = none_failed b.file (content_of b) Of none t o new.first old.written new.written (same ∙ tell.first) silent; shown = λ u is. tt }
+  none_read = record { answers = none_failed b.file (content_of_superblock b) Of none t o new.first old.written new.written (same ∙ tell.first) silent; shown = λ u is. tt }
 
 -- ---- one after the other
 
@@ -44,26 +44,26 @@ on_more a (Err e) P is = tt
 
 -- so many were mended, and then as many more as are answered
 pub then_mended : {b : Superblock} {Of Then All : List Mend → Type 0} {t o : Told} {old mid new : Outside} {a : ℕ} {Before After : Units → Type 0} → ((ms ls : List Mend) → Of ms → Then ls → All (ms ++ ls)) → Tell t o old → mid.second ≡ old.second
-    → Mended b Of t o old mid (Ok a) Before → (result : Result ℕ Ending) → ((m : Told) → Tell m o mid → Before (units_of b m.shown) → Mended b Then m o mid new result After) → Mended b All t o old new (more a result) After
+    → Mended b Of t o old mid (Ok a) Before → (result : Result ℕ Ending) → ((m : Told) → Tell m o mid → Before (superblock_units b m.shown) → Mended b Then m o mid new result After) → Mended b All t o old new (more a result) After
 then_mended {b = b} {Of = Of} {Then = Then} {All = All} {t = t} {o = o} {old = old} {mid = mid} {new = new} {a = a} {After = After} closed tell same has result next =
     let came = has.answers in
     let on : Tell came.after o mid = record {
       first = came.after_is;
       second = same ∙ tell.second;
-      whole = told_is_whole b.file (content_of b) Of t o came.after mid.first old.written mid.written a tell.whole came came.after_is;
+      whole = told_is_whole b.file (content_of_superblock b) Of t o came.after mid.first old.written mid.written a tell.whole came came.after_is;
       other = tell.other;
     } in
     let rest = next came.after on (has.shown came.after came.after_is) in
     record {
-      answers = answers_then b.file (content_of b) Of Then All closed t o came.after mid.first new.first old.written mid.written new.written a result came came.after_is rest.answers;
-      shown = λ u is. on_more a result (After (units_of b u.shown)) (rest.shown u is);
+      answers = answers_then b.file (content_of_superblock b) Of Then All closed t o came.after mid.first new.first old.written mid.written new.written a result came came.after_is rest.answers;
+      shown = λ u is. on_more a result (After (superblock_units b u.shown)) (rest.shown u is);
     }
 
 -- a read comes after it
 pub read_behind : {b : Superblock} {Of : List Mend → Type 0} {t o : Told} {old mid new : Outside} {result : Result ℕ Ending} {Shows : Units → Type 0} → Mended b Of t o old mid result Shows → new.first ≡ mid.first → new.written ≡ mid.written → Mended b Of t o old new result Shows
 read_behind {b = b} {Of = Of} {t = t} {o = o} {old = old} {mid = mid} {new = new} {result = result} has same silent = record {
-  answers = subst (λ (x : Option Told). Answers b.file (content_of b) Of t o x old.written new.written result) (sym same)
-      (subst (λ (x : Option (List ℕ)). Answers b.file (content_of b) Of t o mid.first old.written x result) (sym silent) has.answers);
+  answers = subst (λ (x : Option Told). AnswersMending b.file (content_of_superblock b) Of t o x old.written new.written result) (sym same)
+      (subst (λ (x : Option (List ℕ)). AnswersMending b.file (content_of_superblock b) Of t o mid.first old.written x result) (sym silent) has.answers);
   shown = λ u is. has.shown u (sym same ∙ is);
 }
 
@@ -73,17 +73,17 @@ on_so (Err e) P Q says is = tt
 
 -- what is shown says more
 pub shows_more : {b : Superblock} {Of : List Mend → Type 0} {t o : Told} {old new : Outside} {result : Result ℕ Ending} {Before After : Units → Type 0} → ((image : Units) → Before image → After image) → Mended b Of t o old new result Before → Mended b Of t o old new result After
-shows_more {b = b} {result = result} {Before = Before} {After = After} says has = record { answers = has.answers; shown = λ u is. on_so result (Before (units_of b u.shown)) (After (units_of b u.shown)) (says (units_of b u.shown)) (has.shown u is) }
+shows_more {b = b} {result = result} {Before = Before} {After = After} says has = record { answers = has.answers; shown = λ u is. on_so result (Before (superblock_units b u.shown)) (After (superblock_units b u.shown)) (says (superblock_units b u.shown)) (has.shown u is) }
 
 -- it ends there, as a part of more
 pub ends_so : {b : Superblock} {Of All : List Mend → Type 0} {t o : Told} {old new : Outside} {e : Ending} {Before After : Units → Type 0} → ((ms : List Mend) → Of ms → All ms) → Mended b Of t o old new (Err e) Before → Mended b All t o old new (Err e) After
-ends_so {b = b} {Of = Of} {All = All} {t = t} {o = o} {old = old} {new = new} {e = e} of has = record { answers = answers_with b.file (content_of b) Of All t o new.first old.written new.written (Err e) of has.answers; shown = λ u is. tt }
+ends_so {b = b} {Of = Of} {All = All} {t = t} {o = o} {old = old} {new = new} {e = e} of has = record { answers = answers_with b.file (content_of_superblock b) Of All t o new.first old.written new.written (Err e) of has.answers; shown = λ u is. tt }
 
 -- ---- one unit
 
 -- what was mended of a unit that was due; the image shows it, where it didn't end there
 pub record MendsDue (b : Superblock) (kind : Kind) (at : Place) (check : List ℕ) (t o : Told) (old new : Outside) (result : Result (Holding × ℕ) Ending) : Type 0 where
-  pub answers : Answers b.file (content_of b) (AreAt kind at) t o new.first old.written new.written (count_in result)
+  pub answers : AnswersMending b.file (content_of_superblock b) (AreAt kind at) t o new.first old.written new.written (count_in result)
   pub shows : (m : Told) → new.first ≡ Some m → IfOk result (λ done. ShowsUnit b.file kind at check m.shown done.0.unit)
 
 module _ (b : Superblock) (kind : Kind) (at : Place) (check : List ℕ) (identity : Identity) (for : IsFor b.file kind at check identity) (t o : Told) (old new : Outside) (tell : Tell t o old) where
@@ -91,14 +91,14 @@ module _ (b : Superblock) (kind : Kind) (at : Place) (check : List ℕ) (identit
   holds (Ok done) shown m is = shown b.file at check t m for tell.first is tell.whole
   holds (Err e) shown m is = tt
 
-  pub due_mended : IsDue (shape b.file) (units_of b t.shown) (content_of b) kind at (number_of check) → (result : Result (Holding × ℕ) Ending) → MendsUnit kind identity old new (count_in result) → IfOk result (λ done. HoldsShown kind identity old.first new.first done.0)
+  pub due_mended : IsDue (shape b.file) (superblock_units b t.shown) (content_of_superblock b) kind at (number_of check) → (result : Result (Holding × ℕ) Ending) → MendsUnit kind identity old new (count_in result) → IfOk result (λ done. HoldsShown kind identity old.first new.first done.0)
       → MendsDue b kind at check t o old new result
-  due_mended due result mends shown = record { answers = mends b.file (content_of b) at check t o for tell due; shows = holds result shown }
+  due_mended due result mends shown = record { answers = mends b.file (content_of_superblock b) at check t o for tell due; shows = holds result shown }
 
 -- one of its kind
-pub of_one : (b : Superblock) (kind : Kind) (at : Place) (t o : Told) (old new : Outside) (result : Result ℕ Ending) (Shows : Units → Type 0) → Answers b.file (content_of b) (AreAt kind at) t o new.first old.written new.written result
-    → ((u : Told) → new.first ≡ Some u → OnOk result (Shows (units_of b u.shown))) → Mended b (AreOfKind kind) t o old new result Shows
-of_one b kind at t o old new result Shows is shown = record { answers = answers_with b.file (content_of b) (AreAt kind at) (AreOfKind kind) t o new.first old.written new.written result (kind_at kind at) is; shown = shown }
+pub of_one : (b : Superblock) (kind : Kind) (at : Place) (t o : Told) (old new : Outside) (result : Result ℕ Ending) (Shows : Units → Type 0) → AnswersMending b.file (content_of_superblock b) (AreAt kind at) t o new.first old.written new.written result
+    → ((u : Told) → new.first ≡ Some u → OnOk result (Shows (superblock_units b u.shown))) → Mended b (AreOfKind kind) t o old new result Shows
+of_one b kind at t o old new result Shows is shown = record { answers = answers_with b.file (content_of_superblock b) (AreAt kind at) (AreOfKind kind) t o new.first old.written new.written result (kind_at kind at) is; shown = shown }
 
 -- ---- a walk
 
@@ -117,7 +117,7 @@ pub record Walked (b : Superblock) (kind : Kind) (old now : Outside) (before aft
   pub mends : (x : X) (t o : Told) → Tell t o old → Begins x t → Mended b (AreOfKind kind) t o old now (Ok mended) (Shows x)
 
 module _ {b : Superblock} {kind : Kind} {old : Outside} {before : Faults} {X : Type 0} {Begins : X → Told → Type 0} where
-  pub begins : {room : Layout} {most : ℕ} {Shows : X → Units → Type 0} → room ≡ b.file.layout → ((x : X) (t : Told) → Begins x t → Shows x (units_of b t.shown)) → Walked b kind old old before before room 0 most Begins Shows
+  pub begins : {room : Layout} {most : ℕ} {Shows : X → Units → Type 0} → room ≡ b.file.layout → ((x : X) (t : Told) → Begins x t → Shows x (superblock_units b t.shown)) → Walked b kind old old before before room 0 most Begins Shows
   begins {Shows = Shows} same shows = record {
     calm = record { same = refl; first = refl; second = refl; sink = refl };
     room_is = same;
@@ -127,18 +127,18 @@ module _ {b : Superblock} {kind : Kind} {old : Outside} {before : Faults} {X : T
 
   module _ {mid : Outside} {between : Faults} {room : Layout} {a most : ℕ} {Shows : X → Units → Type 0} (walked : Walked b kind old mid before between room a most Begins Shows) where
     -- what the next turn answers is answered
-    turn : {new : Outside} {After : X → Units → Type 0} (result : Result ℕ Ending) → ((x : X) (m o : Told) → Tell m o mid → Shows x (units_of b m.shown) → Mended b (AreOfKind kind) m o mid new result (After x))
+    turn : {new : Outside} {After : X → Units → Type 0} (result : Result ℕ Ending) → ((x : X) (m o : Told) → Tell m o mid → Shows x (superblock_units b m.shown) → Mended b (AreOfKind kind) m o mid new result (After x))
         → (x : X) (t o : Told) → Tell t o old → Begins x t → Mended b (AreOfKind kind) t o old new (more a result) (After x)
     turn result next x t o tell is = then_mended (kinds_append kind) tell walked.calm.same (walked.mends x t o tell is) result (λ m. next x m o)
 
     -- it ends there
-    pub stops : {new : Outside} {After : X → Units → Type 0} (e : Ending) → ((x : X) (m o : Told) → Tell m o mid → Shows x (units_of b m.shown) → Mended b (AreOfKind kind) m o mid new (Err e) (After x))
+    pub stops : {new : Outside} {After : X → Units → Type 0} (e : Ending) → ((x : X) (m o : Told) → Tell m o mid → Shows x (superblock_units b m.shown) → Mended b (AreOfKind kind) m o mid new (Err e) (After x))
         → (x : X) (t o : Told) → Tell t o old → Begins x t → (Says : Units → Type 0) → Mended b (AreOfKind kind) t o old new (Err e) Says
     stops e next x t o tell is Says = ends_so (λ ms of. of) (turn (Err e) next x t o tell is)
 
     -- or goes on
     pub goes_on : {new : Outside} {after : Faults} {back : Layout} {one later : ℕ} {After : X → Units → Type 0} → new.second ≡ mid.second → AreBlamed between after (Ok one) → back ≡ b.file.layout → a + one ≤ later
-        → ((x : X) (m o : Told) → Tell m o mid → Shows x (units_of b m.shown) → Mended b (AreOfKind kind) m o mid new (Ok one) (After x)) → Walked b kind old new before after back (a + one) later Begins After
+        → ((x : X) (m o : Told) → Tell m o mid → Shows x (superblock_units b m.shown) → Mended b (AreOfKind kind) m o mid new (Ok one) (After x)) → Walked b kind old new before after back (a + one) later Begins After
     goes_on {one = one} same blamed back few next = record {
       calm = record { same = same ∙ walked.calm.same; first = blamed.0 ∙ walked.calm.first; second = blamed.1 ∙ walked.calm.second; sink = blamed.2 ∙ walked.calm.sink };
       room_is = back;

@@ -27,12 +27,12 @@ pub record ShowsTrailer (sh : Shape) (image : Units) (c : Content) : Type 0 wher
   pub shown : (a : ℕ) (b : Block) → InChain a b chain → image (BlockPlace a) ≡ Some (BlockUnit b)
 
 -- a block that the trailer references
-pub record IsReferenced (sh : Shape) (image : Units) (c : Content) (a sum : ℕ) : Type 0 where
+pub record IsReferencedBlock (sh : Shape) (image : Units) (c : Content) (a sum : ℕ) : Type 0 where
   pub says : ShowsTrailer sh image c
   pub reference : says.parts.references a ≡ Some sum
 
 -- the slot of a prepare above the checkpoint that the superblock names, or that the one after it names: all later ones up to the superblock's head are shown as they are named
-pub record IsNamed (sh : Shape) (image : Units) (c : Content) (s sum : ℕ) : Type 0 where
+pub record IsNamedPrepare (sh : Shape) (image : Units) (c : Content) (s sum : ℕ) : Type 0 where
   pub op : ℕ
   pub above : c.op < op
   pub slot_is : s ≡ op % slots sh
@@ -50,7 +50,7 @@ pub record HasSessions (sh : Shape) (image : Units) (c : Content) (ss : List Ses
   pub sessions_are : ss ≡ sessions_after says.parts.sessions named
 
 -- Of a session at the superblock's head the reply that the superblock recorded. It isn't known where something newer of the superblock's boot is shown: in its slot a reply above those that are recorded, or a prepare of its client above the head.
-pub record IsRecorded (sh : Shape) (image : Units) (c : Content) (k sum : ℕ) : Type 0 where
+pub record IsRecordedReply (sh : Shape) (image : Units) (c : Content) (k sum : ℕ) : Type 0 where
   pub sessions : List Session
   pub has : HasSessions sh image c sessions
   pub session : Session
@@ -61,26 +61,26 @@ pub record IsRecorded (sh : Shape) (image : Units) (c : Content) (k sum : ℕ) :
   pub no_prepare : (s : ℕ) (p : Message) → image (PreparePlace s) ≡ Some (PrepareUnit p) → p.header.boot ≡ c.boot → c.pin < p.header.op → p.header.client ≡ session.client → ⊥
 
 -- the unit of this kind with this checksum is known at the place
-abbrev pub IsKnown : Shape → Units → Content → Kind → Place → ℕ → Type 0
-IsKnown sh image c AsTrailer (BlockPlace a) sum = ReadsTo sh image c a sum
-IsKnown sh image c AsBlock (BlockPlace a) sum = IsReferenced sh image c a sum
-IsKnown sh image c AsPrepare (PreparePlace s) sum = IsNamed sh image c s sum
-IsKnown sh image c AsReply (ReplyPlace k) sum = IsRecorded sh image c k sum
-IsKnown sh image c kind place sum = ⊥
+abbrev pub IsKnownAt : Shape → Units → Content → Kind → Place → ℕ → Type 0
+IsKnownAt sh image c AsTrailer (BlockPlace a) sum = ReadsTo sh image c a sum
+IsKnownAt sh image c AsBlock (BlockPlace a) sum = IsReferencedBlock sh image c a sum
+IsKnownAt sh image c AsPrepare (PreparePlace s) sum = IsNamedPrepare sh image c s sum
+IsKnownAt sh image c AsReply (ReplyPlace k) sum = IsRecordedReply sh image c k sum
+IsKnownAt sh image c kind place sum = ⊥
 
 -- each known unit is shown
 abbrev pub AllShown : Shape → Units → Content → Type 0
-AllShown sh image c = (kind : Kind) (place : Place) (sum : ℕ) → IsKnown sh image c kind place sum → IsShownAs image kind place sum
+AllShown sh image c = (kind : Kind) (place : Place) (sum : ℕ) → IsKnownAt sh image c kind place sum → IsShownAs image kind place sum
 
 -- each known unit of this kind is
 abbrev pub AreShown : Shape → Units → Content → Kind → Type 0
-AreShown sh image c kind = (place : Place) (sum : ℕ) → IsKnown sh image c kind place sum → IsShownAs image kind place sum
+AreShown sh image c kind = (place : Place) (sum : ℕ) → IsKnownAt sh image c kind place sum → IsShownAs image kind place sum
 
 -- no known unit that is shown stands at this place
-abbrev pub IsSpare : Shape → Units → Content → Place → Type 0
-IsSpare sh image c place = (kind : Kind) (at : Place) (sum : ℕ) → IsKnown sh image c kind at sum → IsShownAs image kind at sum → at ≡ place → ⊥
+abbrev pub IsSparePlace : Shape → Units → Content → Place → Type 0
+IsSparePlace sh image c place = (kind : Kind) (at : Place) (sum : ℕ) → IsKnownAt sh image c kind at sum → IsShownAs image kind at sum → at ≡ place → ⊥
 
 -- the unit is the next to be proved: it is known, and where it isn't shown it may be written at its place
 pub record IsDue (sh : Shape) (image : Units) (c : Content) (kind : Kind) (place : Place) (sum : ℕ) : Type 0 where
-  pub known : IsKnown sh image c kind place sum
-  pub spare : (IsShownAs image kind place sum → ⊥) → IsSpare sh image c place
+  pub known : IsKnownAt sh image c kind place sum
+  pub spare : (IsShownAs image kind place sum → ⊥) → IsSparePlace sh image c place

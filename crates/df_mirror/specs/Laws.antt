@@ -18,36 +18,36 @@ use Rattle.df_damage.specs.Versions.{IsUnspent}
 use Rattle.df_opening.specs.Below.{DataFile, shape}
 use Rattle.df_mirror.specs.declared.status.Status.{Status}
 use Rattle.df_mirror.specs.declared.status.Status.TheVariants.{Done, Found}
-use Rattle.df_mirror.specs.Known.{AllShown, IsKnown, IsShownAs}
-use Rattle.df_mirror.specs.Mends.{AreInOrder, AreMends, Mend, events_of, rank_of, units_in}
+use Rattle.df_mirror.specs.Known.{AllShown, IsKnownAt, IsShownAs}
+use Rattle.df_mirror.specs.Mends.{AreInOrder, AreMends, Mend, mirrored_events, rank_of_kind, units_shown}
 use Rattle.df_mirror.specs.Outside.{Outside, Tell}
 use Rattle.df_mirror.specs.Run.{Mirrors}
 
 -- mends of what mends left go on with them
 abbrev pub MendsGoOn : Type 0
 MendsGoOn =
-    (file : DataFile) (c : Content) (second : Image) (t : Told) (ms later : List Mend) → AreMends file c second t ms → AreMends file c second (told_after (events_of file ms) t) later
+    (file : DataFile) (c : Content) (second : Image) (t : Told) (ms later : List Mend) → AreMends file c second t ms → AreMends file c second (told_after (mirrored_events file ms) t) later
     → AreMends file c second t (ms ++ later)
 
 -- of two units that are mended one after the other the kind of the first is no later
 abbrev pub UnitsComeInOrder : Type 0
-UnitsComeInOrder = (front between back : List Mend) (m n : Mend) → AreInOrder (front ++ m ∷ between ++ n ∷ back) → rank_of m.kind ≤ rank_of n.kind
+UnitsComeInOrder = (front between back : List Mend) (m n : Mend) → AreInOrder (front ++ m ∷ between ++ n ∷ back) → rank_of_kind m.kind ≤ rank_of_kind n.kind
 
 -- each known unit that an image shows is shown by the other one
 abbrev pub KeepsShown : DataFile → Content → (image other : Image) → Type 0
 KeepsShown file c image other =
-    (kind : Kind) (place : Place) (sum : ℕ) → IsKnown (shape file) (units_in file image) c kind place sum → IsShownAs (units_in file image) kind place sum → IsShownAs (units_in file other) kind place sum
+    (kind : Kind) (place : Place) (sum : ℕ) → IsKnownAt (shape file) (units_shown file image) c kind place sum → IsShownAs (units_shown file image) kind place sum → IsShownAs (units_shown file other) kind place sum
 
 -- each image that a stop may leave at this moment shows them
-abbrev pub LeavesShown : DataFile → Content → Image → Log → Type 0
-LeavesShown file c image log = (left : Image) → IsLeft log left → KeepsShown file c image left
+abbrev pub LeavesKnownShown : DataFile → Content → Image → Log → Type 0
+LeavesKnownShown file c image log = (left : Image) → IsLeft log left → KeepsShown file c image left
 
 -- At every moment each known unit that was shown is still shown, in what the disk shows and in whatever a stop leaves: those that are known and shown after some of the mends are shown through all that come later. The log is any over which the disk is
--- honest and of which nothing is loose, as the one that is begun anew after the barrier.
+-- honest and of which nothing is loose, as the one that is restarted after the barrier.
 abbrev pub KnownStays : Type 0
 KnownStays =
-    (file : DataFile) (c : Content) (second : Image) (t u : Told) (ms later : List Mend) → IsHonest t → IsStill t.log → IsImage t.shown → AreMends file c second t (ms ++ later) → u ≡ told_after (events_of file ms) t
-    → EachMoment u.log (told_after (events_of file later) u).log (LeavesShown file c u.shown)
+    (file : DataFile) (c : Content) (second : Image) (t u : Told) (ms later : List Mend) → IsHonest t → IsStill t.log → IsImage t.shown → AreMends file c second t (ms ++ later) → u ≡ told_after (mirrored_events file ms) t
+    → EachMoment u.log (told_after (mirrored_events file later) u).log (LeavesKnownShown file c u.shown)
 
 -- ---- what an open finds then
 
@@ -56,7 +56,7 @@ pub record IsOfKnown (file : DataFile) (c : Content) (image : Image) (sector : �
   pub kind : Kind
   pub place : Place
   pub sum : ℕ
-  pub known : IsKnown (shape file) (units_in file image) c kind place sum
+  pub known : IsKnownAt (shape file) (units_shown file image) c kind place sum
   pub has_it : has file.layout place sector ≡ true
 
 -- whatever is hurt is a sector of the superblock, or of a unit that is known of what the log leaves
@@ -70,7 +70,7 @@ HasWoken file log (before ∷ logs) = HasRaised file log before logs
 
 -- No reply above those that the superblock records came back: each of its boot that is shown was left there.
 abbrev pub NoneCameBack : DataFile → Content → (was shown : Image) → Type 0
-NoneCameBack file c was shown = (k : ℕ) (r : Message) → units_in file shown (ReplyPlace k) ≡ Some (ReplyUnit r) → r.header.boot ≡ c.boot → c.replies < r.header.op → units_in file was (ReplyPlace k) ≡ Some (ReplyUnit r)
+NoneCameBack file c was shown = (k : ℕ) (r : Message) → units_shown file shown (ReplyPlace k) ≡ Some (ReplyUnit r) → r.header.boot ≡ c.boot → c.replies < r.header.op → units_shown file was (ReplyPlace k) ≡ Some (ReplyUnit r)
 
 -- Over a lived history nothing was hurt but the sectors of known units and what of the superblock an open may miss, and no unit of what is shown at the end came about by chance. Then the next open, with rooms of the file's layout, finds the view that the log
 -- left, and isn't refused. So it is where the last open had come to its end. Where it was stopped before it raised the boot, a reply may come back that it hadn't found, of the superblock's boot and above those that are recorded: it hides the recorded one of
@@ -78,15 +78,15 @@ NoneCameBack file c was shown = (k : ℕ) (r : Message) → units_in file shown 
 abbrev pub MirroredIsOpened : Type 0
 MirroredIsOpened =
     (file : DataFile) (view : View) (c : Content) (second : Image) (t n : Told) (logs : List Log) (ms : List Mend)
-    → IsFound (shape file) (units_in file (now t.log)) view → IsUnspent 2 view → IsHurtKnown file view.checkpoint.content t → MayReopen file t.log logs n.shown
+    → IsFound (shape file) (units_shown file (now t.log)) view → IsUnspent 2 view → IsHurtKnown file view.checkpoint.content t → MayReopen file t.log logs n.shown
     → HasWoken file t.log logs ⊎ NoneCameBack file view.checkpoint.content (now t.log) n.shown
-    → IsImage t.shown → IsChosen (units_in file t.shown) c → AreMends file c second (did Sync t) ms → n ≡ told_after (events_of file ms) (did Sync t) → AllShown (shape file) (units_in file n.shown) c
-    → IsFound (shape file) (units_in file n.shown) view × IsNotRefused file n.shown
+    → IsImage t.shown → IsChosen (units_shown file t.shown) c → AreMends file c second (did Sync t) ms → n ≡ told_after (mirrored_events file ms) (did Sync t) → AllShown (shape file) (units_shown file n.shown) c
+    → IsFound (shape file) (units_shown file n.shown) view × IsNotRefused file n.shown
 
 -- So it is after each run of the program that ends as Done or Found, of the file that the first file's superblock names.
 abbrev pub MendedIsOpened : Type 0
 MendedIsOpened =
     (view : View) (t o n : Told) (logs : List Log) (old new : Outside) (status : Status) (is : Mirrors t o old new status) → Tell t o old → (status ≡ Done) ⊎ (status ≡ Found) → new.first ≡ Some n
-    → IsFound (shape is.base.file) (units_in is.base.file (now t.log)) view → IsUnspent 2 view → IsHurtKnown is.base.file view.checkpoint.content t → MayReopen is.base.file t.log logs n.shown
+    → IsFound (shape is.base.file) (units_shown is.base.file (now t.log)) view → IsUnspent 2 view → IsHurtKnown is.base.file view.checkpoint.content t → MayReopen is.base.file t.log logs n.shown
     → HasWoken is.base.file t.log logs ⊎ NoneCameBack is.base.file view.checkpoint.content (now t.log) n.shown
-    → IsFound (shape is.base.file) (units_in is.base.file n.shown) view × IsNotRefused is.base.file n.shown
+    → IsFound (shape is.base.file) (units_shown is.base.file n.shown) view × IsNotRefused is.base.file n.shown

@@ -19,15 +19,15 @@ use Rattle.df_units.specs.Meaning.{place_of, unit_of}
 use Rattle.df_units.specs.Wanted.{IsOfKind, checksum_of, class_at}
 use Rattle.df_damage.specs.Anew.{told_after}
 use Rattle.df_opening.specs.Below.{DataFile, shape}
-use Rattle.df_mirror.specs.Known.{IsKnown, IsShownAs, IsSpare}
-use Rattle.df_mirror.specs.Refusals.{RefusesTrailer}
+use Rattle.df_mirror.specs.Known.{IsKnownAt, IsShownAs, IsSparePlace}
+use Rattle.df_mirror.specs.Refusals.{RefusesFirstTrailer}
 use Rattle.df_mirror.specs.Texts.{mended_text}
 use Rattle.df_mirror.specs.declared.ending.Ending.{Ending}
 use Rattle.df_mirror.specs.declared.ending.Ending.TheVariants.{First, Neither, Second, Sink, Unopened}
 
 -- what an image of the file shows
-abbrev pub units_in : DataFile → Image → Units
-units_in file image = unit_at file.layout file.cluster image
+abbrev pub units_shown : DataFile → Image → Units
+units_shown file image = unit_at file.layout file.cluster image
 
 -- ---- one unit
 
@@ -44,20 +44,20 @@ EndsInZeros size bytes = drop size bytes ≡ replicate (length bytes - size) 0
 
 -- it is known and not shown, no known unit that is shown stands at its place, the second file shows it there, its sectors bring it and touch no other place, and hold zeros after its header and its body
 pub record IsMend (file : DataFile) (c : Content) (shown second : Image) (m : Mend) : Type 0 where
-  pub known : IsKnown (shape file) (units_in file shown) c m.kind m.place (checksum_of m.unit)
-  pub lacks : IsShownAs (units_in file shown) m.kind m.place (checksum_of m.unit) → ⊥
-  pub spare : IsSpare (shape file) (units_in file shown) c m.place
+  pub known : IsKnownAt (shape file) (units_shown file shown) c m.kind m.place (checksum_of m.unit)
+  pub lacks : IsShownAs (units_shown file shown) m.kind m.place (checksum_of m.unit) → ⊥
+  pub spare : IsSparePlace (shape file) (units_shown file shown) c m.place
   pub of_kind : IsOfKind m.kind m.unit
-  pub from : units_in file second m.place ≡ Some m.unit
+  pub from : units_shown file second m.place ≡ Some m.unit
   pub puts : IsPut (format_of file.layout file.cluster) (first_at file.layout m.place) m.bytes (put_one m.place m.unit)
   pub filled : (u : Message) × (unit_of m.place u ≡ Some m.unit) × EndsInZeros (256 + length u.body) m.bytes
 
 -- ---- all of them
 
 -- each is one write and a sync
-abbrev pub events_of : DataFile → List Mend → List Event
-events_of file [] = []
-events_of file (m ∷ ms) = Write (first_at file.layout m.place) m.bytes ∷ Sync ∷ events_of file ms
+abbrev pub mirrored_events : DataFile → List Mend → List Event
+mirrored_events file [] = []
+mirrored_events file (m ∷ ms) = Write (first_at file.layout m.place) m.bytes ∷ Sync ∷ mirrored_events file ms
 
 -- and a line
 abbrev pub lines_of : List Mend → List ℕ
@@ -67,7 +67,7 @@ lines_of (m ∷ ms) = mended_text (place_of m.place) ++ lines_of ms
 -- each is a mend of what is shown after those before it
 abbrev pub AreMends : DataFile → Content → Image → Told → List Mend → Type 0
 AreMends file c second t [] = Unit {0}
-AreMends file c second t (m ∷ ms) = IsMend file c t.shown second m × AreMends file c second (told_after (events_of file (m ∷ [])) t) ms
+AreMends file c second t (m ∷ ms) = IsMend file c t.shown second m × AreMends file c second (told_after (mirrored_events file (m ∷ [])) t) ms
 
 -- each is of this kind
 abbrev pub AreOfKind : Kind → List Mend → Type 0
@@ -80,16 +80,16 @@ AreAt kind place [] = Unit {0}
 AreAt kind place (m ∷ ms) = (m.kind ≡ kind) × (m.place ≡ place) × AreAt kind place ms
 
 -- the kinds in the order in which they are mended
-abbrev pub rank_of : Kind → ℕ
-rank_of Reserved = 0
-rank_of Trailer = 1
-rank_of AsBlock = 2
-rank_of Prepare = 3
-rank_of Reply = 4
+abbrev pub rank_of_kind : Kind → ℕ
+rank_of_kind Reserved = 0
+rank_of_kind Trailer = 1
+rank_of_kind AsBlock = 2
+rank_of_kind Prepare = 3
+rank_of_kind Reply = 4
 
 abbrev pub AreFrom : ℕ → List Mend → Type 0
 AreFrom rank [] = Unit {0}
-AreFrom rank (m ∷ ms) = (rank ≤ rank_of m.kind) × AreFrom (rank_of m.kind) ms
+AreFrom rank (m ∷ ms) = (rank ≤ rank_of_kind m.kind) × AreFrom (rank_of_kind m.kind) ms
 
 -- prepares come first, and then replies
 abbrev pub AreLate : List Mend → Type 0
@@ -102,15 +102,15 @@ AreInOrder ms = AreFrom 0 ms
 -- ---- how that ends
 
 -- these were mended: all of it was written and printed
-pub record Mends (file : DataFile) (c : Content) (t o n : Told) (old new : Option (List ℕ)) (ms : List Mend) : Type 0 where
+pub record MendsUnits (file : DataFile) (c : Content) (t o n : Told) (old new : Option (List ℕ)) (ms : List Mend) : Type 0 where
   pub are : AreMends file c o.shown t ms
-  pub told : n ≡ told_after (events_of file ms) t
+  pub told : n ≡ told_after (mirrored_events file ms) t
   pub printed : Appends old new (lines_of ms)
 
 -- one of these was being mended as a disk or the sink failed: of what they write and print a part is there, from the first on
 pub record MendsPart (file : DataFile) (c : Content) (t o : Told) (new : Option Told) (old text : Option (List ℕ)) (ms : List Mend) : Type 0 where
   pub are : AreMends file c o.shown t ms
-  pub told : AddsPart (events_of file ms) (Some t) new
+  pub told : AddsPart (mirrored_events file ms) (Some t) new
   pub printed : AppendsPart old text (lines_of ms)
 
 -- a known unit is shown by neither file, and this is the class of what the first one shows
@@ -119,9 +119,9 @@ pub record IsNeither (file : DataFile) (c : Content) (shown second : Image) (pla
   pub at : Place
   pub sum : ℕ
   pub place_is : place ≡ place_of at
-  pub known : IsKnown (shape file) (units_in file shown) c kind at sum
-  pub lacks : IsShownAs (units_in file shown) kind at sum → ⊥
-  pub other : IsShownAs (units_in file second) kind at sum → ⊥
+  pub known : IsKnownAt (shape file) (units_shown file shown) c kind at sum
+  pub lacks : IsShownAs (units_shown file shown) kind at sum → ⊥
+  pub other : IsShownAs (units_shown file second) kind at sum → ⊥
   pub class_is : class ≡ class_at file.layout file.cluster shown at
 
 -- some were mended, and then it ended so
@@ -130,7 +130,7 @@ pub record Came (file : DataFile) (c : Content) (Of : List Mend → Type 0) (t o
   pub after : Told
   pub after_is : new ≡ Some after
   pub are_of : Of mends
-  pub does : Mends file c t o after old text mends
+  pub does : MendsUnits file c t o after old text mends
   pub last : Last mends after
 
 -- some were, and then a disk or the sink failed
@@ -140,10 +140,10 @@ pub record Failed (file : DataFile) (c : Content) (Of : List Mend → Type 0) (t
   pub does : MendsPart file c t o new old text mends
 
 -- units are mended, of such a kind or in such an order: so many, or up to one that neither file shows, or to where the trailer fails a test, or a call failed
-abbrev pub Answers : DataFile → Content → (List Mend → Type 0) → Told → Told → Option Told → (old text : Option (List ℕ)) → Result ℕ Ending → Type 0
-Answers file c Of t o new old text (Ok count) = Came file c Of t o new old text (λ ms n. count ≡ length ms)
-Answers file c Of t o new old text (Err (Neither place class)) = Came file c Of t o new old text (λ ms n. IsNeither file c n.shown o.shown place class)
-Answers file c Of t o new old text (Err (Unopened e)) = Came file c Of t o new old text (λ ms n. RefusesTrailer file n.shown c e)
-Answers file c Of t o new old text (Err First) = Failed file c Of t o new old text
-Answers file c Of t o new old text (Err Second) = Failed file c Of t o new old text
-Answers file c Of t o new old text (Err Sink) = Failed file c Of t o new old text
+abbrev pub AnswersMending : DataFile → Content → (List Mend → Type 0) → Told → Told → Option Told → (old text : Option (List ℕ)) → Result ℕ Ending → Type 0
+AnswersMending file c Of t o new old text (Ok count) = Came file c Of t o new old text (λ ms n. count ≡ length ms)
+AnswersMending file c Of t o new old text (Err (Neither place class)) = Came file c Of t o new old text (λ ms n. IsNeither file c n.shown o.shown place class)
+AnswersMending file c Of t o new old text (Err (Unopened e)) = Came file c Of t o new old text (λ ms n. RefusesFirstTrailer file n.shown c e)
+AnswersMending file c Of t o new old text (Err First) = Failed file c Of t o new old text
+AnswersMending file c Of t o new old text (Err Second) = Failed file c Of t o new old text
+AnswersMending file c Of t o new old text (Err Sink) = Failed file c Of t o new old text

@@ -6,7 +6,7 @@ use Rattle.std.specs.Prelude.{Some}
 use Rattle.df_mirror.specs.declared.status.Status.{Status}
 use Rattle.df_mirror.specs.declared.status.Status.TheVariants.{Done, Found}
 pub use Rattle.df_telling.specs.Telling.{Blames, PrintsError, Writes}
-pub use Rattle.df_telling.specs.Two.{Faults, HasCauses, Outside, around, counts}
+pub use Rattle.df_telling.specs.Two.{Faults, HasCausesOfTwo, Outside, around, counts}
 use Rattle.df_telling.specs.Two.{Outside}
 
 -- both files tell what they show, in whole sectors

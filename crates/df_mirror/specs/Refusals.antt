@@ -21,7 +21,7 @@ pub record ComesAgain (sh : Shape) (image : Units) (c : Content) (a : ℕ) : Typ
   pub chained : InChain a block reads.read
 
 -- the first test that fails: of a link, of the text, of the addresses of the chain, or of the ops that wait for their replies; or the chain comes to one of its own blocks
-abbrev pub RefusesTrailer : DataFile → Image → Content → OpenError → Type 0
-RefusesTrailer file image c (BadField field value) =
+abbrev pub RefusesFirstTrailer : DataFile → Image → Content → OpenError → Type 0
+RefusesFirstTrailer file image c (BadField field value) =
     FailsTest (shape file) (shown_of file.layout file.cluster image) c field value ⊎ ((field ≡ TrailerChain) × ComesAgain (shape file) (unit_at file.layout file.cluster image) c value)
-RefusesTrailer file image c e = ⊥
+RefusesFirstTrailer file image c e = ⊥

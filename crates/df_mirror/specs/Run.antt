@@ -12,10 +12,10 @@ use Rattle.df_mirror.specs.declared.status.Status.{Status}
 use Rattle.df_mirror.specs.declared.superblock.Superblock.{Superblock}
 use Rattle.df_mirror.specs.declared.status.Status.TheVariants as ends
 use Rattle.df_mirror.specs.Known.{AllShown}
-use Rattle.df_mirror.specs.Mends.{Answers, AreInOrder}
+use Rattle.df_mirror.specs.Mends.{AnswersMending, AreInOrder}
 use Rattle.df_mirror.specs.Outside.{Outside, PrintsError, Tell, Writes, ended}
 use Rattle.df_mirror.specs.Texts.{count_text, neither_text}
-use Rattle.df_mirror.specs.Walks.{content_of, units_of}
+use Rattle.df_mirror.specs.Walks.{content_of_superblock, superblock_units}
 
 -- ---- a file that isn't mended
 
@@ -25,12 +25,12 @@ pub record IsUndone (old new : Outside) : Type 0 where
   pub told : (new.first ≡ old.first) ⊎ (new.first ≡ after Sync old.first)
 
 -- memory was wanting, or the first disk failed before or after the barrier
-pub record DidNothing (old new : Outside) (status : Status) : Type 0 where
+pub record MirroredNothing (old new : Outside) (status : Status) : Type 0 where
   pub undone : IsUndone old new
   pub why : (status ≡ ends.Memory) ⊎ (status ≡ ends.DiskFault)
 
 -- the superblock that the first file shows can't be used: its refusal is printed, after the barrier
-pub record RefusesSuperblock (t : Told) (old new : Outside) (status : Status) : Type 0 where
+pub record RefusesFirstSuperblock (t : Told) (old new : Outside) (status : Status) : Type 0 where
   pub error : OpenError
   pub is : Refuses t.shown error
   pub prints : Writes ends.WriteFault (open_refusal error) ends.Refused old.written new.written status
@@ -39,21 +39,21 @@ pub record RefusesSuperblock (t : Told) (old new : Outside) (status : Status) : 
 -- ---- one that is
 
 -- what is printed last: how many units were mended, or why the run ends; of a fault nothing
-abbrev pub Tells : Result ℕ Ending → (old new : Option (List ℕ)) → Status → Type 0
-Tells (Ok count) old new status = Writes ends.WriteFault (count_text count) (ended count) old new status
-Tells (Err (Neither place class)) old new status = Writes ends.WriteFault (neither_text place class) ends.Refused old new status
-Tells (Err (Unopened e)) old new status = PrintsError ends.Refused ends.DiskFault ends.WriteFault e old new status
-Tells (Err First) old new status = (status ≡ ends.DiskFault) × (new ≡ old)
-Tells (Err Second) old new status = (status ≡ ends.DiskFault) × (new ≡ old)
-Tells (Err Sink) old new status = (status ≡ ends.WriteFault) × (new ≡ old)
+abbrev pub TellsEnd : Result ℕ Ending → (old new : Option (List ℕ)) → Status → Type 0
+TellsEnd (Ok count) old new status = Writes ends.WriteFault (count_text count) (ended count) old new status
+TellsEnd (Err (Neither place class)) old new status = Writes ends.WriteFault (neither_text place class) ends.Refused old new status
+TellsEnd (Err (Unopened e)) old new status = PrintsError ends.Refused ends.DiskFault ends.WriteFault e old new status
+TellsEnd (Err First) old new status = (status ≡ ends.DiskFault) × (new ≡ old)
+TellsEnd (Err Second) old new status = (status ≡ ends.DiskFault) × (new ≡ old)
+TellsEnd (Err Sink) old new status = (status ≡ ends.WriteFault) × (new ≡ old)
 
 -- Known units were mended, those of the trailer first, then blocks, prepares and replies, each as it wasn't shown; and the line on that is the last. Where no disk and no sink failed and both files together show all that is known, all of it is shown then.
 pub record Mirrored (b : Superblock) (t o : Told) (old new : Outside) (status : Status) : Type 0 where
   pub text : Option (List ℕ)
   pub result : Result ℕ Ending
-  pub answers : Answers b.file (content_of b) AreInOrder t o new.first old.written text result
-  pub shown : (count : ℕ) (n : Told) → result ≡ Ok count → new.first ≡ Some n → AllShown (shape b.file) (units_of b n.shown) (content_of b)
-  pub tells : Tells result text new.written status
+  pub answers : AnswersMending b.file (content_of_superblock b) AreInOrder t o new.first old.written text result
+  pub shown : (count : ℕ) (n : Told) → result ≡ Ok count → new.first ≡ Some n → AllShown (shape b.file) (superblock_units b n.shown) (content_of_superblock b)
+  pub tells : TellsEnd result text new.written status
 
 -- the superblock that the first file shows says what is known, and it is mended after the barrier
 pub record Mirrors (t o : Told) (old new : Outside) (status : Status) : Type 0 where
@@ -63,8 +63,8 @@ pub record Mirrors (t o : Told) (old new : Outside) (status : Status) : Type 0 w
 
 -- ---- the program
 
-abbrev pub Outcome : Told → Told → Outside → Outside → Status → Type 0
-Outcome t o old new status = DidNothing old new status ⊎ RefusesSuperblock t old new status ⊎ Mirrors t o old new status
+abbrev pub MirrorOutcome : Told → Told → Outside → Outside → Status → Type 0
+MirrorOutcome t o old new status = MirroredNothing old new status ⊎ RefusesFirstSuperblock t old new status ⊎ Mirrors t o old new status
 
-abbrev pub Runs : Outside → Outside → Status → Type 0
-Runs old new status = (t o : Told) → Tell t o old → Outcome t o old new status
+abbrev pub RunsMirror : Outside → Outside → Status → Type 0
+RunsMirror old new status = (t o : Told) → Tell t o old → MirrorOutcome t o old new status

@@ -9,14 +9,14 @@ use Rattle.df_mirror.specs.declared.status.Status.{Status}
 use Rattle.df_mirror.specs.declared.status.Status.TheVariants as ends
 
 -- those of `datafile` that come
-abbrev pub number_of : Status → ℕ
-number_of ends.Done = 0
-number_of ends.Found = 1
-number_of ends.Words = 2
-number_of ends.Refused = 4
-number_of ends.DiskFault = 5
-number_of ends.WriteFault = 7
-number_of ends.Memory = 8
+abbrev pub mirror_exit_number : Status → ℕ
+mirror_exit_number ends.Done = 0
+mirror_exit_number ends.Found = 1
+mirror_exit_number ends.Words = 2
+mirror_exit_number ends.Refused = 4
+mirror_exit_number ends.DiskFault = 5
+mirror_exit_number ends.WriteFault = 7
+mirror_exit_number ends.Memory = 8
 
 -- the first file's disk failed
 abbrev pub is_first : Ending → Bool

@@ -15,7 +15,7 @@ use Rattle.df_buffers.specs.declared.identity.Identity.{Identity}
 use Rattle.df_buffers.specs.declared.identity.Wanted.TheVariants.{Checksum}
 use Rattle.df_buffers.specs.Rooms.{Room, StandsIn}
 use Rattle.df_buffers.specs.Sounds.{Holding}
-use Rattle.df_places.specs.Shelves.{IsFound, shown_at}
+use Rattle.df_places.specs.Shelves.{IsFoundUnit, shown_at}
 use Rattle.df_places.specs.Units.{unit_events, unit_steps}
 use Rattle.df_theory.specs.Device.{AreSteps}
 use Rattle.df_theory.specs.Units.{AnyUnit, Content, Place}
@@ -24,7 +24,7 @@ use Rattle.df_units.specs.Meaning.{number_of, place_of, unit_of}
 use Rattle.df_units.specs.Wanted.{IsOfKind, checksum_of}
 use Rattle.df_opening.specs.Below.{DataFile, shape}
 use Rattle.df_mirror.specs.Known.{IsDue}
-use Rattle.df_mirror.specs.Mends.{Answers, AreAt, EndsInZeros, units_in}
+use Rattle.df_mirror.specs.Mends.{AnswersMending, AreAt, EndsInZeros, units_shown}
 use Rattle.df_mirror.specs.Outside.{Outside, Tell}
 use Rattle.df_mirror.specs.Texts.{mended_text}
 use Rattle.df_mirror.specs.declared.ending.Ending.{Ending}
@@ -40,12 +40,12 @@ ShowsIt identity (Some t) u = shown_at identity t.shown ≡ Some u
 -- no unit that is shown is the one that is wanted, and this is the class of what is
 abbrev pub LacksIt : Kind → Identity → Option Told → Class → Type 0
 LacksIt kind identity None class = Unit {0}
-LacksIt kind identity (Some t) class = ((u : Message) → shown_at identity t.shown ≡ Some u → IsFound kind identity u → ⊥) × (class ≡ class_at identity.layout identity.cluster t.shown identity.place)
+LacksIt kind identity (Some t) class = ((u : Message) → shown_at identity t.shown ≡ Some u → IsFoundUnit kind identity u → ⊥) × (class ≡ class_at identity.layout identity.cluster t.shown identity.place)
 
 -- it is read into a room, which holds the unit that is wanted, or isn't sound
-abbrev pub Loads : Kind → Identity → Option Told → Result Holding (Room × Class) → Type 0
-Loads kind identity told (Ok held) = (held.layout ≡ identity.layout) × IsFound kind identity held.unit × ShowsIt identity told held.unit
-Loads kind identity told (Err refused) = (refused.0.layout ≡ identity.layout) × LacksIt kind identity told refused.1
+abbrev pub LoadsUnit : Kind → Identity → Option Told → Result Holding (Room × Class) → Type 0
+LoadsUnit kind identity told (Ok held) = (held.layout ≡ identity.layout) × IsFoundUnit kind identity held.unit × ShowsIt identity told held.unit
+LoadsUnit kind identity told (Err refused) = (refused.0.layout ≡ identity.layout) × LacksIt kind identity told refused.1
 
 -- ---- a write
 
@@ -61,28 +61,28 @@ abbrev pub PutsUnit : Layout → FilePlace → Holding → Type 0
 PutsUnit layout place held = (at : Place) (x : AnyUnit) → place_of at ≡ place → unit_of at held.unit ≡ Some x → AreSteps (format_of layout held.unit.header.cluster) (unit_events layout place held) (unit_steps at x)
 
 -- what is written of it holds zeros after the unit
-abbrev pub IsFilled : Holding → Type 0
-IsFilled held = EndsInZeros (256 + length held.unit.body) (take (sectors_end held.unit.header.size) held.bytes)
+abbrev pub IsZeroFilled : Holding → Type 0
+IsZeroFilled held = EndsInZeros (256 + length held.unit.body) (take (sectors_end held.unit.header.size) held.bytes)
 
 -- nothing is written or printed
 abbrev pub IsSame : Outside → Outside → Type 0
 IsSame old new = (new.first ≡ old.first) × (new.written ≡ old.written)
 
 -- the second file shows the unit that is wanted, and it is written, or that fails
-pub record Takes (kind : Kind) (identity : Identity) (old new : Outside) (held : Holding) (result : Result (Unit {0}) Ending) : Type 0 where
-  pub found : IsFound kind identity held.unit
+pub record TakesFromSecond (kind : Kind) (identity : Identity) (old new : Outside) (held : Holding) (result : Result (Unit {0}) Ending) : Type 0 where
+  pub found : IsFoundUnit kind identity held.unit
   pub shown : ShowsIt identity old.second held.unit
   pub puts : PutsUnit identity.layout identity.place held
-  pub filled : IsFilled held
+  pub filled : IsZeroFilled held
   pub writes : WritesUnit identity.layout identity.place held old.first new.first old.written new.written result
 
 -- or it doesn't show it
 abbrev pub TakesUnit : Kind → Identity → Class → Outside → Outside → Result Holding Ending → Type 0
-TakesUnit kind identity class old new (Ok held) = Takes kind identity old new held (Ok tt)
+TakesUnit kind identity class old new (Ok held) = TakesFromSecond kind identity old new held (Ok tt)
 TakesUnit kind identity class old new (Err (Neither place shown)) = (place ≡ identity.place) × (shown ≡ class) × IsSame old new × ((other : Class) × LacksIt kind identity old.second other)
 TakesUnit kind identity class old new (Err Second) = IsSame old new
 TakesUnit kind identity class old new (Err (Unopened e)) = ⊥
-TakesUnit kind identity class old new (Err e) = (held : Holding) × Takes kind identity old new held (Err e)
+TakesUnit kind identity class old new (Err e) = (held : Holding) × TakesFromSecond kind identity old new held (Err e)
 
 -- ---- a known unit
 
@@ -100,14 +100,14 @@ count_in (Err e) = Err e
 -- where it is due and both files tell what they show, it is mended as one of its kind
 abbrev pub MendsUnit : Kind → Identity → Outside → Outside → Result ℕ Ending → Type 0
 MendsUnit kind identity old new result =
-    (file : DataFile) (c : Content) (at : Place) (check : List ℕ) (t o : Told) → IsFor file kind at check identity → Tell t o old → IsDue (shape file) (units_in file t.shown) c kind at (number_of check)
-    → Answers file c (AreAt kind at) t o new.first old.written new.written result
+    (file : DataFile) (c : Content) (at : Place) (check : List ℕ) (t o : Told) → IsFor file kind at check identity → Tell t o old → IsDue (shape file) (units_shown file t.shown) c kind at (number_of check)
+    → AnswersMending file c (AreAt kind at) t o new.first old.written new.written result
 
 -- the image shows this unit at the place, which is the one that is wanted
 pub record ShowsUnit (file : DataFile) (kind : Kind) (at : Place) (check : List ℕ) (image : Image) (u : Message) : Type 0 where
   pub unit : AnyUnit
   pub unit_is : unit_of at u ≡ Some unit
-  pub shown : units_in file image at ≡ Some unit
+  pub shown : units_shown file image at ≡ Some unit
   pub of_kind : IsOfKind kind unit
   pub sum_is : checksum_of unit ≡ number_of check
 

@@ -4,8 +4,8 @@ use Rattle.df_layout.specs.declared.damage.Class.{Class}
 use Rattle.df_layout.specs.declared.places.Place.{Place}
 use Rattle.df_script_model.specs.Texts.{class_text, line_of, numbered, place_text, spaced}
 
-abbrev pub usage : List ℕ
-usage = codes "usage: filemirror FIRST SECOND\n"
+abbrev pub mirror_usage : List ℕ
+mirror_usage = codes "mirror_usage: filemirror FIRST SECOND\n"
 
 -- the unit at a place was written
 abbrev pub mended_text : Place → List ℕ

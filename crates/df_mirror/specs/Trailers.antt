@@ -17,8 +17,8 @@ use Rattle.df_sessions.specs.declared.session.Session.{Session}
 use Rattle.df_mirror.specs.declared.ending.Ending.{Ending}
 use Rattle.df_mirror.specs.declared.ending.Ending.TheVariants.{First, Unopened}
 use Rattle.df_mirror.specs.declared.superblock.Superblock.{Superblock}
-use Rattle.df_mirror.specs.Refusals.{RefusesTrailer}
-use Rattle.df_mirror.specs.Walks.{HasText, content_of, units_of}
+use Rattle.df_mirror.specs.Refusals.{RefusesFirstTrailer}
+use Rattle.df_mirror.specs.Walks.{HasTrailerText, content_of_superblock, superblock_units}
 
 -- the refusal of a trailer, as a mending ends with it
 abbrev pub ending_of : TrailerFault → Ending
@@ -36,8 +36,8 @@ empty_grid b = record { layout = b.file.layout; cluster = b.file.cluster; boot =
 
 -- the trailer is read, and these are its sessions; or it is refused for the first test that fails, or for a block that is wanted and not shown
 abbrev pub ReadsNamed : Superblock → Image → GridState → Result (ArrayVec Session) Ending → Type 0
-ReadsNamed b image grid (Ok sessions) = HasText b (units_of b image) grid sessions.items
-ReadsNamed b image grid (Err (Unopened (Damaged place class))) = (a : ℕ) × IsLacking (shape b.file) (shown_of b.file.layout b.file.cluster image) (content_of b) a class
-ReadsNamed b image grid (Err (Unopened e)) = RefusesTrailer b.file image (content_of b) e
+ReadsNamed b image grid (Ok sessions) = HasTrailerText b (superblock_units b image) grid sessions.items
+ReadsNamed b image grid (Err (Unopened (Damaged place class))) = (a : ℕ) × IsLacking (shape b.file) (shown_of b.file.layout b.file.cluster image) (content_of_superblock b) a class
+ReadsNamed b image grid (Err (Unopened e)) = RefusesFirstTrailer b.file image (content_of_superblock b) e
 ReadsNamed b image grid (Err First) = Unit {0}
 ReadsNamed b image grid (Err e) = ⊥

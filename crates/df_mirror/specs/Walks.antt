@@ -27,85 +27,85 @@ use Rattle.df_mirror.specs.declared.ending.Ending.{Ending}
 use Rattle.df_mirror.specs.declared.ending.Ending.TheVariants.{First, Unopened}
 use Rattle.df_mirror.specs.declared.superblock.Superblock.{Superblock}
 use Rattle.df_mirror.specs.declared.trailer.Text.{Text}
-use Rattle.df_mirror.specs.Known.{AreShown, HasSessions, IsRecorded, IsShownAs, ShowsTrailer}
-use Rattle.df_mirror.specs.Mends.{Answers, AreAt, Mend, units_in}
+use Rattle.df_mirror.specs.Known.{AreShown, HasSessions, IsRecordedReply, IsShownAs, ShowsTrailer}
+use Rattle.df_mirror.specs.Mends.{AnswersMending, AreAt, Mend, units_shown}
 use Rattle.df_mirror.specs.Outside.{Outside}
-use Rattle.df_mirror.specs.Refusals.{RefusesTrailer}
+use Rattle.df_mirror.specs.Refusals.{RefusesFirstTrailer}
 
 -- what the superblock says, in the words of the theory
-abbrev pub content_of : Superblock → Content
-content_of b = content_in b.content
+abbrev pub content_of_superblock : Superblock → Content
+content_of_superblock b = content_in b.content
 
 -- what an image of its file shows
-abbrev pub units_of : Superblock → Image → Units
-units_of b image = units_in b.file image
+abbrev pub superblock_units : Superblock → Image → Units
+superblock_units b image = units_shown b.file image
 
 -- What a walk or a part of it does: units are mended, of such a kind or in such an order; and where it ends well, this is shown then.
 pub record Mended (b : Superblock) (Of : List Mend → Type 0) (t o : Told) (old new : Outside) (answer : Result ℕ Ending) (Shows : Units → Type 0) : Type 0 where
-  pub answers : Answers b.file (content_of b) Of t o new.first old.written new.written answer
-  pub shown : (u : Told) → new.first ≡ Some u → OnOk answer (Shows (units_of b u.shown))
+  pub answers : AnswersMending b.file (content_of_superblock b) Of t o new.first old.written new.written answer
+  pub shown : (u : Told) → new.first ≡ Some u → OnOk answer (Shows (superblock_units b u.shown))
 
 -- the address is one of the grid
-abbrev pub IsInside : Superblock → ℕ → Type 0
-IsInside b a = (1 ≤ a) × (a ≤ b.file.layout.blocks)
+abbrev pub IsInsideGrid : Superblock → ℕ → Type 0
+IsInsideGrid b a = (1 ≤ a) × (a ≤ b.file.layout.blocks)
 
 -- of n blocks that are wanted the last ones are shown as the chain asks for them, and this one is wanted next
-pub record HasWalked (b : Superblock) (image : Units) (n : ℕ) (walk : Walk) : Type 0 where
+pub record HasWalkedChain (b : Superblock) (image : Units) (n : ℕ) (walk : Walk) : Type 0 where
   pub chain : List (ℕ × Block)
   pub addresses : map (λ r. r.address) walk.read.items ≡ map (λ x. x.0) chain
-  pub arrives : Arrives image chain (content_of b).trailer (content_of b).trailer_checksum walk.at.address (number_of walk.at.checksum)
-  pub links : AreLinks (shape b.file) (content_of b) n chain
+  pub arrives : Arrives image chain (content_of_superblock b).trailer (content_of_superblock b).trailer_checksum walk.at.address (number_of walk.at.checksum)
+  pub links : AreLinks (shape b.file) (content_of_superblock b) n chain
 
 -- a block of the trailer that isn't a link, or stands where another one does
 abbrev pub broken_at : ℕ → Ending
 broken_at address = Unopened (BadField TrailerChain address)
 
 -- the block is the link with this index, and the walk goes on to the block that it names; or it isn't
-abbrev pub GoesOn : Superblock → (at : Link) → (read : List Link) → ℕ → format.Message → Result Walk Ending → Type 0
-GoesOn b at read index u (Ok walk) = IsLink (shape b.file) (content_of b) index (block_of u) × (walk.at ≡ before_of u) × (walk.read.items ≡ read ++ at ∷ [])
-GoesOn b at read index u (Err e) = (e ≡ broken_at at.address) × (IsLink (shape b.file) (content_of b) index (block_of u) → ⊥)
+abbrev pub WalkGoesOn : Superblock → (at : Link) → (read : List Link) → ℕ → format.Message → Result Walk Ending → Type 0
+WalkGoesOn b at read index u (Ok walk) = IsLink (shape b.file) (content_of_superblock b) index (block_of u) × (walk.at ≡ before_of u) × (walk.read.items ≡ read ++ at ∷ [])
+WalkGoesOn b at read index u (Err e) = (e ≡ broken_at at.address) × (IsLink (shape b.file) (content_of_superblock b) index (block_of u) → ⊥)
 
 -- the walk goes on, where the link is mended
 abbrev pub WalksTo : Superblock → ℕ → Result (Walk × ℕ) Ending → Units → Type 0
-WalksTo b n result image = IfOk result (λ done. HasWalked b image n done.0)
+WalksTo b n result image = IfOk result (λ done. HasWalkedChain b image n done.0)
 
 -- ---- the trailer
 
 -- the trailer is shown whole, its references are what the grid has as live blocks, and its sessions are these
-pub record HasText (b : Superblock) (image : Units) (grid : GridState) (sessions : List Session) : Type 0 where
-  pub says : ShowsTrailer (shape b.file) image (content_of b)
-  pub inside : (a sum : ℕ) → says.parts.references a ≡ Some sum → IsInside b a
+pub record HasTrailerText (b : Superblock) (image : Units) (grid : GridState) (sessions : List Session) : Type 0 where
+  pub says : ShowsTrailer (shape b.file) image (content_of_superblock b)
+  pub inside : (a sum : ℕ) → says.parts.references a ≡ Some sum → IsInsideGrid b a
   pub live : (a : ℕ) → sum_at a grid.blocks.live ≡ says.parts.references a
   pub sessions_are : says.parts.sessions ≡ sessions_of sessions
 
 -- what the reading answers, where each block that is wanted is shown
-abbrev pub ReadsText : Superblock → Image → Result Text Ending → Type 0
-ReadsText b image (Ok text) = HasText b (units_of b image) text.grid text.sessions.sessions
-ReadsText b image (Err (Unopened e)) = RefusesTrailer b.file image (content_of b) e
-ReadsText b image (Err First) = Unit {0}
-ReadsText b image (Err e) = ⊥
+abbrev pub ReadsChainText : Superblock → Image → Result Text Ending → Type 0
+ReadsChainText b image (Ok text) = HasTrailerText b (superblock_units b image) text.grid text.sessions.sessions
+ReadsChainText b image (Err (Unopened e)) = RefusesFirstTrailer b.file image (content_of_superblock b) e
+ReadsChainText b image (Err First) = Unit {0}
+ReadsChainText b image (Err e) = ⊥
 
 -- ---- the blocks that it references
 
 -- those up to this address are shown
 pub record ShowsBlocks (b : Superblock) (image : Units) (grid : GridState) (sessions : List Session) (to : ℕ) : Type 0 where
-  pub has : HasText b image grid sessions
+  pub has : HasTrailerText b image grid sessions
   pub shown : (a sum : ℕ) → a ≤ to → sum_at a grid.blocks.live ≡ Some sum → IsShownAs image AsBlock (BlockPlace a) sum
 
 -- ---- the prepares
 
 -- all prepares above this op that the superblock names are shown as they are named, and this is the checksum of the one with the op
-pub record NamesFrom (b : Superblock) (image : Units) (op sum : ℕ) : Type 0 where
+pub record NamesPreparesFrom (b : Superblock) (image : Units) (op sum : ℕ) : Type 0 where
   pub later : List Message
-  pub known : AreKnown b.file.layout.slots image (op + 1) (content_of b).pin_checksum later
-  pub count : op + length later ≡ (content_of b).pin
-  pub sum_is : sum ≡ named_by (content_of b).pin_checksum later
+  pub known : AreKnown b.file.layout.slots image (op + 1) (content_of_superblock b).pin_checksum later
+  pub count : op + length later ≡ (content_of_superblock b).pin
+  pub sum_is : sum ≡ named_by (content_of_superblock b).pin_checksum later
 
 -- all of them are
 pub record ShowsNamed (b : Superblock) (image : Units) : Type 0 where
   pub named : List Message
-  pub known : AreKnown b.file.layout.slots image (b.content.op + 1) (content_of b).pin_checksum named
-  pub count : b.content.op + length named ≡ (content_of b).pin
+  pub known : AreKnown b.file.layout.slots image (b.content.op + 1) (content_of_superblock b).pin_checksum named
+  pub count : b.content.op + length named ≡ (content_of_superblock b).pin
 
 -- ---- the replies
 
@@ -113,14 +113,14 @@ pub record ShowsNamed (b : Superblock) (image : Units) : Type 0 where
 pub record HasHead (b : Superblock) (image : Units) (slots : Scan) (table : Table) : Type 0 where
   pub tells : TellsRings b.file.layout image slots
   pub sessions : List Units.Session
-  pub has : HasSessions (shape b.file) image (content_of b) sessions
+  pub has : HasSessions (shape b.file) image (content_of_superblock b) sessions
   pub places : table.max ≡ b.file.layout.clients
   pub table_is : sessions_of table.sessions ≡ take b.file.layout.clients sessions
 
 -- the known replies at the places below this one are shown
-pub record ShowsReplies (b : Superblock) (image : Units) (slots : Scan) (table : Table) (to : ℕ) : Type 0 where
+pub record ShowsKnownReplies (b : Superblock) (image : Units) (slots : Scan) (table : Table) (to : ℕ) : Type 0 where
   pub has : HasHead b image slots table
-  pub shown : (k sum : ℕ) → k < to → IsRecorded (shape b.file) image (content_of b) k sum → IsShownAs image Reply (ReplyPlace k) sum
+  pub shown : (k sum : ℕ) → k < to → IsRecordedReply (shape b.file) image (content_of_superblock b) k sum → IsShownAs image Reply (ReplyPlace k) sum
 
 -- what is seen in a slot is a reply of the superblock's boot above those that it records
 abbrev pub IsNewer : Superblock → Result Header Class → Type 0
@@ -129,17 +129,17 @@ IsNewer b (Err class) = ⊥
 
 -- the slot shows such a reply
 abbrev pub HasNewer : Superblock → Units → ℕ → Type 0
-HasNewer b image k = (r : Message) × (image (ReplyPlace k) ≡ Some (ReplyUnit r)) × (r.header.boot ≡ (content_of b).boot) × ((content_of b).replies < r.header.op)
+HasNewer b image k = (r : Message) × (image (ReplyPlace k) ≡ Some (ReplyUnit r)) × (r.header.boot ≡ (content_of_superblock b).boot) × ((content_of_superblock b).replies < r.header.op)
 
 -- the reply with this checksum is mended, where it is known if its slot shows nothing newer: it is shown then, or something newer is
 pub record MendsRecorded (b : Superblock) (k : ℕ) (check : List ℕ) (t o : Told) (old new : Outside) (answer : Result ℕ Ending) : Type 0 where
-  pub answers : ((HasNewer b (units_of b t.shown) k → ⊥) → IsRecorded (shape b.file) (units_of b t.shown) (content_of b) k (number_of check)) → Answers b.file (content_of b) (AreAt Reply (ReplyPlace k)) t o new.first old.written new.written answer
-  pub shown : (u : Told) → new.first ≡ Some u → OnOk answer (HasNewer b (units_of b u.shown) k ⊎ IsShownAs (units_of b u.shown) Reply (ReplyPlace k) (number_of check))
+  pub answers : ((HasNewer b (superblock_units b t.shown) k → ⊥) → IsRecordedReply (shape b.file) (superblock_units b t.shown) (content_of_superblock b) k (number_of check)) → AnswersMending b.file (content_of_superblock b) (AreAt Reply (ReplyPlace k)) t o new.first old.written new.written answer
+  pub shown : (u : Told) → new.first ≡ Some u → OnOk answer (HasNewer b (superblock_units b u.shown) k ⊎ IsShownAs (superblock_units b u.shown) Reply (ReplyPlace k) (number_of check))
 
 -- a prepare of the superblock's boot above its head, of this client
 pub record IsLater (b : Superblock) (client : ℕ) (p : Message) : Type 0 where
-  pub boot : p.header.boot ≡ (content_of b).boot
-  pub above : (content_of b).pin < p.header.op
+  pub boot : p.header.boot ≡ (content_of_superblock b).boot
+  pub above : (content_of_superblock b).pin < p.header.op
   pub of_client : p.header.client ≡ client
 
 -- the ring shows one
@@ -151,5 +151,5 @@ HasLater b image client = (s : ℕ) × (p : Message) × (image (PreparePlace s) 
 -- the prepares and the replies that are known are shown, and the grid is as it was
 pub record ShowsLog (b : Superblock) (image now : Units) : Type 0 where
   pub blocks : (a : ℕ) → now (BlockPlace a) ≡ image (BlockPlace a)
-  pub prepares : AreShown (shape b.file) now (content_of b) Prepare
-  pub replies : AreShown (shape b.file) now (content_of b) Reply
+  pub prepares : AreShown (shape b.file) now (content_of_superblock b) Prepare
+  pub replies : AreShown (shape b.file) now (content_of_superblock b) Reply

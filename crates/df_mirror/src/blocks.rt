@@ -7,7 +7,7 @@ ghost use Rattle.df_mirror.specs.Mends.{AreOfKind};
 ghost use Rattle.df_mirror.specs.Outside.{Tell, around, counts};
 ghost use Rattle.df_mirror.specs.Statuses.{AreBlamed};
 ghost use Rattle.df_mirror.specs.Taking.{count_in};
-ghost use Rattle.df_mirror.specs.Walks.{HasText, Mended, ShowsBlocks, units_of};
+ghost use Rattle.df_mirror.specs.Walks.{HasTrailerText, Mended, ShowsBlocks, superblock_units};
 
 use crate::ending::Ending;
 use crate::superblock::Superblock;
@@ -29,7 +29,7 @@ fn mend_at<A: Disk, B: Disk, W: Sink>(
 ) -> Result<(Raw<Block>, u64), Ending>
     requires inside { before < base.now.file.layout.blocks }
     requires room { room.layout ≡ base.now.file.layout }
-    ensures mends { (sessions : List Session) (t o : Told) → Tell t o (around (A.told first.old) (B.told second.old) (W.written sink.old)) → ShowsBlocks base.now (units_of base.now t.shown) grid.now sessions before
+    ensures mends { (sessions : List Session) (t o : Told) → Tell t o (around (A.told first.old) (B.told second.old) (W.written sink.old)) → ShowsBlocks base.now (superblock_units base.now t.shown) grid.now sessions before
         → Mended base.now (AreOfKind AsBlock) t o (around (A.told first.old) (B.told second.old) (W.written sink.old)) (around (A.told first.new) (B.told second.new) (W.written sink.new)) (count_in result) (λ image. ShowsBlocks base.now image grid.now sessions (before + 1)) }
     ensures back { IfOk result (λ done. (done.0.layout ≡ base.now.file.layout) × (done.1 ≤ 1)) }
     ensures same { B.told second.new ≡ B.told second.old }
@@ -58,7 +58,7 @@ pub(crate) fn mend_blocks<A: Disk, B: Disk, W: Sink>(
     room: Raw<Block>,
 ) -> Result<u64, Ending>
     requires room { room.layout ≡ base.now.file.layout }
-    ensures mends { (sessions : List Session) (t o : Told) → Tell t o (around (A.told first.old) (B.told second.old) (W.written sink.old)) → HasText base.now (units_of base.now t.shown) grid.now sessions
+    ensures mends { (sessions : List Session) (t o : Told) → Tell t o (around (A.told first.old) (B.told second.old) (W.written sink.old)) → HasTrailerText base.now (superblock_units base.now t.shown) grid.now sessions
         → Mended base.now (AreOfKind AsBlock) t o (around (A.told first.old) (B.told second.old) (W.written sink.old)) (around (A.told first.new) (B.told second.new) (W.written sink.new)) result (λ image. ShowsBlocks base.now image grid.now sessions base.now.file.layout.blocks) }
     ensures few { IfOk result (λ mended. mended ≤ base.now.file.layout.blocks) }
     ensures same { B.told second.new ≡ B.told second.old }

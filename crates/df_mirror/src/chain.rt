@@ -10,7 +10,7 @@ ghost use Rattle.df_mirror.specs.Mends.{AreOfKind};
 ghost use Rattle.df_mirror.specs.Outside.{Tell, around, counts};
 ghost use Rattle.df_mirror.specs.Statuses.{AreBlamed};
 ghost use Rattle.df_mirror.specs.Taking.{count_in};
-ghost use Rattle.df_mirror.specs.Walks.{GoesOn, HasWalked, IsInside, Mended, WalksTo, broken_at, content_of, units_of};
+ghost use Rattle.df_mirror.specs.Walks.{HasWalkedChain, IsInsideGrid, Mended, WalkGoesOn, WalksTo, broken_at, content_of_superblock, superblock_units};
 
 use crate::ending::Ending;
 use crate::superblock::Superblock;
@@ -53,8 +53,8 @@ fn go_on(
     unit: Sound<Trailer>,
 ) -> Result<Walk, Ending>
     requires few { array_vec_len read + index < 70 }
-    ensures goes { GoesOn base.now at read.items index unit.unit result }
-    ensures inside { IfOk result (λ walk. 0 < index → IsInside base.now walk.at.address) }
+    ensures goes { WalkGoesOn base.now at read.items index unit.unit result }
+    ensures inside { IfOk result (λ walk. 0 < index → IsInsideGrid base.now walk.at.address) }
     ensures more { IfOk result (λ walk. array_vec_len walk.read ≡ array_vec_len read + 1) }
     ensures room { IfOk result (λ walk. walk.room.layout ≡ unit.layout) }
 {
@@ -81,13 +81,13 @@ fn mend_link<A: Disk, B: Disk, W: Sink>(
     walk: Walk,
     index: u64,
 ) -> Result<(Walk, u64), Ending>
-    requires inside { IsInside base.now walk.at.address }
+    requires inside { IsInsideGrid base.now walk.at.address }
     requires few { array_vec_len walk.read + index < 70 }
     requires room { walk.room.layout ≡ base.now.file.layout }
     ensures mends { (t o : Told) (n : ℕ) → Tell t o (around (A.told first.old) (B.told second.old) (W.written sink.old)) → IsCount (base.now.file.layout.block_size - 256) base.now.content.trailer_size n
-        → n ≡ length walk.read.items + (index + 1) → HasWalked base.now (units_of base.now t.shown) n walk
+        → n ≡ length walk.read.items + (index + 1) → HasWalkedChain base.now (superblock_units base.now t.shown) n walk
         → Mended base.now (AreOfKind AsTrailer) t o (around (A.told first.old) (B.told second.old) (W.written sink.old)) (around (A.told first.new) (B.told second.new) (W.written sink.new)) (count_in result) (WalksTo base.now n result) }
-    ensures inside { IfOk result (λ done. 0 < index → IsInside base.now done.0.at.address) }
+    ensures inside { IfOk result (λ done. 0 < index → IsInsideGrid base.now done.0.at.address) }
     ensures more { IfOk result (λ done. (array_vec_len done.0.read ≡ array_vec_len walk.read + 1) × (done.0.room.layout ≡ base.now.file.layout) × (done.1 ≤ 1)) }
     ensures same { B.told second.new ≡ B.told second.old }
     ensures blamed { AreBlamed (counts (A.faults first.old) (B.faults second.old) (W.faults sink.old)) (counts (A.faults first.new) (B.faults second.new) (W.faults sink.new)) result }
@@ -116,7 +116,7 @@ fn mend_link<A: Disk, B: Disk, W: Sink>(
 fn count_of(base: &Superblock) -> u64
     ensures count { IsCount (base.now.file.layout.block_size - 256) base.now.content.trailer_size result }
     ensures few { result ≤ 70 }
-    ensures inside { 0 < result → IsInside base.now base.now.content.trailer_address }
+    ensures inside { 0 < result → IsInsideGrid base.now base.now.content.trailer_address }
 {
     chains_have_room();
     block_count(&base.file.layout, base.content.fields())
@@ -133,7 +133,7 @@ pub(crate) fn mend_chain<A: Disk, B: Disk, W: Sink>(
 ) -> Result<u64, Ending>
     requires room { room.layout ≡ base.now.file.layout }
     ensures mends { (t o : Told) → Tell t o (around (A.told first.old) (B.told second.old) (W.written sink.old))
-        → Mended base.now (AreOfKind AsTrailer) t o (around (A.told first.old) (B.told second.old) (W.written sink.old)) (around (A.told first.new) (B.told second.new) (W.written sink.new)) result (λ image. AreShown (shape base.now.file) image (content_of base.now) AsTrailer) }
+        → Mended base.now (AreOfKind AsTrailer) t o (around (A.told first.old) (B.told second.old) (W.written sink.old)) (around (A.told first.new) (B.told second.new) (W.written sink.new)) result (λ image. AreShown (shape base.now.file) image (content_of_superblock base.now) AsTrailer) }
     ensures few { IfOk result (λ mended. mended ≤ 70) }
     ensures same { B.told second.new ≡ B.told second.old }
     ensures blamed { AreBlamed (counts (A.faults first.old) (B.faults second.old) (W.faults sink.old)) (counts (A.faults first.new) (B.faults second.new) (W.faults sink.new)) result }

@@ -1,9 +1,9 @@
 // The program: it has no words, and takes its memory once the first file's layout is known.
 ghost use Rattle.std.specs.Prelude.{◌≡◌, ◌≢◌, [], map, string_bytes, Err, IfNone, IfOk, IfSome};
 ghost use Rattle.df_disk.specs.Told.{Told};
-ghost use Rattle.df_mirror.specs.Outside.{Blames, HasCauses, PrintsError, Tell, Writes, around, counts};
-ghost use Rattle.df_mirror.specs.Run.{IsUndone, Mirrored, Runs, Tells};
-ghost use Rattle.df_mirror.specs.Texts.{usage};
+ghost use Rattle.df_mirror.specs.Outside.{Blames, HasCausesOfTwo, PrintsError, Tell, Writes, around, counts};
+ghost use Rattle.df_mirror.specs.Run.{IsUndone, Mirrored, RunsMirror, TellsEnd};
+ghost use Rattle.df_mirror.specs.Texts.{mirror_usage};
 
 use crate::ending::Ending;
 use crate::mending::{Reserved, mend_all};
@@ -71,7 +71,7 @@ fn refuse<W: Sink>(sink: &mut W, error: &OpenError) -> Status
 
 // Says how a mending ended.
 fn tell<W: Sink>(sink: &mut W, mended: Result<u64, Ending>) -> Status
-    ensures tells { Tells mended (W.written sink.old) (W.written sink.new) result }
+    ensures tells { TellsEnd mended (W.written sink.old) (W.written sink.new) result }
     ensures sink { (mended ≡ Err Ending.Sink → ⊥) → Blames Status.WriteFault (W.faults sink.old) (W.faults sink.new) result }
     ensures failed { mended ≡ Err Ending.Sink → W.faults sink.new ≡ W.faults sink.old }
 {
@@ -94,7 +94,7 @@ fn mend_file<A: Disk, B: Disk, W: Sink>(
 ) -> Status
     ensures mirrors { (t o : Told) → Tell t o (around (A.told first.old) (B.told second.old) (W.written sink.old)) → result ≢ Status.Memory
         → Mirrored base.now t o (around (A.told first.old) (B.told second.old) (W.written sink.old)) (around (A.told first.new) (B.told second.new) (W.written sink.new)) result }
-    ensures causes { HasCauses Status.DiskFault Status.WriteFault (counts (A.faults first.old) (B.faults second.old) (W.faults sink.old)) (counts (A.faults first.new) (B.faults second.new) (W.faults sink.new)) result }
+    ensures causes { HasCausesOfTwo Status.DiskFault Status.WriteFault (counts (A.faults first.old) (B.faults second.old) (W.faults sink.old)) (counts (A.faults first.new) (B.faults second.new) (W.faults sink.new)) result }
     ensures memory { result ≡ Status.Memory → (A.told first.new ≡ A.told first.old) × (W.written sink.new ≡ W.written sink.old) }
     ensures words { result ≡ Status.Words → ⊥ }
     ensures same { B.told second.new ≡ B.told second.old }
@@ -115,8 +115,8 @@ fn mend_first<A: Disk, B: Disk, W: Sink>(
     second: &mut B,
     sink: &mut W,
 ) -> Status
-    ensures runs { Runs (around (A.told first.old) (B.told second.old) (W.written sink.old)) (around (A.told first.new) (B.told second.new) (W.written sink.new)) result }
-    ensures causes { HasCauses Status.DiskFault Status.WriteFault (counts (A.faults first.old) (B.faults second.old) (W.faults sink.old)) (counts (A.faults first.new) (B.faults second.new) (W.faults sink.new)) result }
+    ensures runs { RunsMirror (around (A.told first.old) (B.told second.old) (W.written sink.old)) (around (A.told first.new) (B.told second.new) (W.written sink.new)) result }
+    ensures causes { HasCausesOfTwo Status.DiskFault Status.WriteFault (counts (A.faults first.old) (B.faults second.old) (W.faults sink.old)) (counts (A.faults first.new) (B.faults second.new) (W.faults sink.new)) result }
     ensures memory { result ≡ Status.Memory → IsUndone (around (A.told first.old) (B.told second.old) (W.written sink.old)) (around (A.told first.new) (B.told second.new) (W.written sink.new)) }
     ensures words { result ≡ Status.Words → ⊥ }
     ensures same { B.told second.new ≡ B.told second.old }
@@ -145,18 +145,18 @@ pub fn mirror<A: Disk, B: Disk, W: Sink>(
     sink: &mut W,
 ) -> Status
     // Any words print the usage line, and touch neither file.
-    ensures usage { (map string_bytes words.now ≡ [] → ⊥) → Writes Status.WriteFault usage Status.Words (W.written sink.old) (W.written sink.new) result }
+    ensures usage { (map string_bytes words.now ≡ [] → ⊥) → Writes Status.WriteFault mirror_usage Status.Words (W.written sink.old) (W.written sink.new) result }
     ensures untouched { (map string_bytes words.now ≡ [] → ⊥) → A.told first.new ≡ A.told first.old }
     ensures words { result ≡ Status.Words → map string_bytes words.now ≡ [] → ⊥ }
 
     // The first file is synced, and refused as an open refuses its superblock or its trailer. What is mended is known and wasn't shown just before, each by one write and a sync, in order, and it is the unit of that checksum, which the second file shows; where the run ends as
     // Done or Found, all known units are shown, and it is Found exactly where one was mended. The second file is only read.
-    ensures runs { map string_bytes words.now ≡ [] → Runs (around (A.told first.old) (B.told second.old) (W.written sink.old)) (around (A.told first.new) (B.told second.new) (W.written sink.new)) result }
+    ensures runs { map string_bytes words.now ≡ [] → RunsMirror (around (A.told first.old) (B.told second.old) (W.written sink.old)) (around (A.told first.new) (B.told second.new) (W.written sink.new)) result }
     ensures second { B.told second.new ≡ B.told second.old }
 
     // A call ends at its first fault: of the three counts one at most rises, once, that of what the status blames; want of memory
     // comes before anything was written.
-    ensures causes { HasCauses Status.DiskFault Status.WriteFault (counts (A.faults first.old) (B.faults second.old) (W.faults sink.old)) (counts (A.faults first.new) (B.faults second.new) (W.faults sink.new)) result }
+    ensures causes { HasCausesOfTwo Status.DiskFault Status.WriteFault (counts (A.faults first.old) (B.faults second.old) (W.faults sink.old)) (counts (A.faults first.new) (B.faults second.new) (W.faults sink.new)) result }
     ensures memory { result ≡ Status.Memory → IsUndone (around (A.told first.old) (B.told second.old) (W.written sink.old)) (around (A.told first.new) (B.told second.new) (W.written sink.new)) }
 {
     match words {

@@ -16,7 +16,7 @@ pub fn known_units_stay()
     ensures { KnownStays }
 {}
 
-/// A file at rest of which only known units and at most two superblock copies were hurt is opened as it was left, once all known units are shown again.
+/// A file that had four equal superblock copies, and of which only known units and at most two copies were hurt, is opened as it was left, once all known units are shown again.
 pub fn a_mended_file_is_opened()
     ensures mends { MirroredIsOpened }
     ensures run { MendedIsOpened }

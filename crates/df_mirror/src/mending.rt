@@ -7,7 +7,7 @@ ghost use Rattle.df_mirror.specs.Known.{AllShown, ShowsTrailer};
 ghost use Rattle.df_mirror.specs.Mends.{AreInOrder, AreLate};
 ghost use Rattle.df_mirror.specs.Outside.{Tell, around, counts};
 ghost use Rattle.df_mirror.specs.Statuses.{AreBlamed};
-ghost use Rattle.df_mirror.specs.Walks.{Mended, ShowsLog, content_of, units_of};
+ghost use Rattle.df_mirror.specs.Walks.{Mended, ShowsLog, content_of_superblock, superblock_units};
 
 use crate::blocks::mend_blocks;
 use crate::chain::mend_chain;
@@ -58,8 +58,8 @@ fn mend_log<A: Disk, B: Disk, W: Sink>(
     requires rooms { rooms.layout ≡ base.now.file.layout }
     requires places { sessions.max ≡ base.now.file.layout.clients }
     requires few { length sessions.sessions ≤ sessions.max }
-    ensures mends { (t o : Told) → Tell t o (around (A.told first.old) (B.told second.old) (W.written sink.old)) → (says : ShowsTrailer (shape base.now.file) (units_of base.now t.shown) (content_of base.now)) → says.parts.sessions ≡ sessions_of sessions.sessions
-        → Mended base.now AreLate t o (around (A.told first.old) (B.told second.old) (W.written sink.old)) (around (A.told first.new) (B.told second.new) (W.written sink.new)) result (ShowsLog base.now (units_of base.now t.shown)) }
+    ensures mends { (t o : Told) → Tell t o (around (A.told first.old) (B.told second.old) (W.written sink.old)) → (says : ShowsTrailer (shape base.now.file) (superblock_units base.now t.shown) (content_of_superblock base.now)) → says.parts.sessions ≡ sessions_of sessions.sessions
+        → Mended base.now AreLate t o (around (A.told first.old) (B.told second.old) (W.written sink.old)) (around (A.told first.new) (B.told second.new) (W.written sink.new)) result (ShowsLog base.now (superblock_units base.now t.shown)) }
     ensures few { IfOk result (λ mended. mended ≤ base.now.file.layout.slots + 64) }
     ensures same { B.told second.new ≡ B.told second.old }
     ensures blamed { AreBlamed (counts (A.faults first.old) (B.faults second.old) (W.faults sink.old)) (counts (A.faults first.new) (B.faults second.new) (W.faults sink.new)) result }
@@ -106,7 +106,7 @@ pub(crate) fn mend_all<A: Disk, B: Disk, W: Sink>(
     requires trailer { reserved.trailer.layout ≡ base.now.file.layout }
     requires block { reserved.block.layout ≡ base.now.file.layout }
     ensures mends { (t o : Told) → Tell t o (around (A.told first.old) (B.told second.old) (W.written sink.old))
-        → Mended base.now AreInOrder t o (around (A.told first.old) (B.told second.old) (W.written sink.old)) (around (A.told first.new) (B.told second.new) (W.written sink.new)) result (λ image. AllShown (shape base.now.file) image (content_of base.now)) }
+        → Mended base.now AreInOrder t o (around (A.told first.old) (B.told second.old) (W.written sink.old)) (around (A.told first.new) (B.told second.new) (W.written sink.new)) result (λ image. AllShown (shape base.now.file) image (content_of_superblock base.now)) }
     ensures same { B.told second.new ≡ B.told second.old }
     ensures blamed { AreBlamed (counts (A.faults first.old) (B.faults second.old) (W.faults sink.old)) (counts (A.faults first.new) (B.faults second.new) (W.faults sink.new)) result }
 {

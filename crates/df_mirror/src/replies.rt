@@ -12,7 +12,7 @@ ghost use Rattle.df_mirror.specs.Mends.{AreOfKind};
 ghost use Rattle.df_mirror.specs.Outside.{Tell, around, counts};
 ghost use Rattle.df_mirror.specs.Statuses.{AreBlamed};
 ghost use Rattle.df_mirror.specs.Taking.{count_in};
-ghost use Rattle.df_mirror.specs.Walks.{HasHead, IsNewer, Mended, MendsRecorded, ShowsReplies, content_of, units_of};
+ghost use Rattle.df_mirror.specs.Walks.{HasHead, IsNewer, Mended, MendsRecorded, ShowsKnownReplies, content_of_superblock, superblock_units};
 
 use crate::ending::Ending;
 use crate::sessions::has_later;
@@ -118,8 +118,8 @@ fn mend_reply<A: Disk, B: Disk, W: Sink>(
     requires places { sessions.now.max ≡ base.now.file.layout.clients }
     requires table { length slots.now.slots ≡ base.now.file.layout.slots }
     requires room { room.layout ≡ base.now.file.layout }
-    ensures mends { (t o : Told) → Tell t o (around (A.told first.old) (B.told second.old) (W.written sink.old)) → ShowsReplies base.now (units_of base.now t.shown) slots.now sessions.now place
-        → Mended base.now (AreOfKind AsReply) t o (around (A.told first.old) (B.told second.old) (W.written sink.old)) (around (A.told first.new) (B.told second.new) (W.written sink.new)) (count_in result) (λ image. ShowsReplies base.now image slots.now sessions.now (place + 1)) }
+    ensures mends { (t o : Told) → Tell t o (around (A.told first.old) (B.told second.old) (W.written sink.old)) → ShowsKnownReplies base.now (superblock_units base.now t.shown) slots.now sessions.now place
+        → Mended base.now (AreOfKind AsReply) t o (around (A.told first.old) (B.told second.old) (W.written sink.old)) (around (A.told first.new) (B.told second.new) (W.written sink.new)) (count_in result) (λ image. ShowsKnownReplies base.now image slots.now sessions.now (place + 1)) }
     ensures back { IfOk result (λ done. (done.0.layout ≡ base.now.file.layout) × (done.1 ≤ 1)) }
     ensures same { B.told second.new ≡ B.told second.old }
     ensures blamed { AreBlamed (counts (A.faults first.old) (B.faults second.old) (W.faults sink.old)) (counts (A.faults first.new) (B.faults second.new) (W.faults sink.new)) result }
@@ -153,8 +153,8 @@ pub(crate) fn mend_replies<A: Disk, B: Disk, W: Sink>(
     requires places { sessions.now.max ≡ base.now.file.layout.clients }
     requires table { length slots.now.slots ≡ base.now.file.layout.slots }
     requires room { room.layout ≡ base.now.file.layout }
-    ensures mends { (t o : Told) → Tell t o (around (A.told first.old) (B.told second.old) (W.written sink.old)) → HasHead base.now (units_of base.now t.shown) slots.now sessions.now
-        → Mended base.now (AreOfKind AsReply) t o (around (A.told first.old) (B.told second.old) (W.written sink.old)) (around (A.told first.new) (B.told second.new) (W.written sink.new)) result (λ image. AreShown (shape base.now.file) image (content_of base.now) AsReply) }
+    ensures mends { (t o : Told) → Tell t o (around (A.told first.old) (B.told second.old) (W.written sink.old)) → HasHead base.now (superblock_units base.now t.shown) slots.now sessions.now
+        → Mended base.now (AreOfKind AsReply) t o (around (A.told first.old) (B.told second.old) (W.written sink.old)) (around (A.told first.new) (B.told second.new) (W.written sink.new)) result (λ image. AreShown (shape base.now.file) image (content_of_superblock base.now) AsReply) }
     ensures few { IfOk result (λ mended. mended ≤ 64) }
     ensures same { B.told second.new ≡ B.told second.old }
     ensures blamed { AreBlamed (counts (A.faults first.old) (B.faults second.old) (W.faults sink.old)) (counts (A.faults first.new) (B.faults second.new) (W.faults sink.new)) result }

@@ -1,12 +1,12 @@
 // The sessions at the superblock's head, and what the ring of prepares shows above it.
 ghost use Rattle.std.specs.Prelude.{◌≡◌, ◌≢◌, ◌+◌, ◌<◌, ◌≤◌, List, length, take, IsFalse, IsTrue, Some};
-ghost use Rattle.df_journal.specs.Shows.{IsTable, TellsRings};
+ghost use Rattle.df_journal.specs.Shows.{IsSeenTable, TellsRings};
 ghost use Rattle.df_sessions.specs.Requests.{sessions_of};
 ghost use Rattle.df_theory.specs.Opens.{AreKnown};
 ghost use Rattle.df_theory.specs.Sessions.{noted, sessions_after};
 ghost use Rattle.df_theory.specs.Units.{Message, PreparePlace, PrepareUnit, Session, Units};
 ghost use Rattle.df_units.specs.Meaning.{header_of};
-ghost use Rattle.df_mirror.specs.Walks.{HasLater, IsLater, content_of};
+ghost use Rattle.df_mirror.specs.Walks.{HasLater, IsLater, content_of_superblock};
 
 use crate::superblock::Superblock;
 use df_format::Header;
@@ -31,11 +31,11 @@ pub(crate) fn sessions_at_head(
     slots: &SlotTable,
     sessions: SessionTable,
 ) -> SessionTable
-    requires table { IsTable base.now.file.layout base.now.file.cluster slots.now.slots }
+    requires table { IsSeenTable base.now.file.layout base.now.file.cluster slots.now.slots }
     requires places { sessions.max ≡ base.now.file.layout.clients }
     requires few { length sessions.sessions ≤ sessions.max }
-    ensures sessions { (image : Units) (named : List Message) → TellsRings base.now.file.layout image slots.now → AreKnown base.now.file.layout.slots image (base.now.content.op + 1) (content_of base.now).pin_checksum named
-        → base.now.content.op + length named ≡ (content_of base.now).pin → sessions_of result.sessions ≡ take base.now.file.layout.clients (sessions_after (sessions_of sessions.sessions) named) }
+    ensures sessions { (image : Units) (named : List Message) → TellsRings base.now.file.layout image slots.now → AreKnown base.now.file.layout.slots image (base.now.content.op + 1) (content_of_superblock base.now).pin_checksum named
+        → base.now.content.op + length named ≡ (content_of_superblock base.now).pin → sessions_of result.sessions ≡ take base.now.file.layout.clients (sessions_after (sessions_of sessions.sessions) named) }
     ensures places { result.max ≡ sessions.max }
 {
     let mut sessions = sessions;

@@ -21,11 +21,11 @@ pub enum Status {
 
 impl Status {
     ghost use Rattle.std.specs.Prelude.{◌≡◌};
-    ghost use Rattle.df_mirror.specs.Statuses.{number_of};
+    ghost use Rattle.df_mirror.specs.Statuses.{mirror_exit_number};
 
     /// The exit status of the program.
     pub fn number(self) -> u8
-        ensures { result ≡ number_of self }
+        ensures { result ≡ mirror_exit_number self }
     {
         match self {
             Status::Done => 0,

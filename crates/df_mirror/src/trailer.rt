@@ -8,8 +8,8 @@ ghost use Rattle.df_opening.specs.Below.{shape};
 ghost use Rattle.df_mirror.specs.Known.{AreShown};
 ghost use Rattle.df_mirror.specs.Statuses.{IsOfFirst, is_first};
 ghost use Rattle.df_mirror.specs.Trailers.{ReadsNamed, empty_grid, ending_of, pending_ending};
-ghost use Rattle.df_trailer.specs.Sessions.{AreRead};
-ghost use Rattle.df_mirror.specs.Walks.{ReadsText, content_of, units_of};
+ghost use Rattle.df_trailer.specs.Sessions.{AreReadSessions};
+ghost use Rattle.df_mirror.specs.Walks.{ReadsChainText, content_of_superblock, superblock_units};
 
 use crate::ending::Ending;
 use crate::superblock::Superblock;
@@ -65,7 +65,7 @@ fn read_named<A: Disk>(
     requires grid { grid.old ≡ empty_grid base.now }
     requires rooms { rooms.layout ≡ base.now.file.layout }
     ensures reads { (t : Told) → A.told first.old ≡ Some t → IsImage t.shown → ReadsNamed base.now t.shown grid.new result }
-    ensures each { IfOk result (λ sessions. AreRead base.now.file.layout.clients base.now.content.op sessions.items) }
+    ensures each { IfOk result (λ sessions. AreReadSessions base.now.file.layout.clients base.now.content.op sessions.items) }
     ensures layout { grid.new.layout ≡ grid.old.layout }
     ensures same { A.told first.new ≡ A.told first.old }
     ensures cause { IsBlamed is_first (A.faults first.old) (A.faults first.new) result }
@@ -110,7 +110,7 @@ pub(crate) fn read_trailer<A: Disk>(
 ) -> Result<Text, Ending>
     requires grid { grid.layout ≡ base.now.file.layout }
     requires rooms { rooms.layout ≡ base.now.file.layout }
-    ensures reads { (t : Told) → A.told first.old ≡ Some t → IsImage t.shown → AreShown (shape base.now.file) (units_of base.now t.shown) (content_of base.now) AsTrailer → ReadsText base.now t.shown result }
+    ensures reads { (t : Told) → A.told first.old ≡ Some t → IsImage t.shown → AreShown (shape base.now.file) (superblock_units base.now t.shown) (content_of_superblock base.now) AsTrailer → ReadsChainText base.now t.shown result }
     ensures fits { IfOk result (λ text. (text.grid.layout ≡ base.now.file.layout) × (text.sessions.max ≡ base.now.file.layout.clients) × (length text.sessions.sessions ≤ base.now.file.layout.clients)) }
     ensures same { A.told first.new ≡ A.told first.old }
     ensures cause { IsBlamed is_first (A.faults first.old) (A.faults first.new) result }

@@ -4,10 +4,10 @@ ghost use Rattle.df_base.specs.Causes.{HasCause, IsBlamed};
 ghost use Rattle.df_base.specs.Fields.{AreBytes};
 ghost use Rattle.df_format.specs.Valid.{IsUnit};
 ghost use Rattle.df_layout.specs.Spans.{HasPlace};
-ghost use Rattle.df_places.specs.Shelves.{IsFound};
+ghost use Rattle.df_places.specs.Shelves.{IsFoundUnit};
 ghost use Rattle.df_mirror.specs.Outside.{around, counts};
 ghost use Rattle.df_mirror.specs.Statuses.{AreBlamed, is_first, is_sink};
-ghost use Rattle.df_mirror.specs.Taking.{HoldsShown, IsFilled, Loads, MendsUnit, PutsUnit, TakesUnit, WritesUnit, count_in};
+ghost use Rattle.df_mirror.specs.Taking.{HoldsShown, IsZeroFilled, LoadsUnit, MendsUnit, PutsUnit, TakesUnit, WritesUnit, count_in};
 
 use crate::ending::Ending;
 use crate::telling::print_mended;
@@ -26,7 +26,7 @@ fn load<D: Disk, K: UnitKind>(
     requires layout { identity.now.layout ≡ room.layout }
     requires place { HasPlace identity.now.layout identity.now.place }
     requires zone { identity.now.place.zone ≡ K.ZONE }
-    ensures loads { IfOk result (Loads K.KIND identity.now (D.told disk.old)) }
+    ensures loads { IfOk result (LoadsUnit K.KIND identity.now (D.told disk.old)) }
     ensures same { D.told disk.new ≡ D.told disk.old }
     ensures cause { HasCause (D.faults disk.old) (D.faults disk.new) result }
 {
@@ -76,9 +76,9 @@ fn blank_from(bytes: &mut [u8], from: usize)
 fn fill_behind<K: UnitKind>(unit: Sound<K>, identity: &Identity) -> Sound<K>
     requires layout { unit.layout ≡ identity.now.layout }
     requires zone { identity.now.place.zone ≡ K.ZONE }
-    requires found { IsFound K.KIND identity.now unit.unit }
+    requires found { IsFoundUnit K.KIND identity.now unit.unit }
     ensures same { (result.layout ≡ unit.layout) × (result.unit ≡ unit.unit) }
-    ensures filled { IsFilled result }
+    ensures filled { IsZeroFilled result }
 {
     let size = unit.header().size as usize;
     let mut room = unit.loosen();
@@ -133,7 +133,7 @@ pub(crate) fn mend_unit<A: Disk, B: Disk, W: Sink, K: UnitKind>(
     requires layout { identity.now.layout ≡ room.layout }
     requires place { HasPlace identity.now.layout identity.now.place }
     requires zone { identity.now.place.zone ≡ K.ZONE }
-    ensures unit { IfOk result (λ done. (done.0.layout ≡ identity.now.layout) × IsFound K.KIND identity.now done.0.unit × (done.1 ≤ 1)) }
+    ensures unit { IfOk result (λ done. (done.0.layout ≡ identity.now.layout) × IsFoundUnit K.KIND identity.now done.0.unit × (done.1 ≤ 1)) }
     ensures shown { IfOk result (λ done. HoldsShown K.KIND identity.now (A.told first.old) (A.told first.new) done.0) }
     ensures mends { MendsUnit K.KIND identity.now
         (around (A.told first.old) (B.told second.old) (W.written sink.old))

@@ -16,7 +16,7 @@ use Rattle.df_model.specs.Making.{needed_of, parts_of, pieces_of}
 use Rattle.df_model.specs.Blocks.{blocks_of, is_held_in}
 use Rattle.df_model.proofs.Entries.{held_is}
 use Rattle.df_model.specs.Sense.{IsWork}
-use Rattle.df_model.specs.Answering.{AreApart, BeginExactLaw}
+use Rattle.df_model.specs.Answering.{AreDistinctBlocks, BeginExactLaw}
 use Rattle.df_model.proofs.Exact.{pass_all}
 use Rattle.df_model.proofs.Steps.{pieces_count}
 
@@ -47,7 +47,7 @@ in_without a b [] apart there = absurd (cc)
 in_without a b (y ∷ ys) apart there = in_case a b y ys (without a ys) (a == y) refl apart (b == y) refl there (λ more. in_without a b ys apart more)
 
 -- blocks at addresses that differ, each one of these: there are no more of them
-pub fits : (xs : List (ℕ × Block)) (ys : List ℕ) → AreApart xs → ((a : ℕ) (b : Block) → InChain a b xs → is_in a ys ≡ true) → length xs ≤ length ys
+pub fits : (xs : List (ℕ × Block)) (ys : List ℕ) → AreDistinctBlocks xs → ((a : ℕ) (b : Block) → InChain a b xs → is_in a ys ≡ true) → length xs ≤ length ys
 fits [] ys apart all = omega arith
 fits (x ∷ xs) ys apart all =
     let shorter = length_without x.0 ys (all x.0 x.1 (inl (refl, refl))) in

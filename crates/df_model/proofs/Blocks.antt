@@ -15,7 +15,7 @@ use Rattle.df_model.specs.Refusals.{block_refusals, first_refusal}
 use Rattle.df_model.specs.After.{with_live}
 use Rattle.df_model.specs.Blocks.{blocks_of, is_held_in}
 use Rattle.df_model.proofs.Entries.{held_is}
-use Rattle.df_model.specs.Sense.{IsClear, IsWork}
+use Rattle.df_model.specs.Sense.{IsClearAddress, IsWork}
 use Rattle.df_model.proofs.Tests.{all_pass}
 use Rattle.df_model.proofs.Grid.{IsFree, IsNowhere, are_free, each_weaker, each_with, first_each, left_held, nowhere}
 use Rattle.df_model.proofs.Knows.{live_knows, nowhere_new, one_fewer, one_more, release_knows}
@@ -67,7 +67,7 @@ live_keeps sh spell w a c fits work free = record {
   one = one_more w (with_live w a (Some c)) a c (live_knows w a c) (nowhere_new w a (nowhere w a free.unheld)) work.one;
   sums = λ k d is. sums k d (k == a) is;
   few = work.few;
-  clear = λ r at. each_with (IsClear w.live w.view.checkpoint) (IsClear (with_live w a (Some c)).live w.view.checkpoint) r.left (λ x there clear. record { dead = dead x (λ same. let held = left_held w r x at there in cc (held, ap (is_held w) same, free.unheld)) clear.dead (x == a) refl; unreferenced = clear.unreferenced; no_trailer = clear.no_trailer }) (work.clear r at);
+  clear = λ r at. each_with (IsClearAddress w.live w.view.checkpoint) (IsClearAddress (with_live w a (Some c)).live w.view.checkpoint) r.left (λ x there clear. record { dead = dead x (λ same. let held = left_held w r x at there in cc (held, ap (is_held w) same, free.unheld)) clear.dead (x == a) refl; unreferenced = clear.unreferenced; no_trailer = clear.no_trailer }) (work.clear r at);
 }
   where
     sums : (k d : ℕ) (b : Bool) → (if b then Some c else w.live k) ≡ Some d → IsChecksum d
@@ -95,7 +95,7 @@ release_keeps sh spell w a work = record {
   one = one_fewer w (with_live w a None) (release_knows w a) work.one;
   sums = λ k d is. sums k d (k == a) is;
   few = work.few;
-  clear = λ r at. each_weaker (IsClear w.live w.view.checkpoint) (IsClear (with_live w a None).live w.view.checkpoint) (λ x clear. record { dead = dead x clear.dead (x == a); unreferenced = clear.unreferenced; no_trailer = clear.no_trailer }) r.left (work.clear r at);
+  clear = λ r at. each_weaker (IsClearAddress w.live w.view.checkpoint) (IsClearAddress (with_live w a None).live w.view.checkpoint) (λ x clear. record { dead = dead x clear.dead (x == a); unreferenced = clear.unreferenced; no_trailer = clear.no_trailer }) r.left (work.clear r at);
 }
   where
     sums : (k d : ℕ) (b : Bool) → (if b then None else w.live k) ≡ Some d → IsChecksum d

@@ -20,7 +20,7 @@ use Rattle.df_theory.proofs.Laws.{boot_law, boot_sound, found_sound, low_steps, 
 use Rattle.df_model.specs.Work.{Work, opened, raised}
 use Rattle.df_model.specs.Memory.{Memory, memory_of}
 use Rattle.df_model.specs.Making.{boot_content, named_sums}
-use Rattle.df_model.specs.Sense.{Captured, Chained, Durable, IsBacked, IsClear, Live, Written}
+use Rattle.df_model.specs.Sense.{Captured, Chained, Durable, IsBacked, IsClearAddress, Live, Written}
 use Rattle.df_model.specs.Laws.{BacksOn, LeadsOn}
 use Rattle.df_model.specs.Boots.{BootCommandLaw, BootMayLaw, IsMendedFor, RaisedLaw, Raises}
 use Rattle.df_model.proofs.Captures.{capture_raised}
@@ -74,7 +74,7 @@ raised_law sh spell w sum work unspent = record {
     one = one_fewer w (raised w d) (raised_knows w d) work.one;
     sums = work.sums;
     few = work.few;
-    clear = λ r at. each_weaker (IsClear w.live w.view.checkpoint) (IsClear w.live (booted w.view d).checkpoint) (λ a free. record { dead = free.dead; unreferenced = free.unreferenced; no_trailer = free.no_trailer }) r.left (work.clear r at);
+    clear = λ r at. each_weaker (IsClearAddress w.live w.view.checkpoint) (IsClearAddress w.live (booted w.view d).checkpoint) (λ a free. record { dead = free.dead; unreferenced = free.unreferenced; no_trailer = free.no_trailer }) r.left (work.clear r at);
   };
   memory = refl;
   bare = record { content = may.is.same; chain = refl; parts = refl; tail = refl; replies = refl; stored = λ k. refl };

@@ -10,13 +10,13 @@ use Rattle.df_theory.specs.Runs as runs
 use Rattle.df_theory.proofs.Laws.{now_units, same_log, standing_moments_law, tidy_moments_law}
 use Rattle.df_model.specs.Work.{Work, kept}
 use Rattle.df_model.specs.Sense.{IsBacked}
-use Rattle.df_model.specs.Laws.{BacksOn, Does, IsKeptBy, LeadsOn}
+use Rattle.df_model.specs.Laws.{BacksOn, DoesCommand, IsKeptBy, LeadsOn}
 use Rattle.df_model.specs.OnDisk.{BacksOnDisk, DiskCommandLaw, DoesOnDisk, LeadsOnDisk}
 use Rattle.df_model.specs.Commands.{Command, Given, after}
 use Rattle.df_model.proofs.Does.{command_law}
 
-does_there : (f : Format) (sh : Shape) (spell : Parts → List ℕ) (log : Log.Log) (w : Work) (given : Given) (command : Command) (events : List Event) (does : DoesOnDisk f sh spell log w given command events) → Does sh spell (now (units_log f log)) w given command does.steps
-does_there f sh spell log w given command events does = subst (λ (image : Units). Does sh spell image w given command does.steps) (sym (now_units f log.start log.events)) does.does
+does_there : (f : Format) (sh : Shape) (spell : Parts → List ℕ) (log : Log.Log) (w : Work) (given : Given) (command : Command) (events : List Event) (does : DoesOnDisk f sh spell log w given command events) → DoesCommand sh spell (now (units_log f log)) w given command does.steps
+does_there f sh spell log w given command events does = subst (λ (image : Units). DoesCommand sh spell image w given command does.steps) (sym (now_units f log.start log.events)) does.does
 
 -- what steps lead to, and what they leave of the blocks, their device calls do
 pub on_disk : (f : Format) (sh : Shape) (spell : Parts → List ℕ) (log : Log.Log) (w u : Work) (steps : List runs.Step) (events : List Event) → IsFormat f → Log.IsLog log → AreSteps f events steps

@@ -17,8 +17,8 @@ use Rattle.df_model.specs.Refusals.{append_refusals, block_refusals, first_refus
 use Rattle.df_model.specs.After.{begun, checkpoint_of, finished, next_trailer, with_live, with_running, with_trailer_block}
 use Rattle.df_model.specs.Change.{Appends, Begins, Change, Checks, Ends, LetsGo, Lives, One, Replies, Staged, Stages, Stays, TourEnds, Writes}
 use Rattle.df_model.specs.Commands.{Command, Given, IsInput, after, supplied_sum, supplied_sums, supplied_verdict}
-use Rattle.df_model.specs.Sense.{AtEachOf, IsBacked, IsClear, IsSpare, RiseFrom, ShowsOwnBlock, ShowsWritten}
-use Rattle.df_model.specs.Laws.{CommandLaw, Does, DoesAdvance, DoesAdvanceTo, DoesBlock, DoesFinish, IsKeptBy, UnlessRefused}
+use Rattle.df_model.specs.Sense.{AtEachOf, IsBacked, IsClearAddress, IsSpare, RiseFrom, ShowsOwnBlock, ShowsWritten}
+use Rattle.df_model.specs.Laws.{CommandLaw, DoesAdvance, DoesAdvanceTo, DoesBlock, DoesCommand, DoesFinish, IsKeptBy, UnlessRefused}
 use Rattle.df_model.proofs.Entries.{entry_in}
 use Rattle.df_model.proofs.Blocks.{first_small, kind_some, next_free, release_keeps}
 use Rattle.df_model.proofs.Finishes.{finish_keeps, may_finish}
@@ -50,8 +50,8 @@ module _ (sh : Shape) (spell : Parts → List ℕ) (log : UnitLog) (w : Work) (s
   abbrev later : Units
   later = overlay does.put image
 
-  clear : IsClear w.live w.view.checkpoint a
-  clear = (let all : AtEachOf (IsClear w.live w.view.checkpoint) (a ∷ more) = subst (AtEachOf (IsClear w.live w.view.checkpoint)) left (keeps.sense.clear r at) in all.0)
+  clear : IsClearAddress w.live w.view.checkpoint a
+  clear = (let all : AtEachOf (IsClearAddress w.live w.view.checkpoint) (a ∷ more) = subst (AtEachOf (IsClearAddress w.live w.view.checkpoint)) left (keeps.sense.clear r at) in all.0)
 
   spare : r.parts.references a ≡ None
   spare = (let all : AtEachOf (IsSpare sh r) (a ∷ more) = subst (AtEachOf (IsSpare sh r)) left (keeps.sense.running r at).left.0 in all.0.unreferenced)
@@ -169,7 +169,7 @@ module _ (sh : Shape) (spell : Parts → List ℕ) (log : UnitLog) (w : Work) (g
   tours u tour none = idle sh spell log w u steps tour.view keeps (tour.keeps keeps.sense) (λ r at. keeps.written r (sym tour.running ∙ at)) (checked log w u tour.view tour.live tour.running) none
 
   -- what is done to the device leads to the state after the change
-  does_change : (c : Command) (u : Work) → IsInput given c → Change sh spell w given c u → Does sh spell (now log) w given c steps → Both sh spell log w u steps
+  does_change : (c : Command) (u : Work) → IsInput given c → Change sh spell w given c u → DoesCommand sh spell (now log) w given c steps → Both sh spell log w u steps
   does_change c u input (Stays _ idles) does = stay sh spell log w steps keeps (idles (now log) steps does)
   does_change c u input (Appends _ ps (One client request body none staged)) does =
       append_on sh spell log w (supplied_sum given) client request body steps input.fields keeps none (done (first_refusal (append_refusals m client request body)) steps _ none does)

@@ -7,7 +7,7 @@ use Rattle.df_theory.specs.Units.{Header, Session}
 use Rattle.df_theory.specs.Sessions.{MayAsk}
 use Rattle.df_theory.specs.View.{head, sessions}
 use Rattle.df_model.specs.declared.errors.AppendError.TheVariants as append
-use Rattle.df_model.specs.Refusals.{counted, first_refusal, is_last_request, is_new, is_staged, last_op, next_request, reply_refusals, request_refusals, session_of_client}
+use Rattle.df_model.specs.Refusals.{counted_staged, first_refusal, is_last_request, is_new, is_staged, last_op, next_request, reply_refusals, request_refusals, session_of_client}
 use Rattle.df_model.specs.Work.{Request}
 use Rattle.df_model.specs.After.{with_staged}
 use Rattle.df_model.specs.Laws.{AppendExactLaw, ReplyExactLaw, StageExactLaw}
@@ -80,7 +80,7 @@ stage_exact_law sh spell w client request body work named fits in_range may =
     let one = prepare_in n (top + 1) (top + many) 0 0 0 r in
     let asks = asks_behind n (top + 1) (top + many) sh.layout.clients (top + 1) n.head_checksum w.staged r [] (sessions w.view) may.asks in
     let same = alike_sessions n m (top + 1) (top + many) (top + 1) (top + length w.staged) (top + 1) (top + 1) n.head_checksum m.head_checksum w.staged [] [] (sessions w.view) refl in
-    requests_pass (counted m) client request body one.header named fits in_range refl refl refl (subst (MayAsk sh.layout.clients one.header) same asks) (omega (arith, may.room, all, longer)) (omega (arith, may.pipeline, all, longer)) (omega (arith, may.unspent, all, longer))
+    requests_pass (counted_staged m) client request body one.header named fits in_range refl refl refl (subst (MayAsk sh.layout.clients one.header) same asks) (omega (arith, may.room, all, longer)) (omega (arith, may.pipeline, all, longer)) (omega (arith, may.unspent, all, longer))
 
 pub reply_exact_law : ReplyExactLaw
 reply_exact_law sh spell w sum body fits may =

@@ -1,7 +1,7 @@
 -- Prepares of one group, and that what is staged stays so.
 use Rattle.std.proofs.Common.{◌≡◌, inl, inr, ℕ, ◌+◌, ◌≤◌, ◌==◌, if◌then◌else◌, List, [], ◌∷◌, ◌++◌, length, drop, refl, sym, ◌∙◌, ap, subst, arith}
 use Rattle.df_theory.specs.Units.{Header, Message, Session}
-use Rattle.df_theory.specs.Sessions.{MayAsk, noted, session_of, sessions_after}
+use Rattle.df_theory.specs.Sessions.{MayAsk, noted, session_of_header, sessions_after}
 use Rattle.df_theory.specs.Tails.{In}
 use Rattle.df_theory.specs.Shape.{Shape, clients}
 use Rattle.df_theory.specs.View.{View, head, sessions}
@@ -16,7 +16,7 @@ use Rattle.df_model.specs.Sense.{AreStaged}
 -- ---- what sessions go by
 
 -- a table notes a header by its session
-pub noted_alike : (g h : Header) (ss : List Session) → session_of g ≡ session_of h → noted g ss ≡ noted h ss
+pub noted_alike : (g h : Header) (ss : List Session) → session_of_header g ≡ session_of_header h → noted g ss ≡ noted h ss
 noted_alike g h [] same = ap (λ (s : Session). s ∷ []) same
 noted_alike g h (x ∷ ss) same = λ i. if x.client == (same i).client then same i ∷ ss else x ∷ noted_alike g h ss same i
 
@@ -30,7 +30,7 @@ ask_on room g h (x ∷ ss) client request mark (inr there) = inr (λ same. there
 
 module _ (m n : Memory) (f l g k : ℕ) where
   -- the same sessions
-  same_session : (op o p q s t : ℕ) (r : Request) → op ≡ o → session_of (prepare_in m f l op p s r).header ≡ session_of (prepare_in n g k o q t r).header
+  same_session : (op o p q s t : ℕ) (r : Request) → op ≡ o → session_of_header (prepare_in m f l op p s r).header ≡ session_of_header (prepare_in n g k o q t r).header
   same_session op o p q s t r same = λ i. record { client = r.client; request = r.request; op = same i }
 
   pub alike_sessions : (op o p q : ℕ) (rs : List Request) (s t : List ℕ) (ss : List Session) → op ≡ o → sessions_after ss (prepares_in m f l op p rs s) ≡ sessions_after ss (prepares_in n g k o q rs t)

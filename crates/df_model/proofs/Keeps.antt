@@ -17,12 +17,12 @@ use Rattle.df_theory.specs.View.{View, head, sessions}
 use Rattle.df_theory.specs.Holds.{Sound}
 use Rattle.df_theory.specs.Next.{Append, Finish, Next, Reply, Same}
 use Rattle.df_theory.proofs.Laws.{chain_ops}
-use Rattle.df_model.specs.Work.{Running, Tour, Work, first_tour, checksum_of, is_captured, is_in, is_known, is_of, opened, waiting_checksum}
+use Rattle.df_model.specs.Work.{Running, Tour, Work, first_tour, prepare_checksum, is_captured, is_in, is_known, is_of, opened, waiting_checksum}
 use Rattle.df_model.specs.Codec.{AreBytes, AreLawful, IsCodec, IsLawful}
 use Rattle.df_model.specs.Refusals.{begin_refusals, first_refusal}
 use Rattle.df_model.specs.After.{newest, with_running, next_trailer, begun, checkpoint_of, with_trailer_block, with_verdict}
 use Rattle.df_model.specs.Change.{Appends, Begins, Change, Checks, Ends, LetsGo, Lives, One, Replies, Staged, Stages, Stays, TourEnds, Writes}
-use Rattle.df_model.specs.Sense.{AtEachOf, IsCapture, IsClear, IsWork}
+use Rattle.df_model.specs.Sense.{AtEachOf, IsCapture, IsClearAddress, IsWork}
 use Rattle.df_model.specs.declared.answers.Verdict.{Verdict}
 use Rattle.df_model.specs.declared.answers.Verdict.TheVariants.{Sound as IsFine, Failing}
 use Rattle.df_model.specs.Laws.{HasFields, NextLaw, OpenedLaw, SenseLaw}
@@ -68,8 +68,8 @@ begin_keeps sh spell w root bytes work none =
       one = one_fewer w (with_running w (Some (begun sh spell w root))) (begin_knows sh spell w root) work.one;
       sums = work.sums;
       few = work.few;
-      clear = λ r at. subst (λ (q : Running). AtEachOf (IsClear w.live w.view.checkpoint) q.left) (let e : begun sh spell w root ≡ r = cc in e)
-          (each_weaker (IsFree sh w) (IsClear w.live w.view.checkpoint) (λ a free. let none_there = nowhere w a free.unheld in record { dead = none_there.live; unreferenced = none_there.durable; no_trailer = none_there.chain }) (begun sh spell w root).left frees);
+      clear = λ r at. subst (λ (q : Running). AtEachOf (IsClearAddress w.live w.view.checkpoint) q.left) (let e : begun sh spell w root ≡ r = cc in e)
+          (each_weaker (IsFree sh w) (IsClearAddress w.live w.view.checkpoint) (λ a free. let none_there = nowhere w a free.unheld in record { dead = none_there.live; unreferenced = none_there.durable; no_trailer = none_there.chain }) (begun sh spell w root).left frees);
     }
 
 -- ---- a step
@@ -101,8 +101,8 @@ trailer_keeps sh spell w sum r a more work at left =
       one = one_more w (with_trailer_block w r a (next_trailer sh spell w r sum) more) a sum (trailer_knows w r a (next_trailer sh spell w r sum) more at) (trailer_new sh spell w r a more at left (work.running r at) (work.clear r at)) work.one;
       sums = work.sums;
       few = work.few;
-      clear = λ q is. subst (λ (x : Running). AtEachOf (IsClear w.live w.view.checkpoint) x.left) (let e : u ≡ q = cc in e)
-          (let all : AtEachOf (IsClear w.live w.view.checkpoint) (a ∷ more) = subst (AtEachOf (IsClear w.live w.view.checkpoint)) left (work.clear r at) in all.1);
+      clear = λ q is. subst (λ (x : Running). AtEachOf (IsClearAddress w.live w.view.checkpoint) x.left) (let e : u ≡ q = cc in e)
+          (let all : AtEachOf (IsClearAddress w.live w.view.checkpoint) (a ∷ more) = subst (AtEachOf (IsClearAddress w.live w.view.checkpoint)) left (work.clear r at) in all.1);
     }
 
 -- ---- the scrubber
@@ -249,7 +249,7 @@ opened_law sh spell image v codec version sound fields shows = record {
     each = λ i p at op.
         let ops = chain_ops sh.layout.clients (v.checkpoint.content.op + 1) v.checkpoint.content.op_checksum 0 v.checkpoint.parts.sessions v.tail p sound.chain at in
         get_range (waiting_checksum sh image v) (v.replies + 1) (head v - v.replies) i p.header.op (omega (arith, ops.1)) op
-        ∙ ap Some (if_below v.checkpoint.content.op p.header.op _ _ (omega (arith, ops.0)) ∙ ap checksum_of (chain_get sh.layout.clients (v.checkpoint.content.op + 1) v.checkpoint.content.op_checksum 0 v.checkpoint.parts.sessions v.tail p (p.header.op - v.checkpoint.content.op - 1) sound.chain at (omega (arith, ops.0))));
+        ∙ ap Some (if_below v.checkpoint.content.op p.header.op _ _ (omega (arith, ops.0)) ∙ ap prepare_checksum (chain_get sh.layout.clients (v.checkpoint.content.op + 1) v.checkpoint.content.op_checksum 0 v.checkpoint.parts.sessions v.tail p (p.header.op - v.checkpoint.content.op - 1) sound.chain at (omega (arith, ops.0))));
   };
   staged = nothing_staged sh v sound (sessions_lawful sh spell v codec sound fields);
   running = λ r none. absurd (cc);

@@ -7,7 +7,7 @@ use Rattle.df_theory.specs.View.{View}
 use Rattle.df_theory.specs.Holds.{Sound}
 use Rattle.df_model.specs.Work.{Request, Running, Work}
 use Rattle.df_model.specs.After.{with_running, begun, finished, with_group, with_live, with_reply, with_staged, with_trailer_block}
-use Rattle.df_model.specs.Sense.{AreOne, AtEachOf, Captured, Chained, Durable, IsCapture, IsClear, IsKnown, IsSpare, Live, RiseFrom, Written}
+use Rattle.df_model.specs.Sense.{AreOne, AtEachOf, Captured, Chained, Durable, IsCapture, IsClearAddress, IsKnown, IsSpare, Live, RiseFrom, Written}
 use Rattle.df_model.proofs.Grid.{IsNowhere}
 use Rattle.df_model.specs.Blocks.{addresses, entries, sum_at}
 use Rattle.df_model.proofs.Entries.{entry_in}
@@ -112,11 +112,11 @@ trailer_knows w r at new more now a c (Durable is) = inl (Durable is)
 trailer_knows w r at new more now a c (Chained b is sum) = inl (Chained b is sum)
 
 -- the next address of the trailer has no block yet
-pub trailer_new : (sh : Shape) (spell : Parts → List ℕ) (w : Work) (r : Running) (at : ℕ) (more : List ℕ) → w.running ≡ Some r → r.left ≡ at ∷ more → IsCapture sh spell w.view r → AtEachOf (IsClear w.live w.view.checkpoint) r.left → (c : ℕ) → IsKnown w at c → ⊥
+pub trailer_new : (sh : Shape) (spell : Parts → List ℕ) (w : Work) (r : Running) (at : ℕ) (more : List ℕ) → w.running ≡ Some r → r.left ≡ at ∷ more → IsCapture sh spell w.view r → AtEachOf (IsClearAddress w.live w.view.checkpoint) r.left → (c : ℕ) → IsKnown w at c → ⊥
 trailer_new sh spell w r at more now left capture clears c known = go known
   where
-    clear : IsClear w.live w.view.checkpoint at
-    clear = (let all : AtEachOf (IsClear w.live w.view.checkpoint) (at ∷ more) = subst (AtEachOf (IsClear w.live w.view.checkpoint)) left clears in all.0)
+    clear : IsClearAddress w.live w.view.checkpoint at
+    clear = (let all : AtEachOf (IsClearAddress w.live w.view.checkpoint) (at ∷ more) = subst (AtEachOf (IsClearAddress w.live w.view.checkpoint)) left clears in all.0)
 
     spare : r.parts.references at ≡ None
     spare = (let all : AtEachOf (IsSpare sh r) (at ∷ more) = subst (AtEachOf (IsSpare sh r)) left capture.left.0 in all.0.unreferenced)

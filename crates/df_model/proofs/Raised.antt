@@ -1,4 +1,4 @@
--- A log that is begun anew after an open is kept by the state after its boot update.
+-- A log that is restarted after an open is kept by the state after its boot update.
 use Rattle.std.proofs.Common.{◌≡◌, inl, inr, ℕ, List, false, true, refl, ap, subst, arith}
 use Rattle.df_theory.specs.Units.{Content, Header, Parts, Units}
 use Rattle.df_theory.specs.Shape.{Shape}
@@ -11,7 +11,7 @@ use Rattle.df_theory.specs.Runs.{after_steps}
 use Rattle.df_theory.specs.MendLaws.{mend_steps}
 use Rattle.df_theory.specs.CopyPuts.{PutsCopies, update_steps}
 use Rattle.df_theory.specs.WholeLaws.{IsStanding}
-use Rattle.df_theory.specs.Upgrades.{BeginsRaised, EndsRaised, IsCleanBeyond, MayRaise, begun, of_version, raise_steps}
+use Rattle.df_theory.specs.Upgrades.{BeginsRaised, EndsRaised, IsCleanBeyond, MayRaise, of_version, raise_steps, restarted_at}
 use Rattle.df_theory.proofs.Laws.{raise_ends_law, stands_law}
 use Rattle.df_model.specs.Work.{Work, opened, raised}
 use Rattle.df_model.specs.Codec.{IsCodec}
@@ -35,7 +35,7 @@ module _ (sh : Shape) (spell : Parts → List ℕ) (image : Units) (v : View) (t
   u = raised (opened sh image v) d
 
   abbrev end : UnitLog
-  end = after_steps (raise_steps headers copies puts) (begun image)
+  end = after_steps (raise_steps headers copies puts) (restarted_at image)
 
   work : IsWork sh spell (opened sh image v)
   work = found_law sh spell image v codec two may.places may.found
@@ -56,25 +56,25 @@ module _ (sh : Shape) (spell : Parts → List ℕ) (image : Units) (v : View) (t
   begins = subst (λ (s : Shape). BeginsRaised s (now end) (booted v d)) file (ends.1 beyond)
 
   -- each prepare that is shown is of an earlier boot
-  clear : IsClear (settled (begun (now end))) (booted v d)
+  clear : IsClear (settled (restarted_at (now end))) (booted v d)
   clear s p at own = elim at [
     | inl here ↦ absurd (omega (arith, begins.raised.prepares s p here, own))
     | inr none ↦ absurd none
   ]
 
-  pub begun_kept : IsKeptBy sh spell (begun (now end)) u
+  pub begun_kept : IsKeptBy sh spell (restarted_at (now end)) u
   begun_kept = record {
     sense = raises.sense;
     tidy = record { rests = begins.rests; quiet = λ place wet. absurd (let no_unit : false ≡ true = wet in cc); clear = clear; whole = ended.whole };
     written = λ r none. absurd (cc);
   }
 
-  pub begun_backed : Stands image v → IsBacked (begun (now end)) u
+  pub begun_backed : Stands image v → IsBacked (restarted_at (now end)) u
   begun_backed stands =
-      let first : IsStanding (begun image) v = record { shown = stands; firm = λ a c is. refl } in
+      let first : IsStanding (restarted_at image) v = record { shown = stands; firm = λ a c is. refl } in
       let none = no_blocks_both (mend_steps headers copies) (update_steps puts) (mend_no_blocks table headers v.checkpoint.content may.agreed.first may.agreed.second copies may.puts_headers may.puts_copies) (update_no_blocks d puts) in
       let spare = spare_all v (raise_steps headers copies puts) none in
-      let last = stands_last v (raise_steps headers copies puts) (begun image) (stands_law (begun image) v (raise_steps headers copies puts) first spare) in
+      let last = stands_last v (raise_steps headers copies puts) (restarted_at image) (stands_law (restarted_at image) v (raise_steps headers copies puts) first spare) in
       record {
         standing = record { shown = last.shown; firm = λ a c is. refl };
         live = last.shown;

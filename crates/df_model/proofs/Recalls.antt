@@ -6,7 +6,7 @@ use Rattle.std.proofs.lemmas.Bool.Decides.{nat_tests}
 use Rattle.std.proofs.lemmas.Bool.{cases_lt}
 use Rattle.std.proofs.lemmas.List.{drop-map, map-append}
 use Rattle.df_theory.specs.Units.{Header, Message, Parts, Session}
-use Rattle.df_theory.specs.Sessions.{noted, session_of, sessions_after}
+use Rattle.df_theory.specs.Sessions.{noted, session_of_header, sessions_after}
 use Rattle.df_theory.specs.Tails.{last_checksum}
 use Rattle.df_theory.specs.Shape.{Shape}
 use Rattle.df_theory.specs.View.{View, head, sessions}
@@ -89,14 +89,14 @@ module _ (h : Header) (top : ℕ) (above : top < h.op) (st : ℕ → Option Mess
       ap (λ (x : Option ℕ). x ∷ map (keep get) (range_with_len (i + 1) (length ss))) (ap stored_sum (kept_old top (get i) s (st i) (first_of get i s ss gets) (low 0 s refl)))
       ∙ ap (λ (l : List (Option ℕ)). old i ∷ l) (all_old get ss (i + 1) (rest_of get i s ss gets) (λ k t at. low (suc k) t at))
 
-  one_new : (get : ℕ → Option Session) (i : ℕ) (ss : List Session) → Gets get i (session_of h ∷ ss) → keep get i ≡ None
-  one_new get i ss gets = ap stored_sum (kept_new top (get i) (session_of h) (st i) (first_of get i (session_of h) ss gets) above)
+  one_new : (get : ℕ → Option Session) (i : ℕ) (ss : List Session) → Gets get i (session_of_header h ∷ ss) → keep get i ≡ None
+  one_new get i ss gets = ap stored_sum (kept_new top (get i) (session_of_header h) (st i) (first_of get i (session_of_header h) ss gets) above)
 
-  noted_case : (get : ℕ → Option Session) (s : Session) (ss : List Session) (i : ℕ) (b : Bool) → Gets get i (if b then session_of h ∷ ss else s ∷ noted h ss) → AreLow (s ∷ ss)
+  noted_case : (get : ℕ → Option Session) (s : Session) (ss : List Session) (i : ℕ) (b : Bool) → Gets get i (if b then session_of_header h ∷ ss else s ∷ noted h ss) → AreLow (s ∷ ss)
       → (Gets get (i + 1) (noted h ss) → map (keep get) (range_with_len (i + 1) (length (noted h ss))) ≡ unstored h.client ss (map old (range_with_len (i + 1) (length ss))))
-      → map (keep get) (range_with_len i (length (if b then session_of h ∷ ss else s ∷ noted h ss))) ≡ (if b then None ∷ map old (range_with_len (i + 1) (length ss)) else old i ∷ unstored h.client ss (map old (range_with_len (i + 1) (length ss))))
+      → map (keep get) (range_with_len i (length (if b then session_of_header h ∷ ss else s ∷ noted h ss))) ≡ (if b then None ∷ map old (range_with_len (i + 1) (length ss)) else old i ∷ unstored h.client ss (map old (range_with_len (i + 1) (length ss))))
   noted_case get s ss i true gets low more =
-      ap (λ (x : Option ℕ). x ∷ map (keep get) (range_with_len (i + 1) (length ss))) (one_new get i ss gets) ∙ ap (λ (l : List (Option ℕ)). None ∷ l) (all_old get ss (i + 1) (rest_of get i (session_of h) ss gets) (λ k t at. low (suc k) t at))
+      ap (λ (x : Option ℕ). x ∷ map (keep get) (range_with_len (i + 1) (length ss))) (one_new get i ss gets) ∙ ap (λ (l : List (Option ℕ)). None ∷ l) (all_old get ss (i + 1) (rest_of get i (session_of_header h) ss gets) (λ k t at. low (suc k) t at))
   noted_case get s ss i false gets low more =
       ap (λ (x : Option ℕ). x ∷ map (keep get) (range_with_len (i + 1) (length (noted h ss)))) (ap stored_sum (kept_old top (get i) s (st i) (first_of get i s (noted h ss) gets) (low 0 s refl)))
       ∙ ap (λ (l : List (Option ℕ)). old i ∷ l) (more (rest_of get i s (noted h ss) gets))

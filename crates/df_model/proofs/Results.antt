@@ -18,8 +18,8 @@ use Rattle.df_model.specs.Making.{block_of, group_of, next_address, place_of_rep
 use Rattle.df_model.specs.After.{checkpoint_of, next_trailer, place_of_client, to_check}
 use Rattle.df_model.specs.Commands.{Advance, Answer, Append, Command, Flush, ForReadBlock, ForReadPrepare, ForReadReply, ForScrub, Given, ReadBlock, ReadPrepare, ReadReply, Reply, Scrub, WriteBlock, after, supplied_sum, supplied_sums}
 use Rattle.df_model.specs.Supply.{Codec, Shown, block_at, block_given, block_read, checksums_given, class_or, copies_of, first_check, group_puts, message_given, next, no_trailer, nothing, prepare_at, prepare_given, puts_of, reply_at, reply_given, result, step_puts, supplied, trailer_puts, unless, verdict_of}
-use Rattle.df_model.specs.Laws.{Does, DoesAdvance, DoesAdvanceTo, DoesAppend, DoesBlock, DoesFinish, DoesFlush, DoesReply, UnlessRefused}
-use Rattle.df_model.specs.Runs.{Stepped, act_of, answers_of, command_in}
+use Rattle.df_model.specs.Laws.{DoesAdvance, DoesAdvanceTo, DoesAppend, DoesBlock, DoesCommand, DoesFinish, DoesFlush, DoesReply, UnlessRefused}
+use Rattle.df_model.specs.Runs.{Stepped, act_of, command_in, run_answers}
 use Rattle.df_model.specs.Result.{AgreeReads, AreServed, ResultLaw, WritesLaw}
 
 -- ---- what is supplied
@@ -205,7 +205,7 @@ module _ (sh : Shape) (spell : Parts → List ℕ) (log : UnitLog) (w : Work) (g
   advances None is does = subst (λ (o : Option Running). Shows log steps (step_puts m (course_of spell o) (supplied_sum given)) under) (sym is) (idle log steps under does agree)
   advances (Some r) is does = subst (λ (o : Option Running). Shows log steps (step_puts m (course_of spell o) (supplied_sum given)) under) (sym is) (advance_to r r.left does)
 
-  pub shows_next : (c : Command) → Does sh spell (now log) w given c steps → Shows log steps (puts_of m (supplied_sums given) c) under
+  pub shows_next : (c : Command) → DoesCommand sh spell (now log) w given c steps → Shows log steps (puts_of m (supplied_sums given) c) under
   shows_next (Append client request body) does = unless_refused log (first_refusal (append_refusals m client request body)) steps _ _ under agree (append_writes client request body) does
   shows_next Flush does = unless_refused log (first_refusal (flush_refusals m)) steps _ _ under agree (flush_writes (group_of m (supplied_sums given))) does
   shows_next (Reply op body) does =
@@ -226,7 +226,7 @@ writes_law sh spell log w given c steps does = shows_next sh spell log w given s
 -- ---- a session
 
 folds : (sh : Shape) (codec : Codec) (damage : Place → Class) (log : UnitLog) (under : Units) (w : Work) (xs : List Stepped) → AgreeReads (now log) under → AreServed sh codec damage log w xs
-    → answers_of sh codec.spell w (map act_of xs) ≡ result sh codec (record { units = under; damage = damage }) w (map command_in (map act_of xs))
+    → run_answers sh codec.spell w (map act_of xs) ≡ result sh codec (record { units = under; damage = damage }) w (map command_in (map act_of xs))
 folds sh codec damage log under w [] agree served = refl
 folds sh codec damage log under w (x ∷ xs) agree served =
     let m = memory_of sh codec.spell w in

@@ -1,7 +1,7 @@
 -- Runs of commands, and what they begin with.
 use Rattle.std.proofs.Common.{◌≡◌, ℕ, ◌%◌, ◌≤◌, List, [], ◌∷◌, length, map, Some, None, refl, sym, ap, subst, arith}
 use Rattle.df_theory.specs.Units.{Block, BlockPlace, BlockUnit, Message, Parts, PreparePlace, PrepareUnit, Units}
-use Rattle.df_theory.specs.Sessions.{session_of}
+use Rattle.df_theory.specs.Sessions.{session_of_header}
 use Rattle.df_theory.specs.Tails.{In}
 use Rattle.df_theory.specs.Trailer.{InChain, no_parts, text_of}
 use Rattle.df_theory.specs.Shape.{Shape}
@@ -15,7 +15,7 @@ use Rattle.df_model.specs.Work.{Work, kept}
 use Rattle.df_model.specs.Codec.{AreBytes, IsCodec, IsLawfulSession}
 use Rattle.df_model.specs.Commands.{after}
 use Rattle.df_model.specs.Sense.{IsBacked}
-use Rattle.df_model.specs.Laws.{FoundLaw, HasFields, IsKeptBy}
+use Rattle.df_model.specs.Laws.{FoundStateLaw, HasFields, IsKeptBy}
 use Rattle.df_model.specs.Runs.{DoAll, FirstKeptLaw, OpenedKeptLaw, RunLaw, Stepped, act_of, led_by, work_after}
 use Rattle.df_model.proofs.Keeps.{opened_law, sessions_lawful}
 use Rattle.df_model.proofs.Does.{command_law}
@@ -55,7 +55,7 @@ run_law sh spell log w xs keeps does =
 -- ---- what they begin with
 
 -- a prepare that is shown has its fields in range
-shown_lawful : (sh : Shape) (image : Units) (p : Message) → AreOfPlaces sh image → image (PreparePlace (p.header.op % sh.layout.slots)) ≡ Some (PrepareUnit p) → IsLawfulSession (session_of p.header)
+shown_lawful : (sh : Shape) (image : Units) (p : Message) → AreOfPlaces sh image → image (PreparePlace (p.header.op % sh.layout.slots)) ≡ Some (PrepareUnit p) → IsLawfulSession (session_of_header p.header)
 shown_lawful sh image p places shows =
     let of = places (PreparePlace (p.header.op % sh.layout.slots)) (PrepareUnit p) shows in
     let same : of.0 ≡ p = cc (of.1) in
@@ -66,7 +66,7 @@ shown_lawful sh image p places shows =
 found_fields : (sh : Shape) (image : Units) (v : View) → AreOfPlaces sh image → IsFound sh image v → HasFields v
 found_fields sh image v places found = record { prepares = λ p at. shown_lawful sh image p places (found.tail.takes p at).shown; bytes = text_bytes sh image v.checkpoint.chain places (λ a b at. found.chain_shown a b at) }
 
-pub found_law : FoundLaw
+pub found_law : FoundStateLaw
 found_law sh spell image v codec version places found = opened_law sh spell image v codec version (found_sound sh image v places found) (found_fields sh image v places found) (λ a b at. found.chain_shown a b at)
 
 -- and it has no more sessions than there are places

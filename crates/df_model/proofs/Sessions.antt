@@ -4,7 +4,7 @@ use Rattle.std.specs.Prelude.{◌-◌}
 use Rattle.std.specs.List.{slice_get}
 use Rattle.std.proofs.lemmas.Bool.{eqb-false}
 use Rattle.df_theory.specs.Units.{Header, Message, Session}
-use Rattle.df_theory.specs.Sessions.{Has, MayAsk, noted, session_of, sessions_after}
+use Rattle.df_theory.specs.Sessions.{Has, MayAsk, noted, session_of_header, sessions_after}
 use Rattle.df_theory.specs.Tails.{Chain, In}
 use Rattle.df_theory.proofs.Laws.{noted_get}
 use Rattle.df_model.specs.Codec.{AreLawful, IsLawfulSession}
@@ -37,7 +37,7 @@ new_asks room h (x ∷ ss) there few first = new_case h x ss room (x.client == h
 -- ---- lawful sessions
 
 few_case : (h : Header) (x : Session) (ss rest : List Session) (room : ℕ) (b : Bool) → (x.client == h.client) ≡ b → MayAsk room h (x ∷ ss) → length ss + 1 ≤ room → ((k : ℕ) → MayAsk k h ss → length ss ≤ k → length rest ≤ k)
-    → length (if b then session_of h ∷ ss else x ∷ rest) ≤ room
+    → length (if b then session_of_header h ∷ ss else x ∷ rest) ≤ room
 few_case h x ss rest room true is may few more = omega arith
 few_case h x ss rest room false is (inl here) few more = absurd (eqb-false x.client h.client is here.0)
 few_case h x ss rest room false is (inr there) few more = omega (arith, more there.1 there.3 (omega (arith, there.2)), there.2)
@@ -52,14 +52,14 @@ Apart ss = (j k : ℕ) (s t : Session) → slice_get ss j ≡ Some s → slice_g
 abbrev pub client : Session → ℕ
 client s = s.client
 
-apart_case : (h : Header) (x : Session) (ss : List Session) (b : Bool) → (x.client == h.client) ≡ b → Apart (x ∷ ss) → Apart (noted h ss) → Apart (if b then session_of h ∷ ss else x ∷ noted h ss)
+apart_case : (h : Header) (x : Session) (ss : List Session) (b : Bool) → (x.client == h.client) ≡ b → Apart (x ∷ ss) → Apart (noted h ss) → Apart (if b then session_of_header h ∷ ss else x ∷ noted h ss)
 apart_case h x ss true is old rest zero zero s t one two same = refl
 apart_case h x ss true is old rest zero (suc k) s t one two same =
-    let new : session_of h ≡ s = (let both : Some (session_of h) ≡ Some s = one in cc) in
+    let new : session_of_header h ≡ s = (let both : Some (session_of_header h) ≡ Some s = one in cc) in
     let none : 0 ≡ suc k = old 0 (suc k) x t refl two (eqb-true x.client h.client is ∙ ap client new ∙ same) in
     absurd (omega arith)
 apart_case h x ss true is old rest (suc j) zero s t one two same =
-    let new : session_of h ≡ t = (let both : Some (session_of h) ≡ Some t = two in cc) in
+    let new : session_of_header h ≡ t = (let both : Some (session_of_header h) ≡ Some t = two in cc) in
     let none : suc j ≡ 0 = old (suc j) 0 s x one refl (same ∙ sym (ap client new) ∙ sym (eqb-true x.client h.client is)) in
     absurd (omega arith)
 apart_case h x ss true is old rest (suc j) (suc k) s t one two same = old (suc j) (suc k) s t one two same
@@ -84,7 +84,7 @@ noted_apart h [] old zero (suc k) s t one two same = absurd (let none : None ≡
 noted_apart h [] old (suc j) k s t one two same = absurd (let none : None ≡ Some s = one in cc)
 noted_apart h (x ∷ ss) old j k s t one two same = apart_case h x ss (x.client == h.client) refl old (noted_apart h ss (λ a c u w first second is. let next : suc a ≡ suc c = old (suc a) (suc c) u w first second is in omega arith)) j k s t one two same
 
-pub noted_lawful : (room : ℕ) (h : Header) (ss : List Session) → AreLawful room ss → MayAsk room h ss → IsLawfulSession (session_of h) → AreLawful room (noted h ss)
+pub noted_lawful : (room : ℕ) (h : Header) (ss : List Session) → AreLawful room ss → MayAsk room h ss → IsLawfulSession (session_of_header h) → AreLawful room (noted h ss)
 noted_lawful room h ss lawful may own = record {
   few = noted_few room h ss may lawful.few;
   each = λ k s at. elim (noted_get h ss k s at) [
@@ -94,7 +94,7 @@ noted_lawful room h ss lawful may own = record {
   apart = noted_apart h ss lawful.apart;
 }
 
-pub chain_lawful : (clients op parent mark : ℕ) (ss : List Session) (ps : List Message) → AreLawful clients ss → Chain clients op parent mark ss ps → ((p : Message) → In p ps → IsLawfulSession (session_of p.header)) → AreLawful clients (sessions_after ss ps)
+pub chain_lawful : (clients op parent mark : ℕ) (ss : List Session) (ps : List Message) → AreLawful clients ss → Chain clients op parent mark ss ps → ((p : Message) → In p ps → IsLawfulSession (session_of_header p.header)) → AreLawful clients (sessions_after ss ps)
 chain_lawful clients op parent mark ss [] lawful chain each = lawful
 chain_lawful clients op parent mark ss (p ∷ ps) lawful chain each = chain_lawful clients (op + 1) p.header.checksum p.header.mark (noted p.header ss) ps (noted_lawful clients p.header ss lawful chain.0.asks (each p (inl refl))) chain.1 (λ q at. each q (inr at))
 

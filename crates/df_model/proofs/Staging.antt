@@ -9,7 +9,7 @@ use Rattle.df_model.specs.Work.{Request, Work}
 use Rattle.df_model.specs.Codec.{AreLawful}
 use Rattle.df_model.specs.Memory.{Memory, memory_of}
 use Rattle.df_model.specs.Making.{group_of, prepare_in, prepares_in}
-use Rattle.df_model.specs.Refusals.{counted, first_refusal, session_of_client, stage_refusals}
+use Rattle.df_model.specs.Refusals.{counted_staged, first_refusal, session_of_client, stage_refusals}
 use Rattle.df_model.specs.After.{with_staged}
 use Rattle.df_model.specs.Sense.{AreStaged, IsWork}
 use Rattle.df_model.proofs.Appends.{IsAllowed, allowed, allowed_asks, some_request}
@@ -45,8 +45,8 @@ module _ (sh : Shape) (spell : Parts → List ℕ) (w : Work) (client request : 
   abbrev counts : List Session
   counts = sessions_after (sessions v) (group_of m [])
 
-  is : IsAllowed (counted m) client request (session_of_client client counts)
-  is = allowed (counted m) client request body none
+  is : IsAllowed (counted_staged m) client request (session_of_client client counts)
+  is = allowed (counted_staged m) client request body none
 
   longer : many ≡ length w.staged + 1
   longer = length-append w.staged (r ∷ [])
@@ -61,7 +61,7 @@ module _ (sh : Shape) (spell : Parts → List ℕ) (w : Work) (client request : 
   q op = prepare_in n (head v + 1) (head v + many) op 0 0 r
 
   asks : MayAsk sh.layout.clients (q (head v + 1 + length w.staged)).header (sessions_after (sessions v) ps)
-  asks = subst (MayAsk sh.layout.clients (q (head v + 1 + length w.staged)).header) same (allowed_asks (counted m) (q (head v + 1 + length w.staged)).header body work.staged.sessions.few (omega arith) is)
+  asks = subst (MayAsk sh.layout.clients (q (head v + 1 + length w.staged)).header) same (allowed_asks (counted_staged m) (q (head v + 1 + length w.staged)).header body work.staged.sessions.few (omega arith) is)
 
   lawful : client < 2 ^ 128 → AreLawful sh.layout.clients (noted (q (head v + 1 + length w.staged)).header (sessions_after (sessions v) ps))
   lawful fits = noted_lawful sh.layout.clients (q (head v + 1 + length w.staged)).header (sessions_after (sessions v) ps) before.sessions asks (record {

@@ -11,7 +11,7 @@ use Rattle.df_theory.specs.Next.{appended, checkpointed, replied}
 use Rattle.df_model.specs.Work.{Request, Running, Work, first_tour}
 use Rattle.df_model.specs.Memory.{Memory, free_of, referenced_of, course, memory_of, sum_of_message}
 use Rattle.df_model.specs.Refusals.{append_refusals, begin_refusals, block_refusals, first_refusal, flush_refusals, lookup_refusals, prepare_refusals, read_refusals, release_refusals, reply_refusals, stage_refusals}
-use Rattle.df_model.specs.Making.{content_of, group_of, needed_of, next_address, parts_of, place_of_reply, prepare_of, reply_of, trailer_block}
+use Rattle.df_model.specs.Making.{finishing_content, group_of, needed_of, next_address, parts_of, place_of_reply, prepare_of, reply_of, trailer_block}
 use Rattle.df_model.specs.declared.errors.AppendError.{AppendError}
 use Rattle.df_model.specs.declared.errors.FlushError.{FlushError}
 use Rattle.df_model.specs.declared.errors.ReplyError.{ReplyError}
@@ -116,7 +116,7 @@ after_begin sh spell w root =
 
 -- the checkpoint that the running one ends as
 abbrev pub checkpoint_of : Shape → (Parts → List ℕ) → Work → Running → (sum : ℕ) → Checkpoint
-checkpoint_of sh spell w r sum = record { content = content_of (memory_of sh spell w) (course spell r) sum; chain = r.written; parts = r.parts }
+checkpoint_of sh spell w r sum = record { content = finishing_content (memory_of sh spell w) (course spell r) sum; chain = r.written; parts = r.parts }
 
 -- the next block of the running trailer
 abbrev pub next_trailer : Shape → (Parts → List ℕ) → Work → Running → (sum : ℕ) → Block

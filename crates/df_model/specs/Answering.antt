@@ -59,9 +59,9 @@ ReplyParentLaw =
 
 -- ---- a checkpoint that may be finished may be begun
 
-abbrev pub AreApart : List (ℕ × Block) → Type 0
-AreApart [] = Unit {0}
-AreApart (x ∷ xs) = ((b : Block) → InChain x.0 b xs → ⊥) × AreApart xs
+abbrev pub AreDistinctBlocks : List (ℕ × Block) → Type 0
+AreDistinctBlocks [] = Unit {0}
+AreDistinctBlocks (x ∷ xs) = ((b : Block) → InChain x.0 b xs → ⊥) × AreDistinctBlocks xs
 
 -- a checkpoint of the state as it is, with this root, whose trailer stands at addresses of the grid that aren't held
 pub record IsOfNow (sh : Shape) (spell : Parts → List ℕ) (w : Work) (root : List ℕ) (c : Checkpoint) : Type 0 where
@@ -70,7 +70,7 @@ pub record IsOfNow (sh : Shape) (spell : Parts → List ℕ) (w : Work) (root : 
   pub text : text_of c.chain ≡ spell (parts_of (memory_of sh spell w) root)
   pub bytes : AreBytes (text_of c.chain)
   pub free : (a : ℕ) (b : Block) → InChain a b c.chain → (0 < a) × (is_held w a ≡ false)
-  pub apart : AreApart c.chain
+  pub apart : AreDistinctBlocks c.chain
 
 abbrev pub BeginExactLaw : Type 0
 BeginExactLaw =

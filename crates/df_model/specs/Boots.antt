@@ -11,9 +11,9 @@ use Rattle.df_theory.specs.Rests.{IsDry}
 use Rattle.df_theory.specs.Found.{AreOfPlaces, IsFound}
 use Rattle.df_theory.specs.Runs.{Step, after_steps}
 use Rattle.df_theory.specs.CopyPuts.{PutsCopies, update_steps}
-use Rattle.df_theory.specs.GroupLaws.{IsMended}
+use Rattle.df_theory.specs.GroupLaws.{IsMendedLog}
 use Rattle.df_theory.specs.MendLaws.{MayMend}
-use Rattle.df_theory.specs.Upgrades.{IsCleanBeyond, MayRaise, as_version, begun, raise_steps}
+use Rattle.df_theory.specs.Upgrades.{IsCleanBeyond, MayRaise, as_version, raise_steps, restarted_at}
 use Rattle.df_theory.specs.Device.{AreSteps, Format, IsFormat, units_log}
 use Rattle.df_model.specs.Work.{Work, kept, opened, raised}
 use Rattle.df_model.specs.Codec.{IsCodec}
@@ -52,7 +52,7 @@ pub record DoesBoot (d : Content) (steps : List Step) : Type 0 where
 -- a file after its mending, of which nothing is loose: it is as a state has it, but for what survived above its head
 pub record IsMendedFor (sh : Shape) (spell : Parts → List ℕ) (log : UnitLog) (w : Work) : Type 0 where
   pub sense : IsWork sh spell w
-  pub mended : IsMended sh log (kept w)
+  pub mended : IsMendedLog sh log (kept w)
   pub dry : IsDry log
   pub written : ShowsWritten (now log) w
 
@@ -95,10 +95,10 @@ DiskOpenLaw =
     → IsFormat f → IsLog log → MayOpenFor sh spell (units_log f log) w table headers copies → boot_of (kept w) < 2 ^ 62 → DoesOpenOnDisk f (boot_content (memory_of sh spell w) sum) headers copies events
     → LeadsOnDisk f sh spell log w (raised w (boot_content (memory_of sh spell w) sum)) events × (IsBacked (units_log f log) w → BacksOnDisk f sh log w (raised w (boot_content (memory_of sh spell w) sum)) events)
 
--- whatever the copies of an image showed in which a view is found: after a mending and the boot update, a log that is begun anew there is kept by the state after it
+-- whatever the copies of an image showed in which a view is found: after a mending and the boot update, a log that is restarted there is kept by the state after it
 abbrev pub RaisedKeptLaw : Type 0
 RaisedKeptLaw =
     (sh : Shape) (spell : Parts → List ℕ) (image : Units) (v : View) (table : ℕ → Header) (headers : List Units) (copies : List (ℕ × Units)) (sum : ℕ) (puts : PutsCopies (boot_content (memory_of sh spell (opened sh image v)) sum))
     → IsCodec sh spell → IsVersionTwo sh v → MayRaise sh v.checkpoint.content.version image v table headers copies (boot_content (memory_of sh spell (opened sh image v)) sum) → IsCleanBeyond image v
-    → IsKeptBy sh spell (begun (now (after_steps (raise_steps headers copies puts) (begun image)))) (raised (opened sh image v) (boot_content (memory_of sh spell (opened sh image v)) sum))
-    × (Stands image v → IsBacked (begun (now (after_steps (raise_steps headers copies puts) (begun image)))) (raised (opened sh image v) (boot_content (memory_of sh spell (opened sh image v)) sum)))
+    → IsKeptBy sh spell (restarted_at (now (after_steps (raise_steps headers copies puts) (restarted_at image)))) (raised (opened sh image v) (boot_content (memory_of sh spell (opened sh image v)) sum))
+    × (Stands image v → IsBacked (restarted_at (now (after_steps (raise_steps headers copies puts) (restarted_at image)))) (raised (opened sh image v) (boot_content (memory_of sh spell (opened sh image v)) sum)))

@@ -8,7 +8,7 @@ use Rattle.df_model.specs.Memory.{Memory, memory_of}
 use Rattle.df_model.specs.Refusals.{append_refusals, begin_refusals, block_refusals, first_refusal, flush_refusals, release_refusals, reply_refusals, stage_refusals}
 use Rattle.df_model.specs.Making.{group_of, needed_of, next_address, place_of_reply, prepare_of, reply_of}
 use Rattle.df_model.specs.After.{begun, finished, next_trailer, to_check, with_group, with_live, with_reply, with_running, with_staged, with_trailer_block, with_verdict}
-use Rattle.df_model.specs.Laws.{Does, DoesNothing}
+use Rattle.df_model.specs.Laws.{DoesCommand, DoesNothing}
 use Rattle.df_model.specs.Commands.{Advance, Append, Begin, Command, Flush, Given, Release, Reply, Scrub, Stage, WriteBlock, after, supplied_sum, supplied_sums, supplied_verdict}
 
 -- the command appends these prepares: an append one, where nothing is staged, and a flush all that is staged
@@ -18,7 +18,7 @@ pub data Groups (m : Memory) (given : Given) : Command → List Message → Type
 
 -- the command asks nothing of the device, as far as it isn't refused
 abbrev pub IsIdle : Shape → (Parts → List ℕ) → Work → Given → Command → Type 0
-IsIdle sh spell w given command = (image : Units) (steps : List Step) → Does sh spell image w given command steps → DoesNothing steps
+IsIdle sh spell w given command = (image : Units) (steps : List Step) → DoesCommand sh spell image w given command steps → DoesNothing steps
 
 -- The state stays, as after each read and each refusal; or prepares are appended as a group, and nothing is staged any more; a request is staged; a reply is stored; a block is live; it is let
 -- go; a checkpoint is begun, the next block of its trailer is written, it is finished; a block is checked; a tour ends.

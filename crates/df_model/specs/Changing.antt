@@ -8,7 +8,7 @@ use Rattle.df_model.specs.Work.{Request, Work, first_tour, is_held, reference_of
 use Rattle.df_model.specs.Blocks.{Blocks, block_released, block_written, blocks_captured, blocks_of, capture_finished, is_held_in, reference_in, trailer_written}
 use Rattle.df_model.specs.Memory.{Course, Memory, free_of, memory_of, sum_of_message}
 use Rattle.df_model.specs.Refusals.{append_refusals, begin_refusals, block_refusals, first_refusal, flush_refusals, release_refusals, reply_refusals, stage_refusals}
-use Rattle.df_model.specs.Making.{content_of, group_of, needed_of, next_address, parts_of, place_of_reply, prepare_of}
+use Rattle.df_model.specs.Making.{finishing_content, group_of, needed_of, next_address, parts_of, place_of_reply, prepare_of}
 use Rattle.df_model.specs.After.{newest, to_check}
 use Rattle.df_model.specs.Codec.{InGrid}
 use Rattle.df_model.specs.Sense.{IsWork}
@@ -90,7 +90,7 @@ begun_in spell m root = record { op = m.head; op_checksum = m.head_checksum; roo
 
 -- the next block of the trailer is written; where all are, the checkpoint is durable, and its prepares leave the tail
 abbrev pub course_on : Memory → (sum : ℕ) → Course → List ℕ → Memory
-course_on m sum r [] = record m { content = content_of m r sum; root = r.root; prepares = drop (r.op - m.content.op) m.prepares; running = None }
+course_on m sum r [] = record m { content = finishing_content m r sum; root = r.root; prepares = drop (r.op - m.content.op) m.prepares; running = None }
 course_on m sum r (a ∷ more) = record m { running = Some (record r { count = r.count + 1; last = a; last_checksum = sum; left = more }) }
 
 abbrev pub step_in : Memory → (sum : ℕ) → Option Course → Memory

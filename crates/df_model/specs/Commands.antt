@@ -83,25 +83,25 @@ abbrev pub supplied_sum : Given → ℕ
 supplied_sum given = first_of (supplied_sums given)
 
 -- the fields are in the range of their types
-abbrev pub IsInRange : Command → Type 0
-IsInRange (Append client request body) = client < 2 ^ 128
-IsInRange (Stage client request body) = client < 2 ^ 128
-IsInRange Flush = Unit {0}
-IsInRange (Reply op body) = Unit {0}
-IsInRange (WriteBlock kind body) = Unit {0}
-IsInRange (Release address) = Unit {0}
-IsInRange (Begin root) = AreBytes root
-IsInRange Advance = Unit {0}
-IsInRange (ReadPrepare op) = Unit {0}
-IsInRange (ReadReply client) = Unit {0}
-IsInRange (ReadBlock address) = Unit {0}
-IsInRange Scrub = Unit {0}
-IsInRange Recent = Unit {0}
+abbrev pub IsCommandInRange : Command → Type 0
+IsCommandInRange (Append client request body) = client < 2 ^ 128
+IsCommandInRange (Stage client request body) = client < 2 ^ 128
+IsCommandInRange Flush = Unit {0}
+IsCommandInRange (Reply op body) = Unit {0}
+IsCommandInRange (WriteBlock kind body) = Unit {0}
+IsCommandInRange (Release address) = Unit {0}
+IsCommandInRange (Begin root) = AreBytes root
+IsCommandInRange Advance = Unit {0}
+IsCommandInRange (ReadPrepare op) = Unit {0}
+IsCommandInRange (ReadReply client) = Unit {0}
+IsCommandInRange (ReadBlock address) = Unit {0}
+IsCommandInRange Scrub = Unit {0}
+IsCommandInRange Recent = Unit {0}
 
 -- what is supplied is in range too
 pub record IsInput (given : Given) (command : Command) : Type 0 where
   pub checksums : AreChecksums (supplied_sums given)
-  pub fields : IsInRange command
+  pub fields : IsCommandInRange command
 
 pub data Answer : Type 0 where
   ToAppend : (answer : Result (ℕ × ℕ) AppendError) → Answer

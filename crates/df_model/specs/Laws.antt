@@ -1,7 +1,7 @@
 -- The laws of the machine: it keeps its sense, and what a call does to the device leads from the view before to the view after.
 use Rattle.std.specs.Prelude.{◌≡◌, ◌+◌, ◌^◌, ◌%◌, ◌<◌, ◌≤◌, ℕ, length, true, false, List, [], ◌∷◌, Option, Some, None}
 use Rattle.df_theory.specs.Units.{Block, BlockPlace, BlockUnit, Header, HeaderPlace, HeaderUnit, Message, PreparePlace, PrepareUnit, ReplyPlace, ReplyUnit, Units, Parts, overlay}
-use Rattle.df_theory.specs.Sessions.{session_of}
+use Rattle.df_theory.specs.Sessions.{session_of_header}
 use Rattle.df_theory.specs.Tails.{In}
 use Rattle.df_theory.specs.Trailer.{InChain, text_of}
 use Rattle.df_theory.specs.Shape.{Shape, slots}
@@ -30,20 +30,20 @@ use Rattle.df_model.specs.Commands.{Advance, Append, Begin, Command, Flush, Give
 
 -- the fields of each prepare of the tail are in range, and the trailer's text is of bytes, as validity demands
 pub record HasFields (v : View) : Type 0 where
-  pub prepares : (p : Message) → In p v.tail → IsLawfulSession (session_of p.header)
+  pub prepares : (p : Message) → In p v.tail → IsLawfulSession (session_of_header p.header)
   pub bytes : AreBytes (text_of v.checkpoint.chain)
 
 -- the image shows the trailer: so each block of it has an address of its own
-abbrev pub ShowsTrailer : Units → View → Type 0
-ShowsTrailer image v = (a : ℕ) (b : Block) → InChain a b v.checkpoint.chain → image (BlockPlace a) ≡ Some (BlockUnit b)
+abbrev pub ShowsOwnTrailer : Units → View → Type 0
+ShowsOwnTrailer image v = (a : ℕ) (b : Block) → InChain a b v.checkpoint.chain → image (BlockPlace a) ≡ Some (BlockUnit b)
 
 -- a state after an open
 abbrev pub OpenedLaw : Type 0
-OpenedLaw = (sh : Shape) (spell : Parts → List ℕ) (image : Units) (v : View) → IsCodec sh spell → IsVersionTwo sh v → Sound sh v → HasFields v → ShowsTrailer image v → IsWork sh spell (opened sh image v)
+OpenedLaw = (sh : Shape) (spell : Parts → List ℕ) (image : Units) (v : View) → IsCodec sh spell → IsVersionTwo sh v → Sound sh v → HasFields v → ShowsOwnTrailer image v → IsWork sh spell (opened sh image v)
 
 -- the state that an open finds in an image, whatever was done to it
-abbrev pub FoundLaw : Type 0
-FoundLaw = (sh : Shape) (spell : Parts → List ℕ) (image : Units) (v : View) → IsCodec sh spell → IsVersionTwo sh v → AreOfPlaces sh image → IsFound sh image v → IsWork sh spell (opened sh image v)
+abbrev pub FoundStateLaw : Type 0
+FoundStateLaw = (sh : Shape) (spell : Parts → List ℕ) (image : Units) (v : View) → IsCodec sh spell → IsVersionTwo sh v → AreOfPlaces sh image → IsFound sh image v → IsWork sh spell (opened sh image v)
 
 -- a state after a command
 abbrev pub SenseLaw : Type 0
@@ -155,8 +155,8 @@ DoesNothing steps = steps ≡ []
 
 -- what is refused does nothing
 abbrev pub UnlessRefused : {E : Type 0} → Option E → List Step → Type 0 → Type 0
-UnlessRefused (Some e) steps Does = DoesNothing steps
-UnlessRefused None steps Does = Does
+UnlessRefused (Some e) steps DoesCommand = DoesNothing steps
+UnlessRefused None steps DoesCommand = DoesCommand
 
 abbrev pub DoesAdvanceTo : Shape → (Parts → List ℕ) → Work → (sum : ℕ) → Running → List ℕ → List Step → Type 0
 DoesAdvanceTo sh spell w sum r [] steps = DoesFinish w.view (checkpoint_of sh spell w r sum) steps
@@ -167,20 +167,20 @@ DoesAdvance sh spell w sum None steps = DoesNothing steps
 DoesAdvance sh spell w sum (Some r) steps = DoesAdvanceTo sh spell w sum r r.left steps
 
 -- the steps of a command, over the image that is shown at its start
-abbrev pub Does : Shape → (Parts → List ℕ) → Units → Work → Given → Command → List Step → Type 0
-Does sh spell image w given (Append client request body) steps = UnlessRefused (first_refusal (append_refusals (memory_of sh spell w) client request body)) steps (DoesAppend sh image w.view (prepare_of (memory_of sh spell w) (supplied_sum given) client request body) steps)
-Does sh spell image w given (Stage client request body) steps = DoesNothing steps
-Does sh spell image w given Flush steps = UnlessRefused (first_refusal (flush_refusals (memory_of sh spell w))) steps (DoesFlush sh image w.view (group_of (memory_of sh spell w) (supplied_sums given)) steps)
-Does sh spell image w given (Reply op body) steps = UnlessRefused (first_refusal (reply_refusals (memory_of sh spell w) op body)) steps (DoesReply w.view (place_of_reply (memory_of sh spell w)) (reply_of (memory_of sh spell w) (supplied_sum given) body) steps)
-Does sh spell image w given (WriteBlock kind body) steps = UnlessRefused (first_refusal (block_refusals (memory_of sh spell w) kind body)) steps (DoesBlock w.view (next_address (memory_of sh spell w)) (block_of (memory_of sh spell w).content.boot (supplied_sum given) kind body) steps)
-Does sh spell image w given Advance steps = DoesAdvance sh spell w (supplied_sum given) w.running steps
-Does sh spell image w given (Release address) steps = DoesNothing steps
-Does sh spell image w given (Begin root) steps = DoesNothing steps
-Does sh spell image w given (ReadPrepare op) steps = DoesNothing steps
-Does sh spell image w given (ReadReply client) steps = DoesNothing steps
-Does sh spell image w given (ReadBlock address) steps = DoesNothing steps
-Does sh spell image w given Scrub steps = DoesNothing steps
-Does sh spell image w given Recent steps = DoesNothing steps
+abbrev pub DoesCommand : Shape → (Parts → List ℕ) → Units → Work → Given → Command → List Step → Type 0
+DoesCommand sh spell image w given (Append client request body) steps = UnlessRefused (first_refusal (append_refusals (memory_of sh spell w) client request body)) steps (DoesAppend sh image w.view (prepare_of (memory_of sh spell w) (supplied_sum given) client request body) steps)
+DoesCommand sh spell image w given (Stage client request body) steps = DoesNothing steps
+DoesCommand sh spell image w given Flush steps = UnlessRefused (first_refusal (flush_refusals (memory_of sh spell w))) steps (DoesFlush sh image w.view (group_of (memory_of sh spell w) (supplied_sums given)) steps)
+DoesCommand sh spell image w given (Reply op body) steps = UnlessRefused (first_refusal (reply_refusals (memory_of sh spell w) op body)) steps (DoesReply w.view (place_of_reply (memory_of sh spell w)) (reply_of (memory_of sh spell w) (supplied_sum given) body) steps)
+DoesCommand sh spell image w given (WriteBlock kind body) steps = UnlessRefused (first_refusal (block_refusals (memory_of sh spell w) kind body)) steps (DoesBlock w.view (next_address (memory_of sh spell w)) (block_of (memory_of sh spell w).content.boot (supplied_sum given) kind body) steps)
+DoesCommand sh spell image w given Advance steps = DoesAdvance sh spell w (supplied_sum given) w.running steps
+DoesCommand sh spell image w given (Release address) steps = DoesNothing steps
+DoesCommand sh spell image w given (Begin root) steps = DoesNothing steps
+DoesCommand sh spell image w given (ReadPrepare op) steps = DoesNothing steps
+DoesCommand sh spell image w given (ReadReply client) steps = DoesNothing steps
+DoesCommand sh spell image w given (ReadBlock address) steps = DoesNothing steps
+DoesCommand sh spell image w given Scrub steps = DoesNothing steps
+DoesCommand sh spell image w given Recent steps = DoesNothing steps
 
 -- the file is kept for the state: it is tidy with its view, and shows the running trailer as far as it is written. Its referenced blocks may be hurt
 pub record IsKeptBy (sh : Shape) (spell : Parts → List ℕ) (log : UnitLog) (w : Work) : Type 0 where
@@ -200,5 +200,5 @@ pub record BacksOn (sh : Shape) (log : UnitLog) (w u : Work) (steps : List Step)
 
 abbrev pub CommandLaw : Type 0
 CommandLaw =
-    (sh : Shape) (spell : Parts → List ℕ) (log : UnitLog) (w : Work) (given : Given) (command : Command) (steps : List Step) → IsInput given command → IsKeptBy sh spell log w → Does sh spell (now log) w given command steps
+    (sh : Shape) (spell : Parts → List ℕ) (log : UnitLog) (w : Work) (given : Given) (command : Command) (steps : List Step) → IsInput given command → IsKeptBy sh spell log w → DoesCommand sh spell (now log) w given command steps
     → LeadsOn sh spell log w (after sh spell w given command).0 steps × (IsBacked log w → BacksOn sh log w (after sh spell w given command).0 steps)

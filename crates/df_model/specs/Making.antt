@@ -148,8 +148,8 @@ recorded m c = record c {
 }
 
 -- the one that ends the running checkpoint, with this checksum: it has what was captured, and records the state as it is at its end
-abbrev pub content_of : Memory → Course → (sum : ℕ) → Content
-content_of m r sum = recorded m (record m.content {
+abbrev pub finishing_content : Memory → Course → (sum : ℕ) → Content
+finishing_content m r sum = recorded m (record m.content {
   checksum = sum;
   sequence = m.content.sequence + 1;
   op = r.op;

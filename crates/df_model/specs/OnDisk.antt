@@ -7,7 +7,7 @@ use Rattle.df_theory.specs.Shape.{Shape}
 use Rattle.df_theory.specs.Runs.{Step}
 use Rattle.df_theory.specs.Device.{AreSteps, Format, IsFormat, IsGoodDisk, IsGoodWholeDisk, units_log}
 use Rattle.df_model.specs.Work.{Work, kept}
-use Rattle.df_model.specs.Laws.{Does, IsKeptBy}
+use Rattle.df_model.specs.Laws.{DoesCommand, IsKeptBy}
 use Rattle.df_model.specs.Sense.{IsBacked}
 use Rattle.df_model.specs.Commands.{Command, Given, IsInput, after}
 
@@ -15,7 +15,7 @@ use Rattle.df_model.specs.Commands.{Command, Given, IsInput, after}
 pub record DoesOnDisk (f : Format) (sh : Shape) (spell : Parts → List ℕ) (log : Log) (w : Work) (given : Given) (command : Command) (events : List Event) : Type 0 where
   pub steps : List Step
   pub are : AreSteps f events steps
-  pub does : Does sh spell (f.unit_at (now log)) w given command steps
+  pub does : DoesCommand sh spell (f.unit_at (now log)) w given command steps
 
 -- at each moment of the calls each image left has the view before or after, and at the end the file is kept by the state after
 pub record LeadsOnDisk (f : Format) (sh : Shape) (spell : Parts → List ℕ) (log : Log) (w u : Work) (events : List Event) : Type 0 where

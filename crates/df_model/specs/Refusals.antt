@@ -71,11 +71,11 @@ request_refusals m client request body =
     ∷ []
 
 -- as if what is staged were appended, and no reply were stored yet
-abbrev pub counted : Memory → Memory
-counted m = record m { head = m.head + length m.staged; sessions = sessions_after m.sessions (group_of m []) }
+abbrev pub counted_staged : Memory → Memory
+counted_staged m = record m { head = m.head + length m.staged; sessions = sessions_after m.sessions (group_of m []) }
 
 abbrev pub stage_refusals : Memory → (client request : ℕ) → List ℕ → List (Bool × AppendError)
-stage_refusals m client request body = request_refusals (counted m) client request body
+stage_refusals m client request body = request_refusals (counted_staged m) client request body
 
 abbrev pub is_staged : Memory → Bool
 is_staged m = nat_lt 0 (length m.staged)

@@ -9,9 +9,9 @@ use Rattle.df_model.specs.Work.{Work}
 use Rattle.df_model.specs.Memory.{memory_of}
 use Rattle.df_model.specs.Commands.{Command, Given, after, supplied_sums}
 use Rattle.df_model.specs.Supply.{Codec, result, supplied, puts_of}
-use Rattle.df_model.specs.Laws.{Does}
+use Rattle.df_model.specs.Laws.{DoesCommand}
 use Rattle.df_model.specs.Reading.{shown_by}
-use Rattle.df_model.specs.Runs.{Stepped, act_of, answers_of, command_in}
+use Rattle.df_model.specs.Runs.{Stepped, act_of, command_in, run_answers}
 
 -- two images show the same at each place that a command reads
 pub record AgreeReads (image other : Units) : Type 0 where
@@ -22,17 +22,17 @@ pub record AgreeReads (image other : Units) : Type 0 where
 -- what a command leaves there is what it makes of what is in memory
 abbrev pub WritesLaw : Type 0
 WritesLaw =
-    (sh : Shape) (spell : Parts → List ℕ) (log : UnitLog) (w : Work) (given : Given) (command : Command) (steps : List Step) → Does sh spell (now log) w given command steps
+    (sh : Shape) (spell : Parts → List ℕ) (log : UnitLog) (w : Work) (given : Given) (command : Command) (steps : List Step) → DoesCommand sh spell (now log) w given command steps
     → AgreeReads (now (after_steps steps log)) (overlay (puts_of (memory_of sh spell w) (supplied_sums given) command) (now log))
 
 -- each act is supplied by what is shown at its start, and does its steps
 abbrev pub AreServed : Shape → Codec → (Place → Class) → UnitLog → Work → List Stepped → Type 0
 AreServed sh codec damage log w [] = Unit {0}
 AreServed sh codec damage log w (x ∷ xs) =
-    (x.act.given ≡ supplied codec (shown_by log damage) (memory_of sh codec.spell w) x.act.command) × Does sh codec.spell (now log) w x.act.given x.act.command x.steps
+    (x.act.given ≡ supplied codec (shown_by log damage) (memory_of sh codec.spell w) x.act.command) × DoesCommand sh codec.spell (now log) w x.act.given x.act.command x.steps
     × AreServed sh codec damage (after_steps x.steps log) (after sh codec.spell w x.act.given x.act.command).0 xs
 
 abbrev pub ResultLaw : Type 0
 ResultLaw =
     (sh : Shape) (codec : Codec) (damage : Place → Class) (log : UnitLog) (w : Work) (xs : List Stepped) → AreServed sh codec damage log w xs
-    → answers_of sh codec.spell w (map act_of xs) ≡ result sh codec (shown_by log damage) w (map command_in (map act_of xs))
+    → run_answers sh codec.spell w (map act_of xs) ≡ result sh codec (shown_by log damage) w (map command_in (map act_of xs))

@@ -13,7 +13,7 @@ use Rattle.df_theory.specs.Found.{AreOfPlaces}
 use Rattle.df_model.specs.Work.{Work, kept, opened}
 use Rattle.df_model.specs.Codec.{IsCodec}
 use Rattle.df_model.specs.Sense.{IsBacked, IsVersionTwo}
-use Rattle.df_model.specs.Laws.{Does, IsKeptBy}
+use Rattle.df_model.specs.Laws.{DoesCommand, IsKeptBy}
 use Rattle.df_model.specs.Commands.{Answer, Command, Given, IsInput, after}
 
 -- a command with what it was supplied with
@@ -48,9 +48,9 @@ work_after sh spell w [] = w
 work_after sh spell w (act ∷ acts) = work_after sh spell (after sh spell w act.given act.command).0 acts
 
 -- what the machine answers to them
-abbrev pub answers_of : Shape → (Parts → List ℕ) → Work → List Act → List Answer
-answers_of sh spell w [] = []
-answers_of sh spell w (act ∷ acts) = (after sh spell w act.given act.command).1 ∷ answers_of sh spell (after sh spell w act.given act.command).0 acts
+abbrev pub run_answers : Shape → (Parts → List ℕ) → Work → List Act → List Answer
+run_answers sh spell w [] = []
+run_answers sh spell w (act ∷ acts) = (after sh spell w act.given act.command).1 ∷ run_answers sh spell (after sh spell w act.given act.command).0 acts
 
 -- ---- over a device
 
@@ -65,7 +65,7 @@ act_of x = x.act
 -- each of them does its steps, over the image that is shown at its start
 abbrev pub DoAll : Shape → (Parts → List ℕ) → UnitLog → Work → List Stepped → Type 0
 DoAll sh spell log w [] = Unit {0}
-DoAll sh spell log w (x ∷ xs) = Does sh spell (now log) w x.act.given x.act.command x.steps × IsInput x.act.given x.act.command × DoAll sh spell (after_steps x.steps log) (after sh spell w x.act.given x.act.command).0 xs
+DoAll sh spell log w (x ∷ xs) = DoesCommand sh spell (now log) w x.act.given x.act.command x.steps × IsInput x.act.given x.act.command × DoAll sh spell (after_steps x.steps log) (after sh spell w x.act.given x.act.command).0 xs
 
 -- each command with the view that it leads to
 abbrev pub led_by : Shape → (Parts → List ℕ) → Work → List Stepped → List Led

@@ -64,7 +64,7 @@ pub record IsCapture (sh : Shape) (spell : Parts → List ℕ) (v : View) (r : R
   pub left : AtEachOf (IsSpare sh r) r.left × RiseFrom 1 r.left
 
 -- a block may be written there at any time: the address isn't live, and the durable checkpoint neither references it nor has its trailer there
-pub record IsClear (live : ℕ → Option ℕ) (c : Checkpoint) (a : ℕ) : Type 0 where
+pub record IsClearAddress (live : ℕ → Option ℕ) (c : Checkpoint) (a : ℕ) : Type 0 where
   pub dead : live a ≡ None
   pub unreferenced : c.parts.references a ≡ None
   pub no_trailer : (b : Block) → InChain a b c.chain → ⊥
@@ -100,7 +100,7 @@ pub record IsWork (sh : Shape) (spell : Parts → List ℕ) (w : Work) : Type 0 
   pub one : AreOne w
   pub sums : (a c : ℕ) → w.live a ≡ Some c → IsChecksum c
   pub few : length w.findings ≤ 64
-  pub clear : (r : Running) → w.running ≡ Some r → AtEachOf (IsClear w.live w.view.checkpoint) r.left
+  pub clear : (r : Running) → w.running ≡ Some r → AtEachOf (IsClearAddress w.live w.view.checkpoint) r.left
 
 -- the image shows a block with this checksum
 abbrev pub ShowsBlock : Units → ℕ → ℕ → Type 0

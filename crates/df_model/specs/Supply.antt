@@ -9,7 +9,7 @@ use Rattle.df_model.specs.Work.{Request, Work, raised}
 use Rattle.df_model.specs.Memory.{Course, Memory, memory_of, prepare_sum, reply_sum}
 use Rattle.df_model.specs.Blocks.{sum_at}
 use Rattle.df_model.specs.Refusals.{append_refusals, block_refusals, first_refusal, flush_refusals, reply_refusals}
-use Rattle.df_model.specs.Making.{block_of, boot_content, content_of, first_of, group_of, next_address, place_of_reply, prepare_in, prepare_of, reply_of, trailer_block}
+use Rattle.df_model.specs.Making.{block_of, boot_content, finishing_content, first_of, group_of, next_address, place_of_reply, prepare_in, prepare_of, reply_of, trailer_block}
 use Rattle.df_model.specs.After.{place_of_client, to_check}
 use Rattle.df_model.specs.Commands.{Advance, Answer, Append, Begin, Command, Flush, ForAdvance, ForAppend, ForBegin, ForFlush, ForReadBlock, ForReadPrepare, ForReadReply, ForRecent, ForRelease, ForReply, ForScrub, ForStage, ForWriteBlock, Given, ReadBlock, ReadPrepare, ReadReply, Recent, Release, Reply, Scrub, Stage, WriteBlock, after}
 use Rattle.df_model.specs.declared.answers.Verdict.{Verdict}
@@ -31,7 +31,7 @@ pub record Shown : Type 0 where
 -- ---- checksums
 
 abbrev pub trailer_sum : Codec → Memory → Course → List ℕ → ℕ
-trailer_sum codec m r [] = codec.content (content_of m r 0)
+trailer_sum codec m r [] = codec.content (finishing_content m r 0)
 trailer_sum codec m r (a ∷ more) = codec.block a (trailer_block m r 0)
 
 abbrev pub step_sum : Codec → Memory → Option Course → ℕ
@@ -156,7 +156,7 @@ copies_of c (CopyPlace n) = if nat_lt n 4 then Some (CopyUnit c) else None
 copies_of c place = None
 
 abbrev pub trailer_puts : Memory → Course → (sum : ℕ) → List ℕ → Units
-trailer_puts m r sum [] = copies_of (content_of m r sum)
+trailer_puts m r sum [] = copies_of (finishing_content m r sum)
 trailer_puts m r sum (a ∷ more) = put_one (BlockPlace a) (BlockUnit (trailer_block m r sum))
 
 abbrev pub step_puts : Memory → Option Course → (sum : ℕ) → Units

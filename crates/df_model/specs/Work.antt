@@ -92,13 +92,13 @@ checksum_of_op op (Some (ReplyUnit x)) = 0
 checksum_of_op op (Some (BlockUnit x)) = 0
 checksum_of_op op None = 0
 
-abbrev pub checksum_of : Option Message → ℕ
-checksum_of (Some p) = p.header.checksum
-checksum_of None = 0
+abbrev pub prepare_checksum : Option Message → ℕ
+prepare_checksum (Some p) = p.header.checksum
+prepare_checksum None = 0
 
 -- the checksum of a prepare that waits for its reply: the tail's, or of an op that the checkpoint reaches what its slot shows
 abbrev pub waiting_checksum : Shape → Units → View → ℕ → ℕ
-waiting_checksum sh image v op = if nat_lt v.checkpoint.content.op op then checksum_of (slice_get v.tail (op - v.checkpoint.content.op - 1)) else checksum_of_op op (image (PreparePlace (op % slots sh)))
+waiting_checksum sh image v op = if nat_lt v.checkpoint.content.op op then prepare_checksum (slice_get v.tail (op - v.checkpoint.content.op - 1)) else checksum_of_op op (image (PreparePlace (op % slots sh)))
 
 abbrev pub first_tour : Tour
 first_tour = record { last = 0; checked = 0; failing = 0 }

@@ -1,6 +1,6 @@
 // What the machine keeps, and what a call that is not refused may do.
 
-ghost use Rattle.df_model.specs.Laws.{AppendExactLaw, AppendMayLaw, BlockAsideLaw, BlockMayLaw, CommandLaw, FinishExactLaw, FinishMayLaw, FlushMayLaw, FoundLaw, NextLaw, OpenedLaw, ReplyExactLaw, ReplyMayLaw, SenseLaw, StageExactLaw};
+ghost use Rattle.df_model.specs.Laws.{AppendExactLaw, AppendMayLaw, BlockAsideLaw, BlockMayLaw, CommandLaw, FinishExactLaw, FinishMayLaw, FlushMayLaw, FoundStateLaw, NextLaw, OpenedLaw, ReplyExactLaw, ReplyMayLaw, SenseLaw, StageExactLaw};
 ghost use Rattle.df_model.specs.Answering.{BeginExactLaw, MemoryLaw, OrderLaw, ReplyParentLaw};
 ghost use Rattle.df_model.specs.Change.{OneThingLaw};
 ghost use Rattle.df_model.specs.Changing.{BlocksLaw, ChangeLaw, ListsLaw};
@@ -12,7 +12,7 @@ ghost use Rattle.df_model.specs.Result.{ResultLaw, WritesLaw};
 /// The state after an open makes sense, of an image that holds its view and of any one in which it is found.
 pub fn opened_makes_sense()
     ensures opened { OpenedLaw }
-    ensures found { FoundLaw }
+    ensures found { FoundStateLaw }
 {}
 
 /// A command leaves the state, or does one of ten things.

@@ -16,7 +16,7 @@ pub fn open_leads_on()
     ensures disk { DiskOpenLaw }
 {}
 
-/// Whatever the copies showed before an open: after its mending and its boot update a log may be begun anew, and is kept.
+/// Whatever the copies showed before an open: after its mending and its boot update a log may be restarted, and is kept.
 pub fn raised_file_is_kept()
     ensures { RaisedKeptLaw }
 {}

@@ -12,7 +12,7 @@ use Rattle.df_theory.specs.Units
 use Rattle.df_theory.specs.Units.{AnyUnit, Place}
 use Rattle.df_theory.specs.Rests.{RestsOn}
 use Rattle.df_theory.proofs.Laws.{clean_start_law, disk_stop_law, found_law, now_units, rests_safe, safe_disk_law}
-use Rattle.df_damage.specs.Anew.{begun}
+use Rattle.df_damage.specs.Anew.{restarted}
 use Rattle.df_trailer.specs.Text.{parse_of}
 use Rattle.df_units.specs.Meaning.{layout_of}
 use Rattle.df_units.proofs.Laws.{is_format, of_places}
@@ -86,10 +86,10 @@ begun_may_open file view t version may =
     let f = format file in
     let sh = shape file in
     let image = f.unit_at t.shown in
-    let rests : RestsOn sh (units_log f (begun t).log) view = clean_start_law sh image view (of_places file.layout file.cluster file.named (parse_of (layout_of file.layout)) t.shown may.whole) may.found may.clean in
+    let rests : RestsOn sh (units_log f (restarted t).log) view = clean_start_law sh image view (of_places file.layout file.cluster file.named (parse_of (layout_of file.layout)) t.shown may.whole) may.found may.clean in
     record {
       version = version;
-      safe = safe_disk_law f sh (begun t).log (is_format file.layout file.cluster) (record { start = may.whole; events = tt }) (rests_safe sh (units_log f (begun t).log) view rests);
+      safe = safe_disk_law f sh (restarted t).log (is_format file.layout file.cluster) (record { start = may.whole; events = tt }) (rests_safe sh (units_log f (restarted t).log) view rests);
       honest = record { shows = λ sector. refl };
       found = may.found;
       no_chance = record {

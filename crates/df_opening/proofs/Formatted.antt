@@ -10,7 +10,7 @@ use Rattle.df_format.specs.SuperRules.{IsUsable}
 use Rattle.df_model.specs.declared.errors.FormatError.{FormatError}
 use Rattle.df_model.specs.declared.errors.FormatError.TheVariants.{ClusterZero, NotBlank, DiskFault}
 use Rattle.df_opening.specs.Formatting.{RefusesCluster, TellsBlank}
-use Rattle.df_opening.specs.Making.{Formats, Makes, MayMakeOn, making_events}
+use Rattle.df_opening.specs.Making.{FormatsFile, MakingLeaves, MayMakeOn, making_events}
 use Rattle.df_opening.proofs.Blanks.{blank_alone}
 use Rattle.df_opening.proofs.NewFile.{all_reserved, makes_call, makes_part, named_of, steps_of_making, unchanged_adds}
 
@@ -29,11 +29,11 @@ module _ (layout : Layout) (cluster : ℕ) (is : IsUsable (first_super layout cl
   abbrev events : List Event
   events = making_events layout cluster
 
-  part_makes : (new : Option Told) (e : FormatError) → AddsPart events old new → (before after : Told) → old ≡ Some before → new ≡ Some after → (may : MayMakeOn layout cluster before) → Makes {T = Unit {0}} layout cluster before may after (Err e)
+  part_makes : (new : Option Told) (e : FormatError) → AddsPart events old new → (before after : Told) → old ≡ Some before → new ≡ Some after → (may : MayMakeOn layout cluster before) → MakingLeaves {T = Unit {0}} layout cluster before may after (Err e)
   part_makes new e part before after first last may =
       makes_part layout cluster is (all_reserved layout cluster is) before may after e (subst (λ (o : Option Told). AddsPart events o (Some after)) first (subst (AddsPart events old) last part))
 
-  pub refused_formats : (new : Option Told) (e : FormatError) → RefusesCluster {T = Unit {0}} 1 (Err e) → TellsBlank {T = Unit {0}} old (Err e) → new ≡ old → Formats {T = Unit {0}} layout cluster old new (Err e)
+  pub refused_formats : (new : Option Told) (e : FormatError) → RefusesCluster {T = Unit {0}} 1 (Err e) → TellsBlank {T = Unit {0}} old (Err e) → new ≡ old → FormatsFile {T = Unit {0}} layout cluster old new (Err e)
   refused_formats new e refuses blank same = record {
     named = not_refused cluster e (named_of layout cluster is) refuses;
     blank = blank;
@@ -43,7 +43,7 @@ module _ (layout : Layout) (cluster : ℕ) (is : IsUsable (first_super layout cl
   }
 
   module _ (tested new : Option Told) (blank : TellsBlank {T = Unit {0}} old (Ok tt)) (same : tested ≡ old) where
-    pub made_formats : new ≡ after_all events tested → Formats {T = Unit {0}} layout cluster old new (Ok tt)
+    pub made_formats : new ≡ after_all events tested → FormatsFile {T = Unit {0}} layout cluster old new (Ok tt)
     made_formats all =
         let adds : new ≡ after_all events old = all ∙ ap (after_all events) same in
         record {
@@ -54,7 +54,7 @@ module _ (layout : Layout) (cluster : ℕ) (is : IsUsable (first_super layout cl
           makes = λ before after first last may. makes_call {T = Unit {0}} {E = FormatError} layout cluster is before may after (Ok tt) (sym last ∙ adds ∙ ap (after_all events) first);
         }
 
-    pub failed_formats : AddsPart events tested new → Formats {T = Unit {0}} layout cluster old new (Err DiskFault)
+    pub failed_formats : AddsPart events tested new → FormatsFile {T = Unit {0}} layout cluster old new (Err DiskFault)
     failed_formats some =
         let part = subst (λ (o : Option Told). AddsPart events o new) same some in
         record {

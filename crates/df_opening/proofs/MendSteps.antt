@@ -16,7 +16,7 @@ use Rattle.df_theory.specs.UnitLog.{Synced, UnitLog, add, now, wrote}
 use Rattle.df_theory.proofs.Laws.{steps_join_law}
 use Rattle.df_units.specs.Format.{format_of}
 use Rattle.df_units.proofs.Laws.{headers_put}
-use Rattle.df_headers.specs.Ring.{IsTable, in_sector, sector_writes}
+use Rattle.df_headers.specs.Ring.{IsHeaderTable, in_sector, sector_writes}
 use Rattle.df_headers.proofs.Laws.{table_written}
 use Rattle.df_superblock.specs.Events.{repair_events}
 use Rattle.df_superblock.specs.Steps.{repaired}
@@ -43,16 +43,16 @@ sectors_below n zero mends within = tt
 sectors_below n (suc k) mends within =
     subst (AreBelow n) (sym (ap (λ (m : ℕ). sectors_to m mends) (let one : suc k ≡ k + 1 = omega arith in one) ∙ sectors_more mends k)) (below_more n (sectors_to k mends) (needs_sector mends k) k (omega (arith, within)) (sectors_below n k mends (omega (arith, within))))
 
-writes_steps : (layout : Layout) (cluster : ℕ) (table : List Header) (ks : List ℕ) → IsTable layout cluster table → AreBelow (layout.slots / 16) ks → AreSteps (format_of layout cluster) (sector_writes layout table ks) (all_puts (sector_puts table ks))
+writes_steps : (layout : Layout) (cluster : ℕ) (table : List Header) (ks : List ℕ) → IsHeaderTable layout cluster table → AreBelow (layout.slots / 16) ks → AreSteps (format_of layout cluster) (sector_writes layout table ks) (all_puts (sector_puts table ks))
 writes_steps layout cluster table [] is below = tt
 writes_steps layout cluster table (k ∷ ks) is below = (headers_put layout cluster k (in_sector k table) (table_written layout cluster k table is below.0), writes_steps layout cluster table ks is below.1)
 
-headers_steps : (layout : Layout) (cluster : ℕ) (table : List Header) (ks : List ℕ) → IsTable layout cluster table → AreBelow (layout.slots / 16) ks → AreSteps (format_of layout cluster) (header_events layout table ks) (header_steps (sector_puts table ks))
+headers_steps : (layout : Layout) (cluster : ℕ) (table : List Header) (ks : List ℕ) → IsHeaderTable layout cluster table → AreBelow (layout.slots / 16) ks → AreSteps (format_of layout cluster) (header_events layout table ks) (header_steps (sector_puts table ks))
 headers_steps layout cluster table [] is below = tt
 headers_steps layout cluster table (k ∷ ks) is below =
     steps_join_law (format_of layout cluster) (sector_writes layout table (k ∷ ks)) (Sync ∷ []) (all_puts (sector_puts table (k ∷ ks))) (Syncs ∷ []) (writes_steps layout cluster table (k ∷ ks) is below) tt
 
-pub mending_is_steps : (file : DataFile) (table : List Header) (mends : List Mend) (f : SuperFields) (members : List Bool) → IsTable file.layout file.cluster table → IsUsable f → length members ≡ 4
+pub mending_is_steps : (file : DataFile) (table : List Header) (mends : List Mend) (f : SuperFields) (members : List Bool) → IsHeaderTable file.layout file.cluster table → IsUsable f → length members ≡ 4
     → AreSteps (format file) (mending_events file.layout table mends f members) (mending_steps file.layout table mends f members)
 mending_is_steps file table mends f members is usable four =
     let ks = sectors_of file.layout mends in

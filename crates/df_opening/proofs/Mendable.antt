@@ -148,7 +148,7 @@ module _ (file : DataFile) (v : View) (table : List Header) (mends : List Mend) 
   abbrev image : Units.Units
   image = unit_at file.layout file.cluster t.shown
 
-  chosen : Quorum.IsChosen (content_at t.shown) (content_with f)
+  chosen : Quorum.IsChosenContent (content_at t.shown) (content_with f)
   chosen = super_is_written_as file.version t.shown f whole plan.super
 
   is_chosen : Copies.IsChosen image (content_of (content_with f))

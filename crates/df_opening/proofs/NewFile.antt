@@ -22,16 +22,16 @@ use Rattle.df_units.specs.Format.{format_of}
 use Rattle.df_units.specs.Meaning.{layout_of}
 use Rattle.df_trailer.specs.Text.{parse_of}
 use Rattle.df_damage.specs.Below.{shape}
-use Rattle.df_units.specs.Making.{AreReserved, IsMadeOnDisk, first_view, header_puts, header_writes}
+use Rattle.df_units.specs.Making.{AreReservedSectors, IsMadeOnDisk, first_view, header_puts, header_writes}
 use Rattle.df_units.specs.Sample.{reserved_header}
 use Rattle.df_units.proofs.Laws.{all_added, copy_put, format_on_disk, part_moments, headers_are_steps}
 use Rattle.df_headers.specs.Ring
-use Rattle.df_headers.specs.Ring.{IsTable, in_sector}
+use Rattle.df_headers.specs.Ring.{IsHeaderTable, in_sector}
 use Rattle.df_headers.proofs.Laws.{reserved_table as reserved_is_table, sector_at, table_written}
 use Rattle.df_model.specs.declared.errors.FormatError.{FormatError}
 use Rattle.df_model.specs.declared.errors.FormatError.TheVariants.{ClusterZero, NotBlank, DiskFault}
 use Rattle.df_opening.specs.Formatting.{AddsFormat, OnlyOnBlank}
-use Rattle.df_opening.specs.Making.{AreWritable, Makes, MayMakeOn, file_of, making_events, making_steps, reserved_table, sectors_in, sectors_of}
+use Rattle.df_opening.specs.Making.{AreWritable, MakingLeaves, MayMakeOn, file_of, making_events, making_steps, reserved_table, sectors_in, sectors_of}
 
 -- ---- the table of reserved headers
 
@@ -43,7 +43,7 @@ cleared layout cluster table count are =
     ∙ sym (get_or-map-range_with_len (reserved_header cluster) 0 layout.slots i i (reserved_header cluster 0) (omega (arith, inside, count)) (zero_plus i)))
 
 module _ (layout : Layout) (cluster : ℕ) (named : 0 < cluster) (small : cluster < 2 ^ 128) (table : List Header) (count : length table ≡ layout.slots) (are : Ring.AreReserved cluster table) where
-  is_table : IsTable layout cluster table
+  is_table : IsHeaderTable layout cluster table
   is_table = reserved_is_table layout cluster table named small count are
 
   pub writable : AreWritable layout table
@@ -55,11 +55,11 @@ module _ (layout : Layout) (cluster : ℕ) (named : 0 < cluster) (small : cluste
       let own = are (16 * sector + i) (slice_get_within table (16 * sector + i) h there) in
       ap (λ (k : Header). k.kind) (same_Some _ _ (sym there ∙ own))
 
-  from_sector : (s n : ℕ) → s + n ≤ layout.slots / 16 → AreReserved layout cluster s (sectors_of s n table)
+  from_sector : (s n : ℕ) → s + n ≤ layout.slots / 16 → AreReservedSectors layout cluster s (sectors_of s n table)
   from_sector s zero inside = tt
   from_sector s (suc n) inside = (table_written layout cluster s table is_table (omega (arith, inside)), kinds s, from_sector (s + 1) n (omega (arith, inside)))
 
-  pub reserved : AreReserved layout cluster 0 (sectors_in layout table)
+  pub reserved : AreReservedSectors layout cluster 0 (sectors_in layout table)
   reserved = from_sector 0 (layout.slots / 16) (omega arith)
 
 pub how_many : (s n : ℕ) (table : List Header) → length (sectors_of s n table) ≡ n
@@ -73,7 +73,7 @@ own_table layout cluster slot inside =
 
 -- each of its sectors has reserved headers
 abbrev All : Layout → ℕ → Type 0
-All layout cluster = AreReserved layout cluster 0 (sectors_in layout (reserved_table layout cluster))
+All layout cluster = AreReservedSectors layout cluster 0 (sectors_in layout (reserved_table layout cluster))
 
 pub ring_reserved : (layout : Layout) (cluster : ℕ) → 0 < cluster → cluster < 2 ^ 128 → All layout cluster
 ring_reserved layout cluster named small =
@@ -95,7 +95,7 @@ on_disk layout cluster is all before may =
 
 -- where a part was done
 pub makes_part : {T E : Type 0} → (layout : Layout) (cluster : ℕ) → IsUsable (first_super layout cluster) → All layout cluster → (before : Told) (may : MayMakeOn layout cluster before) (after : Told) (e : E)
-    → AddsPart (making_events layout cluster) (Some before) (Some after) → Makes {T = T} layout cluster before may after (Err e)
+    → AddsPart (making_events layout cluster) (Some before) (Some after) → MakingLeaves {T = T} layout cluster before may after (Err e)
 makes_part layout cluster is all before may after e part = record {
   moments = part_moments (making_events layout cluster) before after (IsSafeDisk (format_of layout cluster) (shape (file_of layout cluster may.named))) part (on_disk layout cluster is all before may).moments;
   made = tt;
@@ -103,7 +103,7 @@ makes_part layout cluster is all before may after e part = record {
 
 -- and where all of it was
 pub makes_all : {T E : Type 0} → (layout : Layout) (cluster : ℕ) → IsUsable (first_super layout cluster) → All layout cluster → (before : Told) (may : MayMakeOn layout cluster before) (after : Told) (x : T)
-    → Some after ≡ after_all (making_events layout cluster) (Some before) → Makes {T = T} {E = E} layout cluster before may after (Ok x)
+    → Some after ≡ after_all (making_events layout cluster) (Some before) → MakingLeaves {T = T} {E = E} layout cluster before may after (Ok x)
 makes_all layout cluster is all before may after x adds_all =
     let whole = on_disk layout cluster is all before may in
     record {
@@ -131,7 +131,7 @@ pub steps_of_making : (layout : Layout) (cluster : ℕ) → IsUsable (first_supe
 steps_of_making layout cluster is = making_is_steps layout cluster is (all_reserved layout cluster is)
 
 pub makes_call : {T E : Type 0} → (layout : Layout) (cluster : ℕ) → IsUsable (first_super layout cluster) → (before : Told) (may : MayMakeOn layout cluster before) (after : Told) (result : Result T E)
-    → Adds (making_events layout cluster) (Some before) (Some after) result → Makes layout cluster before may after result
+    → Adds (making_events layout cluster) (Some before) (Some after) result → MakingLeaves layout cluster before may after result
 makes_call layout cluster is before may after (Ok x) adds = makes_all layout cluster is (all_reserved layout cluster is) before may after x adds
 makes_call layout cluster is before may after (Err e) adds = makes_part layout cluster is (all_reserved layout cluster is) before may after e adds
 

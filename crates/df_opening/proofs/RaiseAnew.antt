@@ -1,4 +1,4 @@
--- What an open does after its survey keeps the bare view in a log that is begun anew, whatever the copies showed.
+-- What an open does after its survey keeps the bare view in a log that is restarted, whatever the copies showed.
 use Rattle.std.proofs.Common.{◌≡◌, ◌⊎◌, inl, inr, ℕ, ◌<◌, ◌≤◌, ◌^◌, List, [], ◌∷◌, length, Option, Some, None, ◌∙◌, ap, subst, arith, refl, sym}
 use Rattle.std.proofs.lemmas.Bool.{and_parts, cases_lt, ltb-true}
 use Rattle.std.proofs.lemmas.Option.{slice_get_within}
@@ -42,7 +42,7 @@ use Rattle.df_model.specs.Sense.{IsBacked, IsVersionTwo, IsWork}
 use Rattle.df_model.specs.Laws.{IsKeptBy}
 use Rattle.df_model.specs.Work.{Work, raised}
 use Rattle.df_model.proofs.Laws.{found_law as sense_found, raised_kept_law, raised_law}
-use Rattle.df_damage.specs.Anew.{begun, told_after}
+use Rattle.df_damage.specs.Anew.{restarted, told_after}
 use Rattle.df_damage.specs.Below.{DataFile, IsState, Represents, boot_fields, memory, shape, spelling}
 use Rattle.df_damage.specs.Plan.{AreDistinct, header_or_none, headers_in}
 use Rattle.df_damage.proofs.Laws.{added_is_told, begun_is_honest, honest_stays}
@@ -80,7 +80,7 @@ same_unit : (c d : Content) → Some (CopyUnit c) ≡ Some (CopyUnit d) → c �
 same_unit c d is = cc
 
 module _ (g : Grade) (view : View) (s : Survey) (base : Told) (four : length s.chosen.members ≡ 4) (version : s.state.file.version ≡ 2) (is : IsState s.state) (unspent : s.state.fields.boot < 2 ^ 62)
-    (plan : IsPlannedOf s (begun base)) (whole : IsImage base.shown) (found : IsFound (shape s.state.file) (unit_at s.state.file.layout s.state.file.cluster base.shown) view)
+    (plan : IsPlannedOf s (restarted base)) (whole : IsImage base.shown) (found : IsFound (shape s.state.file) (unit_at s.state.file.layout s.state.file.cluster base.shown) view)
     (distinct : AreDistinct (unit_at s.state.file.layout s.state.file.cluster base.shown)) (referenced : StandsFor g (unit_at s.state.file.layout s.state.file.cluster base.shown) view)
     (stands : Represents s.state (first_state s.state.file base view)) (steps : AreSteps (format s.state.file) (opening_events s) (opening_steps s)) where
   abbrev file : DataFile
@@ -108,7 +108,7 @@ module _ (g : Grade) (view : View) (s : Survey) (base : Told) (four : length s.c
   content_is_d = raised_is s.state is.second.rules.version ∙ ap (λ (m : Memory). boot_content m (sum_of s.state)) stands
 
   own_content : view.checkpoint.content ≡ content_of (content_with s.state.fields)
-  own_content = content_is file view s.state.headers s.mends s.state.fields s.chosen.members (begun base) four plan whole found distinct
+  own_content = content_is file view s.state.headers s.mends s.state.fields s.chosen.members (restarted base) four plan whole found distinct
 
   places : AreOfPlaces sh image
   places = of_places file.layout file.cluster file.named (parse_of (layout_of file.layout)) base.shown whole
@@ -123,7 +123,7 @@ module _ (g : Grade) (view : View) (s : Survey) (base : Told) (four : length s.c
   raises = raised_law sh (spelling file) w (sum_of s.state) sense (omega (arith, ap (λ (c : Content). c.boot) own_content, unspent))
 
   planned : IsPlannedIn sh image view (headers_in s.state.headers) headers copies
-  planned = planned_in file view s.state.headers s.mends s.state.fields s.chosen.members (begun base) four plan whole found distinct
+  planned = planned_in file view s.state.headers s.mends s.state.fields s.chosen.members (restarted base) four plan whole found distinct
 
   may : MayRaise sh view.checkpoint.content.version image view (headers_in s.state.headers) headers copies d
   may = record { places = places; found = found; tells = planned.tells; puts_headers = planned.puts_headers; agreed = planned.agreed; puts_copies = planned.puts_copies; each_slot = planned.each_slot; each_copy = planned.each_copy; boot = raises.may }
@@ -135,14 +135,14 @@ module _ (g : Grade) (view : View) (s : Survey) (base : Told) (four : length s.c
   puts = there.0
 
   -- at each moment of the log of units
-  each : AtEach (λ log. EachLeft log (λ left. IsFound sh left view ⊎ IsFound sh left (booted view d))) (UnitsUpgrades.begun image) (raise_steps headers copies puts)
+  each : AtEach (λ log. EachLeft log (λ left. IsFound sh left view ⊎ IsFound sh left (booted view d))) (UnitsUpgrades.restarted_at image) (raise_steps headers copies puts)
   each = (open_law sh image view (headers_in s.state.headers) headers copies d puts may).0
 
   abbrev end : Told
-  end = told_after (opening_events s) (begun base)
+  end = told_after (opening_events s) (restarted base)
 
-  added : end.log ≡ adds (opening_events s) (begun base).log
-  added = all_added (opening_events s) (begun base) end (sym (added_is_told (opening_events s) (begun base)))
+  added : end.log ≡ adds (opening_events s) (restarted base).log
+  added = all_added (opening_events s) (restarted base) end (sym (added_is_told (opening_events s) (restarted base)))
 
   -- at a moment of the log of sectors each image left has the bare view
   abbrev Found : Log.Log → Type 0
@@ -155,65 +155,65 @@ module _ (g : Grade) (view : View) (s : Survey) (base : Told) (four : length s.c
   Shown grade l = (m : Image) → Log.IsLeft l m → NoChanceOf (format file) l m → StandsFor grade (unit_at file.layout file.cluster m) view
 
   -- so it is, and each is a log of a disk
-  moments_both : EachMoment (begun base).log end.log (λ l. Log.IsLog l × Found l)
+  moments_both : EachMoment (restarted base).log end.log (λ l. Log.IsLog l × Found l)
   moments_both =
-      subst (λ (l : Log.Log). EachMoment (begun base).log l (λ m. Log.IsLog m × Found m)) (sym added)
+      subst (λ (l : Log.Log). EachMoment (restarted base).log l (λ m. Log.IsLog m × Found m)) (sym added)
       (moments (format file) (λ log. EachLeft log (λ left. IsFound sh left view ⊎ IsFound sh left (booted view d))) (λ l. Log.IsLog l × Found l)
       (λ l is left. (
         is,
         λ m gone chance.
             subst (λ (c : Content). IsFound sh (unit_at file.layout file.cluster m) view ⊎ IsFound sh (unit_at file.layout file.cluster m) (booted view c)) (sym content_is_d)
             (left (unit_at file.layout file.cluster m) (firm_units (format file) (is_format file.layout file.cluster) l m gone.kept) chance),
-      )) (opening_events s) (raise_steps headers copies puts) (begun base).log (record { start = whole; events = tt }) (subst (AreSteps (format file) (opening_events s)) there.1 steps) each)
+      )) (opening_events s) (raise_steps headers copies puts) (restarted base).log (record { start = whole; events = tt }) (subst (AreSteps (format file) (opening_events s)) there.1 steps) each)
 
-  shown_moments : (grade : Grade) → StandsFor grade image view → EachMoment (begun base).log end.log (Shown grade)
+  shown_moments : (grade : Grade) → StandsFor grade image view → EachMoment (restarted base).log end.log (Shown grade)
   shown_moments Firm shown = λ l moment m gone chance. tt
   shown_moments Whole shown =
-      subst (λ (l : Log.Log). EachMoment (begun base).log l (Shown Whole)) (sym added)
+      subst (λ (l : Log.Log). EachMoment (restarted base).log l (Shown Whole)) (sym added)
       (moments (format file) (λ log. IsStanding log view × EachLeft log (λ left. Stands left view)) (Shown Whole)
       (λ l is standing m gone chance. standing.1 (unit_at file.layout file.cluster m) (firm_units (format file) (is_format file.layout file.cluster) l m gone.kept) chance)
-      (opening_events s) (opening_steps s) (begun base).log (record { start = whole; events = tt }) steps
-      (stands_law (UnitsUpgrades.begun image) view (opening_steps s) (record { shown = shown; firm = λ a c is. refl }) (spared view (opening_steps s) (opening_aside s))))
+      (opening_events s) (opening_steps s) (restarted base).log (record { start = whole; events = tt }) steps
+      (stands_law (UnitsUpgrades.restarted_at image) view (opening_steps s) (record { shown = shown; firm = λ a c is. refl }) (spared view (opening_steps s) (opening_aside s))))
 
-  pub anew_moments : EachMoment (begun base).log end.log (StaysFound g file view (boot_fields s.state))
+  pub anew_moments : EachMoment (restarted base).log end.log (StaysFound g file view (boot_fields s.state))
   anew_moments = λ l moment. record { left = λ m gone chance. ((moments_both l moment).1 m gone chance, shown_moments g referenced l moment m gone chance) }
 
   pub anew_bare : IsSameBare view (booted view (raised_content s.state))
   anew_bare = subst (λ (c : Content). IsSameBare view (booted view c)) (sym content_is_d) raises.bare
 
-  -- ---- what is begun anew after it
+  -- ---- what is restarted after it
 
   end_is_log : Log.IsLog end.log
-  end_is_log = (moments_both end.log (record { since = subst (λ (l : Log.Log). Extends l (begun base).log) (sym added) (adds_extends (opening_events s) (begun base).log); until = extends_self end.log })).0
+  end_is_log = (moments_both end.log (record { since = subst (λ (l : Log.Log). Extends l (restarted base).log) (sym added) (adds_extends (opening_events s) (restarted base).log); until = extends_self end.log })).0
 
   shown_is : end.shown ≡ Log.now end.log
-  shown_is = λ i sector. (honest_stays (opening_events s) (begun base) (begun_is_honest base)).shows sector i
+  shown_is = λ i sector. (honest_stays (opening_events s) (restarted base) (begun_is_honest base)).shows sector i
 
   end_is_image : IsImage end.shown
   end_is_image = subst IsImage (sym shown_is) (now_is_image end.log.start end.log.events end_is_log.start end_is_log.events)
 
   -- what is shown there is what the steps leave
-  image_is : unit_at file.layout file.cluster end.shown ≡ now (after_steps (opening_steps s) (UnitsUpgrades.begun image))
+  image_is : unit_at file.layout file.cluster end.shown ≡ now (after_steps (opening_steps s) (UnitsUpgrades.restarted_at image))
   image_is =
       ap (unit_at file.layout file.cluster) shown_is ∙ sym (now_units (format file) end.log.start end.log.events)
-      ∙ ap (λ (l : UnitLog). now l) (call_ends (format file) (opening_events s) (opening_steps s) (begun base) end (record { start = whole; events = tt }) steps (sym (added_is_told (opening_events s) (begun base))))
+      ∙ ap (λ (l : UnitLog). now l) (call_ends (format file) (opening_events s) (opening_steps s) (restarted base) end (record { start = whole; events = tt }) steps (sym (added_is_told (opening_events s) (restarted base))))
 
-  image_raised : unit_at file.layout file.cluster end.shown ≡ now (after_steps (raise_steps headers copies puts) (UnitsUpgrades.begun image))
-  image_raised = image_is ∙ ap (λ (ss : List Step). now (after_steps ss (UnitsUpgrades.begun image))) there.1
+  image_raised : unit_at file.layout file.cluster end.shown ≡ now (after_steps (raise_steps headers copies puts) (UnitsUpgrades.restarted_at image))
+  image_raised = image_is ∙ ap (λ (ss : List Step). now (after_steps ss (UnitsUpgrades.restarted_at image))) there.1
 
-  anew_keeps : IsKeptBy sh (spelling file) (units_log (format file) (begun end).log) (begun_state file base view (boot_fields s.state))
+  anew_keeps : IsKeptBy sh (spelling file) (units_log (format file) (restarted end).log) (begun_state file base view (boot_fields s.state))
   anew_keeps =
-      subst (λ (c : Content). IsKeptBy sh (spelling file) (units_log (format file) (begun end).log) (raised w c)) (sym content_is_d)
-      (subst (λ (u : Units.Units). IsKeptBy sh (spelling file) (UnitsUpgrades.begun u) (raised w d)) (sym image_raised)
+      subst (λ (c : Content). IsKeptBy sh (spelling file) (units_log (format file) (restarted end).log) (raised w c)) (sym content_is_d)
+      (subst (λ (u : Units.Units). IsKeptBy sh (spelling file) (UnitsUpgrades.restarted_at u) (raised w d)) (sym image_raised)
       (raised_kept_law sh (spelling file) image view (headers_in s.state.headers) headers copies (sum_of s.state) puts (codec_of file) two may (clean_beyond file base.shown view)).0)
 
-  anew_backed : Stands image view → IsBacked (units_log (format file) (begun end).log) (begun_state file base view (boot_fields s.state))
+  anew_backed : Stands image view → IsBacked (units_log (format file) (restarted end).log) (begun_state file base view (boot_fields s.state))
   anew_backed shown =
-      subst (λ (c : Content). IsBacked (units_log (format file) (begun end).log) (raised w c)) (sym content_is_d)
-      (subst (λ (u : Units.Units). IsBacked (UnitsUpgrades.begun u) (raised w d)) (sym image_raised)
+      subst (λ (c : Content). IsBacked (units_log (format file) (restarted end).log) (raised w c)) (sym content_is_d)
+      (subst (λ (u : Units.Units). IsBacked (UnitsUpgrades.restarted_at u) (raised w d)) (sym image_raised)
       ((raised_kept_law sh (spelling file) image view (headers_in s.state.headers) headers copies (sum_of s.state) puts (codec_of file) two may (clean_beyond file base.shown view)).1 shown))
 
-  kept_at : (grade : Grade) → StandsFor grade image view → KeptFor grade sh (spelling file) (units_log (format file) (begun end).log) (begun_state file base view (boot_fields s.state))
+  kept_at : (grade : Grade) → StandsFor grade image view → KeptFor grade sh (spelling file) (units_log (format file) (restarted end).log) (begun_state file base view (boot_fields s.state))
   kept_at Firm shown = anew_keeps
   kept_at Whole shown = (anew_keeps, anew_backed shown)
 
@@ -226,9 +226,9 @@ module _ (g : Grade) (view : View) (s : Survey) (base : Told) (four : length s.c
   anew_ring : ShowsRing file.layout file.cluster end.shown s.state.headers
   anew_ring k h at =
       let below : k < file.layout.slots = omega (arith, slice_get_within s.state.headers k h at, is.ring.count) in
-      let shown = slot_ends (headers_in s.state.headers) headers s.state.fields s.chosen.members (UnitsUpgrades.begun image) k planned.puts_headers (planned.each_slot k below) in
-      let behind = kept_there (HeaderPlace k) (HeaderUnit (headers_in s.state.headers k)) (update_steps (put_copies (boot_fields s.state))) (after_steps (mend_steps headers copies) (UnitsUpgrades.begun image)) (inl refl, (inl refl, (inl refl, (inl refl, tt)))) shown in
-      ap (λ (u : Units.Units). u (HeaderPlace k)) image_is ∙ ap (λ (l : UnitLog). now l (HeaderPlace k)) (after_append (mend_steps headers copies) (update_steps (put_copies (boot_fields s.state))) (UnitsUpgrades.begun image)) ∙ behind
+      let shown = slot_ends (headers_in s.state.headers) headers s.state.fields s.chosen.members (UnitsUpgrades.restarted_at image) k planned.puts_headers (planned.each_slot k below) in
+      let behind = kept_there (HeaderPlace k) (HeaderUnit (headers_in s.state.headers k)) (update_steps (put_copies (boot_fields s.state))) (after_steps (mend_steps headers copies) (UnitsUpgrades.restarted_at image)) (inl refl, (inl refl, (inl refl, (inl refl, tt)))) shown in
+      ap (λ (u : Units.Units). u (HeaderPlace k)) image_is ∙ ap (λ (l : UnitLog). now l (HeaderPlace k)) (after_append (mend_steps headers copies) (update_steps (put_copies (boot_fields s.state))) (UnitsUpgrades.restarted_at image)) ∙ behind
       ∙ ap (λ (o : Option Header). Some (HeaderUnit (header_or_none o))) at
 
   -- ---- a history may begin there, too
@@ -240,13 +240,13 @@ module _ (g : Grade) (view : View) (s : Survey) (base : Told) (four : length s.c
   same_version : of_version view.checkpoint.content.version sh ≡ sh
   same_version = ap (λ (n : ℕ). of_version n sh) found.checkpoint.tests.version
 
-  ends_raised : EndsRaised sh (after_steps (raise_steps headers copies puts) (UnitsUpgrades.begun image)) (booted view d) × BeginsRaised sh last (booted view d)
+  ends_raised : EndsRaised sh (after_steps (raise_steps headers copies puts) (UnitsUpgrades.restarted_at image)) (booted view d) × BeginsRaised sh last (booted view d)
   ends_raised =
       let all = raise_ends_law sh view.checkpoint.content.version image view (headers_in s.state.headers) headers copies d puts may in
       let begins = all.1 (clean_beyond file base.shown view) in (
-        subst (λ (shape : Shape). EndsRaised shape (after_steps (raise_steps headers copies puts) (UnitsUpgrades.begun image)) (booted view d)) same_version all.0,
+        subst (λ (shape : Shape). EndsRaised shape (after_steps (raise_steps headers copies puts) (UnitsUpgrades.restarted_at image)) (booted view d)) same_version all.0,
         subst (λ (u : Units.Units). BeginsRaised sh u (booted view d)) (sym image_raised)
-            (subst (λ (shape : Shape). BeginsRaised shape (now (after_steps (raise_steps headers copies puts) (UnitsUpgrades.begun image))) (booted view d)) same_version begins),
+            (subst (λ (shape : Shape). BeginsRaised shape (now (after_steps (raise_steps headers copies puts) (UnitsUpgrades.restarted_at image))) (booted view d)) same_version begins),
       )
 
   -- there are four copies, and they are equal
@@ -271,7 +271,7 @@ module _ (g : Grade) (view : View) (s : Survey) (base : Told) (four : length s.c
   anew_history : BeginsHistory sh last
   anew_history = inr (booted view d, ends_raised.1.raised.holds, starts)
 
-  pub raises_anew : RaisesAnew g view s (begun base)
+  pub raises_anew : RaisesAnew g view s (restarted base)
   raises_anew = record {
     moments = anew_moments;
     bare = anew_bare;

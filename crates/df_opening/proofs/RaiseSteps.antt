@@ -6,7 +6,7 @@ use Rattle.df_base.proofs.Laws.{adds_extends, extends_self}
 use Rattle.df_disk.specs.Told.{Told}
 use Rattle.std.proofs.lemmas.Option.{slice_get_within}
 use Rattle.df_format.specs.declared.header.Header.{Header}
-use Rattle.df_headers.specs.Ring.{IsTable}
+use Rattle.df_headers.specs.Ring.{IsHeaderTable}
 use Rattle.df_journal.specs.Append.{ShowsRing}
 use Rattle.df_format.specs.Copies.{content_with}
 use Rattle.df_theory.specs.Units
@@ -39,7 +39,7 @@ use Rattle.df_history.specs.Awakened.{IsAwakened}
 use Rattle.df_history.specs.Histories.{IsLivedMoment}
 use Rattle.df_history.proofs.Laws.{raise_lived_law}
 use Rattle.df_damage.specs.Anew.{told_after}
-use Rattle.df_damage.specs.Histories.{HasLived, IsLivedDisk, LivesOn, units_in, units_logs}
+use Rattle.df_damage.specs.Histories.{HasLived, IsLivedDisk, LivesOn, unit_log_in, units_logs}
 use Rattle.df_damage.specs.Below.{DataFile, IsState, Represents, State, boot_fields, memory, shape, spelling}
 use Rattle.df_damage.specs.Plan.{header_or_none, headers_in}
 use Rattle.df_damage.proofs.Laws.{added_is_told, moment_on_disk, recorded_content}
@@ -164,7 +164,7 @@ module _ (g : Grade) (view : View) (s : Survey) (base : Told) (four : length s.c
   ends : units_log (format file) end.log ≡ after_steps (update_steps (put_copies (boot_fields s.state))) (after_steps (mend_steps headers copies) log)
   ends = call_ends (format file) (opening_events s) (opening_steps s) base end on.is_log steps (sym (added_is_told (opening_events s) base)) ∙ after_append (mend_steps headers copies) (update_steps (put_copies (boot_fields s.state))) log
 
-  opening_ring : IsTable file.layout file.cluster s.state.headers → ShowsRing file.layout file.cluster (Log.now end.log) s.state.headers
+  opening_ring : IsHeaderTable file.layout file.cluster s.state.headers → ShowsRing file.layout file.cluster (Log.now end.log) s.state.headers
   opening_ring table k h at =
       let below : k < file.layout.slots = omega (arith, slice_get_within s.state.headers k h at, table.count) in
       let shown = slot_ends (headers_in s.state.headers) headers s.state.fields s.chosen.members log k opens.may.puts_headers (opens.may.each_slot k below) in
@@ -184,14 +184,14 @@ module _ (g : Grade) (view : View) (s : Survey) (base : Told) (four : length s.c
 
   lives_on : (before : Log.Log) (older : List Log.Log) → HasLived file (base.log ∷ before ∷ older) → LivesOn file before older base.log end.log
   lives_on before older lived =
-      let law = raise_lived_law (shape file) log (units_in file before) (units_logs file older) view (headers_in s.state.headers) headers copies d there.0 lived opens.may on.dry raises.may in
+      let law = raise_lived_law (shape file) log (unit_log_in file before) (units_logs file older) view (headers_in s.state.headers) headers copies d there.0 lived opens.may on.dry raises.may in
       let each = moments (format file) (IsLivedMoment (shape file) (units_logs file (before ∷ older))) (IsLivedDisk file (before ∷ older)) (λ l is moment. moment_on_disk file (before ∷ older) l moment)
       (opening_events s) (raise_steps headers copies there.0) base.log on.is_log (subst (AreSteps (format file) (opening_events s)) there.1 steps) law.0 in
-      let ends : units_in file end.log ≡ after_steps (raise_steps headers copies there.0) log =
+      let ends : unit_log_in file end.log ≡ after_steps (raise_steps headers copies there.0) log =
       call_ends (format file) (opening_events s) (opening_steps s) base end on.is_log steps (sym (added_is_told (opening_events s) base)) ∙ ap (λ (ss : List Step). after_steps ss log) there.1 in
       record {
         moments = subst (λ (l : Log.Log). EachMoment base.log l (IsLivedDisk file (before ∷ older))) (sym added) each;
-        raised = subst (λ (l : UnitLog). IsAwakened (shape file) l (units_in file before) (units_logs file older)) (sym ends) law.1;
+        raised = subst (λ (l : UnitLog). IsAwakened (shape file) l (unit_log_in file before) (units_logs file older)) (sym ends) law.1;
       }
 
   pub raises_over : RaisesOver g view s base

@@ -2,12 +2,12 @@
 use Rattle.std.proofs.Common.{◌≡◌, ◌<◌, ◌+◌, ◌^◌, Option, Some, None, refl, arith}
 use Rattle.df_format.specs.SuperRules.{IsSuper, IsUsable, fault_of}
 use Rattle.df_format.proofs.Laws.{faults}
-use Rattle.df_sessions.specs.Table.{IsTable}
+use Rattle.df_sessions.specs.Table.{IsSessionTable}
 use Rattle.df_damage.specs.Below.{IsCourse, IsState, RunningState, State, boot_fields}
 use Rattle.df_damage.proofs.Laws.{boot_may_record, recorded_is_super, second_as}
 use Rattle.df_opening.specs.Mending.{raised_state}
 
-pub no_fault : (s : State) → IsState s → IsTable s.table → IsSuper s.fields → s.fields.boot < 2 ^ 62 → fault_of (boot_fields s) ≡ None
+pub no_fault : (s : State) → IsState s → IsSessionTable s.table → IsSuper s.fields → s.fields.boot < 2 ^ 62 → fault_of (boot_fields s) ≡ None
 no_fault s is table super unspent = (faults (boot_fields s)).1 (recorded_is_super s (record s.fields { boot = s.fields.boot + 1 }) is table (boot_may_record s is super unspent))
 
 -- a checkpoint that runs goes with the superblock of the next boot, too

@@ -5,7 +5,7 @@ pub use Rattle.df_damage.specs.Below.{AreAsked, AreFound, AreStaging, AreWhole, 
 pub use Rattle.df_damage.specs.Plan.{AreDistinct, if_wanted, needs_header, slot_mends}
 pub use Rattle.df_damage.specs.Checkpoints.{AreOfCheckpoint}
 pub use Rattle.df_theory.specs.Device.{AreSteps}
-pub use Rattle.df_damage.specs.Anew.{begun, told_after}
+pub use Rattle.df_damage.specs.Anew.{restarted, told_after}
 pub use Rattle.df_journal.specs.Below.{EachMoment}
 pub use Rattle.df_damage.specs.Answers.{FindsHad, IsNeedless, RefusesHurt, TellsHurt}
 pub use Rattle.df_damage.specs.Histories.{FindsSince, HasLived, HasRaised, IsLivedDisk, LivesOn, MayReopen, TellsLived, WasHadSince, units_logs}
@@ -14,7 +14,7 @@ pub use Rattle.df_units.specs.Format.{format_of}
 pub use Rattle.df_damage.specs.Hurt.{HasTwoCopies, IsHurtFile}
 pub use Rattle.df_units.specs.Making.{header_writes}
 pub use Rattle.df_model.specs.Faults.{is_format_fault, is_mend_fault}
-pub use Rattle.df_damage.specs.Disks.{IsAtRest, MayBeHurt}
+pub use Rattle.df_damage.specs.Disks.{HasEqualCopies, MayBeHurt}
 pub use Rattle.df_damage.specs.Finding.{IsDamage}
 pub use Rattle.df_base.specs.Image.{IsImage}
 pub use Rattle.df_damage.specs.Found.{IsLayoutShown, Syncs, TellsLayout}

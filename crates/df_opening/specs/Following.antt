@@ -3,7 +3,7 @@ use Rattle.std.specs.Prelude.{◌≡◌, ℕ, List}
 use Rattle.df_base.specs.Image.{changed}
 use Rattle.df_base.specs.Log.{AreLoose, IsLeft, IsLog, Stop, now}
 use Rattle.df_disk.specs.Told.{IsHonest, Told, did}
-use Rattle.df_damage.specs.Anew.{MayBegin, begun}
+use Rattle.df_damage.specs.Anew.{MayRestart, restarted}
 use Rattle.df_theory.specs.Device.{IsSafeDisk, NoChanceOf, units_log}
 use Rattle.df_theory.specs.Found.{IsFound}
 use Rattle.df_theory.specs.Holds.{Held}
@@ -38,6 +38,6 @@ FaultedMayOpen =
     (file : DataFile) (view : View) (t : Told) → file.version ≡ 2 → IsSafeDisk (format file) (shape file) t.log → IsHonest t → NoChanceOf (format file) t.log (now t.log)
     → (IsLeft t.log (now t.log) → Held (shape file) ((format file).unit_at (now t.log)) view) → MayOpen file view t
 
--- and so may any file that shows a view from which a log may begin, by the log begun anew there, whatever was done to it before
+-- and so may any file that shows a view from which a log may begin, by the log restarted there, whatever was done to it before
 abbrev pub BegunMayOpen : Type 0
-BegunMayOpen = (file : DataFile) (view : View) (t : Told) → file.version ≡ 2 → MayBegin file view t.shown → MayOpen file view (begun t)
+BegunMayOpen = (file : DataFile) (view : View) (t : Told) → file.version ≡ 2 → MayRestart file view t.shown → MayOpen file view (restarted t)

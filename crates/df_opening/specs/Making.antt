@@ -62,12 +62,12 @@ pub record MayMakeOn (layout : Layout) (cluster : ℕ) (t : Told) : Type 0 where
   pub making : IsMaking (shape (file_of layout cluster named)) (units_log (format_of layout cluster) t.log) (content_of (first_content layout cluster))
 
 -- what a making leaves: the disk is safe at each moment, also where it failed, and where it was made it has the first view, tidy and with all that it references
-pub record Makes {T E : Type 0} (layout : Layout) (cluster : ℕ) (before : Told) (may : MayMakeOn layout cluster before) (after : Told) (result : Result T E) : Type 0 where
+pub record MakingLeaves {T E : Type 0} (layout : Layout) (cluster : ℕ) (before : Told) (may : MayMakeOn layout cluster before) (after : Told) (result : Result T E) : Type 0 where
   pub moments : EachMoment before.log after.log (IsSafeDisk (format_of layout cluster) (shape (file_of layout cluster may.named)))
   pub made : OnOk result (IsMadeOnDisk (format_of layout cluster) (shape (file_of layout cluster may.named)) before.log after.log (first_view layout cluster))
 
 -- what a making answers, on a disk that is blank where the copies stand and on one that isn't
-pub record Formats {T : Type 0} (layout : Layout) (cluster : ℕ) (old new : Option Told) (result : Result T FormatError) : Type 0 where
+pub record FormatsFile {T : Type 0} (layout : Layout) (cluster : ℕ) (old new : Option Told) (result : Result T FormatError) : Type 0 where
   -- the cluster is refused exactly where it is 0
   pub named : RefusesCluster cluster result
   -- the disk is refused where a sector of the copies shows another byte than zero
@@ -77,4 +77,4 @@ pub record Formats {T : Type 0} (layout : Layout) (cluster : ℕ) (old new : Opt
   -- these are the theory's making
   pub steps : AreSteps (format_of layout cluster) (making_events layout cluster) (making_steps layout cluster)
   -- the disk is safe at each moment, and has the first view at the end
-  pub makes : (before after : Told) → old ≡ Some before → new ≡ Some after → (may : MayMakeOn layout cluster before) → Makes layout cluster before may after result
+  pub makes : (before after : Told) → old ≡ Some before → new ≡ Some after → (may : MayMakeOn layout cluster before) → MakingLeaves layout cluster before may after result

@@ -10,7 +10,7 @@ use Rattle.df_layout.specs.declared.layout.Layout.{Layout}
 use Rattle.df_quorum.specs.declared.choice.Chosen.{Chosen}
 use Rattle.df_format.specs.Copies.{content_with}
 use Rattle.df_format.specs.declared.superblock.SuperFields.{SuperFields}
-use Rattle.df_damage.specs.Anew.{begun, told_after}
+use Rattle.df_damage.specs.Anew.{restarted, told_after}
 use Rattle.df_damage.specs.Answers.{TellsHurt}
 use Rattle.df_damage.specs.Histories.{IsLivedDisk, LivesOn, MayReopen, TellsLived}
 use Rattle.df_history.specs.OpenLaws.{BeginsHistory}
@@ -54,12 +54,12 @@ pub record OpensOver (g : Grade) (view : View) (s : State) (base n : Told) : Typ
 abbrev pub HistoryBegins : DataFile → Image → Type 0
 HistoryBegins file image = BeginsHistory (shape file) (unit_at file.layout file.cluster image)
 
--- What it leaves of a log that is begun anew at the barrier, whatever the copies showed: at each moment each image has the bare view that was found; and after it calls go on
--- from there, where a log is begun anew once more, and a history, too.
+-- What it leaves of a log that is restarted at the barrier, whatever the copies showed: at each moment each image has the bare view that was found; and after it calls go on
+-- from there, where a log is restarted once more, and a history, too.
 pub record OpensAnew (g : Grade) (view : View) (s : State) (base n : Told) : Type 0 where
-  pub moments : EachMoment (begun base).log n.log (StaysFound g s.file view s.fields)
+  pub moments : EachMoment (restarted base).log n.log (StaysFound g s.file view s.fields)
   pub bare : IsSameBare view (kept (begun_state s.file base view s.fields))
-  pub kept_for : IsKept g s (begun_state s.file base view s.fields) (begun n).log
+  pub kept_for : IsKept g s (begun_state s.file base view s.fields) (restarted n).log
   pub begins : HistoryBegins s.file n.shown
 
 -- A mending of a file, or as much of it as was done: what is told changed by these events alone, whose writes lie within the zones of the file, and whatever is shown they
@@ -99,7 +99,7 @@ abbrev pub BeginsRaising : Told → State → Option Told → Type 0
 BeginsRaising t found later = BeginsRaisingTo 2 (boot_fields found) t found later
 
 -- The file was found in what was shown, mended and raised, and then each copy shows the superblock that was written: so it is by each log that shows what the disk showed, and by which the file
--- may be opened, the told one or one that is begun anew there; and whatever its copies showed, by the log that is begun anew there. Whatever history
+-- may be opened, the told one or one that is restarted there; and whatever its copies showed, by the log that is restarted there. Whatever history
 -- of damage and opens the file has, it is lived with that log at each moment, and at the end its boot is raised.
 pub record MendsAll (t : Told) (s : State) (later : Option Told) : Type 0 where
   pub found : State
@@ -111,8 +111,8 @@ pub record MendsAll (t : Told) (s : State) (later : Option Told) : Type 0 where
   pub over : (g : Grade) (view : View) (base : Told) → base.shown ≡ t.shown → MayOpen s.file view base → StandsFor g (unit_at s.file.layout s.file.cluster t.shown) view
       → OpensOver g view s base (told_after mending.events (did Sync base))
   pub anew : (g : Grade) (view : View) → IsImage t.shown → IsFound (shape s.file) (unit_at s.file.layout s.file.cluster t.shown) view → AreDistinct (unit_at s.file.layout s.file.cluster t.shown)
-      → StandsFor g (unit_at s.file.layout s.file.cluster t.shown) view → OpensAnew g view s t (told_after mending.events (begun t))
-  pub lived : (log : Log) (logs : List Log) → MayReopen s.file log logs t.shown → LivesOn s.file (add Sync log) logs (did Sync (begun t)).log (told_after mending.events (did Sync (begun t))).log
+      → StandsFor g (unit_at s.file.layout s.file.cluster t.shown) view → OpensAnew g view s t (told_after mending.events (restarted t))
+  pub lived : (log : Log) (logs : List Log) → MayReopen s.file log logs t.shown → LivesOn s.file (add Sync log) logs (did Sync (restarted t)).log (told_after mending.events (did Sync (restarted t))).log
 
 -- the file was found, and the disk failed within its mending or its boot update: at each moment whatever a stop leaves has the view that was found or the raised one, by each of these logs; and the history is lived with the new one
 pub record MendsPartly (layout : Layout) (t : Told) (later : Option Told) : Type 0 where
@@ -124,8 +124,8 @@ pub record MendsPartly (layout : Layout) (t : Told) (later : Option Told) : Type
       → EachMoment (did Sync base).log (told_after mending.events (did Sync base)).log (IsGoodFor g (format found.file) (shape found.file) view (kept (begun_state found.file base view (boot_fields found))))
       × IsSameBare view (kept (begun_state found.file base view (boot_fields found)))
   pub anew : (g : Grade) (view : View) → IsImage t.shown → IsFound (shape found.file) (unit_at found.file.layout found.file.cluster t.shown) view → AreDistinct (unit_at found.file.layout found.file.cluster t.shown)
-      → StandsFor g (unit_at found.file.layout found.file.cluster t.shown) view → EachMoment (begun t).log (told_after mending.events (begun t)).log (StaysFound g found.file view (boot_fields found))
-  pub lived : (log : Log) (logs : List Log) → MayReopen found.file log logs t.shown → EachMoment (did Sync (begun t)).log (told_after mending.events (did Sync (begun t))).log (IsLivedDisk found.file (add Sync log ∷ logs))
+      → StandsFor g (unit_at found.file.layout found.file.cluster t.shown) view → EachMoment (restarted t).log (told_after mending.events (restarted t)).log (StaysFound g found.file view (boot_fields found))
+  pub lived : (log : Log) (logs : List Log) → MayReopen found.file log logs t.shown → EachMoment (did Sync (restarted t)).log (told_after mending.events (did Sync (restarted t))).log (IsLivedDisk found.file (add Sync log ∷ logs))
 
 -- it failed in the barrier, which added a sync or nothing, or in a read after it; or within the mending
 abbrev pub StopsOpening : Layout → Told → Option Told → Type 0

@@ -11,7 +11,7 @@ use Rattle.df_theory.specs.View.{View}
 use Rattle.df_history.specs.OpenLaws.{BeginsHistory}
 use Rattle.df_units.specs.Bytes.{unit_at}
 use Rattle.df_units.specs.Meaning.{content_of}
-use Rattle.df_damage.specs.Anew.{begun, told_after}
+use Rattle.df_damage.specs.Anew.{restarted, told_after}
 use Rattle.df_damage.specs.Histories.{HasLived, LivesOn}
 use Rattle.df_damage.specs.Below.{State, boot_fields, shape}
 use Rattle.df_opening.specs.Keeping.{Grade, IsGoodFor, IsKept, format}
@@ -43,10 +43,10 @@ pub record RaisesOver (g : Grade) (view : View) (s : Survey) (base : Told) : Typ
   pub kept_for : IsKept g (raised_state s.state) (begun_state s.state.file base view (boot_fields s.state)) (told_after (opening_events s) base).log
   pub lived : (before : Log) (older : List Log) → HasLived s.state.file (base.log ∷ before ∷ older) → LivesOn s.state.file before older base.log (told_after (opening_events s) base).log
 
--- In a log that is begun anew at what was shown, whatever the copies showed: at each moment each image that is left has the bare view, one that is begun anew after it is kept, and a history
+-- In a log that is restarted at what was shown, whatever the copies showed: at each moment each image that is left has the bare view, one that is restarted after it is kept, and a history
 -- may begin there.
 pub record RaisesAnew (g : Grade) (view : View) (s : Survey) (base : Told) : Type 0 where
   pub moments : EachMoment base.log (told_after (opening_events s) base).log (StaysFound g s.state.file view (boot_fields s.state))
   pub bare : IsSameBare view (booted view (raised_content s.state))
-  pub kept_for : IsKept g (raised_state s.state) (begun_state s.state.file base view (boot_fields s.state)) (begun (told_after (opening_events s) base)).log
+  pub kept_for : IsKept g (raised_state s.state) (begun_state s.state.file base view (boot_fields s.state)) (restarted (told_after (opening_events s) base)).log
   pub begins : BeginsHistory (shape s.state.file) (unit_at s.state.file.layout s.state.file.cluster (told_after (opening_events s) base).shown)

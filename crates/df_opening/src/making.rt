@@ -3,7 +3,7 @@
 ghost use Rattle.std.specs.Prelude.{◌≡◌, ◌<◌, ◌∷◌, length, Some};
 ghost use Rattle.df_opening.specs.Below.{HasCause, IsBlamed, Sync, Told, Adds, first_super, IsUsable, update_events, AreSteps, format_of, header_writes, is_format_fault};
 ghost use Rattle.df_opening.specs.Formatting.{AddsFormat, RefusesCluster, TellsBlank};
-ghost use Rattle.df_opening.specs.Making.{AreWritable, Formats, Makes, MayMakeOn, file_events, making_events, making_steps, sectors_in};
+ghost use Rattle.df_opening.specs.Making.{AreWritable, FormatsFile, MakingLeaves, MayMakeOn, file_events, making_events, making_steps, sectors_in};
 
 use crate::first::first_superblock;
 use crate::{FormatError, LogRooms, Rooms};
@@ -125,7 +125,7 @@ fn make_on_blank<D: Disk>(
 ) -> Result<(), FormatError>
     requires named { 0 < cluster }
     requires content { content.now ≡ first_super rooms.old.layout cluster }
-    ensures formats { Formats rooms.old.layout cluster (D.told disk.old) (D.told disk.new) result }
+    ensures formats { FormatsFile rooms.old.layout cluster (D.told disk.old) (D.told disk.new) result }
     ensures cause { IsBlamed is_format_fault (D.faults disk.old) (D.faults disk.new) result }
     ensures layout { rooms.new.layout ≡ rooms.old.layout }
 {
@@ -149,7 +149,7 @@ pub fn format<D: Disk>(disk: &mut D, rooms: &mut Rooms, cluster: u128) -> Result
     ensures blank { TellsBlank (D.told disk.old) result }
     ensures events { AddsFormat (making_events rooms.old.layout cluster) (D.told disk.old) (D.told disk.new) result }
     ensures steps { 0 < cluster → AreSteps (format_of rooms.old.layout cluster) (making_events rooms.old.layout cluster) (making_steps rooms.old.layout cluster) }
-    ensures makes { (before after : Told) → D.told disk.old ≡ Some before → D.told disk.new ≡ Some after → (may : MayMakeOn rooms.old.layout cluster before) → Makes rooms.old.layout cluster before may after result }
+    ensures makes { (before after : Told) → D.told disk.old ≡ Some before → D.told disk.new ≡ Some after → (may : MayMakeOn rooms.old.layout cluster before) → MakingLeaves rooms.old.layout cluster before may after result }
     ensures cause { IsBlamed is_format_fault (D.faults disk.old) (D.faults disk.new) result }
     ensures layout { rooms.new.layout ≡ rooms.old.layout }
 {

@@ -4,8 +4,8 @@ ghost use Rattle.df_format.specs.SuperRules.{fault_of};
 ghost use Rattle.df_theory.specs.Found.{IsFound};
 ghost use Rattle.df_units.specs.Bytes.{unit_at};
 ghost use Rattle.df_damage.specs.Plan.{AreDistinct};
-ghost use Rattle.df_opening.specs.Below.{HasCause, IsBlamed, IsImage, Told, Adds, AreSteps, Represents, View, begun, is_mend_fault, shape, update_events, without_rooms};
-ghost use Rattle.df_opening.specs.Held.{AreAsBefore, AreRoomsOf};
+ghost use Rattle.df_opening.specs.Below.{HasCause, IsBlamed, IsImage, Told, Adds, AreSteps, Represents, View, restarted, is_mend_fault, shape, update_events, without_rooms};
+ghost use Rattle.df_opening.specs.Held.{AreAsBefore, AreLogRoomsOf};
 ghost use Rattle.df_opening.specs.Keeping.{Grade, StandsFor, format};
 ghost use Rattle.df_opening.specs.Mending.{AddsRaising, IsReadBack, IsUnharmed, RestsOnDisk, first_state, mending_events, mending_steps, raised_state};
 ghost use Rattle.df_opening.specs.Raising.{IsPlannedOf, RaisesAnew, RaisesOver, opening_events, opening_steps};
@@ -28,7 +28,7 @@ fn mend_rooms<D: Disk>(
     members: [bool; 4],
     rooms: &mut LogRooms,
 ) -> Result<(), Failed>
-    requires rooms { AreRoomsOf file.now.layout file.now.cluster rooms.old }
+    requires rooms { AreLogRoomsOf file.now.layout file.now.cluster rooms.old }
     ensures events { Adds (mending_events file.now.layout rooms.old.headers rooms.old.mends.items content.now members) (D.told disk.old) (D.told disk.new) result }
     ensures steps { AreSteps (format file.now) (mending_events file.now.layout rooms.old.headers rooms.old.mends.items content.now members) (mending_steps file.now.layout rooms.old.headers rooms.old.mends.items content.now members) }
     ensures size { length members ≡ 4 }
@@ -125,7 +125,7 @@ fn raise_parts<D: Disk>(disk: &mut D, parts: &mut Parts, content: Super) -> Resu
 /// sectors first, each needed one once, then one sync, where there was such a sector, then the copies that aren't members of the
 /// choice, each durable before the next one; and after that the copies 0, 1, 2 and 3 of a superblock with the next boot, which
 /// records the state as it was found. A stop at any moment leaves that state with the boot of before or with the next one, and so
-/// does a fault, by each log on which the plan rests; by one that is begun anew at what is shown, whatever the copies showed. The
+/// does a fault, by each log on which the plan rests; by one that is restarted at what is shown, whatever the copies showed. The
 /// rooms come back with an error.
 pub fn mend_file<D: Disk>(disk: &mut D, surveyed: SurveyedFile) -> Result<Parts, (Rooms, MendError)>
     requires found { AreFound surveyed.parts }
@@ -138,8 +138,8 @@ pub fn mend_file<D: Disk>(disk: &mut D, surveyed: SurveyedFile) -> Result<Parts,
     ensures unharmed { IsUnharmed (D.told disk.new) (without_rooms result) }
     ensures over { (base : Told) (g : Grade) (view : View) → IsPlannedOf (survey_in surveyed) base → RestsOnDisk g surveyed.parts.file view base
         → Represents (state_in surveyed.parts) (first_state surveyed.parts.file base view) → RaisesOver g view (survey_in surveyed) base }
-    ensures anew { (base : Told) (g : Grade) (view : View) → IsPlannedOf (survey_in surveyed) (begun base) → IsImage base.shown → IsFound (shape surveyed.parts.file) (unit_at surveyed.parts.file.layout surveyed.parts.file.cluster base.shown) view → AreDistinct (unit_at surveyed.parts.file.layout surveyed.parts.file.cluster base.shown)
-        → StandsFor g (unit_at surveyed.parts.file.layout surveyed.parts.file.cluster base.shown) view → Represents (state_in surveyed.parts) (first_state surveyed.parts.file base view) → RaisesAnew g view (survey_in surveyed) (begun base) }
+    ensures anew { (base : Told) (g : Grade) (view : View) → IsPlannedOf (survey_in surveyed) (restarted base) → IsImage base.shown → IsFound (shape surveyed.parts.file) (unit_at surveyed.parts.file.layout surveyed.parts.file.cluster base.shown) view → AreDistinct (unit_at surveyed.parts.file.layout surveyed.parts.file.cluster base.shown)
+        → StandsFor g (unit_at surveyed.parts.file.layout surveyed.parts.file.cluster base.shown) view → Represents (state_in surveyed.parts) (first_state surveyed.parts.file base view) → RaisesAnew g view (survey_in surveyed) (restarted base) }
     ensures cause { IsBlamed is_mend_fault (D.faults disk.old) (D.faults disk.new) (without_rooms result) }
 {
     let SurveyedFile { mut parts, chosen } = surveyed;

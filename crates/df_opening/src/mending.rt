@@ -2,7 +2,7 @@
 // A header sector is durable before a copy is written.
 ghost use Rattle.std.specs.Prelude.{◌≡◌, ◌<◌, ◌/◌, IfOk, length};
 ghost use Rattle.df_opening.specs.Below.{HasCause, Adds, AreSteps, sector_writes};
-ghost use Rattle.df_headers.specs.Ring.{IsTable};
+ghost use Rattle.df_headers.specs.Ring.{IsHeaderTable};
 ghost use Rattle.df_opening.specs.Mending.{header_events, lies_in, mending_events, mending_steps, needs_sector, sectors_of, some_of, wanted_writes};
 ghost use Rattle.df_opening.specs.Keeping.{format};
 
@@ -42,7 +42,7 @@ fn mend_sector<D: Disk>(
     room: &mut Raw<HeaderSector>,
     sector: u32,
 ) -> Result<bool, Failed>
-    requires table { IsTable file.now.layout file.now.cluster headers.now }
+    requires table { IsHeaderTable file.now.layout file.now.cluster headers.now }
     requires room { room.old.layout ≡ file.now.layout }
     requires sector { sector < file.now.layout.slots / 16 }
     ensures events { Adds (wanted_writes file.now.layout headers.now mends.now sector) (D.told disk.old) (D.told disk.new) result }
@@ -68,7 +68,7 @@ fn mend_sectors<D: Disk>(
     mends: &[Mend],
     room: &mut Raw<HeaderSector>,
 ) -> Result<bool, Failed>
-    requires table { IsTable file.now.layout file.now.cluster headers.now }
+    requires table { IsHeaderTable file.now.layout file.now.cluster headers.now }
     requires room { room.old.layout ≡ file.now.layout }
     ensures events { Adds (sector_writes file.now.layout headers.now (sectors_of file.now.layout mends.now)) (D.told disk.old) (D.told disk.new) result }
     ensures wrote { IfOk result (λ wrote. wrote ≡ some_of (sectors_of file.now.layout mends.now)) }
@@ -95,7 +95,7 @@ fn mend_headers<D: Disk>(
     mends: &[Mend],
     room: &mut Raw<HeaderSector>,
 ) -> Result<(), Failed>
-    requires table { IsTable file.now.layout file.now.cluster headers.now }
+    requires table { IsHeaderTable file.now.layout file.now.cluster headers.now }
     requires room { room.old.layout ≡ file.now.layout }
     ensures events { Adds (header_events file.now.layout headers.now (sectors_of file.now.layout mends.now)) (D.told disk.old) (D.told disk.new) result }
     ensures room { room.new.layout ≡ file.now.layout }
@@ -124,7 +124,7 @@ fn mend_both<D: Disk>(
     chosen: &Chosen,
     content: &Super,
 ) -> Result<(), Failed>
-    requires table { IsTable file.now.layout file.now.cluster headers.now }
+    requires table { IsHeaderTable file.now.layout file.now.cluster headers.now }
     requires room { sector.old.layout ≡ file.now.layout }
     requires content { content.now ≡ chosen.now.content }
     ensures events { Adds (mending_events file.now.layout headers.now mends.now content.now chosen.now.members) (D.told disk.old) (D.told disk.new) result }
@@ -151,7 +151,7 @@ pub fn write_mends<D: Disk>(
     chosen: &Chosen,
     content: &Super,
 ) -> Result<(), Failed>
-    requires table { IsTable file.now.layout file.now.cluster headers.now }
+    requires table { IsHeaderTable file.now.layout file.now.cluster headers.now }
     requires room { sector.old.layout ≡ file.now.layout }
     requires content { content.now ≡ chosen.now.content }
     ensures events { Adds (mending_events file.now.layout headers.now mends.now content.now chosen.now.members) (D.told disk.old) (D.told disk.new) result }

@@ -21,8 +21,8 @@ use Rattle.df_model.proofs.Laws.{length_in}
 use Rattle.df_pace.specs.declared.beat.Piece.{Piece}
 use Rattle.df_pace.specs.declared.beat.Piece.TheVariants as piece
 use Rattle.df_pace.specs.declared.pace.Due.{Due}
-use Rattle.df_pace.specs.Loop.{Stand, answer_at, by_loop, by_script, counted, recounted}
-use Rattle.df_pace.specs.Beats.{FewerDue, IsCounted, LineCounts, NothingDue, PieceCounts, PieceDue, StartsIdle, WholeDue, command_of, is_begun, pieces_left, rest_due, without}
+use Rattle.df_pace.specs.Loop.{Stand, answer_at, by_loop, by_script, counted_answer, recounted}
+use Rattle.df_pace.specs.Beats.{FewerDue, IsHeadCounted, LineCounts, NothingDue, PieceCounts, PieceDue, StartsIdle, WholeDue, command_of_piece, is_begun, pieces_left, rest_due, without}
 
 -- ---- what is left
 
@@ -109,7 +109,7 @@ module _ (sh : Shape) (codec : Codec) (x : Stand) where
   -- ---- any piece
 
   abbrev Leaves : Due → Piece → Type 0
-  Leaves d p = let c = command_of p w.view.checkpoint.parts.root in rest_due sh codec d x ≡ c ∷ rest_due sh codec (without p d) (by_loop sh codec x c)
+  Leaves d p = let c = command_of_piece p w.view.checkpoint.parts.root in rest_due sh codec d x ≡ c ∷ rest_due sh codec (without p d) (by_loop sh codec x c)
 
   of_piece : (d : Due) (p q : Piece) → Option.Some q ≡ Some p → Leaves d q → Leaves d p
   of_piece d p q is leaves = let same : q ≡ p = cc is in subst (Leaves d) same leaves
@@ -168,15 +168,15 @@ outcome_head : {E A : Type 0} (o : Option E) (w u : Work) (answer : A) → head 
 outcome_head (Some e) w u answer same = refl
 outcome_head None w u answer same = same
 
-append_counts : (o : Option AppendError) (w u : Work) (answer : ℕ × ℕ) (n since : ℕ) → n + since ≡ head w.view → head u.view ≡ head w.view + 1 → counted n (ToAppend (outcome o w u answer).1) + since ≡ head (outcome o w u answer).0.view
+append_counts : (o : Option AppendError) (w u : Work) (answer : ℕ × ℕ) (n since : ℕ) → n + since ≡ head w.view → head u.view ≡ head w.view + 1 → counted_answer n (ToAppend (outcome o w u answer).1) + since ≡ head (outcome o w u answer).0.view
 append_counts (Some e) w u answer n since is longer = is
 append_counts None w u answer n since is longer = omega (arith, is, longer)
 
-flush_counts : (o : Option FlushError) (w u : Work) (count n since : ℕ) → n + since ≡ head w.view → head u.view ≡ head w.view + count → counted n (ToFlush (outcome o w u count).1) + since ≡ head (outcome o w u count).0.view
+flush_counts : (o : Option FlushError) (w u : Work) (count n since : ℕ) → n + since ≡ head w.view → head u.view ≡ head w.view + count → counted_answer n (ToFlush (outcome o w u count).1) + since ≡ head (outcome o w u count).0.view
 flush_counts (Some e) w u count n since is longer = is
 flush_counts None w u count n since is longer = omega (arith, is, longer)
 
-stage_counts : (o : Option AppendError) (w : Work) (r : Request) (op n since : ℕ) → n + since ≡ head w.view → counted n (ToStage (outcome o w (with_staged w r) op).1) + since ≡ head (outcome o w (with_staged w r) op).0.view
+stage_counts : (o : Option AppendError) (w : Work) (r : Request) (op n since : ℕ) → n + since ≡ head w.view → counted_answer n (ToStage (outcome o w (with_staged w r) op).1) + since ≡ head (outcome o w (with_staged w r) op).0.view
 stage_counts (Some e) w r op n since is = is
 stage_counts None w r op n since is = is
 
@@ -201,7 +201,7 @@ module _ (sh : Shape) (codec : Codec) (x : Stand) (sense : IsWork sh codec.spell
   check_head Sound (y ∷ more) = refl
   check_head (Failing class) (y ∷ more) = refl
 
-  module _ (since : ℕ) (is : IsCounted x since) where
+  module _ (since : ℕ) (is : IsHeadCounted x since) where
     abbrev sum_for : Command → ℕ
     sum_for c = supplied_sum (supplied codec x.shown (memory_of sh codec.spell x.work) c)
 
@@ -217,7 +217,7 @@ module _ (sh : Shape) (codec : Codec) (x : Stand) (sense : IsWork sh codec.spell
     checked : head (after_check x.work verdict_now (to_check (memory_of sh codec.spell x.work))).0.view ≡ head x.work.view
     checked = check_head verdict_now (to_check (memory_of sh codec.spell x.work))
 
-    line : (c : Command) → IsCounted (by_script sh codec x c) since
+    line : (c : Command) → IsHeadCounted (by_script sh codec x c) since
     line (Append client request body) =
         let m = memory_of sh codec.spell x.work in
         let sum = sum_for (Append client request body) in
@@ -253,9 +253,9 @@ module _ (sh : Shape) (codec : Codec) (x : Stand) (sense : IsWork sh codec.spell
 
     abbrev Counts : Piece → Type 0
     Counts p =
-        let c = command_of p x.work.view.checkpoint.parts.root in
+        let c = command_of_piece p x.work.view.checkpoint.parts.root in
         let y = by_loop sh codec x c in
-        IsCounted y (if is_begun (answer_at sh codec x c) then head y.work.view else since)
+        IsHeadCounted y (if is_begun (answer_at sh codec x c) then head y.work.view else since)
 
     piece_of : (p : Piece) → Counts p
     piece_of piece.Begin =

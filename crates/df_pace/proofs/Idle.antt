@@ -6,7 +6,7 @@ use Rattle.df_model.specs.Refusals.{is_running, steps_left}
 use Rattle.df_model.specs.Supply.{Codec}
 use Rattle.df_script_model.specs.Script.{answer_text, printed}
 use Rattle.df_pace.specs.declared.pace.Pace.{Pace}
-use Rattle.df_pace.specs.Loop.{Stand, all_by_loop, answer_at, begin_due, begin_if, behind, by_script, course_at, paced, passed, steps_due}
+use Rattle.df_pace.specs.Loop.{Stand, all_by_loop, answer_at, begin_due, begin_if, by_script, course_at, paced, passed, stand_after, steps_due}
 use Rattle.df_pace.specs.Laws.{AnsweredLaw, IdleLaw}
 use Rattle.df_pace.proofs.Beats.{none_min}
 
@@ -17,7 +17,7 @@ never : (b : Bool) → (not b && false) ≡ false
 never true = refl
 never false = refl
 
-nothing_due : (sh : Shape) (codec : Codec) (x : Stand) → behind sh codec idle x ≡ x
+nothing_due : (sh : Shape) (codec : Codec) (x : Stand) → stand_after sh codec idle x ≡ x
 nothing_due sh codec x =
     ap (λ (begins : List Command). all_by_loop sh codec x (begins ++ (steps_due sh codec idle (all_by_loop sh codec x begins) ++ []))) no_begin
     ∙ ap (λ (n : ℕ). all_by_loop sh codec x (replicate n Advance ++ [])) (none_min (steps_left (course_at sh codec x)))

@@ -6,7 +6,7 @@ use Rattle.std.proofs.lemmas.Bool.Decides.{nat_tests}
 use Rattle.df_layout.specs.declared.damage.Class.{Class}
 use Rattle.df_layout.specs.declared.places.Zone.TheVariants.{ClientReplies}
 use Rattle.df_theory.specs.Units.{AnyUnit, Message, PreparePlace, PrepareUnit, ReplyPlace, ReplyUnit, Session, Units, or_else, overlay}
-use Rattle.df_theory.specs.Sessions.{session_of, sessions_after}
+use Rattle.df_theory.specs.Sessions.{session_of_header, sessions_after}
 use Rattle.df_theory.specs.Shape.{Shape}
 use Rattle.df_theory.specs.View.{View, head, sessions}
 use Rattle.df_theory.specs.Next.{appended, kept, replied}
@@ -234,7 +234,7 @@ module _ (sh : Shape) (codec : Codec) (x : Stand) (goes : Goes x.work) where
       let p = prepare_of m sum client request body in
       let more = sessions_more v.checkpoint.parts.sessions v.tail p in
       let longer : v.checkpoint.content.op + length (v.tail ++ p ∷ []) ≡ head v + 1 = omega (arith, length-append v.tail (p ∷ [])) in
-      let reads : (k : ℕ) → plainly (read_of (kept (slice_get (sessions_after v.checkpoint.parts.sessions (v.tail ++ p ∷ [])) k) (head v) (v.stored k)) x.shown k) ≡ kept_read (slice_get (put_session (session_of p.header) (sessions v)) k) (head v) (t.reads k) =
+      let reads : (k : ℕ) → plainly (read_of (kept (slice_get (sessions_after v.checkpoint.parts.sessions (v.tail ++ p ∷ [])) k) (head v) (v.stored k)) x.shown k) ≡ kept_read (slice_get (put_session (session_of_header p.header) (sessions v)) k) (head v) (t.reads k) =
       λ k. read_kept (slice_get (sessions_after v.checkpoint.parts.sessions (v.tail ++ p ∷ [])) k) (head v) (v.stored k) (x.shown.units (ReplyPlace k)) (x.shown.damage (ReplyPlace k)) ∙ ap (λ (ss : List Session). kept_read (slice_get ss k) (head v) (t.reads k)) more in
       λ i. record { head = longer i; replies = v.replies; sessions = more i; staged = w.staged; reads = λ k. reads k i }
 

@@ -4,7 +4,7 @@ use Rattle.std.specs.List.{range_with_len, slice_get}
 use Rattle.df_layout.specs.declared.damage.Class.{Class}
 use Rattle.df_layout.specs.declared.damage.Class.TheVariants.{Stale}
 use Rattle.df_theory.specs.Units.{AnyUnit, BlockUnit, CopyUnit, Header, HeaderUnit, Message, PrepareUnit, ReplyPlace, ReplyUnit, Session, or_else}
-use Rattle.df_theory.specs.Sessions.{noted, session_of, sessions_after}
+use Rattle.df_theory.specs.Sessions.{noted, session_of_header, sessions_after}
 use Rattle.df_theory.specs.Next.{kept}
 use Rattle.df_theory.proofs.Laws.{sessions-append}
 use Rattle.df_model.specs.Work.{Request}
@@ -19,11 +19,11 @@ abbrev pub put_session : Session → List Session → List Session
 put_session s [] = s ∷ []
 put_session s (x ∷ xs) = if x.client == s.client then s ∷ xs else x ∷ put_session s xs
 
-noted_is : (h : Header) (ss : List Session) → noted h ss ≡ put_session (session_of h) ss
+noted_is : (h : Header) (ss : List Session) → noted h ss ≡ put_session (session_of_header h) ss
 noted_is h [] = refl
-noted_is h (s ∷ ss) = ap (λ (rest : List Session). if s.client == h.client then session_of h ∷ ss else s ∷ rest) (noted_is h ss)
+noted_is h (s ∷ ss) = ap (λ (rest : List Session). if s.client == h.client then session_of_header h ∷ ss else s ∷ rest) (noted_is h ss)
 
-pub sessions_more : (ss : List Session) (ps : List Message) (p : Message) → sessions_after ss (ps ++ p ∷ []) ≡ put_session (session_of p.header) (sessions_after ss ps)
+pub sessions_more : (ss : List Session) (ps : List Message) (p : Message) → sessions_after ss (ps ++ p ∷ []) ≡ put_session (session_of_header p.header) (sessions_after ss ps)
 sessions_more ss ps p = sessions-append ss ps (p ∷ []) ∙ noted_is p.header (sessions_after ss ps)
 
 -- after requests, made prepares of the ops from this one on

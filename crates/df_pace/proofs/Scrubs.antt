@@ -14,7 +14,7 @@ use Rattle.df_model.specs.declared.answers.Verdict.TheVariants.{Sound, Failing}
 use Rattle.df_model.proofs.Laws.{answer_from, answer_is}
 use Rattle.df_script_model.specs.Script.{answer_text}
 use Rattle.df_pace.specs.declared.pace.Pace.{Pace}
-use Rattle.df_pace.specs.Loop.{Stand, all_by_loop, answer_at, begin_due, begin_if, behind, by_loop, by_script, course_at, counted, ended, is_begin_due, led, paced, passed, recounted, scrubs_due, steps_due}
+use Rattle.df_pace.specs.Loop.{Stand, all_by_loop, answer_at, begin_due, begin_if, stand_after, by_loop, by_script, course_at, counted_answer, ended, is_begin_due, led, paced, passed, recounted, scrubs_due, steps_due}
 use Rattle.df_pace.specs.Laws.{AsksOfOthers, EachOf, ScrubbingLaw}
 use Rattle.df_pace.proofs.Lists.{loop_join}
 
@@ -104,7 +104,7 @@ module _ (sh : Shape) (codec : Codec) where
   led_bare x c n k other same = λ i. record { shown = (both_bare x.shown x.work c other).1 i; work = work_bare x.shown x.work c other i; appended = same i }
 
   script_bare : (x : Stand) (c : Command) → AsksOfOthers c → bare_at (by_script sh codec x c) ≡ by_script sh codec (bare_at x) c
-  script_bare x c other = led_bare x c _ _ other (ap (counted x.appended) (answer_bare x c other))
+  script_bare x c other = led_bare x c _ _ other (ap (counted_answer x.appended) (answer_bare x c other))
 
   loop_bare : (x : Stand) (c : Command) → AsksOfOthers c → bare_at (by_loop sh codec x c) ≡ by_loop sh codec (bare_at x) c
   loop_bare x c other = led_bare x c _ _ other (ap (recounted x.appended) (answer_bare x c other))
@@ -147,19 +147,19 @@ module _ (sh : Shape) (codec : Codec) where
       steps_bare (min pace.steps (steps_left (course_at sh codec y))) y
       ∙ ap (λ (z : Stand). all_by_loop sh codec z (steps_due sh codec pace z)) (begin_bare (is_begin_due pace x.appended (is_running (course_at sh codec x))) x.work.view.checkpoint.parts.root x)
 
-  behind_is : (pace : Pace) (x : Stand) → behind sh codec pace x ≡ all_by_loop sh codec (worked pace x) (scrubs_due pace)
+  behind_is : (pace : Pace) (x : Stand) → stand_after sh codec pace x ≡ all_by_loop sh codec (worked pace x) (scrubs_due pace)
   behind_is pace x =
       let begins = begin_due sh codec pace x in
       let y = all_by_loop sh codec x begins in
       loop_join sh codec x begins (steps_due sh codec pace y ++ scrubs_due pace) ∙ loop_join sh codec y (steps_due sh codec pace y) (scrubs_due pace)
 
-  behind_bare : (pace : Pace) (x : Stand) → bare_at (behind sh codec pace x) ≡ behind sh codec (calm pace) (bare_at x)
+  behind_bare : (pace : Pace) (x : Stand) → bare_at (stand_after sh codec pace x) ≡ stand_after sh codec (calm pace) (bare_at x)
   behind_bare pace x = ap bare_at (behind_is pace x) ∙ scrubs_bare pace.scrub (worked pace x) ∙ worked_bare pace x ∙ sym (behind_is (calm pace) (bare_at x))
 
   -- ---- the script
 
   passed_bare : (pace : Pace) (x : Stand) (c : Command) → AsksOfOthers c → bare_at (passed sh codec pace x c) ≡ passed sh codec (calm pace) (bare_at x) c
-  passed_bare pace x c other = behind_bare pace (by_script sh codec x c) ∙ ap (behind sh codec (calm pace)) (script_bare x c other)
+  passed_bare pace x c other = behind_bare pace (by_script sh codec x c) ∙ ap (stand_after sh codec (calm pace)) (script_bare x c other)
 
   paced_bare : (pace : Pace) (x : Stand) (lines : List Command) → EachOf AsksOfOthers lines → paced sh codec pace x lines ≡ paced sh codec (calm pace) (bare_at x) lines
   paced_bare pace x [] others = refl

@@ -6,7 +6,7 @@ use Rattle.df_model.specs.Memory.{memory_of}
 use Rattle.df_model.specs.Commands.{Command}
 use Rattle.df_model.specs.Supply.{Codec, Shown, last_shown, last_work, next, shown_after}
 use Rattle.df_pace.specs.declared.pace.Pace.{Pace}
-use Rattle.df_pace.specs.Loop.{Stand, all_by_loop, by_script, all_commands, behind, by_loop, by_script, commands_due, passed}
+use Rattle.df_pace.specs.Loop.{Stand, all_by_loop, by_script, all_commands, stand_after, by_loop, by_script, commands_due, passed}
 use Rattle.df_pace.specs.Laws.{IsOneSession, SessionLaw}
 
 module _ (sh : Shape) (codec : Codec) where
@@ -27,12 +27,12 @@ module _ (sh : Shape) (codec : Codec) where
   loop_shown x (c ∷ cs) = loop_shown (by_loop sh codec x c) cs
 
   -- the work after a line, and then all the rest
-  rest_work : (pace : Pace) (y : Stand) (cs : List Command) → last_work sh codec (behind sh codec pace y).shown (behind sh codec pace y).work cs ≡ last_work sh codec y.shown y.work (commands_due sh codec pace y ++ cs)
+  rest_work : (pace : Pace) (y : Stand) (cs : List Command) → last_work sh codec (stand_after sh codec pace y).shown (stand_after sh codec pace y).work cs ≡ last_work sh codec y.shown y.work (commands_due sh codec pace y ++ cs)
   rest_work pace y cs =
       let due = commands_due sh codec pace y in
       (λ i. last_work sh codec (loop_shown y due i) (loop_work y due i) cs) ∙ sym (work_join y.shown y.work due cs)
 
-  rest_shown : (pace : Pace) (y : Stand) (cs : List Command) → last_shown sh codec (behind sh codec pace y).shown (behind sh codec pace y).work cs ≡ last_shown sh codec y.shown y.work (commands_due sh codec pace y ++ cs)
+  rest_shown : (pace : Pace) (y : Stand) (cs : List Command) → last_shown sh codec (stand_after sh codec pace y).shown (stand_after sh codec pace y).work cs ≡ last_shown sh codec y.shown y.work (commands_due sh codec pace y ++ cs)
   rest_shown pace y cs =
       let due = commands_due sh codec pace y in
       (λ i. last_shown sh codec (loop_shown y due i) (loop_work y due i) cs) ∙ sym (shown_join y.shown y.work due cs)

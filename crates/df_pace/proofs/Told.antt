@@ -17,7 +17,7 @@ use Rattle.df_model.specs.Supply.{Codec, Shown, class_at, reply_given, step_puts
 use Rattle.df_model.specs.declared.answers.Verdict.{Verdict}
 use Rattle.df_model.specs.declared.answers.Verdict.TheVariants.{Sound, Failing}
 use Rattle.df_pace.specs.declared.pace.Pace.{Pace}
-use Rattle.df_pace.specs.Loop.{Stand, all_by_loop, begin_due, begin_if, behind, by_loop, course_at, is_begin_due, scrubs_due, steps_due}
+use Rattle.df_pace.specs.Loop.{Stand, all_by_loop, begin_due, begin_if, by_loop, course_at, is_begin_due, scrubs_due, stand_after, steps_due}
 use Rattle.df_pace.proofs.Lists.{loop_join}
 
 -- ---- what is told
@@ -144,12 +144,12 @@ module _ (sh : Shape) (codec : Codec) where
   begins_stay true root x goes = begin_stays x root goes
   begins_stay false root x goes = record { told = refl; goes = goes }
 
-  pub behind_stays : (pace : Pace) (x : Stand) → Goes x.work → Stays x (behind sh codec pace x)
+  pub behind_stays : (pace : Pace) (x : Stand) → Goes x.work → Stays x (stand_after sh codec pace x)
   behind_stays pace x goes =
       let begins = begin_due sh codec pace x in
       let y = all_by_loop sh codec x begins in
       let z = all_by_loop sh codec y (steps_due sh codec pace y) in
-      let joined : behind sh codec pace x ≡ all_by_loop sh codec z (scrubs_due pace) = loop_join sh codec x begins (steps_due sh codec pace y ++ scrubs_due pace) ∙ loop_join sh codec y (steps_due sh codec pace y) (scrubs_due pace) in
+      let joined : stand_after sh codec pace x ≡ all_by_loop sh codec z (scrubs_due pace) = loop_join sh codec x begins (steps_due sh codec pace y ++ scrubs_due pace) ∙ loop_join sh codec y (steps_due sh codec pace y) (scrubs_due pace) in
       subst (λ (w : Stand). Stays x w) (sym joined)
       (then_stays x z (all_by_loop sh codec z (scrubs_due pace))
       (then_stays x y z (begins_stay (is_begin_due pace x.appended (is_running (course_at sh codec x))) x.work.view.checkpoint.parts.root x goes) (steps_stay (min pace.steps (steps_left (course_at sh codec y))) y))

@@ -29,10 +29,10 @@ without piece.Step d = record d { steps = d.steps - 1 }
 without piece.Scrub d = record d { scrub = d.scrub - 1 }
 
 -- the command of a piece, with this durable root
-abbrev pub command_of : Piece → (root : List ℕ) → Command
-command_of piece.Begin root = Begin root
-command_of piece.Step root = Advance
-command_of piece.Scrub root = Scrub
+abbrev pub command_of_piece : Piece → (root : List ℕ) → Command
+command_of_piece piece.Begin root = Begin root
+command_of_piece piece.Step root = Advance
+command_of_piece piece.Scrub root = Scrub
 
 -- no work at all
 abbrev pub idle : Pace
@@ -48,17 +48,17 @@ abbrev pub started : (last : ℕ) → Beat
 started last = record { since = last; due = record { begin = false; steps = 0; scrub = 0 } }
 
 -- after a line: as many prepares were accepted since the last begin as the head has grown
-abbrev pub behind_line : Pace → Beat → (last : ℕ) → (running : Bool) → Beat
-behind_line pace b last running = record { since = b.since; due = due_at pace (last - b.since) running }
+abbrev pub beat_after_line : Pace → Beat → (last : ℕ) → (running : Bool) → Beat
+beat_after_line pace b last running = record { since = b.since; due = due_at pace (last - b.since) running }
 
 -- a begin that is accepted
 abbrev pub is_begun : Answer → Bool
 is_begun (ToBegin (Ok blocks)) = true
 is_begun answer = false
 
--- after a piece: with such a begin the count begins anew
-abbrev pub behind_piece : Piece → (begun : Bool) → Beat → (last : ℕ) → Beat
-behind_piece p begun b last = record { since = if begun then last else b.since; due = without p b.due }
+-- after a piece: with such a begin the count restarts
+abbrev pub beat_after_piece : Piece → (begun : Bool) → Beat → (last : ℕ) → Beat
+beat_after_piece p begun b last = record { since = if begun then last else b.since; due = without p b.due }
 
 -- ---- and so all is done that is due
 
@@ -87,7 +87,7 @@ StartsIdle = (last : ℕ) (running : Bool) → next_piece (started last).due run
 abbrev pub PieceDue : Type 0
 PieceDue =
     (sh : Shape) (codec : Codec) (d : Due) (x : Stand) (p : Piece) → next_piece d (runs_at sh codec x) ≡ Some p
-    → let c = command_of p x.work.view.checkpoint.parts.root in rest_due sh codec d x ≡ c ∷ rest_due sh codec (without p d) (by_loop sh codec x c)
+    → let c = command_of_piece p x.work.view.checkpoint.parts.root in rest_due sh codec d x ≡ c ∷ rest_due sh codec (without p d) (by_loop sh codec x c)
 
 -- and so fewer pieces are left after each
 abbrev pub FewerDue : Type 0
@@ -96,16 +96,16 @@ FewerDue = (d : Due) (running : Bool) (p : Piece) → next_piece d running ≡ S
 -- ---- and counted as it is
 
 -- the head has grown by what was counted since the loop's last begin
-abbrev pub IsCounted : Stand → (since : ℕ) → Type 0
-IsCounted x since = x.appended + since ≡ head x.work.view
+abbrev pub IsHeadCounted : Stand → (since : ℕ) → Type 0
+IsHeadCounted x since = x.appended + since ≡ head x.work.view
 
 -- so it is after each command of the script, and after each of the loop, from a state that makes sense
 abbrev pub LineCounts : Type 0
-LineCounts = (sh : Shape) (codec : Codec) (x : Stand) (c : Command) (since : ℕ) → IsWork sh codec.spell x.work → IsCounted x since → IsCounted (by_script sh codec x c) since
+LineCounts = (sh : Shape) (codec : Codec) (x : Stand) (c : Command) (since : ℕ) → IsWork sh codec.spell x.work → IsHeadCounted x since → IsHeadCounted (by_script sh codec x c) since
 
 abbrev pub PieceCounts : Type 0
 PieceCounts =
-    (sh : Shape) (codec : Codec) (x : Stand) (p : Piece) (since : ℕ) → IsWork sh codec.spell x.work → IsCounted x since
-    → let c = command_of p x.work.view.checkpoint.parts.root in
+    (sh : Shape) (codec : Codec) (x : Stand) (p : Piece) (since : ℕ) → IsWork sh codec.spell x.work → IsHeadCounted x since
+    → let c = command_of_piece p x.work.view.checkpoint.parts.root in
     let y = by_loop sh codec x c in
-    IsCounted y (if is_begun (answer_at sh codec x c) then head y.work.view else since)
+    IsHeadCounted y (if is_begun (answer_at sh codec x c) then head y.work.view else since)

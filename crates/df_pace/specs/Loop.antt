@@ -32,19 +32,19 @@ abbrev pub led : Shape → Codec → Stand → Command → (appended : ℕ) → 
 led sh codec x c n = record { shown = shown_after codec x.shown (memory_of sh codec.spell x.work) c; work = (next sh codec x.shown x.work c).0; appended = n }
 
 -- an append that is accepted counts, and a flush counts as many as it appends; what is staged doesn't
-abbrev pub counted : ℕ → Answer → ℕ
-counted n (ToAppend (Ok done)) = n + 1
-counted n (ToFlush (Ok count)) = n + count
-counted n answer = n
+abbrev pub counted_answer : ℕ → Answer → ℕ
+counted_answer n (ToAppend (Ok done)) = n + 1
+counted_answer n (ToFlush (Ok count)) = n + count
+counted_answer n answer = n
 
--- with a begin of the loop that is accepted the count begins anew
+-- with a begin of the loop that is accepted the count restarts
 abbrev pub recounted : ℕ → Answer → ℕ
 recounted n (ToBegin (Ok blocks)) = 0
 recounted n answer = n
 
 -- a command of the script, whose own begin doesn't change the count; and one of the loop
 abbrev pub by_script : Shape → Codec → Stand → Command → Stand
-by_script sh codec x c = led sh codec x c (counted x.appended (answer_at sh codec x c))
+by_script sh codec x c = led sh codec x c (counted_answer x.appended (answer_at sh codec x c))
 
 abbrev pub by_loop : Shape → Codec → Stand → Command → Stand
 by_loop sh codec x c = led sh codec x c (recounted x.appended (answer_at sh codec x c))
@@ -80,14 +80,14 @@ commands_due sh codec pace x =
     let begins = begin_due sh codec pace x in
     begins ++ (steps_due sh codec pace (all_by_loop sh codec x begins) ++ scrubs_due pace)
 
-abbrev pub behind : Shape → Codec → Pace → Stand → Stand
-behind sh codec pace x = all_by_loop sh codec x (commands_due sh codec pace x)
+abbrev pub stand_after : Shape → Codec → Pace → Stand → Stand
+stand_after sh codec pace x = all_by_loop sh codec x (commands_due sh codec pace x)
 
 -- ---- a script
 
 -- a line, also one that is refused, and the work after it
 abbrev pub passed : Shape → Codec → Pace → Stand → Command → Stand
-passed sh codec pace x c = behind sh codec pace (by_script sh codec x c)
+passed sh codec pace x c = stand_after sh codec pace (by_script sh codec x c)
 
 -- the lines that a script prints beside the loop's work, one for each of its own; nothing of that work is printed
 abbrev pub paced : Shape → Codec → Pace → Stand → List Command → List (List ℕ)

@@ -2,7 +2,7 @@
 use Rattle.std.specs.Prelude.{◌≡◌, ◌<◌, ◌+◌, ◌-◌, ◌/◌, ◌%◌, ℕ, zero, suc, List, [], ◌∷◌, ◌++◌, codes, drop}
 use Rattle.df_theory.specs.View.{View, head, sequence}
 use Rattle.df_model.specs.Commands.{Append, Begin, Command, Flush, Release, Reply, Stage}
-use Rattle.df_script_model.specs.Sessions.{blank, blocks_of, first_work, plain, small}
+use Rattle.df_script_model.specs.Sessions.{blank, equal_blocks, first_work, plain, small}
 use Rattle.df_script_model.specs.Texts.{line_of, numbered}
 use Rattle.df_pace.specs.declared.pace.Pace.{Pace}
 use Rattle.df_pace.specs.Loop.{ended, paced, start}
@@ -55,7 +55,7 @@ FullRing = (named : 0 < 7) (some : 0 < 32) → drop 64 (prints named some (pace_
 abbrev pub RefusedBegin : Type 0
 RefusedBegin =
     (named : 0 < 7) (some : 0 < 32)
-    → let lines = blocks_of [] 64 ++ (Append 1 1 [] ∷ []) in
+    → let lines = equal_blocks [] 64 ++ (Append 1 1 [] ∷ []) in
     (counts_of (ends named some (pace_of 0 1 2) lines) ≡ record { sequence = 1; checkpoint_op = 0; head = 1; replies = 0 })
     × (counts_of (ends named some (pace_of 0 1 2) (lines ++ Release 64 ∷ [])) ≡ record { sequence = 2; checkpoint_op = 1; head = 1; replies = 0 })
 

@@ -1,6 +1,6 @@
 // The loop's work piece by piece: where it stands, what is next, and what is left then.
 ghost use Rattle.std.specs.Prelude.{◌≡◌};
-ghost use Rattle.df_pace.specs.Beats.{behind_line, behind_piece, next_piece, started, without};
+ghost use Rattle.df_pace.specs.Beats.{beat_after_line, beat_after_piece, next_piece, started, without};
 
 use crate::{Due, Pace, due};
 
@@ -83,7 +83,7 @@ impl Beat {
 
     /// Where it stands after a line, with the head as it is then, and where a checkpoint runs then or not.
     pub fn behind_line(&self, pace: &Pace, head: u64, running: bool) -> Beat
-        ensures { result ≡ behind_line pace.now self.now head running }
+        ensures { result ≡ beat_after_line pace.now self.now head running }
     {
         Beat {
             since: self.since,
@@ -93,7 +93,7 @@ impl Beat {
 
     /// Where it stands after a piece of its work: with a begin that was accepted it counts from the head anew.
     pub fn behind_piece(&self, piece: Piece, begun: bool, head: u64) -> Beat
-        ensures { result ≡ behind_piece piece begun self.now head }
+        ensures { result ≡ beat_after_piece piece begun self.now head }
     {
         let since = if begun { head } else { self.since };
         Beat {

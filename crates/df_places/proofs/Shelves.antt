@@ -18,7 +18,7 @@ use Rattle.df_format.specs.Shown.{bytes_of, class_at, class_of, header_or_class,
 use Rattle.df_format.specs.UnitLaws.{place_size}
 use Rattle.df_format.proofs.Laws.{one_unit}
 use Rattle.df_buffers.specs.declared.identity.Identity.{Identity}
-use Rattle.df_buffers.specs.Found.{FindsKind, IsThere, class_for}
+use Rattle.df_buffers.specs.Found.{FindsKind, IsValidUnit, class_for}
 use Rattle.df_buffers.specs.Rooms.{FillsRoom, StandsIn, room_size}
 use Rattle.df_buffers.specs.Sounds.{Holding}
 use Rattle.df_buffers.proofs.Laws.{is_no_ring}
@@ -71,7 +71,7 @@ module _ (kind : Kind) (zone : Zone) (identity : Identity) (bytes : List ℕ) (s
   unfolding class_at
   class_shown t shows = ap (class_of identity.layout identity.cluster identity.place) (of_place t shows)
 
-  all_valid : (t : Told) → AreBytes bytes → Shows (Some t) (span_of identity.layout identity.place).first bytes → (u : Message) → shown_at identity t.shown ≡ Some u → IsThere identity u
+  all_valid : (t : Told) → AreBytes bytes → Shows (Some t) (span_of identity.layout identity.place).first bytes → (u : Message) → shown_at identity t.shown ≡ Some u → IsValidUnit identity u
   all_valid t each shows u shown =
       ((one_unit identity.layout identity.cluster identity.place bytes u (fills_place kind zone identity.layout identity.place bytes stands in_zone fills) each).0 (unit_shown t shows ∙ shown)).is
 

@@ -13,7 +13,7 @@ use Rattle.df_format.specs.Spelling.{sealed}
 use Rattle.df_format.specs.UnitLaws.{MadeIsUnit}
 use Rattle.df_format.specs.Wanted.{IsWanted}
 use Rattle.df_buffers.specs.declared.identity.Identity.{Identity}
-use Rattle.df_buffers.specs.Found.{IsThere, words_of}
+use Rattle.df_buffers.specs.Found.{IsValidUnit, wanted_words}
 use Rattle.df_buffers.specs.Rooms.{Room}
 use Rattle.df_buffers.specs.Sounds.{Holding, IsTidy}
 
@@ -31,14 +31,14 @@ IsShelf layout loose held = ⊥
 -- ---- what is read into it
 
 -- the unit is of the kind and is valid at the place, and it is the one wanted
-pub record IsFound (kind : Kind) (identity : Identity) (u : Message) : Type 0 where
-  pub is : IsThere identity u
+pub record IsFoundUnit (kind : Kind) (identity : Identity) (u : Message) : Type 0 where
+  pub is : IsValidUnit identity u
   pub of_kind : u.header.kind ≡ kind
-  pub wanted : IsWanted (words_of identity.wanted) u
+  pub wanted : IsWanted (wanted_words identity.wanted) u
 
 -- the unit wanted is held exactly where nothing is wrong
 abbrev pub HoldsFound : Kind → Identity → Option Class → Option Holding → Type 0
-HoldsFound kind identity None (Some held) = IsFound kind identity held.unit
+HoldsFound kind identity None (Some held) = IsFoundUnit kind identity held.unit
 HoldsFound kind identity None None = ⊥
 HoldsFound kind identity (Some class) held = held ≡ None
 
@@ -50,11 +50,11 @@ shown_at identity image = unit_at identity.layout identity.cluster image identit
 abbrev pub Judges : Kind → Identity → Image → Option Class → Option Holding → Type 0
 Judges kind identity image None (Some held) = shown_at identity image ≡ Some held.unit
 Judges kind identity image None None = ⊥
-Judges kind identity image (Some class) held = ((u : Message) → shown_at identity image ≡ Some u → IsFound kind identity u → ⊥) × (class ≡ class_at identity.layout identity.cluster image identity.place)
+Judges kind identity image (Some class) held = ((u : Message) → shown_at identity image ≡ Some u → IsFoundUnit kind identity u → ⊥) × (class ≡ class_at identity.layout identity.cluster image identity.place)
 
 -- so it is with what the disk shows, and any unit that is shown at the place is one that is valid there
 pub record IsOf (kind : Kind) (identity : Identity) (image : Image) (wrong : Option Class) (held : Option Holding) : Type 0 where
-  pub valid : (u : Message) → shown_at identity image ≡ Some u → IsThere identity u
+  pub valid : (u : Message) → shown_at identity image ≡ Some u → IsValidUnit identity u
   pub judges : Judges kind identity image wrong held
 
 -- where it tells that
@@ -65,7 +65,7 @@ IsRead kind identity (Some t) wrong held = IsOf kind identity t.shown wrong held
 -- ---- what is made in it
 
 -- the unit of a header and a body, in whole sectors
-pub record IsMade (layout : Layout) (header : Header) (body : List ℕ) (held : Holding) : Type 0 where
+pub record IsUnitMade (layout : Layout) (header : Header) (body : List ℕ) (held : Holding) : Type 0 where
   pub layout_is : held.layout ≡ layout
   pub unit : held.unit ≡ record { header = sealed (for_body header body); body = body }
   pub valid : MadeIsUnit held.unit
@@ -73,7 +73,7 @@ pub record IsMade (layout : Layout) (header : Header) (body : List ℕ) (held : 
 
 abbrev pub HoldsMade : Layout → Header → List ℕ → Option Holding → Type 0
 HoldsMade layout header body None = ⊥
-HoldsMade layout header body (Some held) = IsMade layout header body held
+HoldsMade layout header body (Some held) = IsUnitMade layout header body held
 
 -- ---- what is blanked in it
 

@@ -22,8 +22,8 @@ abbrev pub IsInOwnSlot : Layout → Message → Type 0
 IsInOwnSlot layout u = IsUnit layout u.header.cluster (slot_place u.header.slot) u
 
 -- the event of a put: the whole sectors that a unit covers go into the slot that its header names
-abbrev pub put_events : Layout → Holding → List Event
-put_events layout held = put_unit_events layout (slot_place held.unit.header.slot) held
+abbrev pub prepare_put_events : Layout → Holding → List Event
+prepare_put_events layout held = put_unit_events layout (slot_place held.unit.header.slot) held
 
 -- what it is in the words of the theory: the prepare is put into its slot
 abbrev pub put_steps : Message → List Step
@@ -34,5 +34,5 @@ abbrev pub write_events : Layout → Holding → List Event
 write_events layout held = unit_events layout (slot_place held.unit.header.slot) held
 
 -- what they are in the words of the theory: the prepare is put into its slot, and synced
-abbrev pub write_steps : Message → List Step
-write_steps u = unit_steps (PreparePlace u.header.slot) (PrepareUnit (message_of u))
+abbrev pub prepare_write_steps : Message → List Step
+prepare_write_steps u = unit_steps (PreparePlace u.header.slot) (PrepareUnit (message_of u))

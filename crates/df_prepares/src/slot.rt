@@ -2,7 +2,7 @@
 // answers.
 ghost use Rattle.std.specs.Prelude.{◌≡◌, take};
 ghost use Rattle.df_prepares.specs.Below.{HasCause, Adds, Brings, sectors_end, AreSteps, format_of};
-ghost use Rattle.df_prepares.specs.Slots.{slot_place, IsInOwnSlot, put_events, put_steps, write_events, write_steps};
+ghost use Rattle.df_prepares.specs.Slots.{slot_place, IsInOwnSlot, prepare_put_events, put_steps, write_events, prepare_write_steps};
 
 use df_base::Failed;
 use df_buffers::{Prepare, Sound};
@@ -39,8 +39,8 @@ pub fn put_prepare<D: Disk>(
     unit: &Sound<Prepare>,
 ) -> Result<(), Failed>
     requires layout { unit.now.layout ≡ layout.now }
-    ensures events { Adds (put_events layout.now unit.now) (D.told disk.old) (D.told disk.new) result }
-    ensures steps { AreSteps (format_of layout.now unit.now.unit.header.cluster) (put_events layout.now unit.now) (put_steps unit.now.unit) }
+    ensures events { Adds (prepare_put_events layout.now unit.now) (D.told disk.old) (D.told disk.new) result }
+    ensures steps { AreSteps (format_of layout.now unit.now.unit.header.cluster) (prepare_put_events layout.now unit.now) (put_steps unit.now.unit) }
     ensures own { IsInOwnSlot layout.now unit.now.unit }
     ensures brings { Brings layout.now unit.now.unit.header.cluster (slot_place unit.now.unit.header.slot) unit.now.unit (take (sectors_end unit.now.unit.header.size) unit.now.bytes) }
     ensures cause { HasCause (D.faults disk.old) (D.faults disk.new) result }
@@ -58,7 +58,7 @@ pub fn write_prepare<D: Disk>(
 ) -> Result<(), Failed>
     requires layout { unit.now.layout ≡ layout.now }
     ensures events { Adds (write_events layout.now unit.now) (D.told disk.old) (D.told disk.new) result }
-    ensures steps { AreSteps (format_of layout.now unit.now.unit.header.cluster) (write_events layout.now unit.now) (write_steps unit.now.unit) }
+    ensures steps { AreSteps (format_of layout.now unit.now.unit.header.cluster) (write_events layout.now unit.now) (prepare_write_steps unit.now.unit) }
     ensures own { IsInOwnSlot layout.now unit.now.unit }
     ensures brings { Brings layout.now unit.now.unit.header.cluster (slot_place unit.now.unit.header.slot) unit.now.unit (take (sectors_end unit.now.unit.header.size) unit.now.bytes) }
     ensures cause { HasCause (D.faults disk.old) (D.faults disk.new) result }

@@ -1,19 +1,19 @@
 -- The laws of the choice.
 use Rattle.std.proofs.Common.{◌≡◌, inl, inr, ℕ, zero, suc, ◌≤◌, ◌<◌, ◌⊎◌, Option, Some, sym, ◌∙◌, ap, arith}
 use Rattle.std.proofs.lemmas.Bool.{cases_lt, cases_eq}
-use Rattle.df_format.specs.Copies.{Content, rank_of}
-use Rattle.df_quorum.specs.Quorum.{Copies, Agree, IsChosen}
+use Rattle.df_format.specs.Copies.{Content, rank_of_copy}
+use Rattle.df_quorum.specs.Quorum.{Copies, CopiesAgree, IsChosenContent}
 use Rattle.df_quorum.specs.Laws.{OneLaw, ThreeLaw, TwoLaw, SameLaw}
 
 -- one place shows one content
 pub same_content : (copies : Copies) (n : ℕ) (c d : Content) → copies n ≡ Some c → copies n ≡ Some d → c ≡ d
 same_content copies n c d at_c at_d = let e : Some c ≡ Some d = sym at_c ∙ at_d in cc
 
-pub same_rank : (c d : Content) → c ≡ d → rank_of c ≡ rank_of d
-same_rank c d e = ap (λ (x : Content). rank_of x) e
+pub same_rank : (c d : Content) → c ≡ d → rank_of_copy c ≡ rank_of_copy d
+same_rank c d e = ap (λ (x : Content). rank_of_copy x) e
 
 -- of two places that show a content, in any order
-pub agree_at : (copies : Copies) (c : Content) (a b : ℕ) → a < 4 → b < 4 → (a ≡ b → ⊥) → copies a ≡ Some c → copies b ≡ Some c → Agree copies c
+pub agree_at : (copies : Copies) (c : Content) (a b : ℕ) → a < 4 → b < 4 → (a ≡ b → ⊥) → copies a ≡ Some c → copies b ≡ Some c → CopiesAgree copies c
 agree_at copies c a b a_in b_in apart at_a at_b =
     elim (cases_lt a b) [
       | inl less ↦ record { first = a; second = b; apart = less; inside = b_in; at_first = at_a; at_second = at_b }
@@ -24,10 +24,10 @@ agree_at copies c a b a_in b_in apart at_a at_b =
     ]
 
 -- a content that two copies show, where whatever else two copies show ranks below it
-pub chosen_above : (copies : Copies) (c : Content) → Agree copies c → ((d : Content) → Agree copies d → (d ≡ c) ⊎ (rank_of d < rank_of c)) → IsChosen copies c
+pub chosen_above : (copies : Copies) (c : Content) → CopiesAgree copies c → ((d : Content) → CopiesAgree copies d → (d ≡ c) ⊎ (rank_of_copy d < rank_of_copy c)) → IsChosenContent copies c
 chosen_above copies c agreed above = record {
   agreed = agreed;
-  greatest = λ d a. elim (above d a) [ inl same ↦ (let e : rank_of d ≡ rank_of c = same_rank d c same in omega arith) | inr below ↦ omega arith ];
+  greatest = λ d a. elim (above d a) [ inl same ↦ (let e : rank_of_copy d ≡ rank_of_copy c = same_rank d c same in omega arith) | inr below ↦ omega arith ];
   lowest = λ d a tie n inside at_n. elim (above d a) [
     | inl same ↦ (n, omega arith, at_n ∙ ap (λ (x : Content). let o : Option Content = Some x in o) same)
     | inr below ↦ absurd (omega arith)
@@ -38,7 +38,7 @@ pub two_law : TwoLaw
 two_law copies c a b a_in b_in apart at_a at_b above = chosen_above copies c (agree_at copies c a b a_in b_in apart at_a at_b) above
 
 -- two places that aren't this one
-three_agree : (copies : Copies) (c : Content) (odd : ℕ) → ((n : ℕ) → n < 4 → (n ≡ odd → ⊥) → copies n ≡ Some c) → Agree copies c
+three_agree : (copies : Copies) (c : Content) (odd : ℕ) → ((n : ℕ) → n < 4 → (n ≡ odd → ⊥) → copies n ≡ Some c) → CopiesAgree copies c
 three_agree copies c odd shown =
     elim (cases_eq 0 odd) [
       | inl zeroth ↦ agree_at copies c 1 2 (omega arith) (omega arith) (λ e. omega arith) (shown 1 (omega arith) (λ e. omega arith)) (shown 2 (omega arith) (λ e. omega arith))
@@ -49,7 +49,7 @@ three_agree copies c odd shown =
     ]
 
 -- of two places one isn't the odd one
-three_same : (copies : Copies) (c d : Content) (odd : ℕ) → ((n : ℕ) → n < 4 → (n ≡ odd → ⊥) → copies n ≡ Some c) → Agree copies d → d ≡ c
+three_same : (copies : Copies) (c d : Content) (odd : ℕ) → ((n : ℕ) → n < 4 → (n ≡ odd → ⊥) → copies n ≡ Some c) → CopiesAgree copies d → d ≡ c
 three_same copies c d odd shown a =
     let apart : a.first < a.second = a.apart in
     let inside : a.second < 4 = a.inside in
@@ -62,7 +62,7 @@ pub three_law : ThreeLaw
 three_law copies c odd shown = chosen_above copies c (three_agree copies c odd shown) (λ d a. inl (three_same copies c d odd shown a))
 
 -- what the four places show decides whether two agree
-same_agree : (one two : Copies) (c : Content) → ((n : ℕ) → n < 4 → one n ≡ two n) → Agree two c → Agree one c
+same_agree : (one two : Copies) (c : Content) → ((n : ℕ) → n < 4 → one n ≡ two n) → CopiesAgree two c → CopiesAgree one c
 same_agree one two c same a =
     let apart : a.first < a.second = a.apart in
     let inside : a.second < 4 = a.inside in
@@ -103,9 +103,9 @@ descend copies c d under_d under_c (suc bound) n below inside at_n =
 
 pub one_law : OneLaw
 one_law copies c d is_c is_d =
-    let up : rank_of c ≤ rank_of d = is_d.greatest c is_c.agreed in
-    let down : rank_of d ≤ rank_of c = is_c.greatest d is_d.agreed in
-    let tie : rank_of d ≡ rank_of c = omega arith in
+    let up : rank_of_copy c ≤ rank_of_copy d = is_d.greatest c is_c.agreed in
+    let down : rank_of_copy d ≤ rank_of_copy c = is_c.greatest d is_d.agreed in
+    let tie : rank_of_copy d ≡ rank_of_copy c = omega arith in
     let apart : is_c.agreed.first < is_c.agreed.second = is_c.agreed.apart in
     let inside : is_c.agreed.second < 4 = is_c.agreed.inside in
     descend copies c d (is_c.lowest d is_d.agreed tie) (is_d.lowest c is_c.agreed (sym tie)) 4 is_c.agreed.first (omega arith) (omega arith) is_c.agreed.at_first

@@ -2,7 +2,7 @@
 use Rattle.std.specs.Prelude.{◌≡◌, ◌<◌, ◌≤◌, ◌↔◌, ℕ, Bool, false, IsTrue, List, get_or, Option, Some, None}
 use Rattle.df_layout.specs.declared.damage.Class.{Class}
 use Rattle.df_layout.specs.declared.damage.Class.TheVariants.{Blank}
-use Rattle.df_format.specs.Copies.{Content, content_of, if_here, rank_of, class_of_sound}
+use Rattle.df_format.specs.Copies.{Content, content_in_copy, if_here, rank_of_copy, class_of_sound}
 use Rattle.df_format.specs.declared.superblock.SuperCopy.{SuperCopy}
 use Rattle.df_format.specs.declared.superblock.SuperFields.{SuperFields}
 use Rattle.df_quorum.specs.declared.slot.Slot.{Slot}
@@ -13,7 +13,7 @@ abbrev pub Copies : Type 0
 Copies = ℕ → Option Content
 
 -- two copies show this content
-pub record Agree (copies : Copies) (c : Content) : Type 0 where
+pub record CopiesAgree (copies : Copies) (c : Content) : Type 0 where
   pub first : ℕ
   pub second : ℕ
   pub apart : first < second
@@ -22,23 +22,23 @@ pub record Agree (copies : Copies) (c : Content) : Type 0 where
   pub at_second : copies second ≡ Some c
 
 -- the greatest content on which at least two copies agree; where two tie, the one of the lowest-numbered copy
-pub record IsChosen (copies : Copies) (c : Content) : Type 0 where
-  pub agreed : Agree copies c
-  pub greatest : (d : Content) → Agree copies d → rank_of d ≤ rank_of c
-  pub lowest : (d : Content) → Agree copies d → rank_of d ≡ rank_of c → (n : ℕ) → n < 4 → copies n ≡ Some d → (k : ℕ) × (k ≤ n) × (copies k ≡ Some c)
+pub record IsChosenContent (copies : Copies) (c : Content) : Type 0 where
+  pub agreed : CopiesAgree copies c
+  pub greatest : (d : Content) → CopiesAgree copies d → rank_of_copy d ≤ rank_of_copy c
+  pub lowest : (d : Content) → CopiesAgree copies d → rank_of_copy d ≡ rank_of_copy c → (n : ℕ) → n < 4 → copies n ≡ Some d → (k : ℕ) × (k ≤ n) × (copies k ≡ Some c)
 
 -- no two copies agree
-abbrev pub IsSplit : Copies → Type 0
-IsSplit copies = (c : Content) → Agree copies c → ⊥
+abbrev pub CopiesAreSplit : Copies → Type 0
+CopiesAreSplit copies = (c : Content) → CopiesAgree copies c → ⊥
 
 -- the chosen content, or none where no two copies agree
 abbrev pub IfChosen : Copies → Option Content → Type 0
-IfChosen copies None = IsSplit copies
-IfChosen copies (Some c) = IsChosen copies c
+IfChosen copies None = CopiesAreSplit copies
+IfChosen copies (Some c) = IsChosenContent copies c
 
 -- these are the fields of the chosen content
 abbrev pub HasChosen : Copies → SuperFields → Type 0
-HasChosen copies fields = (c : Content) × IsChosen copies c × (c.fields ≡ fields)
+HasChosen copies fields = (c : Content) × IsChosenContent copies c × (c.fields ≡ fields)
 
 -- true exactly at the numbers of the copies that show this content
 abbrev pub AreMembers : Copies → Content → List Bool → Type 0
@@ -59,7 +59,7 @@ nothing = Bad Blank
 
 -- the content that each of these slots shows: that of a sound copy at its own place alone
 abbrev pub copies_of : List Slot → Copies
-copies_of slots n = content_of (if_here n (copy_of (get_or slots n nothing)))
+copies_of slots n = content_in_copy (if_here n (copy_of (get_or slots n nothing)))
 
 -- the class of what the slot of this number holds, where it isn't used
 abbrev pub class_in : ℕ → Slot → Class

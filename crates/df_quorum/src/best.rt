@@ -1,6 +1,6 @@
 // The best of the copies that another one agrees with.
 ghost use Rattle.std.specs.Prelude.{◌≡◌, nat_lt, option_copied};
-ghost use Rattle.df_format.specs.Copies.{content_of, rank_of};
+ghost use Rattle.df_format.specs.Copies.{content_in_copy, rank_of_copy};
 ghost use Rattle.df_quorum.specs.Quorum.{copies_of, content_of_copy, IfChosen};
 ghost use Rattle.df_quorum.specs.Best.{better_of, is_below};
 
@@ -17,7 +17,7 @@ fn is_below(sequence: u64, boot: u64, other_sequence: u64, other_boot: u64) -> b
 
 // Whether a content comes after another one, by the two numbers as they stand in the copies, whatever their version.
 fn outranks(one: &SuperCopy, other: &SuperCopy) -> bool
-    ensures { result ≡ nat_lt (rank_of (content_of_copy other.now)) (rank_of (content_of_copy one.now)) }
+    ensures { result ≡ nat_lt (rank_of_copy (content_of_copy other.now)) (rank_of_copy (content_of_copy one.now)) }
 {
     is_below(
         other.fields.sequence,
@@ -29,7 +29,7 @@ fn outranks(one: &SuperCopy, other: &SuperCopy) -> bool
 
 // The greater of two, and the first one where they tie.
 fn better<'a>(best: Option<&'a SuperCopy>, next: Option<&'a SuperCopy>) -> Option<&'a SuperCopy>
-    ensures { content_of (option_copied result) ≡ better_of (content_of (option_copied best.entry)) (content_of (option_copied next.entry)) }
+    ensures { content_in_copy (option_copied result) ≡ better_of (content_in_copy (option_copied best.entry)) (content_in_copy (option_copied next.entry)) }
 {
     match (best, next) {
         (Some(one), Some(other)) => if outranks(other, one) {
@@ -44,7 +44,7 @@ fn better<'a>(best: Option<&'a SuperCopy>, next: Option<&'a SuperCopy>) -> Optio
 
 /// A copy of the content that is chosen. None where no two copies agree.
 pub fn best_of(copies: &[Slot; 4]) -> Option<&SuperCopy>
-    ensures { IfChosen (copies_of copies.now) (content_of (option_copied result)) }
+    ensures { IfChosen (copies_of copies.now) (content_in_copy (option_copied result)) }
 {
     let mut best: Option<&SuperCopy> = None;
     for number in 0..4 {

@@ -1,7 +1,7 @@
 // The choice, and why there is none.
 ghost use Rattle.std.specs.Prelude.{◌≡◌, ◌↔◌, true, is_err, IfOk, IfErr, IsOkAnd};
 ghost use Rattle.df_format.specs.Copies.{Content};
-ghost use Rattle.df_quorum.specs.Quorum.{copies_of, AreClasses, AreMembers, HasChosen, IsChosen, IsSplit};
+ghost use Rattle.df_quorum.specs.Quorum.{copies_of, AreClasses, AreMembers, HasChosen, IsChosenContent, CopiesAreSplit};
 
 use crate::Slot;
 use crate::best::best_of;
@@ -35,9 +35,9 @@ fn classes(copies: &[Slot; 4]) -> [Class; 4]
 /// agree, the class of each place: a sound copy is `Stale` at its own place, and else `Elsewhere` with that place.
 pub fn choose(copies: &[Slot; 4]) -> Result<Chosen, [Class; 4]>
     ensures content { IfOk result (λ chosen. HasChosen (copies_of copies.now) chosen.content) }
-    ensures exactly { (c : Content) → IsChosen (copies_of copies.now) c → IsOkAnd result (λ chosen. chosen.content ≡ c.fields) }
-    ensures members { (c : Content) → IsChosen (copies_of copies.now) c → IsOkAnd result (λ chosen. AreMembers (copies_of copies.now) c chosen.members) }
-    ensures split { (is_err result ≡ true) ↔ IsSplit (copies_of copies.now) }
+    ensures exactly { (c : Content) → IsChosenContent (copies_of copies.now) c → IsOkAnd result (λ chosen. chosen.content ≡ c.fields) }
+    ensures members { (c : Content) → IsChosenContent (copies_of copies.now) c → IsOkAnd result (λ chosen. AreMembers (copies_of copies.now) c chosen.members) }
+    ensures split { (is_err result ≡ true) ↔ CopiesAreSplit (copies_of copies.now) }
     ensures classes { IfErr result (λ classes. AreClasses copies.now classes) }
 {
     match best_of(copies) {

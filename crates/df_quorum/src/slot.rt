@@ -1,6 +1,6 @@
 // What the place of a copy holds, and what it counts for.
 ghost use Rattle.std.specs.Prelude.{◌≡◌, ◌<◌, get_or, option_copied};
-ghost use Rattle.df_format.specs.Copies.{content_of};
+ghost use Rattle.df_format.specs.Copies.{content_in_copy};
 ghost use Rattle.df_quorum.specs.Quorum.{class_in, copies_of, nothing};
 
 use df_format::SuperCopy;
@@ -18,7 +18,7 @@ pub enum Slot {
 // The sound copy of this number that stands at its own place.
 pub fn shown(copies: &[Slot; 4], number: u8) -> Option<&SuperCopy>
     requires { number < 4 }
-    ensures { content_of (option_copied result) ≡ copies_of copies.now number }
+    ensures { content_in_copy (option_copied result) ≡ copies_of copies.now number }
 {
     match &copies[usize::from(number)] {
         Slot::Sound(copy) => if copy.number == number {

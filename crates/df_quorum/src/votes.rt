@@ -1,8 +1,8 @@
 // Which copies show the same content.
 ghost use Rattle.std.specs.Prelude.{◌≡◌, ◌<◌, ◌↔◌, IsTrue, Some, option_copied};
-ghost use Rattle.df_format.specs.Copies.{content_of};
+ghost use Rattle.df_format.specs.Copies.{content_in_copy};
 ghost use Rattle.df_quorum.specs.Quorum.{copies_of, content_of_copy, AreMembers};
-ghost use Rattle.df_quorum.specs.Best.{Votes, HasOther};
+ghost use Rattle.df_quorum.specs.Best.{Votes, HasOtherCopy};
 
 use crate::Slot;
 use crate::fields::same_fields;
@@ -28,7 +28,7 @@ fn shows(copies: &[Slot; 4], number: u8, wanted: &SuperCopy) -> bool
 
 // Whether another copy shows what this one does.
 fn has_second(copies: &[Slot; 4], number: u8, wanted: &SuperCopy) -> bool
-    ensures { IsTrue result ↔ HasOther (copies_of copies.now) number (content_of_copy wanted.now) }
+    ensures { IsTrue result ↔ HasOtherCopy (copies_of copies.now) number (content_of_copy wanted.now) }
 {
     for other in 0..4 {
         if other != number && shows(copies, other, wanted) {
@@ -41,7 +41,7 @@ fn has_second(copies: &[Slot; 4], number: u8, wanted: &SuperCopy) -> bool
 /// The copy that this place shows, if another one agrees with it.
 pub fn candidate(copies: &[Slot; 4], number: u8) -> Option<&SuperCopy>
     requires { number < 4 }
-    ensures { Votes (copies_of copies.now) number (content_of (option_copied result)) }
+    ensures { Votes (copies_of copies.now) number (content_in_copy (option_copied result)) }
 {
     let copy = shown(copies, number)?;
     if has_second(copies, number, copy) {

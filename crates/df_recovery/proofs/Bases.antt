@@ -22,7 +22,7 @@ use Rattle.df_units.specs.Superblocks.{AreFieldsOf}
 use Rattle.df_units.proofs.Laws.{usable_passes}
 use Rattle.df_trailer.specs.Reading.{HasRead}
 use Rattle.df_trailer.specs.Rooms.{AreParts}
-use Rattle.df_trailer.specs.Sessions.{AreRead}
+use Rattle.df_trailer.specs.Sessions.{AreReadSessions}
 use Rattle.df_trailer.specs.Text.{parse_of, parts_of}
 use Rattle.df_trailer.specs.declared.parts.Parts as rooms
 use Rattle.df_trailer.specs.declared.reader.Reader.{Reader}
@@ -31,7 +31,7 @@ use Rattle.df_grid.specs.Reads.{shown_of}
 use Rattle.df_grid.specs.Table.{IsIdle, no_blocks}
 use Rattle.df_checkpoint.specs.Chain.{OfTold, content_in, error_of}
 use Rattle.df_checkpoint.specs.Reads.{ChainAnswer, IsAdopted, blocks_read}
-use Rattle.df_checkpoint.specs.Waiting.{IsPending, IsUntracked}
+use Rattle.df_checkpoint.specs.Waiting.{IsPendingReply, IsUntracked}
 use Rattle.df_checkpoint.specs.declared.fault.TrailerFault.{TrailerFault}
 use Rattle.df_checkpoint.specs.declared.fault.TrailerFault.TheVariants.{BadField, Damaged, DiskFault}
 use Rattle.df_checkpoint.proofs.Laws.{its_text, some_chain, sessions_back, has_is, has_not}
@@ -134,7 +134,7 @@ module _ (file : DataFile) (shown : Shown) (f : SuperFields) (g : GridState) (re
 -- ---- the ops that wait
 
 -- each of them has its session
-text_tracked : (file : DataFile) (image : Units.Units) (f : SuperFields) (base : Base) → HasText file image f base → AreRead file.layout.clients f.op base.sessions → IsPending base.sessions f.replies f.op None → HasCheckpoint file image f base
+text_tracked : (file : DataFile) (image : Units.Units) (f : SuperFields) (base : Base) → HasText file image f base → AreReadSessions file.layout.clients f.op base.sessions → IsPendingReply base.sessions f.replies f.op None → HasCheckpoint file image f base
 text_tracked file image f base text read pending = record {
   chain = text.chain;
   parts = text.parts;
@@ -147,7 +147,7 @@ text_tracked file image f base text read pending = record {
 }
 
 -- one of them has none
-text_untracked : (file : DataFile) (shown : Shown) (f : SuperFields) (base : Base) (n : ℕ) → HasText file shown.units f base → 0 < f.trailer_address → IsPending base.sessions f.replies f.op (Some n) → IsUntracked (shape file) shown (content_in f) n
+text_untracked : (file : DataFile) (shown : Shown) (f : SuperFields) (base : Base) (n : ℕ) → HasText file shown.units f base → 0 < f.trailer_address → IsPendingReply base.sessions f.replies f.op (Some n) → IsUntracked (shape file) shown (content_in f) n
 text_untracked file shown f base n text named lacking = record {
   chain = text.chain;
   whole = record {
@@ -174,12 +174,12 @@ told_text file None f g h reader parts layout cluster same answer gives = tt
 told_text file (Some t) f g h reader parts layout cluster same answer gives =
     adopted_text file (shown_of h.layout h.cluster t.shown) f g reader parts answer same gives (unit_at file.layout file.cluster t.shown) (λ i. unit_at (layout i) (cluster i) t.shown)
 
-pub told_base : (file : DataFile) (told : Option Told) (f : SuperFields) (base : Base) → TellsText file told f base → AreRead file.layout.clients f.op base.sessions → IsPending base.sessions f.replies f.op None → TellsCheckpoint file told f (Ok base)
+pub told_base : (file : DataFile) (told : Option Told) (f : SuperFields) (base : Base) → TellsText file told f base → AreReadSessions file.layout.clients f.op base.sessions → IsPendingReply base.sessions f.replies f.op None → TellsCheckpoint file told f (Ok base)
 told_base file None f base text read pending = tt
 told_base file (Some t) f base text read pending = text_tracked file (unit_at file.layout file.cluster t.shown) f base text read pending
 
 -- an op that waits has no session
-pub told_untracked : (file : DataFile) (told : Option Told) (f : SuperFields) (base : Base) (n : ℕ) → f.trailer_address ≢ 0 → TellsText file told f base → IsPending base.sessions f.replies f.op (Some n) → TellsCheckpoint file told f (Err (OpenError.BadField Pending n))
+pub told_untracked : (file : DataFile) (told : Option Told) (f : SuperFields) (base : Base) (n : ℕ) → f.trailer_address ≢ 0 → TellsText file told f base → IsPendingReply base.sessions f.replies f.op (Some n) → TellsCheckpoint file told f (Err (OpenError.BadField Pending n))
 told_untracked file None f base n named text lacking = tt
 told_untracked file (Some t) f base n named text lacking =
     let some = some_number f.trailer_address named in (

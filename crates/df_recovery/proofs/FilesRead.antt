@@ -11,7 +11,7 @@ use Rattle.df_layout.specs.declared.layout.Layout.{Layout}
 use Rattle.df_format.specs.Copies.{Content, content_at, content_with}
 use Rattle.df_format.specs.SuperRules.{IsSuper}
 use Rattle.df_recovery.proofs.Asked.{passes_as, super_as}
-use Rattle.df_quorum.specs.Quorum.{AreMembers, IsChosen}
+use Rattle.df_quorum.specs.Quorum.{AreMembers, IsChosenContent}
 use Rattle.df_quorum.proofs.Laws.{one_law}
 use Rattle.df_sessions.specs.Requests.{sessions_of}
 use Rattle.df_theory.specs.Units
@@ -71,7 +71,7 @@ module _ (t : Told) (file : DataFile) (read : Read) (base : Base) (is : IsOfFile
   usable : IsSuper read.found.content
   usable = (super_as file.version read.found.content is.has.super.usable).1
 
-  chosen : IsChosen (content_at t.shown) (content_with read.found.content)
+  chosen : IsChosenContent (content_at t.shown) (content_with read.found.content)
   chosen = super_is_written_as file.version t.shown read.found.content is.image is.has.super
 
   lowest : IsLowest (unit_at file.layout file.cluster t.shown) (content_of (content_with read.found.content)) (lowest_of read.found.chosen.members)

@@ -25,7 +25,7 @@ use Rattle.df_group.specs.declared.reach.Reach.{Reach}
 use Rattle.df_journal.specs.Tail.{IsReached}
 use Rattle.df_group.specs.declared.groups.Tail.{Tail}
 use Rattle.df_replies.specs.Answers.{AllAnswered, StoredAreFound, stored_by}
-use Rattle.df_recovery.specs.Finding.{EachOpens, FindsView, IsReadFrom, IsRefused, IsScannedFrom, Read, damage, lowest_of}
+use Rattle.df_recovery.specs.Finding.{EachOpens, FindsView, IsReadFrom, IsRefusedOpen, IsScannedFrom, Read, damage, lowest_of}
 use Rattle.df_recovery.specs.Surveys.{class_there}
 use Rattle.df_recovery.specs.Known.{BlamesKnown, IsBaseOf}
 
@@ -59,8 +59,8 @@ counts_replies boot image rings seen none top n = (
 -- ---- the steps
 
 -- the refusal that names a place
-pub at_place : (read : Read) (at : Units.Place) (class : Class) (e : OpenError) → e ≡ damage at class → EachOpens read (Damages at) → ((t : Told) → IsScannedFrom t read → class ≡ class_there read.layout read.slots.start.cluster t.shown at) → IsRefused read e
-at_place read at class e is opens class_is = subst (IsRefused read) (sym is) (record { at = at; place_is = refl; opens = opens; class_is = class_is })
+pub at_place : (read : Read) (at : Units.Place) (class : Class) (e : OpenError) → e ≡ damage at class → EachOpens read (Damages at) → ((t : Told) → IsScannedFrom t read → class ≡ class_there read.layout read.slots.start.cluster t.shown at) → IsRefusedOpen read e
+at_place read at class e is opens class_is = subst (IsRefusedOpen read) (sym is) (record { at = at; place_is = refl; opens = opens; class_is = class_is })
 
 -- the slot of an op, by the layout and by the shape
 slot_same : (sh : Shape) (layout : Layout) (op slot : ℕ) → slots sh ≡ layout.slots → slot ≡ op % layout.slots → slot ≡ op % slots sh

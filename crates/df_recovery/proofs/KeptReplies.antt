@@ -9,7 +9,7 @@ use Rattle.df_layout.specs.declared.damage.Class.{Class}
 use Rattle.df_format.specs.declared.header.Header.{Header}
 use Rattle.df_sessions.specs.declared.session.Session.{Session}
 use Rattle.df_sessions.specs.Requests.{session_of}
-use Rattle.df_sessions.specs.Table.{with_reply}
+use Rattle.df_sessions.specs.Table.{with_reply_stored}
 use Rattle.df_theory.specs.Units
 use Rattle.df_theory.specs.Units.{AnyUnit, Message, ReplyPlace, ReplyUnit}
 use Rattle.df_theory.specs.View.{sessions}
@@ -21,7 +21,7 @@ use Rattle.df_rooms.specs.State.{reply_sum, stored_sum}
 
 -- ---- one place
 
-pub reply_there : (ss : List Session) (k : ℕ) (check : List ℕ) (s : Session) → slice_get ss k ≡ Some s → slice_get (with_reply k check ss) k ≡ Some (record s { reply = Some check })
+pub reply_there : (ss : List Session) (k : ℕ) (check : List ℕ) (s : Session) → slice_get ss k ≡ Some s → slice_get (with_reply_stored k check ss) k ≡ Some (record s { reply = Some check })
 reply_there [] k check s at = absurd (cc)
 reply_there (x ∷ ss) zero check s at = let one : x ≡ s = cc in ap (λ (y : Session). Some (record y { reply = Some check })) one
 reply_there (x ∷ ss) (suc k) check s at = reply_there ss k check s at

@@ -8,13 +8,13 @@ use Rattle.df_format.proofs.Laws.{same_copy, blank_copy_none}
 use Rattle.df_format.specs.declared.superblock.SuperFault.{SuperFault}
 use Rattle.df_format.specs.declared.superblock.SuperFault.TheVariants.{Version as OtherVersion, BadField as BrokenField}
 use Rattle.df_format.specs.declared.superblock.SuperFields.{SuperFields}
-use Rattle.df_quorum.specs.Quorum.{Agree, IsChosen}
+use Rattle.df_quorum.specs.Quorum.{CopiesAgree, IsChosenContent}
 use Rattle.df_quorum.proofs.Laws.{one_law}
 use Rattle.df_recovery.specs.Opening.{IsUnformatted, HasFaultAs, HasSuperAs, fault_as}
 use Rattle.df_recovery.specs.OpeningLaws.{SuperOrRefusal, OneSuper, OneRefusal}
 use Rattle.df_model.specs.declared.errors.OpenError.TheVariants.{NotFormatted, NoQuorum, Version, BadField, LayoutDiffers, Damaged, DiskFault, BootSpent}
 
-one_content : (image : Image) (c d : Content) → IsChosen (content_at image) c → IsChosen (content_at image) d → c ≡ d
+one_content : (image : Image) (c d : Content) → IsChosenContent (content_at image) c → IsChosenContent (content_at image) d → c ≡ d
 one_content image c d one two = one_law (content_at image) c d one two
 
 -- one content has one fault, or none
@@ -43,7 +43,7 @@ unfolding is_blank_copy blank
 blank_sector image n zeros = same_copy image blank n ((bytes_eq-Decides (image n) (replicate 4096 0)).0 zeros)
 
 -- sectors of zeros agree on nothing
-nothing_chosen : (image : Image) (c : Content) → IsUnformatted image → Agree (content_at image) c → ⊥
+nothing_chosen : (image : Image) (c : Content) → IsUnformatted image → CopiesAgree (content_at image) c → ⊥
 nothing_chosen image c zeros agree =
     let none : content_at image agree.second ≡ None = blank_sector image agree.second (zeros agree.second agree.inside) ∙ blank_copy_none agree.second in
     let some : content_at image agree.second ≡ Some c = agree.at_second in

@@ -11,7 +11,7 @@ use Rattle.df_recovery.proofs.Asked.{super_as}
 use Rattle.df_format.specs.SuperRules.{IsSuper}
 use Rattle.df_format.specs.declared.superblock.SuperFields.{SuperFields}
 use Rattle.df_theory.specs.Units
-use Rattle.df_theory.specs.Opens.{Answer, BadField as BadTest, BootSpent as NoBoot, Damaged as Damages, Opens, Refused}
+use Rattle.df_theory.specs.Opens.{BadField as BadTest, BootSpent as NoBoot, Damaged as Damages, OpenAnswer, Opens, Refused}
 use Rattle.df_theory.proofs.Laws.{one_answer_law}
 use Rattle.df_model.specs.declared.errors.OpenError.{OpenError}
 use Rattle.df_model.specs.declared.errors.OpenError.TheVariants.{NotFormatted, NoQuorum, Version, BadField, LayoutDiffers, Damaged, DiskFault, BootSpent}
@@ -26,7 +26,7 @@ use Rattle.df_rooms.specs.State.{shape}
 use Rattle.df_rooms.specs.declared.file.DataFile.{DataFile}
 use Rattle.df_recovery.specs.Opening.{HasSuperAs, IsLayoutOf, RefusesAs}
 use Rattle.df_recovery.specs.SurveyLaws.{OneSurvey}
-use Rattle.df_recovery.specs.Surveys.{FailsTrailer, HasFile, HasOther, IsAsked, IsDamaged, IsSpent, SurveysAs, class_there}
+use Rattle.df_recovery.specs.Surveys.{FailsTrailer, HasFile, HasOther, IsAsked, IsDamagedFile, IsSpent, SurveysAs, class_there}
 use Rattle.df_recovery.proofs.OneAnswer.{one_refusal_as, one_super_as, super_or_refusal_as}
 
 one_layout : (a b : Layout) (f : SuperFields) → IsLayoutOf a f → IsLayoutOf b f → a ≡ b
@@ -52,11 +52,11 @@ module _ (version : ℕ) (layout : Layout) (image : Image) where
       one_test (shape one.file) (shown_of layout one.file.cluster image) (content_in one.fields) field other value number refl usable.op one.fails
       (subst (λ (g : SuperFields). FailsTest (shape one.file) (shown_of layout one.file.cluster image) (content_in g) other number) (sym same.1) of_file)
 
-  same_answer : (a b : DataFile) (f g : SuperFields) (x y : Answer) → HasFile image a f → HasFile image b g → IsAsked version layout a → IsAsked version layout b → Opens (shape a) (unit_at layout a.cluster image) x → Opens (shape b) (unit_at layout b.cluster image) y → x ≡ y
+  same_answer : (a b : DataFile) (f g : SuperFields) (x y : OpenAnswer) → HasFile image a f → HasFile image b g → IsAsked version layout a → IsAsked version layout b → Opens (shape a) (unit_at layout a.cluster image) x → Opens (shape b) (unit_at layout b.cluster image) y → x ≡ y
   same_answer a b f g x y one two first second opens other =
       one_answer_law (shape a) (unit_at layout a.cluster image) x y opens (subst (λ (z : DataFile). Opens (shape z) (unit_at layout z.cluster image) y) (sym (one_file a b f g one two first second).0) other)
 
-  one_place : (place other : Place) (class kind : Class) → IsDamaged version layout image place class → IsDamaged version layout image other kind → (place ≡ other) × (class ≡ kind)
+  one_place : (place other : Place) (class kind : Class) → IsDamagedFile version layout image place class → IsDamagedFile version layout image other kind → (place ≡ other) × (class ≡ kind)
   one_place place other class kind one two =
       let same = one_file one.file two.file one.fields two.fields one.has two.has one.of two.of in
       let both : Refused (Damages one.at) ≡ Refused (Damages two.at) = same_answer one.file two.file one.fields two.fields (Refused (Damages one.at)) (Refused (Damages two.at)) one.has two.has one.of two.of one.opens two.opens in
@@ -72,7 +72,7 @@ module _ (version : ℕ) (layout : Layout) (image : Image) where
   no_other reserved found file f other has of = other.differ (one_layout found file.layout f (subst (IsLayoutOf found) (one_super_as version file.version image other.fields f other.super has.super) other.found_is) has.layout ∙ of.layout_is)
 
   -- a bad field, a place and a spent boot are different answers of the theory
-  not_both : (field : Field) (value : ℕ) (place : Place) (class : Class) → FailsTrailer version layout image field value → IsDamaged version layout image place class → ⊥
+  not_both : (field : Field) (value : ℕ) (place : Place) (class : Class) → FailsTrailer version layout image field value → IsDamagedFile version layout image place class → ⊥
   not_both field value place class one two =
       let both : Refused BadTest ≡ Refused (Damages two.at) = same_answer one.file two.file one.fields two.fields (Refused BadTest) (Refused (Damages two.at)) one.has two.has one.of two.of one.opens two.opens in
       cc
@@ -82,7 +82,7 @@ module _ (version : ℕ) (layout : Layout) (image : Image) where
       let both : Refused BadTest ≡ Refused NoBoot = same_answer one.file two.file one.fields two.fields (Refused BadTest) (Refused NoBoot) one.has two.has one.of two.of one.opens two.opens in
       cc
 
-  place_unspent : (place : Place) (class : Class) → IsDamaged version layout image place class → IsSpent version layout image → ⊥
+  place_unspent : (place : Place) (class : Class) → IsDamagedFile version layout image place class → IsSpent version layout image → ⊥
   place_unspent place class one two =
       let both : Refused (Damages one.at) ≡ Refused NoBoot = same_answer one.file two.file one.fields two.fields (Refused (Damages one.at)) (Refused NoBoot) one.has two.has one.of two.of one.opens two.opens in
       cc
@@ -93,7 +93,7 @@ module _ (version : ℕ) (layout : Layout) (image : Image) where
   abbrev IsBehind : OpenError → Type 0
   IsBehind e = ((field : Field) × (value : ℕ) × (e ≡ BadField field value) × FailsTrailer version layout image field value)
       ⊎ (((reserved : Layout) × (found : Layout) × (e ≡ LayoutDiffers reserved found) × HasOther version layout reserved found image)
-      ⊎ (((place : Place) × (class : Class) × (e ≡ Damaged place class) × IsDamaged version layout image place class) ⊎ ((e ≡ BootSpent) × IsSpent version layout image)))
+      ⊎ (((place : Place) × (class : Class) × (e ≡ Damaged place class) × IsDamagedFile version layout image place class) ⊎ ((e ≡ BootSpent) × IsSpent version layout image)))
 
   apart : (e : OpenError) → e ≢ DiskFault → SurveysAs version layout image (Err e) → RefusesAs version image e ⊎ IsBehind e
   apart NotFormatted other is = inl is

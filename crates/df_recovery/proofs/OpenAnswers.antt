@@ -19,7 +19,7 @@ use Rattle.df_journal.specs.Tail.{EndsAt}
 use Rattle.df_recovery.specs.Checkpoints.{Base, base_of}
 use Rattle.df_journal.specs.declared.table.Start.{Start}
 use Rattle.df_recovery.specs.Waiting.{waiting_sum}
-use Rattle.df_recovery.specs.Finding.{Answers, EachOpens, HasHeaders, IsKept, IsOfFile, IsReadFrom, Keeps, KeptIsAnswer, Read, RefusedIsAnswer, StoresTo, base_with}
+use Rattle.df_recovery.specs.Finding.{AnswersFinding, EachOpens, HasHeaders, IsOfFile, IsReadFrom, KeepsTraces, KeptIsAnswer, Read, RefusedIsAnswer, StateKeepsView, StoresTo, base_with}
 use Rattle.df_rooms.specs.State.{State, shape}
 use Rattle.df_recovery.specs.declared.finding.Traces.{Traces}
 use Rattle.df_base.specs.Image.{Image}
@@ -61,7 +61,7 @@ refused_is_answer t file read base (BadField field value) is refused = absurd re
 refused_is_answer t file read base (LayoutDiffers reserved found) is refused = absurd refused
 refused_is_answer t file read base DiskFault is refused = absurd refused
 
-module _ (t : Told) (read : Read) (traces : Traces) (after : List Session) (s : State) (is : IsOfFile t s.file read (base_with s read.sessions)) (kept : IsKept read traces after s) (headers : HasHeaders (unit_at s.file.layout s.file.cluster t.shown) s) where
+module _ (t : Told) (read : Read) (traces : Traces) (after : List Session) (s : State) (is : IsOfFile t s.file read (base_with s read.sessions)) (kept : KeepsTraces read traces after s) (headers : HasHeaders (unit_at s.file.layout s.file.cluster t.shown) s) where
   abbrev image : Units.Units
   image = unit_at s.file.layout s.file.cluster t.shown
 
@@ -78,7 +78,7 @@ module _ (t : Told) (read : Read) (traces : Traces) (after : List Session) (s : 
       ap (map number_of) kept.waiting ∙ waiting_known s image read.slots (range_with_len (s.replies + 1) (s.head - s.replies)) start from.tells.shows
 
   -- what is kept of the traces is what a state keeps of the view
-  keeps_view : (v : View) → v.checkpoint ≡ base → EndsAt v.checkpoint v.tail traces.tail after → v.replies ≡ traces.replies → IsFound (shape s.file) image v → Keeps (shape s.file) image v s
+  keeps_view : (v : View) → v.checkpoint ≡ base → EndsAt v.checkpoint v.tail traces.tail after → v.replies ≡ traces.replies → IsFound (shape s.file) image v → StateKeepsView (shape s.file) image v s
   keeps_view v same ends replies found = record {
     content = ap (λ (b : Checkpoint). b.content) same ∙ ap (λ (f : SuperFields). content_of (content_with f)) (sym kept.fields);
     root_is = is.checkpoint.root_is ∙ ap (λ (b : Checkpoint). b.parts.root) (sym same);
@@ -95,7 +95,7 @@ module _ (t : Told) (read : Read) (traces : Traces) (after : List Session) (s : 
     starts = kept.starts;
   }
 
-  pub kept_answer : Answers read (Ok traces) after → SurveysAs s.file.version s.file.layout t.shown (Ok s)
+  pub kept_answer : AnswersFinding read (Ok traces) after → SurveysAs s.file.version s.file.layout t.shown (Ok s)
   kept_answer answers =
       let first = answers (shape s.file) image base from in
       let ends : EndsAt first.view.checkpoint first.view.tail traces.tail after = subst (λ (c : Checkpoint). EndsAt c first.view.tail traces.tail after) (sym first.checkpoint) first.ends in

@@ -17,10 +17,10 @@ use Rattle.df_theory.specs.Tails.{Chain, In}
 use Rattle.df_theory.specs.View.{View, head, sessions}
 use Rattle.df_model.specs.Memory
 use Rattle.df_model.specs.Memory.{sum_of_message}
-use Rattle.df_model.specs.Work.{checksum_of, checksum_of_op, opened, waiting_checksum}
+use Rattle.df_model.specs.Work.{checksum_of_op, opened, prepare_checksum, waiting_checksum}
 use Rattle.df_units.specs.Meaning.{layout_of, number_of}
-use Rattle.df_recovery.specs.Finding.{Keeps, StateIsOpened}
-use Rattle.df_rooms.specs.State.{State, course_in, memory, prepare_sum, shape, spelling, stored_sum, sum_of}
+use Rattle.df_recovery.specs.Finding.{StateIsOpened, StateKeepsView}
+use Rattle.df_rooms.specs.State.{State, course_in, memory, prepare_sum, shape, spelling, stored_sum, sum_of_header}
 use Rattle.df_recovery.specs.Waiting.{waiting_sum}
 
 -- ---- lists
@@ -34,14 +34,14 @@ map_range f g a (suc n) same =
     λ i. first i ∷ rest i
 
 -- the checksums of a list of prepares, by op
-sums_of : (ps : List Message) (a : ℕ) → map (λ o. checksum_of (slice_get ps (o - a))) (range_with_len a (length ps)) ≡ map sum_of_message ps
+sums_of : (ps : List Message) (a : ℕ) → map (λ o. prepare_checksum (slice_get ps (o - a))) (range_with_len a (length ps)) ≡ map sum_of_message ps
 sums_of [] a = refl
 sums_of (p ∷ ps) a =
-    let first : checksum_of (slice_get (p ∷ ps) (a - a)) ≡ p.header.checksum = (let none : a - a ≡ 0 = omega arith in ap (λ (n : ℕ). checksum_of (slice_get (p ∷ ps) n)) none) in
-    let turn : map (λ o. checksum_of (slice_get (p ∷ ps) (o - a))) (range_with_len (a + 1) (length ps)) ≡ map (λ o. checksum_of (slice_get ps (o - (a + 1)))) (range_with_len (a + 1) (length ps)) =
-    map_range (λ o. checksum_of (slice_get (p ∷ ps) (o - a))) (λ o. checksum_of (slice_get ps (o - (a + 1)))) (a + 1) (length ps)
-    (λ o from to. let one : o - a ≡ suc (o - (a + 1)) = omega (arith, from) in ap (λ (n : ℕ). checksum_of (slice_get (p ∷ ps) n)) one) in
-    let rest : map (λ o. checksum_of (slice_get (p ∷ ps) (o - a))) (range_with_len (a + 1) (length ps)) ≡ map sum_of_message ps = turn ∙ sums_of ps (a + 1) in
+    let first : prepare_checksum (slice_get (p ∷ ps) (a - a)) ≡ p.header.checksum = (let none : a - a ≡ 0 = omega arith in ap (λ (n : ℕ). prepare_checksum (slice_get (p ∷ ps) n)) none) in
+    let turn : map (λ o. prepare_checksum (slice_get (p ∷ ps) (o - a))) (range_with_len (a + 1) (length ps)) ≡ map (λ o. prepare_checksum (slice_get ps (o - (a + 1)))) (range_with_len (a + 1) (length ps)) =
+    map_range (λ o. prepare_checksum (slice_get (p ∷ ps) (o - a))) (λ o. prepare_checksum (slice_get ps (o - (a + 1)))) (a + 1) (length ps)
+    (λ o from to. let one : o - a ≡ suc (o - (a + 1)) = omega (arith, from) in ap (λ (n : ℕ). prepare_checksum (slice_get (p ∷ ps) n)) one) in
+    let rest : map (λ o. prepare_checksum (slice_get (p ∷ ps) (o - a))) (range_with_len (a + 1) (length ps)) ≡ map sum_of_message ps = turn ∙ sums_of ps (a + 1) in
     λ i. first i ∷ rest i
 
 -- what is stored, place by place
@@ -67,18 +67,18 @@ op_at clients op parent mark ss (q ∷ ps) zero p chain at =
     omega (arith, same, chain.0.op_is)
 op_at clients op parent mark ss (q ∷ ps) (suc k) p chain at = omega (arith, op_at clients (op + 1) q.header.checksum q.header.mark (noted q.header ss) ps k p chain.1 at)
 
-sum_here : (headers : List Header) (slot c : ℕ) → slot < length headers → ((h : Header) → slice_get headers slot ≡ Some h → number_of h.checksum ≡ c) → sum_of (slice_get headers slot) ≡ c
+sum_here : (headers : List Header) (slot c : ℕ) → slot < length headers → ((h : Header) → slice_get headers slot ≡ Some h → number_of h.checksum ≡ c) → sum_of_header (slice_get headers slot) ≡ c
 sum_here headers slot c within same = elim (slice_get_cases headers slot).1 [
-  | inl there ↦ ap sum_of there.2 ∙ same there.0 there.2
+  | inl there ↦ ap sum_of_header there.2 ∙ same there.0 there.2
   | inr past ↦ absurd (omega (arith, past.0, within))
 ]
 
-module _ (image : Units.Units) (v : View) (s : State) (found : IsFound (shape s.file) image v) (keeps : Keeps (shape s.file) image v s) where
+module _ (image : Units.Units) (v : View) (s : State) (found : IsFound (shape s.file) image v) (keeps : StateKeepsView (shape s.file) image v s) where
   op_is : s.fields.op ≡ v.checkpoint.content.op
   op_is = ap (λ (c : Content). c.op) (sym keeps.content)
 
   -- the header table knows each prepare of the tail
-  tail_sum : (o : ℕ) → v.checkpoint.content.op + 1 ≤ o → o < v.checkpoint.content.op + 1 + length v.tail → prepare_sum s o ≡ checksum_of (slice_get v.tail (o - (v.checkpoint.content.op + 1)))
+  tail_sum : (o : ℕ) → v.checkpoint.content.op + 1 ≤ o → o < v.checkpoint.content.op + 1 + length v.tail → prepare_sum s o ≡ prepare_checksum (slice_get v.tail (o - (v.checkpoint.content.op + 1)))
   tail_sum o from to = elim (slice_get_cases v.tail (o - (v.checkpoint.content.op + 1))).1 [
     | inl there ↦
         let p = there.0 in
@@ -86,7 +86,7 @@ module _ (image : Units.Units) (v : View) (s : State) (found : IsFound (shape s.
         let same : o ≡ p.header.op = omega (arith, op, from) in
         let here : o % s.file.layout.slots < length s.headers = omega (arith, keeps.count, mod_below o s.file.layout.slots (shape s.file).some) in
         sum_here s.headers (o % s.file.layout.slots) p.header.checksum here (λ h at. sym (ap (λ (x : Units.Header). x.checksum) ((keeps.headers (o % s.file.layout.slots) h at).tail p (in_at v.tail (o - (v.checkpoint.content.op + 1)) p there.2) (ap (λ (n : ℕ). n % s.file.layout.slots) same))))
-        ∙ sym (ap checksum_of there.2)
+        ∙ sym (ap prepare_checksum there.2)
     | inr past ↦ absurd (omega (arith, past.0, from, to))
   ]
 
@@ -94,7 +94,7 @@ module _ (image : Units.Units) (v : View) (s : State) (found : IsFound (shape s.
   prepares_are =
       let count : s.head - s.fields.op ≡ length v.tail = omega (arith, keeps.head_is, op_is) in
       ap (λ (n : ℕ). map (prepare_sum s) (range_with_len (n + 1) (s.head - s.fields.op))) op_is ∙ ap (λ (n : ℕ). map (prepare_sum s) (range_with_len (v.checkpoint.content.op + 1) n)) count
-      ∙ map_range (prepare_sum s) (λ o. checksum_of (slice_get v.tail (o - (v.checkpoint.content.op + 1)))) (v.checkpoint.content.op + 1) (length v.tail) tail_sum ∙ sums_of v.tail (v.checkpoint.content.op + 1)
+      ∙ map_range (prepare_sum s) (λ o. prepare_checksum (slice_get v.tail (o - (v.checkpoint.content.op + 1)))) (v.checkpoint.content.op + 1) (length v.tail) tail_sum ∙ sums_of v.tail (v.checkpoint.content.op + 1)
 
   -- a prepare that waits for its reply
   waits : (o : ℕ) → v.replies + 1 ≤ o → o < v.replies + 1 + (head v - v.replies) → waiting_sum s image o ≡ waiting_checksum (shape s.file) image v o
@@ -107,10 +107,10 @@ module _ (image : Units.Units) (v : View) (s : State) (found : IsFound (shape s.
       ]
 
       pick : (b : Bool) → nat_lt v.checkpoint.content.op o ≡ b → (if b then prepare_sum s o else checksum_of_op o (image (PreparePlace (o % s.file.layout.slots))))
-          ≡ (if b then checksum_of (slice_get v.tail (o - v.checkpoint.content.op - 1)) else checksum_of_op o (image (PreparePlace (o % s.file.layout.slots))))
+          ≡ (if b then prepare_checksum (slice_get v.tail (o - v.checkpoint.content.op - 1)) else checksum_of_op o (image (PreparePlace (o % s.file.layout.slots))))
       pick true is =
           let one : o - (v.checkpoint.content.op + 1) ≡ o - v.checkpoint.content.op - 1 = omega arith in
-          tail_sum o (omega (arith, above is)) (omega (arith, from, to, above is)) ∙ ap (λ (n : ℕ). checksum_of (slice_get v.tail n)) one
+          tail_sum o (omega (arith, above is)) (omega (arith, from, to, above is)) ∙ ap (λ (n : ℕ). prepare_checksum (slice_get v.tail n)) one
       pick false is = refl
 
   waiting_are : map number_of s.waiting ≡ map (waiting_checksum (shape s.file) image v) (range_with_len (v.replies + 1) (head v - v.replies))

@@ -11,7 +11,7 @@ use Rattle.df_format.specs.declared.superblock.SuperCopy.{SuperCopy}
 use Rattle.df_format.specs.Copies.{Content, copy_in, if_here, copy_at, content_at, class_of_copy, copy_or_class}
 use Rattle.df_format.proofs.Laws.{is_here, valid_is_stale}
 use Rattle.df_quorum.specs.declared.slot.Slot.{Slot}
-use Rattle.df_quorum.specs.Quorum.{Copies, IsChosen, IsSplit, HasChosen, AreMembers, AreClasses, class_in, copies_of, nothing}
+use Rattle.df_quorum.specs.Quorum.{Copies, IsChosenContent, CopiesAreSplit, HasChosen, AreMembers, AreClasses, class_in, copies_of, nothing}
 use Rattle.df_quorum.proofs.Laws.{same_law}
 use Rattle.df_quorum.specs.declared.choice.Chosen.{Chosen}
 use Rattle.df_disk.specs.Told.{Told}
@@ -51,10 +51,10 @@ module _ (image : Image) (slots : List Slot) (shown : (n : ℕ) → n < 4 → ge
 
 -- two views of the four places have the same choice
 module _ (one two : Copies) (same : (n : ℕ) → n < 4 → one n ≡ two n) where
-  pub chosen_same : (c : Content) → IsChosen one c → IsChosen two c
+  pub chosen_same : (c : Content) → IsChosenContent one c → IsChosenContent two c
   chosen_same c chosen = same_law one two c same chosen
 
-  pub split_same : IsSplit one → IsSplit two
+  pub split_same : CopiesAreSplit one → CopiesAreSplit two
   split_same split c agree = split c (record {
     first = agree.first;
     second = agree.second;
@@ -73,7 +73,7 @@ formatted image slots first shown is zeros = is.written (shown first is.inside �
 
 module _ (image : Image) (slots : List Slot) (shown : (n : ℕ) → n < 4 → get_or slots n nothing ≡ slot_at image n) (copies : (n : ℕ) → n < 4 → copies_of slots n ≡ content_at image n) where
   -- the choice over the slots is that of the image
-  pub choice_shown : (choice : Chosen) → HasChosen (copies_of slots) choice.content → ((c : Content) → IsChosen (copies_of slots) c → AreMembers (copies_of slots) c choice.members) → IsChoiceOf image choice
+  pub choice_shown : (choice : Chosen) → HasChosen (copies_of slots) choice.content → ((c : Content) → IsChosenContent (copies_of slots) c → AreMembers (copies_of slots) c choice.members) → IsChoiceOf image choice
   choice_shown choice (c, chosen, fields) members = record {
     content = c;
     is = chosen_same (copies_of slots) (content_at image) copies c chosen;
@@ -82,7 +82,7 @@ module _ (image : Image) (slots : List Slot) (shown : (n : ℕ) → n < 4 → ge
   }
 
   -- and so is its lack
-  pub no_quorum : (classes : List Class) (first : ℕ) → length classes ≡ 4 → AreClasses slots classes → IsSplit (copies_of slots) → IsFirstWrittenOf slots first → HasNoQuorum image classes
+  pub no_quorum : (classes : List Class) (first : ℕ) → length classes ≡ 4 → AreClasses slots classes → CopiesAreSplit (copies_of slots) → IsFirstWrittenOf slots first → HasNoQuorum image classes
   no_quorum classes first size are split written = record {
     formatted = formatted image slots first shown written;
     split = split_same (copies_of slots) (content_at image) copies split;
@@ -94,11 +94,11 @@ tells_unformatted None slots shown blank = tt
 tells_unformatted (Some t) slots shown blank = λ version. unformatted t.shown slots shown blank
 
 pub tells_choice : (told : Option Told) (slots : List Slot) (choice : Chosen) → ShowsSlots told slots → ShowsCopies told slots → HasChosen (copies_of slots) choice.content
-    → ((c : Content) → IsChosen (copies_of slots) c → AreMembers (copies_of slots) c choice.members) → TellsChoice told (Ok choice)
+    → ((c : Content) → IsChosenContent (copies_of slots) c → AreMembers (copies_of slots) c choice.members) → TellsChoice told (Ok choice)
 tells_choice None slots choice shown copies chosen members = tt
 tells_choice (Some t) slots choice shown copies chosen members = choice_shown t.shown slots shown copies choice chosen members
 
-pub tells_split : (told : Option Told) (slots : List Slot) (classes : List Class) (first : ℕ) → ShowsSlots told slots → ShowsCopies told slots → length classes ≡ 4 → AreClasses slots classes → IsSplit (copies_of slots) → IsFirstWrittenOf slots first
+pub tells_split : (told : Option Told) (slots : List Slot) (classes : List Class) (first : ℕ) → ShowsSlots told slots → ShowsCopies told slots → length classes ≡ 4 → AreClasses slots classes → CopiesAreSplit (copies_of slots) → IsFirstWrittenOf slots first
     → TellsChoice told (Err (NoQuorum classes))
 tells_split None slots classes first shown copies size are split written = tt
 tells_split (Some t) slots classes first shown copies size are split written = λ version. no_quorum t.shown slots shown copies classes first size are split written

@@ -33,7 +33,7 @@ use Rattle.df_journal.specs.Seen.{IsOpOf, header_of_seen}
 use Rattle.df_journal.specs.Shows.{IsHeaderThere, IsSlot, ShowsHeader, ShowsPrepare, ShowsSlot}
 use Rattle.df_journal.specs.declared.table.Start.{Start}
 use Rattle.df_journal.proofs.Laws.{one_op}
-use Rattle.df_recovery.specs.Plan.{AreDistinct, ArePlanned, IsScanOf, OthersAreShown, header_by, header_or_none, header_or_reserved, headers_in, is_mended, op_in}
+use Rattle.df_recovery.specs.Plan.{AreDistinctUnits, ArePlanned, IsScanOf, OthersAreShown, header_by, header_or_none, header_or_reserved, headers_in, is_mended, op_above_in_slot}
 use Rattle.df_recovery.proofs.Plans.{entry_there, op_in_is}
 
 -- ---- what is shown of a slot
@@ -305,8 +305,8 @@ module _ (layout : Layout) (sh : Shape) (image : Units.Units) (v : View) (scan :
     | inl below ↦
         let plan = planned slot below in
         let of = op_in_is layout scan.start.op slot below in
-        let decided = plan.1 layout image (op_in layout.slots scan.start.op slot) is.tells of in
-        subst (IsSlotHeader sh image v slot) (sym (ap header_or_none plan.2)) (slot_header slot (op_in layout.slots scan.start.op slot) cluster plan.0 below of decided)
+        let decided = plan.1 layout image (op_above_in_slot layout.slots scan.start.op slot) is.tells of in
+        subst (IsSlotHeader sh image v slot) (sym (ap header_or_none plan.2)) (slot_header slot (op_above_in_slot layout.slots scan.start.op slot) cluster plan.0 below of decided)
     | inr past ↦
         let none : headers_in table slot ≡ header_or_none None = ap header_or_none (slice_get_past table slot (omega (arith, past, count))) in
         subst (IsSlotHeader sh image v slot) (sym none) (record {
@@ -336,16 +336,16 @@ module _ (layout : Layout) (sh : Shape) (image : Units.Units) (v : View) (scan :
       let said = subst (SaysOfSlot scan.start.boot o (image (HeaderPlace slot)) (image (PreparePlace slot))) lost (says slot o of.slot_is) in
       absurd (no_header slot o said.0 high said.1 said.2)
 
-  other_own : (slot o cluster : ℕ) (d : Decision) → slot < layout.slots → AreDistinct image → is_mended (decision_of d) ≡ false → IsOwn slot o d → image (HeaderPlace slot) ≡ Some (HeaderUnit (header_of (header_by cluster slot (entry scan slot) (decision_of d))))
+  other_own : (slot o cluster : ℕ) (d : Decision) → slot < layout.slots → AreDistinctUnits image → is_mended (decision_of d) ≡ false → IsOwn slot o d → image (HeaderPlace slot) ≡ Some (HeaderUnit (header_of (header_by cluster slot (entry scan slot) (decision_of d))))
   other_own slot o cluster d below distinct unlisted own =
       let shown = own.5 unlisted in
       let same : shown.0 ≡ own.0.header = distinct (HeaderPlace slot) (PreparePlace slot) (HeaderUnit shown.0) (PrepareUnit own.0) shown.1 own.3 shown.2 in
       shown.1 ∙ ap (λ (k : Units.Header). Some (HeaderUnit k)) (same ∙ sym (take_header slot cluster own.0 d below own.3 own.4))
 
-  pub plan_whole : (cluster : ℕ) (table : List Header) → ArePlanned cluster scan top layout.slots table → AreDistinct image → OthersAreShown layout scan.start top image (headers_in table)
+  pub plan_whole : (cluster : ℕ) (table : List Header) → ArePlanned cluster scan top layout.slots table → AreDistinctUnits image → OthersAreShown layout scan.start top image (headers_in table)
   plan_whole cluster table planned distinct slot below unlisted =
       let plan = planned slot below in
-      let o = op_in layout.slots scan.start.op slot in
+      let o = op_above_in_slot layout.slots scan.start.op slot in
       let of = op_in_is layout scan.start.op slot below in
       let decided = plan.1 layout image o is.tells of in
       let quiet : is_mended (decision_of plan.0) ≡ false = ap is_mended decided ∙ unlisted in

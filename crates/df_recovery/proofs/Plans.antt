@@ -24,12 +24,12 @@ use Rattle.df_units.specs.Sample.{reserved_header}
 use Rattle.df_units.proofs.Laws.{reserved_unit}
 use Rattle.df_places.specs.Units.{IsThere}
 use Rattle.df_buffers.specs.declared.slots.SlotSeen.{SlotSeen}
-use Rattle.df_headers.specs.Ring.{IsHeader, IsTable}
+use Rattle.df_headers.specs.Ring.{IsHeader, IsHeaderTable}
 use Rattle.df_journal.specs.Scan.{Scan, entry, or_blank}
 use Rattle.df_journal.specs.Seen.{IsOpOf, header_of_seen}
-use Rattle.df_journal.specs.Shows.{IsHeaderThere, IsSlot, IsTable as AreSlots}
+use Rattle.df_journal.specs.Shows.{IsHeaderThere, IsSeenTable as AreSlots, IsSlot}
 use Rattle.df_journal.proofs.Laws.{in_header_ring, op_of_slot}
-use Rattle.df_recovery.specs.Plan.{ArePlanned, IsDecided, PutsHeader, header_by, header_or_reserved, if_wanted, op_in, slot_mend, slot_mends}
+use Rattle.df_recovery.specs.Plan.{ArePlanned, IsDecided, PutsHeader, header_by, header_or_reserved, if_wanted, op_above_in_slot, slot_mend, slot_mends}
 
 -- ---- lists
 
@@ -53,7 +53,7 @@ slot_mends_more needs classes k =
 
 -- ---- what was seen of a slot
 
-pub op_in_is : (layout : Layout) (op slot : ℕ) → slot < layout.slots → IsOpOf layout.slots op slot (op_in layout.slots op slot)
+pub op_in_is : (layout : Layout) (op slot : ℕ) → slot < layout.slots → IsOpOf layout.slots op slot (op_above_in_slot layout.slots op slot)
 op_in_is layout op slot below = op_of_slot layout.slots op slot (some_slots layout) below
 
 pub entry_there : (scan : Scan) (slot : ℕ) → slot < length scan.slots → slice_get scan.slots slot ≡ Some (entry scan slot)
@@ -96,7 +96,7 @@ by_valid layout cluster slot seen Behind reserved is = reserved
 by_valid layout cluster slot seen Lost reserved is = reserved
 
 -- the whole table is one of the layout
-pub planned_table : (layout : Layout) (cluster : ℕ) (scan : Scan) (top : ℕ) (table : List Header) → 0 < cluster → cluster < 2 ^ 128 → AreSlots layout cluster scan.slots → length table ≡ layout.slots → ArePlanned cluster scan top layout.slots table → IsTable layout cluster table
+pub planned_table : (layout : Layout) (cluster : ℕ) (scan : Scan) (top : ℕ) (table : List Header) → 0 < cluster → cluster < 2 ^ 128 → AreSlots layout cluster scan.slots → length table ≡ layout.slots → ArePlanned cluster scan top layout.slots table → IsHeaderTable layout cluster table
 planned_table layout cluster scan top table named small slots count planned = record {
   count = count;
   each = λ slot h at.

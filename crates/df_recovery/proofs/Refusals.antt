@@ -10,10 +10,10 @@ use Rattle.df_format.specs.Copies.{content_at, content_with}
 use Rattle.df_format.specs.SuperRules.{IsSuper}
 use Rattle.df_format.specs.declared.superblock.SuperFields.{SuperFields}
 use Rattle.df_recovery.proofs.Asked.{passes_as, super_as}
-use Rattle.df_quorum.specs.Quorum.{IsChosen}
+use Rattle.df_quorum.specs.Quorum.{IsChosenContent}
 use Rattle.df_theory.specs.Units
 use Rattle.df_theory.specs.Units.{AnyUnit, BlockPlace, BlockUnit, CopyUnit, HeaderUnit, PrepareUnit, ReplyUnit}
-use Rattle.df_theory.specs.Opens.{BadTrailer, IsReadable, IsUsable, LacksBlock}
+use Rattle.df_theory.specs.Opens.{BadTrailer, IsReadable, IsUsableSuperblock, LacksBlock}
 use Rattle.df_theory.specs.View.{Checkpoint}
 use Rattle.df_model.specs.Supply.{block_given, class_or, given_if}
 use Rattle.df_model.specs.declared.errors.OpenError.{OpenError}
@@ -24,7 +24,7 @@ use Rattle.df_units.specs.Wanted.{class_at}
 use Rattle.df_units.proofs.Laws.{choice_chosen, classes_told}
 use Rattle.df_grid.specs.Reads.{shown_of, trailer_alone}
 use Rattle.df_checkpoint.specs.Chain.{asked, content_in}
-use Rattle.df_checkpoint.specs.Laws.{AllShown}
+use Rattle.df_checkpoint.specs.Laws.{AllChainShown}
 use Rattle.df_checkpoint.proofs.Laws.{broken_shown, broken_unreadable, damage_missed, referenced_unreadable, text_unreadable, untracked_unreadable, whole_shown}
 use Rattle.df_rooms.specs.State.{shape}
 use Rattle.df_rooms.specs.declared.file.DataFile.{DataFile}
@@ -82,10 +82,10 @@ module _ (file : DataFile) (image : Image) (f : SuperFields) (has : HasFile imag
     cluster_is = has.cluster;
   }
 
-  chosen : IsChosen (content_at image) (content_with f)
+  chosen : IsChosenContent (content_at image) (content_with f)
   chosen = super_is_written_as file.version image f whole has.super
 
-  is_usable : IsUsable (shape file) (unit_at file.layout file.cluster image) (content_in f)
+  is_usable : IsUsableSuperblock (shape file) (unit_at file.layout file.cluster image) (content_in f)
   is_usable =
       let passes = passes_as file f fields_are (super_as file.version f has.super.usable).0 usable in
       record { chosen = choice_chosen file.layout file.cluster image (content_with f) whole chosen; tests = passes.0; reference = passes.1 }
@@ -93,7 +93,7 @@ module _ (file : DataFile) (image : Image) (f : SuperFields) (has : HasFile imag
   abbrev Unread : Type 0
   Unread = (b : Checkpoint) → b.content ≡ content_in f → IsReadable (shape file) (unit_at file.layout file.cluster image) b → ⊥
 
-  all_shown : (field : Field) (value : ℕ) → FailsTest (shape file) (shown_of file.layout file.cluster image) (content_in f) field value → AllShown (shape file) (shown_of file.layout file.cluster image) (content_in f)
+  all_shown : (field : Field) (value : ℕ) → FailsTest (shape file) (shown_of file.layout file.cluster image) (content_in f) field value → AllChainShown (shape file) (shown_of file.layout file.cluster image) (content_in f)
   all_shown field value (inl broken) = broken_shown (shape file) (shown_of file.layout file.cluster image) (content_in f) value broken.1
   all_shown field value (inr (inl text)) = whole_shown (shape file) (shown_of file.layout file.cluster image) (content_in f) text.chain text.whole
   all_shown field value (inr (inr (inl referenced))) = whole_shown (shape file) (shown_of file.layout file.cluster image) (content_in f) referenced.1.chain referenced.1.whole

@@ -17,10 +17,10 @@ use Rattle.df_rooms.specs.declared.file.DataFile.{DataFile}
 use Rattle.df_rooms.specs.declared.rooms.Rooms.{Rooms}
 use Rattle.df_recovery.specs.Checkpoints.{Base, TellsCheckpoint}
 use Rattle.df_recovery.specs.Finding.{IsOfFile, read_of}
-use Rattle.df_recovery.specs.Found.{IsFound, IsFoundAs}
+use Rattle.df_recovery.specs.Found.{IsFoundAs, IsFoundFile}
 use Rattle.df_recovery.specs.Opening.{HasSuperAs, IsLayoutOf}
 use Rattle.df_journal.specs.Starting.{start_of}
-use Rattle.df_recovery.specs.Scanning.{AreCopies, AreScanned, IsFileOf, IsReadBehind, IsScan, IsScanAs, IsServed, RefusesBase, TellsReadAs, base_scanned, without_rooms}
+use Rattle.df_recovery.specs.Scanning.{AreCopies, AreScanned, IsFileOf, IsFileScan, IsReadBehind, IsScanAs, IsServed, RefusesBase, TellsReadAs, base_scanned, without_rooms}
 use Rattle.df_recovery.specs.Surveys.{SurveysAs}
 use Rattle.df_recovery.specs.declared.scanned.Scanned.{Scanned}
 use Rattle.df_recovery.specs.declared.scanning.Copies.{Copies}
@@ -98,11 +98,11 @@ scanned_as version t layout s whole found scan =
       start = read.start;
       scanned = record {
         slots = subst (λ (l : Layout). rings.IsScanned l (Some t) s.rooms.log.slots) (sym read.file.layout_is) read.tables.rings;
-        replies = subst (λ (l : Layout). slots.IsScanned l s.rooms.log.slots.start.cluster (Some t) s.rooms.log.replies) (sym read.file.layout_is) (subst (λ (n : ℕ). slots.IsScanned layout n (Some t) s.rooms.log.replies) (sym cluster) read.tables.replies_are);
+        replies = subst (λ (l : Layout). slots.AreRepliesScanned l s.rooms.log.slots.start.cluster (Some t) s.rooms.log.replies) (sym read.file.layout_is) (subst (λ (n : ℕ). slots.AreRepliesScanned layout n (Some t) s.rooms.log.replies) (sym cluster) read.tables.replies_are);
       };
       checkpoint = read.checkpoint;
       sessions = refl;
     }
 
-pub scanned_of_file : (t : Told) (layout : Layout) (s : Scanned) → IsImage t.shown → IsFound t.shown s.copies.found → IsScan layout (Some t) s → IsOfFile t s.file (read_of s) (base_scanned s)
+pub scanned_of_file : (t : Told) (layout : Layout) (s : Scanned) → IsImage t.shown → IsFoundFile t.shown s.copies.found → IsFileScan layout (Some t) s → IsOfFile t s.file (read_of s) (base_scanned s)
 scanned_of_file t layout s whole found scan = scanned_as 2 t layout s whole found scan

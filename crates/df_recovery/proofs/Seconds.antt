@@ -3,7 +3,7 @@ use Rattle.std.proofs.Common.{◌≡◌}
 use Rattle.df_base.specs.Image.{Image, IsImage}
 use Rattle.df_format.specs.Copies.{content_at, content_with}
 use Rattle.df_format.specs.declared.superblock.SuperFields.{SuperFields}
-use Rattle.df_quorum.specs.Quorum.{IsChosen}
+use Rattle.df_quorum.specs.Quorum.{IsChosenContent}
 use Rattle.df_model.specs.declared.errors.OpenError.{OpenError}
 use Rattle.df_recovery.specs.Opening.{HasSuper, Refuses}
 use Rattle.df_recovery.proofs.OneAnswer.{one_refusal_as, one_super_as, super_or_refusal_as}
@@ -21,5 +21,5 @@ one_refusal image e d one two = one_refusal_as 2 image e d one two
 pub written_is : (image : Image) (f : SuperFields) → IsImage image → (found : HasSuper image f) → found.content ≡ content_with f
 written_is image f whole found = written_as 2 image f whole found
 
-pub super_is_written : (image : Image) (f : SuperFields) → IsImage image → HasSuper image f → IsChosen (content_at image) (content_with f)
+pub super_is_written : (image : Image) (f : SuperFields) → IsImage image → HasSuper image f → IsChosenContent (content_at image) (content_with f)
 super_is_written image f whole found = super_is_written_as 2 image f whole found

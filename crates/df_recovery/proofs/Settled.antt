@@ -19,7 +19,7 @@ use Rattle.df_format.specs.declared.header.Header.{Header}
 use Rattle.df_journal.specs.Scan.{Scan, entry}
 use Rattle.df_journal.specs.Scanned as rings
 use Rattle.df_journal.specs.Scanned.{seen_at}
-use Rattle.df_journal.specs.Shows.{IsTable as AreSlots, TellsRings}
+use Rattle.df_journal.specs.Shows.{IsSeenTable as AreSlots, TellsRings}
 use Rattle.df_journal.specs.Tail.{AreNumbered, AreUnstored}
 use Rattle.df_journal.specs.declared.table.Start.{Start}
 use Rattle.df_journal.proofs.Laws.{class_shown, rings_shown}
@@ -38,12 +38,12 @@ use Rattle.df_units.specs.Bytes.{unit_at}
 use Rattle.df_rooms.specs.State.{State, shape}
 use Rattle.df_rooms.specs.declared.file.DataFile.{DataFile}
 use Rattle.df_recovery.specs.Checkpoints.{Base, base_of}
-use Rattle.df_recovery.specs.Finding.{Answers, HasHeaders, IsKept, IsOfFile, IsRefused, StoresTo, base_with, read_of}
+use Rattle.df_recovery.specs.Finding.{AnswersFinding, HasHeaders, IsOfFile, IsRefusedOpen, KeepsTraces, StoresTo, base_with, read_of}
 use Rattle.df_recovery.specs.Found.{IsChoiceOf, TellsFoundAs}
-use Rattle.df_recovery.specs.Plan.{ArePlanned, IsDecided, class_of_slot, copy_mend, copy_mends, decision_at, header_by, header_or_none, needs_header, op_in, shown_class, slot_mend, slot_mends}
+use Rattle.df_recovery.specs.Plan.{ArePlanned, IsDecided, class_of_slot, copy_mend, copy_mends, decision_at, header_by, header_or_none, needs_header, op_above_in_slot, shown_class, slot_mend, slot_mends}
 use Rattle.df_recovery.specs.Scanning.{AreCopies, IsFileOf, IsScanAs, TellsReadAs, base_scanned}
 use Rattle.df_journal.specs.Starting.{start_of}
-use Rattle.df_recovery.specs.Surveying.{ArePlannedFrom, IsLawful, IsMendable, IsPlannedFor, IsReadOf, KeepsFile, KeepsRead, TellsMends, TellsSurveyAs, copy_mend_at, headers_of, mends_of, planned_header, state_found}
+use Rattle.df_recovery.specs.Surveying.{ArePlannedFrom, IsLawfulScan, IsPlannedFor, IsReadOf, IsSurveyMendable, KeepsRead, KeepsScannedFile, TellsPlannedMends, TellsSurveyAs, copy_mend_at, headers_of, mends_of, planned_header, state_found}
 use Rattle.df_recovery.specs.Surveys.{SurveysAs}
 use Rattle.df_recovery.specs.Waiting.{waiting_in}
 use Rattle.df_recovery.specs.declared.finding.Traces.{Traces}
@@ -57,7 +57,7 @@ use Rattle.df_recovery.proofs.Scans.{scanned_as}
 
 -- ---- what was read makes sense by itself
 
-pub lawful : (version : ℕ) (layout : Layout) (told : Option Told) (x : Scanned) → IsScanAs version layout told x → IsLawful x
+pub lawful : (version : ℕ) (layout : Layout) (told : Option Told) (x : Scanned) → IsScanAs version layout told x → IsLawfulScan x
 lawful version layout told x scan =
     let read = scan.behind in
     let cluster : x.rooms.log.slots.start.cluster ≡ x.file.cluster = ap (λ (y : Start). y.cluster) read.start ∙ sym read.file.cluster_is in
@@ -96,18 +96,18 @@ if_ok_more P Q (Err e) more is = tt
 -- ---- the answer
 
 module _ (t : Told) (x : Scanned) (is : IsOfFile t x.file (read_of x) (base_scanned x)) where
-  pub refused : (e : OpenError) → IsRefused (read_of x) e → SurveysAs x.file.version x.file.layout t.shown (Err e)
+  pub refused : (e : OpenError) → IsRefusedOpen (read_of x) e → SurveysAs x.file.version x.file.layout t.shown (Err e)
   refused e blames = refused_is_answer t x.file (read_of x) (base_scanned x) e is blames
 
   -- the view's state ends where the tail does
-  ends_there : (traces : Traces) (after : List Session) → Answers (read_of x) (Ok traces) after → (v : View) → IsFound (shape x.file) (unit_at x.file.layout x.file.cluster t.shown) v → head v ≡ traces.tail.op
+  ends_there : (traces : Traces) (after : List Session) → AnswersFinding (read_of x) (Ok traces) after → (v : View) → IsFound (shape x.file) (unit_at x.file.layout x.file.cluster t.shown) v → head v ≡ traces.tail.op
   ends_there traces after answers v found =
       let finds = answers (shape x.file) (unit_at x.file.layout x.file.cluster t.shown) (base_of x.copies.found.content is.checkpoint.chain is.checkpoint.parts) (file_is_read t x.file (read_of x) (base_scanned x) is) in
       ap head (one_found_law (shape x.file) (unit_at x.file.layout x.file.cluster t.shown) v finds.view found finds.found)
       ∙ ap (λ (b : Checkpoint). b.content.op + length finds.view.tail) finds.checkpoint ∙ sym finds.ends.op
 
-  module _ (traces : Traces) (after : List Session) (settled : Scanned) (y : Surveyed) (answers : Answers (read_of x) (Ok traces) after) (unstored : AreUnstored after)
-      (stores : StoresTo traces.replies x.rooms.log.replies (length after) after settled.sessions.sessions) (of : KeepsFile x settled)
+  module _ (traces : Traces) (after : List Session) (settled : Scanned) (y : Surveyed) (answers : AnswersFinding (read_of x) (Ok traces) after) (unstored : AreUnstored after)
+      (stores : StoresTo traces.replies x.rooms.log.replies (length after) after settled.sessions.sessions) (of : KeepsScannedFile x settled)
       (root_is : settled.root ≡ x.root) (blocks_are : settled.rooms.grid.blocks ≡ x.rooms.grid.blocks) (keeps : KeepsRead settled y.scanned) (traces_are : y.traces ≡ traces)
       (waiting : y.waiting.items ≡ waiting_in settled.file.layout.slots settled.rooms.log.slots y.scanned.rooms.log.headers traces.replies traces.tail.op) (plan : IsPlannedFor y) where
     abbrev s : State
@@ -125,7 +125,7 @@ module _ (t : Told) (x : Scanned) (is : IsOfFile t x.file (read_of x) (base_scan
     abbrev image : Units.Units
     image = unit_at s.file.layout s.file.cluster t.shown
 
-    kept : IsKept (read_of x) traces after s
+    kept : KeepsTraces (read_of x) traces after s
     kept = record {
       fields = ap (λ c. c.found.content) (keeps.copies ∙ of.copies);
       head_is = ap (λ (r : Traces). r.tail.op) traces_are;
@@ -216,14 +216,14 @@ module _ (t : Told) (x : Scanned) (is : IsOfFile t x.file (read_of x) (base_scan
       let there : slice_get scan.slots slot ≡ Some (entry scan slot) = entry_there scan slot (omega (arith, below, tells.table.size)) in
       let seen : entry scan slot ≡ seen_at layout f.cluster t.shown slot = is.scanned.slots.seen slot (entry scan slot) there ∙ ap (λ (n : ℕ). seen_at layout n t.shown slot) cluster in
       let one : decision_of d ≡ decision_at layout (start_of f) top image slot =
-      decided layout image (op_in layout.slots scan.start.op slot) tells (op_in_is layout scan.start.op slot below) ∙ ap (λ (start : Start). decision_at layout start top image slot) is.start in
+      decided layout image (op_above_in_slot layout.slots scan.start.op slot) tells (op_in_is layout scan.start.op slot below) ∙ ap (λ (start : Start). decision_at layout start top image slot) is.start in
       (λ i. header_by (own i) slot (seen i) (one i))
 
   headers_shown : (top : ℕ) (table : List Header) → length table ≡ layout.slots → TellsRings layout (unit_at layout f.cluster t.shown) scan → ArePlanned x.file.cluster scan top layout.slots table → table ≡ headers_of layout t.shown f top
   headers_shown top table count tells planned =
       each_slot (planned_header layout t.shown f top) layout.slots table count (λ slot below. let plan = planned slot below in plan.2 ∙ ap Some (header_shown top slot plan.0 below tells plan.1))
 
-  pub mendable : (y : Surveyed) → KeepsFile x y.scanned → IsPlannedFor y → IsMendable layout t.shown y
+  pub mendable : (y : Surveyed) → KeepsScannedFile x y.scanned → IsPlannedFor y → IsSurveyMendable layout t.shown y
   mendable y of plan =
       let image = unit_at layout f.cluster t.shown in
       let members = x.copies.found.chosen.members in
@@ -248,11 +248,11 @@ module _ (t : Told) (x : Scanned) (is : IsOfFile t x.file (read_of x) (base_scan
 -- ---- what a disk tells
 
 module _ (version : ℕ) (x : Scanned) (layout : Layout) where
-  pub told_mends : {R : Type 0} → (r : Result Surveyed R) (told : Option Told) → TellsReadAs version (λ (y : Scanned). y.copies.found) layout told (Ok x) → IsScanAs version layout told x → IfOk r IsPlannedFor → IfOk r (λ y. KeepsFile x y.scanned) → IfOk r (TellsMends layout told)
+  pub told_mends : {R : Type 0} → (r : Result Surveyed R) (told : Option Told) → TellsReadAs version (λ (y : Scanned). y.copies.found) layout told (Ok x) → IsScanAs version layout told x → IfOk r IsPlannedFor → IfOk r (λ y. KeepsScannedFile x y.scanned) → IfOk r (TellsPlannedMends layout told)
   told_mends (Err e) told reads from plan of = tt
   told_mends (Ok y) None reads from plan of = tt
   told_mends (Ok y) (Some t) reads from plan of =
-      λ image. subst (λ (l : Layout). IsMendable l t.shown y) from.behind.file.layout_is (mendable t x (scanned_as version t layout x image reads from) from.copies.slots y of plan)
+      λ image. subst (λ (l : Layout). IsSurveyMendable l t.shown y) from.behind.file.layout_is (mendable t x (scanned_as version t layout x image reads from) from.copies.slots y of plan)
 
   -- the file is of the version that was asked for
   pub version_is : (told : Option Told) → IsScanAs version layout told x → x.file.version ≡ version
@@ -270,7 +270,7 @@ told_found : (version : ℕ) (layout : Layout) (told : Option Told) (x : Scanned
 told_found version l None x reads = tt
 told_found version l (Some t) x reads = reads
 
-pub read_kept : (version : ℕ) (layout : Layout) (told : Option Told) (x y : Scanned) → TellsReadAs version (λ (z : Scanned). z.copies.found) layout told (Ok x) → IsScanAs version layout told x → KeepsFile x y → IsReadOf version layout told y
+pub read_kept : (version : ℕ) (layout : Layout) (told : Option Told) (x y : Scanned) → TellsReadAs version (λ (z : Scanned). z.copies.found) layout told (Ok x) → IsScanAs version layout told x → KeepsScannedFile x y → IsReadOf version layout told y
 read_kept version layout told x y reads scan of = record {
   file = subst (λ (c : Copies). IsFileOf layout c.found.content y.file) (sym of.copies) (subst (IsFileOf layout x.copies.found.content) (sym of.file) scan.behind.file);
   copies = subst (AreCopies version told) (sym of.copies) scan.copies;

@@ -8,8 +8,8 @@ use Rattle.df_sessions.specs.declared.session.Session.{Session}
 use Rattle.df_sessions.specs.Requests.{session_of, sessions_of}
 use Rattle.df_theory.specs.Units
 use Rattle.df_theory.specs.Sessions.{Tracks}
-use Rattle.df_trailer.specs.Sessions.{AreRead}
-use Rattle.df_checkpoint.specs.Waiting.{IsPending}
+use Rattle.df_trailer.specs.Sessions.{AreReadSessions}
+use Rattle.df_checkpoint.specs.Waiting.{IsPendingReply}
 use Rattle.df_checkpoint.proofs.Laws.{has_is}
 use Rattle.df_recovery.specs.Checkpoints.{AreOfCheckpoint}
 
@@ -28,7 +28,7 @@ of_list ss k s at = pick (slice_get ss k) refl (sym (slice_get-map session_of ss
         let yes : option_map session_of (Some x) ≡ Some s = subst (λ (y : Option Session). option_map session_of y ≡ Some s) there is in
         record { from = x; at = there; is = (let one : session_of x ≡ s = cc in one) }
 
-pub tracked : (places replies op : ℕ) (ss : List Session) → AreRead places op ss → IsPending ss replies op None → Tracks replies op (sessions_of ss)
+pub tracked : (places replies op : ℕ) (ss : List Session) → AreReadSessions places op ss → IsPendingReply ss replies op None → Tracks replies op (sessions_of ss)
 tracked places replies op ss read pending = record {
   below = λ k s at. let f = of_list ss k s at in subst (λ (x : Units.Session). x.op ≤ op) f.is (read.each k f.from f.at).op_is.1;
   apart = λ j k s t one two same.
@@ -39,7 +39,7 @@ tracked places replies op ss read pending = record {
 }
 
 -- so they make sense by themselves
-pub of_checkpoint : (places : ℕ) (f : SuperFields) (ss : List Session) → AreRead places f.op ss → IsPending ss f.replies f.op None → AreOfCheckpoint f ss
+pub of_checkpoint : (places : ℕ) (f : SuperFields) (ss : List Session) → AreReadSessions places f.op ss → IsPendingReply ss f.replies f.op None → AreOfCheckpoint f ss
 of_checkpoint places f ss read pending = record {
   asked = λ k s at. let g = of_list ss k s at in subst (λ (x : Units.Session). 0 < x.request) g.is (read.each k g.from g.at).request.0;
   numbered = λ k s at. (read.each k s at).request.1;

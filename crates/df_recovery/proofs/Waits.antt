@@ -17,8 +17,8 @@ use Rattle.df_buffers.specs.declared.slots.SlotSeen.{SlotSeen}
 use Rattle.df_journal.specs.Scan.{Scan, entry, or_blank}
 use Rattle.df_journal.specs.Seen.{header_of_seen}
 use Rattle.df_journal.specs.Shows.{ShowsPrepare, ShowsTable}
-use Rattle.df_rooms.specs.State.{State, prepare_sum, sum_of}
-use Rattle.df_recovery.specs.Waiting.{checksum_of, known_sum, shown_sum, waiting_at, waiting_in, waiting_sum}
+use Rattle.df_rooms.specs.State.{State, prepare_sum, sum_of_header}
+use Rattle.df_recovery.specs.Waiting.{header_checksum, known_sum, shown_sum, waiting_at, waiting_in, waiting_sum}
 
 pub waiting_count : (n : ℕ) (scan : Scan) (headers : List Header) (replies head : ℕ) → length (waiting_in n scan headers replies head) ≡ head - replies
 waiting_count n scan headers replies head = length-map-range_with_len (waiting_at n scan headers) (replies + 1) (head - replies)
@@ -36,7 +36,7 @@ waiting_none n scan headers replies =
 
 -- ---- in the words of the machine
 
-known_is : (header : Option Header) → number_of (checksum_of header) ≡ sum_of header
+known_is : (header : Option Header) → number_of (header_checksum header) ≡ sum_of_header header
 unfolding field_at
 known_is None = refl
 known_is (Some h) = refl

@@ -4,13 +4,13 @@ use Rattle.df_base.specs.Fields.{check_of}
 use Rattle.df_base.specs.Image.{Image, IsImage, IsSector}
 use Rattle.df_format.specs.Super.{covered_bytes}
 use Rattle.df_format.specs.SuperRules.{IsSuper}
-use Rattle.df_format.specs.Copies.{Content, copy_in, if_here, copy_at, content_of, content_at, content_with}
-use Rattle.df_format.specs.CopyLaws.{IsWritten}
+use Rattle.df_format.specs.Copies.{Content, copy_in, if_here, copy_at, content_in_copy, content_at, content_with}
+use Rattle.df_format.specs.CopyLaws.{IsWrittenCopy}
 use Rattle.df_format.specs.declared.superblock.SuperCopy.{SuperCopy}
 use Rattle.df_format.specs.declared.superblock.SuperFields.{SuperFields}
 use Rattle.df_format.proofs.Laws.{was_written}
 use Rattle.df_recovery.proofs.Asked.{super_as}
-use Rattle.df_quorum.specs.Quorum.{IsChosen}
+use Rattle.df_quorum.specs.Quorum.{IsChosenContent}
 use Rattle.df_recovery.specs.Opening.{HasSuperAs}
 use Rattle.df_recovery.specs.OpeningLaws.{SuperIsWritten}
 
@@ -21,13 +21,13 @@ record IsFrom (bytes : List ℕ) (c : Content) : Type 0 where
   checksum : c.checksum ≡ copy.checksum
   fields : c.fields ≡ copy.fields
 
-from_here : (bytes : List ℕ) (n : ℕ) (c : Content) (copy : SuperCopy) (here : Bool) → copy_in bytes ≡ Some copy → content_of (cond here (Some copy) None) ≡ Some c → IsFrom bytes c
+from_here : (bytes : List ℕ) (n : ℕ) (c : Content) (copy : SuperCopy) (here : Bool) → copy_in bytes ≡ Some copy → content_in_copy (cond here (Some copy) None) ≡ Some c → IsFrom bytes c
 from_here bytes n c copy false read is = absurd (cc)
 from_here bytes n c copy true read is =
     let same : record { checksum = copy.checksum; fields = copy.fields } ≡ c = cc in
     record { copy = copy; read = read; checksum = sym (ap (λ (d : Content). d.checksum) same); fields = sym (ap (λ (d : Content). d.fields) same) }
 
-from_sector : (bytes : List ℕ) (n : ℕ) (c : Content) (o : Option SuperCopy) → copy_in bytes ≡ o → content_of (if_here n o) ≡ Some c → IsFrom bytes c
+from_sector : (bytes : List ℕ) (n : ℕ) (c : Content) (o : Option SuperCopy) → copy_in bytes ≡ o → content_in_copy (if_here n o) ≡ Some c → IsFrom bytes c
 from_sector bytes n c None read is = absurd (cc)
 from_sector bytes n c (Some copy) read is = from_here bytes n c copy (copy.number == n) read is
 
@@ -39,7 +39,7 @@ from_image image n c is = from_sector (image n) n c (copy_in (image n)) refl is
 content_is : (image : Image) (n : ℕ) (c : Content) → IsSector (image n) → c.fields.first_nonzero ≡ None → content_at image n ≡ Some c → c ≡ content_with c.fields
 content_is image n c sector none is =
     let one = from_image image n c is in
-    let written : IsWritten one.copy = (was_written (image n) one.copy sector (sym (ap (λ (f : SuperFields). f.first_nonzero) one.fields) ∙ none) one.read).0 in
+    let written : IsWrittenCopy one.copy = (was_written (image n) one.copy sector (sym (ap (λ (f : SuperFields). f.first_nonzero) one.fields) ∙ none) one.read).0 in
     let sum : c.checksum ≡ check_of (covered_bytes c.fields) = one.checksum ∙ written.checksum ∙ sym (ap (λ (f : SuperFields). check_of (covered_bytes f)) one.fields) in
     λ i. record { checksum = sum i; fields = c.fields }
 
@@ -52,4 +52,4 @@ written_as version image f whole found =
     same ∙ ap content_with found.fields
 
 pub super_is_written_as : SuperIsWritten
-super_is_written_as version image f whole found = subst (λ (c : Content). IsChosen (content_at image) c) (written_as version image f whole found) found.chosen
+super_is_written_as version image f whole found = subst (λ (c : Content). IsChosenContent (content_at image) c) (written_as version image f whole found) found.chosen

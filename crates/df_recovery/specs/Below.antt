@@ -13,15 +13,15 @@ pub use Rattle.df_journal.specs.Counts.{CountsAll, CountsBound, CountsReplies}
 pub use Rattle.df_journal.specs.Scan.{entry}
 pub use Rattle.df_journal.specs.Seen.{class_of, header_of_seen}
 pub use Rattle.df_journal.specs.Shows.{ShowsTable, TellsRings}
-pub use Rattle.df_journal.specs.Tail.{AreNumbered, AreUnstored, IsWithin, KeepsRules}
+pub use Rattle.df_journal.specs.Tail.{AreNumbered, AreUnstored, IsWithinRing, KeepsRules}
 pub use Rattle.df_checkpoint.specs.Below.{AreFieldsOf, IsBlamed, parse_of}
-pub use Rattle.df_trailer.specs.Sessions.{AreRead}
-pub use Rattle.df_rooms.specs.Below.{IsMachineStep, IsMachines, IsStep, IsVerdict, ListsFailing, ScrubState, after_step, failing_among, failing_in, left_in, verdict_in, with_check}
+pub use Rattle.df_trailer.specs.Sessions.{AreReadSessions}
+pub use Rattle.df_rooms.specs.Below.{IsMachineStep, IsMachines, IsStep, IsVerdict, ListsFailing, ScrubState, after_scrub_step, failing_among, failing_in, left_in, verdict_in, with_check}
 pub use Rattle.df_rooms.specs.Courses.{running_of, running_state}
 pub use Rattle.df_rooms.specs.Parts.{AreFound, AreWhole, FitsGrid, state_in, summary_of}
 pub use Rattle.df_rooms.specs.Recorded.{MayRecord, boot_fields, recorded}
-pub use Rattle.df_rooms.specs.Stagings.{IsSealedOf, Staged, first_of}
-pub use Rattle.df_rooms.specs.State.{AreAsked, AreStaging, IsCourse, IsLevel, IsRequest, IsRunning, IsState, Represents, RunningState, Stages, State, asker_of, asks_of, captured_text, course_in, course_of, grid_with, memory, prepare_sum, reply_sum, shape, spelling, stored_sum, sum_of}
+pub use Rattle.df_rooms.specs.Stagings.{IsSealedOf, Staged, first_request}
+pub use Rattle.df_rooms.specs.State.{AreAsked, AreStaging, IsCourse, IsLevel, IsRequest, IsRunningCheckpoint, IsState, Represents, RunningState, Stages, State, asker_of, asks_of, captured_text, course_in, course_of, grid_with, memory, prepare_sum, reply_sum, shape, spelling, stored_sum, sum_of_header}
 pub use Rattle.df_rooms.specs.declared.file.DataFile.{DataFile}
 pub use Rattle.df_rooms.specs.declared.log_rooms.LogRooms.{LogRooms}
 pub use Rattle.df_rooms.specs.declared.parts.Parts.{Parts}

@@ -85,7 +85,7 @@ pub record IsReadFrom (sh : Shape) (image : Units.Units) (b : Checkpoint) (read 
 -- of a disk, what a scan saw
 pub record IsScannedFrom (t : Told) (read : Read) : Type 0 where
   pub slots : rings.IsScanned read.layout (Some t) read.slots
-  pub replies : Shown.IsScanned read.layout read.slots.start.cluster (Some t) read.replies
+  pub replies : Shown.AreRepliesScanned read.layout read.slots.start.cluster (Some t) read.replies
 
 -- the image's state is a view that ends so, with these sessions, and its boot can be raised
 pub record FindsView (sh : Shape) (image : Units.Units) (b : Checkpoint) (traces : Traces) (sessions : List Session) : Type 0 where
@@ -108,15 +108,15 @@ pub record IsDamagedAt (read : Read) (place : Place) (class : Class) : Type 0 wh
   pub class_is : (t : Told) → IsScannedFrom t read → class ≡ class_there read.layout read.slots.start.cluster t.shown at
 
 -- the open ends with this refusal
-abbrev pub IsRefused : Read → OpenError → Type 0
-IsRefused read (Damaged place class) = IsDamagedAt read place class
-IsRefused read BootSpent = EachOpens read NoBoot
-IsRefused read e = ⊥
+abbrev pub IsRefusedOpen : Read → OpenError → Type 0
+IsRefusedOpen read (Damaged place class) = IsDamagedAt read place class
+IsRefusedOpen read BootSpent = EachOpens read NoBoot
+IsRefusedOpen read e = ⊥
 
 -- the answer, with the sessions after the tail
-abbrev pub Answers : Read → Result Traces OpenError → List Session → Type 0
-Answers read (Ok traces) sessions = (sh : Shape) (image : Units.Units) (b : Checkpoint) → IsReadFrom sh image b read → FindsView sh image b traces sessions
-Answers read (Err e) sessions = IsRefused read e
+abbrev pub AnswersFinding : Read → Result Traces OpenError → List Session → Type 0
+AnswersFinding read (Ok traces) sessions = (sh : Shape) (image : Units.Units) (b : Checkpoint) → IsReadFrom sh image b read → FindsView sh image b traces sessions
+AnswersFinding read (Err e) sessions = IsRefusedOpen read e
 
 -- ---- the state in memory
 
@@ -128,7 +128,7 @@ pub record IsStarting (s : State) : Type 0 where
   pub findings : s.findings ≡ []
 
 -- what a state keeps of a view in this image, before anything is done with it: the header table says what each header is to be
-pub record Keeps (sh : Shape) (image : Units.Units) (v : View) (s : State) : Type 0 where
+pub record StateKeepsView (sh : Shape) (image : Units.Units) (v : View) (s : State) : Type 0 where
   pub content : v.checkpoint.content ≡ content_of (content_with s.fields)
   pub root_is : s.root ≡ v.checkpoint.parts.root
   pub blocks_are : s.blocks ≡ blocks_read (layout_of s.file.layout) v.checkpoint.parts v.checkpoint.chain
@@ -145,7 +145,7 @@ pub record Keeps (sh : Shape) (image : Units.Units) (v : View) (s : State) : Typ
 -- such a state stands for what the machine begins with from the view that an open finds
 abbrev pub StateIsOpened : Type 0
 StateIsOpened =
-    (image : Units.Units) (v : View) (s : State) → Found.IsFound (shape s.file) image v → Keeps (shape s.file) image v s → Represents s (opened (shape s.file) image v)
+    (image : Units.Units) (v : View) (s : State) → Found.IsFound (shape s.file) image v → StateKeepsView (shape s.file) image v s → Represents s (opened (shape s.file) image v)
 
 -- ---- of a file
 
@@ -170,7 +170,7 @@ FileIsRead =
 
 -- so a refusal is the answer to an open
 abbrev pub RefusedIsAnswer : Type 0
-RefusedIsAnswer = (t : Told) (file : DataFile) (read : Read) (base : Base) (e : OpenError) → IsOfFile t file read base → IsRefused read e → SurveysAs file.version file.layout t.shown (Err e)
+RefusedIsAnswer = (t : Told) (file : DataFile) (read : Read) (base : Base) (e : OpenError) → IsOfFile t file read base → IsRefusedOpen read e → SurveysAs file.version file.layout t.shown (Err e)
 
 -- ---- the stored replies
 
@@ -198,7 +198,7 @@ StoredIsKept =
 -- ---- the answer
 
 -- what a state keeps of the traces that are found, and of the sessions after the tail
-pub record IsKept (read : Read) (traces : Traces) (after : List Session) (s : State) : Type 0 where
+pub record KeepsTraces (read : Read) (traces : Traces) (after : List Session) (s : State) : Type 0 where
   pub fields : s.fields ≡ read.found.content
   pub head_is : s.head ≡ traces.tail.op
   pub head_checksum : s.head_checksum ≡ traces.tail.checksum
@@ -220,5 +220,5 @@ base_with s sessions = record { root = s.root; sessions = sessions; blocks = s.b
 -- such a state is the answer to an open
 abbrev pub KeptIsAnswer : Type 0
 KeptIsAnswer =
-    (t : Told) (read : Read) (traces : Traces) (after : List Session) (s : State) → IsOfFile t s.file read (base_with s read.sessions) → Answers read (Ok traces) after → IsKept read traces after s
+    (t : Told) (read : Read) (traces : Traces) (after : List Session) (s : State) → IsOfFile t s.file read (base_with s read.sessions) → AnswersFinding read (Ok traces) after → KeepsTraces read traces after s
     → HasHeaders (unit_at s.file.layout s.file.cluster t.shown) s → SurveysAs s.file.version s.file.layout t.shown (Ok s)

@@ -9,7 +9,7 @@ use Rattle.df_format.specs.Copies.{Content, content_at}
 use Rattle.df_format.specs.declared.superblock.SuperFault.{SuperFault}
 use Rattle.df_format.specs.declared.superblock.SuperFault.TheVariants.{Version as OtherVersion, BadField as BrokenField}
 use Rattle.df_format.specs.declared.superblock.SuperFields.{SuperFields}
-use Rattle.df_quorum.specs.Quorum.{IsChosen, AreMembers}
+use Rattle.df_quorum.specs.Quorum.{IsChosenContent, AreMembers}
 use Rattle.df_quorum.specs.declared.choice.Chosen.{Chosen}
 use Rattle.df_recovery.specs.Opening.{HasSuperAs, IsLayoutOf, RefusesAs, fault_as}
 use Rattle.df_model.specs.declared.errors.OpenError.{OpenError}
@@ -19,7 +19,7 @@ use Rattle.df_recovery.specs.declared.superblock.Found.{Found}
 -- the choice of an image: the content that is chosen, and which copies show it
 pub record IsChoiceOf (image : Image) (choice : Chosen) : Type 0 where
   pub content : Content
-  pub is : IsChosen (content_at image) content
+  pub is : IsChosenContent (content_at image) content
   pub fields : choice.content ≡ content.fields
   pub members : AreMembers (content_at image) content choice.members
 
@@ -98,8 +98,8 @@ Syncs old new result = new ≡ after Sync old
 
 -- ---- where version 2 is asked for, as an open does
 
-abbrev pub IsFound : Image → Found → Type 0
-IsFound image found = IsFoundAs 2 image found
+abbrev pub IsFoundFile : Image → Found → Type 0
+IsFoundFile image found = IsFoundAs 2 image found
 
 abbrev pub IsLayoutShown : Image → Layout → Type 0
 IsLayoutShown image layout = IsLayoutShownAs 2 image layout

@@ -8,7 +8,7 @@ use Rattle.df_format.specs.SuperRules.{fault_of}
 use Rattle.df_format.specs.declared.superblock.SuperFault.{SuperFault}
 use Rattle.df_format.specs.declared.superblock.SuperFault.TheVariants.{Version as OtherVersion, BadField as BrokenField}
 use Rattle.df_format.specs.declared.superblock.SuperFields.{SuperFields}
-use Rattle.df_quorum.specs.Quorum.{IsChosen, IsSplit}
+use Rattle.df_quorum.specs.Quorum.{CopiesAreSplit, IsChosenContent}
 use Rattle.df_model.specs.declared.errors.OpenError.{OpenError}
 pub use Rattle.df_superblock.specs.Blank.{IsUnformatted}
 use Rattle.df_model.specs.declared.errors.OpenError.TheVariants.{NotFormatted, NoQuorum, Version, BadField}
@@ -24,20 +24,20 @@ shown_classes image = class_of_copy 0 (image 0) ∷ class_of_copy 1 (image 1) �
 -- a content is chosen, and this is why it can't be used, where the version is asked for
 pub record HasFaultAs (version : ℕ) (image : Image) (fault : SuperFault) : Type 0 where
   pub content : Content
-  pub chosen : IsChosen (content_at image) content
+  pub chosen : IsChosenContent (content_at image) content
   pub broken : fault_as version content.fields ≡ Some fault
 
 -- a content with these fields is chosen, and it can be used, where the version is asked for
 pub record HasSuperAs (version : ℕ) (image : Image) (f : SuperFields) : Type 0 where
   pub content : Content
-  pub chosen : IsChosen (content_at image) content
+  pub chosen : IsChosenContent (content_at image) content
   pub fields : content.fields ≡ f
   pub usable : fault_as version f ≡ None
 
 -- two copies agree on nothing, in sectors that show something
 pub record HasNoQuorum (image : Image) (classes : List Class) : Type 0 where
   pub formatted : IsUnformatted image → ⊥
-  pub split : IsSplit (content_at image)
+  pub split : CopiesAreSplit (content_at image)
   pub shown : classes ≡ shown_classes image
 
 -- why the superblock of an image can't be used, where the version is asked for

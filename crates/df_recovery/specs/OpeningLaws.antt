@@ -3,7 +3,7 @@ use Rattle.std.specs.Prelude.{◌≡◌, ℕ}
 use Rattle.df_base.specs.Image.{Image, IsImage}
 use Rattle.df_format.specs.Copies.{content_at, content_with}
 use Rattle.df_format.specs.declared.superblock.SuperFields.{SuperFields}
-use Rattle.df_quorum.specs.Quorum.{IsChosen}
+use Rattle.df_quorum.specs.Quorum.{IsChosenContent}
 use Rattle.df_recovery.specs.Opening.{HasSuperAs, RefusesAs}
 use Rattle.df_model.specs.declared.errors.OpenError.{OpenError}
 
@@ -20,4 +20,4 @@ OneRefusal = (version : ℕ) (image : Image) (e d : OpenError) → RefusesAs ver
 
 -- where the superblock can be used, the content that is chosen is the one that its fields are written with
 abbrev pub SuperIsWritten : Type 0
-SuperIsWritten = (version : ℕ) (image : Image) (f : SuperFields) → IsImage image → HasSuperAs version image f → IsChosen (content_at image) (content_with f)
+SuperIsWritten = (version : ℕ) (image : Image) (f : SuperFields) → IsImage image → HasSuperAs version image f → IsChosenContent (content_at image) (content_with f)

@@ -32,12 +32,12 @@ use Rattle.df_journal.specs.Shows.{TellsRings}
 -- ---- the decision on a slot
 
 -- the op above this one, and at most n above it, that belongs in the slot of a ring of n
-abbrev pub op_in : ℕ → ℕ → ℕ → ℕ
-op_in n op slot = op + 1 + (slot + n - (op + 1) % n) % n
+abbrev pub op_above_in_slot : ℕ → ℕ → ℕ → ℕ
+op_above_in_slot n op slot = op + 1 + (slot + n - (op + 1) % n) % n
 
 -- what is decided of a slot after where a scan starts, once this head is known
 abbrev pub decision_at : Layout → Start → ℕ → Units.Units → ℕ → Cases.Decision
-decision_at layout start top image slot = planned layout.slots start top image (op_in layout.slots start.op slot)
+decision_at layout start top image slot = planned layout.slots start top image (op_above_in_slot layout.slots start.op slot)
 
 -- whether its header is to be written again
 abbrev pub is_mended : Cases.Decision → Bool
@@ -105,8 +105,8 @@ pub record IsScanOf (layout : Layout) (sh : Shape) (image : Units.Units) (v : Vi
   pub found : IsFound sh image v
 
 -- no two units of the image have one checksum
-abbrev pub AreDistinct : Units.Units → Type 0
-AreDistinct image = (place other : Place) (x y : AnyUnit) → image place ≡ Some x → image other ≡ Some y → Distinct x y
+abbrev pub AreDistinctUnits : Units.Units → Type 0
+AreDistinctUnits image = (place other : Place) (x y : AnyUnit) → image place ≡ Some x → image other ≡ Some y → Distinct x y
 
 -- each slot that isn't to be written again shows what it is to show
 abbrev pub OthersAreShown : Layout → Start → ℕ → Units.Units → (ℕ → Units.Header) → Type 0

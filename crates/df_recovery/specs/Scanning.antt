@@ -21,7 +21,7 @@ use Rattle.df_recovery.specs.declared.scanned.Scanned.{Scanned}
 use Rattle.df_recovery.specs.declared.checkpoint.Checkpoint.{Checkpoint}
 use Rattle.df_recovery.specs.Checkpoints.{AreOfCheckpoint, Base, TellsCheckpoint, TellsText}
 use Rattle.df_superblock.specs.Calls.{ShowsCopies, ShowsSlots}
-use Rattle.df_trailer.specs.Sessions.{AreRead}
+use Rattle.df_trailer.specs.Sessions.{AreReadSessions}
 use Rattle.df_grid.specs.Grid.{GridState}
 use Rattle.df_grid.specs.Table.{IsIdle, no_blocks}
 use Rattle.df_rooms.specs.declared.file.DataFile.{DataFile}
@@ -53,7 +53,7 @@ TellsReadAs version found layout (Some t) result = ReadsAs version found layout 
 -- what the rings and the reply slots show, where the disk tells it
 pub record AreScanned (layout : Layout) (cluster : ℕ) (told : Option Told) (slots : Scan) (replies : List (Result Header Class)) : Type 0 where
   pub rings : Scanned.IsScanned layout told slots
-  pub replies_are : Shown.IsScanned layout cluster told replies
+  pub replies_are : Shown.AreRepliesScanned layout cluster told replies
 
 -- the answer without the rooms that come back with a refusal
 abbrev pub without_rooms : {T R E : Type 0} → Result T (R × E) → Result T E
@@ -105,7 +105,7 @@ pub record IsText (file : DataFile) (told : Option Told) (f : SuperFields) (g : 
   -- it is the one that the disk shows
   pub tells : TellsText file told f (base_in g c)
   -- whatever the disk tells, the sessions are in their ranges, and no two are one
-  pub sessions : AreRead file.layout.clients f.op c.sessions.sessions
+  pub sessions : AreReadSessions file.layout.clients f.op c.sessions.sessions
   -- there are as many places for them as the file has clients
   pub places : c.sessions.max ≡ file.layout.clients
 
@@ -128,7 +128,7 @@ ReadsCheckpoint file told f g (Ok c) = IsCheckpoint file told f g c
 ReadsCheckpoint file told f g (Err e) = TellsCheckpoint file told f (Err e)
 
 -- what stands after a superblock was read into the rooms of its file
-pub record IsBehind (file : DataFile) (told : Option Told) (f : SuperFields) (rooms : FileRooms) (c : Checkpoint) : Type 0 where
+pub record IsReadAfter (file : DataFile) (told : Option Told) (f : SuperFields) (rooms : FileRooms) (c : Checkpoint) : Type 0 where
   -- the checkpoint
   pub checkpoint : IsCheckpoint file told f rooms.grid c
   -- the scan started after the superblock
@@ -137,7 +137,7 @@ pub record IsBehind (file : DataFile) (told : Option Told) (f : SuperFields) (ro
   pub tables : AreScanned file.layout f.cluster told rooms.log.slots rooms.log.replies
 
 abbrev pub ReadsBehind : DataFile → Option Told → SuperFields → FileRooms → Result Checkpoint OpenError → Type 0
-ReadsBehind file told f rooms (Ok c) = IsBehind file told f rooms c
+ReadsBehind file told f rooms (Ok c) = IsReadAfter file told f rooms c
 ReadsBehind file told f rooms (Err e) = TellsCheckpoint file told f (Err e)
 
 -- ---- the whole file
@@ -182,5 +182,5 @@ pub record IsScanAs (version : ℕ) (layout : Layout) (told : Option Told) (s : 
 
 -- ---- where version 2 is asked for, as an open does
 
-abbrev pub IsScan : Layout → Option Told → Scanned → Type 0
-IsScan layout told s = IsScanAs 2 layout told s
+abbrev pub IsFileScan : Layout → Option Told → Scanned → Type 0
+IsFileScan layout told s = IsScanAs 2 layout told s

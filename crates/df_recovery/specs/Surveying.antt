@@ -12,11 +12,11 @@ use Rattle.df_format.specs.declared.header.Header.{Header}
 use Rattle.df_format.specs.declared.superblock.SuperFields.{SuperFields}
 use Rattle.df_format.specs.Spelling.{IsCheck}
 use Rattle.df_quorum.specs.declared.slot.Slot.{Slot}
-use Rattle.df_headers.specs.Ring.{IsTable}
+use Rattle.df_headers.specs.Ring.{IsHeaderTable}
 use Rattle.df_journal.specs.Scan.{Scan}
 use Rattle.df_journal.specs.Scanned as rings
 use Rattle.df_journal.specs.Scanned.{seen_at}
-use Rattle.df_journal.specs.Shows.{IsTable as AreSlots, TellsRings}
+use Rattle.df_journal.specs.Shows.{IsSeenTable as AreSlots, TellsRings}
 use Rattle.df_journal.specs.Tail.{AreNumbered}
 use Rattle.df_grid.specs.Table.{IsIdle}
 use Rattle.df_model.specs.Work.{first_tour}
@@ -33,7 +33,7 @@ use Rattle.df_units.specs.Bytes.{unit_at}
 use Rattle.df_units.specs.Superblocks.{AreFieldsOf}
 use Rattle.df_rooms.specs.State.{AreAsked, State}
 use Rattle.df_recovery.specs.Found.{IsChoiceOf, TellsFoundAs}
-use Rattle.df_recovery.specs.Plan.{AreDistinct, ArePlanned, IsScanOf, OthersAreShown, class_of_slot, decision_at, header_by, headers_in, mend_list, needs_header, slot_mends}
+use Rattle.df_recovery.specs.Plan.{AreDistinctUnits, ArePlanned, IsScanOf, OthersAreShown, class_of_slot, decision_at, header_by, headers_in, mend_list, needs_header, slot_mends}
 use Rattle.df_recovery.specs.Scanning.{AreCopies, IsFileOf}
 use Rattle.df_journal.specs.Starting.{start_of}
 use Rattle.df_recovery.specs.Surveys.{SurveysAs}
@@ -43,7 +43,7 @@ use Rattle.df_recovery.specs.declared.surveying.Surveyed.{Surveyed}
 
 -- ---- what was read makes sense by itself, whatever the disk tells
 
-pub record IsLawful (s : Scanned) : Type 0 where
+pub record IsLawfulScan (s : Scanned) : Type 0 where
   -- the file has the superblock's cluster, and its version
   pub named : s.file.cluster ≡ s.copies.found.content.cluster
   pub version : s.file.version ≡ s.copies.found.content.version
@@ -90,7 +90,7 @@ pub record AreAfter (traces : Traces) (sessions : List Session) : Type 0 where
 
 -- a surveyed file makes sense by itself
 pub record IsWellFound (s : Surveyed) : Type 0 where
-  pub read : IsLawful s.scanned
+  pub read : IsLawfulScan s.scanned
   pub ends : EndsBehind s.scanned.file.layout s.scanned.copies.found.content s.traces
   pub sessions : AreAfter s.traces s.scanned.sessions.sessions
   pub waiting : s.traces.replies + length s.waiting.items ≡ s.traces.tail.op
@@ -105,7 +105,7 @@ pub record KeepsRead (before after : Scanned) : Type 0 where
   pub sessions : after.sessions ≡ before.sessions
 
 -- and of which the sessions may differ, too
-pub record KeepsFile (before after : Scanned) : Type 0 where
+pub record KeepsScannedFile (before after : Scanned) : Type 0 where
   pub file : after.file ≡ before.file
   pub copies : after.copies ≡ before.copies
   pub slots : after.rooms.log.slots ≡ before.rooms.log.slots
@@ -147,9 +147,9 @@ state_found s = record {
 }
 
 -- the state that was found, or the refusal
-abbrev pub answer_of : {R : Type 0} → Result Surveyed (R × OpenError) → Result State OpenError
-answer_of (Ok s) = Ok (state_found s)
-answer_of (Err refused) = Err refused.1
+abbrev pub found_or_refused : {R : Type 0} → Result Surveyed (R × OpenError) → Result State OpenError
+found_or_refused (Ok s) = Ok (state_found s)
+found_or_refused (Err refused) = Err refused.1
 
 -- it is that of what the disk shows, where it tells that and its sectors are whole
 abbrev pub TellsSurveyAs : ℕ → Layout → Option Told → Result State OpenError → Type 0
@@ -160,9 +160,9 @@ TellsSurveyAs version layout (Some t) result = IsImage t.shown → SurveysAs ver
 
 -- the table and the list are planned from a scan with this head, what the places of the copies show and which of them are members
 pub record ArePlannedFrom (layout : Layout) (cluster : ℕ) (scan : Scan) (top : ℕ) (copies : List Slot) (members : List Bool) (table : List Header) (mends : List Mend) : Type 0 where
-  pub is_table : IsTable layout cluster table
+  pub is_table : IsHeaderTable layout cluster table
   pub from : (sh : Shape) (image : Units) (v : View) → IsScanOf layout sh image v scan top → IsSlotTable sh image v (headers_in table)
-  pub others : (sh : Shape) (image : Units) (v : View) → IsScanOf layout sh image v scan top → AreDistinct image → OthersAreShown layout scan.start top image (headers_in table)
+  pub others : (sh : Shape) (image : Units) (v : View) → IsScanOf layout sh image v scan top → AreDistinctUnits image → OthersAreShown layout scan.start top image (headers_in table)
   pub list : (image : Units) → TellsRings layout image scan → mends ≡ mend_list layout scan top image copies members
 
 -- those of a surveyed file are, each slot has the header that its decision says, and of each of the four copies it is said whether it is a member
@@ -190,13 +190,13 @@ abbrev pub headers_of : Layout → Image → SuperFields → (top : ℕ) → Lis
 headers_of layout image f top = map (planned_header layout image f top) (range_with_len 0 layout.slots)
 
 -- the choice is the image's, of each of its four copies, the table has the header that each slot is to have, and the list is what is to be mended
-pub record IsMendable (layout : Layout) (image : Image) (s : Surveyed) : Type 0 where
+pub record IsSurveyMendable (layout : Layout) (image : Image) (s : Surveyed) : Type 0 where
   pub choice : IsChoiceOf image s.scanned.copies.found.chosen
   pub four : length s.scanned.copies.found.chosen.members ≡ 4
   pub table : s.scanned.rooms.log.headers ≡ headers_of layout image s.scanned.copies.found.content s.traces.tail.op
   pub mends : s.scanned.rooms.log.mends.items ≡ mends_of layout image s.scanned.copies.found.content s.traces.tail.op s.scanned.copies.found.chosen.members
 
 -- of what a disk shows, where it tells that and its sectors are whole
-abbrev pub TellsMends : Layout → Option Told → Surveyed → Type 0
-TellsMends layout None s = Unit {0}
-TellsMends layout (Some t) s = IsImage t.shown → IsMendable layout t.shown s
+abbrev pub TellsPlannedMends : Layout → Option Told → Surveyed → Type 0
+TellsPlannedMends layout None s = Unit {0}
+TellsPlannedMends layout (Some t) s = IsImage t.shown → IsSurveyMendable layout t.shown s

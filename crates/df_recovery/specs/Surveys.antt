@@ -62,7 +62,7 @@ class_there layout cluster image (CopyPlace n) = Stale
 class_there layout cluster image place = class_at layout cluster image place
 
 -- an open ends with this place, by the theory, and this is what it shows
-pub record IsDamaged (version : ℕ) (layout : Layout) (image : Image) (place : Place) (class : Class) : Type 0 where
+pub record IsDamagedFile (version : ℕ) (layout : Layout) (image : Image) (place : Place) (class : Class) : Type 0 where
   pub file : DataFile
   pub fields : SuperFields
   pub has : HasFile image file fields
@@ -97,7 +97,7 @@ SurveysAs version layout image (Err (NoQuorum classes)) = HasNoQuorum image clas
 SurveysAs version layout image (Err (Version found)) = RefusesAs version image (Version found)
 SurveysAs version layout image (Err (BadField field value)) = HasFaultAs version image (BrokenField field value) ⊎ FailsTrailer version layout image field value
 SurveysAs version layout image (Err (LayoutDiffers reserved found)) = HasOther version layout reserved found image
-SurveysAs version layout image (Err (Damaged place class)) = IsDamaged version layout image place class
+SurveysAs version layout image (Err (Damaged place class)) = IsDamagedFile version layout image place class
 SurveysAs version layout image (Err BootSpent) = IsSpent version layout image
 SurveysAs version layout image (Err DiskFault) = Unit {0}
 

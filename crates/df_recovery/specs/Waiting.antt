@@ -10,12 +10,12 @@ use Rattle.df_journal.specs.Seen.{header_of_seen}
 use Rattle.df_rooms.specs.State.{State, prepare_sum}
 
 -- the checksum of a header
-abbrev pub checksum_of : Option Header → List ℕ
-checksum_of None = []
-checksum_of (Some h) = h.checksum
+abbrev pub header_checksum : Option Header → List ℕ
+header_checksum None = []
+header_checksum (Some h) = h.checksum
 
 abbrev pub known_sum : List Header → ℕ → List ℕ
-known_sum headers slot = checksum_of (slice_get headers slot)
+known_sum headers slot = header_checksum (slice_get headers slot)
 
 -- that of the prepare with this op, where the slot showed it, and zeros where it didn't
 abbrev pub shown_sum : ℕ → Option Header → List ℕ

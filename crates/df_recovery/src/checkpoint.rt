@@ -1,6 +1,6 @@
 // The checkpoint that a superblock names is read: its trailer's chain and text into the grid and the table of sessions.
 ghost use Rattle.std.specs.Prelude.{◌≡◌, ◌≢◌, [], vec_len};
-ghost use Rattle.df_recovery.specs.Below.{IsBlamed, AreFieldsOf, AreRead, is_open_fault};
+ghost use Rattle.df_recovery.specs.Below.{IsBlamed, AreFieldsOf, AreReadSessions, is_open_fault};
 ghost use Rattle.df_recovery.specs.Scanning.{AreRoomsOf, FitsFile, ReadsCheckpoint, ReadsText};
 
 use crate::OpenError;
@@ -47,7 +47,7 @@ fn empty_parts(bits: Vec<u64>, checks: Vec<Check>) -> Parts
 
 // The sessions of a trailer, as a table of the file.
 fn table_of(file: &DataFile, op: u64, sessions: ArrayVec<Session, 64>) -> SessionTable
-    requires { AreRead file.now.layout.clients op sessions.items }
+    requires { AreReadSessions file.now.layout.clients op sessions.items }
     ensures { result ≡ record { max = file.now.layout.clients; sessions = sessions.items } }
 {
     let _op = op;

@@ -2,8 +2,8 @@
 // damage in the order of open.
 ghost use Rattle.std.specs.Prelude.{◌≡◌, ◌<◌, ◌+◌, ◌^◌, length, position, IfOk, IfErr};
 ghost use Rattle.df_recovery.specs.Below.{CopyPlace, PreparePlace, ReplyPlace, Units, CountsAll, CountsBound, CountsReplies, entry, class_of, KeepsRules, ShowsTable, ShowsReplies};
-ghost use Rattle.df_journal.specs.Shows.{IsTable};
-ghost use Rattle.df_recovery.specs.Finding.{Answers, FileIsRead, IsDamage, KeptIsAnswer, RefusedIsAnswer, StateIsOpened, damage, lowest_of};
+ghost use Rattle.df_journal.specs.Shows.{IsSeenTable};
+ghost use Rattle.df_recovery.specs.Finding.{AnswersFinding, FileIsRead, IsDamage, KeptIsAnswer, RefusedIsAnswer, StateIsOpened, damage, lowest_of};
 ghost use Rattle.df_recovery.specs.Checkpoints.{AreOfCheckpoint};
 ghost use Rattle.df_journal.specs.Starting.{start_of};
 ghost use Rattle.df_recovery.specs.Surveying.{AreAfter, EndsBehind};
@@ -110,12 +110,12 @@ pub fn find_state(
     replies: &ReplyTable,
     sessions: &mut SessionTable,
 ) -> Result<Traces, OpenError>
-    requires table { IsTable layout.now slots.now.start.cluster slots.now.slots }
+    requires table { IsSeenTable layout.now slots.now.start.cluster slots.now.slots }
     requires size { found.now.content.slots ≡ layout.now.slots }
     requires start { slots.now.start ≡ start_of found.now.content }
     requires replies { length replies.now ≡ layout.now.clients }
     requires places { sessions.old.max ≡ layout.now.clients }
-    ensures answer { Answers (record { layout = layout.now; found = found.now; slots = slots.now; replies = replies.now; sessions = sessions.old.sessions })
+    ensures answer { AnswersFinding (record { layout = layout.now; found = found.now; slots = slots.now; replies = replies.now; sessions = sessions.old.sessions })
         result sessions.new.sessions }
     ensures tail { IfOk result (EndsBehind layout.now found.now.content) }
     ensures after { IfOk result (λ traces. AreOfCheckpoint found.now.content sessions.old.sessions → AreAfter traces sessions.new.sessions) }

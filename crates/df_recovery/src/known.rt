@@ -2,9 +2,9 @@
 ghost use Rattle.std.specs.Prelude.{◌≡◌, ◌<◌, ◌+◌, IfOk, IfErr};
 ghost use Rattle.df_format.specs.SuperRules.{IsUsable};
 ghost use Rattle.df_journal.specs.Known.{AllKnown};
-ghost use Rattle.df_journal.specs.Shows.{IsTable, TellsRings};
+ghost use Rattle.df_journal.specs.Shows.{IsSeenTable, TellsRings};
 ghost use Rattle.df_journal.specs.Tail.{IsReached};
-ghost use Rattle.df_recovery.specs.Below.{Checkpoint, IsWithin, KeepsRules, Shape, Units, pin_checksum_of, pin_of};
+ghost use Rattle.df_recovery.specs.Below.{Checkpoint, IsWithinRing, KeepsRules, Shape, Units, pin_checksum_of, pin_of};
 ghost use Rattle.df_recovery.specs.Known.{BlamesKnown, IsBaseOf};
 ghost use Rattle.df_journal.specs.Starting.{start_of};
 
@@ -33,7 +33,7 @@ fn find_fitting(
     slots: &SlotTable,
     sessions: &mut SessionTable,
 ) -> Result<Reach, u32>
-    requires table { IsTable layout.now slots.now.start.cluster slots.now.slots }
+    requires table { IsSeenTable layout.now slots.now.start.cluster slots.now.slots }
     requires start { slots.now.start ≡ start_of fields.now }
     requires rules { IsUsable fields.now }
     requires size { fields.now.slots ≡ layout.now.slots }
@@ -41,7 +41,7 @@ fn find_fitting(
     ensures reach { IfOk result (λ reach. (sh : Shape) (image : Units) (b : Checkpoint) → TellsRings layout.now image slots.now → IsBaseOf sh b layout.now fields.now sessions.old.sessions → AllKnown sh image b.content → IsReached sh image b reach sessions.new.sessions) }
     ensures unfit { IfErr result (λ slot. (sh : Shape) (image : Units) (b : Checkpoint) → TellsRings layout.now image slots.now → IsBaseOf sh b layout.now fields.now sessions.old.sessions → AllKnown sh image b.content → BlamesKnown sh image b slot) }
     ensures slot { IfErr result (λ slot. slot < layout.now.slots) }
-    ensures bounds { IfOk result (IsWithin fields.now.op layout.now.slots fields.now.op_checksum) }
+    ensures bounds { IfOk result (IsWithinRing fields.now.op layout.now.slots fields.now.op_checksum) }
     ensures sessions { KeepsRules sessions.old sessions.new }
 {
     let reach = find_reach(layout, slots, &fields.op_checksum, sessions);
@@ -62,7 +62,7 @@ pub(crate) fn find_known(
     slots: &SlotTable,
     sessions: &mut SessionTable,
 ) -> Result<Reach, u32>
-    requires table { IsTable layout.now slots.now.start.cluster slots.now.slots }
+    requires table { IsSeenTable layout.now slots.now.start.cluster slots.now.slots }
     requires start { slots.now.start ≡ start_of fields.now }
     requires rules { IsUsable fields.now }
     requires size { fields.now.slots ≡ layout.now.slots }
@@ -70,7 +70,7 @@ pub(crate) fn find_known(
     ensures reach { IfOk result (λ reach. (sh : Shape) (image : Units) (b : Checkpoint) → TellsRings layout.now image slots.now → IsBaseOf sh b layout.now fields.now sessions.old.sessions → IsReached sh image b reach sessions.new.sessions) }
     ensures blames { IfErr result (λ slot. (sh : Shape) (image : Units) (b : Checkpoint) → TellsRings layout.now image slots.now → IsBaseOf sh b layout.now fields.now sessions.old.sessions → BlamesKnown sh image b slot) }
     ensures slot { IfErr result (λ slot. slot < layout.now.slots) }
-    ensures bounds { IfOk result (IsWithin fields.now.op layout.now.slots fields.now.op_checksum) }
+    ensures bounds { IfOk result (IsWithinRing fields.now.op layout.now.slots fields.now.op_checksum) }
     ensures sessions { KeepsRules sessions.old sessions.new }
 {
     let named = pin_checksum_of(fields);

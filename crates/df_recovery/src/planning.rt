@@ -3,9 +3,9 @@
 ghost use Rattle.std.specs.Prelude.{◌≡◌, ◌<◌, ◌≤◌, ◌+◌, ◌++◌, false, not, get_or, length, vec_len, vec_capacity};
 ghost use Rattle.df_recovery.specs.Below.{Shape, Units, View, Layout as AnyLayout, entry, TellsRings, decision_of};
 ghost use Rattle.df_theory.specs.MendLaws.{IsTable as IsSlotTable};
-ghost use Rattle.df_headers.specs.Ring.{IsTable};
-ghost use Rattle.df_journal.specs.Shows.{IsTable as AreSlots};
-ghost use Rattle.df_recovery.specs.Plan.{AreDistinct, ArePlanned, IsScanOf, OthersAreShown, PutsHeader, class_of_slot, copy_mend, copy_mends, header_by, header_or_reserved, headers_in, if_wanted, is_mended, mend_list, needs_header, shown_class, slot_mend};
+ghost use Rattle.df_headers.specs.Ring.{IsHeaderTable};
+ghost use Rattle.df_journal.specs.Shows.{IsSeenTable as AreSlots};
+ghost use Rattle.df_recovery.specs.Plan.{AreDistinctUnits, ArePlanned, IsScanOf, OthersAreShown, PutsHeader, class_of_slot, copy_mend, copy_mends, header_by, header_or_reserved, headers_in, if_wanted, is_mended, mend_list, needs_header, shown_class, slot_mend};
 
 use df_cases::Decision;
 use df_format::Header;
@@ -157,10 +157,10 @@ pub fn plan(
     requires headers { length headers.old ≡ layout.now.slots }
     requires room { layout.now.slots + 4 ≤ vec_capacity mends.old }
     ensures four { length members.now ≡ 4 }
-    ensures table { IsTable layout.now cluster headers.new }
+    ensures table { IsHeaderTable layout.now cluster headers.new }
     ensures each { ArePlanned cluster found.now head layout.now.slots headers.new }
     ensures tells { (sh : Shape) (image : Units) (v : View) → IsScanOf layout.now sh image v found.now head → IsSlotTable sh image v (headers_in headers.new) }
-    ensures whole { (sh : Shape) (image : Units) (v : View) → IsScanOf layout.now sh image v found.now head → AreDistinct image → OthersAreShown layout.now found.now.start head image (headers_in headers.new) }
+    ensures whole { (sh : Shape) (image : Units) (v : View) → IsScanOf layout.now sh image v found.now head → AreDistinctUnits image → OthersAreShown layout.now found.now.start head image (headers_in headers.new) }
     ensures lists { (image : Units) → TellsRings layout.now image found.now → mends.new.items ≡ mend_list layout.now found.now head image copies.now members.now }
     ensures room { vec_capacity mends.new ≡ vec_capacity mends.old }
 {

@@ -1,14 +1,14 @@
 // The survey of a file of either version: what it shows is read, its state is found, and what is to be mended is listed. Nothing is
 // written.
 ghost use Rattle.std.specs.Prelude.{◌≡◌, ◌≤◌, ◌+◌, length, IfOk, IfErr};
-ghost use Rattle.df_journal.specs.Shows.{IsTable as AreSlots};
+ghost use Rattle.df_journal.specs.Shows.{IsSeenTable as AreSlots};
 ghost use Rattle.df_recovery.specs.Below.{IsBlamed, Told, is_open_fault};
 ghost use Rattle.df_recovery.specs.Checkpoints.{AreOfCheckpoint};
 ghost use Rattle.df_recovery.specs.Finding.{IsDamage, IsOfFile, read_of};
 ghost use Rattle.df_recovery.specs.Found.{Syncs};
 ghost use Rattle.df_recovery.specs.Plan.{ArePlanned};
 ghost use Rattle.df_recovery.specs.Scanning.{base_scanned, without_rooms};
-ghost use Rattle.df_recovery.specs.Surveying.{AreAfter, ArePlannedFrom, EndsBehind, IsLawful, IsPlannedFor, IsReadOf, IsWellFound, KeepsFile, KeepsRead, TellsMends, TellsSurveyAs, answer_of};
+ghost use Rattle.df_recovery.specs.Surveying.{AreAfter, ArePlannedFrom, EndsBehind, IsLawfulScan, IsPlannedFor, IsReadOf, IsWellFound, KeepsRead, KeepsScannedFile, TellsPlannedMends, TellsSurveyAs, found_or_refused};
 ghost use Rattle.df_recovery.specs.Surveys.{SurveysAs};
 ghost use Rattle.df_recovery.specs.Waiting.{waiting_in};
 
@@ -100,7 +100,7 @@ fn waits_in(
 
 // The survey of a file whose state was found: of what was read, with the sessions after the tail and their stored replies.
 fn with_plan(traces: &Traces, scanned: Scanned) -> Surveyed
-    requires scanned { IsLawful scanned }
+    requires scanned { IsLawfulScan scanned }
     requires tail { EndsBehind scanned.file.layout scanned.copies.found.content traces.now }
     requires sessions { AreAfter traces.now scanned.sessions.sessions }
     ensures found { IsWellFound result }
@@ -130,12 +130,12 @@ fn with_plan(traces: &Traces, scanned: Scanned) -> Surveyed
 
 // The survey of a file that was read: its state is found, and the mending planned.
 fn settle(scanned: Scanned) -> Result<Surveyed, (Rooms, OpenError)>
-    requires scanned { IsLawful scanned }
+    requires scanned { IsLawfulScan scanned }
     requires sessions { AreOfCheckpoint scanned.copies.found.content scanned.sessions.sessions }
     ensures found { IfOk result IsWellFound }
     ensures planned { IfOk result IsPlannedFor }
-    ensures answer { (t : Told) → IsOfFile t scanned.file (read_of scanned) (base_scanned scanned) → SurveysAs scanned.file.version scanned.file.layout t.shown (answer_of result) }
-    ensures kept { IfOk result (λ s. KeepsFile scanned s.scanned) }
+    ensures answer { (t : Told) → IsOfFile t scanned.file (read_of scanned) (base_scanned scanned) → SurveysAs scanned.file.version scanned.file.layout t.shown (found_or_refused result) }
+    ensures kept { IfOk result (λ s. KeepsScannedFile scanned s.scanned) }
     ensures given_back { IfErr result (λ refused. refused.0.layout ≡ scanned.file.layout) }
     ensures refusal { IfErr result (λ refused. IsDamage refused.1) }
 {
@@ -182,9 +182,9 @@ pub fn survey_version<D: Disk>(
     ensures layout { IfOk result (λ s. s.scanned.file.layout ≡ rooms.layout) }
     ensures version { IfOk result (λ s. s.scanned.file.version ≡ version) }
     ensures given_back { IfErr result (λ refused. refused.0.layout ≡ rooms.layout) }
-    ensures answer { TellsSurveyAs version rooms.layout (D.told disk.old) (answer_of result) }
+    ensures answer { TellsSurveyAs version rooms.layout (D.told disk.old) (found_or_refused result) }
     ensures read { IfOk result (λ s. IsReadOf version rooms.layout (D.told disk.old) s.scanned) }
-    ensures mends { IfOk result (TellsMends rooms.layout (D.told disk.old)) }
+    ensures mends { IfOk result (TellsPlannedMends rooms.layout (D.told disk.old)) }
     ensures planned { IfOk result IsPlannedFor }
     ensures barrier { Syncs (D.told disk.old) (D.told disk.new) (without_rooms result) }
     ensures cause { IsBlamed is_open_fault (D.faults disk.old) (D.faults disk.new) (without_rooms result) }

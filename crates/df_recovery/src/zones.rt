@@ -2,7 +2,7 @@
 ghost use Rattle.std.specs.Prelude.{◌≡◌, ◌≤◌, ◌^◌, OnOk};
 ghost use Rattle.df_recovery.specs.Below.{HasCause};
 ghost use Rattle.df_journal.specs.Scanned.{IsScanned};
-ghost use Rattle.df_replies.specs.Shown.{IsScanned as AreReplies};
+ghost use Rattle.df_replies.specs.Shown.{AreRepliesScanned as AreReplies};
 ghost use Rattle.df_recovery.specs.Scanning.{AreScanned};
 
 use df_base::Failed;

@@ -9,7 +9,7 @@ use Rattle.df_format.specs.Making.{for_body}
 use Rattle.df_format.specs.Message.{Message}
 use Rattle.df_format.specs.Spelling.{spelling_rest}
 use Rattle.df_journal.specs.Below.{IsInOwnSlot}
-use Rattle.df_sessions.specs.Table.{IsTable}
+use Rattle.df_sessions.specs.Table.{IsSessionTable}
 use Rattle.df_theory.specs.Shape.{Shape}
 use Rattle.df_units.specs.Meaning.{number_of}
 use Rattle.df_model.specs.After.{outcome, with_prepare}
@@ -28,7 +28,7 @@ use Rattle.df_model.specs.declared.answers.Receipt.{Receipt}
 use Rattle.df_model.specs.declared.errors.AppendError.{AppendError}
 use Rattle.df_model.specs.declared.errors.AppendError.TheVariants as append
 use Rattle.df_replica.specs.Answering.{Serves, answer_of, as_append}
-use Rattle.df_replica.specs.Appending.{IsAppend, append_events, appended, header_given, next_unit, receipt_of}
+use Rattle.df_replica.specs.Appending.{IsAppendCall, append_events, header_given, next_unit, receipt_of, with_prepare_appended}
 use Rattle.df_replica.specs.Serving.{IsCall, format, next}
 use Rattle.df_replica.specs.Supply.{IsSupplied}
 use Rattle.df_opening.specs.Below.{IsState, Represents, State, memory, shape, spelling}
@@ -65,7 +65,7 @@ module _ (s : State) (client request : ℕ) (body : List ℕ) (given : Given) (i
 
   -- ---- a receipt, and a fault
 
-  module _ (table : IsTable s.table) (none : first_refusal (append_refusals (memory s) client request body) ≡ None) (own : IsInOwnSlot s.file.layout u) where
+  module _ (table : IsSessionTable s.table) (none : first_refusal (append_refusals (memory s) client request body) ≡ None) (own : IsInOwnSlot s.file.layout u) where
     room : s.head + 1 ≤ s.fields.op + s.file.layout.slots
     room = (may_next s client request body is table live none).note.room
 
@@ -99,18 +99,18 @@ module _ (s : State) (client request : ℕ) (body : List ℕ) (given : Given) (i
           subst (λ (o : Option AppendError). memory_of sh (spelling s.file) (outcome o w (with_prepare w p) pair).0 ≡ record (unless_refused o m (appended_in m p)) { blocks = blocks_after (spelling s.file) m given command })
           none_there (change_law sh (spelling s.file) w given command work)
 
-      stands : Represents (appended s u) (with_prepare w p)
+      stands : Represents (with_prepare_appended s u) (with_prepare w p)
       stands =
           appended_memory s client request body is room slot_inside
           ∙ (λ i. appended_in (rep i) (prepare_of (rep i) (supplied_sum (sym sum i)) client request body))
           ∙ sym memory_is
 
-      allowed_at : (answer ≡ (next s.file w given command).1) × Represents (appended s u) (next s.file w given command).0
+      allowed_at : (answer ≡ (next s.file w given command).1) × Represents (with_prepare_appended s u) (next s.file w given command).0
       allowed_at =
-          subst (λ (x : Work × Answer). (answer ≡ x.1) × Represents (appended s u) x.0) (sym next_is)
+          subst (λ (x : Work × Answer). (answer ≡ x.1) × Represents (with_prepare_appended s u) x.0) (sym next_is)
           ((λ i. ToAppend (Ok ((rep i).head + 1, supplied_sum (sym sum i)))), stands)
 
-    allowed_as : Answered given command s (appended s u) (append_events s u) answer
+    allowed_as : Answered given command s (with_prepare_appended s u) (append_events s u) answer
     allowed_as = record {
       file = refl;
       live = live;
@@ -122,14 +122,14 @@ module _ (s : State) (client request : ℕ) (body : List ℕ) (given : Given) (i
     allowed_calls : AreCalls given command s (append_events s u)
     allowed_calls g w t k = allowed_does s client request body given is sum none own g w t k
 
-    receipt_call : (old new : Option Told) → IsSupplied s old command given → new ≡ after_all (append_events s u) old → IsCall given command s (appended s u) old new (Some answer)
-    receipt_call old new supplied all = answered_call given command s (append_events s u) input allowed_calls (allowed_puts s client request body given is sum none own) (appended s u) answer allowed_as old new supplied all
+    receipt_call : (old new : Option Told) → IsSupplied s old command given → new ≡ after_all (append_events s u) old → IsCall given command s (with_prepare_appended s u) old new (Some answer)
+    receipt_call old new supplied all = answered_call given command s (append_events s u) input allowed_calls (allowed_puts s client request body given is sum none own) (with_prepare_appended s u) answer allowed_as old new supplied all
 
     fault_call : (old new : Option Told) (t : State) → IsSupplied s old command given → t.live ≡ false → AddsPart (append_events s u) old new → IsCall given command s t old new None
     fault_call old new t supplied dead part = stopped_call given command s (append_events s u) input allowed_calls (allowed_puts s client request body given is sum none own) t old new supplied dead part
 
 -- a refusal leaves all as it was
-pub refused_exact : (client request : ℕ) (body : List ℕ) (s : State) (told : Option Told) (e : AppendError) → first_refusal (append_refusals (memory s) client request body) ≡ Some e → is_append_fault e ≡ false → IsAppend client request body s s told told (Err e)
+pub refused_exact : (client request : ℕ) (body : List ℕ) (s : State) (told : Option Told) (e : AppendError) → first_refusal (append_refusals (memory s) client request body) ≡ Some e → is_append_fault e ≡ false → IsAppendCall client request body s s told told (Err e)
 refused_exact client request body s told append.DiskFault some safe = absurd (let bad : true ≡ false = safe in cc)
 refused_exact client request body s told e some safe = (some, refl, refl)
 
@@ -139,14 +139,14 @@ module _ (s : State) (client request : ℕ) (body : List ℕ) (is : IsState s) (
       subst (λ (o : Option Answer). Serves (Append client request body) s s old old o) (sym (refused_answer is_append_fault e (append_unblamed (memory s) client request body e some) as_append))
       (λ given supplied. refused_call s client request body given is live fits supplied e some old supplied)
 
-  pub receipt_serves : IsTable s.table → first_refusal (append_refusals (memory s) client request body) ≡ None → IsInOwnSlot s.file.layout (next_unit s client request body)
-      → (t : State) (receipt : Receipt) (old new : Option Told) → receipt ≡ receipt_of (next_unit s client request body).header → t ≡ appended s (next_unit s client request body)
+  pub receipt_serves : IsSessionTable s.table → first_refusal (append_refusals (memory s) client request body) ≡ None → IsInOwnSlot s.file.layout (next_unit s client request body)
+      → (t : State) (receipt : Receipt) (old new : Option Told) → receipt ≡ receipt_of (next_unit s client request body).header → t ≡ with_prepare_appended s (next_unit s client request body)
       → new ≡ after_all (append_events s (next_unit s client request body)) old → Serves (Append client request body) s t old new (answer_of is_append_fault as_append (Ok receipt))
   receipt_serves table none own t receipt old new same next_is all =
       subst (λ (x : State). Serves (Append client request body) s x old new (answer_of is_append_fault as_append (Ok receipt))) (sym next_is)
-      (subst (λ (r : Receipt). Serves (Append client request body) s (appended s (next_unit s client request body)) old new (answer_of is_append_fault as_append (Ok r))) (sym same)
+      (subst (λ (r : Receipt). Serves (Append client request body) s (with_prepare_appended s (next_unit s client request body)) old new (answer_of is_append_fault as_append (Ok r))) (sym same)
       (λ given supplied. receipt_call s client request body given is live fits supplied table none own old new supplied all))
 
-  pub fault_serves : IsTable s.table → first_refusal (append_refusals (memory s) client request body) ≡ None → IsInOwnSlot s.file.layout (next_unit s client request body)
+  pub fault_serves : IsSessionTable s.table → first_refusal (append_refusals (memory s) client request body) ≡ None → IsInOwnSlot s.file.layout (next_unit s client request body)
       → (t : State) (old new : Option Told) → t.live ≡ false → AddsPart (append_events s (next_unit s client request body)) old new → Serves (Append client request body) s t old new None
   fault_serves table none own t old new dead part = λ given supplied. fault_call s client request body given is live fits supplied table none own old new t supplied dead part

@@ -17,7 +17,7 @@ use Rattle.df_units.specs.Meaning.{header_of, message_of, number_of}
 use Rattle.df_model.specs.Memory.{Memory}
 use Rattle.df_model.specs.Changing.{appended_in, unstored}
 use Rattle.df_opening.specs.Below.{IsState, State, memory, prepare_sum, stored_sum, sum_of}
-use Rattle.df_replica.specs.Appending.{appended, next_unit}
+use Rattle.df_replica.specs.Appending.{next_unit, with_prepare_appended}
 
 -- ---- the sessions
 
@@ -55,10 +55,10 @@ sums_on slots base hs h a (suc n) e at above room inside =
 -- ---- the whole
 
 pub appended_memory : (s : State) (client request : ℕ) (body : List ℕ) → IsState s → s.head + 1 ≤ s.fields.op + s.file.layout.slots → (s.head + 1) % s.file.layout.slots < length s.headers
-    → memory (appended s (next_unit s client request body)) ≡ appended_in (memory s) (message_of (next_unit s client request body))
+    → memory (with_prepare_appended s (next_unit s client request body)) ≡ appended_in (memory s) (message_of (next_unit s client request body))
 appended_memory s client request body is room inside =
     let u : Message = next_unit s client request body in
-    let t : State = appended s u in
+    let t : State = with_prepare_appended s u in
     let T : List theory.Session → List ℕ → List (Option ℕ) → List ℕ → Memory = λ ss ps st ws. record (memory t) { sessions = ss; prepares = ps; stored = st; waiting = ws } in
     let sums = map (sum_at s.file.layout.slots t.headers) in
     ap (λ (ss : List theory.Session). T ss (map (prepare_sum t) (range_with_len (s.fields.op + 1) (s.head + 1 - s.fields.op))) (map stored_sum t.table.sessions) (map number_of t.waiting)) (noted_table (header_of u.header) s.table.sessions)

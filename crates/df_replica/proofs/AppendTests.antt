@@ -12,7 +12,7 @@ use Rattle.std.proofs.Math.Nat.{mod-lt}
 use Rattle.df_base.proofs.Laws.{and_false, none_passes, no_elements}
 use Rattle.df_sessions.specs.declared.session.Session as told
 use Rattle.df_sessions.specs.Requests.{session_of, sessions_of}
-use Rattle.df_sessions.specs.Table.{IsKnown, IsTable, has_client, requested, with_request}
+use Rattle.df_sessions.specs.Table.{IsKnownClient, IsSessionTable, has_client, requested, with_request}
 use Rattle.df_theory.specs.Sessions.{MayAsk}
 use Rattle.df_theory.specs.Units.{Header, Session}
 use Rattle.df_model.specs.Refusals.{append_refusals, first_refusal, is_new, last_op, next_request, session_of_client}
@@ -56,7 +56,7 @@ known_by client ss (Some i) is old = search rules
 known_by client ss None is old = absurd (let new = ap is_new (found_by client ss None is) in cc)
 
 -- a client that isn't new is known
-pub known_client : (client : ℕ) (ss : List told.Session) → is_new (session_of_client client (map session_of ss)) ≡ false → IsKnown client ss
+pub known_client : (client : ℕ) (ss : List told.Session) → is_new (session_of_client client (map session_of ss)) ≡ false → IsKnownClient client ss
 known_client client ss old = known_by client ss (position (has_client client) ss) refl old
 
 pub small_session : (ss : List told.Session) (o : Option ℕ) (s : told.Session) → AreNumbered ss → session_at ss o ≡ Some s → s.request ≤ 2 ^ 62
@@ -73,7 +73,7 @@ may_ask room client request replies h ss None at few places answered next named 
 may_ask room client request replies h ss (Some s) at few places answered next named asked mark =
     known_asks room h ss s (subst (λ (n : ℕ). session_of_client n ss ≡ Some s) (sym named) at) few (asked ∙ next) (omega (arith, answered, mark))
 
-pub may_next : (s : State) (client request : ℕ) (body : List ℕ) → IsState s → IsTable s.table → s.live ≡ true → first_refusal (append_refusals (memory s) client request body) ≡ None → MayNext s client request (length body)
+pub may_next : (s : State) (client request : ℕ) (body : List ℕ) → IsState s → IsSessionTable s.table → s.live ≡ true → first_refusal (append_refusals (memory s) client request body) ≡ None → MayNext s client request (length body)
 may_next s client request body is table live none =
     let tests = all_pass (append_refusals (memory s) client request body) none in
     let last = or_parts _ _ tests.1.1.1.1.1.1.1.1.0 in

@@ -20,7 +20,7 @@ use Rattle.df_model.proofs.Laws.{change_law}
 use Rattle.df_model.specs.declared.errors.BeginError.{BeginError}
 use Rattle.df_opening.specs.Below.{Represents, State, shape, spelling}
 use Rattle.df_replica.specs.Answering.{Serves, begin_answer}
-use Rattle.df_replica.specs.Beginning.{begin_refusal, begun, needed}
+use Rattle.df_replica.specs.Beginning.{begin_refusal, needed, with_checkpoint_begun}
 use Rattle.df_replica.specs.Serving.{IsCall, next}
 use Rattle.df_replica.specs.Supply.{IsSupplied}
 use Rattle.df_replica.proofs.Calls.{AreCalls, Answered, answered_call, answered_still}
@@ -85,15 +85,15 @@ module _ (s : State) (root : List ℕ) (given : Given) (bytes : AreBytes root) (
           ≡ record (unless_refused o m (record m { running = Some (begun_in (spelling s.file) m root) })) { blocks = unless_refused o m.blocks (blocks_captured m.blocks (take (needed_of (spelling s.file) m root) (free_of m))) })
           none_there (change_law (shape s.file) (spelling s.file) w given command work)
 
-      stands : Represents (begun s root) later
+      stands : Represents (with_checkpoint_begun s root) later
       stands = ap (λ (x : Memory). begun_memory (spelling s.file) x root) rep ∙ sym memory_is
 
-      allowed_at : (ToBegin (Ok (needed s root)) ≡ (next s.file w given command).1) × Represents (begun s root) (next s.file w given command).0
+      allowed_at : (ToBegin (Ok (needed s root)) ≡ (next s.file w given command).1) × Represents (with_checkpoint_begun s root) (next s.file w given command).0
       allowed_at =
-          subst (λ (x : Work × Answer). (ToBegin (Ok (needed s root)) ≡ x.1) × Represents (begun s root) x.0) (sym next_is)
+          subst (λ (x : Work × Answer). (ToBegin (Ok (needed s root)) ≡ x.1) × Represents (with_checkpoint_begun s root) x.0) (sym next_is)
           (ap (λ (x : Memory). ToBegin (Ok (needed_of (spelling s.file) x root))) rep, stands)
 
-    begun_as : Answered given command s (begun s root) [] (ToBegin (Ok (needed s root)))
+    begun_as : Answered given command s (with_checkpoint_begun s root) [] (ToBegin (Ok (needed s root)))
     begun_as = record {
       file = refl;
       live = live;
@@ -102,14 +102,14 @@ module _ (s : State) (root : List ℕ) (given : Given) (bytes : AreBytes root) (
       ring = λ g w a b k all. subst (λ (x : Told). ShowsRing s.file.layout s.file.cluster (now x.log) s.headers) (sym (same_Some _ _ all)) k.ring;
     }
 
-    pub begun_call : (told : Option Told) → IsSupplied s told command given → IsCall given command s (begun s root) told told (Some (ToBegin (Ok (needed s root))))
-    begun_call told supplied = answered_call given command s [] input does does_nothing (begun s root) (ToBegin (Ok (needed s root))) begun_as told told supplied refl
+    pub begun_call : (told : Option Told) → IsSupplied s told command given → IsCall given command s (with_checkpoint_begun s root) told told (Some (ToBegin (Ok (needed s root))))
+    begun_call told supplied = answered_call given command s [] input does does_nothing (with_checkpoint_begun s root) (ToBegin (Ok (needed s root))) begun_as told told supplied refl
 
 module _ (s : State) (root : List ℕ) (bytes : AreBytes root) (live : s.live ≡ true) where
   pub refusal_serves : (e : BeginError) → begin_refusal s root ≡ Some e → (told : Option Told) → Serves (Begin root) s s told told (begin_answer (Err e))
   refusal_serves e some told = λ given supplied. refused_call s root given bytes live supplied e some told supplied
 
-  pub begun_serves : begin_refusal s root ≡ None → (t : State) (blocks : ℕ) → blocks ≡ needed s root → t ≡ begun s root → (told : Option Told) → Serves (Begin root) s t told told (begin_answer (Ok blocks))
+  pub begun_serves : begin_refusal s root ≡ None → (t : State) (blocks : ℕ) → blocks ≡ needed s root → t ≡ with_checkpoint_begun s root → (told : Option Told) → Serves (Begin root) s t told told (begin_answer (Ok blocks))
   begun_serves none t blocks same next_is told =
       subst (λ (x : State). Serves (Begin root) s x told told (begin_answer (Ok blocks))) (sym next_is)
-      (subst (λ (n : ℕ). Serves (Begin root) s (begun s root) told told (begin_answer (Ok n))) (sym same) (λ given supplied. begun_call s root given bytes live supplied none told supplied))
+      (subst (λ (n : ℕ). Serves (Begin root) s (with_checkpoint_begun s root) told told (begin_answer (Ok n))) (sym same) (λ given supplied. begun_call s root given bytes live supplied none told supplied))

@@ -1,21 +1,21 @@
 -- The state with a checkpoint that was begun makes sense.
 use Rattle.std.proofs.Common.{◌≡◌, ◌∙◌, ℕ, ◌-◌, List, length, take, Option, refl, subst, arith}
 use Rattle.std.proofs.lemmas.List.{length-take}
-use Rattle.df_sessions.specs.Table.{IsTable}
+use Rattle.df_sessions.specs.Table.{IsSessionTable}
 use Rattle.df_theory.specs.Trailer.{IsCount}
 use Rattle.df_model.specs.Blocks.{Blocks}
 use Rattle.df_model.specs.Memory.{free_of}
 use Rattle.df_opening.specs.Below.{RunningState, IsCourse, IsLevel, IsRunning, IsState, State, memory}
 use Rattle.df_replica.specs.declared.begin.Plan.{Plan}
-use Rattle.df_replica.specs.Beginning.{MayBegin, begun, captured, needed}
+use Rattle.df_replica.specs.Beginning.{MayBeginCheckpoint, captured, needed, with_checkpoint_begun}
 
 -- a state makes sense with other blocks and another course, where those do
 pub with_course : (s : State) (b : Blocks) (r : Option RunningState) → IsState s → IsCourse s.file s.fields s.head b r → IsLevel s.head s.head_checksum r → IsState (record s { blocks = b; running = r })
 with_course s b r is course level = record { in_file = is.in_file; booted = is.booted; ends = is.ends; awaits = is.awaits; staging = is.staging; captured = level; course = course }
 
-module _ (s : State) (root : List ℕ) (plan : Plan) (is : IsState s) (table : IsTable s.table) (may : MayBegin s root plan) where
+module _ (s : State) (root : List ℕ) (plan : Plan) (is : IsState s) (table : IsSessionTable s.table) (may : MayBeginCheckpoint s root plan) where
   abbrev b : Blocks
-  b = (begun s root).blocks
+  b = (with_checkpoint_begun s root).blocks
 
   taken : length (take (needed s root) (free_of (memory s))) ≡ needed s root
   taken = length-take (needed s root) (free_of (memory s)) ∙ (let all = may.free in omega (arith, all))

@@ -44,7 +44,7 @@ use Rattle.df_model.proofs.Laws.{change_law}
 use Rattle.df_model.specs.declared.errors.BlockError.{BlockError}
 use Rattle.df_opening.specs.Below.{IsState, Represents, State, memory, shape, spelling}
 use Rattle.df_replica.specs.Answering.{Serves, answer_of, as_write_block}
-use Rattle.df_replica.specs.Blocks.{block_events, block_given, next_block, reference_of, written}
+use Rattle.df_replica.specs.Blocks.{block_events, block_header_given, next_block, reference_of, written}
 use Rattle.df_replica.specs.Serving.{Grade, IsCall, IsKept, format, next}
 use Rattle.df_replica.specs.Supply.{IsSupplied}
 use Rattle.df_replica.proofs.Calls.{AreCalls, Answered, answered_call, answered_still, stopped_call}
@@ -60,7 +60,7 @@ module _ (s : State) (kind : ℕ) (body : List ℕ) (given : Given) (is : IsStat
   command = WriteBlock kind body
 
   input : IsInput given command
-  input = record { checksums = subst (λ (g : Given). AreChecksums (supplied_sums g)) (sym sum) (field_at-lt 16 0 u.header.checksum (AreBytes-check_of (spelling_rest (for_body (block_given s (next_address (memory s)) kind) body))), tt); fields = tt }
+  input = record { checksums = subst (λ (g : Given). AreChecksums (supplied_sums g)) (sym sum) (field_at-lt 16 0 u.header.checksum (AreBytes-check_of (spelling_rest (for_body (block_header_given s (next_address (memory s)) kind) body))), tt); fields = tt }
 
   module _ (w : Work) (rep : Represents s w) where
     test_is : (o : Option BlockError) → first_refusal (block_refusals (memory s) kind body) ≡ o → first_refusal (block_refusals (memory_of (shape s.file) (spelling s.file) w) kind body) ≡ o

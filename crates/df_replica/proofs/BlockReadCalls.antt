@@ -12,7 +12,7 @@ use Rattle.df_format.specs.Message.{Message}
 use Rattle.df_format.specs.Own.{place_in}
 use Rattle.df_buffers.specs.Sounds.{Holding}
 use Rattle.df_trailer.specs.Rooms.{number_in}
-use Rattle.df_grid.specs.Grid.{IsKnownUnit}
+use Rattle.df_grid.specs.Grid.{IsKnownBlock}
 use Rattle.df_grid.specs.Reads.{HoldsKnown, Loads, ReadsBlock}
 use Rattle.df_units.specs.Meaning.{block_of}
 use Rattle.df_journal.specs.Append.{ShowsRing}
@@ -85,7 +85,7 @@ found_by s address (Some t) b is = is
 -- a block is lent
 pub record LendsBlock (s : State) (address : ℕ) (told : Option Told) (u : Message) : Type 0 where
   pub exact : IsReadBlock address s told (Ok (block_of u))
-  pub known : IsKnownUnit Block s.file.layout s.file.cluster address (sum_at address s.blocks.live) u
+  pub known : IsKnownBlock Block s.file.layout s.file.cluster address (sum_at address s.blocks.live) u
   pub call : ServesBlockRead (ReadBlock address) s s told (Some (Ok (block_of u))) (Some (ToReadBlock (Ok (block_of u))))
 
 -- a class is told

@@ -9,7 +9,7 @@ use Rattle.df_model.specs.Work.{is_known}
 use Rattle.df_model.proofs.Laws.{known_none, without_none}
 use Rattle.df_model.specs.declared.errors.BlockError.{BlockError}
 use Rattle.df_opening.specs.Below.{DataFile, RunningState, IsCourse, IsState, State, course_in, memory}
-use Rattle.df_replica.specs.Blocks.{address_or, with_blocks}
+use Rattle.df_replica.specs.Blocks.{address_or, with_grid_blocks}
 use Rattle.df_replica.proofs.BeginState.{with_course}
 
 -- ---- other live blocks
@@ -22,14 +22,14 @@ course_kept : (file : DataFile) (b : Blocks) (live : List (ℕ × ℕ)) (r : Opt
 course_kept file b live None = refl
 course_kept file b live (Some r) = refl
 
-pub blocks_memory : (s : State) (live : List (ℕ × ℕ)) → memory (with_blocks s (lives s.blocks live)) ≡ record (memory s) { blocks = lives s.blocks live }
+pub blocks_memory : (s : State) (live : List (ℕ × ℕ)) → memory (with_grid_blocks s (lives s.blocks live)) ≡ record (memory s) { blocks = lives s.blocks live }
 blocks_memory s live = ap (λ (r : Option Course). record (memory s) { blocks = lives s.blocks live; running = r }) (course_kept s.file s.blocks live s.running)
 
 course_live : (file : DataFile) (f : SuperFields) (head : ℕ) (b : Blocks) (live : List (ℕ × ℕ)) (r : Option RunningState) → IsCourse file f head b r → IsCourse file f head (lives b live) r
 course_live file f head b live None idle = record { captured = idle.captured; written = idle.written; left = idle.left }
 course_live file f head b live (Some r) is = record { begun = is.begun; contents = is.contents; trailer = is.trailer; progress = record { all = is.all; written = is.written } }
 
-pub live_state : (s : State) (live : List (ℕ × ℕ)) → IsState s → IsState (with_blocks s (lives s.blocks live))
+pub live_state : (s : State) (live : List (ℕ × ℕ)) → IsState s → IsState (with_grid_blocks s (lives s.blocks live))
 live_state s live is = with_course s (lives s.blocks live) s.running is (course_live s.file s.fields s.head s.blocks live s.running is.course) is.captured
 
 -- ---- an address that isn't live

@@ -6,19 +6,19 @@ use Rattle.df_format.proofs.Laws.{faults}
 use Rattle.df_format.specs.Spelling.{IsCheck}
 use Rattle.df_format.specs.SuperRules.{IsSuper, IsUsable, fault_of}
 use Rattle.df_format.specs.declared.superblock.SuperFields.{SuperFields}
-use Rattle.df_sessions.specs.Table.{IsTable}
+use Rattle.df_sessions.specs.Table.{IsSessionTable}
 use Rattle.df_theory.specs.Trailer.{greatest_trailer}
 use Rattle.df_model.specs.Blocks.{Blocks}
 use Rattle.df_units.specs.Meaning.{layout_of, number_of}
 use Rattle.df_units.proofs.Laws.{whole_check}
-use Rattle.df_grid.specs.Table.{last_of}
+use Rattle.df_grid.specs.Table.{last_trailer_block}
 use Rattle.df_grid.specs.Writes.{first_address, first_sum}
 use Rattle.df_opening.specs.Below.{IsLevel, IsRunning, IsState, MayRecord, RunningState, State}
 use Rattle.df_opening.proofs.Laws.{recorded_is_super, second_as, staging_on}
 use Rattle.df_replica.specs.Stepping.{captured_fields, finished, next_fields}
 
 -- the last trailer block is the first of those that are listed
-first_pair : (written : List (ℕ × ℕ)) (left : List ℕ) (address sum : ℕ) → left ≡ [] → Some (address, sum) ≡ last_of left written → (first_address written ≡ address) × (first_sum written ≡ sum)
+first_pair : (written : List (ℕ × ℕ)) (left : List ℕ) (address sum : ℕ) → left ≡ [] → Some (address, sum) ≡ last_trailer_block left written → (first_address written ≡ address) × (first_sum written ≡ sum)
 first_pair written (a ∷ more) address sum done is = absurd (cc)
 first_pair [] [] address sum done is = absurd (cc)
 first_pair (x ∷ xs) [] address sum done is =
@@ -26,7 +26,7 @@ first_pair (x ∷ xs) [] address sum done is =
     (ap (λ (y : ℕ × ℕ). y.0) (sym same), ap (λ (y : ℕ × ℕ). y.1) (sym same))
 
 -- by its own checksum
-pub last_is : (b : Blocks) (address : ℕ) (checksum : List ℕ) → b.left ≡ [] → Some (address, number_of checksum) ≡ last_of b.left b.written → IsCheck checksum
+pub last_is : (b : Blocks) (address : ℕ) (checksum : List ℕ) → b.left ≡ [] → Some (address, number_of checksum) ≡ last_trailer_block b.left b.written → IsCheck checksum
     → (first_address b.written ≡ address) × (first_sum b.written ≡ number_of checksum) × (checksum ≡ spelled 16 (first_sum b.written))
 last_is b address checksum done is whole =
     let pair = first_pair b.written b.left address (number_of checksum) done is in
@@ -34,7 +34,7 @@ last_is b address checksum done is whole =
 
 -- ---- what the superblock says
 
-module _ (s : State) (r : RunningState) (is : IsState s) (table : IsTable s.table) (super : IsSuper s.fields) (runs : IsRunning s.file s.fields s.head s.blocks r) (level : IsLevel s.head s.head_checksum (Some r))
+module _ (s : State) (r : RunningState) (is : IsState s) (table : IsSessionTable s.table) (super : IsSuper s.fields) (runs : IsRunning s.file s.fields s.head s.blocks r) (level : IsLevel s.head s.head_checksum (Some r))
     (some : 1 ≤ first_address s.blocks.written) (inside : first_address s.blocks.written ≤ s.file.layout.blocks) where
   abbrev f : SuperFields
   f = captured_fields s.fields r (first_address s.blocks.written) (spelled 16 (first_sum s.blocks.written))

@@ -24,8 +24,8 @@ use Rattle.df_model.proofs.Laws.{change_law}
 use Rattle.df_opening.specs.Below.{IsState, Represents, State, memory, shape, spelling}
 use Rattle.df_replica.specs.declared.flush.Group.{Group}
 use Rattle.df_replica.specs.Answering.{Serves, answer_of, as_flush}
-use Rattle.df_replica.specs.Appending.{unit_of}
-use Rattle.df_replica.specs.Flushing.{AreHeld, flush_events, flush_units, flushed, group_in, header_in, sums_of, units_in}
+use Rattle.df_replica.specs.Appending.{unit_made}
+use Rattle.df_replica.specs.Flushing.{AreHeld, flush_events, flush_units, flushed, group_in, group_prepares, header_in, sums_of}
 use Rattle.df_replica.specs.Serving.{IsCall, format, next}
 use Rattle.df_replica.specs.Supply.{IsSupplied}
 use Rattle.df_replica.proofs.Calls.{AreCalls, Answered, answered_call, answered_still, stopped_call}
@@ -35,10 +35,10 @@ use Rattle.df_replica.proofs.Unblamed.{flush_unblamed, refused_answer}
 use Rattle.df_replica.proofs.WritesOn.{StandsIn}
 
 -- each checksum is one
-sums_are : (g : Group) (op : ℕ) (parent : List ℕ) (rs : List Request) → AreChecksums (sums_of (units_in g op parent rs))
+sums_are : (g : Group) (op : ℕ) (parent : List ℕ) (rs : List Request) → AreChecksums (sums_of (group_prepares g op parent rs))
 sums_are g op parent [] = tt
 sums_are g op parent (r ∷ rs) =
-    let u = unit_of (header_in g op parent r) r.body in
+    let u = unit_made (header_in g op parent r) r.body in
     (field_at-lt 16 0 u.header.checksum (AreBytes-check_of (spelling_rest (for_body (header_in g op parent r) r.body))), sums_are g (op + 1) u.header.checksum rs)
 
 module _ (s : State) (given : Given) (is : IsState s) (live : s.live ≡ true) (sum : given ≡ ForFlush (sums_of (flush_units s))) where

@@ -24,10 +24,10 @@ use Rattle.df_units.specs.Bytes.{unit_at}
 use Rattle.df_units.specs.Format.{format_of, shape_as, shape_of}
 use Rattle.df_units.specs.Meaning.{layout_of, message_of, number_of, number_or}
 use Rattle.df_units.specs.Puts.{put_headers}
-use Rattle.df_headers.specs.Ring.{in_sector, write_steps}
+use Rattle.df_headers.specs.Ring.{header_write_steps, in_sector}
 use Rattle.df_journal.specs.Append.{ShowsRing, settle_events, settle_steps}
 use Rattle.df_journal.specs.Flush as journal
-use Rattle.df_journal.specs.Flush.{EndsFlushed, MayFlushOn, MayPut, flush_steps, group_steps, messages_of, units_of, with_headers}
+use Rattle.df_journal.specs.Flush.{EndsFlushed, MayFlushOn, MayPutGroup, flush_steps, group_steps, held_prepares, messages_of, with_headers}
 use Rattle.df_journal.proofs.Laws.{GroupPuts, flush_are_steps, flush_puts, group_ends, length_of_units}
 use Rattle.df_model.specs.Commands.{Flush, ForFlush, Given, supplied_sums}
 use Rattle.df_model.specs.Laws.{DoesFlush, UnlessRefused}
@@ -42,8 +42,8 @@ use Rattle.df_model.proofs.Laws.{all_pass, flush_may_law}
 use Rattle.df_opening.specs.Below.{IsState, Represents, State, memory, shape, spelling}
 use Rattle.df_opening.proofs.Laws.{boot_made, firmly, unit_after, after_join}
 use Rattle.df_replica.specs.declared.flush.Group.{Group}
-use Rattle.df_replica.specs.Appending.{unit_of}
-use Rattle.df_replica.specs.Flushing.{AreHeld, flush_events, flush_units, group_events, group_in, header_in, sums_of, units_in}
+use Rattle.df_replica.specs.Appending.{unit_made}
+use Rattle.df_replica.specs.Flushing.{AreHeld, flush_events, flush_units, group_events, group_in, group_prepares, header_in, sums_of}
 use Rattle.df_replica.specs.Serving.{Grade, IsKept, format}
 use Rattle.df_replica.proofs.Calls.{AreCalls}
 use Rattle.df_replica.proofs.FlushUnits.{length_units, puts_same}
@@ -58,16 +58,16 @@ number_is n other some = cond-false (n == 0) other n (ne_eqb n 0 (λ none. omega
 
 -- with the checksums of the prepares that are made, the machine's group is these prepares
 group_same : (s : State) (op : ℕ) (parent : List ℕ) (rs : List Request) → 0 < s.head + length s.staged
-    → prepares_in (memory s) (s.head + 1) (s.head + length s.staged) op (number_of parent) rs (sums_of (units_in (group_in s) op parent rs)) ≡ messages_of (units_in (group_in s) op parent rs)
+    → prepares_in (memory s) (s.head + 1) (s.head + length s.staged) op (number_of parent) rs (sums_of (group_prepares (group_in s) op parent rs)) ≡ messages_of (group_prepares (group_in s) op parent rs)
 group_same s op parent [] some = refl
 group_same s op parent (r ∷ rs) some =
     let g = group_in s in
-    let u = unit_of (header_in g op parent r) r.body in
+    let u = unit_made (header_in g op parent r) r.body in
     let m = memory s in
     let first = number_is (s.head + 1) op (omega arith) in
     let last = number_is (s.head + length s.staged) op some in
     ap (λ (ps : List theory.Message). record { header = record (message_of u).header { group = s.head + 1; group_last = s.head + length s.staged }; body = r.body } ∷ ps) (group_same s (op + 1) u.header.checksum rs some)
-    ∙ (λ i. record { header = record (message_of u).header { group = sym first i; group_last = sym last i }; body = r.body } ∷ messages_of (units_in g (op + 1) u.header.checksum rs))
+    ∙ (λ i. record { header = record (message_of u).header { group = sym first i; group_last = sym last i }; body = r.body } ∷ messages_of (group_prepares g (op + 1) u.header.checksum rs))
 
 -- ---- what its steps put
 
@@ -84,10 +84,10 @@ puts_leave n (u ∷ us) place o slots =
 abbrev IsNoHeader : Place → Type 0
 IsNoHeader place = (sector : ℕ) (headers : List Header) → put_headers sector headers place ≡ None
 
-writes_leave : (table : List Header) (sectors : List ℕ) (place : Place) (o : Option AnyUnit) → IsNoHeader place → unit_after (write_steps table sectors ++ Syncs ∷ []) place o ≡ o
+writes_leave : (table : List Header) (sectors : List ℕ) (place : Place) (o : Option AnyUnit) → IsNoHeader place → unit_after (header_write_steps table sectors ++ Syncs ∷ []) place o ≡ o
 writes_leave table [] place o none = refl
 writes_leave table (sector ∷ sectors) place o none =
-    ap (λ (p : Option AnyUnit). unit_after (write_steps table sectors ++ Syncs ∷ []) place (or_else p o)) (none sector (in_sector sector table)) ∙ writes_leave table sectors place o none
+    ap (λ (p : Option AnyUnit). unit_after (header_write_steps table sectors ++ Syncs ∷ []) place (or_else p o)) (none sector (in_sector sector table)) ∙ writes_leave table sectors place o none
 
 flush_leaves : (n : ℕ) (us : List Message) (table : List Header) (place : Place) (o : Option AnyUnit) → ((i : ℕ) (u : Message) → slice_get us i ≡ Some u → u.header.slot ≡ u.header.op % n) → IsNoHeader place
     → unit_after (flush_steps us table) place o ≡ or_else (group_puts n (messages_of us) place) o
@@ -108,10 +108,10 @@ each_of sh P [] all = tt
 each_of sh P (u ∷ us) all = (all 0 u refl, each_of sh P us (λ i x at. all (suc i) x at))
 
 -- a prepare stands in the slot of its op
-in_slots : (g : Group) (op : ℕ) (parent : List ℕ) (rs : List Request) (i : ℕ) (u : Message) → slice_get (units_in g op parent rs) i ≡ Some u → u.header.slot ≡ u.header.op % g.file.layout.slots
+in_slots : (g : Group) (op : ℕ) (parent : List ℕ) (rs : List Request) (i : ℕ) (u : Message) → slice_get (group_prepares g op parent rs) i ≡ Some u → u.header.slot ≡ u.header.op % g.file.layout.slots
 in_slots g op parent [] i u at = absurd (cc)
 in_slots g op parent (r ∷ rs) zero u at = subst (λ (x : Message). x.header.slot ≡ x.header.op % g.file.layout.slots) (same_Some _ _ at) refl
-in_slots g op parent (r ∷ rs) (suc i) u at = in_slots g (op + 1) (unit_of (header_in g op parent r) r.body).header.checksum rs i u at
+in_slots g op parent (r ∷ rs) (suc i) u at = in_slots g (op + 1) (unit_made (header_in g op parent r) r.body).header.checksum rs i u at
 
 -- ---- a flush
 
@@ -163,12 +163,12 @@ module _ (s : State) (given : Given) (is : IsState s) (sum : given ≡ ForFlush 
     pub group_is : (w : Work) → Represents s w → group_of (memory_of (shape s.file) (spelling s.file) w) (supplied_sums given) ≡ messages_of us
     group_is w rep = (λ i. group_of (sym rep i) (supplied_sums (sum i))) ∙ made_is
 
-    put : MayPut s.file.layout s.file.cluster held.helds s.headers
+    put : MayPutGroup s.file.layout s.file.cluster held.helds s.headers
     put = record { table_is = is.ring; each = λ i one at. ((held.made i one at).layout_is, (held.made i one at).cluster) }
 
     events_same : journal.flush_events s.file.layout held.helds s.headers ≡ flush_events s
     events_same =
-        ap (λ (es : List Event). es ++ settle_events s.file.layout (with_headers (units_of held.helds) s.headers) (journal.sectors_of (units_of held.helds))) (puts_same s.file held.helds held.made)
+        ap (λ (es : List Event). es ++ settle_events s.file.layout (with_headers (held_prepares held.helds) s.headers) (journal.sectors_of (held_prepares held.helds))) (puts_same s.file held.helds held.made)
         ∙ ap (λ (xs : List Message). group_events s.file.layout xs s.headers) held.units
 
     are_steps : AreSteps (format s.file) (flush_events s) steps
@@ -226,7 +226,7 @@ module _ (s : State) (given : Given) (is : IsState s) (sum : given ≡ ForFlush 
           subst (λ (sh : Shape). MayAppend sh w.view (messages_of us)) first_shape
           (subst (MayAppend (shape s.file) w.view) (group_is w k.stands) (flush_may_law (shape s.file) (spelling s.file) w (supplied_sums given) (firmly g s w t.log k).sense (test_is w k.stands None none)))
 
-      abbrev may_held : MayFlushOn s.file.layout s.file.cluster (units_of held.helds) s.headers t
+      abbrev may_held : MayFlushOn s.file.layout s.file.cluster (held_prepares held.helds) s.headers t
       may_held = record {
         named = s.file.named;
         parse = parse;
@@ -273,7 +273,7 @@ module _ (s : State) (given : Given) (is : IsState s) (sum : given ≡ ForFlush 
 
       pub ring_then : (n : Told) → Some n ≡ after_all (flush_events s) (Some t) → ShowsRing s.file.layout s.file.cluster (now n.log) (with_headers us s.headers)
       ring_then n all =
-          let ends : EndsFlushed s.file.layout s.file.cluster (units_of held.helds) s.headers t may_held n (with_headers (units_of held.helds) s.headers) =
-          group_ends s.file.layout s.file.cluster held.helds s.headers put held.own some_there (Some t) (Some n) (with_headers (units_of held.helds) s.headers) (Ok tt)
+          let ends : EndsFlushed s.file.layout s.file.cluster (held_prepares held.helds) s.headers t may_held n (with_headers (held_prepares held.helds) s.headers) =
+          group_ends s.file.layout s.file.cluster held.helds s.headers put held.own some_there (Some t) (Some n) (with_headers (held_prepares held.helds) s.headers) (Ok tt)
           (subst (λ (es : List Event). Some n ≡ after_all es (Some t)) (sym events_same) all) refl t n refl refl may_held in
           subst (λ (xs : List Message). ShowsRing s.file.layout s.file.cluster (now n.log) (with_headers xs s.headers)) held.units ends.ring

@@ -20,8 +20,8 @@ use Rattle.df_model.specs.Work.{Request}
 use Rattle.df_journal.proofs.Laws.{length_messages}
 use Rattle.df_opening.specs.Below.{IsState, State, memory, prepare_sum, stored_sum}
 use Rattle.df_replica.specs.declared.flush.Group.{Group}
-use Rattle.df_replica.specs.Appending.{unit_of}
-use Rattle.df_replica.specs.Flushing.{checks_of, flush_units, flushed, group_in, header_in, last_check, units_in, with_requests}
+use Rattle.df_replica.specs.Appending.{unit_made}
+use Rattle.df_replica.specs.Flushing.{checks_of, flush_units, flushed, group_in, group_prepares, header_in, last_check, with_requests}
 use Rattle.df_replica.proofs.AppendMemory.{noted_table, stored_table, sum_at, sums_on}
 use Rattle.df_replica.proofs.FlushUnits.{length_units}
 
@@ -52,17 +52,17 @@ stored_same (u ∷ us) ss =
 
 -- the table shows the sums of a group after those that it showed
 group_sums : (g : Group) (base a n op : ℕ) (parent : List ℕ) (rs : List Request) (hs : List Header) → a + n ≡ op → base < a → op + length rs ≤ base + g.file.layout.slots + 1 → 0 < g.file.layout.slots → g.file.layout.slots ≤ length hs
-    → map (sum_at g.file.layout.slots (with_headers (units_in g op parent rs) hs)) (range_with_len a (n + length rs)) ≡ map (sum_at g.file.layout.slots hs) (range_with_len a n) ++ map sum_of_message (messages_of (units_in g op parent rs))
+    → map (sum_at g.file.layout.slots (with_headers (group_prepares g op parent rs) hs)) (range_with_len a (n + length rs)) ≡ map (sum_at g.file.layout.slots hs) (range_with_len a n) ++ map sum_of_message (messages_of (group_prepares g op parent rs))
 group_sums g base a n op parent [] hs at above room some inside =
     let same : n + 0 ≡ n = omega arith in
     ap (λ (k : ℕ). map (sum_at g.file.layout.slots hs) (range_with_len a k)) same ∙ sym (append-nil (map (sum_at g.file.layout.slots hs) (range_with_len a n)))
 group_sums g base a n op parent (r ∷ rs) hs at above room some inside =
-    let u = unit_of (header_in g op parent r) r.body in
+    let u = unit_made (header_in g op parent r) r.body in
     let slots = g.file.layout.slots in
-    let more = with_headers (units_in g (op + 1) u.header.checksum rs) in
+    let more = with_headers (group_prepares g (op + 1) u.header.checksum rs) in
     let next = slice_set hs (op % slots) u.header in
     let many : n + length (r ∷ rs) ≡ suc n + length rs = omega arith in
-    let rest = map sum_of_message (messages_of (units_in g (op + 1) u.header.checksum rs)) in
+    let rest = map sum_of_message (messages_of (group_prepares g (op + 1) u.header.checksum rs)) in
     ap (λ (k : ℕ). map (sum_at slots (more next)) (range_with_len a k)) many
     ∙ group_sums g base a (suc n) (op + 1) u.header.checksum rs next (omega (arith, at)) above (omega (arith, room)) some (omega (arith, inside, length-set hs (op % slots) u.header))
     ∙ ap (λ (xs : List ℕ). xs ++ rest) (sums_on slots base hs u.header a n op at above (omega (arith, room)) (omega (arith, mod-lt op some, inside)))

@@ -9,16 +9,16 @@ use Rattle.df_base.proofs.Laws.{AreBytes-check_of, length-check_of}
 use Rattle.df_format.specs.declared.header.Header.{Header}
 use Rattle.df_format.specs.Message.{Message}
 use Rattle.df_format.specs.Spelling.{IsCheck}
-use Rattle.df_headers.specs.Ring.{IsTable}
+use Rattle.df_headers.specs.Ring.{IsHeaderTable}
 use Rattle.df_buffers.specs.Sounds.{Holding}
-use Rattle.df_journal.specs.Flush.{units_of}
+use Rattle.df_journal.specs.Flush.{held_prepares}
 use Rattle.df_model.specs.Refusals.{is_new, session_of_client}
 use Rattle.df_model.specs.Work.{Request}
 use Rattle.df_opening.specs.Below.{AreAsked, IsRequest, IsState, State, asker_of, asks_of}
 use Rattle.df_opening.proofs.Laws.{asked_noted, course_on, level_beyond, staging_none}
 use Rattle.df_sessions.specs.declared.session.Session as told
 use Rattle.df_sessions.specs.Requests.{sessions_of}
-use Rattle.df_sessions.specs.Table.{IsKnown, Table, with_request}
+use Rattle.df_sessions.specs.Table.{IsKnownClient, Table, with_request}
 use Rattle.df_theory.specs.Next.{MayAskInTurn}
 use Rattle.df_theory.specs.Sessions.{MayAsk, Tracks, noted}
 use Rattle.df_theory.specs.Units
@@ -26,8 +26,8 @@ use Rattle.df_theory.proofs.Laws.{tracks_noted}
 use Rattle.df_sessions.proofs.Laws.{length_sessions}
 use Rattle.df_replica.specs.declared.flush.Group.{Group}
 use Rattle.df_replica.specs.Appending as appending
-use Rattle.df_replica.specs.Appending.{unit_of}
-use Rattle.df_replica.specs.Flushing.{HavePlaces, checks_of, flush_units, flushed, group_in, header_in, last_check, units_in, with_requests}
+use Rattle.df_replica.specs.Appending.{unit_made}
+use Rattle.df_replica.specs.Flushing.{HavePlaces, checks_of, flush_units, flushed, group_in, group_prepares, header_in, last_check, with_requests}
 use Rattle.df_replica.proofs.AppendMemory.{noted_table}
 use Rattle.df_replica.proofs.AppendTests.{known_client, numbered_on}
 
@@ -43,18 +43,18 @@ asks_place room h (x ∷ ss) (inr there) none = omega (arith, there.2, asks_plac
     other true is = absurd (cc)
     other false is = is
 
-has_place : (room : ℕ) (h : Units.Header) (ss : List told.Session) → MayAsk room h (sessions_of ss) → (o : Option Units.Session) → session_of_client h.client (sessions_of ss) ≡ o → length (sessions_of ss) ≡ length ss → IsKnown h.client ss ⊎ (length ss < room)
+has_place : (room : ℕ) (h : Units.Header) (ss : List told.Session) → MayAsk room h (sessions_of ss) → (o : Option Units.Session) → session_of_client h.client (sessions_of ss) ≡ o → length (sessions_of ss) ≡ length ss → IsKnownClient h.client ss ⊎ (length ss < room)
 has_place room h ss may None at same = inr (omega (arith, asks_place room h (sessions_of ss) may at, same))
 has_place room h ss may (Some s) at same = inl (known_client h.client ss (ap is_new at))
 
 pub have_places : (layout : Layout) (g : Group) (replies op : ℕ) (parent : List ℕ) (rs : List Request) (ss : List told.Session) → ((i : ℕ) (r : Request) → slice_get rs i ≡ Some r → IsRequest layout r) → MayAskInTurn layout.clients (sessions_of ss) (asks_of replies op rs)
-    → HavePlaces layout.clients ss (units_in g op parent rs)
+    → HavePlaces layout.clients ss (group_prepares g op parent rs)
 have_places layout g replies op parent [] ss each asks = tt
 have_places layout g replies op parent (r ∷ rs) ss each asks =
     let h = asker_of replies op r in (
       (each 0 r refl).client.0,
       has_place layout.clients h ss asks.0 (session_of_client r.client (sessions_of ss)) refl (length_sessions ss),
-      have_places layout g replies (op + 1) (unit_of (header_in g op parent r) r.body).header.checksum rs (with_request r.client r.request op ss) (λ i x at. each (suc i) x at)
+      have_places layout g replies (op + 1) (unit_made (header_in g op parent r) r.body).header.checksum rs (with_request r.client r.request op ss) (λ i x at. each (suc i) x at)
           (subst (λ (xs : List Units.Session). MayAskInTurn layout.clients xs (asks_of replies (op + 1) rs)) (sym (noted_table h ss)) asks.1),
     )
 
@@ -112,10 +112,10 @@ check_is : (bytes : List ℕ) → IsCheck (check_of bytes)
 check_is bytes = record { size = length-check_of bytes; each = AreBytes-check_of bytes }
 
 all_noted : (s : State) (g : Group) (op : ℕ) (parent : List ℕ) (rs : List Request) → IsState s → s.staged ≡ [] → op ≡ s.head + 1 → s.head + length rs ≤ 2 ^ 62 → s.head + length rs ≤ s.fields.op + s.file.layout.slots → length s.waiting + length rs ≤ 8
-    → ((i : ℕ) (r : Request) → slice_get rs i ≡ Some r → IsRequest s.file.layout r) → MayAskInTurn s.file.layout.clients (sessions_of s.table.sessions) (asks_of s.replies op rs) → IsState (noted_all s (units_in g op parent rs))
+    → ((i : ℕ) (r : Request) → slice_get rs i ≡ Some r → IsRequest s.file.layout r) → MayAskInTurn s.file.layout.clients (sessions_of s.table.sessions) (asks_of s.replies op rs) → IsState (noted_all s (group_prepares g op parent rs))
 all_noted s g op parent [] is none here unspent room few each asks = is
 all_noted s g op parent (r ∷ rs) is none here unspent room few each asks =
-    let u = unit_of (header_in g op parent r) r.body in
+    let u = unit_made (header_in g op parent r) r.body in
     let h = u.header in
     let more : length (s.waiting ++ h.checksum ∷ []) ≡ length s.waiting + 1 = length-append s.waiting (h.checksum ∷ []) in
     let turn : HasTurn s h = record {
@@ -146,7 +146,7 @@ noted_whole s (u ∷ us) =
     })
 
 -- nothing is staged then
-pub unstaged : (s : State) (headers : List Header) → IsState s → IsTable s.file.layout s.file.cluster headers → IsState (record s { headers = headers; staged = [] })
+pub unstaged : (s : State) (headers : List Header) → IsState s → IsHeaderTable s.file.layout s.file.cluster headers → IsState (record s { headers = headers; staged = [] })
 unstaged s headers is ring = record {
   in_file = record { cluster = is.cluster; version = is.version; second = is.second; sequence = is.sequence; root = is.root; ring = ring };
   booted = is.booted;
@@ -158,15 +158,15 @@ unstaged s headers is ring = record {
 }
 
 -- the state that a flush leads to, with the headers as they are after it
-pub flushed_state : (s : State) (headers : List Header) → IsState s → IsTable s.file.layout s.file.cluster headers → IsState (record (flushed s (flush_units s)) { headers = headers })
+pub flushed_state : (s : State) (headers : List Header) → IsState s → IsHeaderTable s.file.layout s.file.cluster headers → IsState (record (flushed s (flush_units s)) { headers = headers })
 flushed_state s headers is ring =
     let t : State = record s { headers = headers; staged = [] } in
     subst IsState (noted_whole t (flush_units s))
     (all_noted t (group_in s) (s.head + 1) s.head_checksum s.staged (unstaged s headers is ring) refl refl is.staging.unspent is.staging.behind (omega (arith, is.staging.pipeline, is.waiting)) is.staging.each is.staging.asks)
 
 -- what is noted of the rooms that hold them, with the headers that are then there
-pub flushed_as : (s : State) (us : List Message) (lent : List Holding) (head : ℕ) (check : List ℕ) (waiting : List (List ℕ)) (table : Table) (headers : List Header) (staged : List Request) → units_of lent ≡ us → head ≡ s.head + length lent
-    → check ≡ last_check s.head_checksum (units_of lent) → waiting ≡ s.waiting ++ checks_of (units_of lent) → table ≡ record s.table { sessions = with_requests (units_of lent) s.table.sessions } → staged ≡ [] → length lent ≡ length us
+pub flushed_as : (s : State) (us : List Message) (lent : List Holding) (head : ℕ) (check : List ℕ) (waiting : List (List ℕ)) (table : Table) (headers : List Header) (staged : List Request) → held_prepares lent ≡ us → head ≡ s.head + length lent
+    → check ≡ last_check s.head_checksum (held_prepares lent) → waiting ≡ s.waiting ++ checks_of (held_prepares lent) → table ≡ record s.table { sessions = with_requests (held_prepares lent) s.table.sessions } → staged ≡ [] → length lent ≡ length us
     → record s { head = head; head_checksum = check; waiting = waiting; table = table; headers = headers; staged = staged } ≡ record (flushed s us) { headers = headers }
 flushed_as s us lent head check waiting table headers staged of heads checks waits tables none count =
     let top : head ≡ s.head + length us = omega (arith, heads, count) in

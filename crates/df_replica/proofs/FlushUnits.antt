@@ -7,14 +7,14 @@ use Rattle.df_format.specs.Message.{Message, sectors_of}
 use Rattle.df_format.specs.Spelling.{IsCheck}
 use Rattle.df_theory.specs.Units.{PreparePlace}
 use Rattle.df_units.specs.Bytes.{first_at}
-use Rattle.df_journal.specs.Flush.{AreOwn, group_puts, units_of}
+use Rattle.df_journal.specs.Flush.{AreOwn, group_puts, held_prepares}
 use Rattle.df_model.specs.Work.{Request}
 use Rattle.df_journal.proofs.Laws.{length_of_units}
 use Rattle.df_opening.specs.Below.{DataFile, IsState, State, first_of}
 use Rattle.df_opening.proofs.Laws.{boot_made}
 use Rattle.df_replica.specs.declared.flush.Group.{Group}
-use Rattle.df_replica.specs.Appending.{unit_of}
-use Rattle.df_replica.specs.Flushing.{AreHeld, AreMadeFor, MaySeal, flush_units, group_in, header_in, put_events, units_in}
+use Rattle.df_replica.specs.Appending.{unit_made}
+use Rattle.df_replica.specs.Flushing.{AreHeld, AreMadeFor, MaySeal, flush_units, group_in, group_prepares, group_put_events, header_in}
 
 -- ---- the first of them
 
@@ -23,13 +23,13 @@ first_there [] some = absurd (omega (arith, some))
 first_there (r ∷ rs) some = refl
 
 pub units_first : (g : Group) (op : ℕ) (parent : List ℕ) (rs : List Request) → 0 < length rs
-    → units_in g op parent rs ≡ unit_of (header_in g op parent (first_of rs)) (first_of rs).body ∷ units_in g (op + 1) (unit_of (header_in g op parent (first_of rs)) (first_of rs).body).header.checksum (drop 1 rs)
+    → group_prepares g op parent rs ≡ unit_made (header_in g op parent (first_of rs)) (first_of rs).body ∷ group_prepares g (op + 1) (unit_made (header_in g op parent (first_of rs)) (first_of rs).body).header.checksum (drop 1 rs)
 units_first g op parent [] some = absurd (omega (arith, some))
 units_first g op parent (r ∷ rs) some = refl
 
-pub length_units : (g : Group) (op : ℕ) (parent : List ℕ) (rs : List Request) → length (units_in g op parent rs) ≡ length rs
+pub length_units : (g : Group) (op : ℕ) (parent : List ℕ) (rs : List Request) → length (group_prepares g op parent rs) ≡ length rs
 length_units g op parent [] = refl
-length_units g op parent (r ∷ rs) = omega (arith, length_units g (op + 1) (unit_of (header_in g op parent r) r.body).header.checksum rs)
+length_units g op parent (r ∷ rs) = omega (arith, length_units g (op + 1) (unit_made (header_in g op parent r) r.body).header.checksum rs)
 
 each_later : {P : Request → Type 0} (rs : List Request) → ((i : ℕ) (r : Request) → slice_get rs i ≡ Some r → P r) → (i : ℕ) (r : Request) → slice_get (drop 1 rs) i ≡ Some r → P r
 each_later [] all i r at = absurd (cc)
@@ -47,21 +47,21 @@ seal_on g op parent check rs some is may = record {
   each = each_later rs may.each;
 }
 
-units_pushed : (helds : List Holding) (held : Holding) → units_of (helds ++ held ∷ []) ≡ units_of helds ++ held.unit ∷ []
+units_pushed : (helds : List Holding) (held : Holding) → held_prepares (helds ++ held ∷ []) ≡ held_prepares helds ++ held.unit ∷ []
 units_pushed [] held = refl
 units_pushed (x ∷ helds) held = ap (λ (us : List Message). x.unit ∷ us) (units_pushed helds held)
 
 -- those that are made, with those that are to come, are the whole
-pub units_turn : (g : Group) (op : ℕ) (parent check : List ℕ) (rs : List Request) (helds : List Holding) (held : Holding) (all : List Message) → 0 < length rs → held.unit ≡ unit_of (header_in g op parent (first_of rs)) (first_of rs).body
-    → check ≡ (unit_of (header_in g op parent (first_of rs)) (first_of rs).body).header.checksum → units_of helds ++ units_in g op parent rs ≡ all → units_of (helds ++ held ∷ []) ++ units_in g (op + 1) check (drop 1 rs) ≡ all
+pub units_turn : (g : Group) (op : ℕ) (parent check : List ℕ) (rs : List Request) (helds : List Holding) (held : Holding) (all : List Message) → 0 < length rs → held.unit ≡ unit_made (header_in g op parent (first_of rs)) (first_of rs).body
+    → check ≡ (unit_made (header_in g op parent (first_of rs)) (first_of rs).body).header.checksum → held_prepares helds ++ group_prepares g op parent rs ≡ all → held_prepares (helds ++ held ∷ []) ++ group_prepares g (op + 1) check (drop 1 rs) ≡ all
 units_turn g op parent check rs helds held all some made sum before =
-    let u = unit_of (header_in g op parent (first_of rs)) (first_of rs).body in
-    let rest = units_in g (op + 1) u.header.checksum (drop 1 rs) in
-    ap (λ (c : List ℕ). units_of (helds ++ held ∷ []) ++ units_in g (op + 1) c (drop 1 rs)) sum
+    let u = unit_made (header_in g op parent (first_of rs)) (first_of rs).body in
+    let rest = group_prepares g (op + 1) u.header.checksum (drop 1 rs) in
+    ap (λ (c : List ℕ). held_prepares (helds ++ held ∷ []) ++ group_prepares g (op + 1) c (drop 1 rs)) sum
     ∙ ap (λ (us : List Message). us ++ rest) (units_pushed helds held)
-    ∙ append_assoc (units_of helds) (held.unit ∷ []) rest
-    ∙ ap (λ (x : Message). units_of helds ++ x ∷ rest) made
-    ∙ ap (λ (us : List Message). units_of helds ++ us) (sym (units_first g op parent rs some))
+    ∙ append_assoc (held_prepares helds) (held.unit ∷ []) rest
+    ∙ ap (λ (x : Message). held_prepares helds ++ x ∷ rest) made
+    ∙ ap (λ (us : List Message). held_prepares helds ++ us) (sym (units_first g op parent rs some))
     ∙ before
 
 -- all that is staged may be made a group
@@ -87,7 +87,7 @@ may_seal s is live = record {
 -- ---- their device calls
 
 -- rooms that hold whole sectors are put as their prepares are
-pub puts_same : (file : DataFile) (helds : List Holding) → AreMadeFor file helds → group_puts file.layout helds ≡ put_events file.layout (units_of helds)
+pub puts_same : (file : DataFile) (helds : List Holding) → AreMadeFor file helds → group_puts file.layout helds ≡ group_put_events file.layout (held_prepares helds)
 puts_same file [] made = refl
 puts_same file (held ∷ helds) made =
     let at = first_at file.layout (PreparePlace held.unit.header.slot) in
@@ -96,13 +96,13 @@ puts_same file (held ∷ helds) made =
 
 -- ---- the rooms that hold them
 
-pub count_held : (g : Group) (op : ℕ) (parent : List ℕ) (rs : List Request) (helds : List Holding) → units_of helds ≡ units_in g op parent rs → length helds ≡ length rs
+pub count_held : (g : Group) (op : ℕ) (parent : List ℕ) (rs : List Request) (helds : List Holding) → held_prepares helds ≡ group_prepares g op parent rs → length helds ≡ length rs
 count_held g op parent rs helds same = omega (arith, length_of_units helds, length_units g op parent rs, ap (λ (us : List Message). length us) same)
 
 -- what was made of all that is staged
-module _ (s : State) (g : Group) (sealed lent : List Holding) (of : g ≡ group_in s) (same : lent ≡ sealed) (units : units_of sealed ≡ units_in g g.first s.head_checksum s.staged) where
-  pub lent_units : units_of lent ≡ flush_units s
-  lent_units = ap units_of same ∙ units ∙ ap (λ (x : Group). units_in x x.first s.head_checksum s.staged) of
+module _ (s : State) (g : Group) (sealed lent : List Holding) (of : g ≡ group_in s) (same : lent ≡ sealed) (units : held_prepares sealed ≡ group_prepares g g.first s.head_checksum s.staged) where
+  pub lent_units : held_prepares lent ≡ flush_units s
+  lent_units = ap held_prepares same ∙ units ∙ ap (λ (x : Group). group_prepares x x.first s.head_checksum s.staged) of
 
   pub lent_count : length lent ≡ length s.staged
   lent_count = count_held (group_in s) (s.head + 1) s.head_checksum s.staged lent lent_units

@@ -33,7 +33,7 @@ use Rattle.df_model.specs.declared.errors.StepError.TheVariants as step
 use Rattle.df_opening.specs.Below.{RunningState, IsCourse, IsRunning, IsState, Represents, State, course_of, memory, shape, spelling}
 use Rattle.df_replica.specs.Answering.{Serves, answer_of, is_step_unanswered}
 use Rattle.df_replica.specs.Serving.{Grade, IsCall, IsKept, format, next}
-use Rattle.df_replica.specs.Stepping.{IsMade, OfRunning, captured_fields, finished, last_events, made_by, made_for, next_fields}
+use Rattle.df_replica.specs.Stepping.{IsMadeSuperblock, OfRunning, captured_fields, finished, last_events, made_by, made_for, next_fields}
 use Rattle.df_replica.proofs.Calls.{AreCalls}
 use Rattle.df_opening.proofs.Laws.{firmly, recorded_content}
 use Rattle.df_replica.proofs.Leaves.{Makes, copies_made, copies_over}
@@ -60,13 +60,13 @@ module _ (s : State) (r : RunningState) (given : Given) (is : IsState s) (course
 
   module _ (w : Work) (work : IsWork (shape s.file) (spelling s.file) w) (rep : Represents s w) where
     -- the superblock is the machine's
-    content_is : content_of (content_with f) ≡ making.content_of (memory s) (course_of s.file s.blocks r) made
+    content_is : content_of (content_with f) ≡ making.finishing_content (memory s) (course_of s.file s.blocks r) made
     content_is =
         recorded_content s (captured_fields s.fields r (first_address s.blocks.written) (spelled 16 (first_sum s.blocks.written))) is.second.rules.version
-        ∙ (λ i. record (making.content_of (memory s) (course_of s.file s.blocks r) made) { sequence = course.sequence.0 i; trailer_checksum = number i; trailer_size = course.size i })
+        ∙ (λ i. record (making.finishing_content (memory s) (course_of s.file s.blocks r) made) { sequence = course.sequence.0 i; trailer_checksum = number i; trailer_size = course.size i })
 
     content_there : content_of (content_with f) ≡ (checkpoint_of (shape s.file) (spelling s.file) w (runs s r given running sum w rep).on (supplied_sum given)).content
-    content_there = content_is ∙ (λ i. making.content_of (rep i) (sym (runs s r given running sum w rep).course i) (sym sum_here i))
+    content_there = content_is ∙ (λ i. making.finishing_content (rep i) (sym (runs s r given running sum w rep).course i) (sym sum_here i))
 
     finishes : DoesFinish w.view (checkpoint_of (shape s.file) (spelling s.file) w (runs s r given running sum w rep).on (supplied_sum given)) given_steps
     finishes =
@@ -98,10 +98,10 @@ module _ (s : State) (r : RunningState) (given : Given) (is : IsState s) (course
         reply = λ k o. sym (ap (λ (p : Option theory.AnyUnit). or_else p o) (none (ReplyPlace k)));
         block = λ k o. sym (ap (λ (p : Option theory.AnyUnit). or_else p o) (none (BlockPlace k)));
         copy = λ w work rep k o.
-            let is : content_of (content_with f) ≡ making.content_of (memory s) (course_of s.file s.blocks r) (supplied_sum given) =
-            content_is w work rep ∙ ap (making.content_of (memory s) (course_of s.file s.blocks r)) (sym sum_here) in
+            let is : content_of (content_with f) ≡ making.finishing_content (memory s) (course_of s.file s.blocks r) (supplied_sum given) =
+            content_is w work rep ∙ ap (making.finishing_content (memory s) (course_of s.file s.blocks r)) (sym sum_here) in
             ap (λ (c : theory.Content). copies_over (CopyUnit c) k o) is
-            ∙ copies_made (making.content_of (memory s) (course_of s.file s.blocks r) (supplied_sum given)) k o
+            ∙ copies_made (making.finishing_content (memory s) (course_of s.file s.blocks r) (supplied_sum given)) k o
             ∙ sym (ap (λ (p : Option theory.AnyUnit). or_else p o) (none (CopyPlace k)));
         last = λ whole. tt;
       }
@@ -133,7 +133,7 @@ module _ (s : State) (is : IsState s) (live : s.live ≡ true) (left : s.blocks.
   abbrev StepsOf : SuperFields → Type 0
   StepsOf g = AreStepsOfCopies (update_events g) (update_steps (put_copies g))
 
-  pub last_serves : (t : State) (sequence : ℕ) → sequence ≡ f.sequence → OfRunning s.running (λ r. t ≡ finished s r) → IsMade {T = Unit {0}} f old new (Ok tt) → Serves Advance s t old new (Some (ToAdvance (Ok (Done sequence))))
+  pub last_serves : (t : State) (sequence : ℕ) → sequence ≡ f.sequence → OfRunning s.running (λ r. t ≡ finished s r) → IsMadeSuperblock {T = Unit {0}} f old new (Ok tt) → Serves Advance s t old new (Some (ToAdvance (Ok (Done sequence))))
   last_serves t sequence same next all = go s.running refl is.course fields next
     where
       go : (o : Option RunningState) → s.running ≡ o → IsCourse s.file s.fields s.head s.blocks o → OfRunning o (λ r. f ≡ next_fields s r) → OfRunning o (λ r. t ≡ finished s r) → Serves Advance s t old new (Some (ToAdvance (Ok (Done sequence))))
@@ -141,7 +141,7 @@ module _ (s : State) (is : IsState s) (live : s.live ≡ true) (left : s.blocks.
       go (Some r) running course fields_are next_is = λ given supplied.
           subst (λ (x : State). IsCall given Advance s x old new (Some (ToAdvance (Ok (Done sequence))))) (sym next_is)
           (subst (λ (n : ℕ). IsCall given Advance s (finished s r) old new (Some (ToAdvance (Ok (Done n))))) (sym (same ∙ ap (λ (g : SuperFields). g.sequence) fields_are))
-          (last_call s r given is course running left number (subst StepsOf fields_are steps) supplied live old new (subst (λ (g : SuperFields). IsMade {T = Unit {0}} g old new (Ok tt)) fields_are all)))
+          (last_call s r given is course running left number (subst StepsOf fields_are steps) supplied live old new (subst (λ (g : SuperFields). IsMadeSuperblock {T = Unit {0}} g old new (Ok tt)) fields_are all)))
 
   stopped : (t : State) → t.live ≡ false → AddsPart (last_of f) old new → Serves Advance s t old new None
   stopped t dead part = go s.running refl is.course fields
@@ -151,7 +151,7 @@ module _ (s : State) (is : IsState s) (live : s.live ≡ true) (left : s.blocks.
       go (Some r) running course fields_are = λ given supplied.
           last_fault s r given is course running left number (subst StepsOf fields_are steps) supplied old new t dead (subst (λ (g : SuperFields). AddsPart (last_of g) old new) fields_are part)
 
-  pub error_serves : (t : State) (e : StepError) → t.live ≡ false → IsMade {T = Unit {0}} f old new (Err e) → Serves Advance s t old new (answer_of is_step_unanswered ToAdvance (Err e))
+  pub error_serves : (t : State) (e : StepError) → t.live ≡ false → IsMadeSuperblock {T = Unit {0}} f old new (Err e) → Serves Advance s t old new (answer_of is_step_unanswered ToAdvance (Err e))
   error_serves t step.NotRunning dead made = absurd made
   error_serves t (step.Damaged place kind) dead made = stopped t dead (all_is_part (last_of f) old new made.0)
   error_serves t step.DiskFault dead made = stopped t dead made

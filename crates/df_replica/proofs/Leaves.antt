@@ -19,7 +19,7 @@ use Rattle.df_model.specs.Commands.{Advance, Append, Begin, Command, Flush, Give
 use Rattle.df_model.specs.Making.{block_of, first_of, group_of, next_address, place_of_reply, prepare_of, reply_of, trailer_block}
 use Rattle.df_model.specs.Memory.{Course, Memory, course, course_of, memory_of}
 use Rattle.df_model.specs.Refusals.{append_refusals, block_refusals, first_refusal, flush_refusals, reply_refusals}
-use Rattle.df_model.specs.Sense.{AtEachOf, IsClear, IsWork}
+use Rattle.df_model.specs.Sense.{AtEachOf, IsClearAddress, IsWork}
 use Rattle.df_model.specs.Supply.{copies_of, group_puts, puts_of, step_puts, trailer_puts, unless}
 use Rattle.df_model.specs.Work.{Running, Work, is_captured, is_held, is_known, is_of}
 use Rattle.df_model.specs.declared.answers.Verdict.{Verdict}
@@ -130,9 +130,9 @@ taken_held : (w : Work) (r : Running) (a : ℕ) → w.running ≡ Some r → is_
 taken_held w r a running is = or_right (is_known (w.live a)) _ (or_left (is_captured a w.running) _ (ap (is_captured a) running ∙ taken_captured r a is))
 
 -- the running trailer's next block is not a durable one
-next_aside : (w : Work) (a : ℕ) → ((r : Running) → w.running ≡ Some r → AtEachOf (IsClear w.live w.view.checkpoint) r.left) → is_durable w a ≡ true → (command : Command) → WritesNext command w a → ⊥
+next_aside : (w : Work) (a : ℕ) → ((r : Running) → w.running ≡ Some r → AtEachOf (IsClearAddress w.live w.view.checkpoint) r.left) → is_durable w a ≡ true → (command : Command) → WritesNext command w a → ⊥
 next_aside w a clear is Advance (r, more, running, left) =
-    let free : IsClear w.live w.view.checkpoint a = (subst (AtEachOf (IsClear w.live w.view.checkpoint)) left (clear r running)).0 in
+    let free : IsClearAddress w.live w.view.checkpoint a = (subst (AtEachOf (IsClearAddress w.live w.view.checkpoint)) left (clear r running)).0 in
     elim (or_cases (is_known (w.view.checkpoint.parts.references a)) (is_of a w.view.checkpoint.chain) is) [
       | inl known ↦ let no : true ≡ false = sym known ∙ ap is_known free.unreferenced in cc
       | inr there ↦ let at = some_of a w.view.checkpoint.chain there in free.no_trailer at.0 at.1

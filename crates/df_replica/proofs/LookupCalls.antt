@@ -24,9 +24,9 @@ use Rattle.df_model.specs.Refusals.{first_refusal, is_new, last_op, lookup_refus
 use Rattle.df_model.specs.declared.reading.LookupError.{LookupError}
 use Rattle.df_model.specs.declared.reading.LookupError.TheVariants as lookup
 use Rattle.df_opening.specs.Below.{State, memory, reply_sum as known_sum}
-use Rattle.df_replica.specs.Answering.{Gives, ServesRead, answer_of}
+use Rattle.df_replica.specs.Answering.{GivesFound, ServesRead, answer_of}
 use Rattle.df_replica.specs.declared.lookup.Stored.{Stored}
-use Rattle.df_replica.specs.Lookups.{HoldsKnown, IsReadReply, IsStoredFor, Tells, place_for, reply_found, reply_shown}
+use Rattle.df_replica.specs.Lookups.{HoldsKnown, IsReadReply, IsStoredFor, TellsShown, place_for, reply_found, reply_shown}
 use Rattle.df_replica.specs.Reading.{IsFoundBy, IsKnownUnit}
 use Rattle.df_replica.specs.Supply.{IsSupplied}
 use Rattle.df_replica.specs.Stopping.{left_by}
@@ -52,12 +52,12 @@ module _ (s : State) (client : ℕ) (live : s.live ≡ true) where
   }
 
   answers : (told : Option Told) (found : Option (Result Units.Message Class)) (answer : Result Units.Message LookupError)
-      → ((given : Given) → IsSupplied s told (ReadReply client) given → Gives told found given → after.lookup_answer (memory s) (supplied_message given) client ≡ answer)
+      → ((given : Given) → IsSupplied s told (ReadReply client) given → GivesFound told found given → after.lookup_answer (memory s) (supplied_message given) client ≡ answer)
       → ServesRead (ReadReply client) s s told found (Some (ToReadReply answer))
   answers told found answer same given supplied gives =
       answered_call given (ReadReply client) s [] (input told given supplied) (calls given) (makes_nothing given (ReadReply client) s (λ place. refl) (λ no. no)) s (ToReadReply answer) (answered given answer (same given supplied gives)) told told supplied refl
 
-  message_is : (told : Option Told) (m : Result Units.Message Class) → IsFoundBy s (ReadReply client) told m → (given : Given) → IsSupplied s told (ReadReply client) given → Gives told (Some m) given → supplied_message given ≡ m
+  message_is : (told : Option Told) (m : Result Units.Message Class) → IsFoundBy s (ReadReply client) told m → (given : Given) → IsSupplied s told (ReadReply client) given → GivesFound told (Some m) given → supplied_message given ≡ m
   message_is None m by given supplied gives = gives
   message_is (Some t) m by given supplied gives = supplied.1 ∙ sym by
 
@@ -121,15 +121,15 @@ pub record TellsOf (s : State) (client : ℕ) (told : Option Told) (place : Plac
   pub call : ServesRead (ReadReply client) s s told (Some (Err class)) (Some (ToReadReply (Err (lookup.Damaged place class))))
 
 module _ (s : State) (client : ℕ) (live : s.live ≡ true) (told : Option Told) (stored : Stored) (for : IsStoredFor s client stored) (wrong : Option Class) (held : Option Holding)
-    (known : HoldsKnown Reply s.file (place_in ClientReplies stored.place) (known_sum stored.reply) wrong held) (tells : Tells told (reply_shown s.file stored.place stored.reply) wrong held) where
+    (known : HoldsKnown Reply s.file (place_in ClientReplies stored.place) (known_sum stored.reply) wrong held) (tells : TellsShown told (reply_shown s.file stored.place stored.reply) wrong held) where
   pub lends_as : (h : Holding) → wrong ≡ None → held ≡ Some h → LendsAs s client told h.unit
   lends_as h is has =
       let unit = subst (λ (o : Option Holding). HoldsKnown Reply s.file (place_in ClientReplies stored.place) (known_sum stored.reply) None o) has (subst (λ (o : Option Class). HoldsKnown Reply s.file (place_in ClientReplies stored.place) (known_sum stored.reply) o held) is known) in
-      let shown = subst (λ (o : Option Holding). Tells told (reply_shown s.file stored.place stored.reply) None o) has (subst (λ (o : Option Class). Tells told (reply_shown s.file stored.place stored.reply) o held) is tells) in
+      let shown = subst (λ (o : Option Holding). TellsShown told (reply_shown s.file stored.place stored.reply) None o) has (subst (λ (o : Option Class). TellsShown told (reply_shown s.file stored.place stored.reply) o held) is tells) in
       let by = reply_found_by s client stored for told h shown in
       record { exact = (for.served, by); known = reply_known s client stored for h.unit unit; call = lookup_serves s client live told (Ok (message_of h.unit)) for.served by }
 
   pub tells_of : (class : Class) (place : Place) → wrong ≡ Some class → place ≡ place_in ClientReplies stored.place → TellsOf s client told place class
   tells_of class place is there =
-      let by = reply_lacks_by s client stored for told class held (subst (λ (o : Option Class). Tells told (reply_shown s.file stored.place stored.reply) o held) is tells) in
+      let by = reply_lacks_by s client stored for told class held (subst (λ (o : Option Class). TellsShown told (reply_shown s.file stored.place stored.reply) o held) is tells) in
       subst (λ (p : Place). TellsOf s client told p class) (sym (there ∙ ap (place_in ClientReplies) for.place)) (record { exact = (for.served, refl, by); call = lookup_serves s client live told (Err class) for.served by })

@@ -24,7 +24,7 @@ use Rattle.df_model.specs.Memory as memory
 use Rattle.df_model.specs.Supply.{class_or, reply_at, reply_given}
 use Rattle.df_opening.specs.Below.{DataFile, State, memory, reply_sum as known_sum}
 use Rattle.df_replica.specs.declared.lookup.Stored.{Stored}
-use Rattle.df_replica.specs.Lookups.{IsStoredFor, Tells, place_for, reply_shown}
+use Rattle.df_replica.specs.Lookups.{IsStoredFor, TellsShown, place_for, reply_shown}
 use Rattle.df_replica.specs.Reading.{IsFoundBy, IsKnownUnit, message_at, shown_of}
 use Rattle.df_replica.proofs.ReadFinds.{given, held_given, lacks_given, wanted_at}
 
@@ -43,7 +43,7 @@ only_replies layout cluster slot u is = let of : IsOfSession slot u.header = (va
 
 module _ (file : DataFile) (place : ℕ) (check : List ℕ) (fits : IsCheck check) where
   pub known_tells : (told : Option Told) (wrong : Option Class) (held : Option Holding) → HoldsFound Reply (wanted_at file.layout file.cluster (place_in ClientReplies place) check) wrong held
-      → IsRead Reply (wanted_at file.layout file.cluster (place_in ClientReplies place) check) told wrong held → Tells told (reply_shown file place (Some check)) wrong held
+      → IsRead Reply (wanted_at file.layout file.cluster (place_in ClientReplies place) check) told wrong held → TellsShown told (reply_shown file place (Some check)) wrong held
   known_tells None wrong held holds read = tt
   known_tells (Some t) None (Some h) holds read =
       held_given file.layout file.cluster (place_in ClientReplies place) check Reply t.shown fits (only_replies file.layout file.cluster place) h holds read ∙ sym (reply_image file t.shown (Some (number_of check)) place)
@@ -52,7 +52,7 @@ module _ (file : DataFile) (place : ℕ) (check : List ℕ) (fits : IsCheck chec
       lacks_given file.layout file.cluster (place_in ClientReplies place) check Reply t.shown fits (only_replies file.layout file.cluster place) class held read ∙ sym (reply_image file t.shown (Some (number_of check)) place)
 
   pub if_tells : (told : Option Told) (r : Result (Option Class) Failed) (held : Option Holding) → IfOk r (λ wrong. HoldsFound Reply (wanted_at file.layout file.cluster (place_in ClientReplies place) check) wrong held)
-      → IfOk r (λ wrong. IsRead Reply (wanted_at file.layout file.cluster (place_in ClientReplies place) check) told wrong held) → IfOk r (λ wrong. Tells told (reply_shown file place (Some check)) wrong held)
+      → IfOk r (λ wrong. IsRead Reply (wanted_at file.layout file.cluster (place_in ClientReplies place) check) told wrong held) → IfOk r (λ wrong. TellsShown told (reply_shown file place (Some check)) wrong held)
   if_tells told (Ok wrong) held holds read = known_tells told wrong held holds read
   if_tells told (Err e) held holds read = tt
 
@@ -64,11 +64,11 @@ module _ (s : State) (client : ℕ) (stored : Stored) (for : IsStoredFor s clien
       ap (λ (k : Option ℕ). reply_at (shown_of s.file image) k stored.place) (sym for.known)
       ∙ ap (λ (n : ℕ). reply_at (shown_of s.file image) (memory.reply_sum (memory s) n) n) for.place
 
-  pub reply_found_by : (told : Option Told) (h : Holding) → Tells told (reply_shown s.file stored.place stored.reply) None (Some h) → IsFoundBy s (ReadReply client) told (Ok (message_of h.unit))
+  pub reply_found_by : (told : Option Told) (h : Holding) → TellsShown told (reply_shown s.file stored.place stored.reply) None (Some h) → IsFoundBy s (ReadReply client) told (Ok (message_of h.unit))
   reply_found_by None h tells = tt
   reply_found_by (Some t) h tells = tells ∙ found_there t.shown
 
-  pub reply_lacks_by : (told : Option Told) (class : Class) (held : Option Holding) → Tells told (reply_shown s.file stored.place stored.reply) (Some class) held → IsFoundBy s (ReadReply client) told (Err class)
+  pub reply_lacks_by : (told : Option Told) (class : Class) (held : Option Holding) → TellsShown told (reply_shown s.file stored.place stored.reply) (Some class) held → IsFoundBy s (ReadReply client) told (Err class)
   reply_lacks_by None class held tells = tt
   reply_lacks_by (Some t) class held tells = tells ∙ found_there t.shown
 

@@ -6,7 +6,7 @@ use Rattle.std.proofs.lemmas.Bool.Decides.{nat_tests}
 use Rattle.std.proofs.lemmas.List.Quantifiers.{position-Some}
 use Rattle.df_sessions.specs.declared.session.Session as told
 use Rattle.df_sessions.specs.Requests.{session_of}
-use Rattle.df_sessions.specs.Table.{IsTable, has_client}
+use Rattle.df_sessions.specs.Table.{IsSessionTable, has_client}
 use Rattle.df_theory.specs.Units.{Session}
 use Rattle.df_model.specs.After.{place_of_client}
 use Rattle.df_model.specs.Memory as memory
@@ -65,7 +65,7 @@ module _ (s : State) (client : ℕ) where
     pub known_reply : memory.reply_sum (memory s) place ≡ reply_sum session.reply
     known_reply = ap memory.joined (map_at stored_sum s.table.sessions place session at)
 
-    pub is_stored : IsState s → IsTable s.table → session.op ≤ s.replies → IsStoredFor s client (record { place = place; reply = session.reply })
+    pub is_stored : IsState s → IsSessionTable s.table → session.op ≤ s.replies → IsStoredFor s client (record { place = place; reply = session.reply })
     is_stored is table stored = record {
       place = sym (place_found client s.table.sessions place here);
       inside = omega (arith, inside client s.table.sessions place here, table.within, is.places);

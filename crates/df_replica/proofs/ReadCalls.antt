@@ -10,7 +10,7 @@ use Rattle.df_format.specs.Message.{Message}
 use Rattle.df_format.specs.Own.{place_in}
 use Rattle.df_format.specs.Spelling.{IsCheck}
 use Rattle.df_buffers.specs.Sounds.{Holding}
-use Rattle.df_places.specs.Shelves.{HoldsFound, IsFound, IsRead}
+use Rattle.df_places.specs.Shelves.{HoldsFound, IsFoundUnit, IsRead}
 use Rattle.df_layout.specs.declared.places.Place.{Place}
 use Rattle.df_units.specs.Meaning.{message_of}
 use Rattle.df_layout.specs.declared.places.Zone.TheVariants.{WalPrepares}
@@ -26,7 +26,7 @@ use Rattle.df_model.specs.Refusals.{first_refusal, prepare_refusals}
 use Rattle.df_model.specs.declared.reading.PrepareError.{PrepareError}
 use Rattle.df_model.specs.declared.reading.PrepareError.TheVariants as prepare
 use Rattle.df_opening.specs.Below.{State, memory}
-use Rattle.df_replica.specs.Answering.{Gives, ServesRead, answer_of}
+use Rattle.df_replica.specs.Answering.{GivesFound, ServesRead, answer_of}
 use Rattle.df_replica.specs.Reading.{IsFoundBy, IsKnownUnit, IsReadPrepare, check_in, prepare_found, prepare_wanted}
 use Rattle.df_replica.specs.Supply.{IsSupplied}
 use Rattle.df_replica.specs.Stopping.{left_by}
@@ -55,12 +55,12 @@ module _ (s : State) (op : ℕ) (live : s.live ≡ true) where
   }
 
   answers : (told : Option Told) (found : Option (Result Units.Message Class)) (answer : Result Units.Message PrepareError)
-      → ((given : Given) → IsSupplied s told (ReadPrepare op) given → Gives told found given → after.prepare_answer (memory s) (supplied_message given) op ≡ answer)
+      → ((given : Given) → IsSupplied s told (ReadPrepare op) given → GivesFound told found given → after.prepare_answer (memory s) (supplied_message given) op ≡ answer)
       → ServesRead (ReadPrepare op) s s told found (Some (ToReadPrepare answer))
   answers told found answer same given supplied gives =
       answered_call given (ReadPrepare op) s [] (input told given supplied) (calls given) (makes_nothing given (ReadPrepare op) s (λ place. refl) (λ no. no)) s (ToReadPrepare answer) (answered given answer (same given supplied gives)) told told supplied refl
 
-  message_is : (told : Option Told) (m : Result Units.Message Class) → IsFoundBy s (ReadPrepare op) told m → (given : Given) → IsSupplied s told (ReadPrepare op) given → Gives told (Some m) given → supplied_message given ≡ m
+  message_is : (told : Option Told) (m : Result Units.Message Class) → IsFoundBy s (ReadPrepare op) told m → (given : Given) → IsSupplied s told (ReadPrepare op) given → GivesFound told (Some m) given → supplied_message given ≡ m
   message_is None m by given supplied gives = gives
   message_is (Some t) m by given supplied gives = supplied.1 ∙ sym by
 
@@ -121,7 +121,7 @@ pub record TellsOf (s : State) (op : ℕ) (told : Option Told) (place : Place) (
   pub call : ServesRead (ReadPrepare op) s s told (Some (Err class)) (Some (ToReadPrepare (Err (prepare.Damaged place class))))
 
 module _ (s : State) (op : ℕ) (live : s.live ≡ true) (told : Option Told) (none : first_refusal (prepare_refusals (memory s) op) ≡ None) (fits : IsCheck (check_in (slice_get s.headers (op % s.file.layout.slots)))) where
-  lends : (h : Holding) → IsFound Prepare (prepare_wanted s.file s.headers op) h.unit → IsRead Prepare (prepare_wanted s.file s.headers op) told None (Some h) → LendsAs s op told h.unit
+  lends : (h : Holding) → IsFoundUnit Prepare (prepare_wanted s.file s.headers op) h.unit → IsRead Prepare (prepare_wanted s.file s.headers op) told None (Some h) → LendsAs s op told h.unit
   lends h found read =
       let by = prepare_found_by s op none fits told h found read in
       record { exact = (none, by); known = prepare_known s op none fits h found; call = prepare_serves s op live told (Ok (message_of h.unit)) none by }

@@ -32,7 +32,7 @@ use Rattle.df_model.specs.Memory as memory
 use Rattle.df_model.specs.Refusals.{first_refusal, prepare_refusals}
 use Rattle.df_model.specs.Supply.{class_or, given_if, is_sum, prepare_at, prepare_given}
 use Rattle.df_model.proofs.Laws.{all_pass}
-use Rattle.df_places.specs.Shelves.{IsFound, IsOf, IsRead}
+use Rattle.df_places.specs.Shelves.{IsFoundUnit, IsOf, IsRead}
 use Rattle.df_opening.specs.Below.{DataFile, State, memory, prepare_sum, sum_of}
 use Rattle.df_replica.specs.Reading.{IsFoundBy, IsKnownUnit, check_in, prepare_wanted, shown_of}
 
@@ -59,7 +59,7 @@ module _ (layout : Layout) (cluster : ℕ) (place : Place) (check : List ℕ) (k
   there o = given (Some (number_of check)) o (Shown.class_at layout cluster image place)
 
   -- the unit that is held is found
-  pub held_given : (h : Holding) → IsFound kind (wanted_at layout cluster place check) h.unit → IsOf kind (wanted_at layout cluster place check) image None (Some h) → Ok (message_of h.unit) ≡ there (Shown.unit_at layout cluster image place)
+  pub held_given : (h : Holding) → IsFoundUnit kind (wanted_at layout cluster place check) h.unit → IsOf kind (wanted_at layout cluster place check) image None (Some h) → Ok (message_of h.unit) ≡ there (Shown.unit_at layout cluster image place)
   held_given h found read =
       let same : (number_of h.unit.header.checksum == number_of check) ≡ true = eq-eqb (number_of h.unit.header.checksum) (number_of check) (ap number_of found.wanted) in
       sym (ap there read.judges ∙ ap (λ (b : Bool). given_if b (message_of h.unit) Stale) same)
@@ -122,7 +122,7 @@ module _ (s : State) (op : ℕ) (none : first_refusal (prepare_refusals (memory 
       ≡ given (Some (number_of check)) (Shown.unit_at s.file.layout s.file.cluster image (place_in WalPrepares slot)) (Shown.class_at s.file.layout s.file.cluster image (place_in WalPrepares slot))
   found_at image = ap (λ (known : Option ℕ). prepare_at (shown_of s.file image) known slot) (sum_known s op none fits) ∙ prepare_image s.file image (Some (number_of check)) slot
 
-  pub prepare_found_by : (told : Option Told) (h : Holding) → IsFound Prepare (prepare_wanted s.file s.headers op) h.unit → IsRead Prepare (prepare_wanted s.file s.headers op) told None (Some h) → IsFoundBy s (ReadPrepare op) told (Ok (message_of h.unit))
+  pub prepare_found_by : (told : Option Told) (h : Holding) → IsFoundUnit Prepare (prepare_wanted s.file s.headers op) h.unit → IsRead Prepare (prepare_wanted s.file s.headers op) told None (Some h) → IsFoundBy s (ReadPrepare op) told (Ok (message_of h.unit))
   prepare_found_by None h found read = tt
   prepare_found_by (Some t) h found read =
       held_given s.file.layout s.file.cluster (place_in WalPrepares slot) check Prepare t.shown fits (only_prepares s.file.layout s.file.cluster slot) h found read ∙ sym (found_at t.shown)
@@ -133,5 +133,5 @@ module _ (s : State) (op : ℕ) (none : first_refusal (prepare_refusals (memory 
       lacks_given s.file.layout s.file.cluster (place_in WalPrepares slot) check Prepare t.shown fits (only_prepares s.file.layout s.file.cluster slot) class held read ∙ sym (found_at t.shown)
 
   -- the unit that is lent is the one that is known
-  pub prepare_known : (h : Holding) → IsFound Prepare (prepare_wanted s.file s.headers op) h.unit → IsKnownUnit Prepare s.file (place_in WalPrepares slot) (memory.prepare_sum (memory s) op) h.unit
+  pub prepare_known : (h : Holding) → IsFoundUnit Prepare (prepare_wanted s.file s.headers op) h.unit → IsKnownUnit Prepare s.file (place_in WalPrepares slot) (memory.prepare_sum (memory s) op) h.unit
   prepare_known h found = record { is = found.is; of_kind = found.of_kind; sum = sum_known s op none fits ∙ ap (λ (b : List ℕ). Some (number_of b)) (sym found.wanted) }

@@ -14,7 +14,7 @@ use Rattle.df_format.specs.Message.{Message, sectors_of}
 use Rattle.df_format.specs.Own.{place_in}
 use Rattle.df_format.specs.Spelling.{spelling_rest}
 use Rattle.df_journal.specs.Append.{ShowsRing}
-use Rattle.df_replies.specs.Slots.{IsInOwnSlot, write_steps}
+use Rattle.df_replies.specs.Slots.{IsInReplySlot, reply_write_steps}
 use Rattle.df_theory.specs.Device.{IsPut}
 use Rattle.df_theory.specs.Units as theory
 use Rattle.df_theory.specs.Units.{AnyUnit, BlockPlace, CopyPlace, HeaderPlace, Place, PreparePlace, ReplyPlace, ReplyUnit, or_else}
@@ -41,7 +41,7 @@ use Rattle.df_model.proofs.Laws.{change_law}
 use Rattle.df_model.specs.declared.errors.ReplyError.{ReplyError}
 use Rattle.df_opening.specs.Below.{IsState, Represents, State, memory, shape, spelling}
 use Rattle.df_replica.specs.Answering.{Serves, answer_of, as_reply}
-use Rattle.df_replica.specs.Replying.{first_check, next_reply, replied, reply_events, reply_given}
+use Rattle.df_replica.specs.Replying.{first_check, next_reply, reply_events, reply_given, with_stored_reply}
 use Rattle.df_replica.specs.Serving.{Grade, IsCall, IsKept, format, next}
 use Rattle.df_replica.specs.Supply.{IsSupplied}
 use Rattle.df_replica.proofs.Calls.{AreCalls, Answered, answered_call, answered_still, stopped_call}
@@ -106,7 +106,7 @@ module _ (s : State) (op : ℕ) (body : List ℕ) (given : Given) (is : IsState 
 
   -- ---- a stored reply, and a fault
 
-  module _ (none : first_refusal (reply_refusals (memory s) op body) ≡ None) (own : IsInOwnSlot s.file.layout u) where
+  module _ (none : first_refusal (reply_refusals (memory s) op body) ≡ None) (own : IsInReplySlot s.file.layout u) where
     put : IsPut (format_of s.file.layout s.file.cluster) (first_at s.file.layout (ReplyPlace u.header.slot)) (sectors_of u) (put_one (ReplyPlace u.header.slot) (ReplyUnit (message_of u)))
     put = reply_put s.file.layout s.file.cluster u.header.slot u (sectors_of u) (made_brings s.file.layout s.file.cluster (place_in ClientReplies u.header.slot) u (λ same. cc) own)
 
@@ -131,7 +131,7 @@ module _ (s : State) (op : ℕ) (body : List ℕ) (given : Given) (is : IsState 
     does_reply : (g : Grade) (w : Work) (t : Told) → IsKept g s w t.log → DoesOnDisk (format s.file) (shape s.file) (spelling s.file) t.log w given command (reply_events s u)
     does_reply g w t k =
         let m = memory_of (shape s.file) (spelling s.file) w in
-        let steps = write_steps u in
+        let steps = reply_write_steps u in
         let does : DoesReply w.view u.header.slot (message_of u) steps = record { put = put_one (ReplyPlace u.header.slot) (ReplyUnit (message_of u)); one = put_one_law (ReplyPlace u.header.slot) (ReplyUnit (message_of u)); are = refl } in
         record {
           steps = steps;
@@ -153,7 +153,7 @@ module _ (s : State) (op : ℕ) (body : List ℕ) (given : Given) (is : IsState 
 
     reply_puts : Makes given command s (reply_events s u)
     reply_puts = record {
-      steps = write_steps u;
+      steps = reply_write_steps u;
       are = (put, tt);
       prepare = λ k o. ap (λ (p : Option AnyUnit). or_else p o) (put_is (PreparePlace k));
       reply = λ k o. ap (λ (p : Option AnyUnit). or_else p o) (put_is (ReplyPlace k));
@@ -168,7 +168,7 @@ module _ (s : State) (op : ℕ) (body : List ℕ) (given : Given) (is : IsState 
         let m = memory_of (shape s.file) (spelling s.file) w in
         let events = reply_events s u in
         let wrote : StandsIn (format s.file) events (ReplyPlace u.header.slot) (ReplyUnit (message_of u)) =
-        steps_stand (format s.file) events (write_steps u) (ReplyPlace u.header.slot) (ReplyUnit (message_of u)) (put, tt) (inl (put_one_law (ReplyPlace u.header.slot) (ReplyUnit (message_of u))).at) in
+        steps_stand (format s.file) events (reply_write_steps u) (ReplyPlace u.header.slot) (ReplyUnit (message_of u)) (put, tt) (inl (put_one_law (ReplyPlace u.header.slot) (ReplyUnit (message_of u))).at) in
         subst (λ (o : Option ReplyError). Unless o (StandsIn (format s.file) events (ReplyPlace (place_of_reply m)) (ReplyUnit (reply_of m (supplied_sum given) body)))) (sym (none_there w rep))
         (subst (λ (r : theory.Message). StandsIn (format s.file) events (ReplyPlace (place_of_reply m)) (ReplyUnit r)) (sym (reply_is w rep))
         (subst (λ (place : ℕ). StandsIn (format s.file) events (ReplyPlace place) (ReplyUnit (message_of u))) (sym (place_is w rep)) wrote))
@@ -191,12 +191,12 @@ module _ (s : State) (op : ℕ) (body : List ℕ) (given : Given) (is : IsState 
           subst (λ (o : Option ReplyError). memory_of (shape s.file) (spelling s.file) (outcome o w later (supplied_sum given)).0 ≡ record (unless_refused o m (replied_in m (supplied_sum given))) { blocks = blocks_after (spelling s.file) m given command })
           (none_there w rep) (change_law (shape s.file) (spelling s.file) w given command work)
 
-      stands : Represents (replied s u.header) later
+      stands : Represents (with_stored_reply s u.header) later
       stands = replied_memory s u.header refl ∙ (λ i. replied_in (rep i) (supplied_sum (sym sum i))) ∙ sym memory_is
 
-      allowed_at : (answer ≡ (next s.file w given command).1) × Represents (replied s u.header) (next s.file w given command).0
+      allowed_at : (answer ≡ (next s.file w given command).1) × Represents (with_stored_reply s u.header) (next s.file w given command).0
       allowed_at =
-          subst (λ (x : Work × Answer). (answer ≡ x.1) × Represents (replied s u.header) x.0) (sym next_is) (ap (λ (g : Given). ToReply (Ok (supplied_sum g))) (sym sum), stands)
+          subst (λ (x : Work × Answer). (answer ≡ x.1) × Represents (with_stored_reply s u.header) x.0) (sym next_is) (ap (λ (g : Given). ToReply (Ok (supplied_sum g))) (sym sum), stands)
 
     -- the header ring shows what it did
     ring_kept : (g : Grade) (w : Work) (a b : Told) → IsKept g s w a.log → Some b ≡ after_all (reply_events s u) (Some a) → ShowsRing s.file.layout s.file.cluster (now b.log) s.headers
@@ -204,11 +204,11 @@ module _ (s : State) (op : ℕ) (body : List ℕ) (given : Given) (is : IsState 
         let whole : IsImage (now a.log) = now_is_image a.log.start a.log.events k.log_is.start k.log_is.events in
         subst (λ (x : Told). ShowsRing s.file.layout s.file.cluster (now x.log) s.headers) (sym (same_Some _ _ all)) (λ slot h at. put.shows (now a.log) (HeaderPlace slot) whole ∙ k.ring slot h at)
 
-    allowed_as : Answered given command s (replied s u.header) (reply_events s u) answer
+    allowed_as : Answered given command s (with_stored_reply s u.header) (reply_events s u) answer
     allowed_as = record { file = refl; live = live; stands = λ w work rep. allowed_at w work rep; made = λ w work rep. makes w rep; ring = λ g w a b k all. ring_kept g w a b k all }
 
-    stored_call : (old new : Option Told) → IsSupplied s old command given → new ≡ after_all (reply_events s u) old → IsCall given command s (replied s u.header) old new (Some answer)
-    stored_call old new supplied all = answered_call given command s (reply_events s u) input does_reply reply_puts (replied s u.header) answer allowed_as old new supplied all
+    stored_call : (old new : Option Told) → IsSupplied s old command given → new ≡ after_all (reply_events s u) old → IsCall given command s (with_stored_reply s u.header) old new (Some answer)
+    stored_call old new supplied all = answered_call given command s (reply_events s u) input does_reply reply_puts (with_stored_reply s u.header) answer allowed_as old new supplied all
 
     fault_call : (old new : Option Told) (t : State) → IsSupplied s old command given → t.live ≡ false → AddsPart (reply_events s u) old new → IsCall given command s t old new None
     fault_call old new t supplied dead part = stopped_call given command s (reply_events s u) input does_reply reply_puts t old new supplied dead part
@@ -219,13 +219,13 @@ module _ (s : State) (op : ℕ) (body : List ℕ) (is : IsState s) (live : s.liv
       subst (λ (o : Option Answer). Serves (Reply op body) s s old old o) (sym (refused_answer is_reply_fault e (reply_unblamed (memory s) op body e some) as_reply))
       (λ given supplied. refused_call s op body given is live supplied e some old supplied)
 
-  pub stored_serves : first_refusal (reply_refusals (memory s) op body) ≡ None → IsInOwnSlot s.file.layout (next_reply s body) → (t : State) (check : List ℕ) (old new : Option Told) → check ≡ (next_reply s body).header.checksum
-      → t ≡ replied s (next_reply s body).header → new ≡ after_all (reply_events s (next_reply s body)) old → Serves (Reply op body) s t old new (answer_of is_reply_fault as_reply (Ok check))
+  pub stored_serves : first_refusal (reply_refusals (memory s) op body) ≡ None → IsInReplySlot s.file.layout (next_reply s body) → (t : State) (check : List ℕ) (old new : Option Told) → check ≡ (next_reply s body).header.checksum
+      → t ≡ with_stored_reply s (next_reply s body).header → new ≡ after_all (reply_events s (next_reply s body)) old → Serves (Reply op body) s t old new (answer_of is_reply_fault as_reply (Ok check))
   stored_serves none own t check old new same next_is all =
       subst (λ (x : State). Serves (Reply op body) s x old new (answer_of is_reply_fault as_reply (Ok check))) (sym next_is)
-      (subst (λ (r : List ℕ). Serves (Reply op body) s (replied s (next_reply s body).header) old new (answer_of is_reply_fault as_reply (Ok r))) (sym same)
+      (subst (λ (r : List ℕ). Serves (Reply op body) s (with_stored_reply s (next_reply s body).header) old new (answer_of is_reply_fault as_reply (Ok r))) (sym same)
       (λ given supplied. stored_call s op body given is live supplied none own old new supplied all))
 
-  pub fault_serves : first_refusal (reply_refusals (memory s) op body) ≡ None → IsInOwnSlot s.file.layout (next_reply s body) → (t : State) (old new : Option Told) → t.live ≡ false
+  pub fault_serves : first_refusal (reply_refusals (memory s) op body) ≡ None → IsInReplySlot s.file.layout (next_reply s body) → (t : State) (old new : Option Told) → t.live ≡ false
       → AddsPart (reply_events s (next_reply s body)) old new → Serves (Reply op body) s t old new None
   fault_serves none own t old new dead part = λ given supplied. fault_call s op body given is live supplied none own old new t supplied dead part

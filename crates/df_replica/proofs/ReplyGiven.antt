@@ -14,7 +14,7 @@ use Rattle.df_opening.proofs.Laws.{boot_made}
 use Rattle.df_format.proofs.Laws.{given_obeys, of_second}
 use Rattle.df_sessions.specs.declared.session.Session as told
 use Rattle.df_sessions.specs.Requests.{session_of}
-use Rattle.df_sessions.specs.Table.{IsTable}
+use Rattle.df_sessions.specs.Table.{IsSessionTable}
 use Rattle.df_model.specs.Making.{client_of, request_of}
 use Rattle.df_sessions.proofs.Laws.{session_at}
 use Rattle.df_opening.specs.Below.{IsState, State}
@@ -41,7 +41,7 @@ header_is s blank parent client place sequence boot r blank_is client_here paren
       boot = boot_is i;
     }
 
-module _ (s : State) (is : IsState s) (table : IsTable s.table) (waits : s.replies < s.head) where
+module _ (s : State) (is : IsState s) (table : IsSessionTable s.table) (waits : s.replies < s.head) where
   pub place_small : place_waiting s < 64
   place_small = omega (arith, place_inside s is waits, table.within, table.most)
 

@@ -18,7 +18,7 @@ use Rattle.df_model.specs.declared.errors.AppendError.{AppendError}
 use Rattle.df_model.proofs.Laws.{change_law}
 use Rattle.df_opening.specs.Below.{Represents, State, memory, shape, spelling}
 use Rattle.df_replica.specs.Answering.{Serves, stage_answer}
-use Rattle.df_replica.specs.Flushing.{request_of, staged_with}
+use Rattle.df_replica.specs.Flushing.{request_made, staged_with}
 use Rattle.df_replica.specs.Serving.{IsCall, next}
 use Rattle.df_replica.specs.Supply.{IsSupplied}
 use Rattle.df_replica.proofs.Calls.{AreCalls, Answered, answered_call, answered_still}
@@ -29,7 +29,7 @@ module _ (s : State) (client request : ℕ) (body : List ℕ) (given : Given) (l
   command = Stage client request body
 
   abbrev r : Request
-  r = request_of client request body
+  r = request_made client request body
 
   input : IsInput given command
   input = record { checksums = subst (λ (g : Given). AreChecksums (supplied_sums g)) (sym none_given) tt; fields = fits }
@@ -102,9 +102,9 @@ module _ (s : State) (client request : ℕ) (body : List ℕ) (live : s.live ≡
   pub refusal_serves : (e : AppendError) → first_refusal (stage_refusals (memory s) client request body) ≡ Some e → (told : Option Told) → Serves (Stage client request body) s s told told (stage_answer (Err e))
   refusal_serves e some told = λ given supplied. refused_call s client request body given live fits supplied e some told supplied
 
-  pub stage_serves : first_refusal (stage_refusals (memory s) client request body) ≡ None → (t : State) (op : ℕ) → op ≡ s.head + length s.staged + 1 → t ≡ staged_with s (request_of client request body) → (told : Option Told)
+  pub stage_serves : first_refusal (stage_refusals (memory s) client request body) ≡ None → (t : State) (op : ℕ) → op ≡ s.head + length s.staged + 1 → t ≡ staged_with s (request_made client request body) → (told : Option Told)
       → Serves (Stage client request body) s t told told (stage_answer (Ok op))
   stage_serves none t op here next_is told =
       subst (λ (x : State). Serves (Stage client request body) s x told told (stage_answer (Ok op))) (sym next_is)
-      (subst (λ (o : ℕ). Serves (Stage client request body) s (staged_with s (request_of client request body)) told told (stage_answer (Ok o))) (sym here)
+      (subst (λ (o : ℕ). Serves (Stage client request body) s (staged_with s (request_made client request body)) told told (stage_answer (Ok o))) (sym here)
       (λ given supplied. allowed_call s client request body given live fits supplied none told supplied))

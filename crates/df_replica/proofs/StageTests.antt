@@ -8,17 +8,17 @@ use Rattle.std.proofs.lemmas.Option.{same_Some}
 use Rattle.df_sessions.specs.declared.session.Session as told
 use Rattle.df_sessions.specs.Requests as requests
 use Rattle.df_sessions.specs.Requests.{sessions_of}
-use Rattle.df_sessions.specs.Table.{IsTable}
+use Rattle.df_sessions.specs.Table.{IsSessionTable}
 use Rattle.df_theory.specs.Next.{MayAskInTurn}
-use Rattle.df_theory.specs.Sessions.{MayAsk, noted, session_of, sessions_after}
+use Rattle.df_theory.specs.Sessions.{MayAsk, noted, session_of_header, sessions_after}
 use Rattle.df_theory.specs.Units.{Header, Session}
 use Rattle.df_model.specs.Making.{first_of, prepare_in, prepares_in}
 use Rattle.df_model.specs.Memory.{Memory}
-use Rattle.df_model.specs.Refusals.{counted, first_refusal, session_of_client, stage_refusals}
+use Rattle.df_model.specs.Refusals.{counted_staged, first_refusal, session_of_client, stage_refusals}
 use Rattle.df_model.specs.Work.{Request}
 use Rattle.df_model.proofs.Laws.{all_pass, allowed, allowed_asks, ask_on, some_request, noted_alike}
 use Rattle.df_opening.specs.Below.{AreStaging, IsRequest, IsState, State, asker_of, asks_of, memory}
-use Rattle.df_replica.specs.Flushing.{request_of, sessions_staged, staged_with}
+use Rattle.df_replica.specs.Flushing.{request_made, sessions_staged, staged_with}
 
 -- what stands at a place
 pub request_at : (rs : List Request) (i : ℕ) → i < length rs → (r : Request) × (slice_get rs i ≡ Some r)
@@ -37,7 +37,7 @@ group_sessions m f l op p replies (r ∷ rs) sums ss =
     ∙ ap (λ (x : List Session). sessions_after x (asks_of replies (op + 1) rs)) (noted_alike h (asker_of replies op r) ss refl)
 
 -- all that is staged
-pub all_staged : (s : State) → (counted (memory s)).sessions ≡ sessions_staged s.table.sessions s.staged s.head (length s.staged)
+pub all_staged : (s : State) → (counted_staged (memory s)).sessions ≡ sessions_staged s.table.sessions s.staged s.head (length s.staged)
 all_staged s =
     group_sessions (memory s) (s.head + 1) (s.head + length s.staged) (s.head + 1) (memory s).head_checksum 0 s.staged [] (sessions_of s.table.sessions)
     ∙ ap (λ (rs : List Request). sessions_after (sessions_of s.table.sessions) (asks_of 0 (s.head + 1) rs)) (sym (take_all (length s.staged) s.staged (omega arith)))
@@ -64,17 +64,17 @@ staged_more table rs head n next op r at more here =
 
 -- ---- the session of a client after one of them
 
-own_case : (client : ℕ) (h : Header) (x : Session) (ss rest : List Session) (b : Bool) → (x.client == h.client) ≡ b → h.client ≡ client → session_of_client client rest ≡ Some (session_of h) → session_of_client client (if b then session_of h ∷ ss else x ∷ rest) ≡ Some (session_of h)
+own_case : (client : ℕ) (h : Header) (x : Session) (ss rest : List Session) (b : Bool) → (x.client == h.client) ≡ b → h.client ≡ client → session_of_client client rest ≡ Some (session_of_header h) → session_of_client client (if b then session_of_header h ∷ ss else x ∷ rest) ≡ Some (session_of_header h)
 own_case client h x ss rest true is own more = let same : (h.client == client) ≡ true = eq-eqb h.client client own in rw same refl
 own_case client h x ss rest false is own more =
     let other : (x.client == client) ≡ false = subst (λ (k : ℕ). (x.client == k) ≡ false) own is in rw other more
 
-pub own_session : (client : ℕ) (h : Header) (ss : List Session) → h.client ≡ client → session_of_client client (noted h ss) ≡ Some (session_of h)
+pub own_session : (client : ℕ) (h : Header) (ss : List Session) → h.client ≡ client → session_of_client client (noted h ss) ≡ Some (session_of_header h)
 own_session client h [] own = let same : (h.client == client) ≡ true = eq-eqb h.client client own in rw same refl
 own_session client h (x ∷ ss) own = own_case client h x ss (noted h ss) (x.client == h.client) refl own (own_session client h ss own)
 
 other_case : (client : ℕ) (h : Header) (x : Session) (ss rest : List Session) (b : Bool) → (x.client == h.client) ≡ b → (h.client == client) ≡ false → session_of_client client rest ≡ session_of_client client ss
-    → session_of_client client (if b then session_of h ∷ ss else x ∷ rest) ≡ (if x.client == client then Some x else session_of_client client ss)
+    → session_of_client client (if b then session_of_header h ∷ ss else x ∷ rest) ≡ (if x.client == client then Some x else session_of_client client ss)
 other_case client h x ss rest true is other more =
     let apart : (x.client == client) ≡ false = subst (λ (k : ℕ). (k == client) ≡ false) (sym (eqb-true x.client h.client is)) other in
     rw (other, apart) refl
@@ -86,7 +86,7 @@ other_session client h (x ∷ ss) other = other_case client h x ss (noted h ss) 
 
 -- ---- how many there are
 
-known_case : (h : Header) (x s : Session) (ss : List Session) (b : Bool) → (if b then Some x else session_of_client h.client ss) ≡ Some s → (session_of_client h.client ss ≡ Some s → length (noted h ss) ≡ length ss) → length (if b then session_of h ∷ ss else x ∷ noted h ss) ≡ length (x ∷ ss)
+known_case : (h : Header) (x s : Session) (ss : List Session) (b : Bool) → (if b then Some x else session_of_client h.client ss) ≡ Some s → (session_of_client h.client ss ≡ Some s → length (noted h ss) ≡ length ss) → length (if b then session_of_header h ∷ ss else x ∷ noted h ss) ≡ length (x ∷ ss)
 known_case h x s ss true there more = omega arith
 known_case h x s ss false there more = omega (arith, more there)
 
@@ -94,7 +94,7 @@ pub count_known : (h : Header) (s : Session) (ss : List Session) → session_of_
 count_known h s [] there = absurd (cc)
 count_known h s (x ∷ ss) there = known_case h x s ss (x.client == h.client) there (λ at. count_known h s ss at)
 
-new_case : (h : Header) (x : Session) (ss : List Session) (b : Bool) → (if b then Some x else session_of_client h.client ss) ≡ None → (session_of_client h.client ss ≡ None → length (noted h ss) ≡ length ss + 1) → length (if b then session_of h ∷ ss else x ∷ noted h ss) ≡ length (x ∷ ss) + 1
+new_case : (h : Header) (x : Session) (ss : List Session) (b : Bool) → (if b then Some x else session_of_client h.client ss) ≡ None → (session_of_client h.client ss ≡ None → length (noted h ss) ≡ length ss + 1) → length (if b then session_of_header h ∷ ss else x ∷ noted h ss) ≡ length (x ∷ ss) + 1
 new_case h x ss true there more = absurd (cc)
 new_case h x ss false there more = omega (arith, more there)
 
@@ -126,7 +126,7 @@ staged_few : (room replies op : ℕ) (rs : List Request) (ss : List Session) →
 staged_few room replies op [] ss asks few = few
 staged_few room replies op (r ∷ rs) ss asks few = staged_few room replies (op + 1) rs (noted (asker_of replies op r) ss) asks.1 (noted_few room (asker_of replies op r) ss asks.0 few)
   where
-    few_case : (h : Header) (x : Session) (ys rest : List Session) (k : ℕ) (b : Bool) → (x.client == h.client) ≡ b → MayAsk k h (x ∷ ys) → length ys + 1 ≤ k → ((n : ℕ) → MayAsk n h ys → length ys ≤ n → length rest ≤ n) → length (if b then session_of h ∷ ys else x ∷ rest) ≤ k
+    few_case : (h : Header) (x : Session) (ys rest : List Session) (k : ℕ) (b : Bool) → (x.client == h.client) ≡ b → MayAsk k h (x ∷ ys) → length ys + 1 ≤ k → ((n : ℕ) → MayAsk n h ys → length ys ≤ n → length rest ≤ n) → length (if b then session_of_header h ∷ ys else x ∷ rest) ≤ k
     few_case h x ys rest k true is may less more = omega (arith, less)
     few_case h x ys rest k false is (inl here) less more = absurd (eqb-false x.client h.client is here.0)
     few_case h x ys rest k false is (inr there) less more = omega (arith, more there.1 there.3 (omega (arith, there.2, less)), there.2)
@@ -135,10 +135,10 @@ staged_few room replies op (r ∷ rs) ss asks few = staged_few room replies (op 
     noted_few k h [] may less = omega (arith, may.1)
     noted_few k h (x ∷ ys) may less = few_case h x ys (noted h ys) k (x.client == h.client) refl may (omega (arith, less)) (λ n asking fewer. noted_few n h ys asking fewer)
 
-pub may_stage : (s : State) (client request : ℕ) (body : List ℕ) → IsState s → IsTable s.table → client < 2 ^ 128 → first_refusal (stage_refusals (memory s) client request body) ≡ None → AreStaging (staged_with s (request_of client request body))
+pub may_stage : (s : State) (client request : ℕ) (body : List ℕ) → IsState s → IsSessionTable s.table → client < 2 ^ 128 → first_refusal (stage_refusals (memory s) client request body) ≡ None → AreStaging (staged_with s (request_made client request body))
 may_stage s client request body is table fits none =
-    let m : Memory = counted (memory s) in
-    let r : Request = request_of client request body in
+    let m : Memory = counted_staged (memory s) in
+    let r : Request = request_made client request body in
     let ss : List Session = sessions_of s.table.sessions in
     let may = allowed m client request body none in
     let tests = all_pass (stage_refusals (memory s) client request body) none in

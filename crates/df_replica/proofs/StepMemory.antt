@@ -67,10 +67,10 @@ module _ (s : State) (r : RunningState) (running : s.running ≡ Some r) (from :
       let count : s.head - r.op ≡ s.head - s.fields.op - (r.op - s.fields.op) = omega (arith, from, to) in
       (λ i. map (prepare_sum s) (range_with_len (start i) (count i))) ∙ dropped (prepare_sum s) (r.op - s.fields.op) (s.fields.op + 1) (s.head - s.fields.op) (omega (arith, to))
 
-  pub last_memory : content_of (content_with (next_fields s r)) ≡ making.content_of (memory s) (course_of s.file s.blocks r) (number_of (content_with (next_fields s r)).checksum) → s.blocks.left ≡ []
+  pub last_memory : content_of (content_with (next_fields s r)) ≡ making.finishing_content (memory s) (course_of s.file s.blocks r) (number_of (content_with (next_fields s r)).checksum) → s.blocks.left ≡ []
       → memory (finished s r) ≡ step_memory (memory s) (number_of (content_with (next_fields s r)).checksum)
   last_memory same left =
       let M : theory.Content → List ℕ → Memory = λ c ps. record (memory s) { content = c; root = r.root; prepares = ps; blocks = capture_finished s.blocks; running = None } in
       ap (λ (c : theory.Content). M c (map (prepare_sum s) (range_with_len (r.op + 1) (s.head - r.op)))) same
-      ∙ ap (M (making.content_of (memory s) (course_of s.file s.blocks r) (number_of (content_with (next_fields s r)).checksum))) prepares_are
+      ∙ ap (M (making.finishing_content (memory s) (course_of s.file s.blocks r) (number_of (content_with (next_fields s r)).checksum))) prepares_are
       ∙ sym (step_is s r running (number_of (content_with (next_fields s r)).checksum) [] left)

@@ -78,13 +78,13 @@ abbrev pub Serves : Command → (s t : State) → (old new : Option Told) → Op
 Serves command s t old new answer = (given : Given) → IsSupplied s old command given → IsCall given command s t old new answer
 
 -- where the disk doesn't tell what it shows, what a read was supplied with is what it found
-abbrev pub Gives : Option Told → Option (Result Units.Message Class) → Given → Type 0
-Gives None (Some found) given = supplied_message given ≡ found
-Gives told found given = Unit {0}
+abbrev pub GivesFound : Option Told → Option (Result Units.Message Class) → Given → Type 0
+GivesFound None (Some found) given = supplied_message given ≡ found
+GivesFound told found given = Unit {0}
 
 -- the read is served, and does nothing to the disk
 abbrev pub ServesRead : Command → (s t : State) → Option Told → Option (Result Units.Message Class) → Option Answer → Type 0
-ServesRead command s t told found answer = (given : Given) → IsSupplied s told command given → Gives told found given → IsCall given command s t told told answer
+ServesRead command s t told found answer = (given : Given) → IsSupplied s told command given → GivesFound told found given → IsCall given command s t told told answer
 
 -- so it is with a block that is read
 abbrev pub GivesBlock : Option Told → Option (Result Units.Block Class) → Given → Type 0

@@ -18,7 +18,7 @@ use Rattle.df_format.specs.Spelling.{no_checksum, sealed}
 use Rattle.df_format.specs.Valid.{IsUnit}
 use Rattle.df_format.specs.Whole.{greatest_size}
 use Rattle.df_sessions.specs.Requests.{sessions_of}
-use Rattle.df_sessions.specs.Table.{IsKnown, with_request}
+use Rattle.df_sessions.specs.Table.{IsKnownClient, with_request}
 use Rattle.df_theory.specs.Sessions.{MayAsk}
 use Rattle.df_theory.specs.Units
 use Rattle.df_units.specs.Append.{append_events as calls_of}
@@ -33,8 +33,8 @@ use Rattle.df_replica.specs.Stopping.{stopped}
 -- ---- a unit that a call makes and writes
 
 -- the unit of a header and a body
-abbrev pub unit_of : Header → List ℕ → Message
-unit_of h body = record { header = sealed (for_body h body); body = body }
+abbrev pub unit_made : Header → List ℕ → Message
+unit_made h body = record { header = sealed (for_body h body); body = body }
 
 -- a unit of this kind may be made of a header and a body, to stand in a zone of the layout
 pub record MayBeMade (layout : Layout) (zone : Zone) (kind : Kind) (h : Header) (body : List ℕ) : Type 0 where
@@ -74,14 +74,14 @@ header_given s client request = record (blank_header AsPrepare s.file.cluster) {
 
 -- the next prepare
 abbrev pub next_unit : State → (client request : ℕ) → List ℕ → Message
-next_unit s client request body = unit_of (header_given s client request) body
+next_unit s client request body = unit_made (header_given s client request) body
 
 -- the prepare, a sync, its header sector, a sync
-abbrev pub unit_events : Layout → Message → List Header → List Event
-unit_events layout u table = calls_of layout u.header.slot (sectors_of u) (u.header.slot / 16) (journal.new_sector u table)
+abbrev pub prepare_events : Layout → Message → List Header → List Event
+prepare_events layout u table = calls_of layout u.header.slot (sectors_of u) (u.header.slot / 16) (journal.new_sector u table)
 
 abbrev pub append_events : State → Message → List Event
-append_events s u = unit_events s.file.layout u s.headers
+append_events s u = prepare_events s.file.layout u s.headers
 
 -- the state with the header of a prepare in its slot
 abbrev pub with_header : State → Message → State
@@ -97,8 +97,8 @@ noted s h = record s {
 }
 
 -- the state with a prepare more
-abbrev pub appended : State → Message → State
-appended s u = noted (with_header s u) u.header
+abbrev pub with_prepare_appended : State → Message → State
+with_prepare_appended s u = noted (with_header s u) u.header
 
 abbrev pub receipt_of : Header → Receipt
 receipt_of h = record { op = h.op; checksum = h.checksum }
@@ -112,7 +112,7 @@ pub record MayNote (s : State) (client asked : ℕ) : Type 0 where
   pub op : s.head < 2 ^ 62
   pub room : s.head + 1 ≤ s.fields.op + s.file.layout.slots
   pub asks : (h : Units.Header) → h.client ≡ client → h.request ≡ asked → h.mark ≡ s.replies → MayAsk s.file.layout.clients h (sessions_of s.table.sessions)
-  pub place : IsKnown client s.table.sessions ⊎ (length s.table.sessions < s.table.max)
+  pub place : IsKnownClient client s.table.sessions ⊎ (length s.table.sessions < s.table.max)
 
 -- an append that isn't refused, as far as the code needs it
 pub record MayNext (s : State) (client asked size : ℕ) : Type 0 where
@@ -122,10 +122,10 @@ pub record MayNext (s : State) (client asked size : ℕ) : Type 0 where
   pub first : s.head ≡ 0 → s.head_checksum ≡ no_checksum
 
 -- what an append answers, with the state after it and what the disk then tells: exact for a receipt and for each refusal, and after a fault the replica isn't live, and nothing in memory but the table of headers moved
-abbrev pub IsAppend : (client request : ℕ) → List ℕ → (s t : State) → (old new : Option Told) → Result Receipt AppendError → Type 0
-IsAppend client request body s t old new (Ok receipt) =
+abbrev pub IsAppendCall : (client request : ℕ) → List ℕ → (s t : State) → (old new : Option Told) → Result Receipt AppendError → Type 0
+IsAppendCall client request body s t old new (Ok receipt) =
     let u = next_unit s client request body in
-    (first_refusal (append_refusals (memory s) client request body) ≡ None) × (receipt ≡ receipt_of u.header) × (t ≡ appended s u) × (new ≡ after_all (append_events s u) old)
-IsAppend client request body s t old new (Err append.DiskFault) =
+    (first_refusal (append_refusals (memory s) client request body) ≡ None) × (receipt ≡ receipt_of u.header) × (t ≡ with_prepare_appended s u) × (new ≡ after_all (append_events s u) old)
+IsAppendCall client request body s t old new (Err append.DiskFault) =
     (first_refusal (append_refusals (memory s) client request body) ≡ None) × (t ≡ stopped (record s { headers = t.headers })) × AddsPart (append_events s (next_unit s client request body)) old new
-IsAppend client request body s t old new (Err e) = (first_refusal (append_refusals (memory s) client request body) ≡ Some e) × (t ≡ s) × (new ≡ old)
+IsAppendCall client request body s t old new (Err e) = (first_refusal (append_refusals (memory s) client request body) ≡ Some e) × (t ≡ s) × (new ≡ old)

@@ -35,8 +35,8 @@ captured s root = record {
 }
 
 -- the state with a checkpoint that runs
-abbrev pub begun : State → List ℕ → State
-begun s root = record s { blocks = blocks_captured s.blocks (take (needed s root) (free_of (memory s))); running = Some (captured s root) }
+abbrev pub with_checkpoint_begun : State → List ℕ → State
+with_checkpoint_begun s root = record s { blocks = blocks_captured s.blocks (take (needed s root) (free_of (memory s))); running = Some (captured s root) }
 
 -- how long the trailer is to be
 pub record IsPlan (s : State) (root : List ℕ) (plan : Plan) : Type 0 where
@@ -48,7 +48,7 @@ pub record IsPlan (s : State) (root : List ℕ) (plan : Plan) : Type 0 where
   pub few : plan.blocks ≤ 70
 
 -- a begin that isn't refused, as far as the code needs it
-pub record MayBegin (s : State) (root : List ℕ) (plan : Plan) : Type 0 where
+pub record MayBeginCheckpoint (s : State) (root : List ℕ) (plan : Plan) : Type 0 where
   pub planned : IsPlan s root plan
   pub idle : s.running ≡ None
   pub short : length root ≤ 1024
@@ -57,10 +57,10 @@ pub record MayBegin (s : State) (root : List ℕ) (plan : Plan) : Type 0 where
 
 -- what the tests of a begin answer
 abbrev pub IsTested : State → List ℕ → Result Plan BeginError → Type 0
-IsTested s root (Ok plan) = (begin_refusal s root ≡ None) × MayBegin s root plan
+IsTested s root (Ok plan) = (begin_refusal s root ≡ None) × MayBeginCheckpoint s root plan
 IsTested s root (Err e) = begin_refusal s root ≡ Some e
 
 -- what a begin answers, with the state after it: how many blocks the trailer needs, or the first reason that refuses it
 abbrev pub IsBegin : List ℕ → (s t : State) → Result ℕ BeginError → Type 0
-IsBegin root s t (Ok blocks) = (begin_refusal s root ≡ None) × (blocks ≡ needed s root) × (t ≡ begun s root)
+IsBegin root s t (Ok blocks) = (begin_refusal s root ≡ None) × (blocks ≡ needed s root) × (t ≡ with_checkpoint_begun s root)
 IsBegin root s t (Err e) = (begin_refusal s root ≡ Some e) × (t ≡ s)

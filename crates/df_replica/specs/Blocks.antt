@@ -20,30 +20,30 @@ use Rattle.df_model.specs.declared.errors.BlockError.{BlockError}
 use Rattle.df_model.specs.declared.errors.BlockError.TheVariants as block
 use Rattle.df_model.specs.declared.errors.NotLive.{NotLive}
 use Rattle.df_opening.specs.Below.{State, grid_with, memory}
-use Rattle.df_replica.specs.Appending.{MayBeMade, unit_of}
+use Rattle.df_replica.specs.Appending.{MayBeMade, unit_made}
 use Rattle.df_replica.specs.Stopping.{stopped}
 
 -- ---- a write
 
 -- what the maker of a block at an address says of it: its cluster, its address, its kind and the boot alone
-abbrev pub block_given : State → (address kind : ℕ) → Header
-block_given s address kind = record (blank_header AsBlock s.file.cluster) { op = address; block_kind = kind; version = 2; boot = s.fields.boot }
+abbrev pub block_header_given : State → (address kind : ℕ) → Header
+block_header_given s address kind = record (blank_header AsBlock s.file.cluster) { op = address; block_kind = kind; version = 2; boot = s.fields.boot }
 
 -- the next block: it goes to the least address that isn't held
 abbrev pub next_block : State → (kind : ℕ) → List ℕ → Message
-next_block s kind body = unit_of (block_given s (next_address (memory s)) kind) body
+next_block s kind body = unit_made (block_header_given s (next_address (memory s)) kind) body
 
 -- one write into its place, and no sync
 abbrev pub block_events : State → Message → List Event
 block_events s u = made_events s.file.layout u
 
 -- the state with these blocks
-abbrev pub with_blocks : State → Blocks → State
-with_blocks s b = record s { blocks = b }
+abbrev pub with_grid_blocks : State → Blocks → State
+with_grid_blocks s b = record s { blocks = b }
 
 -- the state with a live block more
 abbrev pub written : State → Header → State
-written s h = with_blocks s (block_written s.blocks h.op (number_of h.checksum))
+written s h = with_grid_blocks s (block_written s.blocks h.op (number_of h.checksum))
 
 abbrev pub reference_of : Header → Reference
 reference_of h = record { address = h.op; checksum = h.checksum }
@@ -85,7 +85,7 @@ IsWriteBlock kind body s t old new (Err e) = (first_refusal (block_refusals (mem
 
 -- the state with a live block less
 abbrev pub released : State → (address : ℕ) → State
-released s address = with_blocks s (block_released s.blocks address)
+released s address = with_grid_blocks s (block_released s.blocks address)
 
 -- what a release answers, with the state after it: it is refused exactly where the address isn't live, and changes nothing then
 abbrev pub IsRelease : {A : Type 0} → (address : ℕ) → (s t : State) → Result A NotLive → Type 0

@@ -12,7 +12,7 @@ use Rattle.df_format.specs.Spelling.{IsCheck, no_checksum}
 use Rattle.df_buffers.specs.Sounds.{Holding}
 use Rattle.df_sessions.specs.declared.session.Session.{Session}
 use Rattle.df_sessions.specs.Requests.{sessions_of}
-use Rattle.df_sessions.specs.Table.{IsKnown, with_request}
+use Rattle.df_sessions.specs.Table.{IsKnownClient, with_request}
 use Rattle.df_theory.specs.Sessions.{sessions_after}
 use Rattle.df_theory.specs.Units
 use Rattle.df_theory.specs.Units.{PreparePlace}
@@ -27,7 +27,7 @@ use Rattle.df_model.specs.declared.errors.FlushError.{FlushError}
 use Rattle.df_model.specs.declared.errors.FlushError.TheVariants as flush
 use Rattle.df_opening.specs.Below.{DataFile, IsRequest, State, asks_of, memory}
 use Rattle.df_replica.specs.declared.flush.Group.{Group}
-use Rattle.df_replica.specs.Appending.{unit_of}
+use Rattle.df_replica.specs.Appending.{unit_made}
 use Rattle.df_replica.specs.Stopping.{stopped}
 
 -- ---- the prepares of a group
@@ -53,15 +53,15 @@ header_in g op parent r = record (blank_header AsPrepare g.file.cluster) {
 }
 
 -- requests as prepares of one group, from this op on, each the parent of the next
-abbrev pub units_in : Group → (op : ℕ) → (parent : List ℕ) → List Request → List Message
-units_in g op parent [] = []
-units_in g op parent (r ∷ rs) =
-    let u = unit_of (header_in g op parent r) r.body in
-    u ∷ units_in g (op + 1) u.header.checksum rs
+abbrev pub group_prepares : Group → (op : ℕ) → (parent : List ℕ) → List Request → List Message
+group_prepares g op parent [] = []
+group_prepares g op parent (r ∷ rs) =
+    let u = unit_made (header_in g op parent r) r.body in
+    u ∷ group_prepares g (op + 1) u.header.checksum rs
 
 -- all that is staged, as the next group
 abbrev pub flush_units : State → List Message
-flush_units s = units_in (group_in s) (s.head + 1) s.head_checksum s.staged
+flush_units s = group_prepares (group_in s) (s.head + 1) s.head_checksum s.staged
 
 -- their checksums, and these as numbers
 abbrev pub checks_of : List Message → List (List ℕ)
@@ -73,13 +73,13 @@ sums_of us = map (λ u. number_of u.header.checksum) us
 -- ---- its device calls
 
 -- each prepare is put: a write into its slot
-abbrev pub put_events : Layout → List Message → List Event
-put_events layout [] = []
-put_events layout (u ∷ us) = Write (first_at layout (PreparePlace u.header.slot)) (sectors_of u) ∷ put_events layout us
+abbrev pub group_put_events : Layout → List Message → List Event
+group_put_events layout [] = []
+group_put_events layout (u ∷ us) = Write (first_at layout (PreparePlace u.header.slot)) (sectors_of u) ∷ group_put_events layout us
 
 -- the prepares, a sync, their one or two header sectors, a sync
 abbrev pub group_events : Layout → List Message → List Header → List Event
-group_events layout us table = put_events layout us ++ settling.settle_events layout (journal.with_headers us table) (journal.sectors_of us)
+group_events layout us table = group_put_events layout us ++ settling.settle_events layout (journal.with_headers us table) (journal.sectors_of us)
 
 abbrev pub flush_events : State → List Event
 flush_events s = group_events s.file.layout (flush_units s) s.headers
@@ -107,8 +107,8 @@ flushed s us = record s {
   staged = [];
 }
 
-abbrev pub request_of : (client request : ℕ) → List ℕ → Request
-request_of client request body = record { client = client; request = request; body = body }
+abbrev pub request_made : (client request : ℕ) → List ℕ → Request
+request_made client request body = record { client = client; request = request; body = body }
 
 -- the state with a request more that is staged
 abbrev pub staged_with : State → Request → State
@@ -123,7 +123,7 @@ sessions_staged ss rs head count = sessions_after (sessions_of ss) (asks_of 0 (h
 -- what a stage answers, with the state after it: exact for the op to come and for each refusal
 abbrev pub IsStage : (client request : ℕ) → List ℕ → (s t : State) → Result ℕ AppendError → Type 0
 IsStage client request body s t (Ok op) =
-    (first_refusal (stage_refusals (memory s) client request body) ≡ None) × (op ≡ s.head + length s.staged + 1) × (t ≡ staged_with s (request_of client request body))
+    (first_refusal (stage_refusals (memory s) client request body) ≡ None) × (op ≡ s.head + length s.staged + 1) × (t ≡ staged_with s (request_made client request body))
 IsStage client request body s t (Err e) = (first_refusal (stage_refusals (memory s) client request body) ≡ Some e) × (t ≡ s)
 
 -- what a flush answers, with the state after it and what the disk then tells: exact for a count and for the refusal, and after a fault the replica isn't live, nothing is staged, and nothing else in memory but the table of headers moved
@@ -174,7 +174,7 @@ AreMadeFor file helds = (i : ℕ) (held : Holding) → slice_get helds i ≡ Som
 -- rooms hold these prepares, each of which is valid in its own slot, and from these they are written
 pub record AreHeld (file : DataFile) (us : List Message) : Type 0 where
   pub helds : List Holding
-  pub units : journal.units_of helds ≡ us
+  pub units : journal.held_prepares helds ≡ us
   pub made : AreMadeFor file helds
   pub own : journal.AreOwn file.layout helds
 
@@ -182,4 +182,4 @@ pub record AreHeld (file : DataFile) (us : List Message) : Type 0 where
 abbrev pub HavePlaces : (places : ℕ) → List Session → List Message → Type 0
 HavePlaces places ss [] = Unit {0}
 HavePlaces places ss (u ∷ us) =
-    (0 < u.header.client) × (IsKnown u.header.client ss ⊎ (length ss < places)) × HavePlaces places (with_request u.header.client u.header.request u.header.op ss) us
+    (0 < u.header.client) × (IsKnownClient u.header.client ss ⊎ (length ss < places)) × HavePlaces places (with_request u.header.client u.header.request u.header.op ss) us

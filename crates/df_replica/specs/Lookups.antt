@@ -30,11 +30,11 @@ abbrev pub reply_shown : DataFile → (place : ℕ) → Option (List ℕ) → Im
 reply_shown file place known image = reply_at (shown_of file image) (reply_sum known) place
 
 -- what was read is what the image shows: the unit that the room holds, or a class
-abbrev pub Tells : Option Told → (Image → Result Units.Message Class) → Option Class → Option Holding → Type 0
-Tells None shown wrong held = Unit {0}
-Tells (Some t) shown None (Some h) = Ok (message_of h.unit) ≡ shown t.shown
-Tells (Some t) shown None None = ⊥
-Tells (Some t) shown (Some class) held = Err class ≡ shown t.shown
+abbrev pub TellsShown : Option Told → (Image → Result Units.Message Class) → Option Class → Option Holding → Type 0
+TellsShown None shown wrong held = Unit {0}
+TellsShown (Some t) shown None (Some h) = Ok (message_of h.unit) ≡ shown t.shown
+TellsShown (Some t) shown None None = ⊥
+TellsShown (Some t) shown (Some class) held = Err class ≡ shown t.shown
 
 -- whatever it tells, where nothing is wrong the room holds the known unit
 abbrev pub HoldsKnown : Kind → DataFile → Place → Option ℕ → Option Class → Option Holding → Type 0

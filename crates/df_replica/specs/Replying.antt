@@ -14,14 +14,14 @@ use Rattle.df_format.specs.Message.{Message, sectors_of}
 use Rattle.df_format.specs.Own.{place_in}
 use Rattle.df_format.specs.Spelling.{no_checksum}
 use Rattle.df_sessions.specs.Requests.{sessions_of}
-use Rattle.df_sessions.specs.Table.{with_reply}
+use Rattle.df_sessions.specs.Table.{with_reply_stored}
 use Rattle.df_theory.specs.Units.{Session}
 use Rattle.df_model.specs.Making.{client_of, place_of_op, request_of}
 use Rattle.df_model.specs.Refusals.{first_refusal, reply_refusals}
 use Rattle.df_model.specs.declared.errors.ReplyError.{ReplyError}
 use Rattle.df_model.specs.declared.errors.ReplyError.TheVariants as reply
 use Rattle.df_opening.specs.Below.{State, memory}
-use Rattle.df_replica.specs.Appending.{unit_of}
+use Rattle.df_replica.specs.Appending.{unit_made}
 use Rattle.df_replica.specs.Stopping.{stopped}
 
 -- the place of the session that waits for the next reply
@@ -52,7 +52,7 @@ reply_given s = record (blank_header AsReply s.file.cluster) {
 
 -- the next reply
 abbrev pub next_reply : State → List ℕ → Message
-next_reply s body = unit_of (reply_given s) body
+next_reply s body = unit_made (reply_given s) body
 
 -- the reply into its client's slot, and a sync
 abbrev pub reply_calls : Layout → Message → List Event
@@ -62,11 +62,11 @@ abbrev pub reply_events : State → Message → List Event
 reply_events s u = reply_calls s.file.layout u
 
 -- the state with a reply more
-abbrev pub replied : State → Header → State
-replied s h = record s {
+abbrev pub with_stored_reply : State → Header → State
+with_stored_reply s h = record s {
   replies = s.replies + 1;
   waiting = drop 1 s.waiting;
-  table = record s.table { sessions = with_reply h.slot h.checksum s.table.sessions };
+  table = record s.table { sessions = with_reply_stored h.slot h.checksum s.table.sessions };
 }
 
 -- a reply that isn't refused, as far as the code needs it
@@ -76,10 +76,10 @@ pub record MayReplyNext (s : State) (size : ℕ) : Type 0 where
   pub fits : 256 + size ≤ s.file.layout.message_size
 
 -- what a reply answers, with the state after it and what the disk then tells: exact for a checksum and for each refusal; after a fault the replica isn't live, and nothing else in memory moved
-abbrev pub IsReply : (op : ℕ) → List ℕ → (s t : State) → (old new : Option Told) → Result (List ℕ) ReplyError → Type 0
-IsReply op body s t old new (Ok check) =
+abbrev pub IsReplyCall : (op : ℕ) → List ℕ → (s t : State) → (old new : Option Told) → Result (List ℕ) ReplyError → Type 0
+IsReplyCall op body s t old new (Ok check) =
     let u = next_reply s body in
-    (first_refusal (reply_refusals (memory s) op body) ≡ None) × (check ≡ u.header.checksum) × (t ≡ replied s u.header) × (new ≡ after_all (reply_events s u) old)
-IsReply op body s t old new (Err reply.DiskFault) =
+    (first_refusal (reply_refusals (memory s) op body) ≡ None) × (check ≡ u.header.checksum) × (t ≡ with_stored_reply s u.header) × (new ≡ after_all (reply_events s u) old)
+IsReplyCall op body s t old new (Err reply.DiskFault) =
     (first_refusal (reply_refusals (memory s) op body) ≡ None) × (t ≡ stopped s) × AddsPart (reply_events s (next_reply s body)) old new
-IsReply op body s t old new (Err e) = (first_refusal (reply_refusals (memory s) op body) ≡ Some e) × (t ≡ s) × (new ≡ old)
+IsReplyCall op body s t old new (Err e) = (first_refusal (reply_refusals (memory s) op body) ≡ Some e) × (t ≡ s) × (new ≡ old)

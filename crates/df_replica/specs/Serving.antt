@@ -41,7 +41,7 @@ abbrev pub next : DataFile → Work → Given → Command → Work × Answer
 next file w given command = after (shape file) (spelling file) w given command
 
 -- Every call, with what it was rightly supplied with, from each state of the machine that the replica stands for: it answers as the machine, and adds these events to
--- the log that is told, whose writes lie within the zones of the file. Over each log by which the file was kept for that state, the told one or one begun anew, each moment of them is good and what comes after is
+-- the log that is told, whose writes lie within the zones of the file. Over each log by which the file was kept for that state, the told one or one restarted, each moment of them is good and what comes after is
 -- kept. Whatever the disk shows: an answered call leaves shown what it makes and nothing else, headers aside, and one that wasn't answered nothing else; no call writes to a block that is held, but the running trailer's next;
 -- where no block of the durable checkpoint is loose, none is after the answer; and where all was written that the state before has, all was that the one after has
 pub record IsCall (given : Given) (command : Command) (s t : State) (old new : Option Told) (answer : Option Answer) : Type 0 where

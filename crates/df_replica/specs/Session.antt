@@ -26,7 +26,7 @@ work_after file w acts = machine.work_after (shape file) (spelling file) w acts
 
 -- the machine's answers to them
 abbrev pub answers_of : DataFile → Work → List Act → List Answer
-answers_of file w acts = machine.answers_of (shape file) (spelling file) w acts
+answers_of file w acts = machine.run_answers (shape file) (spelling file) w acts
 
 -- the image has a view that keeps this one; of a whole file with each block that it references
 abbrev pub HoldsFor : Grade → Shape → Units → View → Type 0

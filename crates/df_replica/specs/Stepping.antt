@@ -88,21 +88,21 @@ abbrev pub step_events : State → RunningState → List Event
 step_events s r = events_for s r s.blocks.left
 
 -- a disk that tells what it shows
-abbrev pub Tells : Option Told → Type 0
-Tells None = ⊥
-Tells (Some t) = Unit {0}
+abbrev pub TellsImage : Option Told → Type 0
+TellsImage None = ⊥
+TellsImage (Some t) = Unit {0}
 
 -- two of the four copies or more weren't read back as they were written: the place is that of the first of them, with the class of what was seen there
 abbrev pub IsReadWrong : Option Told → SuperFields → Place → Class → Type 0
 IsReadWrong told f place class = ReadsBack {T = Unit {0}} told f (Err (update.Damaged place class))
 
 -- what a step answers, with the state after it and what the disk then tells: exact for each answer; after a fault, or where copies of the new superblock were not read back, the replica isn't live, and nothing else in memory moved
-abbrev pub IsStep : (s t : State) → (old new : Option Told) → Result Progress StepError → Type 0
-IsStep s t old new (Ok (Working left)) = OfRunning s.running (λ r. (s.blocks.left ≢ []) × (left ≡ length s.blocks.left) × (t ≡ advanced s r) × (new ≡ after_all (block_events s r) old))
-IsStep s t old new (Ok (Done sequence)) = OfRunning s.running (λ r. (s.blocks.left ≡ []) × (sequence ≡ r.sequence) × (t ≡ finished s r) × (new ≡ after_all (last_events s r) old))
-IsStep s t old new (Err step.NotRunning) = (s.running ≡ None) × (t ≡ s) × (new ≡ old)
-IsStep s t old new (Err (step.Damaged place class)) = OfRunning s.running (λ r. (s.blocks.left ≡ []) × (t ≡ stopped s) × (new ≡ after_all (last_events s r) old) × (Tells new → ⊥) × IsReadWrong new (next_fields s r) place class)
-IsStep s t old new (Err step.DiskFault) = OfRunning s.running (λ r. (t ≡ stopped s) × AddsPart (step_events s r) old new)
+abbrev pub IsStepCall : (s t : State) → (old new : Option Told) → Result Progress StepError → Type 0
+IsStepCall s t old new (Ok (Working left)) = OfRunning s.running (λ r. (s.blocks.left ≢ []) × (left ≡ length s.blocks.left) × (t ≡ advanced s r) × (new ≡ after_all (block_events s r) old))
+IsStepCall s t old new (Ok (Done sequence)) = OfRunning s.running (λ r. (s.blocks.left ≡ []) × (sequence ≡ r.sequence) × (t ≡ finished s r) × (new ≡ after_all (last_events s r) old))
+IsStepCall s t old new (Err step.NotRunning) = (s.running ≡ None) × (t ≡ s) × (new ≡ old)
+IsStepCall s t old new (Err (step.Damaged place class)) = OfRunning s.running (λ r. (s.blocks.left ≡ []) × (t ≡ stopped s) × (new ≡ after_all (last_events s r) old) × (TellsImage new → ⊥) × IsReadWrong new (next_fields s r) place class)
+IsStepCall s t old new (Err step.DiskFault) = OfRunning s.running (λ r. (t ≡ stopped s) × AddsPart (step_events s r) old new)
 
 -- ---- its parts
 
@@ -117,13 +117,13 @@ pub record MayAdvance (s : State) : Type 0 where
   pub some : s.blocks.left ≢ []
 
 -- a checkpoint runs, and its trailer is written
-pub record MayFinish (s : State) : Type 0 where
+pub record MayFinishCheckpoint (s : State) : Type 0 where
   pub runs : OfRunning s.running (λ r. Unit {0})
   pub done : s.blocks.left ≡ []
 
 -- what became of a superblock of these fields, before which all that was written is synced
-abbrev pub IsMade : {T : Type 0} → SuperFields → (old new : Option Told) → Result T StepError → Type 0
-IsMade f old new (Ok x) = new ≡ after_all (Sync ∷ update_events f) old
-IsMade f old new (Err step.NotRunning) = ⊥
-IsMade f old new (Err (step.Damaged place class)) = (new ≡ after_all (Sync ∷ update_events f) old) × (Tells new → ⊥) × IsReadWrong new f place class
-IsMade f old new (Err step.DiskFault) = AddsPart (Sync ∷ update_events f) old new
+abbrev pub IsMadeSuperblock : {T : Type 0} → SuperFields → (old new : Option Told) → Result T StepError → Type 0
+IsMadeSuperblock f old new (Ok x) = new ≡ after_all (Sync ∷ update_events f) old
+IsMadeSuperblock f old new (Err step.NotRunning) = ⊥
+IsMadeSuperblock f old new (Err (step.Damaged place class)) = (new ≡ after_all (Sync ∷ update_events f) old) × (TellsImage new → ⊥) × IsReadWrong new f place class
+IsMadeSuperblock f old new (Err step.DiskFault) = AddsPart (Sync ∷ update_events f) old new

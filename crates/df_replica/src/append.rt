@@ -3,11 +3,11 @@
 ghost use Rattle.std.specs.Prelude.{◌≡◌, ◌+◌, ℕ, List, length, true, IsSome, IfOk, OnErr, OnOk};
 ghost use Rattle.df_replica.specs.Below.{HasCause, IsBlamed, Adds, WalPrepares, Prepare as AsPrepare, for_body, own_place, place_in, ObeysRules, IsCheck, with_header as table_with, Append, is_append_fault, append_refusals, first_refusal, IsState, memory};
 ghost use Rattle.df_journal.specs.Below.{IsInOwnSlot};
-ghost use Rattle.df_sessions.specs.Table.{IsTable as IsSessions};
+ghost use Rattle.df_sessions.specs.Table.{IsSessionTable as IsSessions};
 ghost use Rattle.df_replica.specs.Answering.{Serves, answer_of, as_append};
-ghost use Rattle.df_opening.specs.Held.{AreRoomsOf};
+ghost use Rattle.df_opening.specs.Held.{AreLogRoomsOf};
 ghost use Rattle.df_replica.specs.Refusing.{AreCounters};
-ghost use Rattle.df_replica.specs.Appending.{IsAppend, IsMadeUnit, MayBeMade, MayNext, MayNote, append_events, appended, header_given, next_unit, noted, receipt_of, unit_events, unit_of, with_header};
+ghost use Rattle.df_replica.specs.Appending.{IsAppendCall, IsMadeUnit, MayBeMade, MayNext, MayNote, append_events, header_given, next_unit, noted, prepare_events, receipt_of, unit_made, with_header, with_prepare_appended};
 
 use crate::refusing::{Counters, request_refusal, session_of, staged_refusal};
 use crate::{DataFile, Replica};
@@ -26,12 +26,12 @@ fn append_in<D: Disk>(
     body: &[u8],
     rooms: &mut LogRooms,
 ) -> Result<Header, Failed>
-    requires rooms { AreRoomsOf file.now.layout header.cluster rooms.old }
+    requires rooms { AreLogRoomsOf file.now.layout header.cluster rooms.old }
     requires may { MayBeMade file.now.layout WalPrepares AsPrepare header body.now }
-    ensures events { Adds (unit_events file.now.layout (unit_of header body.now) rooms.old.headers) (D.told disk.old) (D.told disk.new) result }
-    ensures made { IsMadeUnit file.now.layout (place_in WalPrepares (unit_of header body.now).header.slot) (unit_of header body.now) result }
-    ensures table { OnOk result (rooms.new.headers ≡ table_with (unit_of header body.now) rooms.old.headers) }
-    ensures rooms { AreRoomsOf file.now.layout header.cluster rooms.new }
+    ensures events { Adds (prepare_events file.now.layout (unit_made header body.now) rooms.old.headers) (D.told disk.old) (D.told disk.new) result }
+    ensures made { IsMadeUnit file.now.layout (place_in WalPrepares (unit_made header body.now).header.slot) (unit_made header body.now) result }
+    ensures table { OnOk result (rooms.new.headers ≡ table_with (unit_made header body.now) rooms.old.headers) }
+    ensures rooms { AreLogRoomsOf file.now.layout header.cluster rooms.new }
     ensures cause { HasCause (D.faults disk.old) (D.faults disk.new) result }
 {
     rooms.prepare.make(header, body);
@@ -152,7 +152,7 @@ impl Replica {
         ensures events { Adds (append_events self.old (next_unit self.old client request body.now)) (D.told disk.old) (D.told disk.new) result }
         ensures own { IsInOwnSlot self.old.file.layout (next_unit self.old client request body.now) }
         ensures receipt { IfOk result (λ r. r ≡ receipt_of (next_unit self.old client request body.now).header) }
-        ensures state { OnOk result (self.new ≡ appended self.old (next_unit self.old client request body.now)) }
+        ensures state { OnOk result (self.new ≡ with_prepare_appended self.old (next_unit self.old client request body.now)) }
         ensures kept { OnErr result (self.new ≡ record self.old { headers = self.new.headers }) }
         ensures cause { HasCause (D.faults disk.old) (D.faults disk.new) result }
     {
@@ -176,7 +176,7 @@ impl Replica {
         body: &[u8],
     ) -> Result<Receipt, AppendError>
         requires live { self.old.live ≡ true }
-        ensures exact { IsAppend client request body.now self.old self.new (D.told disk.old) (D.told disk.new) result }
+        ensures exact { IsAppendCall client request body.now self.old self.new (D.told disk.old) (D.told disk.new) result }
         ensures call { Serves (Append client request body.now) self.old self.new (D.told disk.old) (D.told disk.new) (answer_of is_append_fault as_append result) }
         ensures cause { IsBlamed is_append_fault (D.faults disk.old) (D.faults disk.new) result }
     {

@@ -2,9 +2,9 @@
 // blocks are set aside. It touches no disk.
 ghost use Rattle.std.specs.Prelude.{◌≡◌, ◌≤◌, ◌+◌, ◌-◌, true, Option, length};
 ghost use Rattle.df_replica.specs.Below.{AreBytes, Told, Begin, IsState};
-ghost use Rattle.df_sessions.specs.Table.{IsTable};
+ghost use Rattle.df_sessions.specs.Table.{IsSessionTable};
 ghost use Rattle.df_replica.specs.Answering.{Serves, begin_answer};
-ghost use Rattle.df_replica.specs.Beginning.{IsBegin, IsPlan, IsTested, MayBegin, begun};
+ghost use Rattle.df_replica.specs.Beginning.{IsBegin, IsPlan, IsTested, MayBeginCheckpoint, with_checkpoint_begun};
 
 use crate::Replica;
 use crate::reply::session_in;
@@ -30,7 +30,7 @@ pub(crate) struct Plan {
 // The sessions of a table, in a list of their own.
 fn sessions_in(table: &SessionTable) -> ArrayVec<Session, 64>
     ensures items { result.items ≡ table.now.sessions }
-    ensures table { IsTable table.now }
+    ensures table { IsSessionTable table.now }
 {
     let mut sessions = ArrayVec::new();
     let count = table.len();
@@ -108,8 +108,8 @@ impl Replica {
 
     // Captures the state, for a checkpoint with a trailer of this length.
     fn capture(&mut self, root: &[u8], plan: Plan)
-        requires { MayBegin self.old root.now plan }
-        ensures { self.new ≡ begun self.old root.now }
+        requires { MayBeginCheckpoint self.old root.now plan }
+        ensures { self.new ≡ with_checkpoint_begun self.old root.now }
     {
         let capture = Capture {
             root: root_of(root),

@@ -3,8 +3,8 @@
 ghost use Rattle.std.specs.Prelude.{◌≡◌, ◌<◌, ℕ, List, Option, length, slice_get, true, Some, IfOk, IsSome, OnErr, OnOk};
 ghost use Rattle.df_replica.specs.Below.{HasCause, IsBlamed, Adds, Told, Grid as InGrid, for_body, own_place, place_in, ObeysRules, number_of, number_in, IsUnheld, with_blocks as grid_of, made_events, block_written, sum_at, Release, WriteBlock, is_block_fault, next_address, Memory, block_room, free_of, block_refusals, first_refusal, IsState, grid_with, memory};
 ghost use Rattle.df_replica.specs.Answering.{Serves, answer_of, as_write_block, release_answer};
-ghost use Rattle.df_replica.specs.Appending.{IsMadeUnit, unit_of};
-ghost use Rattle.df_replica.specs.Blocks.{IsRelease, IsWriteBlock, MayPut, MayWriteNext, address_or, block_events, block_given, next_block, written};
+ghost use Rattle.df_replica.specs.Appending.{IsMadeUnit, unit_made};
+ghost use Rattle.df_replica.specs.Blocks.{IsRelease, IsWriteBlock, MayPut, MayWriteNext, address_or, block_events, block_header_given, next_block, written};
 
 use crate::Replica;
 use df_base::{Check, Failed, HEADER};
@@ -49,9 +49,9 @@ fn put_block<D: Disk>(
 ) -> Result<Header, Failed>
     requires may { MayPut room.old.layout grid.old header body.now }
     ensures room { room.new.layout ≡ room.old.layout }
-    ensures events { Adds (made_events grid.old.layout (unit_of header body.now)) (D.told disk.old) (D.told disk.new) result }
-    ensures made { IsMadeUnit grid.old.layout (place_in InGrid (unit_of header body.now).header.op) (unit_of header body.now) result }
-    ensures live { OnOk result (grid.new ≡ grid_of grid.old (block_written grid.old.blocks header.op (number_of (unit_of header body.now).header.checksum))) }
+    ensures events { Adds (made_events grid.old.layout (unit_made header body.now)) (D.told disk.old) (D.told disk.new) result }
+    ensures made { IsMadeUnit grid.old.layout (place_in InGrid (unit_made header body.now).header.op) (unit_made header body.now) result }
+    ensures live { OnOk result (grid.new ≡ grid_of grid.old (block_written grid.old.blocks header.op (number_of (unit_made header body.now).header.checksum))) }
     ensures failed { OnErr result (grid.new ≡ grid.old) }
     ensures cause { HasCause (D.faults disk.old) (D.faults disk.new) result }
 {
@@ -89,7 +89,7 @@ impl Replica {
     fn block_given(&self, address: u64, kind: u8, body: &[u8]) -> Header
         requires may { MayWriteNext self.now kind (length body.now) }
         requires address { address ≡ next_address (memory self.now) }
-        ensures value { result ≡ block_given self.now (next_address (memory self.now)) kind }
+        ensures value { result ≡ block_header_given self.now (next_address (memory self.now)) kind }
         ensures rules { ObeysRules (for_body result body.now) }
         ensures own { IsSome (own_place self.now.file.layout InGrid result) }
     {

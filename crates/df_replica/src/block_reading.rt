@@ -2,7 +2,7 @@
 ghost use Rattle.std.specs.Prelude.{◌≡◌, true, IfOk};
 ghost use Rattle.std.specs.Borrow.{sem};
 ghost use Rattle.std.specs.Io.BufRead.{Rests};
-ghost use Rattle.df_replica.specs.Below.{IsBlamed, Block as AsBlock, place_in, Grid as InGrid, IsKnownUnit, sum_at, ReadBlock, ToReadBlock, is_read_fault};
+ghost use Rattle.df_replica.specs.Below.{IsBlamed, Block as AsBlock, place_in, Grid as InGrid, IsKnownBlock, sum_at, ReadBlock, ToReadBlock, is_read_fault};
 ghost use Rattle.df_replica.specs.Answering.{ServesBlockRead, answer_of};
 ghost use Rattle.df_replica.specs.BlockReads.{IsReadBlock, block_words, what_block};
 ghost use Rattle.df_replica.specs.Lending.{LendsWrittenBlock};
@@ -38,7 +38,7 @@ impl Replica {
         requires live { self.old.live ≡ true }
         ensures* after { sem 𝓛 (Rests the_row self.entry (λ s. s ≡ left_by is_read_fault self.entry.now result)) }
         ensures exact { IsReadBlock address self.old (D.told disk.old) (block_words (λ u. u.now.unit) result) }
-        ensures lent { IfOk result (λ u. IsKnownUnit AsBlock self.old.file.layout self.old.file.cluster address (sum_at address self.old.blocks.live) u.now.unit) }
+        ensures lent { IfOk result (λ u. IsKnownBlock AsBlock self.old.file.layout self.old.file.cluster address (sum_at address self.old.blocks.live) u.now.unit) }
         ensures written { LendsWrittenBlock address self.old (block_words (λ u. u.now.unit) result) (D.told disk.old) }
         ensures call { ServesBlockRead (ReadBlock address) self.old (left_by is_read_fault self.old result) (D.told disk.old) (what_block (block_words (λ u. u.now.unit) result)) (answer_of is_read_fault ToReadBlock (block_words (λ u. u.now.unit) result)) }
         ensures same { D.told disk.new ≡ D.told disk.old }

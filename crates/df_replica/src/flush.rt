@@ -1,15 +1,15 @@
 // Requests that are staged, and the flush that appends them as one group. A staged request is in memory alone, its body in the room
 // that its prepare is made in and written from.
 ghost use Rattle.std.specs.Prelude.{◌≡◌, ◌≤◌, ◌<◌, ◌+◌, ◌++◌, ◌^◌, ℕ, List, [], length, option_map, true, Option, IfSome, IsSome, OnErr, OnOk};
-ghost use Rattle.df_replica.specs.Below.{HasCause, IsBlamed, Adds, WalPrepares, for_body, own_place, ObeysRules, Stage, Flush, is_flush_fault, stage_refusals, first_refusal, session_of_client, session_of, IsState, Told, memory, counted};
+ghost use Rattle.df_replica.specs.Below.{HasCause, IsBlamed, Adds, WalPrepares, for_body, own_place, ObeysRules, Stage, Flush, is_flush_fault, stage_refusals, first_refusal, session_of_client, session_of, IsState, Told, memory, counted_staged};
 ghost use Rattle.df_opening.specs.Below.{AreStaging};
-ghost use Rattle.df_journal.specs.Flush.{AreOwn, units_of, with_headers};
+ghost use Rattle.df_journal.specs.Flush.{AreOwn, held_prepares, with_headers};
 ghost use Rattle.df_journal.specs.Tail.{AreNumbered};
-ghost use Rattle.df_opening.specs.Held.{AreRoomsOf};
-ghost use Rattle.df_sessions.specs.Table.{IsTable as IsSessions};
+ghost use Rattle.df_opening.specs.Held.{AreLogRoomsOf};
+ghost use Rattle.df_sessions.specs.Table.{IsSessionTable as IsSessions};
 ghost use Rattle.df_replica.specs.Answering.{Serves, answer_of, as_flush, stage_answer};
 ghost use Rattle.df_replica.specs.Refusing.{AreCounters};
-ghost use Rattle.df_replica.specs.Flushing.{AreHeld, AreMadeFor, AreSmall, HavePlaces, IsFlush, IsStage, MayBeIn, MaySeal, checks_of, flush_events, flush_units, flushed, group_events, group_in, header_in, last_check, request_of, sessions_staged, staged_with, units_in, with_requests};
+ghost use Rattle.df_replica.specs.Flushing.{AreHeld, AreMadeFor, AreSmall, HavePlaces, IsFlush, IsStage, MayBeIn, MaySeal, checks_of, flush_events, flush_units, flushed, group_events, group_in, group_prepares, header_in, last_check, request_made, sessions_staged, staged_with, with_requests};
 
 use crate::refusing::{Counters, request_refusal, session_of};
 use crate::{DataFile, Replica};
@@ -41,7 +41,7 @@ fn header_in(group: &Group, op: u64, parent: Check, client: u128, request: u64) 
     requires last { op ≤ group.now.last }
     requires client { 0 < client }
     requires request { (0 < request) × (request ≤ 2 ^ 62) }
-    ensures value { result ≡ header_in group.now op parent (request_of client request []) }
+    ensures value { result ≡ header_in group.now op parent (request_made client request []) }
     ensures rules { (body : List ℕ) → 256 + length body ≤ group.now.file.layout.message_size → ObeysRules (for_body result body) }
     ensures own { IsSome (own_place group.now.file.layout WalPrepares result) }
 {
@@ -66,7 +66,7 @@ fn seal_all(staging: &mut Staging, group: &Group, parent: Check)
     requires layout { staging.old.layout ≡ group.now.file.layout }
     requires may { MaySeal group.now group.now.first parent staging.old.requests }
     ensures requests { staging.new.requests ≡ [] }
-    ensures units { units_of staging.new.sealed ≡ units_in group.now group.now.first parent staging.old.requests }
+    ensures units { held_prepares staging.new.sealed ≡ group_prepares group.now group.now.first parent staging.old.requests }
     ensures made { AreMadeFor group.now.file staging.new.sealed }
     ensures layout { staging.new.layout ≡ staging.old.layout }
 {
@@ -89,11 +89,11 @@ fn flush_in<D: Disk>(
 ) -> Result<(), Failed>
     requires some { 0 < length group.now }
     requires made { AreMadeFor file.now group.now }
-    requires rooms { AreRoomsOf file.now.layout file.now.cluster rooms.old }
-    ensures events { Adds (group_events file.now.layout (units_of group.now) rooms.old.headers) (D.told disk.old) (D.told disk.new) result }
+    requires rooms { AreLogRoomsOf file.now.layout file.now.cluster rooms.old }
+    ensures events { Adds (group_events file.now.layout (held_prepares group.now) rooms.old.headers) (D.told disk.old) (D.told disk.new) result }
     ensures own { AreOwn file.now.layout group.now }
-    ensures table { OnOk result (rooms.new.headers ≡ with_headers (units_of group.now) rooms.old.headers) }
-    ensures rooms { AreRoomsOf file.now.layout file.now.cluster rooms.new }
+    ensures table { OnOk result (rooms.new.headers ≡ with_headers (held_prepares group.now) rooms.old.headers) }
+    ensures rooms { AreLogRoomsOf file.now.layout file.now.cluster rooms.new }
     ensures cause { HasCause (D.faults disk.old) (D.faults disk.new) result }
 {
     flush(
@@ -116,11 +116,11 @@ fn note_all(
 )
     requires head { head.old + length group.now ≤ 2 ^ 62 }
     requires few { length waiting.old.items + length group.now ≤ 8 }
-    requires places { HavePlaces sessions.old.max sessions.old.sessions (units_of group.now) }
+    requires places { HavePlaces sessions.old.max sessions.old.sessions (held_prepares group.now) }
     ensures head { head.new ≡ head.old + length group.now }
-    ensures sum { head_checksum.new ≡ last_check head_checksum.old (units_of group.now) }
-    ensures waiting { waiting.new.items ≡ waiting.old.items ++ checks_of (units_of group.now) }
-    ensures sessions { sessions.new ≡ record sessions.old { sessions = with_requests (units_of group.now) sessions.old.sessions } }
+    ensures sum { head_checksum.new ≡ last_check head_checksum.old (held_prepares group.now) }
+    ensures waiting { waiting.new.items ≡ waiting.old.items ++ checks_of (held_prepares group.now) }
+    ensures sessions { sessions.new ≡ record sessions.old { sessions = with_requests (held_prepares group.now) sessions.old.sessions } }
 {
     let mut i = 0;
     while i < group.len() {
@@ -187,7 +187,7 @@ fn places_staged(table: &SessionTable, staging: &Staging, head: u64) -> u64
 impl Replica {
     // The numbers that the refusals of `stage` go by: those of an append, as if what is staged were appended.
     fn staged_counters(&self) -> Counters
-        ensures { AreCounters (counted (memory self.now)) result }
+        ensures { AreCounters (counted_staged (memory self.now)) result }
     {
         let counters = self.counters();
         Counters {
@@ -218,8 +218,8 @@ impl Replica {
 
     // Stages a request, and answers the op that its prepare is to get.
     fn stage_next(&mut self, client: u128, request: u64, body: &[u8]) -> u64
-        requires { AreStaging (staged_with self.old (request_of client request body.now)) }
-        ensures state { self.new ≡ staged_with self.old (request_of client request body.now) }
+        requires { AreStaging (staged_with self.old (request_made client request body.now)) }
+        ensures state { self.new ≡ staged_with self.old (request_made client request body.now) }
         ensures op { result ≡ self.old.head + length self.old.staged + 1 }
     {
         self.parts.staging.push(client, request, body);

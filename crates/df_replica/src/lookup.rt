@@ -8,7 +8,7 @@ ghost use Rattle.df_model.specs.Memory.{reply_sum};
 ghost use Rattle.df_opening.specs.Below.{reply_sum as known_sum};
 ghost use Rattle.df_replica.specs.Answering.{ServesRead, answer_of};
 ghost use Rattle.df_replica.specs.Lending.{LendsWrittenReply};
-ghost use Rattle.df_replica.specs.Lookups.{HoldsKnown, IsReadReply, IsStoredFor, Tells, place_for, reply_found, reply_shown};
+ghost use Rattle.df_replica.specs.Lookups.{HoldsKnown, IsReadReply, IsStoredFor, TellsShown, place_for, reply_found, reply_shown};
 ghost use Rattle.df_replica.specs.Reading.{IsKnownUnit, in_words};
 ghost use Rattle.df_replica.specs.contracts.replica.Replica.{the_row};
 ghost use Rattle.df_replica.specs.Stopping.{left_by};
@@ -51,7 +51,7 @@ fn load_known<D: Disk>(
     requires place { place < file.now.layout.clients }
     ensures layout { room.new.layout ≡ room.old.layout }
     ensures known { IfOk result (λ wrong. HoldsKnown AsReply file.now (place_in ClientReplies place) (Some (number_of check)) wrong room.new.held) }
-    ensures tells { IfOk result (λ wrong. Tells (D.told disk.old) (reply_shown file.now place (Some check)) wrong room.new.held) }
+    ensures tells { IfOk result (λ wrong. TellsShown (D.told disk.old) (reply_shown file.now place (Some check)) wrong room.new.held) }
     ensures same { D.told disk.new ≡ D.told disk.old }
     ensures cause { HasCause (D.faults disk.old) (D.faults disk.new) result }
 {
@@ -69,7 +69,7 @@ fn load_unknown<D: Disk>(
     requires layout { room.old.layout ≡ file.now.layout }
     requires place { place < file.now.layout.clients }
     ensures layout { room.new.layout ≡ room.old.layout }
-    ensures tells { IfOk result (λ class. (held : Option Holding) → Tells (D.told disk.old) (reply_shown file.now place None) (Some class) held) }
+    ensures tells { IfOk result (λ class. (held : Option Holding) → TellsShown (D.told disk.old) (reply_shown file.now place None) (Some class) held) }
     ensures same { D.told disk.new ≡ D.told disk.old }
     ensures cause { HasCause (D.faults disk.old) (D.faults disk.new) result }
 {
@@ -91,7 +91,7 @@ fn load_reply<D: Disk>(
     requires place { stored.now.place < file.now.layout.clients }
     ensures layout { room.new.layout ≡ room.old.layout }
     ensures known { IfOk result (λ wrong. HoldsKnown AsReply file.now (place_in ClientReplies stored.now.place) (known_sum stored.now.reply) wrong room.new.held) }
-    ensures tells { IfOk result (λ wrong. Tells (D.told disk.old) (reply_shown file.now stored.now.place stored.now.reply) wrong room.new.held) }
+    ensures tells { IfOk result (λ wrong. TellsShown (D.told disk.old) (reply_shown file.now stored.now.place stored.now.reply) wrong room.new.held) }
     ensures same { D.told disk.new ≡ D.told disk.old }
     ensures cause { HasCause (D.faults disk.old) (D.faults disk.new) result }
 {

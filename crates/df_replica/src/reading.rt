@@ -3,9 +3,9 @@ ghost use Rattle.std.specs.Prelude.{◌≡◌, ◌<◌, ◌%◌, true, slice_get
 ghost use Rattle.std.specs.Borrow.{sem};
 ghost use Rattle.std.specs.Io.BufRead.{Rests};
 ghost use Rattle.df_replica.specs.Below.{HasCause, IsBlamed, WalPrepares, Prepare as AsPrepare, place_in, IsCheck, ReadPrepare, ToReadPrepare, is_prepare_fault, prepare_sum, first_refusal, prepare_refusals, IsState, memory};
-ghost use Rattle.df_headers.specs.Ring.{IsTable};
+ghost use Rattle.df_headers.specs.Ring.{IsHeaderTable};
 ghost use Rattle.df_replica.specs.Answering.{ServesRead, answer_of};
-ghost use Rattle.df_opening.specs.Held.{AreAsBefore, AreRoomsOf};
+ghost use Rattle.df_opening.specs.Held.{AreAsBefore, AreLogRoomsOf};
 ghost use Rattle.df_replica.specs.Lending.{LendsWrittenPrepare};
 ghost use Rattle.df_replica.specs.Reading.{IsKnownUnit, IsLoaded, IsReadPrepare, check_in, in_words, prepare_found, prepare_wanted};
 ghost use Rattle.df_replica.specs.contracts.replica.Replica.{the_row};
@@ -34,7 +34,7 @@ fn prepare_place(layout: &Layout, op: u64) -> Place
 
 // The prepare of an op that is kept, with the checksum of the header in its slot.
 fn prepare_wanted(file: &DataFile, headers: &HeaderTable, op: u64) -> Identity
-    requires table { IsTable file.now.layout file.now.cluster headers.now }
+    requires table { IsHeaderTable file.now.layout file.now.cluster headers.now }
     ensures identity { result ≡ prepare_wanted file.now headers.now op }
     ensures check { IsCheck (check_in (slice_get headers.now (op % file.now.layout.slots))) }
 {
@@ -50,7 +50,7 @@ fn load_prepare<D: Disk>(
     op: u64,
     rooms: &mut LogRooms,
 ) -> Result<Option<Class>, Failed>
-    requires rooms { AreRoomsOf file.now.layout file.now.cluster rooms.old }
+    requires rooms { AreLogRoomsOf file.now.layout file.now.cluster rooms.old }
     ensures rooms { AreAsBefore rooms.old rooms.new }
     ensures check { IsCheck (check_in (slice_get rooms.old.headers (op % file.now.layout.slots))) }
     ensures loaded { IfOk result (λ wrong. IsLoaded AsPrepare (prepare_wanted file.now rooms.old.headers op) (D.told disk.old) wrong rooms.new.prepare.held) }

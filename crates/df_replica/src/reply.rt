@@ -3,12 +3,12 @@
 ghost use Rattle.std.specs.Prelude.{◌≡◌, ◌<◌, ◌+◌, ◌^◌, ℕ, List, length, slice_get, true, Some, IsSome, IfOk, OnErr, OnOk};
 ghost use Rattle.df_replica.specs.Below.{HasCause, IsBlamed, Adds, ClientReplies, for_body, own_place, place_in, ObeysRules, IsCheck, sessions_of, is_reply_fault, place_of_op, first_refusal, reply_refusals, IsState, memory};
 ghost use Rattle.df_format.specs.declared.kind.Kind.TheVariants.{Reply as AsReply};
-ghost use Rattle.df_replies.specs.Slots.{IsInOwnSlot};
-ghost use Rattle.df_sessions.specs.Table.{IsTable};
+ghost use Rattle.df_replies.specs.Slots.{IsInReplySlot};
+ghost use Rattle.df_sessions.specs.Table.{IsSessionTable};
 ghost use Rattle.df_model.specs.Commands.{Reply as Replies};
 ghost use Rattle.df_replica.specs.Answering.{Serves, answer_of, as_reply};
-ghost use Rattle.df_replica.specs.Appending.{IsMadeUnit, MayBeMade, unit_of};
-ghost use Rattle.df_replica.specs.Replying.{IsReply, MayReplyNext, first_check, next_reply, replied, reply_calls, reply_events, reply_given};
+ghost use Rattle.df_replica.specs.Appending.{IsMadeUnit, MayBeMade, unit_made};
+ghost use Rattle.df_replica.specs.Replying.{IsReplyCall, MayReplyNext, first_check, next_reply, reply_calls, reply_events, reply_given, with_stored_reply};
 
 use crate::refusing::reply_refusal;
 use crate::{DataFile, Replica};
@@ -34,7 +34,7 @@ pub(crate) fn session_in(table: &SessionTable, place: u64) -> Session
 
 // The place of the session whose last request has this op, and past all of them where none has.
 fn place_of_op(table: &SessionTable, op: u64) -> u64
-    ensures table { IsTable table.now }
+    ensures table { IsSessionTable table.now }
     ensures place { result ≡ place_of_op op (sessions_of table.now.sessions) }
 {
     let count = table.len();
@@ -76,8 +76,8 @@ fn reply_in<D: Disk>(
     requires room { room.old.layout ≡ file.now.layout }
     requires may { MayBeMade file.now.layout ClientReplies AsReply header body.now }
     ensures room { room.new.layout ≡ room.old.layout }
-    ensures events { Adds (reply_calls file.now.layout (unit_of header body.now)) (D.told disk.old) (D.told disk.new) result }
-    ensures made { IsMadeUnit file.now.layout (place_in ClientReplies (unit_of header body.now).header.slot) (unit_of header body.now) result }
+    ensures events { Adds (reply_calls file.now.layout (unit_made header body.now)) (D.told disk.old) (D.told disk.new) result }
+    ensures made { IsMadeUnit file.now.layout (place_in ClientReplies (unit_made header body.now).header.slot) (unit_made header body.now) result }
     ensures cause { HasCause (D.faults disk.old) (D.faults disk.new) result }
 {
     room.make(header, body);
@@ -153,7 +153,7 @@ impl Replica {
     fn note_reply(&mut self, made: &Header)
         requires waits { self.old.replies < self.old.head }
         requires place { made.now.slot < length self.old.table.sessions }
-        ensures { self.new ≡ replied self.old made.now }
+        ensures { self.new ≡ with_stored_reply self.old made.now }
     {
         self.parts.replies += 1;
         self.parts.waiting.remove(0);
@@ -165,9 +165,9 @@ impl Replica {
     fn reply_next<D: Disk>(&mut self, disk: &mut D, body: &[u8]) -> Result<Check, Failed>
         requires { MayReplyNext self.old (length body.now) }
         ensures events { Adds (reply_events self.old (next_reply self.old body.now)) (D.told disk.old) (D.told disk.new) result }
-        ensures own { IsInOwnSlot self.old.file.layout (next_reply self.old body.now) }
+        ensures own { IsInReplySlot self.old.file.layout (next_reply self.old body.now) }
         ensures check { IfOk result (λ check. check ≡ (next_reply self.old body.now).header.checksum) }
-        ensures state { OnOk result (self.new ≡ replied self.old (next_reply self.old body.now).header) }
+        ensures state { OnOk result (self.new ≡ with_stored_reply self.old (next_reply self.old body.now).header) }
         ensures kept { OnErr result (self.new ≡ self.old) }
         ensures cause { HasCause (D.faults disk.old) (D.faults disk.new) result }
     {
@@ -188,7 +188,7 @@ impl Replica {
         body: &[u8],
     ) -> Result<Check, ReplyError>
         requires live { self.old.live ≡ true }
-        ensures exact { IsReply op body.now self.old self.new (D.told disk.old) (D.told disk.new) result }
+        ensures exact { IsReplyCall op body.now self.old self.new (D.told disk.old) (D.told disk.new) result }
         ensures call { Serves (Replies op body.now) self.old self.new (D.told disk.old) (D.told disk.new) (answer_of is_reply_fault as_reply result) }
         ensures cause { IsBlamed is_reply_fault (D.faults disk.old) (D.faults disk.new) result }
     {

@@ -3,7 +3,7 @@
 ghost use Rattle.std.specs.Prelude.{◌≡◌, true, length, OnErr, OnOk};
 ghost use Rattle.df_replica.specs.Below.{HasCause, IsBlamed, spelled, Adds, IsCheck, fault_of, update_events, AreStepsOfCopies, update_steps, AreSteps, block_steps, first_sum, format_of, block_of, number_of, put_copies, Advance, ToAdvance, is_step_fault, running_state, IsState};
 ghost use Rattle.df_replica.specs.Answering.{Serves, answer_of, is_step_unanswered};
-ghost use Rattle.df_replica.specs.Stepping.{IsMade, IsStep, MayAdvance, MayFinish, OfRunning, advanced, block_events, block_sum, block_to_write, finished, trailer_unit, captured_fields, next_fields, pending};
+ghost use Rattle.df_replica.specs.Stepping.{IsMadeSuperblock, IsStepCall, MayAdvance, MayFinishCheckpoint, OfRunning, advanced, block_events, block_sum, block_to_write, finished, trailer_unit, captured_fields, next_fields, pending};
 
 use crate::Replica;
 use crate::reply::as_check;
@@ -43,7 +43,7 @@ fn make_durable<D: Disk>(
     room: &mut ProbeRoom,
     content: &Super,
 ) -> Result<(), StepError>
-    ensures made { IsMade content.now (D.told disk.old) (D.told disk.new) result }
+    ensures made { IsMadeSuperblock content.now (D.told disk.old) (D.told disk.new) result }
     ensures steps { AreStepsOfCopies (update_events content.now) (update_steps (put_copies content.now)) }
     ensures cause { IsBlamed is_step_fault (D.faults disk.old) (D.faults disk.new) result }
 {
@@ -112,7 +112,7 @@ impl Replica {
         requires state { IsState self.old }
         requires may { MayAdvance self.old }
         requires left { left ≡ length self.old.blocks.left }
-        ensures exact { IsStep self.old self.new (D.told disk.old) (D.told disk.new) result }
+        ensures exact { IsStepCall self.old self.new (D.told disk.old) (D.told disk.new) result }
         ensures call { Serves Advance self.old self.new (D.told disk.old) (D.told disk.new) (answer_of is_step_unanswered ToAdvance result) }
         ensures cause { IsBlamed is_step_fault (D.faults disk.old) (D.faults disk.new) result }
     {
@@ -127,7 +127,7 @@ impl Replica {
 
     // What the superblock says that ends the checkpoint: it obeys the rules.
     fn next_fields(&self) -> SuperFields
-        requires { MayFinish self.now }
+        requires { MayFinishCheckpoint self.now }
         ensures fields { OfRunning self.now.running (λ r. result ≡ next_fields self.now r) }
         ensures rules { fault_of result ≡ None }
         ensures sum { number_of (spelled 16 (first_sum self.now.blocks.written)) ≡ first_sum self.now.blocks.written }
@@ -146,7 +146,7 @@ impl Replica {
 
     // The superblock that ends the checkpoint.
     fn next_superblock(&self) -> Super
-        requires { MayFinish self.now }
+        requires { MayFinishCheckpoint self.now }
         ensures fields { OfRunning self.now.running (λ r. result ≡ next_fields self.now r) }
         ensures sum { number_of (spelled 16 (first_sum self.now.blocks.written)) ≡ first_sum self.now.blocks.written }
     {
@@ -158,7 +158,7 @@ impl Replica {
 
     // Makes it durable.
     fn write_superblock<D: Disk>(&mut self, disk: &mut D, content: &Super) -> Result<(), StepError>
-        ensures made { IsMade content.now (D.told disk.old) (D.told disk.new) result }
+        ensures made { IsMadeSuperblock content.now (D.told disk.old) (D.told disk.new) result }
         ensures steps { AreStepsOfCopies (update_events content.now) (update_steps (put_copies content.now)) }
         ensures kept { self.new ≡ self.old }
         ensures cause { IsBlamed is_step_fault (D.faults disk.old) (D.faults disk.new) result }
@@ -168,7 +168,7 @@ impl Replica {
 
     // The checkpoint is the durable one.
     fn finish(&mut self, content: Super)
-        requires may { MayFinish self.old }
+        requires may { MayFinishCheckpoint self.old }
         requires content { OfRunning self.old.running (λ r. content ≡ next_fields self.old r) }
         ensures { OfRunning self.old.running (λ r. self.new ≡ finished self.old r) }
     {
@@ -188,8 +188,8 @@ impl Replica {
     fn last_step<D: Disk>(&mut self, disk: &mut D) -> Result<Progress, StepError>
         requires live { self.old.live ≡ true }
         requires state { IsState self.old }
-        requires may { MayFinish self.old }
-        ensures exact { IsStep self.old self.new (D.told disk.old) (D.told disk.new) result }
+        requires may { MayFinishCheckpoint self.old }
+        ensures exact { IsStepCall self.old self.new (D.told disk.old) (D.told disk.new) result }
         ensures call { Serves Advance self.old self.new (D.told disk.old) (D.told disk.new) (answer_of is_step_unanswered ToAdvance result) }
         ensures cause { IsBlamed is_step_fault (D.faults disk.old) (D.faults disk.new) result }
     {
@@ -215,7 +215,7 @@ impl Replica {
     /// of what was seen there. After that, and after a fault, no call may follow.
     pub fn checkpoint_step<D: Disk>(&mut self, disk: &mut D) -> Result<Progress, StepError>
         requires live { self.old.live ≡ true }
-        ensures exact { IsStep self.old self.new (D.told disk.old) (D.told disk.new) result }
+        ensures exact { IsStepCall self.old self.new (D.told disk.old) (D.told disk.new) result }
         ensures call { Serves Advance self.old self.new (D.told disk.old) (D.told disk.new) (answer_of is_step_unanswered ToAdvance result) }
         ensures cause { IsBlamed is_step_fault (D.faults disk.old) (D.faults disk.new) result }
     {

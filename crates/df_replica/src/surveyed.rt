@@ -2,7 +2,7 @@
 ghost use Rattle.std.specs.Prelude.{◌≡◌, IfOk, IfErr, Some, slice_get};
 ghost use Rattle.df_theory.specs.Found.{IsFound};
 ghost use Rattle.df_units.specs.Bytes.{unit_at};
-ghost use Rattle.df_replica.specs.Below.{AreDistinct, AreSteps, IsBlamed, IsImage, Represents, Syncs, TellsHurt, TellsLived, Told, View, begun, boot_fields, is_mend_fault, is_open_fault, shape, without_rooms};
+ghost use Rattle.df_replica.specs.Below.{AreDistinct, AreSteps, IsBlamed, IsImage, Represents, Syncs, TellsHurt, TellsLived, Told, View, boot_fields, is_mend_fault, is_open_fault, restarted, shape, without_rooms};
 ghost use Rattle.df_replica.specs.Replica.{summary_of};
 ghost use Rattle.df_opening.specs.Mending.{AddsRaising, IsPlanned, IsReadBack, IsUnharmed, RestsOnDisk, first_state, raised_state};
 ghost use Rattle.df_opening.specs.Raising.{IsPlannedOf, RaisesAnew, RaisesOver, opening_events, opening_steps};
@@ -85,7 +85,7 @@ impl Surveyed {
     /// sync, where there was such a sector, then the copies that aren't members of the choice, each durable before the next one; and
     /// after that the copies 0, 1, 2 and 3 of a superblock with the next boot, which records the state as it was found. A stop at any
     /// moment leaves that state with the boot of before or with the next one, and so does a fault, by each log on which the plan
-    /// rests; by one that is begun anew at what is shown, whatever the copies showed. The rooms come back with an error.
+    /// rests; by one that is restarted at what is shown, whatever the copies showed. The rooms come back with an error.
     pub fn mend<D: Disk>(self, disk: &mut D) -> Result<Replica, (Rooms, MendError)>
         ensures state { IfOk result (λ replica. replica ≡ raised_state self.state) }
         ensures rooms { IfErr result (λ refused. refused.0.layout ≡ self.state.file.layout) }
@@ -95,9 +95,9 @@ impl Surveyed {
         ensures unharmed { IsUnharmed (D.told disk.new) (without_rooms result) }
         ensures over { (base : Told) (g : Grade) (view : View) → IsPlannedOf self base → RestsOnDisk g self.state.file view base
             → Represents self.state (first_state self.state.file base view) → RaisesOver g view self base }
-        ensures anew { (base : Told) (g : Grade) (view : View) → IsPlannedOf self (begun base) → IsImage base.shown → IsFound (shape self.state.file) (unit_at self.state.file.layout self.state.file.cluster base.shown) view
+        ensures anew { (base : Told) (g : Grade) (view : View) → IsPlannedOf self (restarted base) → IsImage base.shown → IsFound (shape self.state.file) (unit_at self.state.file.layout self.state.file.cluster base.shown) view
             → AreDistinct (unit_at self.state.file.layout self.state.file.cluster base.shown) → StandsFor g (unit_at self.state.file.layout self.state.file.cluster base.shown) view
-            → Represents self.state (first_state self.state.file base view) → RaisesAnew g view self (begun base) }
+            → Represents self.state (first_state self.state.file base view) → RaisesAnew g view self (restarted base) }
         ensures cause { IsBlamed is_mend_fault (D.faults disk.old) (D.faults disk.new) (without_rooms result) }
     {
         let Surveyed { found } = self;

@@ -13,11 +13,11 @@ use Rattle.df_theory.specs.Found.{IsReplies}
 use Rattle.df_theory.specs.Tails.{last_mark}
 use Rattle.df_units.specs.Meaning.{header_of}
 use Rattle.df_replies.specs.Shown.{ShowsReplies, ShowsReply}
-use Rattle.df_replies.specs.Counts.{AreWithin, CountsSome, IsGreatest, RepliesWithin, boot_in, checkpoint_in, in_boot, mark_in, op_in, with_reply}
+use Rattle.df_replies.specs.Counts.{AreNotAbove, CountsSome, IsGreatest, RepliesWithin, boot_in, checkpoint_in, counting_reply, in_boot, mark_in, op_of_reply}
 
 -- ---- numbers of the first entries
 
-within_more : (number : Result Header Class → ℕ) (n k : ℕ) (replies : List (Result Header Class)) (reply : Result Header Class) → slice_get replies k ≡ Some reply → AreWithin number n k replies → number reply ≤ n → AreWithin number n (k + 1) replies
+within_more : (number : Result Header Class → ℕ) (n k : ℕ) (replies : List (Result Header Class)) (reply : Result Header Class) → slice_get replies k ≡ Some reply → AreNotAbove number n k replies → number reply ≤ n → AreNotAbove number n (k + 1) replies
 within_more number n k replies reply at all le j other less there = elim (cases_lt j k) [
   | inl before ↦ all j other before there
   | inr here ↦
@@ -27,13 +27,13 @@ within_more number n k replies reply at all le j other less there = elim (cases_
       subst (λ (x : Result Header Class). number x ≤ n) one le
 ]
 
-within_fewer : (number : Result Header Class → ℕ) (n k : ℕ) (replies : List (Result Header Class)) → AreWithin number n (k + 1) replies → AreWithin number n k replies
+within_fewer : (number : Result Header Class → ℕ) (n k : ℕ) (replies : List (Result Header Class)) → AreNotAbove number n (k + 1) replies → AreNotAbove number n k replies
 within_fewer number n k replies all j reply less at = all j reply (omega arith) at
 
 -- ---- the counters
 
 counts_next : (boot : ℕ) (start : Counters) (replies : List (Result Header Class)) (k : ℕ) (seen : Counters) (reply : Result Header Class) → slice_get replies k ≡ Some reply → CountsSome boot start replies k seen
-    → CountsSome boot start replies (k + 1) (with_reply boot seen reply)
+    → CountsSome boot start replies (k + 1) (counting_reply boot seen reply)
 counts_next boot start replies k seen reply at is = record {
   ring_op = is.ring_op;
   checkpoint = λ n. (
@@ -45,12 +45,12 @@ counts_next boot start replies k seen reply at is = record {
     λ all. let old = (is.boot n).1 (all.0, within_fewer boot_in n k replies all.1) in omega (arith, old, all.1 k reply (omega arith) at),
   );
   reply_top = λ n. (
-    λ le. let old = (is.reply_top n).0 (omega arith) in (old.0, within_more (op_in boot) n k replies reply at old.1 (omega (arith, le)), within_more (mark_in boot) n k replies reply at old.2 (omega (arith, le))),
-    λ all. let old = (is.reply_top n).1 (all.0, within_fewer (op_in boot) n k replies all.1, within_fewer (mark_in boot) n k replies all.2) in omega (arith, old, all.1 k reply (omega arith) at, all.2 k reply (omega arith) at),
+    λ le. let old = (is.reply_top n).0 (omega arith) in (old.0, within_more (op_of_reply boot) n k replies reply at old.1 (omega (arith, le)), within_more (mark_in boot) n k replies reply at old.2 (omega (arith, le))),
+    λ all. let old = (is.reply_top n).1 (all.0, within_fewer (op_of_reply boot) n k replies all.1, within_fewer (mark_in boot) n k replies all.2) in omega (arith, old, all.1 k reply (omega arith) at, all.2 k reply (omega arith) at),
   );
 }
 
-pub counts_more : (boot : ℕ) (start : Counters) (replies : List (Result Header Class)) (k : ℕ) (seen new : Counters) (d : Result Header Class) → k < length replies → new ≡ with_reply boot seen (get_or replies k d) → CountsSome boot start replies k seen
+pub counts_more : (boot : ℕ) (start : Counters) (replies : List (Result Header Class)) (k : ℕ) (seen new : Counters) (d : Result Header Class) → k < length replies → new ≡ counting_reply boot seen (get_or replies k d) → CountsSome boot start replies k seen
     → CountsSome boot start replies (k + 1) new
 counts_more boot start replies k seen new d within is counts = subst (CountsSome boot start replies (k + 1)) (sym is) (counts_next boot start replies k seen (get_or replies k d) (slice_get-get_or replies k d within) counts)
 
@@ -64,30 +64,30 @@ IsReached boot start replies top = (start ≡ top) ⊎ ((j : ℕ) × (h : Header
 not_raised : (boot start : ℕ) (replies : List (Result Header Class)) (top new : ℕ) → new ≡ top → IsReached boot start replies top → IsReached boot start replies new
 not_raised boot start replies top new same is = elim is [ inl first ↦ inl (omega (arith, first, same)) | inr there ↦ inr (there.0, there.1, there.2, omega (arith, there.3, same), there.4) ]
 
-greatest_next : (boot start : ℕ) (replies : List (Result Header Class)) (k top : ℕ) (r : Result Header Class) → slice_get replies k ≡ Some r → IsReached boot start replies top → IsReached boot start replies (max top (op_in boot r))
+greatest_next : (boot start : ℕ) (replies : List (Result Header Class)) (k top : ℕ) (r : Result Header Class) → slice_get replies k ≡ Some r → IsReached boot start replies top → IsReached boot start replies (max top (op_of_reply boot r))
 greatest_next boot start replies k top (Err class) at is = not_raised boot start replies top (max top 0) (omega arith) is
 greatest_next boot start replies k top (Ok h) at is = elim (cases_eq h.boot boot) [
   | inl own ↦
-      let op : op_in boot (Ok h) ≡ h.op = cond-true (h.boot == boot) h.op 0 (eq-eqb h.boot boot own) in
+      let op : op_of_reply boot (Ok h) ≡ h.op = cond-true (h.boot == boot) h.op 0 (eq-eqb h.boot boot own) in
       elim (cases_lt top h.op) [
         | inl more ↦ inr (k, h, at, omega (arith, op, more), own)
-        | inr less ↦ not_raised boot start replies top (max top (op_in boot (Ok h))) (omega (arith, op, less)) is
+        | inr less ↦ not_raised boot start replies top (max top (op_of_reply boot (Ok h))) (omega (arith, op, less)) is
       ]
   | inr other ↦
-      let op : op_in boot (Ok h) ≡ 0 = cond-false (h.boot == boot) h.op 0 (ne_eqb h.boot boot other) in
-      not_raised boot start replies top (max top (op_in boot (Ok h))) (omega (arith, op)) is
+      let op : op_of_reply boot (Ok h) ≡ 0 = cond-false (h.boot == boot) h.op 0 (ne_eqb h.boot boot other) in
+      not_raised boot start replies top (max top (op_of_reply boot (Ok h))) (omega (arith, op)) is
 ]
 
-within_higher : (number : Result Header Class → ℕ) (n m k : ℕ) (replies : List (Result Header Class)) → n ≤ m → AreWithin number n k replies → AreWithin number m k replies
+within_higher : (number : Result Header Class → ℕ) (n m k : ℕ) (replies : List (Result Header Class)) → n ≤ m → AreNotAbove number n k replies → AreNotAbove number m k replies
 within_higher number n m k replies le all j reply less at = omega (arith, le, all j reply less at)
 
-pub greatest_more : (boot start : ℕ) (replies : List (Result Header Class)) (k top new : ℕ) (d : Result Header Class) → k < length replies → new ≡ max top (op_in boot (get_or replies k d)) → IsGreatest boot start replies k top → IsGreatest boot start replies (k + 1) new
+pub greatest_more : (boot start : ℕ) (replies : List (Result Header Class)) (k top new : ℕ) (d : Result Header Class) → k < length replies → new ≡ max top (op_of_reply boot (get_or replies k d)) → IsGreatest boot start replies k top → IsGreatest boot start replies (k + 1) new
 greatest_more boot start replies k top new d within is old =
     let r = get_or replies k d in
     let at : slice_get replies k ≡ Some r = slice_get-get_or replies k d within in
     subst (IsGreatest boot start replies (k + 1)) (sym is) (record {
       from = omega (arith, old.from);
-      each = within_more (op_in boot) (max top (op_in boot r)) k replies r at (within_higher (op_in boot) top (max top (op_in boot r)) k replies (omega arith) old.each) (omega arith);
+      each = within_more (op_of_reply boot) (max top (op_of_reply boot r)) k replies r at (within_higher (op_of_reply boot) top (max top (op_of_reply boot r)) k replies (omega arith) old.each) (omega arith);
       reached = greatest_next boot start replies k top r at old.reached;
     })
 
@@ -114,15 +114,15 @@ entry_shown image replies k h shows at = shows.each k (Ok h) at
 
 -- the first entries have numbers of at most n exactly where the replies that the image shows have
 within_shown : (number : Units.Header → ℕ) (entry : Result Header Class → ℕ) → ((h : Header) → entry (Ok h) ≡ number (header_of h)) → ((class : Class) → entry (Err class) ≡ 0)
-    → (image : Units.Units) (replies : List (Result Header Class)) (n : ℕ) → ShowsReplies image replies → AreWithin entry n (length replies) replies ↔ RepliesWithin image number n
+    → (image : Units.Units) (replies : List (Result Header Class)) (n : ℕ) → ShowsReplies image replies → AreNotAbove entry n (length replies) replies ↔ RepliesWithin image number n
 within_shown number entry same none image replies n shows = (to, from)
   where
-    to : AreWithin entry n (length replies) replies → RepliesWithin image number n
+    to : AreNotAbove entry n (length replies) replies → RepliesWithin image number n
     to all k r shown =
         let there = reply_there image replies k r shows shown in
         omega (arith, all k (Ok there.0) there.1 there.2, same there.0, ap number there.3)
 
-    from : RepliesWithin image number n → AreWithin entry n (length replies) replies
+    from : RepliesWithin image number n → AreNotAbove entry n (length replies) replies
     from all k (Err class) less at = omega (arith, none class)
     from all k (Ok h) less at =
         let there = entry_shown image replies k h shows at in
@@ -145,13 +145,13 @@ module _ (boot : ℕ) (start seen : Counters) (replies : List (Result Header Cla
 
   pub counts_top : (seen.reply_top ≤ n) ↔ ((start.reply_top ≤ n) × RepliesWithin image (in_boot boot (λ h. h.op)) n × RepliesWithin image (in_boot boot (λ h. h.mark)) n)
   counts_top =
-      let ops = within_shown (in_boot boot (λ h. h.op)) (op_in boot) (λ h. refl) (λ class. refl) image replies n shows in
+      let ops = within_shown (in_boot boot (λ h. h.op)) (op_of_reply boot) (λ h. refl) (λ class. refl) image replies n shows in
       let marks = within_shown (in_boot boot (λ h. h.mark)) (mark_in boot) (λ h. refl) (λ class. refl) image replies n shows in (
         λ le. let all = (counts.reply_top n).0 le in (all.0, ops.0 all.1, marks.0 all.2),
         λ all. (counts.reply_top n).1 (all.0, ops.1 all.1, marks.1 all.2),
       )
 
-own_op : (boot : ℕ) (h : Header) → h.boot ≡ boot → op_in boot (Ok h) ≡ h.op
+own_op : (boot : ℕ) (h : Header) → h.boot ≡ boot → op_of_reply boot (Ok h) ≡ h.op
 own_op boot h own = cond-true (h.boot == boot) h.op 0 (eq-eqb h.boot boot own)
 
 -- the greatest of the superblock's number, the mark and the ops is the theory's number of replies

@@ -8,9 +8,9 @@ use Rattle.df_format.specs.declared.kind.Kind.TheVariants.{Reply as AsReply}
 use Rattle.df_format.specs.Valid.{Belongs, IsOfSession, IsUnit}
 use Rattle.df_format.proofs.Laws.{valid_belongs}
 use Rattle.df_buffers.specs.Sounds.{Holding, IsSound}
-use Rattle.df_replies.specs.Slots.{IsInOwnSlot, reply_place}
+use Rattle.df_replies.specs.Slots.{IsInReplySlot, reply_place}
 
-pub in_own_slot : (layout : Layout) (held : Holding) → IsSound ClientReplies AsReply held → held.layout ≡ layout → IsInOwnSlot layout held.unit
+pub in_own_slot : (layout : Layout) (held : Holding) → IsSound ClientReplies AsReply held → held.layout ≡ layout → IsInReplySlot layout held.unit
 in_own_slot layout held sound same =
     let u = held.unit in
     let there = valid_belongs held.layout u.header.cluster sound.place u sound.is in

@@ -18,7 +18,7 @@ use Rattle.df_places.specs.Units.{header_at}
 use Rattle.df_replies.specs.declared.answers.Lacking.{Lacking}
 use Rattle.df_replies.specs.Slots.{reply_place}
 use Rattle.df_replies.specs.Shown.{ScannedIsShown, ShowsReply}
-use Rattle.df_replies.specs.Answers.{HasClass, class_of}
+use Rattle.df_replies.specs.Answers.{HasClass, class_of_reply}
 
 entry_shown : (k : ℕ) (o : Option Message) (class : Class) → ShowsReply (message_unit (ReplyPlace k) o) (header_or_class o class)
 entry_shown k None class = refl
@@ -36,12 +36,12 @@ scanned_shown layout cluster t replies is = record {
   no_more = λ k past. ap (message_unit (ReplyPlace k)) (none_past layout cluster k t.shown (unit_at layout cluster t.shown (reply_place k)) (omega (arith, past, is.size)) refl);
 }
 
-class_shown : (layout : Layout) (cluster k : ℕ) (image : Image) (o : Option Message) → unit_at layout cluster image (reply_place k) ≡ o → class_of (header_or_class o (class_at layout cluster image (reply_place k))) ≡ class_at layout cluster image (reply_place k)
+class_shown : (layout : Layout) (cluster k : ℕ) (image : Image) (o : Option Message) → unit_at layout cluster image (reply_place k) ≡ o → class_of_reply (header_or_class o (class_at layout cluster image (reply_place k))) ≡ class_at layout cluster image (reply_place k)
 unfolding unit_at class_at
 class_shown layout cluster k image None is = refl
 class_shown layout cluster k image (Some u) is = sym (valid_stale layout cluster (reply_place k) (bytes_of layout image (reply_place k)) u is)
 
-pub has_class : (replies : List (Result Header Class)) (lacking : Lacking) (reply : Result Header Class) → slice_get replies lacking.place ≡ Some reply → lacking.class ≡ class_of reply → HasClass replies lacking
+pub has_class : (replies : List (Result Header Class)) (lacking : Lacking) (reply : Result Header Class) → slice_get replies lacking.place ≡ Some reply → lacking.class ≡ class_of_reply reply → HasClass replies lacking
 has_class replies lacking reply at class layout cluster t is =
     let seen : reply ≡ header_at layout cluster t.shown (reply_place lacking.place) = is.seen lacking.place reply (omega (arith, is.size, slice_get_within replies lacking.place reply at)) at in
-    class ∙ ap class_of seen ∙ class_shown layout cluster lacking.place t.shown (unit_at layout cluster t.shown (reply_place lacking.place)) refl
+    class ∙ ap class_of_reply seen ∙ class_shown layout cluster lacking.place t.shown (unit_at layout cluster t.shown (reply_place lacking.place)) refl

@@ -16,35 +16,35 @@ use Rattle.df_theory.specs.View.{View, sessions}
 use Rattle.df_units.specs.Wanted.{class_at}
 use Rattle.df_replies.specs.declared.answers.Lacking.{Lacking}
 use Rattle.df_replies.specs.Named.{IsNamedBy}
-use Rattle.df_replies.specs.Shown.{IsScanned}
+use Rattle.df_replies.specs.Shown.{AreRepliesScanned}
 
 -- ---- in the table
 
 -- the header is that of the reply to the session's last request
-pub record IsOf (s : Session) (h : Header) : Type 0 where
+pub record IsReplyOf (s : Session) (h : Header) : Type 0 where
   pub client : h.client ≡ s.client
   pub request : h.request ≡ s.request
   pub op : h.op ≡ s.op
 
 -- so the slot of a place answers the session, where the superblock takes what it shows
 abbrev pub AnswersIn : SuperFields → ℕ → Session → Result Header Class → Type 0
-AnswersIn f place s (Ok h) = IsOf s h × IsNamedBy f place h
+AnswersIn f place s (Ok h) = IsReplyOf s h × IsNamedBy f place h
 AnswersIn f place s (Err class) = ⊥
 
 -- the class of a slot where another unit is wanted
-abbrev pub class_of : Result Header Class → Class
-class_of (Ok h) = Stale
-class_of (Err class) = class
+abbrev pub class_of_reply : Result Header Class → Class
+class_of_reply (Ok h) = Stale
+class_of_reply (Err class) = class
 
 -- a slot answers the session, or it has this class
 abbrev pub TestsReply : SuperFields → ℕ → Session → Result Header Class → Option Class → Type 0
 TestsReply f place s reply None = AnswersIn f place s reply
-TestsReply f place s reply (Some class) = (AnswersIn f place s reply → ⊥) × (class ≡ class_of reply)
+TestsReply f place s reply (Some class) = (AnswersIn f place s reply → ⊥) × (class ≡ class_of_reply reply)
 
 -- the same of a session whose reply is stored
 abbrev pub TestsStored : SuperFields → ℕ → Session → ℕ → Result Header Class → Option Class → Type 0
 TestsStored f place s n reply None = s.op ≤ n → AnswersIn f place s reply
-TestsStored f place s n reply (Some class) = (s.op ≤ n) × (AnswersIn f place s reply → ⊥) × (class ≡ class_of reply)
+TestsStored f place s n reply (Some class) = (s.op ≤ n) × (AnswersIn f place s reply → ⊥) × (class ≡ class_of_reply reply)
 
 -- each of the first k sessions whose reply is stored is answered
 abbrev pub AnsweredTo : SuperFields → List Session → ℕ → List (Result Header Class) → ℕ → Type 0
@@ -58,7 +58,7 @@ pub record IsFirstLacking (f : SuperFields) (ss : List Session) (n : ℕ) (repli
   pub reply : Result Header Class
   pub there : slice_get replies lacking.place ≡ Some reply
   pub lacks : AnswersIn f lacking.place session reply → ⊥
-  pub class : lacking.class ≡ class_of reply
+  pub class : lacking.class ≡ class_of_reply reply
   pub first : AnsweredTo f ss n replies lacking.place
 
 abbrev pub LacksHere : SuperFields → List Session → ℕ → List (Result Header Class) → Option Lacking → Type 0
@@ -78,7 +78,7 @@ Lacks image c ss n (Some lacking) = LacksReply image c (sessions_of ss) n lackin
 
 -- with the class of what its slot shows, where that was scanned
 abbrev pub HasClass : List (Result Header Class) → Lacking → Type 0
-HasClass replies lacking = (layout : Layout) (cluster : ℕ) (t : Told) → IsScanned layout cluster (Some t) replies → lacking.class ≡ class_at layout cluster t.shown (ReplyPlace lacking.place)
+HasClass replies lacking = (layout : Layout) (cluster : ℕ) (t : Told) → AreRepliesScanned layout cluster (Some t) replies → lacking.class ≡ class_at layout cluster t.shown (ReplyPlace lacking.place)
 
 -- the reply that counts as stored: the one that is shown at the place of a session whose op is at most n
 abbrev pub stored_by : ℕ → Option Units.Session → Option AnyUnit → Option Message

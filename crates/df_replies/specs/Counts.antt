@@ -6,9 +6,9 @@ use Rattle.df_stamps.specs.declared.counters.Counters.{Counters}
 pub use Rattle.df_units.specs.Greatest.{RepliesWithin, in_boot}
 
 -- a number of a reply that is shown, 0 where none is; the op and the mark of one of this boot alone
-abbrev pub op_in : ℕ → Result Header Class → ℕ
-op_in boot (Ok h) = if h.boot == boot then h.op else 0
-op_in boot (Err class) = 0
+abbrev pub op_of_reply : ℕ → Result Header Class → ℕ
+op_of_reply boot (Ok h) = if h.boot == boot then h.op else 0
+op_of_reply boot (Err class) = 0
 
 abbrev pub mark_in : ℕ → Result Header Class → ℕ
 mark_in boot (Ok h) = if h.boot == boot then h.mark else 0
@@ -23,27 +23,27 @@ boot_in (Ok h) = h.boot
 boot_in (Err class) = 0
 
 -- the counters with one more reply
-abbrev pub with_reply : ℕ → Counters → Result Header Class → Counters
-with_reply boot seen reply = record {
+abbrev pub counting_reply : ℕ → Counters → Result Header Class → Counters
+counting_reply boot seen reply = record {
   ring_op = seen.ring_op;
-  reply_top = max seen.reply_top (max (op_in boot reply) (mark_in boot reply));
+  reply_top = max seen.reply_top (max (op_of_reply boot reply) (mark_in boot reply));
   checkpoint = max seen.checkpoint (checkpoint_in reply);
   boot = max seen.boot (boot_in reply);
 }
 
 -- of the first k replies none has a greater number
-abbrev pub AreWithin : (Result Header Class → ℕ) → ℕ → ℕ → List (Result Header Class) → Type 0
-AreWithin number n k replies = (j : ℕ) (reply : Result Header Class) → j < k → slice_get replies j ≡ Some reply → number reply ≤ n
+abbrev pub AreNotAbove : (Result Header Class → ℕ) → ℕ → ℕ → List (Result Header Class) → Type 0
+AreNotAbove number n k replies = (j : ℕ) (reply : Result Header Class) → j < k → slice_get replies j ≡ Some reply → number reply ≤ n
 
 -- the counters with the first k replies
 pub record CountsSome (current : ℕ) (start : Counters) (replies : List (Result Header Class)) (k : ℕ) (seen : Counters) : Type 0 where
   pub ring_op : seen.ring_op ≡ start.ring_op
-  pub checkpoint : (n : ℕ) → (seen.checkpoint ≤ n) ↔ ((start.checkpoint ≤ n) × AreWithin checkpoint_in n k replies)
-  pub boot : (n : ℕ) → (seen.boot ≤ n) ↔ ((start.boot ≤ n) × AreWithin boot_in n k replies)
-  pub reply_top : (n : ℕ) → (seen.reply_top ≤ n) ↔ ((start.reply_top ≤ n) × AreWithin (op_in current) n k replies × AreWithin (mark_in current) n k replies)
+  pub checkpoint : (n : ℕ) → (seen.checkpoint ≤ n) ↔ ((start.checkpoint ≤ n) × AreNotAbove checkpoint_in n k replies)
+  pub boot : (n : ℕ) → (seen.boot ≤ n) ↔ ((start.boot ≤ n) × AreNotAbove boot_in n k replies)
+  pub reply_top : (n : ℕ) → (seen.reply_top ≤ n) ↔ ((start.reply_top ≤ n) × AreNotAbove (op_of_reply current) n k replies × AreNotAbove (mark_in current) n k replies)
 
 -- the greatest of a start and of the ops of those of the first k replies that are of this boot
 pub record IsGreatest (boot start : ℕ) (replies : List (Result Header Class)) (k top : ℕ) : Type 0 where
   pub from : start ≤ top
-  pub each : AreWithin (op_in boot) top k replies
+  pub each : AreNotAbove (op_of_reply boot) top k replies
   pub reached : (start ≡ top) ⊎ ((j : ℕ) × (h : Header) × (slice_get replies j ≡ Some (Ok h)) × (h.op ≡ top) × (h.boot ≡ boot))

@@ -12,13 +12,13 @@ use Rattle.df_places.specs.Units.{IsSeen}
 use Rattle.df_replies.specs.Slots.{reply_place}
 
 -- the first n entries are what the disk shows, where it tells that
-abbrev pub AreSeen : Layout → ℕ → Option Told → ℕ → List (Result Header Class) → Type 0
-AreSeen layout cluster told n replies = (k : ℕ) (reply : Result Header Class) → k < n → slice_get replies k ≡ Some reply → IsSeen layout cluster told (reply_place k) reply
+abbrev pub AreSeenReplies : Layout → ℕ → Option Told → ℕ → List (Result Header Class) → Type 0
+AreSeenReplies layout cluster told n replies = (k : ℕ) (reply : Result Header Class) → k < n → slice_get replies k ≡ Some reply → IsSeen layout cluster told (reply_place k) reply
 
 -- the table has an entry for each slot of the layout, and it is what the disk shows there
-pub record IsScanned (layout : Layout) (cluster : ℕ) (told : Option Told) (replies : List (Result Header Class)) : Type 0 where
+pub record AreRepliesScanned (layout : Layout) (cluster : ℕ) (told : Option Told) (replies : List (Result Header Class)) : Type 0 where
   pub size : length replies ≡ layout.clients
-  pub seen : AreSeen layout cluster told layout.clients replies
+  pub seen : AreSeenReplies layout cluster told layout.clients replies
 
 -- a place of the theory shows a reply with this header, or no unit
 abbrev pub ShowsReply : Option AnyUnit → Result Header Class → Type 0
@@ -33,4 +33,4 @@ pub record ShowsReplies (image : Units.Units) (replies : List (Result Header Cla
 -- what was scanned is what the theory sees
 abbrev pub ScannedIsShown : Type 0
 ScannedIsShown =
-    (layout : Layout) (cluster : ℕ) (t : Told) (replies : List (Result Header Class)) → IsScanned layout cluster (Some t) replies → ShowsReplies (unit_at layout cluster t.shown) replies
+    (layout : Layout) (cluster : ℕ) (t : Told) (replies : List (Result Header Class)) → AreRepliesScanned layout cluster (Some t) replies → ShowsReplies (unit_at layout cluster t.shown) replies

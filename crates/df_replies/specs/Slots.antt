@@ -23,13 +23,13 @@ abbrev pub slot_first : Layout → ℕ → ℕ
 slot_first layout place = (span_of layout (reply_place place)).first
 
 -- the reply is valid in the slot that its header names
-abbrev pub IsInOwnSlot : Layout → Message → Type 0
-IsInOwnSlot layout u = IsUnit layout u.header.cluster (reply_place u.header.slot) u
+abbrev pub IsInReplySlot : Layout → Message → Type 0
+IsInReplySlot layout u = IsUnit layout u.header.cluster (reply_place u.header.slot) u
 
 -- the events of a write: the whole sectors that the reply covers go into that slot, and are synced
 abbrev pub write_events : Layout → Holding → List Event
 write_events layout held = unit_events layout (reply_place held.unit.header.slot) held
 
 -- in the words of the theory: the reply is put into its session's place, and synced
-abbrev pub write_steps : Message → List Step
-write_steps u = unit_steps (ReplyPlace u.header.slot) (ReplyUnit (message_of u))
+abbrev pub reply_write_steps : Message → List Step
+reply_write_steps u = unit_steps (ReplyPlace u.header.slot) (ReplyUnit (message_of u))

@@ -1,6 +1,6 @@
 // The number of replies, and the first session whose reply is missing.
 ghost use Rattle.std.specs.Prelude.{◌≡◌, ◌↔◌, ◌<◌, Option, Some, length, max, IsTrue};
-ghost use Rattle.df_replies.specs.Answers.{IsOf, LacksHere, TestsReply, TestsStored};
+ghost use Rattle.df_replies.specs.Answers.{IsReplyOf, LacksHere, TestsReply, TestsStored};
 ghost use Rattle.df_replies.specs.Counts.{IsGreatest};
 
 use crate::counts::op_in;
@@ -31,7 +31,7 @@ pub(crate) fn greatest_op(start: u64, replies: &[Result<Header, Class>], boot: u
 
 // Whether the header is that of the reply to the session's last request.
 fn is_of(session: &Session, header: &Header) -> bool
-    ensures { IsTrue result ↔ IsOf session.now header.now }
+    ensures { IsTrue result ↔ IsReplyOf session.now header.now }
 {
     header.client == session.client && header.request == session.request && header.op == session.op
 }

@@ -1,13 +1,13 @@
 // The greatest numbers of the replies that are shown.
 ghost use Rattle.std.specs.Prelude.{◌≡◌, length};
-ghost use Rattle.df_replies.specs.Counts.{CountsSome, boot_in, checkpoint_in, mark_in, op_in, with_reply};
+ghost use Rattle.df_replies.specs.Counts.{CountsSome, boot_in, checkpoint_in, counting_reply, mark_in, op_of_reply};
 
 use df_format::Header;
 use df_layout::Class;
 use df_stamps::Counters;
 
 pub(crate) fn op_in(seen: &Result<Header, Class>, boot: u64) -> u64
-    ensures { result ≡ op_in boot seen.now }
+    ensures { result ≡ op_of_reply boot seen.now }
 {
     match seen {
         Ok(header) => { if header.boot == boot { header.op } else { 0 } }
@@ -44,7 +44,7 @@ fn boot_in(seen: &Result<Header, Class>) -> u64
 
 // The counters with one more reply: its op and its mark count in this boot alone.
 fn with_reply(seen: &Counters, reply: &Result<Header, Class>, boot: u64) -> Counters
-    ensures { result ≡ with_reply boot seen.now reply.now }
+    ensures { result ≡ counting_reply boot seen.now reply.now }
 {
     Counters {
         ring_op: seen.ring_op,

@@ -2,7 +2,7 @@
 ghost use Rattle.std.specs.Prelude.{◌≡◌, ◌<◌, length, OnOk};
 ghost use Rattle.df_replies.specs.Below.{HasCause};
 ghost use Rattle.df_replies.specs.Slots.{reply_place};
-ghost use Rattle.df_replies.specs.Shown.{AreSeen};
+ghost use Rattle.df_replies.specs.Shown.{AreSeenReplies};
 
 use crate::slot::reply_place;
 use df_base::Failed;
@@ -22,7 +22,7 @@ pub(crate) fn scan_replies<D: Disk>(
 ) -> Result<(), Failed>
     requires replies { length replies.old ≡ layout.now.clients }
     requires shelf { shelf.old.layout ≡ layout.now }
-    ensures seen { OnOk result (AreSeen layout.now cluster (D.told disk.old) layout.now.clients replies.new) }
+    ensures seen { OnOk result (AreSeenReplies layout.now cluster (D.told disk.old) layout.now.clients replies.new) }
     ensures count { length replies.new ≡ length replies.old }
     ensures shelf { shelf.new.layout ≡ layout.now }
     ensures same { D.told disk.new ≡ D.told disk.old }

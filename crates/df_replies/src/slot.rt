@@ -1,7 +1,7 @@
 // Writes and reads of one reply slot. A reply is durable before its writer answers, and no other place is written.
 ghost use Rattle.std.specs.Prelude.{◌≡◌, ◌<◌, OnOk};
 ghost use Rattle.df_replies.specs.Below.{HasCause, Shows, Adds, FillsRoom, AreSteps, format_of};
-ghost use Rattle.df_replies.specs.Slots.{IsInOwnSlot, reply_place, slot_first, write_events, write_steps};
+ghost use Rattle.df_replies.specs.Slots.{IsInReplySlot, reply_place, reply_write_steps, slot_first, write_events};
 
 use df_base::Failed;
 use df_buffers::{Raw, Reply, Sound};
@@ -28,8 +28,8 @@ pub fn write_reply<D: Disk>(
 ) -> Result<(), Failed>
     requires layout { unit.now.layout ≡ layout.now }
     ensures events { Adds (write_events layout.now unit.now) (D.told disk.old) (D.told disk.new) result }
-    ensures steps { AreSteps (format_of layout.now unit.now.unit.header.cluster) (write_events layout.now unit.now) (write_steps unit.now.unit) }
-    ensures own { IsInOwnSlot layout.now unit.now.unit }
+    ensures steps { AreSteps (format_of layout.now unit.now.unit.header.cluster) (write_events layout.now unit.now) (reply_write_steps unit.now.unit) }
+    ensures own { IsInReplySlot layout.now unit.now.unit }
     ensures cause { HasCause (D.faults disk.old) (D.faults disk.new) result }
 {
     let slot = unit.header().slot;

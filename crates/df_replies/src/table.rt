@@ -3,7 +3,7 @@ ghost use Rattle.std.specs.Prelude.{◌≡◌, ◌↔◌, ◌<◌, ◌≤◌, Li
 ghost use Rattle.df_replies.specs.Below.{HasCause, Blank, IsReplies, last_mark, Content, Message, Units, content_of, content_with};
 ghost use Rattle.df_replies.specs.Answers.{HasClass, Lacks};
 ghost use Rattle.df_replies.specs.Counts.{RepliesWithin, in_boot};
-ghost use Rattle.df_replies.specs.Shown.{IsScanned, ShowsReplies};
+ghost use Rattle.df_replies.specs.Shown.{AreRepliesScanned, ShowsReplies};
 
 use crate::Lacking;
 use crate::answers::{first_lacking, greatest_op};
@@ -66,7 +66,7 @@ impl ReplyTable {
     ) -> Result<(), Failed>
         requires size { length self.old ≡ layout.now.clients }
         requires shelf { shelf.old.layout ≡ layout.now }
-        ensures scanned { OnOk result (IsScanned layout.now cluster (D.told disk.old) self.new) }
+        ensures scanned { OnOk result (AreRepliesScanned layout.now cluster (D.told disk.old) self.new) }
         ensures size { length self.new ≡ length self.old }
         ensures shelf { shelf.new.layout ≡ layout.now }
         ensures same { D.told disk.new ≡ D.told disk.old }

@@ -17,7 +17,7 @@ use Rattle.df_replica.specs.Leaving.{image_after}
 use Rattle.df_replica.specs.Opened.{begun_state}
 use Rattle.df_replica.proofs.Laws.{found_keeps, raised_is, sum_of}
 use Rattle.df_result.specs.Begun.{BegunIsWork, begun_work}
-use Rattle.df_result.specs.Codec.{IsOfFile, codec}
+use Rattle.df_result.specs.Codec.{IsContentOfFile, codec}
 use Rattle.df_result.proofs.Sums.{units_have_sums}
 
 module _ (t : Told) (f : State) (view : View) (whole : IsImage t.shown) (is : IsOpened f.file.layout t.shown f) (found : IsFound (shape f.file) (unit_at f.file.layout f.file.cluster t.shown) view) (later : Image) (later_whole : IsImage later)
@@ -44,10 +44,10 @@ module _ (t : Told) (f : State) (view : View) (whole : IsImage t.shown) (is : Is
   wrote_is : wrote ≡ boot_content m (sum_of f)
   wrote_is = raised_is f second ∙ ap (λ (x : Memory). boot_content x (sum_of f)) known
 
-  of : IsOfFile f.file wrote
+  of : IsContentOfFile f.file wrote
   of =
-      let there : IsOfFile f.file (boot_content m (sum_of f)) = record { version = inr (tests.version ∙ is.of.version_is); layout = tests.layout; cluster = tests.cluster; rest = tests.rest } in
-      subst (IsOfFile f.file) (sym wrote_is) there
+      let there : IsContentOfFile f.file (boot_content m (sum_of f)) = record { version = inr (tests.version ∙ is.of.version_is); layout = tests.layout; cluster = tests.cluster; rest = tests.rest } in
+      subst (IsContentOfFile f.file) (sym wrote_is) there
 
   sum : sum_of f ≡ boot_sum (codec f.file) m
   sum =

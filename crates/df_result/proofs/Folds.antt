@@ -8,7 +8,7 @@ use Rattle.df_format.specs.declared.header.Header.{Header}
 use Rattle.df_theory.specs.Units.{AnyUnit, BlockPlace, Place, PreparePlace, ReplyPlace, or_else}
 use Rattle.df_model.specs.Codec.{AreChecksums, IsChecksum}
 use Rattle.df_model.specs.Commands.{Advance, Answer, Append, Begin, Command, Flush, ReadBlock, ReadPrepare, ReadReply, Recent, Release, Reply, Scrub, Stage, WriteBlock, supplied_sums}
-use Rattle.df_model.specs.Making.{block_of, content_of, next_address, place_of_reply, prepare_in, prepare_of, reply_of, trailer_block}
+use Rattle.df_model.specs.Making.{block_of, finishing_content, next_address, place_of_reply, prepare_in, prepare_of, reply_of, trailer_block}
 use Rattle.df_model.specs.Memory.{Course, Memory, memory_of}
 use Rattle.df_model.specs.Sense.{IsWork}
 use Rattle.df_model.specs.Supply.{Shown, checksums_given, group_sums, next as over, puts_of, result, shown_after, step_sum, supplied, trailer_sum}
@@ -18,17 +18,17 @@ use Rattle.df_replica.specs.Below.{DataFile, shape, spelling}
 use Rattle.df_replica.specs.Leaving.{IsReadPlace}
 use Rattle.df_result.specs.Agreeing.{AgreeShown}
 use Rattle.df_result.specs.Calls.{ResultAgrees}
-use Rattle.df_result.specs.Codec.{block_header, codec, fields_of, prepare_header, reply_header, sum_of}
+use Rattle.df_result.specs.Codec.{block_header, codec, fields_of, prepare_header, reply_header, sum_of_unit}
 use Rattle.df_result.proofs.Agreed.{next_agrees}
 
 -- ---- what is made has a checksum
 
-small : (h : Header) (body : List ℕ) → IsChecksum (sum_of h body)
+small : (h : Header) (body : List ℕ) → IsChecksum (sum_of_unit h body)
 small h body = field_at-lt 16 0 _ (AreBytes-check_of (spelling_rest (for_body h body)))
 
 module _ (file : DataFile) (m : Memory) where
   left_small : (r : Course) (left : List ℕ) → IsChecksum (trailer_sum (codec file) m r left)
-  left_small r [] = field_at-lt 16 0 _ (AreBytes-check_of (covered_bytes (fields_of file (content_of m r 0))))
+  left_small r [] = field_at-lt 16 0 _ (AreBytes-check_of (covered_bytes (fields_of file (finishing_content m r 0))))
   left_small r (a ∷ more) = small (block_header file a (trailer_block m r 0)) (trailer_block m r 0).body
 
   step_small : (o : Option Course) → IsChecksum (step_sum (codec file) m o)

@@ -9,7 +9,7 @@ use Rattle.df_model.specs.Memory.{Memory}
 use Rattle.df_model.specs.Supply.{group_puts, group_sums}
 use Rattle.df_model.specs.Work.{Request}
 use Rattle.df_replica.specs.Below.{DataFile}
-use Rattle.df_result.specs.Codec.{HasSum, codec}
+use Rattle.df_result.specs.Codec.{HasCodecSum, codec}
 
 put_aside : (a s : ℕ) (x : AnyUnit) → (a ≡ s → ⊥) → put_one (PreparePlace a) x (PreparePlace s) ≡ None
 put_aside a s x apart = go (a == s) refl
@@ -56,7 +56,7 @@ module _ (m : Memory) (first last n : ℕ) (some : 0 < n) where
       )
 
   -- where each is shown, and has the checksum that the codec gives it, that is the one that the codec gives to each in turn
-  module _ (file : DataFile) (shows : Units) (have : (s : ℕ) (p : Message) → shows (PreparePlace s) ≡ Some (PrepareUnit p) → HasSum file (PreparePlace s) (PrepareUnit p)) where
+  module _ (file : DataFile) (shows : Units) (have : (s : ℕ) (p : Message) → shows (PreparePlace s) ≡ Some (PrepareUnit p) → HasCodecSum file (PreparePlace s) (PrepareUnit p)) where
     pub sums_in : (op parent : ℕ) (rs : List Request) (sums : List ℕ) → length sums ≡ length rs → AreAt n shows (prepares_in m first last op parent rs sums) → sums ≡ group_sums (codec file) m first last op parent rs
     sums_in op parent [] [] same at = refl
     sums_in op parent [] (x ∷ xs) same at = absurd (cc)

@@ -6,7 +6,7 @@ use Rattle.df_theory.specs.UnitLog.{put_one}
 use Rattle.df_theory.proofs.Laws.{put_one_law}
 use Rattle.df_units.specs.Bytes.{unit_at}
 use Rattle.df_model.specs.Commands.{Advance, Append, Begin, Command, Flush, ReadBlock, ReadPrepare, ReadReply, Recent, Release, Reply, Scrub, Stage, WriteBlock}
-use Rattle.df_model.specs.Making.{block_of, content_of, first_of, group_of, next_address, place_of_reply, prepare_of, reply_of, trailer_block}
+use Rattle.df_model.specs.Making.{block_of, finishing_content, first_of, group_of, next_address, place_of_reply, prepare_of, reply_of, trailer_block}
 use Rattle.df_model.specs.Memory.{Course, Memory}
 use Rattle.df_model.specs.Refusals.{append_refusals, block_refusals, first_refusal, reply_refusals}
 use Rattle.df_model.specs.Supply.{group_puts, puts_of, step_puts, step_sum, trailer_puts, trailer_sum, unless}
@@ -14,7 +14,7 @@ use Rattle.df_model.specs.declared.errors.FlushError.{FlushError}
 use Rattle.df_replica.specs.Below.{DataFile}
 use Rattle.df_replica.specs.Leaving.{LeavesCopies, LeavesShown}
 use Rattle.df_result.specs.Agreeing.{AreSums}
-use Rattle.df_result.specs.Codec.{IsOfFile, codec}
+use Rattle.df_result.specs.Codec.{IsContentOfFile, codec}
 use Rattle.df_result.proofs.Groups.{at_more, puts_each, sums_in}
 use Rattle.df_result.proofs.Sums.{units_have_sums}
 
@@ -84,10 +84,10 @@ module _ (file : DataFile) (m : Memory) (sums : List ℕ) (before after : Image)
       (units_have_sums file after (BlockPlace a) (BlockUnit b) leaves.whole
       (put_there (puts_of m sums (WriteBlock kind body)) (BlockPlace a) (BlockUnit b) (leaves.units.block a) (unless_put (first_refusal (block_refusals m kind body)) (BlockPlace a) (BlockUnit b) none)))
 
-  module _ (of : IsOfFile file m.content) (leaves : LeavesShown file m sums Advance before after) (copies : LeavesCopies file m sums Advance before after) where
+  module _ (of : IsContentOfFile file m.content) (leaves : LeavesShown file m sums Advance before after) (copies : LeavesCopies file m sums Advance before after) where
     left_sum : (r : Course) (left : List ℕ) → m.running ≡ Some r → r.left ≡ left → sum ≡ trailer_sum (codec file) m r left
     left_sum r [] running is =
-        let c : Content = content_of m r sum in
+        let c : Content = finishing_content m r sum in
         let puts : step_puts m m.running sum (CopyPlace 0) ≡ Some (CopyUnit c) =
         ap (λ (o : Option Course). step_puts m o sum (CopyPlace 0)) running ∙ ap (λ (l : List ℕ). trailer_puts m r sum l (CopyPlace 0)) is in
         units_have_sums file after (CopyPlace 0) (CopyUnit c) leaves.whole (put_there (puts_of m sums Advance) (CopyPlace 0) (CopyUnit c) (copies 0) puts)
@@ -102,7 +102,7 @@ module _ (file : DataFile) (m : Memory) (sums : List ℕ) (before after : Image)
     advance_sum None running idle = idle running
     advance_sum (Some r) running idle = left_sum r r.left running refl
 
-  pub sums_made : (command : Command) → IsOfFile file m.content → 0 < m.layout.slots → length m.staged ≤ m.layout.slots → AreAsMany m sums command → LeavesShown file m sums command before after → LeavesCopies file m sums command before after
+  pub sums_made : (command : Command) → IsContentOfFile file m.content → 0 < m.layout.slots → length m.staged ≤ m.layout.slots → AreAsMany m sums command → LeavesShown file m sums command before after → LeavesCopies file m sums command before after
       → AreSums (codec file) m sums command
   sums_made (Append client request body) of some few many leaves copies = append_sums client request body many leaves
   sums_made Flush of some few many leaves copies = flush_sums some few many leaves

@@ -13,9 +13,9 @@ use Rattle.df_model.specs.Memory.{Memory, memory_of}
 use Rattle.df_model.specs.Supply.{Shown, checksums_given, next as over, puts_of, shown_after}
 use Rattle.df_model.specs.Work.{Request, Work}
 use Rattle.df_model.proofs.Laws.{length_in}
-use Rattle.df_replica.specs.Appending.{unit_of}
+use Rattle.df_replica.specs.Appending.{unit_made}
 use Rattle.df_replica.specs.Below.{RunningState, DataFile, State, course_in, memory, shape, spelling, told_after}
-use Rattle.df_replica.specs.Flushing.{group_in, header_in, sums_of, units_in}
+use Rattle.df_replica.specs.Flushing.{group_in, group_prepares, header_in, sums_of}
 use Rattle.df_replica.specs.Leaving.{IsReadPlace, LeavesShown, image_after}
 use Rattle.df_replica.specs.Reading.{shown_of}
 use Rattle.df_replica.specs.Serving.{Firm, IsCall, Keeps, next}
@@ -24,7 +24,7 @@ use Rattle.df_replica.specs.Supply.{IsSupplied}
 use Rattle.df_replica.proofs.Laws.{added_is_told, shown_after as shown_then}
 use Rattle.df_result.specs.Agreeing.{AgreeShown, AreSums, IsFoundIn}
 use Rattle.df_result.specs.Calls.{IsResult, OneMoreIsResult, SuppliedIsResult}
-use Rattle.df_result.specs.Codec.{IsOfFile, codec}
+use Rattle.df_result.specs.Codec.{IsContentOfFile, codec}
 use Rattle.df_result.proofs.Agreed.{next_agrees}
 use Rattle.df_result.proofs.Made.{AreAsMany, sums_made}
 use Rattle.df_result.proofs.Supplied.{next_is, puts_are}
@@ -76,9 +76,9 @@ idle_sum : (s : State) (sum : ℕ) (o : Option RunningState) → s.running ≡ o
 idle_sum s sum None running is none = is
 idle_sum s sum (Some r) running is none = let no = sym (ap (course_in s.file s.blocks) running) ∙ none in absurd (cc)
 
-made_count : (s : State) (op : ℕ) (parent : List ℕ) (rs : List Request) → length (sums_of (units_in (group_in s) op parent rs)) ≡ length rs
+made_count : (s : State) (op : ℕ) (parent : List ℕ) (rs : List Request) → length (sums_of (group_prepares (group_in s) op parent rs)) ≡ length rs
 made_count s op parent [] = refl
-made_count s op parent (r ∷ rs) = omega (arith, made_count s (op + 1) (unit_of (header_in (group_in s) op parent r) r.body).header.checksum rs)
+made_count s op parent (r ∷ rs) = omega (arith, made_count s (op + 1) (unit_made (header_in (group_in s) op parent r) r.body).header.checksum rs)
 
 one_checksum : (given : Given) (x : ℕ) → supplied_sums given ≡ x ∷ [] → supplied_sums given ≡ supplied_sum given ∷ []
 one_checksum given x is = is ∙ sym (ap (λ (xs : List ℕ). first_of xs ∷ []) is)
@@ -104,7 +104,7 @@ supplied_is_result s w t command given rep supplied sums =
 -- ---- a call
 
 -- the superblock in memory is one of the file
-of_file : (s : State) (w : Work) → Keeps Firm s w None → IsOfFile s.file (memory s).content
+of_file : (s : State) (w : Work) → Keeps Firm s w None → IsContentOfFile s.file (memory s).content
 of_file s w k =
     let tests : PassesTests (shape s.file) (memory s).content = subst (PassesTests (shape s.file)) (sym (ap (λ (m : Memory). m.content) k.1)) k.0.view.checkpoint.tests in
     record { version = inr (tests.version ∙ k.0.version.version); layout = tests.layout; cluster = tests.cluster; rest = tests.rest }

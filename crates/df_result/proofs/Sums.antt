@@ -15,8 +15,8 @@ use Rattle.df_format.specs.declared.kind.Kind.{Kind}
 use Rattle.df_format.specs.declared.kind.Kind.TheVariants.{Prepare, Reply, Block, Trailer}
 use Rattle.df_format.specs.declared.superblock.SuperCopy.{SuperCopy}
 use Rattle.df_format.specs.declared.superblock.SuperFields.{SuperFields}
-use Rattle.df_format.specs.Copies.{Content, content_at, content_of as content_in, copy_at, copy_in, if_here}
-use Rattle.df_format.specs.CopyLaws.{IsWritten}
+use Rattle.df_format.specs.Copies.{Content, content_at, content_in_copy as content_in, copy_at, copy_in, if_here}
+use Rattle.df_format.specs.CopyLaws.{IsWrittenCopy}
 use Rattle.df_format.specs.Making.{blank_header, of_kind}
 use Rattle.df_format.specs.Message.{Message}
 use Rattle.df_format.specs.Own.{place_in}
@@ -31,7 +31,7 @@ use Rattle.df_units.specs.Bytes.{copy_unit, message_unit, unit_at}
 use Rattle.df_units.specs.Meaning.{block_of, content_of, message_of, number_of, number_or, pin_checksum_of, reply_checksums_of, unnamed_of}
 use Rattle.df_units.proofs.Laws.{by_other, by_second, none_are, nothing_else}
 use Rattle.df_replica.specs.Below.{DataFile, version_in}
-use Rattle.df_result.specs.Codec.{HasSum, IsOfFile, UnitsHaveSums, codec, fields_of, group_in, sum_of, trailer_header}
+use Rattle.df_result.specs.Codec.{HasCodecSum, IsContentOfFile, UnitsHaveSums, codec, fields_of, group_in, sum_of_unit, trailer_header}
 
 -- ---- a header that has these fields
 
@@ -40,7 +40,7 @@ pub spelled_number : (check : List ℕ) → IsCheck check → check ≡ spelled 
 spelled_number check is = sym (spelled-field_at 16 0 check is.each (omega (arith, is.size)) ∙ take_all 16 check (omega (arith, is.size)))
 
 -- a unit has the checksum of what is made of the fields that its kind names
-sum_is : (kind : Kind) (u : Message) → u.header.kind ≡ kind → IsSealed u.header → IsBodyOf u.header u.body → number_of u.header.checksum ≡ sum_of (of_kind kind u.header.cluster u.header) u.body
+sum_is : (kind : Kind) (u : Message) → u.header.kind ≡ kind → IsSealed u.header → IsBodyOf u.header u.body → number_of u.header.checksum ≡ sum_of_unit (of_kind kind u.header.cluster u.header) u.body
 sum_is kind u same sealed has = ap (λ (h : Header). number_of h.checksum) (sym (made_again kind u.header u.body same sealed has))
 
 -- ---- the versions
@@ -115,7 +115,7 @@ module _ (file : DataFile) (image : Image) (whole : IsImage image) where
       let version = version_word Prepare u.header (λ boot. boot.0) obeys in
       let groups = group_words u.header obeys in
       sum_is Prepare u here.kind is.sealed is.body
-      ∙ (λ i. sum_of (record (of_kind Prepare (is.owner i) u.header) { parent = parent i; slot = slot_is i; version = version i; group = groups.0 i; group_last = groups.1 i }) u.body)
+      ∙ (λ i. sum_of_unit (record (of_kind Prepare (is.owner i) u.header) { parent = parent i; slot = slot_is i; version = version i; group = groups.0 i; group_last = groups.1 i }) u.body)
 
   reply_sum : (place : ℕ) (u : Message) → IsShown (place_in ClientReplies place) u → number_of u.header.checksum ≡ (codec file).reply place (message_of u)
   reply_sum place u shown =
@@ -123,15 +123,15 @@ module _ (file : DataFile) (image : Image) (whole : IsImage image) where
       let here = (shown_belongs file.layout file.cluster image (place_in ClientReplies place) u shown).belongs in
       let parent = spelled_number u.header.parent is.sealed.rules.fits.parent in
       let version = version_word Reply u.header (λ boot. boot.0) (version_of Reply u here.kind is.sealed) in
-      sum_is Reply u here.kind is.sealed is.body ∙ (λ i. sum_of (record (of_kind Reply (is.owner i) u.header) { parent = parent i; slot = here.slot i; version = version i }) u.body)
+      sum_is Reply u here.kind is.sealed is.body ∙ (λ i. sum_of_unit (record (of_kind Reply (is.owner i) u.header) { parent = parent i; slot = here.slot i; version = version i }) u.body)
 
   -- the header of a block by whether its kind is zero
   of_zero : (address : ℕ) (u : Message) → Bool → Header
   of_zero address u zero = if zero then trailer_header file address (block_of u) else record (blank_header Block file.cluster) { op = address; block_kind = u.header.block_kind; version = version_in u.header.boot; boot = u.header.boot }
 
-  zero_is : (address : ℕ) (u : Message) (b : Bool) → (u.header.block_kind == 0) ≡ b → sum_of (of_zero address u b) u.body ≡ (codec file).block address (block_of u)
+  zero_is : (address : ℕ) (u : Message) (b : Bool) → (u.header.block_kind == 0) ≡ b → sum_of_unit (of_zero address u b) u.body ≡ (codec file).block address (block_of u)
   unfolding of_zero
-  zero_is address u b is = ap (λ (x : Bool). sum_of (of_zero address u x) u.body) (sym is)
+  zero_is address u b is = ap (λ (x : Bool). sum_of_unit (of_zero address u x) u.body) (sym is)
 
   block_sum : (address : ℕ) (u : Message) → IsShown (place_in Grid address) u → number_of u.header.checksum ≡ (codec file).block address (block_of u)
   unfolding of_zero
@@ -143,13 +143,13 @@ module _ (file : DataFile) (image : Image) (whole : IsImage image) where
             let rules : ObeysBlock u.header = subst (λ (k : Kind). ObeysKind k u.header) block is.sealed.rules.kind in
             let other : (u.header.block_kind == 0) ≡ false = grind (arith, nat_tests, rules.block_kind) in
             let version = version_word Block u.header (λ boot. boot.0) (version_of Block u block is.sealed) in
-            sum_is Block u block is.sealed is.body ∙ (λ i. sum_of (record (of_kind Block (is.owner i) u.header) { op = here.op i; version = version i }) u.body) ∙ zero_is address u false other
+            sum_is Block u block is.sealed is.body ∙ (λ i. sum_of_unit (record (of_kind Block (is.owner i) u.header) { op = here.op i; version = version i }) u.body) ∙ zero_is address u false other
         | inr trailer ↦
             let rules : ObeysTrailer u.header = subst (λ (k : Kind). ObeysKind k u.header) trailer is.sealed.rules.kind in
             let zero : (u.header.block_kind == 0) ≡ true = grind (arith, nat_tests, rules.block_kind) in
             let parent = spelled_number u.header.parent is.sealed.rules.fits.parent in
             let version = version_word Trailer u.header (λ boot. boot.0) (version_of Trailer u trailer is.sealed) in
-            sum_is Trailer u trailer is.sealed is.body ∙ (λ i. sum_of (record (of_kind Trailer (is.owner i) u.header) { parent = parent i; op = here.op i; version = version i }) u.body) ∙ zero_is address u true zero
+            sum_is Trailer u trailer is.sealed is.body ∙ (λ i. sum_of_unit (record (of_kind Trailer (is.owner i) u.header) { parent = parent i; op = here.op i; version = version i }) u.body) ∙ zero_is address u true zero
       ]
 
   -- ---- the superblock
@@ -165,7 +165,7 @@ module _ (file : DataFile) (image : Image) (whole : IsImage image) where
       (parts.0, (is_here n (copy_in (image n)) parts.0 parts.1).0, parts.2)
 
   -- its fields are those of its words
-  fields_are : (f : SuperFields) → IsOfFile file (content_of (record { checksum = []; fields = f })) → FitsSuper f → (f.version ≢ 2 → NamesNone f) → f ≡ fields_of file (content_of (record { checksum = []; fields = f }))
+  fields_are : (f : SuperFields) → IsContentOfFile file (content_of (record { checksum = []; fields = f })) → FitsSuper f → (f.version ≢ 2 → NamesNone f) → f ≡ fields_of file (content_of (record { checksum = []; fields = f }))
   fields_are f of fits named =
       let none = nothing_else (unnamed_of f) f.first_nonzero of.rest in
       let names = named_words f (elim of.version [ inl first ↦ inl first.0 | inr second ↦ inr second ]) fits named in
@@ -183,38 +183,38 @@ module _ (file : DataFile) (image : Image) (whole : IsImage image) where
         first_nonzero = none i;
       }
 
-  written_sum : (copy : SuperCopy) → IsWritten copy → IsOfFile file (content_of (record { checksum = copy.checksum; fields = copy.fields }))
+  written_sum : (copy : SuperCopy) → IsWrittenCopy copy → IsContentOfFile file (content_of (record { checksum = copy.checksum; fields = copy.fields }))
       → number_of copy.checksum ≡ (codec file).content (content_of (record { checksum = copy.checksum; fields = copy.fields }))
   written_sum copy is of =
-      let again : IsOfFile file (content_of (record { checksum = []; fields = copy.fields })) = record { version = of.version; layout = of.layout; cluster = of.cluster; rest = of.rest } in
+      let again : IsContentOfFile file (content_of (record { checksum = []; fields = copy.fields })) = record { version = of.version; layout = of.layout; cluster = of.cluster; rest = of.rest } in
       ap number_of (is.checksum ∙ ap (λ (f : SuperFields). check_of (covered_bytes f)) (fields_are copy.fields again is.fits is.named))
 
-  content_sum : (n : ℕ) (c : Content) → content_at image n ≡ Some c → IsOfFile file (content_of c) → number_of c.checksum ≡ (codec file).content (content_of c)
+  content_sum : (n : ℕ) (c : Content) → content_at image n ≡ Some c → IsContentOfFile file (content_of c) → number_of c.checksum ≡ (codec file).content (content_of c)
   content_sum n c shown of =
       let there = copy_there n c shown in
-      let of_copy = subst (λ (x : Content). IsOfFile file (content_of x)) (sym there.2) of in
+      let of_copy = subst (λ (x : Content). IsContentOfFile file (content_of x)) (sym there.2) of in
       let is = was_written (image n) there.0 (whole.sectors n) (nothing_else (unnamed_of there.0.fields) there.0.fields.first_nonzero of_copy.rest) there.1 in
       subst (λ (x : Content). number_of x.checksum ≡ (codec file).content (content_of x)) there.2 (written_sum there.0 is.0 of_copy)
 
   -- ---- each unit
 
-  of_copy : (n : ℕ) (o : Option Content) (x : AnyUnit) → content_at image n ≡ o → copy_unit o ≡ Some x → HasSum file (CopyPlace n) x
+  of_copy : (n : ℕ) (o : Option Content) (x : AnyUnit) → content_at image n ≡ o → copy_unit o ≡ Some x → HasCodecSum file (CopyPlace n) x
   of_copy n None x shown is = absurd (cc)
-  of_copy n (Some c) x shown is = subst (HasSum file (CopyPlace n)) (same_Some _ _ is) (λ of. content_sum n c shown of)
+  of_copy n (Some c) x shown is = subst (HasCodecSum file (CopyPlace n)) (same_Some _ _ is) (λ of. content_sum n c shown of)
 
-  of_prepare : (s : ℕ) (o : Option Message) (x : AnyUnit) → Shown.unit_at file.layout file.cluster image (place_in WalPrepares s) ≡ o → message_unit (PreparePlace s) o ≡ Some x → HasSum file (PreparePlace s) x
+  of_prepare : (s : ℕ) (o : Option Message) (x : AnyUnit) → Shown.unit_at file.layout file.cluster image (place_in WalPrepares s) ≡ o → message_unit (PreparePlace s) o ≡ Some x → HasCodecSum file (PreparePlace s) x
   of_prepare s None x shown is = absurd (cc)
-  of_prepare s (Some u) x shown is = subst (HasSum file (PreparePlace s)) (same_Some _ _ is) (prepare_sum s u shown)
+  of_prepare s (Some u) x shown is = subst (HasCodecSum file (PreparePlace s)) (same_Some _ _ is) (prepare_sum s u shown)
 
-  of_reply : (k : ℕ) (o : Option Message) (x : AnyUnit) → Shown.unit_at file.layout file.cluster image (place_in ClientReplies k) ≡ o → message_unit (ReplyPlace k) o ≡ Some x → HasSum file (ReplyPlace k) x
+  of_reply : (k : ℕ) (o : Option Message) (x : AnyUnit) → Shown.unit_at file.layout file.cluster image (place_in ClientReplies k) ≡ o → message_unit (ReplyPlace k) o ≡ Some x → HasCodecSum file (ReplyPlace k) x
   of_reply k None x shown is = absurd (cc)
-  of_reply k (Some u) x shown is = subst (HasSum file (ReplyPlace k)) (same_Some _ _ is) (reply_sum k u shown)
+  of_reply k (Some u) x shown is = subst (HasCodecSum file (ReplyPlace k)) (same_Some _ _ is) (reply_sum k u shown)
 
-  of_block : (a : ℕ) (o : Option Message) (x : AnyUnit) → Shown.unit_at file.layout file.cluster image (place_in Grid a) ≡ o → message_unit (BlockPlace a) o ≡ Some x → HasSum file (BlockPlace a) x
+  of_block : (a : ℕ) (o : Option Message) (x : AnyUnit) → Shown.unit_at file.layout file.cluster image (place_in Grid a) ≡ o → message_unit (BlockPlace a) o ≡ Some x → HasCodecSum file (BlockPlace a) x
   of_block a None x shown is = absurd (cc)
-  of_block a (Some u) x shown is = subst (HasSum file (BlockPlace a)) (same_Some _ _ is) (block_sum a u shown)
+  of_block a (Some u) x shown is = subst (HasCodecSum file (BlockPlace a)) (same_Some _ _ is) (block_sum a u shown)
 
-  has_sum : (place : Place) (x : AnyUnit) → unit_at file.layout file.cluster image place ≡ Some x → HasSum file place x
+  has_sum : (place : Place) (x : AnyUnit) → unit_at file.layout file.cluster image place ≡ Some x → HasCodecSum file place x
   has_sum (CopyPlace n) x is = of_copy n (content_at image n) x refl is
   has_sum (HeaderPlace s) x is = tt
   has_sum (PreparePlace s) x is = of_prepare s (Shown.unit_at file.layout file.cluster image (place_in WalPrepares s)) x refl is

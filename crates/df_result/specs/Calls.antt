@@ -2,7 +2,7 @@
 use Rattle.std.specs.Prelude.{◌≡◌, List, [], ◌∷◌, Option, Some, None}
 use Rattle.df_base.specs.Image.{IsImage}
 use Rattle.df_disk.specs.Told.{Told}
-use Rattle.df_model.specs.Commands.{Answer, Command, Given, IsInRange, supplied_sums}
+use Rattle.df_model.specs.Commands.{Answer, Command, Given, IsCommandInRange, supplied_sums}
 use Rattle.df_model.specs.Memory.{memory_of}
 use Rattle.df_model.specs.Sense.{IsWork}
 use Rattle.df_model.specs.Supply.{Shown, next as over, result, shown_after}
@@ -22,7 +22,7 @@ NextAgrees =
 -- the fields of each command are in the range of their types
 abbrev pub AreInRange : List Command → Type 0
 AreInRange [] = Unit {0}
-AreInRange (c ∷ cs) = IsInRange c × AreInRange cs
+AreInRange (c ∷ cs) = IsCommandInRange c × AreInRange cs
 
 -- nor do commands one after the other, each over what those before it left shown
 abbrev pub ResultAgrees : Type 0

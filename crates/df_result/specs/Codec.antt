@@ -81,36 +81,36 @@ fields_of file c = record (blank_super file.layout file.cluster) {
 }
 
 -- the checksum of the unit that is made of a header and a body
-abbrev pub sum_of : Header → List ℕ → ℕ
-sum_of header body = number_of (sealed (for_body header body)).checksum
+abbrev pub sum_of_unit : Header → List ℕ → ℕ
+sum_of_unit header body = number_of (sealed (for_body header body)).checksum
 
 -- how a file's trailers are spelled, and the checksums that its units get
 abbrev pub codec : DataFile → Codec
 codec file = record {
   spell = spelling file;
-  prepare = λ p. sum_of (prepare_header file p.header) p.body;
-  reply = λ place r. sum_of (reply_header file place r.header) r.body;
-  block = λ address b. sum_of (block_header file address b) b.body;
+  prepare = λ p. sum_of_unit (prepare_header file p.header) p.body;
+  reply = λ place r. sum_of_unit (reply_header file place r.header) r.body;
+  block = λ address b. sum_of_unit (block_header file address b) b.body;
   content = λ c. number_of (content_with (fields_of file c)).checksum;
 }
 
 -- ---- and so it is with what is shown
 
 -- a superblock of the file: of version 1, which has no boot, or of version 2, with its layout and cluster, and zeros where the version has no fields
-pub record IsOfFile (file : DataFile) (c : Units.Content) : Type 0 where
+pub record IsContentOfFile (file : DataFile) (c : Units.Content) : Type 0 where
   pub version : ((c.version ≡ 1) × (c.boot ≡ 0)) ⊎ (c.version ≡ 2)
   pub layout : c.layout ≡ layout_of file.layout
   pub cluster : c.cluster ≡ file.cluster
   pub rest : (i : ℕ) → slice_index c.rest i ≡ 0
 
 -- the unit has the checksum that the codec gives to what it says at this place; headers of the ring have those of their prepares
-abbrev pub HasSum : DataFile → Place → AnyUnit → Type 0
-HasSum file (CopyPlace n) (CopyUnit c) = IsOfFile file c → c.checksum ≡ (codec file).content c
-HasSum file (PreparePlace s) (PrepareUnit p) = p.header.checksum ≡ (codec file).prepare p
-HasSum file (ReplyPlace k) (ReplyUnit r) = r.header.checksum ≡ (codec file).reply k r
-HasSum file (BlockPlace a) (BlockUnit b) = b.checksum ≡ (codec file).block a b
-HasSum file place x = Unit {0}
+abbrev pub HasCodecSum : DataFile → Place → AnyUnit → Type 0
+HasCodecSum file (CopyPlace n) (CopyUnit c) = IsContentOfFile file c → c.checksum ≡ (codec file).content c
+HasCodecSum file (PreparePlace s) (PrepareUnit p) = p.header.checksum ≡ (codec file).prepare p
+HasCodecSum file (ReplyPlace k) (ReplyUnit r) = r.header.checksum ≡ (codec file).reply k r
+HasCodecSum file (BlockPlace a) (BlockUnit b) = b.checksum ≡ (codec file).block a b
+HasCodecSum file place x = Unit {0}
 
 -- so has each unit that an image shows
 abbrev pub UnitsHaveSums : Type 0
-UnitsHaveSums = (file : DataFile) (image : Image) (place : Place) (x : AnyUnit) → IsImage image → unit_at file.layout file.cluster image place ≡ Some x → HasSum file place x
+UnitsHaveSums = (file : DataFile) (image : Image) (place : Place) (x : AnyUnit) → IsImage image → unit_at file.layout file.cluster image place ≡ Some x → HasCodecSum file place x

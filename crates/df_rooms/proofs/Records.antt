@@ -11,7 +11,7 @@ use Rattle.df_format.specs.Super.{AreNone}
 use Rattle.df_format.specs.SuperRules.{IsSuper, IsUsable}
 use Rattle.df_format.specs.declared.superblock.SuperFields.{SuperFields}
 use Rattle.df_sessions.specs.declared.session.Session.{Session}
-use Rattle.df_sessions.specs.Table.{IsTable}
+use Rattle.df_sessions.specs.Table.{IsSessionTable}
 use Rattle.df_model.specs.Memory.{joined}
 use Rattle.df_model.specs.Making as making
 use Rattle.df_model.specs.Making.{named_places, named_sums, sum_or_zero}
@@ -78,7 +78,7 @@ spare_names sessions clients few k past inside =
     ∙ get_or-map-range_with_len (λ i. stored_check (slice_get sessions i)) 0 named_places (clients + k) (clients + k) past (omega (arith, inside, long, length-drop clients all)) (omega arith)
     ∙ ap stored_check (slice_get_past sessions (clients + k) (omega (arith, few)))
 
-pub recorded_is_super : (s : State) (f : SuperFields) → IsState s → IsTable s.table → MayRecord s f → IsSuper (recorded s f)
+pub recorded_is_super : (s : State) (f : SuperFields) → IsState s → IsSessionTable s.table → MayRecord s f → IsSuper (recorded s f)
 recorded_is_super s f is table may = record {
   version = inr (record {
     version = may.version;

@@ -5,7 +5,7 @@ use Rattle.std.specs.List.{All}
 use Rattle.std.proofs.lemmas.List.Elements.{All-get_or, All-pop, All-push, All-same}
 use Rattle.df_layout.specs.declared.layout.Layout.{Layout}
 use Rattle.df_buffers.specs.Rooms.{Room}
-use Rattle.df_rooms.specs.Stagings.{AreFree, AreHeld, first_of, request_in}
+use Rattle.df_rooms.specs.Stagings.{AreFree, AreHeld, first_request, request_in}
 use Rattle.df_rooms.specs.declared.staging.Held.{Held}
 
 -- the last one of a list goes to the free ones: each is of the layout, as it was
@@ -21,7 +21,7 @@ moved_all {X} free new xs ys x room n added taken is =
     omega (arith, ap (λ (l : List Room). length l) added, length-append free (room ∷ []), ap (λ (l : List X). length l) taken, length-append ys (x ∷ []), is)
 
 -- the first one that is held has the body of the first request, and its room is of the layout
-pub first_body : (xs : List Held) (h : Held) → 0 < length (map request_in xs) → h ≡ get_or xs 0 h → h.room.body ≡ (first_of (map request_in xs)).body
+pub first_body : (xs : List Held) (h : Held) → 0 < length (map request_in xs) → h ≡ get_or xs 0 h → h.room.body ≡ (first_request (map request_in xs)).body
 first_body [] h some is = absurd (omega (arith, some))
 first_body (x ∷ xs) h some is = ap (λ (k : Held). k.room.body) is
 

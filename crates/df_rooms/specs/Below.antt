@@ -9,5 +9,5 @@ pub use Rattle.df_format.specs.declared.kind.Kind.TheVariants.{Prepare}
 pub use Rattle.df_model.specs.Work.{Request}
 pub use Rattle.df_grid.specs.Table.{no_blocks}
 pub use Rattle.df_scrub.specs.Machine.{IsMachineStep, IsMachines}
-pub use Rattle.df_scrub.specs.Scrubber.{IsStep, IsVerdict, ScrubState, after_step, left_in, new_scrub, verdict_in, with_check}
+pub use Rattle.df_scrub.specs.Scrubber.{IsStep, IsVerdict, ScrubState, after_scrub_step, left_in, new_scrub, verdict_in, with_check}
 pub use Rattle.df_scrub.specs.Tours.{ListsFailing, failing_among, failing_in}

@@ -1,7 +1,7 @@
 -- What a superblock records of the state as it is: by the update that ends a checkpoint, and by that of an open.
 use Rattle.std.specs.Prelude.{◌≡◌, ◌≢◌, ◌<◌, ◌≤◌, ◌+◌, ◌^◌, ℕ, List, map, slice_get, Option, Some, None}
 use Rattle.std.specs.List.{range_with_len}
-use Rattle.df_layout.specs.Limits.{AreWithin}
+use Rattle.df_layout.specs.Limits.{AreWithinLimits}
 use Rattle.df_format.specs.Spelling.{no_checksum}
 use Rattle.df_format.specs.SuperRules.{greatest_trailer}
 use Rattle.df_format.specs.declared.superblock.SuperFields.{SuperFields}
@@ -35,7 +35,7 @@ boot_fields s = recorded s (record s.fields { boot = s.fields.boot + 1 })
 pub record MayRecord (s : State) (f : SuperFields) : Type 0 where
   pub version : f.version ≡ 2
   pub boot : f.boot ≤ 2 ^ 62
-  pub layout : AreWithin f.slots f.message_size f.clients f.block_size f.blocks
+  pub layout : AreWithinLimits f.slots f.message_size f.clients f.block_size f.blocks
   pub places : f.clients ≡ s.file.layout.clients
   pub cluster : 0 < f.cluster
   pub sequence : (0 < f.sequence) × (f.sequence ≤ 2 ^ 62)

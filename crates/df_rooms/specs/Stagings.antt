@@ -19,15 +19,15 @@ pub record Staged : Type 0 where
 -- ---- one of them
 
 -- the first request; the words below speak of it where something is staged
-abbrev pub first_of : List Request → Request
-first_of [] = record { client = 0; request = 0; body = [] }
-first_of (r ∷ rs) = r
+abbrev pub first_request : List Request → Request
+first_request [] = record { client = 0; request = 0; body = [] }
+first_request (r ∷ rs) = r
 
 -- the prepare of the first request by this header is the last one of these units, after those that were there
 pub record IsSealedOf (s : Staged) (header : Header) (units : List Holding) : Type 0 where
   pub held : Holding
   pub layout : held.layout ≡ s.layout
-  pub unit : held.unit ≡ record { header = sealed (for_body header (first_of s.requests).body); body = (first_of s.requests).body }
+  pub unit : held.unit ≡ record { header = sealed (for_body header (first_request s.requests).body); body = (first_request s.requests).body }
   pub sectors : take (sectors_end held.unit.header.size) held.bytes ≡ sectors_of held.unit
   pub last : units ≡ s.sealed ++ held ∷ []
 

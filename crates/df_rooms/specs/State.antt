@@ -9,7 +9,7 @@ use Rattle.df_format.specs.declared.header.Header.{Header}
 use Rattle.df_format.specs.declared.superblock.SuperFields.{SuperFields}
 use Rattle.df_layout.specs.declared.damage.Finding.{Finding}
 use Rattle.df_layout.specs.declared.layout.Layout.{Layout}
-use Rattle.df_headers.specs.Ring.{IsTable}
+use Rattle.df_headers.specs.Ring.{IsHeaderTable}
 use Rattle.df_journal.specs.Tail.{AreNumbered}
 use Rattle.df_sessions.specs.Requests.{sessions_of}
 use Rattle.df_sessions.specs.declared.session.Session.{Session}
@@ -62,13 +62,13 @@ pub record State : Type 0 where
 -- ---- in the words of the machine
 
 -- the checksum of a header of the ring
-abbrev pub sum_of : Option Header → ℕ
-sum_of None = 0
-sum_of (Some h) = number_of h.checksum
+abbrev pub sum_of_header : Option Header → ℕ
+sum_of_header None = 0
+sum_of_header (Some h) = number_of h.checksum
 
 -- that of the prepare with this op, by the header in its slot
 abbrev pub prepare_sum : State → ℕ → ℕ
-prepare_sum s op = sum_of (slice_get s.headers (op % s.file.layout.slots))
+prepare_sum s op = sum_of_header (slice_get s.headers (op % s.file.layout.slots))
 
 -- the checksum of a session's reply, where it is stored
 abbrev pub reply_sum : Option (List ℕ) → Option ℕ
@@ -165,7 +165,7 @@ pub record IsHalfway (b : Blocks) (blocks done : ℕ) : Type 0 where
   pub written : done ≡ length b.written
 
 -- a running checkpoint goes with the superblock and the log that it was begun from, and with the blocks of the grid
-pub record IsRunning (file : DataFile) (f : SuperFields) (head : ℕ) (b : Blocks) (r : RunningState) : Type 0 where
+pub record IsRunningCheckpoint (file : DataFile) (f : SuperFields) (head : ℕ) (b : Blocks) (r : RunningState) : Type 0 where
   pub begun : IsBegunFrom f.op f.sequence head r.op r.sequence
   pub open begun use *
   pub contents : IsContents file.layout.clients r.op r.op_checksum r.root r.sessions
@@ -178,7 +178,7 @@ pub record IsRunning (file : DataFile) (f : SuperFields) (head : ℕ) (b : Block
 -- the running checkpoint, if there is one, is the grid's
 abbrev pub IsCourse : DataFile → SuperFields → (head : ℕ) → Blocks → Option RunningState → Type 0
 IsCourse file f head b None = IsIdle b
-IsCourse file f head b (Some r) = IsRunning file f head b r
+IsCourse file f head b (Some r) = IsRunningCheckpoint file f head b r
 
 -- a superblock of a file of version 2: it has a boot, and names the prepare of its head and replies of sessions alone
 pub record IsSecond (file : DataFile) (f : SuperFields) : Type 0 where
@@ -204,7 +204,7 @@ pub record AreInFile (file : DataFile) (f : SuperFields) (kept : List ℕ) (head
   pub second : IsSecond file f
   pub sequence : (0 < f.sequence) × (f.sequence ≤ 2 ^ 62)
   pub root : length kept ≤ 1024
-  pub ring : IsTable file.layout file.cluster headers
+  pub ring : IsHeaderTable file.layout file.cluster headers
 
 -- the log ends after its checkpoint's op, and within the ring
 pub record EndsLog (slots op : ℕ) (op_checksum : List ℕ) (head : ℕ) (checksum : List ℕ) : Type 0 where

@@ -2,7 +2,7 @@
 ghost use Rattle.std.specs.Prelude.{◌≡◌, ◌≤◌, ◌<◌, ◌+◌, ◌++◌, ◌∷◌, [], length, drop, slice_get, vec_capacity, IfOk, IsSome, Some};
 ghost use Rattle.df_rooms.specs.Below.{ObeysRules, for_body, greatest_size, own_place, sealed, Request, Prepare as AsPrepare, WalPrepares};
 ghost use Rattle.df_layout.specs.declared.layout.Layout.{Layout as AsLayout};
-ghost use Rattle.df_rooms.specs.Stagings.{AreFree, AreHeld, AreSealed, IsSealedOf, first_of};
+ghost use Rattle.df_rooms.specs.Stagings.{AreFree, AreHeld, AreSealed, IsSealedOf, first_request};
 
 use df_base::{Check, OutOfMemory};
 use df_buffers::{Filled, Prepare, Raw, Sound};
@@ -142,13 +142,13 @@ impl Staging {
     /// request isn't staged any more, and the prepare is the last one of the units.
     pub fn seal_first(&mut self, header: Header) -> Check
         requires some { 0 < length self.old.requests }
-        requires rules { ObeysRules (for_body header (first_of self.old.requests).body) }
+        requires rules { ObeysRules (for_body header (first_request self.old.requests).body) }
         requires kind { header.kind ≡ AsPrepare }
         requires own { IsSome (own_place self.old.layout WalPrepares header) }
         ensures requests { self.new.requests ≡ drop 1 self.old.requests }
         ensures sealed { IsSealedOf self.old header self.new.sealed }
         ensures layout { self.new.layout ≡ self.old.layout }
-        ensures sum { result ≡ (sealed (for_body header (first_of self.old.requests).body)).checksum }
+        ensures sum { result ≡ (sealed (for_body header (first_request self.old.requests).body)).checksum }
     {
         let held = self.staged.remove(0);
         let unit = held.room.seal(header);

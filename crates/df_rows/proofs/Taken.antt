@@ -14,7 +14,7 @@ use Rattle.df_rows.specs.Rows.{Entry, IsEntry, row_of, rows_of}
 use Rattle.df_rows.specs.Commands.{Map}
 use Rattle.df_rows.specs.Sorted.{KeysRise, key_at}
 use Rattle.df_rows.specs.Tables.{AreNew, IsNew, Table, with_row, with_rows}
-use Rattle.df_rows.specs.Blocks.{Takes, TakesAll, chunks_of}
+use Rattle.df_rows.specs.Blocks.{TableTakes, TakesAll, chunks_of}
 use Rattle.df_rows.specs.Laws.{BlocksAreTable, OneTable}
 use Rattle.df_rows.proofs.Entries.{length-row_of, row_split}
 use Rattle.df_rows.proofs.Found.{find_looks, look, look_none}
@@ -40,7 +40,7 @@ one_list (e ∷ es) (f ∷ fs) are other same =
 
 -- ---- bodies are one table
 
-pub one_body : (t : Table) (body : List ℕ) (es fs : List Entry) → Takes t body es → Takes t body fs → es ≡ fs
+pub one_body : (t : Table) (body : List ℕ) (es fs : List Entry) → TableTakes t body es → TableTakes t body fs → es ≡ fs
 one_body t body es fs one other = one_list es fs one.fit other.fit (sym one.whole ∙ other.whole)
 
 pub one_table : OneTable
@@ -196,7 +196,7 @@ blocks_are_table per t some fit few =
 -- ---- a body that is read row by row
 
 -- what is left of a body is another row and the rest
-pub taken_more : (t : Table) (e : Entry) (bytes rest : List ℕ) (more : List Entry) → IsEntry e → bytes ≡ row_of e → IsNew t e.0 → Takes (with_row e t) rest more → Takes t (bytes ++ rest) (e ∷ more)
+pub taken_more : (t : Table) (e : Entry) (bytes rest : List ℕ) (more : List Entry) → IsEntry e → bytes ≡ row_of e → IsNew t e.0 → TableTakes (with_row e t) rest more → TableTakes t (bytes ++ rest) (e ∷ more)
 taken_more t e bytes rest more is same fresh takes = record {
   whole = λ i. same i ++ takes.whole i;
   fit = All-cons IsEntry e more is takes.fit;
@@ -204,18 +204,18 @@ taken_more t e bytes rest more is same fresh takes = record {
 }
 
 -- no rows are left where none are
-pub taken_none : (t : Table) → Takes t [] []
+pub taken_none : (t : Table) → TableTakes t [] []
 taken_none t = record { whole = refl; fit = All-nil IsEntry; new = tt }
 
 -- where the first row can't be taken, or the rest can't, nothing can
-pub refused_first : (t : Table) (bytes rest : List ℕ) (es : List Entry) → length bytes ≡ 64 → ((e : Entry) → IsEntry e → bytes ≡ row_of e → IsNew t e.0 → ⊥) → Takes t (bytes ++ rest) es → ⊥
+pub refused_first : (t : Table) (bytes rest : List ℕ) (es : List Entry) → length bytes ≡ 64 → ((e : Entry) → IsEntry e → bytes ≡ row_of e → IsNew t e.0 → ⊥) → TableTakes t (bytes ++ rest) es → ⊥
 refused_first t bytes rest [] size refused takes = omega (arith, ap length takes.whole, length-append bytes rest)
 refused_first t bytes rest (e ∷ es) size refused takes =
     let is = All-head IsEntry e es takes.fit in
     let parts = Rattle.df_rows.proofs.Entries.same_front bytes (row_of e) rest (rows_of es) (size ∙ sym (length-row_of e is)) takes.whole in
     refused e is parts.0 takes.new.0
 
-pub refused_rest : (t : Table) (e : Entry) (bytes rest : List ℕ) (es : List Entry) → IsEntry e → bytes ≡ row_of e → ((more : List Entry) → Takes (with_row e t) rest more → ⊥) → Takes t (bytes ++ rest) es → ⊥
+pub refused_rest : (t : Table) (e : Entry) (bytes rest : List ℕ) (es : List Entry) → IsEntry e → bytes ≡ row_of e → ((more : List Entry) → TableTakes (with_row e t) rest more → ⊥) → TableTakes t (bytes ++ rest) es → ⊥
 refused_rest t e bytes rest [] is same refused takes = omega (arith, ap length takes.whole, length-append bytes rest, ap length same, length-row_of e is)
 refused_rest t e bytes rest (f ∷ es) is same refused takes =
     let first = All-head IsEntry f es takes.fit in
@@ -224,13 +224,13 @@ refused_rest t e bytes rest (f ∷ es) is same refused takes =
     refused es (record { whole = parts.1; fit = All-tail IsEntry f es takes.fit; new = subst (λ (x : Entry). AreNew es (with_row x t)) key takes.new.1 })
 
 -- a body of whole rows has a multiple of 64 bytes
-pub whole_rows : (t : Table) (body : List ℕ) (es : List Entry) → Takes t body es → length body ≡ 64 * length es
+pub whole_rows : (t : Table) (body : List ℕ) (es : List Entry) → TableTakes t body es → length body ≡ 64 * length es
 whole_rows t body es takes = ap length takes.whole ∙ length-rows_of es takes.fit
 
 -- what the rest of a body gives a table, the whole body gives the first one
 pub record Carries (first t : Table) (body rest : List ℕ) : Type 0 where
-  pub whole : (more : List Entry) → Takes t rest more → (entries : List Entry) × Takes first body entries × (with_rows more t ≡ with_rows entries first)
-  pub none : ((more : List Entry) → Takes t rest more → ⊥) → (entries : List Entry) → Takes first body entries → ⊥
+  pub whole : (more : List Entry) → TableTakes t rest more → (entries : List Entry) × TableTakes first body entries × (with_rows more t ≡ with_rows entries first)
+  pub none : ((more : List Entry) → TableTakes t rest more → ⊥) → (entries : List Entry) → TableTakes first body entries → ⊥
 
 pub carries_itself : (t : Table) (body : List ℕ) → Carries t t body body
 carries_itself t body = record { whole = λ more takes. (more, takes, refl); none = λ no. no }

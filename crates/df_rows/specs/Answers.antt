@@ -36,12 +36,12 @@ refusal_text (TableFull max) = line_of (numbered (codes "refused TableFull max")
 refusal_text NoKey = codes "refused NoKey\n"
 
 -- what was done, what was asked, or why the line is refused
-abbrev pub answer_text : Answer → List ℕ
-answer_text (answers.Put op) = line_of (numbered (codes "put") op)
-answer_text (answers.Dropped op) = line_of (numbered (codes "dropped") op)
-answer_text (answers.Found key value) = line_of (spaced (decimal key) (body_text value.now))
-answer_text (answers.Counted rows) = line_of (numbered (codes "count") rows)
-answer_text (answers.Refused refusal) = refusal_text refusal
+abbrev pub table_answer_text : Answer → List ℕ
+table_answer_text (answers.Put op) = line_of (numbered (codes "put") op)
+table_answer_text (answers.Dropped op) = line_of (numbered (codes "dropped") op)
+table_answer_text (answers.Found key value) = line_of (spaced (decimal key) (body_text value.now))
+table_answer_text (answers.Counted rows) = line_of (numbered (codes "count") rows)
+table_answer_text (answers.Refused refusal) = refusal_text refusal
 
 -- a file of another program: the place that shows it
 abbrev pub not_table_text : Place → List ℕ

@@ -15,7 +15,7 @@ abbrev pub bodies_of : (per : ℕ) → List Entry → List (List ℕ)
 bodies_of per entries = map rows_of (chunks_of per entries)
 
 -- the body is these rows, whole, and the table takes them
-pub record Takes (t : Table) (body : List ℕ) (entries : List Entry) : Type 0 where
+pub record TableTakes (t : Table) (body : List ℕ) (entries : List Entry) : Type 0 where
   pub whole : body ≡ rows_of entries
   pub fit : All IsEntry entries
   pub new : AreNew entries t
@@ -23,4 +23,4 @@ pub record Takes (t : Table) (body : List ℕ) (entries : List Entry) : Type 0 w
 -- the table after the bodies of blocks, each of which it takes
 abbrev pub TakesAll : Table → List (List ℕ) → Table → Type 0
 TakesAll t [] new = new ≡ t
-TakesAll t (body ∷ bodies) new = (entries : List Entry) × Takes t body entries × TakesAll (with_rows entries t) bodies new
+TakesAll t (body ∷ bodies) new = (entries : List Entry) × TableTakes t body entries × TakesAll (with_rows entries t) bodies new

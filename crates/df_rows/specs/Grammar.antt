@@ -13,24 +13,24 @@ pub data Said : Type 0 where
   Count : Said
 
 -- The words of a line, where this word stands for its value. A key is its decimal digits, with no zero before them.
-abbrev pub words_of : Said → List ℕ → List (List ℕ)
-words_of (Put key value) word = codes "put" ∷ decimal key ∷ word ∷ []
-words_of (Drop key) word = codes "drop" ∷ decimal key ∷ []
-words_of (Get key) word = codes "get" ∷ decimal key ∷ []
-words_of Count word = codes "count" ∷ []
+abbrev pub table_line_words : Said → List ℕ → List (List ℕ)
+table_line_words (Put key value) word = codes "put" ∷ decimal key ∷ word ∷ []
+table_line_words (Drop key) word = codes "drop" ∷ decimal key ∷ []
+table_line_words (Get key) word = codes "get" ∷ decimal key ∷ []
+table_line_words Count word = codes "count" ∷ []
 
 -- a key is below 2^128, and this word stands for the value
-abbrev pub Fits : Said → List ℕ → Type 0
-Fits (Put key value) word = (key < 2 ^ 128) × IsBody word value
-Fits (Drop key) word = key < 2 ^ 128
-Fits (Get key) word = key < 2 ^ 128
-Fits Count word = ⊤
+abbrev pub FitsTableLine : Said → List ℕ → Type 0
+FitsTableLine (Put key value) word = (key < 2 ^ 128) × IsBody word value
+FitsTableLine (Drop key) word = key < 2 ^ 128
+FitsTableLine (Get key) word = key < 2 ^ 128
+FitsTableLine Count word = ⊤
 
 -- The line says this. How long a value may be is no matter of the grammar: a longer one is refused.
-pub record Says (line : List ℕ) (said : Said) : Type 0 where
+pub record SaysTableLine (line : List ℕ) (said : Said) : Type 0 where
   pub word : List ℕ
-  pub is : line ≡ spaced (words_of said word)
-  pub fits : Fits said word
+  pub is : line ≡ spaced (table_line_words said word)
+  pub fits : FitsTableLine said word
 
 -- what was read of a line, with its value at the front of the buffer
 abbrev pub said_with : List ℕ → Line → Said
@@ -46,4 +46,4 @@ value_length line = 0
 
 -- all of this, for a reader
 abbrev pub table_lines : Grammar Line
-table_lines = record { Said = Said; says = Says; said_with = said_with; body_length = value_length }
+table_lines = record { Said = Said; says = SaysTableLine; said_with = said_with; body_length = value_length }

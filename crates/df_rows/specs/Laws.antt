@@ -6,9 +6,9 @@ use Rattle.df_rows.specs.declared.command.Command.{Command}
 use Rattle.df_rows.specs.Rows.{Entry, IsEntry, row_of}
 use Rattle.df_rows.specs.Commands.{IsCommand, Map, body_of, all_applied}
 use Rattle.df_rows.specs.Tables.{Table}
-use Rattle.df_rows.specs.Limits.{Fits, most_rows}
+use Rattle.df_rows.specs.Limits.{FitsLayout, most_rows}
 use Rattle.df_rows.specs.Blocks.{TakesAll, bodies_of}
-use Rattle.df_rows.specs.Grammar.{Said, Says}
+use Rattle.df_rows.specs.Grammar.{Said, SaysTableLine}
 
 -- 64 bytes are one row, and a body is one command
 abbrev pub OneRow : Type 0
@@ -18,8 +18,8 @@ abbrev pub OneCommand : Type 0
 OneCommand = (one other : Command) → IsCommand one → IsCommand other → body_of one ≡ body_of other → one ≡ other
 
 -- a line says one thing
-abbrev pub OneMeaning : Type 0
-OneMeaning = (line : List ℕ) (one other : Said) → Says line one → Says line other → one ≡ other
+abbrev pub OneTableLineMeaning : Type 0
+OneTableLineMeaning = (line : List ℕ) (one other : Said) → SaysTableLine line one → SaysTableLine line other → one ≡ other
 
 -- commands, and then others
 abbrev pub InTurn : Type 0
@@ -36,4 +36,4 @@ OneTable = (t one other : Table) (bodies : List (List ℕ)) → TakesAll t bodie
 
 -- a table of as many rows as a layout allows fits its blocks
 abbrev pub TablesFit : Type 0
-TablesFit = (layout : Layout) (rows : ℕ) → rows ≤ most_rows layout → Fits layout rows
+TablesFit = (layout : Layout) (rows : ℕ) → rows ≤ most_rows layout → FitsLayout layout rows

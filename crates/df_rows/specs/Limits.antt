@@ -21,7 +21,7 @@ abbrev pub block_count : (per rows : ℕ) → ℕ
 block_count per rows = div_ceil rows per
 
 -- a table takes so many blocks at most, each of which has its rows, and three tables leave four blocks
-pub record Fits (layout : Layout) (rows : ℕ) : Type 0 where
+pub record FitsLayout (layout : Layout) (rows : ℕ) : Type 0 where
   pub blocks : block_count (rows_in_block layout) rows ≤ blocks_of_table layout
   pub bodies : 64 * rows_in_block layout ≤ layout.block_size - 256
   pub three : 3 * blocks_of_table layout + 4 ≤ layout.blocks

@@ -21,11 +21,11 @@ line_in Count = lines.Count
 -- ---- what it does
 
 -- the command that a line asks for; a get and a count ask for none
-abbrev pub asks : Said → List Command
-asks (Put key value) = commands.Put (key, value) ∷ []
-asks (Drop key) = commands.Drop key ∷ []
-asks (Get key) = []
-asks Count = []
+abbrev pub asked_by_line : Said → List Command
+asked_by_line (Put key value) = commands.Put (key, value) ∷ []
+asked_by_line (Drop key) = commands.Drop key ∷ []
+asked_by_line (Get key) = []
+asked_by_line Count = []
 
 abbrev pub unless_refused : Option Refusal → List Command → List Command
 unless_refused (Some refusal) commands = []
@@ -33,19 +33,19 @@ unless_refused None commands = commands
 
 -- a refused line does nothing
 abbrev pub accepted : Table → Said → List Command
-accepted t said = unless_refused (refusal_of t (line_in said)) (asks said)
+accepted t said = unless_refused (refusal_of t (line_in said)) (asked_by_line said)
 
-abbrev pub behind : Table → Said → Table
-behind t said = with_commands (accepted t said) t
+abbrev pub table_after : Table → Said → Table
+table_after t said = with_commands (accepted t said) t
 
 -- the puts and drops of these lines that are accepted, in order, and the table after all of them
 abbrev pub all_accepted : Table → List Said → List Command
 all_accepted t [] = []
-all_accepted t (said ∷ more) = accepted t said ++ all_accepted (behind t said) more
+all_accepted t (said ∷ more) = accepted t said ++ all_accepted (table_after t said) more
 
 abbrev pub all_behind : Table → List Said → Table
 all_behind t [] = t
-all_behind t (said ∷ more) = all_behind (behind t said) more
+all_behind t (said ∷ more) = all_behind (table_after t said) more
 
 -- ---- what it is answered
 
@@ -64,10 +64,10 @@ abbrev pub refusal_or : Option Refusal → List ℕ → List ℕ
 refusal_or (Some refusal) text = refusal_text refusal
 refusal_or None text = text
 
-abbrev pub text_of : Table → (n : ℕ) → Said → List ℕ
-text_of t n said = refusal_or (refusal_of t (line_in said)) (done_text t n said)
+abbrev pub line_of_turn : Table → (n : ℕ) → Said → List ℕ
+line_of_turn t n said = refusal_or (refusal_of t (line_in said)) (done_text t n said)
 
 -- the text of a script over a table with n ops before it: that of a map
 abbrev pub map_text : Table → (n : ℕ) → List Said → List ℕ
 map_text t n [] = []
-map_text t n (said ∷ more) = text_of t n said ++ map_text (behind t said) (n + length (accepted t said)) more
+map_text t n (said ∷ more) = line_of_turn t n said ++ map_text (table_after t said) (n + length (accepted t said)) more

@@ -6,7 +6,7 @@ ghost use Rattle.std.specs.Fork.{slice_chunk};
 ghost use Rattle.df_rows.specs.Limits as limits;
 ghost use Rattle.df_rows.specs.Rows.{Entry, IsEntry, row_of, rows_of};
 ghost use Rattle.df_rows.specs.Tables.{IsNew, with_row, with_rows};
-ghost use Rattle.df_rows.specs.Blocks.{Takes};
+ghost use Rattle.df_rows.specs.Blocks.{TableTakes};
 
 use crate::bytes::ROW;
 use crate::limits::rows_in_block;
@@ -37,8 +37,8 @@ impl ObjectTable {
 
     /// The table with the rows that the body of a block has, or None where the body isn't whole rows, a key isn't new, or there is no room.
     pub fn with_block(mut self, body: &[u8]) -> Option<ObjectTable>
-        ensures taken { IfSome result (λ t. (entries : List Entry) × Takes self body.now entries × (t ≡ with_rows entries self)) }
-        ensures none { IfNone result ((entries : List Entry) → Takes self body.now entries → ⊥) }
+        ensures taken { IfSome result (λ t. (entries : List Entry) × TableTakes self body.now entries × (t ≡ with_rows entries self)) }
+        ensures none { IfNone result ((entries : List Entry) → TableTakes self body.now entries → ⊥) }
     {
         if !body.len().is_multiple_of(ROW) {
             return None;

@@ -1,5 +1,5 @@
 // What holds of rows, commands, lines and blocks, whatever the code does. None of these does anything when it is called.
-ghost use Rattle.df_rows.specs.Laws.{BlocksAreTable, InTurn, OneCommand, OneMeaning, OneRow, OneTable, TablesFit};
+ghost use Rattle.df_rows.specs.Laws.{BlocksAreTable, InTurn, OneCommand, OneRow, OneTable, OneTableLineMeaning, TablesFit};
 
 /// 64 bytes are one row at most.
 pub fn one_row()
@@ -13,7 +13,7 @@ pub fn one_command()
 
 /// A line says one thing at most.
 pub fn one_meaning()
-    ensures { OneMeaning }
+    ensures { OneTableLineMeaning }
 {}
 
 /// Commands that are applied in two parts are applied as one list.

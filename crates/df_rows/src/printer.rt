@@ -3,7 +3,7 @@ ghost use Rattle.std.specs.Prelude.{◌≡◌, ◌++◌, ◌∷◌, [], decimal}
 ghost use Rattle.df_base.specs.Causes.{HasCause};
 ghost use Rattle.df_script_model.specs.Texts.{body_text, line_of, spaced};
 ghost use Rattle.df_inspect.specs.Prints.{Prints};
-ghost use Rattle.df_rows.specs.Answers.{answer_text, not_table_text, refusal_text};
+ghost use Rattle.df_rows.specs.Answers.{not_table_text, refusal_text, table_answer_text};
 
 use crate::answer::Answer;
 use crate::refusal::Refusal;
@@ -16,7 +16,7 @@ use df_layout::Place;
 
 /// The line of an answer. It is written by one call of the sink, and a value by two more.
 pub fn print_answer<W: Sink>(sink: &mut W, answer: &Answer) -> Result<(), Failed>
-    ensures prints { Prints (answer_text answer.now) (W.written sink.old) (W.written sink.new) result }
+    ensures prints { Prints (table_answer_text answer.now) (W.written sink.old) (W.written sink.new) result }
     ensures cause { HasCause (W.faults sink.old) (W.faults sink.new) result }
 {
     match *answer {

@@ -15,7 +15,7 @@ use Rattle.df_model.specs.After.{outcome, with_live}
 use Rattle.df_model.specs.Commands.{ToWriteBlock, WriteBlock, as_answer}
 use Rattle.df_model.specs.Supply.{Shown, next, puts_of, unless}
 use Rattle.df_model.proofs.Laws.{entry_at, pass_all}
-use Rattle.df_script_model.specs.Sessions.{is_among, plain, with_blocks, with_units}
+use Rattle.df_script_model.specs.Sessions.{is_among, plain, with_live_blocks, with_units}
 
 -- ---- the first that is free
 
@@ -46,8 +46,8 @@ one_more k a = grind (arith, nat_tests)
 over : {X : Type 0} (k a : ℕ) (x y : X) → (if a == k + 1 then x else (if is_among k a then x else y)) ≡ (if is_among (k + 1) a then x else y)
 over k a x y = either (a == k + 1) (is_among k a) x y ∙ ap (λ (b : Bool). if b then x else y) (one_more k a)
 
-pub live_over : (sh : Shape) (k : ℕ) → with_live (with_blocks sh k) (k + 1) (Some 3000) ≡ with_blocks sh (k + 1)
-live_over sh k = λ i. record (with_blocks sh k) { live = λ a. over k a (Some 3000) None i }
+pub live_over : (sh : Shape) (k : ℕ) → with_live (with_live_blocks sh k) (k + 1) (Some 3000) ≡ with_live_blocks sh (k + 1)
+live_over sh k = λ i. record (with_live_blocks sh k) { live = λ a. over k a (Some 3000) None i }
 
 units_at : (k : ℕ) (place : Place) → overlay (put_one (BlockPlace (k + 1)) (BlockUnit (block_of 1 3000 1 []))) (with_units k) place ≡ with_units (k + 1) place
 units_at k (CopyPlace n) = refl
@@ -72,7 +72,7 @@ units_over k = λ i place. units_at k place i
 
 module _ (sh : Shape) (k : ℕ) (room : k < sh.layout.blocks) where
   abbrev w : Work
-  w = with_blocks sh k
+  w = with_live_blocks sh k
 
   -- of these addresses no checkpoint holds any
   held_is : (a : ℕ) → 1 ≤ a → a < 1 + sh.layout.blocks → is_held_in (blocks_in sh w) a ≡ is_among k a
@@ -107,7 +107,7 @@ module _ (sh : Shape) (k : ℕ) (room : k < sh.layout.blocks) where
       some n = grind (arith, nat_tests)
 
   -- it is answered with the next address, which is live then
-  pub line_is : (shown : Shown) → next sh (plain sh) shown w (WriteBlock 1 []) ≡ (with_blocks sh (k + 1), ToWriteBlock (Ok (k + 1, 3000)))
+  pub line_is : (shown : Shown) → next sh (plain sh) shown w (WriteBlock 1 []) ≡ (with_live_blocks sh (k + 1), ToWriteBlock (Ok (k + 1, 3000)))
   line_is shown = (λ i. as_answer ToWriteBlock (outcome (none i) w (with_live w (address_is i) (Some 3000)) (address_is i, 3000))) ∙ ap (λ (u : Work). (u, ToWriteBlock (Ok (k + 1, 3000)))) (live_over sh k)
 
   -- and shows the block there

@@ -5,13 +5,13 @@ use Rattle.df_model.specs.Work.{Work}
 use Rattle.df_model.specs.Memory.{memory_of}
 use Rattle.df_model.specs.Commands.{Answer, Command, ReadBlock, Release, Reply, ToAdvance, ToAppend, ToBegin, ToFlush, ToReadBlock, ToReadPrepare, ToReadReply, ToRecent, ToRelease, ToReply, ToScrub, ToStage, ToWriteBlock}
 use Rattle.df_model.specs.Supply.{Codec, Shown, next, result, shown_after}
-use Rattle.df_script_model.specs.Texts.{append_refusal, begin_refusal, block_refusal, block_text, flush_refusal, line_of, lookup_refusal, message_text, numbered, prepare_refusal, progress_text, read_refusal, recent_text, reply_refusal, scrubbed_text, step_refusal, text_or}
+use Rattle.df_script_model.specs.Texts.{append_refusal, begin_refusal_line, block_refusal, block_text, flush_refusal, line_of, lookup_refusal, message_text, numbered, prepare_refusal, progress_text, read_refusal, recent_text, reply_refusal, scrubbed_text, step_refusal, text_or}
 
 -- the number that a line names: a line `release ADDRESS` or `read ADDRESS` is answered with its address
-abbrev pub address_in : Command → ℕ
-address_in (Release address) = address
-address_in (ReadBlock address) = address
-address_in command = 0
+abbrev pub address_named : Command → ℕ
+address_named (Release address) = address
+address_named (ReadBlock address) = address
+address_named command = 0
 
 -- the number of the op in a line `reply OP BODY`
 abbrev pub op_in : Command → ℕ
@@ -25,12 +25,12 @@ answer_text c (ToStage answer) = text_or append_refusal (λ op. line_of (numbere
 answer_text c (ToFlush answer) = text_or flush_refusal (λ count. line_of (numbered (codes "flushed") count)) answer
 answer_text c (ToReply answer) = text_or reply_refusal (λ sum. line_of (numbered (codes "replied") (op_in c))) answer
 answer_text c (ToWriteBlock answer) = text_or block_refusal (λ done. line_of (numbered (codes "wrote") done.0)) answer
-answer_text c (ToRelease answer) = text_or (λ e. codes "refused NotLive\n") (λ done. line_of (numbered (codes "released") (address_in c))) answer
-answer_text c (ToBegin answer) = text_or begin_refusal (λ blocks. line_of (numbered (codes "begun") blocks)) answer
+answer_text c (ToRelease answer) = text_or (λ e. codes "refused NotLive\n") (λ done. line_of (numbered (codes "released") (address_named c))) answer
+answer_text c (ToBegin answer) = text_or begin_refusal_line (λ blocks. line_of (numbered (codes "begun") blocks)) answer
 answer_text c (ToAdvance answer) = text_or step_refusal progress_text answer
 answer_text c (ToReadPrepare answer) = text_or prepare_refusal (message_text (codes "prepare")) answer
 answer_text c (ToReadReply answer) = text_or lookup_refusal (message_text (codes "reply")) answer
-answer_text c (ToReadBlock answer) = text_or read_refusal (block_text (address_in c)) answer
+answer_text c (ToReadBlock answer) = text_or read_refusal (block_text (address_named c)) answer
 answer_text c (ToScrub answer) = scrubbed_text answer
 answer_text c (ToRecent findings) = recent_text findings
 

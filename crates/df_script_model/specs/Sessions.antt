@@ -147,9 +147,9 @@ BlockSession =
     ∷ codes "wrote 1\n" ∷ codes "block 4 kind 1 body bb\n" ∷ codes "refused KindZero\n" ∷ []
 
 -- the same block n times
-abbrev pub blocks_of : List ℕ → ℕ → List Command
-blocks_of body zero = []
-blocks_of body (suc n) = WriteBlock 1 body ∷ blocks_of body n
+abbrev pub equal_blocks : List ℕ → ℕ → List Command
+equal_blocks body zero = []
+equal_blocks body (suc n) = WriteBlock 1 body ∷ equal_blocks body n
 
 -- the lines `wrote K` for n numbers, from this one on
 abbrev pub wrote_from : ℕ → ℕ → List (List ℕ)
@@ -160,7 +160,7 @@ wrote_from k (suc n) = (codes "wrote " ++ (decimal k ++ 10 ∷ [])) ∷ wrote_fr
 abbrev pub FullGrid : Type 0
 FullGrid =
     (named : 0 < 7) (some : 0 < 32)
-    → session (small named some) (blocks_of [] 64 ++ (WriteBlock 1 [] ∷ Begin [] ∷ [])) ≡ wrote_from 1 64 ++ (codes "refused GridFull blocks 64\n" ∷ codes "refused GridFull needed 1 free 0\n" ∷ [])
+    → session (small named some) (equal_blocks [] 64 ++ (WriteBlock 1 [] ∷ Begin [] ∷ [])) ≡ wrote_from 1 64 ++ (codes "refused GridFull blocks 64\n" ∷ codes "refused GridFull needed 1 free 0\n" ∷ [])
 
 -- ---- a grid that fills
 
@@ -169,8 +169,8 @@ abbrev pub is_among : (n a : ℕ) → Bool
 is_among n a = nat_lt 0 a && nat_le a n
 
 -- the state in which the first n addresses are live, each with a block that has no body
-abbrev pub with_blocks : Shape → ℕ → Work
-with_blocks sh n = record (first_work sh) { live = λ a. if is_among n a then Some 3000 else None }
+abbrev pub with_live_blocks : Shape → ℕ → Work
+with_live_blocks sh n = record (first_work sh) { live = λ a. if is_among n a then Some 3000 else None }
 
 -- and what is shown there
 abbrev pub with_units : ℕ → Units
@@ -178,30 +178,30 @@ with_units n (BlockPlace a) = if is_among n a then Some (BlockUnit (block_of 1 3
 with_units n place = None
 
 -- n lines that write a block, on a file that was just made: each is answered with the least address that isn't held, which is the next number, and they lead to the state with n live blocks
-pub record Fills (sh : Shape) (n : ℕ) : Type 0 where
-  pub prints : session sh (blocks_of [] n) ≡ wrote_from 1 n
-  pub leads : last_work sh (plain sh) blank (first_work sh) (blocks_of [] n) ≡ with_blocks sh n
-  pub shows : (last_shown sh (plain sh) blank (first_work sh) (blocks_of [] n)).units ≡ with_units n
+pub record FillsGrid (sh : Shape) (n : ℕ) : Type 0 where
+  pub prints : session sh (equal_blocks [] n) ≡ wrote_from 1 n
+  pub leads : last_work sh (plain sh) blank (first_work sh) (equal_blocks [] n) ≡ with_live_blocks sh n
+  pub shows : (last_shown sh (plain sh) blank (first_work sh) (equal_blocks [] n)).units ≡ with_units n
 
 -- in every layout, up to its last block
 abbrev pub FillLaw : Type 0
-FillLaw = (sh : Shape) (n : ℕ) → n ≤ sh.layout.blocks → Fills sh n
+FillLaw = (sh : Shape) (n : ℕ) → n ≤ sh.layout.blocks → FillsGrid sh n
 
 -- a trailer of one block for 231 references, and of two for 232
 abbrev pub LongTrailer : Type 0
 LongTrailer =
     (named : 0 < 7) (some : 0 < 16)
     → let sh = file 16 4096 1 4096 1024 named some in
-    (session sh (blocks_of [] 231 ++ (Begin [] ∷ [])) ≡ wrote_from 1 231 ++ (codes "begun 1\n" ∷ []))
-    × (session sh (blocks_of [] 232 ++ (Begin [] ∷ Advance ∷ Advance ∷ Advance ∷ [])) ≡ wrote_from 1 232 ++ (codes "begun 2\n" ∷ codes "working 2\n" ∷ codes "working 1\n" ∷ codes "done 2\n" ∷ []))
+    (session sh (equal_blocks [] 231 ++ (Begin [] ∷ [])) ≡ wrote_from 1 231 ++ (codes "begun 1\n" ∷ []))
+    × (session sh (equal_blocks [] 232 ++ (Begin [] ∷ Advance ∷ Advance ∷ Advance ∷ [])) ≡ wrote_from 1 232 ++ (codes "begun 2\n" ∷ codes "working 2\n" ∷ codes "working 1\n" ∷ codes "done 2\n" ∷ []))
 
--- five blocks, of which the second and the fourth are overwritten at rest, and a block that nothing references
+-- five blocks, of which the second and the fourth are overwritten between two runs, and a block that nothing references
 abbrev pub hurt : Units → Units
 hurt image (BlockPlace a) = if (a == 2) || ((a == 4) || (a == 7)) then None else image (BlockPlace a)
 hurt image place = image place
 
 abbrev pub five_blocks : List Command
-five_blocks = blocks_of (0 ∷ []) 5 ++ (Begin [] ∷ Advance ∷ Advance ∷ [])
+five_blocks = equal_blocks (0 ∷ []) 5 ++ (Begin [] ∷ Advance ∷ Advance ∷ [])
 
 abbrev pub ScrubSession : Type 0
 ScrubSession =

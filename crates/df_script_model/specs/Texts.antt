@@ -101,11 +101,11 @@ block_refusal (block.BodyTooLong max) = line_of (numbered (codes "refused BodyTo
 block_refusal (block.GridFull blocks) = line_of (numbered (codes "refused GridFull blocks") blocks)
 block_refusal block.DiskFault = []
 
-abbrev pub begin_refusal : BeginError → List ℕ
-begin_refusal (begin.Running left) = line_of (numbered (codes "refused Running left") left)
-begin_refusal (begin.RootTooLong max) = line_of (numbered (codes "refused RootTooLong max") max)
-begin_refusal (begin.GridFull needed free) = line_of (spaced (numbered (codes "refused GridFull needed") needed) (numbered (codes "free") free))
-begin_refusal begin.SequenceSpent = codes "refused SequenceSpent\n"
+abbrev pub begin_refusal_line : BeginError → List ℕ
+begin_refusal_line (begin.Running left) = line_of (numbered (codes "refused Running left") left)
+begin_refusal_line (begin.RootTooLong max) = line_of (numbered (codes "refused RootTooLong max") max)
+begin_refusal_line (begin.GridFull needed free) = line_of (spaced (numbered (codes "refused GridFull needed") needed) (numbered (codes "free") free))
+begin_refusal_line begin.SequenceSpent = codes "refused SequenceSpent\n"
 
 abbrev pub step_refusal : StepError → List ℕ
 step_refusal step.NotRunning = codes "refused NotRunning\n"

@@ -51,7 +51,7 @@ pub fn a_long_trailer()
     ensures { LongTrailer }
 {}
 
-/// A tour over a file that was damaged at rest lists what fails.
+/// A tour over a file that was damaged between two runs lists what fails.
 pub fn a_damaged_file_is_scrubbed()
     ensures { ScrubSession }
 {}

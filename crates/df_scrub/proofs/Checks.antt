@@ -21,7 +21,7 @@ use Rattle.df_model.specs.declared.answers.Verdict.TheVariants.{Sound, Failing}
 use Rattle.df_grid.specs.Grid.{GridState, HasAddress, referenced_of}
 use Rattle.df_grid.specs.Reads.{Tests, class_in, shown_of}
 use Rattle.df_grid.specs.Table.{pair_in}
-use Rattle.df_scrub.specs.Scrubber.{IsStep, IsVerdict, ScrubState, after_step, judged, left_in, verdict_in, with_check}
+use Rattle.df_scrub.specs.Scrubber.{IsStep, IsVerdict, ScrubState, after_scrub_step, judged, left_in, verdict_in, with_check}
 use Rattle.df_scrub.specs.Machine.{IsMachines, IsOver, with_scrub}
 use Rattle.df_model.proofs.Laws.{Rise, entries_rise, is_next}
 
@@ -64,7 +64,7 @@ checks g s told r wrong is tests =
     let found = headed (left_in g s) r is in
     record {
       verdict = subst (λ (xs : List (ℕ × ℕ)). IsVerdict g told xs (judged wrong)) (sym found.1) (tested g told r.address (number_of r.checksum) found.0 wrong tests);
-      goes = ap (λ (xs : List (ℕ × ℕ)). after_step s (judged wrong) xs) found.1;
+      goes = ap (λ (xs : List (ℕ × ℕ)). after_scrub_step s (judged wrong) xs) found.1;
     }
 
 -- so is the noted one
@@ -82,11 +82,11 @@ to_check_is g s m over =
     ∙ ap (λ (b : Blocks). filter (λ x. nat_lt s.tour.last x.0) (referenced_in (layout_of g.layout) b)) over.blocks
 
 -- a machine's answer is that of its tour, and its memory that of its tour and its findings
-answers_alike : (w : Work) (s : ScrubState) (v : Verdict) (xs : List (ℕ × ℕ)) → w.tour ≡ s.tour → (after_check w v xs).1 ≡ (after_step s v xs).1
+answers_alike : (w : Work) (s : ScrubState) (v : Verdict) (xs : List (ℕ × ℕ)) → w.tour ≡ s.tour → (after_check w v xs).1 ≡ (after_scrub_step s v xs).1
 answers_alike w s v [] same = ap (λ (t : Tour). TourEnd t.checked t.failing) same
 answers_alike w s v (x ∷ more) same = refl
 
-changes_alike : (g : GridState) (s : ScrubState) (m : Memory) (v : Verdict) (xs : List (ℕ × ℕ)) → IsOver g s m → checked_in m v xs ≡ with_scrub m (after_step s v xs).0
+changes_alike : (g : GridState) (s : ScrubState) (m : Memory) (v : Verdict) (xs : List (ℕ × ℕ)) → IsOver g s m → checked_in m v xs ≡ with_scrub m (after_scrub_step s v xs).0
 changes_alike g s m v [] over = ap (λ (fs : List Finding). record m { tour = first_tour; findings = fs }) over.findings
 changes_alike g s m Sound (x ∷ more) over =
     ap (λ (t : Tour). record m { tour = record { last = x.0; checked = t.checked + 1; failing = t.failing } }) over.tour
@@ -101,6 +101,6 @@ machines g before after told answer step m over =
     let xs = to_check_is g before m over in
     record {
       verdict = subst (λ (ys : List (ℕ × ℕ)). IsVerdict g told ys v) (sym xs) step.verdict;
-      answers = λ w same. answers_alike w before v (to_check m) (same ∙ over.tour) ∙ ap (λ (ys : List (ℕ × ℕ)). (after_step before v ys).1) xs ∙ ap (λ (p : ScrubState × Scrubbed). p.1) step.goes;
-      memory = changes_alike g before m v (to_check m) over ∙ ap (λ (ys : List (ℕ × ℕ)). with_scrub m (after_step before v ys).0) xs ∙ ap (λ (p : ScrubState × Scrubbed). with_scrub m p.0) step.goes;
+      answers = λ w same. answers_alike w before v (to_check m) (same ∙ over.tour) ∙ ap (λ (ys : List (ℕ × ℕ)). (after_scrub_step before v ys).1) xs ∙ ap (λ (p : ScrubState × Scrubbed). p.1) step.goes;
+      memory = changes_alike g before m v (to_check m) over ∙ ap (λ (ys : List (ℕ × ℕ)). with_scrub m (after_scrub_step before v ys).0) xs ∙ ap (λ (p : ScrubState × Scrubbed). with_scrub m p.0) step.goes;
     }

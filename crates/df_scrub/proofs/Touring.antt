@@ -12,7 +12,7 @@ use Rattle.df_model.specs.declared.answers.Verdict.{Verdict}
 use Rattle.df_model.specs.declared.answers.Verdict.TheVariants.{Sound, Failing}
 use Rattle.df_model.proofs.Laws.{above, all_above, is_next, newest_keeps, newest_short, rising_few, put_first}
 use Rattle.df_grid.specs.Grid.{GridState, referenced_of}
-use Rattle.df_scrub.specs.Scrubber.{IsStep, IsVerdict, ScrubState, after_step, left_in, with_check}
+use Rattle.df_scrub.specs.Scrubber.{IsStep, IsVerdict, ScrubState, after_scrub_step, left_in, with_check}
 use Rattle.df_scrub.specs.Tours.{ListsSoFar, failing_among}
 use Rattle.df_scrub.proofs.Checks.{referenced_rise}
 
@@ -76,7 +76,7 @@ pub record IsChecked (g : GridState) (told : Option Told) (s t : ScrubState) (x 
   pub rest : left_in g t ≡ more
   pub verdict : IsVerdict g told (x ∷ more) v
 
-was_checked : (g : GridState) (told : Option Told) (s t : ScrubState) (a : ℕ) (v : Verdict) (xs : List (ℕ × ℕ)) → left_in g s ≡ xs → IsVerdict g told xs v → after_step s v xs ≡ (t, Checked a v)
+was_checked : (g : GridState) (told : Option Told) (s t : ScrubState) (a : ℕ) (v : Verdict) (xs : List (ℕ × ℕ)) → left_in g s ≡ xs → IsVerdict g told xs v → after_scrub_step s v xs ≡ (t, Checked a v)
     → (x : ℕ × ℕ) × (more : List (ℕ × ℕ)) × (a ≡ x.0) × IsChecked g told s t x more v
 was_checked g told s t a v [] left verdict goes = absurd (let answer : TourEnd s.tour.checked s.tour.failing ≡ Checked a v = ap (λ (p : ScrubState × Scrubbed). p.1) goes in cc)
 was_checked g told s t a v (x ∷ more) left verdict goes =

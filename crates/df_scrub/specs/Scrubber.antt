@@ -62,11 +62,11 @@ with_check s a (Failing class) = record {
 }
 
 -- the first block that is left is checked; where none is, the tour ends and the next one begins
-abbrev pub after_step : ScrubState → Verdict → List (ℕ × ℕ) → ScrubState × Scrubbed
-after_step s verdict [] = (record s { tour = first_tour }, TourEnd s.tour.checked s.tour.failing)
-after_step s verdict (x ∷ more) = (with_check s x.0 verdict, Checked x.0 verdict)
+abbrev pub after_scrub_step : ScrubState → Verdict → List (ℕ × ℕ) → ScrubState × Scrubbed
+after_scrub_step s verdict [] = (record s { tour = first_tour }, TourEnd s.tour.checked s.tour.failing)
+after_scrub_step s verdict (x ∷ more) = (with_check s x.0 verdict, Checked x.0 verdict)
 
 -- a step: what it finds, what it leaves and what it answers
 pub record IsStep (g : GridState) (before after : ScrubState) (told : Option Told) (answer : Scrubbed) : Type 0 where
   pub verdict : IsVerdict g told (left_in g before) (verdict_in answer)
-  pub goes : after_step before (verdict_in answer) (left_in g before) ≡ (after, answer)
+  pub goes : after_scrub_step before (verdict_in answer) (left_in g before) ≡ (after, answer)

@@ -11,7 +11,7 @@ use Rattle.df_model.specs.Work.{Work}
 use Rattle.df_result.specs.Below.{DataFile, State as Replica}
 use Rattle.df_result.specs.Serving.{Grade, Keeps, next}
 use Rattle.df_result.specs.Session.{Act, EachIsMidway, Exchange, IsMidway, acts_in, work_after}
-use Rattle.df_session.specs.Links.{AreCalls, Calls, CallsMade, EndsCalls, More, NoCalls, events_of, events_to, list_of}
+use Rattle.df_session.specs.Links.{AreCalls, Calls, CallsMade, EndsCalls, More, NoCalls, call_events, events_to, list_of}
 use Rattle.df_session.specs.Acknowledging.{HadAnswers, HadReturned, IsUntil, KeepsAnswered}
 use Rattle.df_result.proofs.Laws.{fault_stops_them}
 use Rattle.df_session.proofs.Kept.{all_served}
@@ -26,11 +26,11 @@ module _ (file : DataFile) (g : Grade) where
     pub live : replica.live ≡ true
     pub keeps : Keeps g replica (work_after file w (acts_in (take k xs))) (Some told)
     pub calls : AreCalls replica old (drop k xs) t new
-    pub ends : last ≡ after_all (events_of calls) (Some told)
+    pub ends : last ≡ after_all (call_events calls) (Some told)
     pub since : Extends log told.log
 
   behind : (k : ℕ) (w : Work) (s : Replica) (old base : Option Told) (xs : List Exchange) (t : Replica) (new : Option Told) (log : Log) → s.file ≡ file → s.live ≡ true → Keeps g s w base → (calls : AreCalls s old xs t new)
-      → HadReturned k base log calls → Behind k w xs t new (after_all (events_of calls) base) log
+      → HadReturned k base log calls → Behind k w xs t new (after_all (call_events calls) base) log
   behind zero w s old None xs t new log same live keeps calls since = absurd since
   behind zero w s old (Some told) xs t new log same live keeps calls since =
       record { replica = s; old = old; told = told; same = same; live = live; keeps = keeps; calls = calls; ends = refl; since = since }
@@ -39,7 +39,7 @@ module _ (file : DataFile) (g : Grade) where
       let es = call.call.events in
       let then = subst (λ (f : DataFile). Keeps g u (next f w x.act.given x.act.command).0 (after_all es base)) same (call.call.keeps g w base keeps).1.1 in
       let later = behind k (next file w x.act.given x.act.command).0 u mid (after_all es base) xs t new log (call.call.file ∙ same) call.call.live then rest since in
-      let ends = after_append es (events_of rest) base ∙ later.ends in
+      let ends = after_append es (call_events rest) base ∙ later.ends in
       record { replica = later.replica; old = later.old; told = later.told; same = later.same; live = later.live; keeps = later.keeps; calls = later.calls; ends = ends; since = later.since }
 
   -- a moment of some calls
@@ -49,7 +49,7 @@ module _ (file : DataFile) (g : Grade) where
 
   module _ (k : ℕ) (w : Work) (xs : List Exchange) (t : Replica) (new last : Option Told) (log : Log) (b : Behind k w xs t new last log) where
     abbrev events : List Event
-    events = events_of b.calls
+    events = call_events b.calls
 
     -- where each of them was answered
     midway_answered : IsUntil last log → IsMidway file g (work_after file w (acts_in (take k xs))) (acts_in (drop k xs) ++ []) log
@@ -69,9 +69,9 @@ module _ (file : DataFile) (g : Grade) where
   midway : (w : Work) (s t : Replica) (old new base : Option Told) (xs : List Exchange) (failed : Option Act) → s.file ≡ file → s.live ≡ true → Keeps g s w base → (calls : EndsCalls s t old new xs failed) → (k : ℕ) (log : Log)
       → HadAnswers k base log s t old new xs failed calls → IsUntil (after_all (events_to s t old new xs failed calls) base) log → IsMidway file g (work_after file w (acts_in (take k xs))) (acts_in (drop k xs) ++ list_of failed) log
   midway w s t old new base xs None same live keeps calls k log had until =
-      midway_answered k w xs t new (after_all (events_of calls) base) log (behind k w s old base xs t new log same live keeps calls had) until
+      midway_answered k w xs t new (after_all (call_events calls) base) log (behind k w s old base xs t new log same live keeps calls had) until
   midway w s t old new base xs (Some a) same live keeps calls k log had until =
-      let es = events_of calls.2 in
+      let es = call_events calls.2 in
       midway_failed k w xs calls.0 calls.1 (after_all es base) log (behind k w s old base xs calls.0 calls.1 log same live keeps calls.2 had) a t new calls.3
       (subst (λ (o : Option Told). IsUntil o log) (after_append es calls.3.call.events base) until)
 

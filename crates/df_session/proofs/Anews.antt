@@ -1,4 +1,4 @@
--- What calls keep by the log that is begun anew at the end of their open, whatever was done to the disk before.
+-- What calls keep by the log that is restarted at the end of their open, whatever was done to the disk before.
 use Rattle.std.proofs.Common.{◌≡◌, ℕ, true, List, [], Option, Some, refl, subst}
 use Rattle.df_base.specs.Image.{Image, IsImage}
 use Rattle.df_base.specs.Log.{Sync}

@@ -41,7 +41,7 @@ use Rattle.df_result.specs.Stepping.{IsStep, OfRunning, Tells, block_events as p
 use Rattle.df_units.specs.Meaning.{number_of}
 use Rattle.df_model.specs.Faults.{is_append_fault, is_block_fault, is_flush_fault, is_reply_fault, is_step_fault}
 use Rattle.df_session.specs.Calls.{IsExact, LendsNothing, blames, is_fault, machine_answer}
-use Rattle.df_session.specs.Endings.{IsDamaged}
+use Rattle.df_session.specs.Endings.{IsDamagedStep}
 use Rattle.df_session.specs.Links.{Makes}
 use Rattle.df_session.specs.Own.{AddsOwn, running_events}
 use Rattle.df_session.proofs.Joins.{adds_none, made}
@@ -272,7 +272,7 @@ module _ (s t : Replica) (old new : Option Told) (answer : Answer) where
   exact_lends command is = subst LendsNothing (sym is.1) tt
 
   -- a step alone finds the superblock damaged, and only where the disk tells nothing
-  pub exact_damaged : (command : Command) → IsExact command s t old new answer → (place : Place) (class : Class) → answer ≡ answers.Advance (Err (step.Damaged place class)) → IsDamaged command new place class
+  pub exact_damaged : (command : Command) → IsExact command s t old new answer → (place : Place) (class : Class) → answer ≡ answers.Advance (Err (step.Damaged place class)) → IsDamagedStep command new place class
   exact_damaged Advance is place class damaged =
       let answered : is.0 ≡ Err (step.Damaged place class) = cc (is.1, damaged) in
       let stopped = subst (λ (r : Result Progress StepError). IsStep s t old new r) answered is.2 in

@@ -12,7 +12,7 @@ use Rattle.df_model.specs.Faults.{is_append_fault, is_block_fault, is_flush_faul
 use Rattle.df_result.specs.Below.{State as Replica}
 use Rattle.df_units.specs.Meaning.{number_of}
 use Rattle.df_session.specs.Calls.{IsExact, LendsNothing, is_fault, machine_answer}
-use Rattle.df_session.specs.Endings.{MakesTo, heard, is_disk, unless_damaged}
+use Rattle.df_session.specs.Endings.{MakesTo, heard, is_disk_fault, unless_damaged}
 use Rattle.df_session.specs.Links.{Makes}
 use Rattle.df_session.specs.declared.hearing.Fault.{Fault}
 use Rattle.df_session.specs.declared.hearing.Fault.TheVariants.{Disk, Damaged}
@@ -62,7 +62,7 @@ in_words answers.Recent lends = absurd lends
 
 module _ (before now : ℕ) where
   -- no count rose where the disk didn't fail
-  still : (a : Answer) → now ≡ before → IsBlamed is_disk before now (unless_damaged a)
+  still : (a : Answer) → now ≡ before → IsBlamed is_disk_fault before now (unless_damaged a)
   still (answers.Append r) same = same
   still (answers.Stage r) same = same
   still (answers.Flush r) same = same
@@ -80,7 +80,7 @@ module _ (before now : ℕ) where
   still (answers.Scrub scrubbed) same = same
   still answers.Recent same = same
 
-  blamed_as : (a : Answer) (fault : Bool) → Blamed fault before now → IsBlamed {T = Answer} is_disk before now (if fault then Err Disk else unless_damaged a)
+  blamed_as : (a : Answer) (fault : Bool) → Blamed fault before now → IsBlamed {T = Answer} is_disk_fault before now (if fault then Err Disk else unless_damaged a)
   blamed_as a true blamed = blamed
   blamed_as a false same = still a same
 
@@ -89,7 +89,7 @@ module _ (before now : ℕ) where
 pub record Made (command : Command) (s t : Replica) (old new : Option Told) (before now : ℕ) (r : Result Answer Fault) : Type 0 where
   pub makes : MakesTo command s t old new r
   pub live : OnOk r (t.live ≡ true)
-  pub disk : IsBlamed is_disk before now r
+  pub disk : IsBlamed is_disk_fault before now r
 
 module _ (command : Command) (s t : Replica) (old new : Option Told) where
   makes_to : (a : Answer) → IsExact command s t old new a → Makes command s t old new (machine_answer a) → (r : Result Answer Fault) → InWords a r → MakesTo command s t old new r

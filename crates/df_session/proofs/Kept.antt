@@ -25,7 +25,7 @@ use Rattle.df_result.specs.Serving.{Firm, Grade, IsGoodFor, IsKept, Keeps, KeptF
 use Rattle.df_result.specs.Session.{Act, EachIsMidway, Exchange, HasView, HoldsSome, IsMidway, IsServed, LeavesEither, LeavesView, acts_in, answers_in, answers_of, work_after}
 use Rattle.df_result.proofs.Laws.{added_is_told, answered_is_there, fault_stops_them, good_left, good_safe, holds_on, joined, keeps_alone, nothing_is_served, one_more_is_served}
 use Rattle.df_session.specs.Keeping.{KeepsFile}
-use Rattle.df_session.specs.Links.{AreCalls, Calls, EndsCalls, More, NoCalls, events_of, events_to}
+use Rattle.df_session.specs.Links.{AreCalls, Calls, EndsCalls, More, NoCalls, call_events, events_to}
 use Rattle.df_session.proofs.Untouched.{settled_told, stay_settled}
 
 -- ---- what is told
@@ -42,16 +42,16 @@ ends_told s t old new xs None calls = calls_told s t old new xs calls
 ends_told s t old new xs (Some a) calls = told_on old calls.1 new (calls_told s calls.0 old calls.1 xs calls.2) (calls.3.call.events, calls.3.call.told)
 
 -- all that was told is what the calls added
-calls_add : (s t : Replica) (old new : Option Told) (xs : List Exchange) → (calls : AreCalls s old xs t new) → new ≡ after_all (events_of calls) old
+calls_add : (s t : Replica) (old new : Option Told) (xs : List Exchange) → (calls : AreCalls s old xs t new) → new ≡ after_all (call_events calls) old
 calls_add s t old new [] NoCalls = refl
 calls_add s t old new (x ∷ xs) (More u mid call later) =
-    let rest = events_of later in
+    let rest = call_events later in
     calls_add u t mid new xs later ∙ ap (after_all rest) call.call.told ∙ sym (after_append call.call.events rest old)
 
 pub ends_add : (s t : Replica) (old new : Option Told) (xs : List Exchange) (failed : Option Act) → (calls : EndsCalls s t old new xs failed) → new ≡ after_all (events_to s t old new xs failed calls) old
 ends_add s t old new xs None calls = calls_add s t old new xs calls
 ends_add s t old new xs (Some a) calls =
-    let front = events_of calls.2 in
+    let front = call_events calls.2 in
     calls.3.call.told ∙ ap (after_all calls.3.call.events) (calls_add s calls.0 old calls.1 xs calls.2) ∙ sym (after_append front calls.3.call.events old)
 
 -- what a base tells after events goes on from it
@@ -63,16 +63,16 @@ goes_over (e ∷ es) t =
 
 -- ---- what was served
 
-serves_on : (s0 s t : Replica) (told0 told new : Option Told) (xs ys : List Exchange) (events : List Event) → IsServed s0 s told0 told xs events → (calls : AreCalls s told ys t new) → IsServed s0 t told0 new (xs ++ ys) (events ++ events_of calls)
+serves_on : (s0 s t : Replica) (told0 told new : Option Told) (xs ys : List Exchange) (events : List Event) → IsServed s0 s told0 told xs events → (calls : AreCalls s told ys t new) → IsServed s0 t told0 new (xs ++ ys) (events ++ call_events calls)
 serves_on s0 s t told0 told new xs [] events served NoCalls =
     subst (λ (l : List Exchange). IsServed s0 t told0 new l (events ++ [])) (sym (append-nil xs)) (subst (λ (l : List Event). IsServed s0 t told0 new xs l) (sym (append-nil events)) served)
 serves_on s0 s t told0 told new xs (y ∷ ys) events served (More u mid call rest) =
     let fs = call.call.events in
-    subst (λ (l : List Exchange). IsServed s0 t told0 new l (events ++ (fs ++ events_of rest))) (append_assoc xs (y ∷ []) ys)
-    (subst (λ (l : List Event). IsServed s0 t told0 new ((xs ++ y ∷ []) ++ ys) l) (append_assoc events fs (events_of rest))
+    subst (λ (l : List Exchange). IsServed s0 t told0 new l (events ++ (fs ++ call_events rest))) (append_assoc xs (y ∷ []) ys)
+    (subst (λ (l : List Event). IsServed s0 t told0 new ((xs ++ y ∷ []) ++ ys) l) (append_assoc events fs (call_events rest))
     (serves_on s0 u t told0 mid new (xs ++ y ∷ []) ys (events ++ fs) (one_more_is_served s0 s u told0 told mid xs events y served call.call) rest))
 
-pub all_served : (s t : Replica) (old new : Option Told) (xs : List Exchange) → s.live ≡ true → (calls : AreCalls s old xs t new) → IsServed s t old new xs (events_of calls)
+pub all_served : (s t : Replica) (old new : Option Told) (xs : List Exchange) → s.live ≡ true → (calls : AreCalls s old xs t new) → IsServed s t old new xs (call_events calls)
 all_served s t old new xs live calls = serves_on s s t old old new [] xs [] (nothing_is_served s old live) calls
 
 -- ---- what is kept
@@ -146,8 +146,8 @@ module _ (g : Grade) (s : Replica) (view : View) (w : Work) (base n0 : Told) (li
       (stay_settled (work_after s.file w (acts_in xs)) then.0.clear s.file a.command call.call.events (adds events n0.log) spares (settled_behind u old mid xs events served))
 
   -- every call was answered
-  kept_answered : (u : Replica) (old new : Option Told) (xs : List Exchange) (n : Told) (calls : AreCalls s old xs u new) → after_all (events_of calls) (Some n0) ≡ Some n → Goes n0 n
-      → KeepsFile s.file g w base xs None (after_all (events_of calls) (Some n0))
+  kept_answered : (u : Replica) (old new : Option Told) (xs : List Exchange) (n : Told) (calls : AreCalls s old xs u new) → after_all (call_events calls) (Some n0) ≡ Some n → Goes n0 n
+      → KeepsFile s.file g w base xs None (after_all (call_events calls) (Some n0))
   kept_answered u old new xs n calls is goes =
       let served = all_served s u old new xs live calls in
       let on = served.kept_on g w (Some n0) is_opened.kept_for in
@@ -157,9 +157,9 @@ module _ (g : Grade) (s : Replica) (view : View) (w : Work) (base n0 : Told) (li
         honest = goes.honest is_opened.honest;
         barrier = extends_on n.log n0.log (did Sync base).log goes.grew is_opened.grew;
         moments = subst (λ (l : List Act). EachMoment (did Sync base).log n.log (IsMidway s.file g w l)) (sym (append-nil (acts_in xs))) (all_moments (acts_in xs) n (subst (λ (o : Option Told). EachIsMidway s.file g w (acts_in xs) (Some n0) o) is on.0));
-        left = subst (λ (o : Option Told). LeavesView s.file g (work_after s.file w (acts_in xs)) o) is (answered_is_there s u old new xs (events_of calls) served g w (Some n0) is_opened.kept_for);
+        left = subst (λ (o : Option Told). LeavesView s.file g (work_after s.file w (acts_in xs)) o) is (answered_is_there s u old new xs (call_events calls) served g w (Some n0) is_opened.kept_for);
         tidy = tidy_of u (work_after s.file w (acts_in xs)) n.log served.file (subst (λ (o : Option Told). Keeps g u (work_after s.file w (acts_in xs)) o) is on.1);
-        settled = settled_told s.file (work_after s.file w (acts_in xs)) (events_of calls) n0 n is (settled_behind u old new xs (events_of calls) served);
+        settled = settled_told s.file (work_after s.file w (acts_in xs)) (call_events calls) n0 n is (settled_behind u old new xs (call_events calls) served);
         answered = (served.answered g w (keeps_alone g s w (Some n0) is_opened.kept_for)).0;
       }
 
@@ -168,7 +168,7 @@ module _ (g : Grade) (s : Replica) (view : View) (w : Work) (base n0 : Told) (li
       → KeepsFile s.file g w base xs (Some a) (after_all (events_to s u old new xs (Some a) calls) (Some n0))
   kept_failed u old new xs a n calls is goes =
       let served = all_served s calls.0 old calls.1 xs live calls.2 in
-      let stopped = fault_stops_them s calls.0 u old calls.1 new xs (events_of calls.2) a served calls.3.call in
+      let stopped = fault_stops_them s calls.0 u old calls.1 new xs (call_events calls.2) a served calls.3.call in
       record {
         after = n;
         is = is;
@@ -179,14 +179,14 @@ module _ (g : Grade) (s : Replica) (view : View) (w : Work) (base n0 : Told) (li
         tidy = tt;
         settled =
             settled_told s.file (work_after s.file w (acts_in xs)) (events_to s u old new xs (Some a) calls) n0 n is
-            (settled_still calls.0 u old calls.1 new xs (events_of calls.2) a served calls.3);
+            (settled_still calls.0 u old calls.1 new xs (call_events calls.2) a served calls.3);
         answered = (served.answered g w (keeps_alone g s w (Some n0) is_opened.kept_for)).0;
       }
 
   pub keeps_file : (u : Replica) (old new : Option Told) (xs : List Exchange) (failed : Option Act) (calls : EndsCalls s u old new xs failed)
       → KeepsFile s.file g w base xs failed (after_all (events_to s u old new xs failed calls) (Some n0))
   keeps_file u old new xs None calls =
-      let goes = goes_by (events_of calls) n0 (after_all (events_of calls) (Some n0)) refl in
+      let goes = goes_by (call_events calls) n0 (after_all (call_events calls) (Some n0)) refl in
       kept_answered u old new xs goes.0 calls goes.1 goes.2
   keeps_file u old new xs (Some a) calls =
       let goes = goes_by (events_to s u old new xs (Some a) calls) n0 (after_all (events_to s u old new xs (Some a) calls) (Some n0)) refl in

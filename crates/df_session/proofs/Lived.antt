@@ -27,7 +27,7 @@ pub safe_each : (file : DataFile) (g : Grade) (w : Work) (base : Told) (xs : Lis
 safe_each file g w base xs failed mending added keeps =
     subst (λ (n : Told). IsSafeEach file base n) (sym (same_Some (told_after added (told_after mending (did Sync base))) keeps.after keeps.is)) (λ l moment. (keeps.moments l moment).safe)
 
--- from the barrier of the open on the history is lived with the log that is begun anew there
+-- from the barrier of the open on the history is lived with the log that is restarted there
 pub calls_lived : (t : Told) (s : Replica) (mended : Option Told) (found : MendsAll t s mended) → IsImage t.shown → (events : List Event)
     → ((view : View) → MayOpen s.file view (begun t) → IsSafeEach s.file (begun t) (told_after events (told_after found.mending.events (did Sync (begun t)))))
     → (log : Log) (logs : List Log) → MayReopen s.file log logs t.shown

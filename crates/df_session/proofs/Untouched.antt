@@ -7,7 +7,7 @@ use Rattle.df_base.specs.Moments.{adds}
 use Rattle.df_disk.specs.Adds.{after_all}
 use Rattle.df_disk.specs.Told.{Told, did}
 use Rattle.df_model.specs.Commands.{Advance, Command}
-use Rattle.df_model.specs.Sense.{AtEachOf, IsClear}
+use Rattle.df_model.specs.Sense.{AtEachOf, IsClearAddress}
 use Rattle.df_model.specs.Work.{Running, Work, is_captured, is_held, is_known, is_of}
 use Rattle.df_model.proofs.Laws.{some_of}
 use Rattle.df_result.specs.Below.{DataFile}
@@ -40,15 +40,15 @@ firm_on ((Stop changes) ∷ es) log sector none firm = firm_on es (add (Stop cha
 -- ---- blocks of the durable checkpoint
 
 -- no address of the running trailer is one of theirs
-module _ (w : Work) (clear : (r : Running) → w.running ≡ Some r → AtEachOf (IsClear w.live w.view.checkpoint) r.left) where
-  clear_is_none : (a : ℕ) → IsClear w.live w.view.checkpoint a → is_durable w a ≡ true → ⊥
+module _ (w : Work) (clear : (r : Running) → w.running ≡ Some r → AtEachOf (IsClearAddress w.live w.view.checkpoint) r.left) where
+  clear_is_none : (a : ℕ) → IsClearAddress w.live w.view.checkpoint a → is_durable w a ≡ true → ⊥
   clear_is_none a is durable = elim (or_cases (is_known (w.view.checkpoint.parts.references a)) (is_of a w.view.checkpoint.chain) durable) [
     | inl known ↦ let no : false ≡ true = sym (ap is_known is.unreferenced) ∙ known in cc
     | inr chained ↦ let at = some_of a w.view.checkpoint.chain chained in is.no_trailer at.0 at.1
   ]
 
   not_next : (command : Command) (a : ℕ) → is_durable w a ≡ true → WritesNext command w a → ⊥
-  not_next Advance a durable next = clear_is_none a (subst (λ (l : List ℕ). AtEachOf (IsClear w.live w.view.checkpoint) l) next.3 (clear next.0 next.2)).0 durable
+  not_next Advance a durable next = clear_is_none a (subst (λ (l : List ℕ). AtEachOf (IsClearAddress w.live w.view.checkpoint) l) next.3 (clear next.0 next.2)).0 durable
   not_next command a durable next = absurd next
 
   is_held_too : (a : ℕ) → is_durable w a ≡ true → is_held w a ≡ true

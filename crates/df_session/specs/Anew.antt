@@ -1,4 +1,4 @@
--- What is kept by the logs that an open begins anew, whatever was done to the disk before: of all that is answered after the open, and of a stop within it.
+-- What is kept by the logs that an open restarts, whatever was done to the disk before: of all that is answered after the open, and of a stop within it.
 use Rattle.std.specs.Prelude.{List, []}
 use Rattle.df_base.specs.Log.{Event, Sync}
 use Rattle.df_base.specs.Moments.{EachMoment}
@@ -15,13 +15,13 @@ use Rattle.df_session.specs.Acknowledging.{KeepsAnswered}
 use Rattle.df_session.specs.Keeping.{KeepsFile, over}
 use Rattle.df_session.specs.Links.{CallsMade, events_made}
 
--- the log that is begun anew at the end of an open, by what the disk shows there: the last sync of the open is its barrier
+-- the log that is restarted at the end of an open, by what the disk shows there: the last sync of the open is its barrier
 abbrev pub begun_after : List Event → Told → Told
 begun_after mending t = begun (told_after mending (did Sync t))
 
 -- An open answered, and these calls were made. By the log begun at its end the file is kept there, and all that is answered is there from its answer on, after a stop at any moment and at the
 -- end; all units are of earlier boots there, so a history of damage may begin. By the log begun at its barrier, a stop at any moment within the open leaves the view that was found, with the boot of before or the next
--- one. So it is whatever the copies showed, as far as nothing more is hurt, and the next open begins anew.
+-- one. So it is whatever the copies showed, as far as nothing more is hurt, and the next open starts over.
 pub record KeepsAnew (g : Grade) (t : Told) (s : Replica) (view : View) (mending : List Event) (c : CallsMade) : Type 0 where
   pub opening : EachMoment (begun t).log (told_after mending (begun t)).log (StaysFound g s.file view s.fields)
   pub bare : IsSameBare view (booted view (content_of (content_with s.fields)))

@@ -17,9 +17,9 @@ use Rattle.df_session.specs.declared.hearing.Fault.TheVariants.{Disk, Damaged}
 -- ---- what is heard
 
 -- the disk failed
-abbrev pub is_disk : Fault → Bool
-is_disk Disk = true
-is_disk (Damaged place class) = false
+abbrev pub is_disk_fault : Fault → Bool
+is_disk_fault Disk = true
+is_disk_fault (Damaged place class) = false
 
 -- of an answer, where the disk didn't fail
 abbrev pub unless_damaged : Answer → Result Answer Fault
@@ -33,7 +33,7 @@ heard answer = if is_fault answer then Err Disk else unless_damaged answer
 -- ---- why calls end
 
 -- The superblock that a step wrote isn't read back as it was written: the place is that of the first copy that isn't. Over a disk that tells what it shows it never comes.
-pub record IsDamaged (command : Command) (told : Option Told) (place : Place) (class : Class) : Type 0 where
+pub record IsDamagedStep (command : Command) (told : Option Told) (place : Place) (class : Class) : Type 0 where
   pub step : command ≡ Advance
   pub copy : place.zone ≡ Superblock
   pub untold : told ≡ None
@@ -41,7 +41,7 @@ pub record IsDamaged (command : Command) (told : Option Told) (place : Place) (c
 -- the disk failed in the last call, or that is a step that is damaged
 abbrev pub EndsBy : Fault → Command → Option Told → Type 0
 EndsBy Disk command told = Unit {0}
-EndsBy (Damaged place class) command told = IsDamaged command told place class
+EndsBy (Damaged place class) command told = IsDamagedStep command told place class
 
 -- ---- one call
 

@@ -26,8 +26,8 @@ use Rattle.df_session.specs.Sparing.{SparesBlocks}
 
 -- The calls were made on a file that was found in what the disk showed, mended and raised. On whatever image: the mending and the boot update are their own device calls alone, as each of the calls is; the answers
 -- are the machine's, from the state after the boot update on, for which the replica stands, and a function of what was shown; what is told is what the calls added; no call writes a sector of a block that is held, but a step those of the running trailer's next. By each log that shows what was shown, and by which
--- the file may be opened, the told one or one that is begun anew there: the file is kept at the open, at the end all that was answered is there, and so it is at each moment from its
--- answer on. And whatever the copies of the superblock showed, so it is by the log that is begun anew at the end of the open. Whatever history of damage and opens the file has, it is lived with the log that is begun anew at the open, at each moment.
+-- the file may be opened, the told one or one that is restarted there: the file is kept at the open, at the end all that was answered is there, and so it is at each moment from its
+-- answer on. And whatever the copies of the superblock showed, so it is by the log that is restarted at the end of the open. Whatever history of damage and opens the file has, it is lived with the log that is restarted at the open, at each moment.
 pub record CallsKeep (t : Told) (s : Replica) (mended : Option Told) (mending : Mends s.file (Some (did Sync t)) mended) (c : CallsMade) : Type 0 where
   pub stands : (view : View) → IsFound (shape s.file) (unit_at s.file.layout s.file.cluster t.shown) view → Keeps Firm s (begun_work s.file t.shown view) None
   pub answered : (view : View) → IsFound (shape s.file) (unit_at s.file.layout s.file.cluster t.shown) view → answers_in c.exchanges ≡ answers_of s.file (begun_work s.file t.shown view) (acts_in c.exchanges)

@@ -19,9 +19,9 @@ pub data AreCalls : (s : Replica) (old : Option Told) (exchanges : List Exchange
   More : {x : Exchange} {xs : List Exchange} {s t : Replica} {old new : Option Told} (u : Replica) (mid : Option Told) → Calls x.act s u old mid (Some x.answer) → AreCalls u mid xs t new → AreCalls s old (x ∷ xs) t new
 
 -- the events that they added
-abbrev pub events_of : {s : Replica} {old : Option Told} {exchanges : List Exchange} {t : Replica} {new : Option Told} → AreCalls s old exchanges t new → List Event
-events_of NoCalls = []
-events_of (More u mid call rest) = call.call.events ++ events_of rest
+abbrev pub call_events : {s : Replica} {old : Option Told} {exchanges : List Exchange} {t : Replica} {new : Option Told} → AreCalls s old exchanges t new → List Event
+call_events NoCalls = []
+call_events (More u mid call rest) = call.call.events ++ call_events rest
 
 -- the act that was not answered, if there is one
 abbrev pub list_of : Option Act → List Act
@@ -35,8 +35,8 @@ EndsCalls s t old new exchanges (Some a) = (u : Replica) × (mid : Option Told) 
 
 -- what all of them added
 abbrev pub events_to : (s t : Replica) → (old new : Option Told) → (exchanges : List Exchange) → (failed : Option Act) → EndsCalls s t old new exchanges failed → List Event
-events_to s t old new exchanges None calls = events_of calls
-events_to s t old new exchanges (Some a) calls = events_of calls.2 ++ calls.3.call.events
+events_to s t old new exchanges None calls = call_events calls
+events_to s t old new exchanges (Some a) calls = call_events calls.2 ++ calls.3.call.events
 
 -- ---- one command
 

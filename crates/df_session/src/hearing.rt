@@ -3,7 +3,7 @@ ghost use Rattle.std.specs.Prelude.{◌≡◌, true, OnOk};
 ghost use Rattle.df_base.specs.Causes.{IsBlamed};
 ghost use Rattle.df_model.specs.Called.{command_of};
 ghost use Rattle.df_session.specs.Calls.{HasAnswer, blames, is_fault};
-ghost use Rattle.df_session.specs.Endings.{MakesTo, heard, is_disk, unless_damaged};
+ghost use Rattle.df_session.specs.Endings.{MakesTo, heard, is_disk_fault, unless_damaged};
 
 use crate::calls::call;
 use df_base::BlamesDisk;
@@ -77,7 +77,7 @@ pub fn make<D: Disk>(disk: &mut D, replica: &mut Replica, command: Command) -> R
     requires answer { HasAnswer (command_of command) }
     ensures makes { MakesTo (command_of command.entry) replica.old replica.new (D.told disk.old) (D.told disk.new) result }
     ensures live { OnOk result (replica.new.live ≡ true) }
-    ensures disk { IsBlamed is_disk (D.faults disk.old) (D.faults disk.new) result }
+    ensures disk { IsBlamed is_disk_fault (D.faults disk.old) (D.faults disk.new) result }
 {
     let answer = call(disk, replica, command);
     hear(answer)

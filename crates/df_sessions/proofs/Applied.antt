@@ -2,7 +2,7 @@
 use Rattle.std.proofs.Common.{IsSome, Option, ◌≡◌, ◌≢◌, ℕ, ◌<◌, ◌⊎◌, inl, inr, Some, None, List, [], ◌∷◌, ◌++◌, length, get_or, set, arith, sym, subst, ◌∙◌, ap}
 use Rattle.std.specs.List.{position, slice_get}
 use Rattle.df_sessions.specs.declared.session.Session.{Session}
-use Rattle.df_sessions.specs.Table.{Table, IsTable, IsKnown, has_client, requested, with_request, with_reply}
+use Rattle.df_sessions.specs.Table.{Table, IsSessionTable, IsKnownClient, has_client, requested, with_request, with_reply_stored}
 use Rattle.df_sessions.specs.Changes.{Change, changed, sessions_after}
 use Rattle.df_sessions.specs.Changes.Change.{Request, Reply}
 use Rattle.df_sessions.proofs.Kept.{request_keeps, reply_keeps}
@@ -66,18 +66,18 @@ new_client max client request op items new place now view none push last =
 
 -- the table stays one
 pub stays_table : (max client request op : ℕ) (items new : List Session) (place : ℕ) (now : Table) → record { max = max; sessions = items } ≡ now
-    → IsTable (record { max = max; sessions = items }) → client ≢ 0 → IsKnown client now.sessions ⊎ (length now.sessions < now.max)
-    → HasRequest client request op now.sessions new place → IsTable (record { max = max; sessions = new })
+    → IsSessionTable (record { max = max; sessions = items }) → client ≢ 0 → IsKnownClient client now.sessions ⊎ (length now.sessions < now.max)
+    → HasRequest client request op now.sessions new place → IsSessionTable (record { max = max; sessions = new })
 stays_table max client request op items new place now view is named room has =
-    let old : IsTable now = subst IsTable view is in
+    let old : IsSessionTable now = subst IsSessionTable view is in
     let most : max ≡ now.max = ap (λ (t : Table). t.max) view in
-    let kept : IsTable (record { max = now.max; sessions = with_request client request op now.sessions }) = request_keeps now.max client request op now.sessions old named room in
+    let kept : IsSessionTable (record { max = now.max; sessions = with_request client request op now.sessions }) = request_keeps now.max client request op now.sessions old named room in
     rw (most, has.sessions) kept
 
 -- there is room for a new client
 pub has_room : (max client : ℕ) (items : List Session) (now : Table) → record { max = max; sessions = items } ≡ now
-    → IsTable (record { max = max; sessions = items }) → None ≡ position (has_client client) now.sessions
-    → IsKnown client now.sessions ⊎ (length now.sessions < now.max) → length items < 64
+    → IsSessionTable (record { max = max; sessions = items }) → None ≡ position (has_client client) now.sessions
+    → IsKnownClient client now.sessions ⊎ (length now.sessions < now.max) → length items < 64
 has_room max client items now view is none room =
     let same : items ≡ now.sessions = ap (λ (t : Table). t.sessions) view in
     let most : max ≡ now.max = ap (λ (t : Table). t.max) view in
@@ -89,21 +89,21 @@ has_room max client items now view is none room =
 
 -- what a stored reply makes of a table
 pub replied : (max place : ℕ) (reply : List ℕ) (items new : List Session) (d : Session) (now : Table) → record { max = max; sessions = items } ≡ now
-    → place < length now.sessions → new ≡ set items place (record (get_or items place d) { reply = Some reply }) → new ≡ with_reply place reply now.sessions
+    → place < length now.sessions → new ≡ set items place (record (get_or items place d) { reply = Some reply }) → new ≡ with_reply_stored place reply now.sessions
 replied max place reply items new d now view within put =
     let same : items ≡ now.sessions = ap (λ (t : Table). t.sessions) view in
     put ∙ ap (λ (all : List Session). set all place (record (get_or all place d) { reply = Some reply })) same ∙ sym (reply_at place reply now.sessions d within)
 
 -- the reply of the session at this place is stored, and nothing else has changed
 pub record HasReply (place : ℕ) (reply : List ℕ) (old new : List Session) : Type 0 where
-  pub sessions : new ≡ with_reply place reply old
+  pub sessions : new ≡ with_reply_stored place reply old
   pub others : (k : ℕ) → k ≢ place → slice_get new k ≡ slice_get old k
   pub history : (changes : List Change) → old ≡ sessions_after changes → new ≡ sessions_after (changes ++ Reply place reply ∷ [])
 
 pub has_reply : (max place : ℕ) (reply : List ℕ) (items new : List Session) (d : Session) (now : Table) → record { max = max; sessions = items } ≡ now
     → place < length now.sessions → new ≡ set items place (record (get_or items place d) { reply = Some reply }) → HasReply place reply now.sessions new
 has_reply max place reply items new d now view within put =
-    let step : new ≡ with_reply place reply now.sessions = replied max place reply items new d now view within put in
+    let step : new ≡ with_reply_stored place reply now.sessions = replied max place reply items new d now view within put in
     let same : items ≡ now.sessions = ap (λ (t : Table). t.sessions) view in
     record {
       sessions = step;
@@ -112,9 +112,9 @@ has_reply max place reply items new d now view within put =
     }
 
 pub reply_stays_table : (max place : ℕ) (reply : List ℕ) (items new : List Session) (now : Table) → record { max = max; sessions = items } ≡ now
-    → IsTable (record { max = max; sessions = items }) → HasReply place reply now.sessions new → IsTable (record { max = max; sessions = new })
+    → IsSessionTable (record { max = max; sessions = items }) → HasReply place reply now.sessions new → IsSessionTable (record { max = max; sessions = new })
 reply_stays_table max place reply items new now view is has =
-    let old : IsTable now = subst IsTable view is in
+    let old : IsSessionTable now = subst IsSessionTable view is in
     let most : max ≡ now.max = ap (λ (t : Table). t.max) view in
-    let kept : IsTable (record { max = now.max; sessions = with_reply place reply now.sessions }) = reply_keeps now.max place reply now.sessions old in
+    let kept : IsSessionTable (record { max = now.max; sessions = with_reply_stored place reply now.sessions }) = reply_keeps now.max place reply now.sessions old in
     rw (most, has.sessions) kept

@@ -4,7 +4,7 @@ use Rattle.std.specs.Prelude.{nat_eq}
 use Rattle.std.specs.List.{AllByRecursion, IsDistinct, list_all}
 use Rattle.std.proofs.lemmas.Bool.{cases_Bool, eqb-true, and_parts}
 use Rattle.df_sessions.specs.declared.session.Session.{Session}
-use Rattle.df_sessions.specs.Table.{has_client, ops_of, requested, with_request, with_reply}
+use Rattle.df_sessions.specs.Table.{has_client, ops_of, requested, with_request, with_reply_stored}
 
 pub passes_requested : (test : Session → Bool) (client request op : ℕ) (sessions : List Session)
     → IsTrue (list_all test sessions) → IsTrue (test (requested client request op)) → IsTrue (list_all test (with_request client request op sessions))
@@ -18,7 +18,7 @@ passes_requested test client request op (s ∷ sessions) all here =
 
 pub passes_replied : (test : Session → Bool) (place : ℕ) (reply : List ℕ) (sessions : List Session)
     → ((s : Session) → IsTrue (test s) → IsTrue (test (record s { reply = Some reply })))
-    → IsTrue (list_all test sessions) → IsTrue (list_all test (with_reply place reply sessions))
+    → IsTrue (list_all test sessions) → IsTrue (list_all test (with_reply_stored place reply sessions))
 passes_replied test place reply [] keeps all = refl
 passes_replied test zero reply (s ∷ sessions) keeps all =
     let parts = and_parts (test s) (list_all test sessions) all in
@@ -57,7 +57,7 @@ ops_requested client request op (s ∷ sessions) low distinct = elim (cases_Bool
     not_same : (o op : ℕ) → o < op → nat_eq o op ≡ false
     not_same o op h = elim (cases_Bool (nat_eq o op)) [ inl same ↦ absurd (let e : o ≡ op = eqb-true o op same in omega arith) | inr other ↦ other ]
 
-pub ops_replied : (place : ℕ) (reply : List ℕ) (sessions : List Session) → ops_of (with_reply place reply sessions) ≡ ops_of sessions
+pub ops_replied : (place : ℕ) (reply : List ℕ) (sessions : List Session) → ops_of (with_reply_stored place reply sessions) ≡ ops_of sessions
 ops_replied place reply [] = refl
 ops_replied zero reply (s ∷ sessions) = refl
 ops_replied (suc place) reply (s ∷ sessions) = ap (λ (ops : List ℕ). s.op ∷ ops) (ops_replied place reply sessions)

@@ -7,7 +7,7 @@ use Rattle.std.proofs.lemmas.Bool.{cases_Bool}
 use Rattle.std.proofs.lemmas.Bool.{eqb-true}
 use Rattle.df_sessions.specs.declared.session.Session.{Session}
 use Rattle.df_sessions.proofs.Places.{first_place, request_known}
-use Rattle.df_sessions.specs.Table.{IsTable, IsKnown, clients_of, has_client, requested, with_request, with_reply}
+use Rattle.df_sessions.specs.Table.{IsSessionTable, IsKnownClient, clients_of, has_client, requested, with_request, with_reply_stored}
 
 -- what holds of each client, and of a request's, holds after the request
 all_requested : (P : ℕ → Type 0) (client request op : ℕ) (sessions : List Session) → P client → AllByRecursion P (clients_of sessions)
@@ -35,7 +35,7 @@ length_at client request op sessions (Some i) is some =
     let d : Session = requested client request op in
     ap length (request_known client request op sessions i d (first_place (has_client client) sessions i d is)) ∙ length-set sessions i d
 
-length_known : (client request op : ℕ) (sessions : List Session) → IsKnown client sessions → length (with_request client request op sessions) ≡ length sessions
+length_known : (client request op : ℕ) (sessions : List Session) → IsKnownClient client sessions → length (with_request client request op sessions) ≡ length sessions
 length_known client request op sessions known = length_at client request op sessions (position (has_client client) sessions) refl known
 
 length_most : (client request op : ℕ) (sessions : List Session) → length (with_request client request op sessions) ≤ length sessions + 1
@@ -45,15 +45,15 @@ length_most client request op (s ∷ sessions) = elim (cases_Bool (has_client cl
   | inr other ↦ rw other (omega (arith, length_most client request op sessions))
 ]
 
-within : (client request op : ℕ) (sessions : List Session) (max : ℕ) → length sessions ≤ max → IsKnown client sessions ⊎ (length sessions < max)
+within : (client request op : ℕ) (sessions : List Session) (max : ℕ) → length sessions ≤ max → IsKnownClient client sessions ⊎ (length sessions < max)
     → length (with_request client request op sessions) ≤ max
 within client request op sessions max fits room = elim room [
   | inl known ↦ omega (arith, length_known client request op sessions known)
   | inr left ↦ omega (arith, length_most client request op sessions)
 ]
 
-pub request_keeps : (max client request op : ℕ) (sessions : List Session) → IsTable (record { max = max; sessions = sessions }) → client ≢ 0
-    → IsKnown client sessions ⊎ (length sessions < max) → IsTable (record { max = max; sessions = with_request client request op sessions })
+pub request_keeps : (max client request op : ℕ) (sessions : List Session) → IsSessionTable (record { max = max; sessions = sessions }) → client ≢ 0
+    → IsKnownClient client sessions ⊎ (length sessions < max) → IsSessionTable (record { max = max; sessions = with_request client request op sessions })
 request_keeps max client request op sessions is named room = record {
   some = is.some;
   most = is.most;
@@ -63,18 +63,18 @@ request_keeps max client request op sessions is named room = record {
 }
 
 -- a stored reply changes no client
-pub clients_replied : (place : ℕ) (reply : List ℕ) (sessions : List Session) → clients_of (with_reply place reply sessions) ≡ clients_of sessions
+pub clients_replied : (place : ℕ) (reply : List ℕ) (sessions : List Session) → clients_of (with_reply_stored place reply sessions) ≡ clients_of sessions
 clients_replied place reply [] = refl
 clients_replied zero reply (s ∷ sessions) = refl
 clients_replied (suc place) reply (s ∷ sessions) = ap (λ (cs : List ℕ). s.client ∷ cs) (clients_replied place reply sessions)
 
-length_replied : (place : ℕ) (reply : List ℕ) (sessions : List Session) → length (with_reply place reply sessions) ≡ length sessions
+length_replied : (place : ℕ) (reply : List ℕ) (sessions : List Session) → length (with_reply_stored place reply sessions) ≡ length sessions
 length_replied place reply [] = refl
 length_replied zero reply (s ∷ sessions) = refl
 length_replied (suc place) reply (s ∷ sessions) = ap suc (length_replied place reply sessions)
 
-pub reply_keeps : (max place : ℕ) (reply : List ℕ) (sessions : List Session) → IsTable (record { max = max; sessions = sessions })
-    → IsTable (record { max = max; sessions = with_reply place reply sessions })
+pub reply_keeps : (max place : ℕ) (reply : List ℕ) (sessions : List Session) → IsSessionTable (record { max = max; sessions = sessions })
+    → IsSessionTable (record { max = max; sessions = with_reply_stored place reply sessions })
 reply_keeps max place reply sessions is =
     let clients = clients_replied place reply sessions in
     record {
@@ -85,6 +85,6 @@ reply_keeps max place reply sessions is =
       named = subst (λ (cs : List ℕ). AllByRecursion (λ c. c ≢ 0) cs) (sym clients) is.named;
     }
 
-pub empty_keeps : (max : ℕ) → 1 ≤ max → max ≤ 64 → IsTable (record { max = max; sessions = [] })
+pub empty_keeps : (max : ℕ) → 1 ≤ max → max ≤ 64 → IsSessionTable (record { max = max; sessions = [] })
 unfolding IsDistinct
 empty_keeps max some most = record { some = some; most = most; within = omega arith; distinct = tt; named = tt }

@@ -4,7 +4,7 @@ use Rattle.std.specs.Prelude.{nat_eq}
 use Rattle.std.specs.List.{AllByRecursion, IsDistinct, slice_get}
 use Rattle.std.proofs.lemmas.Bool.{cases_Bool, eqb-true}
 use Rattle.df_sessions.specs.declared.session.Session.{Session}
-use Rattle.df_sessions.specs.Table.{AreApart, AreNamed, IsTable, clients_of}
+use Rattle.df_sessions.specs.Table.{AreDistinctClients, AreNamed, IsSessionTable, clients_of}
 
 named_all : (ss : List Session) → AreNamed ss → AllByRecursion (λ client. client ≢ 0) (clients_of ss)
 named_all [] named = tt
@@ -18,7 +18,7 @@ other_than client (s ∷ ss) other = (
   other_than client ss (λ k t at. other (suc k) t at),
 )
 
-apart_distinct : (ss : List Session) → AreApart ss → IsDistinct nat_eq (clients_of ss)
+apart_distinct : (ss : List Session) → AreDistinctClients ss → IsDistinct nat_eq (clients_of ss)
 unfolding IsDistinct
 apart_distinct [] apart = tt
 apart_distinct (s ∷ ss) apart = (
@@ -32,5 +32,5 @@ apart_distinct (s ∷ ss) apart = (
     down : (j k : ℕ) → suc j ≡ suc k → j ≡ k
     down j k e = omega arith
 
-pub listed_table : (max : ℕ) (ss : List Session) → 1 ≤ max → max ≤ 64 → length ss ≤ max → AreNamed ss → AreApart ss → IsTable (record { max = max; sessions = ss })
+pub listed_table : (max : ℕ) (ss : List Session) → 1 ≤ max → max ≤ 64 → length ss ≤ max → AreNamed ss → AreDistinctClients ss → IsSessionTable (record { max = max; sessions = ss })
 listed_table max ss some most few named apart = record { some = some; most = most; within = few; distinct = apart_distinct ss apart; named = named_all ss named }

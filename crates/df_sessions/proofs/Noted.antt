@@ -8,7 +8,7 @@ use Rattle.df_theory.specs.Units
 use Rattle.df_theory.specs.Sessions
 use Rattle.df_theory.specs.Sessions.{noted}
 use Rattle.df_sessions.specs.declared.session.Session.{Session}
-use Rattle.df_sessions.specs.Table.{has_client, with_request, with_reply}
+use Rattle.df_sessions.specs.Table.{has_client, with_request, with_reply_stored}
 use Rattle.df_sessions.specs.Changes.{Change, changed, changed_by}
 use Rattle.df_sessions.specs.Changes.Change.{Request, Reply}
 use Rattle.df_sessions.specs.Requests.{requests_in, requests_of, session_of, sessions_of}
@@ -26,11 +26,11 @@ noted_by h (s ∷ sessions) = elim (cases_Bool (has_client h.client s)) [
 ]
 
 -- a request is noted
-pub request_noted : (s : Units.Session) (h : Units.Header) (sessions : List Session) → Sessions.session_of h ≡ s → sessions_of (with_request s.client s.request s.op sessions) ≡ noted h (sessions_of sessions)
+pub request_noted : (s : Units.Session) (h : Units.Header) (sessions : List Session) → Sessions.session_of_header h ≡ s → sessions_of (with_request s.client s.request s.op sessions) ≡ noted h (sessions_of sessions)
 request_noted s h sessions is = ap (λ (x : Units.Session). sessions_of (with_request x.client x.request x.op sessions)) (sym is) ∙ noted_by h sessions
 
 -- a stored reply changes nothing of the list
-pub reply_unnoted : (place : ℕ) (reply : List ℕ) (sessions : List Session) → sessions_of (with_reply place reply sessions) ≡ sessions_of sessions
+pub reply_unnoted : (place : ℕ) (reply : List ℕ) (sessions : List Session) → sessions_of (with_reply_stored place reply sessions) ≡ sessions_of sessions
 reply_unnoted place reply [] = refl
 reply_unnoted zero reply (s ∷ sessions) = refl
 reply_unnoted (suc place) reply (s ∷ sessions) = ap (λ (all : List Units.Session). session_of s ∷ all) (reply_unnoted place reply sessions)
@@ -57,4 +57,4 @@ table_is_list ((Request client request op) ∷ changes) sessions (p ∷ ps) is =
     table_is_list changes (with_request client request op sessions) ps (rest_of is)
     ∙ ap (λ (all : List Units.Session). Sessions.sessions_after all ps) (request_noted (record { client = client; request = request; op = op }) p.header sessions (sym (first_of is)))
 table_is_list ((Reply place reply) ∷ changes) sessions ps is =
-    table_is_list changes (with_reply place reply sessions) ps is ∙ ap (λ (all : List Units.Session). Sessions.sessions_after all ps) (reply_unnoted place reply sessions)
+    table_is_list changes (with_reply_stored place reply sessions) ps is ∙ ap (λ (all : List Units.Session). Sessions.sessions_after all ps) (reply_unnoted place reply sessions)

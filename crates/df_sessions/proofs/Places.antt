@@ -9,7 +9,7 @@ use Rattle.std.proofs.lemmas.List.Sums.{position_or_len_is}
 use Rattle.std.proofs.lemmas.Option.{slice_get-get_or}
 use Rattle.df_base.proofs.Laws.{none_passes}
 use Rattle.df_sessions.specs.declared.session.Session.{Session}
-use Rattle.df_sessions.specs.Table.{has_client, requested, with_request, with_reply}
+use Rattle.df_sessions.specs.Table.{has_client, requested, with_request, with_reply_stored}
 
 -- the first place whose element passes
 pub record IsFirst {X : Type 0} (p : X → Bool) (xs : List X) (i : ℕ) (d : X) : Type 0 where
@@ -86,7 +86,7 @@ place_new client request op sessions d none =
 
 -- a stored reply changes the session at its place
 pub reply_at : (place : ℕ) (reply : List ℕ) (sessions : List Session) (d : Session) → place < length sessions
-    → with_reply place reply sessions ≡ set sessions place (record (get_or sessions place d) { reply = Some reply })
+    → with_reply_stored place reply sessions ≡ set sessions place (record (get_or sessions place d) { reply = Some reply })
 reply_at place reply [] d within = absurd (omega arith)
 reply_at zero reply (s ∷ sessions) d within = refl
 reply_at (suc place) reply (s ∷ sessions) d within = ap (λ (all : List Session). s ∷ all) (reply_at place reply sessions d (omega arith))

@@ -1,7 +1,7 @@
 -- The sessions after a list of requests and stored replies, from the first on.
 use Rattle.std.specs.Prelude.{ℕ, List, [], ◌∷◌}
 use Rattle.df_sessions.specs.declared.session.Session.{Session}
-use Rattle.df_sessions.specs.Table.{with_request, with_reply}
+use Rattle.df_sessions.specs.Table.{with_request, with_reply_stored}
 
 -- a client's request, or the checksum of the reply that was stored for a place
 pub data Change : Type 0 where
@@ -10,7 +10,7 @@ pub data Change : Type 0 where
 
 abbrev pub changed : Change → List Session → List Session
 changed (Request client request op) sessions = with_request client request op sessions
-changed (Reply place reply) sessions = with_reply place reply sessions
+changed (Reply place reply) sessions = with_reply_stored place reply sessions
 
 -- sessions changed in turn
 abbrev pub changed_by : List Change → List Session → List Session

@@ -22,4 +22,4 @@ requests_in ((Reply place reply) ∷ changes) = requests_in changes
 
 -- the requests of prepares
 abbrev pub requests_of : List Units.Message → List Units.Session
-requests_of prepares = map (λ p. Sessions.session_of p.header) prepares
+requests_of prepares = map (λ p. Sessions.session_of_header p.header) prepares

@@ -17,7 +17,7 @@ abbrev pub ops_of : List Session → List ℕ
 ops_of sessions = map (λ s. s.op) sessions
 
 -- no more sessions than places, of clients that differ, none of which is 0
-pub record IsTable (table : Table) : Type 0 where
+pub record IsSessionTable (table : Table) : Type 0 where
   pub some : 1 ≤ table.max
   pub most : table.max ≤ 64
   pub within : length table.sessions ≤ table.max
@@ -29,15 +29,15 @@ abbrev pub AreNamed : List Session → Type 0
 AreNamed sessions = (k : ℕ) (s : Session) → slice_get sessions k ≡ Some s → s.client ≢ 0
 
 -- no client has two sessions
-abbrev pub AreApart : List Session → Type 0
-AreApart sessions = (j k : ℕ) (s t : Session) → slice_get sessions j ≡ Some s → slice_get sessions k ≡ Some t → s.client ≡ t.client → j ≡ k
+abbrev pub AreDistinctClients : List Session → Type 0
+AreDistinctClients sessions = (j k : ℕ) (s t : Session) → slice_get sessions j ≡ Some s → slice_get sessions k ≡ Some t → s.client ≡ t.client → j ≡ k
 
 abbrev pub has_client : ℕ → Session → Bool
 has_client client session = session.client == client
 
 -- some session is the client's
-abbrev pub IsKnown : ℕ → List Session → Type 0
-IsKnown client sessions = IsSome (position (has_client client) sessions)
+abbrev pub IsKnownClient : ℕ → List Session → Type 0
+IsKnownClient client sessions = IsSome (position (has_client client) sessions)
 
 -- the session of a request, whose reply isn't stored yet
 abbrev pub requested : ℕ → ℕ → ℕ → Session
@@ -50,7 +50,7 @@ with_request client request op (session ∷ sessions) =
     if has_client client session then requested client request op ∷ sessions else session ∷ with_request client request op sessions
 
 -- the sessions after the reply for a place was stored
-abbrev pub with_reply : ℕ → List ℕ → List Session → List Session
-with_reply place reply [] = []
-with_reply zero reply (session ∷ sessions) = record session { reply = Some reply } ∷ sessions
-with_reply (suc place) reply (session ∷ sessions) = session ∷ with_reply place reply sessions
+abbrev pub with_reply_stored : ℕ → List ℕ → List Session → List Session
+with_reply_stored place reply [] = []
+with_reply_stored zero reply (session ∷ sessions) = record session { reply = Some reply } ∷ sessions
+with_reply_stored (suc place) reply (session ∷ sessions) = session ∷ with_reply_stored place reply sessions

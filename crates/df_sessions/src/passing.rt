@@ -5,7 +5,7 @@ ghost use Rattle.df_sessions.specs.Changes.{Change, changed_by, sessions_after};
 ghost use Rattle.df_theory.specs.Sessions;
 ghost use Rattle.df_theory.specs.Units.{Message};
 ghost use Rattle.df_sessions.specs.Requests.{requests_in, requests_of, sessions_of};
-ghost use Rattle.df_sessions.specs.Table.{ops_of, requested, with_request, with_reply};
+ghost use Rattle.df_sessions.specs.Table.{ops_of, requested, with_request, with_reply_stored};
 ghost use Rattle.df_sessions.specs.declared.session.Session.{Session};
 
 /// After a list of changes the table is the theory's list of sessions after prepares that ask for the same, whatever replies were stored.
@@ -24,7 +24,7 @@ pub fn sessions_keep_passing()
         → IsTrue (list_all test (with_request client request op sessions)) }
     ensures replied { (test : Session → Bool) (place : ℕ) (reply : List ℕ) (sessions : List Session)
         → ((s : Session) → IsTrue (test s) → IsTrue (test (record s { reply = Some reply })))
-        → IsTrue (list_all test sessions) → IsTrue (list_all test (with_reply place reply sessions)) }
+        → IsTrue (list_all test sessions) → IsTrue (list_all test (with_reply_stored place reply sessions)) }
 {}
 
 /// Where each request has a greater op than all before it, no two sessions have one op.
@@ -33,5 +33,5 @@ pub fn ops_stay_apart()
         → AllByRecursion (λ other. other < op) (ops_of sessions) → IsDistinct nat_eq (ops_of sessions)
         → IsDistinct nat_eq (ops_of (with_request client request op sessions)) }
     ensures replied { (place : ℕ) (reply : List ℕ) (sessions : List Session)
-        → ops_of (with_reply place reply sessions) ≡ ops_of sessions }
+        → ops_of (with_reply_stored place reply sessions) ≡ ops_of sessions }
 {}

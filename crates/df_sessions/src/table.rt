@@ -2,11 +2,11 @@
 ghost use Rattle.std.specs.Prelude.{◌≡◌, ◌≢◌, ◌<◌, ◌≤◌, ◌⊎◌, ◌++◌, [], ◌∷◌, ℕ, List, Some, length, slice_get, slice_set};
 ghost use Rattle.arrayvec.specs.ArrayVec.{array_vec_len};
 ghost use Rattle.std.specs.List.{position};
-ghost use Rattle.df_sessions.specs.Table.{AreApart, AreNamed, IsTable, IsKnown, has_client, requested, with_request, with_reply};
+ghost use Rattle.df_sessions.specs.Table.{AreDistinctClients, AreNamed, IsSessionTable, IsKnownClient, has_client, requested, with_request, with_reply_stored};
 ghost use Rattle.df_sessions.specs.Changes.{Change, sessions_after};
 ghost use Rattle.df_sessions.specs.Changes.Change.{Request, Reply};
 ghost use Rattle.df_sessions.specs.Requests.{sessions_of};
-ghost use Rattle.df_theory.specs.Sessions.{noted, session_of};
+ghost use Rattle.df_theory.specs.Sessions.{noted, session_of_header};
 ghost use Rattle.df_theory.specs.Units.{Header};
 
 use crate::Session;
@@ -31,13 +31,13 @@ impl Drop for SessionTable {
 }
 
 impl Model for SessionTable {
-    ghost use Rattle.df_sessions.specs.Table.{Table, IsTable};
+    ghost use Rattle.df_sessions.specs.Table.{Table, IsSessionTable};
 
     ghost Value = { Table };
 
     ghost view = { λ t. record { max = t.max; sessions = t.sessions.items } };
 
-    ghost invariant = { λ t. IsTable (record { max = t.max; sessions = t.sessions.items }) };
+    ghost invariant = { λ t. IsSessionTable (record { max = t.max; sessions = t.sessions.items }) };
 }
 
 impl SessionTable {
@@ -60,7 +60,7 @@ impl SessionTable {
         requires most { max ≤ 64 }
         requires few { length sessions.items ≤ max }
         requires named { AreNamed sessions.items }
-        requires apart { AreApart sessions.items }
+        requires apart { AreDistinctClients sessions.items }
         ensures { result ≡ record { max = max; sessions = sessions.items } }
     {
         SessionTable { sessions, max }
@@ -83,7 +83,7 @@ impl SessionTable {
     /// How many sessions there are.
     pub fn len(&self) -> u64
         ensures value { result ≡ length self.now.sessions }
-        ensures table { IsTable self.now }
+        ensures table { IsSessionTable self.now }
     {
         self.sessions.len() as u64
     }
@@ -121,7 +121,7 @@ impl SessionTable {
     /// client goes last. Answers the client's place.
     pub fn apply(&mut self, client: u128, request: u64, op: u64) -> u64
         requires named { client ≢ 0 }
-        requires room { IsKnown client self.old.sessions ⊎ (length self.old.sessions < self.old.max) }
+        requires room { IsKnownClient client self.old.sessions ⊎ (length self.old.sessions < self.old.max) }
         ensures sessions { self.new.sessions ≡ with_request client request op self.old.sessions }
         ensures places { self.new.max ≡ self.old.max }
         ensures place { position (has_client client) self.new.sessions ≡ Some result }
@@ -129,7 +129,7 @@ impl SessionTable {
         ensures others { (k : ℕ) → k ≢ result → slice_get self.new.sessions k ≡ slice_get self.old.sessions k }
         ensures history { (changes : List Change) → self.old.sessions ≡ sessions_after changes
             → self.new.sessions ≡ sessions_after (changes ++ Request client request op ∷ []) }
-        ensures noted { (h : Header) → session_of h ≡ record { client = client; request = request; op = op }
+        ensures noted { (h : Header) → session_of_header h ≡ record { client = client; request = request; op = op }
             → sessions_of self.new.sessions ≡ noted h (sessions_of self.old.sessions) }
     {
         let session = Session {
@@ -154,7 +154,7 @@ impl SessionTable {
     /// Records that the reply to a session's latest request is stored.
     pub fn store(&mut self, place: u64, reply: Check)
         requires { place < length self.old.sessions }
-        ensures sessions { self.new.sessions ≡ with_reply place reply self.old.sessions }
+        ensures sessions { self.new.sessions ≡ with_reply_stored place reply self.old.sessions }
         ensures places { self.new.max ≡ self.old.max }
         ensures others { (k : ℕ) → k ≢ place → slice_get self.new.sessions k ≡ slice_get self.old.sessions k }
         ensures history { (changes : List Change) → self.old.sessions ≡ sessions_after changes

@@ -5,10 +5,10 @@ use Rattle.std.proofs.lemmas.Slice.Eq.{bytes_eq-Decides}
 use Rattle.std.specs.Str.{bytes_eq}
 use Rattle.df_format.specs.Copies.{Content}
 use Rattle.df_format.specs.declared.superblock.SuperFields.{SuperFields}
-use Rattle.df_quorum.specs.Quorum.{Copies, Agree}
+use Rattle.df_quorum.specs.Quorum.{Copies, CopiesAgree}
 
 -- another one of two copies that agree
-pub partner : (copies : Copies) (c : Content) → Agree copies c → (i : ℕ) → (j : ℕ) × (j < 4) × (i ≡ j → ⊥) × (copies j ≡ Some c)
+pub partner : (copies : Copies) (c : Content) → CopiesAgree copies c → (i : ℕ) → (j : ℕ) × (j < 4) × (i ≡ j → ⊥) × (copies j ≡ Some c)
 partner copies c a i = elim (cases_eq i a.first) [
   | inl e ↦ (a.second, a.inside, λ f. omega (arith, a.apart), a.at_second)
   | inr away ↦ (a.first, omega (arith, a.apart, a.inside), away, a.at_first)

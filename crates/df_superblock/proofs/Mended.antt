@@ -11,7 +11,7 @@ use Rattle.df_format.specs.SuperRules.{IsUsable}
 use Rattle.df_format.specs.declared.superblock.SuperFields.{SuperFields}
 use Rattle.df_format.specs.Copies.{Content, content_at, content_with}
 use Rattle.df_quorum.specs.declared.choice.Chosen.{Chosen}
-use Rattle.df_quorum.specs.Quorum.{Agree}
+use Rattle.df_quorum.specs.Quorum.{CopiesAgree}
 use Rattle.df_superblock.specs.Copies.{AreQuiet, AreEqual, IsChoice, Spare}
 use Rattle.df_superblock.specs.Events.{mend_events, repair_events}
 use Rattle.df_base.specs.Moments.{adds}
@@ -107,7 +107,7 @@ module _ (f : SuperFields) (chosen : Chosen) (for : IsFor f chosen) (log : Log) 
   fits : 0 + length members ≤ 4
   fits = omega (arith, for.size)
 
-  agreed : Agree (content_at (now log)) c
+  agreed : CopiesAgree (content_at (now log)) c
   agreed = choice.is.agreed
 
   same : content_with f ≡ c

@@ -4,9 +4,9 @@ use Rattle.std.proofs.lemmas.Bool.{cases_lt, cases_eq, cases_Bool}
 use Rattle.df_base.specs.Image.{Image, written}
 use Rattle.df_base.specs.Log.{Write, Sync, Log, add, loose, now}
 use Rattle.df_format.specs.Super.{copy_bytes}
-use Rattle.df_format.specs.Copies.{Content, content_at, rank_of}
+use Rattle.df_format.specs.Copies.{Content, content_at, rank_of_copy}
 use Rattle.df_format.specs.declared.superblock.SuperFields.{SuperFields}
-use Rattle.df_quorum.specs.Quorum.{Copies, Agree, IsChosen}
+use Rattle.df_quorum.specs.Quorum.{Copies, CopiesAgree, IsChosenContent}
 use Rattle.df_superblock.specs.Copies.{IsMisled}
 use Rattle.df_superblock.specs.Events.{repair_events}
 use Rattle.df_quorum.proofs.Laws.{same_content as same_copy, agree_at as agree_of}
@@ -49,7 +49,7 @@ module _ (before : Copies) (log : Log) (c : Content) (image : Image) (u : IsUnde
   ]
 
   -- a pair that a loose copy makes was a pair before
-  loose_pair : (d : Content) (i j : ℕ) → i < 4 → j < 4 → (i ≡ j → ⊥) → loose log i ≡ true → content_at image i ≡ Some d → content_at image j ≡ Some d → (d ≡ c → ⊥) → rank_of c ≤ rank_of d → (before i ≡ Some d) × (before j ≡ Some d)
+  loose_pair : (d : Content) (i j : ℕ) → i < 4 → j < 4 → (i ≡ j → ⊥) → loose log i ≡ true → content_at image i ≡ Some d → content_at image j ≡ Some d → (d ≡ c → ⊥) → rank_of_copy c ≤ rank_of_copy d → (before i ≡ Some d) × (before j ≡ Some d)
   loose_pair d i j below_i below_j apart wet is_i is_j differs high = elim (shows_content (before i) d) [
     | inl was_i ↦ elim (shows_content (before j) d) [
       | inl was_j ↦ (was_i, was_j)
@@ -58,7 +58,7 @@ module _ (before : Copies) (log : Log) (c : Content) (image : Image) (u : IsUnde
     | inr none ↦ absurd (not (record { place = i; other = j; content = d; inside = below_i; other_inside = below_j; apart = apart; loose = wet; at_place = is_i; at_other = is_j; differs = differs; not_below = high; new = λ a b. none a }))
   ]
 
-  pair_before : (d : Content) (i j : ℕ) → i < 4 → j < 4 → (i ≡ j → ⊥) → content_at image i ≡ Some d → content_at image j ≡ Some d → (d ≡ c → ⊥) → rank_of c ≤ rank_of d → (before i ≡ Some d) × (before j ≡ Some d)
+  pair_before : (d : Content) (i j : ℕ) → i < 4 → j < 4 → (i ≡ j → ⊥) → content_at image i ≡ Some d → content_at image j ≡ Some d → (d ≡ c → ⊥) → rank_of_copy c ≤ rank_of_copy d → (before i ≡ Some d) × (before j ≡ Some d)
   pair_before d i j below_i below_j apart is_i is_j differs high = elim (cases_Bool (loose log i)) [
     | inl wet ↦ loose_pair d i j below_i below_j apart wet is_i is_j differs high
     | inr firm_i ↦ elim (cases_Bool (loose log j)) [
@@ -69,17 +69,17 @@ module _ (before : Copies) (log : Log) (c : Content) (image : Image) (u : IsUnde
     ]
   ]
 
-  greatest : IsChosen before c → (d : Content) → Agree (content_at image) d → rank_of d ≤ rank_of c
-  greatest chosen d a = elim (cases_lt (rank_of c) (rank_of d)) [
+  greatest : IsChosenContent before c → (d : Content) → CopiesAgree (content_at image) d → rank_of_copy d ≤ rank_of_copy c
+  greatest chosen d a = elim (cases_lt (rank_of_copy c) (rank_of_copy d)) [
     | inl high ↦
         let below : a.first < 4 = omega (arith, a.apart, a.inside) in
         let apart : a.first ≡ a.second → ⊥ = λ e. omega (arith, a.apart) in
-        let w = pair_before d a.first a.second below a.inside apart a.at_first a.at_second (λ e. omega (arith, ap rank_of e)) (omega arith) in
+        let w = pair_before d a.first a.second below a.inside apart a.at_first a.at_second (λ e. omega (arith, ap rank_of_copy e)) (omega arith) in
         chosen.greatest d (agree_of before d a.first a.second below a.inside apart w.0 w.1)
     | inr low ↦ omega arith
   ]
 
-  lowest : IsChosen before c → (d : Content) → Agree (content_at image) d → rank_of d ≡ rank_of c → (n : ℕ) → n < 4 → content_at image n ≡ Some d → (k : ℕ) × (k ≤ n) × (content_at image k ≡ Some c)
+  lowest : IsChosenContent before c → (d : Content) → CopiesAgree (content_at image) d → rank_of_copy d ≡ rank_of_copy c → (n : ℕ) → n < 4 → content_at image n ≡ Some d → (k : ℕ) × (k ≤ n) × (content_at image k ≡ Some c)
   lowest chosen d a tie n below is = elim (same_content d c) [
     | inl same ↦ (n, omega arith, is ∙ ap (λ (x : Content). Some x) same)
     | inr differs ↦
@@ -90,10 +90,10 @@ module _ (before : Copies) (log : Log) (c : Content) (image : Image) (u : IsUnde
         (k.0, kb, member_stays k.0 (omega arith) k.2)
   ]
 
-  stays : IsChosen before c → IsChosen (content_at image) c
+  stays : IsChosenContent before c → IsChosenContent (content_at image) c
   stays chosen = record {
     agreed =
-        let a : Agree before c = chosen.agreed in
+        let a : CopiesAgree before c = chosen.agreed in
         record {
           first = a.first;
           second = a.second;
@@ -108,7 +108,7 @@ module _ (before : Copies) (log : Log) (c : Content) (image : Image) (u : IsUnde
 
 -- at a moment each image that keeps the rest and isn't misled has the choice
 abbrev pub KeepsChoice : Copies → Content → Log → Type 0
-KeepsChoice before c log = (image : Image) → Keeps log image → (IsMisled before log c image → ⊥) → IsChosen (content_at image) c
+KeepsChoice before c log = (image : Image) → Keeps log image → (IsMisled before log c image → ⊥) → IsChosenContent (content_at image) c
 
 -- those that are written, from a number on, didn't show the content
 abbrev pub AreOutside : Copies → Content → ℕ → List Bool → Type 0
@@ -116,7 +116,7 @@ AreOutside before c number [] = Unit {0}
 AreOutside before c number (true ∷ members) = AreOutside before c (number + 1) members
 AreOutside before c number (false ∷ members) = (before number ≡ Some c → ⊥) × AreOutside before c (number + 1) members
 
-module _ (f : SuperFields) (c : Content) (puts : (n : ℕ) → n < 4 → PutsCopy n (copy_bytes n f) c) (before : Copies) (chosen : IsChosen before c) where
+module _ (f : SuperFields) (c : Content) (puts : (n : ℕ) → n < 4 → PutsCopy n (copy_bytes n f) c) (before : Copies) (chosen : IsChosenContent before c) where
   pub each_stays : (number : ℕ) (members : List Bool) (log : Log) → number + length members ≤ 4 → IsUnder before log c → AreOutside before c number members → AtEach (KeepsChoice before c) log (repair_events f number members)
   each_stays number [] log fits u outside = λ image keeps not. stays before log c image u keeps not chosen
   each_stays number (true ∷ members) log fits u outside = each_stays (number + 1) members log (omega arith) u outside

@@ -6,7 +6,7 @@ use Rattle.df_format.specs.Super.{copy_bytes}
 use Rattle.df_format.specs.SuperRules.{IsUsable}
 use Rattle.df_format.specs.declared.superblock.SuperCopy.{SuperCopy}
 use Rattle.df_format.specs.declared.superblock.SuperFields.{SuperFields}
-use Rattle.df_format.specs.Copies.{Content, content_at, content_of, content_with, copy_at, copy_in, if_here}
+use Rattle.df_format.specs.Copies.{Content, content_at, content_in_copy, content_with, copy_at, copy_in, if_here}
 use Rattle.df_format.proofs.Laws.{written_copy, one_sector, one_copy_spelling}
 use Rattle.df_superblock.proofs.Sights.{PutsCopy}
 
@@ -21,15 +21,15 @@ copy_put f usable n below = record {
 }
 
 -- the copy after a content that is shown
-copy_of_shown : (n : ℕ) (o : Option SuperCopy) (c : Content) → content_of (if_here n o) ≡ Some c → (copy : SuperCopy) × (o ≡ Some copy) × (c ≡ record { checksum = copy.checksum; fields = copy.fields })
+copy_of_shown : (n : ℕ) (o : Option SuperCopy) (c : Content) → content_in_copy (if_here n o) ≡ Some c → (copy : SuperCopy) × (o ≡ Some copy) × (c ≡ record { checksum = copy.checksum; fields = copy.fields })
 copy_of_shown n None c is = absurd (let no : None ≡ Some c = is in cc)
 copy_of_shown n (Some copy) c is = go (copy.number == n) refl
   where
     go : (b : Bool) → (copy.number == n) ≡ b → (found : SuperCopy) × (Some copy ≡ Some found) × (c ≡ record { checksum = found.checksum; fields = found.fields })
     go true here =
-        let shown : Some (record { checksum = copy.checksum; fields = copy.fields }) ≡ Some c = sym (ap (λ (b : Bool). content_of (if b then Some copy else None)) here) ∙ is in
+        let shown : Some (record { checksum = copy.checksum; fields = copy.fields }) ≡ Some c = sym (ap (λ (b : Bool). content_in_copy (if b then Some copy else None)) here) ∙ is in
         (copy, refl, let same : c ≡ record { checksum = copy.checksum; fields = copy.fields } = cc in same)
-    go false there = absurd (let none : None ≡ Some c = sym (ap (λ (b : Bool). content_of (if b then Some copy else None)) there) ∙ is in cc)
+    go false there = absurd (let none : None ≡ Some c = sym (ap (λ (b : Bool). content_in_copy (if b then Some copy else None)) there) ∙ is in cc)
 
 -- a content with fields that can be used has the checksum that they give
 pub one_content : (image : Image) (n : ℕ) (c : Content) (f : SuperFields) → IsSector (image n) → IsUsable f → content_at image n ≡ Some c → c.fields ≡ f → content_with f ≡ c

@@ -3,12 +3,12 @@ use Rattle.std.proofs.Common.{◌≡◌, ℕ, false, ◌||◌, List, Some, ap}
 use Rattle.df_base.specs.Image.{Image, covers, written}
 use Rattle.df_base.specs.Log.{Write, Log, add, loose, now}
 use Rattle.df_base.proofs.Laws.{written_else}
-use Rattle.df_format.specs.Copies.{Content, content_at, content_of, copy_at, copy_in, if_here}
+use Rattle.df_format.specs.Copies.{Content, content_at, content_in_copy, copy_at, copy_in, if_here}
 
 -- one sector decides what a place shows
 pub seen_same : (one two : Image) (n : ℕ) → one n ≡ two n → content_at one n ≡ content_at two n
 unfolding copy_at
-seen_same one two n same = ap (λ (bytes : List ℕ). content_of (if_here n (copy_in bytes))) same
+seen_same one two n same = ap (λ (bytes : List ℕ). content_in_copy (if_here n (copy_in bytes))) same
 
 pub seen_apart : (at : ℕ) (bytes : List ℕ) (image : Image) (n : ℕ) → covers at bytes n ≡ false → content_at (written at bytes image) n ≡ content_at image n
 seen_apart at bytes image n out = seen_same (written at bytes image) image n (written_else at bytes image n out)

@@ -5,7 +5,7 @@ use Rattle.df_theory.specs.Copies.{rank_of, IsNextContent, Agree, IsChosen}
 use Rattle.df_theory.specs.UnitLog.{UnitLog, Synced, Stopped, add, now, loose, wrote, put_one}
 use Rattle.df_theory.specs.Chance.{InImages}
 use Rattle.df_theory.proofs.Laws.{same_copy, chosen_above, put_one_law, four}
-use Rattle.df_superblock.specs.Misleading.{GrowFrom, KnowsCopies, LeavesCopies, MisleadsLaw}
+use Rattle.df_superblock.specs.Misleading.{GrowFrom, KnowsCopies, MayLeaveCopies, MisleadsLaw}
 
 abbrev layout : Layout
 layout = record { slots = 16; message_size = 4096; clients = 4; block_size = 4096; blocks = 1024 }
@@ -142,7 +142,7 @@ grew = (
     grew4 : GrowFrom (log0.start ∷ []) first (now log4 ∷ now log3 ∷ now log2 ∷ now log1 ∷ []) first
     grew4 = (usual_chosen (log0.start ∷ []) (now log4) third (inl (refl, refl)) (inl refl) refl refl refl, (first, (grew3, (inl refl, usual (now log3 ∷ now log2 ∷ now log1 ∷ log0.start ∷ []) (now log4) third (inl (refl, refl)) (inl refl) refl refl refl))))
 
-bad_left : LeavesCopies (wrote (put 0 first) log5) bad
+bad_left : MayLeaveCopies (wrote (put 0 first) log5) bad
 bad_left n below firm = elim (four n below) [
   | inl is ↦ absurd (let wet : loose (wrote (put 0 first) log5) (CopyPlace 0) ≡ false = ap (λ (i : ℕ). loose (wrote (put 0 first) log5) (CopyPlace i)) (sym is) ∙ firm in cc)
   | inr (inl is) ↦ subst (λ (i : ℕ). bad (CopyPlace i) ≡ now (wrote (put 0 first) log5) (CopyPlace i)) (sym is) refl

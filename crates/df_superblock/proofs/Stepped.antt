@@ -11,9 +11,9 @@ use Rattle.df_units.specs.Puts.{put_copies}
 use Rattle.df_units.specs.Format.{format_of}
 use Rattle.df_units.proofs.Laws.{copy_put}
 use Rattle.df_superblock.specs.Events.{copy_written, repair_events, update_events}
-use Rattle.df_superblock.specs.Steps.{AreStepsOfCopies, repair_steps, repaired, write_steps}
+use Rattle.df_superblock.specs.Steps.{AreStepsOfCopies, copy_write_steps, repair_steps, repaired}
 
-pub write_is_steps : (number : ℕ) (f : SuperFields) → number < 4 → IsUsable f → AreStepsOfCopies (copy_written number f ∷ Sync ∷ []) (write_steps number f)
+pub write_is_steps : (number : ℕ) (f : SuperFields) → number < 4 → IsUsable f → AreStepsOfCopies (copy_written number f ∷ Sync ∷ []) (copy_write_steps number f)
 write_is_steps number f small is layout cluster = (copy_put layout cluster number f small is, tt)
 
 pub update_is_steps : (f : SuperFields) → IsUsable f → AreStepsOfCopies (update_events f) (update_steps (put_copies f))

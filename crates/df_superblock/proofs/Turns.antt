@@ -4,8 +4,8 @@ use Rattle.std.proofs.lemmas.Bool.{cases_eq, cases_lt}
 use Rattle.df_base.specs.Image.{Image, written}
 use Rattle.df_base.specs.Log.{Event, Write, Sync, Stop, Log, add, loose, loose_of, now, now_of}
 use Rattle.df_base.specs.Moments.{Extends}
-use Rattle.df_format.specs.Copies.{Content, content_at, rank_of}
-use Rattle.df_quorum.specs.Quorum.{Copies, Agree, IsChosen}
+use Rattle.df_format.specs.Copies.{Content, content_at, rank_of_copy}
+use Rattle.df_quorum.specs.Quorum.{Copies, CopiesAgree, IsChosenContent}
 use Rattle.df_superblock.specs.Copies.{AreQuiet, AreEqual, OfEither, Spare, IsOldOrNew}
 use Rattle.df_quorum.proofs.Laws.{same_content as same_copy, chosen_above}
 use Rattle.df_superblock.proofs.Choices.{shows_content}
@@ -18,16 +18,16 @@ pub record AreAround (copies : Copies) (old new : Content) (i : ℕ) : Type 0 wh
   pub before : (n : ℕ) → n < i → n < 4 → copies n ≡ Some new
   pub behind : (n : ℕ) → i < n → n < 4 → copies n ≡ Some old
 
-module _ (copies : Copies) (old new : Content) (i : ℕ) (less : rank_of old < rank_of new) (around : AreAround copies old new i) where
+module _ (copies : Copies) (old new : Content) (i : ℕ) (less : rank_of_copy old < rank_of_copy new) (around : AreAround copies old new i) where
   -- two copies agree on one of the two alone
-  one_of : (d : Content) → Agree copies d → (d ≡ new) ⊎ (d ≡ old)
+  one_of : (d : Content) → CopiesAgree copies d → (d ≡ new) ⊎ (d ≡ old)
   one_of d a = elim (cases_lt a.first i) [
     | inl less ↦ inl (same_copy copies a.first d new a.at_first (around.before a.first less (omega (arith, a.apart, a.inside))))
     | inr more ↦ inr (same_copy copies a.second d old a.at_second (around.behind a.second (omega (arith, a.apart)) a.inside))
   ]
 
   new_is_other : old ≡ new → ⊥
-  new_is_other same = omega (arith, ap rank_of same)
+  new_is_other same = omega (arith, ap rank_of_copy same)
 
   -- copy 1 has its turn after copy 0
   zeroth : copies 1 ≡ Some new → copies 0 ≡ Some new
@@ -36,14 +36,14 @@ module _ (copies : Copies) (old new : Content) (i : ℕ) (less : rank_of old < r
     | inr none ↦ absurd (new_is_other (same_copy copies 1 old new (around.behind 1 (omega arith) (omega arith)) one))
   ]
 
-  is_new : copies 1 ≡ Some new → IsChosen copies new
+  is_new : copies 1 ≡ Some new → IsChosenContent copies new
   is_new one = chosen_above copies new (record { first = 0; second = 1; apart = omega arith; inside = omega arith; at_first = zeroth one; at_second = one }) (λ d a. elim (one_of d a) [
     | inl same ↦ inl same
-    | inr same ↦ inr (omega (arith, ap rank_of same))
+    | inr same ↦ inr (omega (arith, ap rank_of_copy same))
   ])
 
   -- no two copies are new as long as copy 1 isn't
-  no_pair : (copies 1 ≡ Some new → ⊥) → i < 2 → Agree copies new → ⊥
+  no_pair : (copies 1 ≡ Some new → ⊥) → i < 2 → CopiesAgree copies new → ⊥
   no_pair not early a = elim (cases_eq a.second 1) [
     | inl here ↦ not (ap copies (sym here) ∙ a.at_second)
     | inr there ↦ new_is_other (same_copy copies a.second old new (around.behind a.second (omega (arith, a.apart)) a.inside) a.at_second)
@@ -55,11 +55,11 @@ module _ (copies : Copies) (old new : Content) (i : ℕ) (less : rank_of old < r
     | inr more ↦ absurd (not (around.before 1 (omega arith) (omega arith)))
   ]
 
-  is_old : (copies 1 ≡ Some new → ⊥) → IsChosen copies old
+  is_old : (copies 1 ≡ Some new → ⊥) → IsChosenContent copies old
   is_old not =
       let less_two : i < 2 = early not in
       chosen_above copies old (record { first = 2; second = 3; apart = omega arith; inside = omega arith; at_first = around.behind 2 less_two (omega arith); at_second = around.behind 3 (omega arith) (omega arith) }) (λ d a. elim (one_of d a) [
-        | inl same ↦ absurd (no_pair not less_two (subst (λ (x : Content). Agree copies x) same a))
+        | inl same ↦ absurd (no_pair not less_two (subst (λ (x : Content). CopiesAgree copies x) same a))
         | inr same ↦ inl same
       ])
 
@@ -75,7 +75,7 @@ turn_left log old new i image turn keeps = record {
   behind = λ n more below. firm_shows log image n keeps (turn.firm n (λ e. omega arith) below) ∙ turn.around.behind n more below;
 }
 
-either_chosen : (log : Log) (old new : Content) (i : ℕ) (image : Image) → rank_of old < rank_of new → IsTurn log old new i → Keeps log image → OfEither image old new (IsChosen (content_at image))
+either_chosen : (log : Log) (old new : Content) (i : ℕ) (image : Image) → rank_of_copy old < rank_of_copy new → IsTurn log old new i → Keeps log image → OfEither image old new (IsChosenContent (content_at image))
 either_chosen log old new i image less turn keeps =
     let around = turn_left log old new i image turn keeps in
     elim (shows_content (content_at image 1) new) [
@@ -105,12 +105,12 @@ spared entry log since n image spare firm keeps =
     ∙ ap (λ (start : Image). content_at (now_of start (since.0 ++ entry.events)) n) since.2
     ∙ spare_shows entry.start since.0 entry.events n spare
 
-pub turn_moment : (entry log : Log) (old new : Content) (i : ℕ) → rank_of old < rank_of new → AreQuiet entry → AreEqual (now entry) old → IsTurn log old new i → IsOldOrNew entry old new log
+pub turn_moment : (entry log : Log) (old new : Content) (i : ℕ) → rank_of_copy old < rank_of_copy new → AreQuiet entry → AreEqual (now entry) old → IsTurn log old new i → IsOldOrNew entry old new log
 turn_moment entry log old new i less quiet equal turn = record {
   left = λ image left. either_chosen log old new i image less turn left.kept;
   first = λ since spare image left.
       let shown : content_at image 1 ≡ Some old = spared entry log since 1 image spare (quiet 1 (omega arith)) left.kept ∙ equal 1 (omega arith) in
-      is_old (content_at image) old new i less (turn_left log old new i image turn left.kept) (λ both. omega (arith, ap rank_of (same_copy (content_at image) 1 old new shown both)));
+      is_old (content_at image) old new i less (turn_left log old new i image turn left.kept) (λ both. omega (arith, ap rank_of_copy (same_copy (content_at image) 1 old new shown both)));
 }
 
 -- ---- from one turn to the next

@@ -8,11 +8,11 @@ use Rattle.df_disk.specs.Told.{Told, Shows}
 use Rattle.df_layout.specs.declared.damage.Class.{Class}
 use Rattle.df_format.specs.declared.superblock.SuperCopy.{SuperCopy}
 use Rattle.df_format.specs.declared.superblock.SuperFields.{SuperFields}
-use Rattle.df_format.specs.Copies.{Content, content_at, content_of, copy_at, copy_in, copy_or_class, class_of_copy, if_here, own_copy}
+use Rattle.df_format.specs.Copies.{Content, content_at, content_in_copy, copy_at, copy_in, copy_or_class, class_of_copy, if_here, own_copy}
 use Rattle.df_quorum.specs.declared.slot.Slot.{Slot}
 use Rattle.df_quorum.specs.declared.slot.Slot.TheVariants.{Sound}
 use Rattle.df_quorum.specs.Quorum.{copy_of, nothing}
-use Rattle.df_superblock.specs.Calls.{slot_of, slot_at, ShowsSector, ShowsSlot, ShowsSlots, ShowsCopies, Holds, IsRead, AreEnough, IsFirstMissing}
+use Rattle.df_superblock.specs.Calls.{slot_of, slot_at, ShowsSector, ShowsCopySlot, ShowsSlots, ShowsCopies, SlotHolds, IsCopyRead, AreEnough, IsFirstMissing}
 
 -- a copy that belongs here belongs here
 here_again : (n : ℕ) (class : Class) (o : Option SuperCopy) → if_here n (copy_of (slot_of (copy_or_class (if_here n o) class))) ≡ if_here n o
@@ -23,13 +23,13 @@ here_again n class (Some copy) = go (copy.number == n) refl
     go true is = rw is (rw is refl)
     go false is = rw is refl
 
-slot_shows : (image : Image) (n : ℕ) → content_of (if_here n (copy_of (slot_at image n))) ≡ content_at image n
+slot_shows : (image : Image) (n : ℕ) → content_in_copy (if_here n (copy_of (slot_at image n))) ≡ content_at image n
 unfolding copy_at
-slot_shows image n = ap content_of (here_again n (class_of_copy n (image n)) (copy_in (image n)))
+slot_shows image n = ap content_in_copy (here_again n (class_of_copy n (image n)) (copy_in (image n)))
 
 pub shows_copies : (told : Option Told) (slots : List Slot) → ShowsSlots told slots → ShowsCopies told slots
 shows_copies None slots shown = tt
-shows_copies (Some t) slots shown = λ n below. ap (λ (slot : Slot). content_of (if_here n (copy_of slot))) (shown n below) ∙ slot_shows t.shown n
+shows_copies (Some t) slots shown = λ n below. ap (λ (slot : Slot). content_in_copy (if_here n (copy_of slot))) (shown n below) ∙ slot_shows t.shown n
 
 -- one sector is read
 shows_sector : (told : Option Told) (n : ℕ) (bytes : List ℕ) → length bytes ≡ 4096 → Shows told n bytes → ShowsSector told n bytes
@@ -47,19 +47,19 @@ read_shows told at n bytes (Err e) same size shown = tt
 pub whole_room : (new old : List ℕ) → length new ≡ length old → take (length old) (new ++ drop (length new) old) ≡ new
 whole_room new old size = ap (λ (k : ℕ). take k (new ++ drop (length new) old)) (sym size) ∙ take-append_seam new (drop (length new) old)
 
-pub shows_slot : (told : Option Told) (n : ℕ) (bytes held : List ℕ) (slot : Slot) → ShowsSector told n bytes → held ≡ bytes → slot ≡ slot_of (own_copy n held) → ShowsSlot told n slot
+pub shows_slot : (told : Option Told) (n : ℕ) (bytes held : List ℕ) (slot : Slot) → ShowsSector told n bytes → held ≡ bytes → slot ≡ slot_of (own_copy n held) → ShowsCopySlot told n slot
 shows_slot None n bytes held slot shown same is = tt
 shows_slot (Some t) n bytes held slot shown same is = is ∙ ap (λ (b : List ℕ). slot_of (own_copy n b)) (same ∙ shown)
 
-pub shows_four : (told : Option Told) (a b c d : Slot) → ShowsSlot told 0 a → ShowsSlot told 1 b → ShowsSlot told 2 c → ShowsSlot told 3 d → ShowsSlots told (a ∷ b ∷ c ∷ d ∷ [])
+pub shows_four : (told : Option Told) (a b c d : Slot) → ShowsCopySlot told 0 a → ShowsCopySlot told 1 b → ShowsCopySlot told 2 c → ShowsCopySlot told 3 d → ShowsSlots told (a ∷ b ∷ c ∷ d ∷ [])
 shows_four told a b c d first second third fourth zero below = first
 shows_four told a b c d first second third fourth (suc zero) below = second
 shows_four told a b c d first second third fourth (suc (suc zero)) below = third
 shows_four told a b c d first second third fourth (suc (suc (suc zero))) below = fourth
 shows_four told a b c d first second third fourth (suc (suc (suc (suc n)))) below = absurd (omega arith)
 
-pub shows_later : (one two : Option Told) (n : ℕ) (slot : Slot) → two ≡ one → ShowsSlot two n slot → ShowsSlot one n slot
-shows_later one two n slot same shown = subst (λ (told : Option Told). ShowsSlot told n slot) same shown
+pub shows_later : (one two : Option Told) (n : ℕ) (slot : Slot) → two ≡ one → ShowsCopySlot two n slot → ShowsCopySlot one n slot
+shows_later one two n slot same shown = subst (λ (told : Option Told). ShowsCopySlot told n slot) same shown
 
 -- ---- slots
 
@@ -69,16 +69,16 @@ get_or_any (slot ∷ slots) zero one two inside = refl
 get_or_any (slot ∷ slots) (suc n) one two inside = get_or_any slots n one two (omega arith)
 
 -- whatever is read past the end
-pub read_here : (slots : List Slot) (n m : ℕ) (other : Slot) (f : SuperFields) (b : Bool) → n < length slots → m ≡ n → IsTrue b ↔ Holds n (get_or slots m other) f → IsTrue b ↔ IsRead slots f n
-read_here slots n m other f b inside same is = subst (λ (slot : Slot). IsTrue b ↔ Holds n slot f) (ap (λ (k : ℕ). get_or slots k other) same ∙ get_or_any slots n other nothing inside) is
+pub read_here : (slots : List Slot) (n m : ℕ) (other : Slot) (f : SuperFields) (b : Bool) → n < length slots → m ≡ n → IsTrue b ↔ SlotHolds n (get_or slots m other) f → IsTrue b ↔ IsCopyRead slots f n
+read_here slots n m other f b inside same is = subst (λ (slot : Slot). IsTrue b ↔ SlotHolds n slot f) (ap (λ (k : ℕ). get_or slots k other) same ∙ get_or_any slots n other nothing inside) is
 
 some_content : (c d : Content) → Some c ≡ Some d → c ≡ d
 some_content c d e = cc
 
-pub holds_sound : (n : ℕ) (slot : Slot) (copy : SuperCopy) (f : SuperFields) (b : Bool) → slot ≡ Sound copy → copy.number ≡ n → IsTrue b ↔ (copy.fields ≡ f) → IsTrue b ↔ Holds n slot f
+pub holds_sound : (n : ℕ) (slot : Slot) (copy : SuperCopy) (f : SuperFields) (b : Bool) → slot ≡ Sound copy → copy.number ≡ n → IsTrue b ↔ (copy.fields ≡ f) → IsTrue b ↔ SlotHolds n slot f
 holds_sound n slot copy f b is here same =
-    let shown : content_of (if_here n (copy_of slot)) ≡ Some (record { checksum = copy.checksum; fields = copy.fields }) =
-    ap (λ (s : Slot). content_of (if_here n (copy_of s))) is ∙ ap (λ (t : Bool). content_of (if t then Some copy else None)) (eq-eqb copy.number n here) in (
+    let shown : content_in_copy (if_here n (copy_of slot)) ≡ Some (record { checksum = copy.checksum; fields = copy.fields }) =
+    ap (λ (s : Slot). content_in_copy (if_here n (copy_of s))) is ∙ ap (λ (t : Bool). content_in_copy (if t then Some copy else None)) (eq-eqb copy.number n here) in (
       λ true_b. (record { checksum = copy.checksum; fields = copy.fields }, shown, same.0 true_b),
       λ held.
           let one : record { checksum = copy.checksum; fields = copy.fields } ≡ held.0 = some_content _ _ (sym shown ∙ held.1) in
@@ -88,7 +88,7 @@ holds_sound n slot copy f b is here same =
 -- ---- verdicts
 
 -- all but one at most
-pub enough_from : (slots : List Slot) (f : SuperFields) (first : ℕ) → IsFirstMissing slots f 0 first → ((n : ℕ) → first + 1 ≤ n → n < 4 → IsRead slots f n) → AreEnough slots f
+pub enough_from : (slots : List Slot) (f : SuperFields) (first : ℕ) → IsFirstMissing slots f 0 first → ((n : ℕ) → first + 1 ≤ n → n < 4 → IsCopyRead slots f n) → AreEnough slots f
 enough_from slots f first is behind = (
   first,
   λ n below away. elim (cases_lt n first) [
@@ -101,8 +101,8 @@ enough_from slots f first is behind = (
     order a b more away = omega arith
 
 -- one more
-pub read_on : (slots : List Slot) (f : SuperFields) (from next : ℕ) → ((n : ℕ) → from ≤ n → n < next → IsRead slots f n) → IsRead slots f next → (n : ℕ) → from ≤ n → n < next + 1 → IsRead slots f n
+pub read_on : (slots : List Slot) (f : SuperFields) (from next : ℕ) → ((n : ℕ) → from ≤ n → n < next → IsCopyRead slots f n) → IsCopyRead slots f next → (n : ℕ) → from ≤ n → n < next + 1 → IsCopyRead slots f n
 read_on slots f from next before here n more less = elim (cases_lt n next) [
   | inl low ↦ before n more low
-  | inr high ↦ let same : next ≡ n = omega arith in subst (λ (k : ℕ). IsRead slots f k) same here
+  | inr high ↦ let same : next ≡ n = omega arith in subst (λ (k : ℕ). IsCopyRead slots f k) same here
 ]

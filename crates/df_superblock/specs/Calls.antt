@@ -11,11 +11,11 @@ use Rattle.df_layout.specs.declared.places.Zone.TheVariants.{Superblock}
 use Rattle.df_format.specs.Own.{place_in}
 use Rattle.df_format.specs.declared.superblock.SuperCopy.{SuperCopy}
 use Rattle.df_format.specs.declared.superblock.SuperFields.{SuperFields}
-use Rattle.df_format.specs.Copies.{Content, content_at, content_of, content_with, if_here, own_copy}
+use Rattle.df_format.specs.Copies.{Content, content_at, content_in_copy, content_with, if_here, own_copy}
 use Rattle.df_quorum.specs.declared.slot.Slot.{Slot}
 use Rattle.df_quorum.specs.declared.slot.Slot.TheVariants.{Sound, Bad}
 use Rattle.df_quorum.specs.declared.choice.Chosen.{Chosen}
-use Rattle.df_quorum.specs.Quorum.{IsChosen, copies_of, copy_of, nothing}
+use Rattle.df_quorum.specs.Quorum.{IsChosenContent, copies_of, copy_of, nothing}
 use Rattle.df_superblock.specs.Copies.{AreQuiet, AreEqual, IsMisled, IsOldOrNew, MayUpdate, IsChoice}
 use Rattle.df_superblock.specs.declared.updates.UpdateError.{UpdateError}
 use Rattle.df_superblock.specs.declared.updates.UpdateError.TheVariants.{Damaged, DiskFault}
@@ -37,13 +37,13 @@ abbrev pub slot_at : Image → ℕ → Slot
 slot_at image number = slot_of (own_copy number (image number))
 
 -- the slot is what is shown at this place, where the disk tells it
-abbrev pub ShowsSlot : Option Told → ℕ → Slot → Type 0
-ShowsSlot None number slot = Unit {0}
-ShowsSlot (Some t) number slot = slot ≡ slot_at t.shown number
+abbrev pub ShowsCopySlot : Option Told → ℕ → Slot → Type 0
+ShowsCopySlot None number slot = Unit {0}
+ShowsCopySlot (Some t) number slot = slot ≡ slot_at t.shown number
 
 -- these four are what is shown at the four places
 abbrev pub ShowsSlots : Option Told → List Slot → Type 0
-ShowsSlots told slots = (n : ℕ) → n < 4 → ShowsSlot told n (get_or slots n nothing)
+ShowsSlots told slots = (n : ℕ) → n < 4 → ShowsCopySlot told n (get_or slots n nothing)
 
 -- so they say what the places say
 abbrev pub ShowsCopies : Option Told → List Slot → Type 0
@@ -53,28 +53,28 @@ ShowsCopies (Some t) slots = (n : ℕ) → n < 4 → copies_of slots n ≡ conte
 -- ---- updates
 
 -- the slot of this number holds a copy that belongs there and has these fields
-abbrev pub Holds : ℕ → Slot → SuperFields → Type 0
-Holds number slot f = (c : Content) × (content_of (if_here number (copy_of slot)) ≡ Some c) × (c.fields ≡ f)
+abbrev pub SlotHolds : ℕ → Slot → SuperFields → Type 0
+SlotHolds number slot f = (c : Content) × (content_in_copy (if_here number (copy_of slot)) ≡ Some c) × (c.fields ≡ f)
 
 -- so the copy was read as it was written
-abbrev pub IsRead : List Slot → SuperFields → ℕ → Type 0
-IsRead slots f number = Holds number (get_or slots number nothing) f
+abbrev pub IsCopyRead : List Slot → SuperFields → ℕ → Type 0
+IsCopyRead slots f number = SlotHolds number (get_or slots number nothing) f
 
 -- three or four copies were read as they were written
 abbrev pub AreEnough : List Slot → SuperFields → Type 0
-AreEnough slots f = (odd : ℕ) × ((n : ℕ) → n < 4 → n ≢ odd → IsRead slots f n)
+AreEnough slots f = (odd : ℕ) × ((n : ℕ) → n < 4 → n ≢ odd → IsCopyRead slots f n)
 
 -- the class of a copy that isn't as it was written: a sound one is an older one
-abbrev pub class_of_slot : Slot → Class
-class_of_slot (Sound copy) = Stale
-class_of_slot (Bad class) = class
+abbrev pub class_of_written_slot : Slot → Class
+class_of_written_slot (Sound copy) = Stale
+class_of_written_slot (Bad class) = class
 
 -- the first of the copies from this number on that wasn't read as it was written
 pub record IsFirstMissing (slots : List Slot) (f : SuperFields) (from first : ℕ) : Type 0 where
   pub behind : from ≤ first
   pub inside : first < 4
-  pub missing : ¬ IsRead slots f first
-  pub read : (n : ℕ) → from ≤ n → n < first → IsRead slots f n
+  pub missing : ¬ IsCopyRead slots f first
+  pub read : (n : ℕ) → from ≤ n → n < first → IsCopyRead slots f n
 
 -- two copies or more weren't, and the first of them has this place and this class
 pub record IsDamaged (slots : List Slot) (f : SuperFields) (place : Place) (class : Class) : Type 0 where
@@ -83,21 +83,21 @@ pub record IsDamaged (slots : List Slot) (f : SuperFields) (place : Place) (clas
   pub is : IsFirstMissing slots f 0 first
   pub apart : first < second
   pub inside : second < 4
-  pub other : ¬ IsRead slots f second
+  pub other : ¬ IsCopyRead slots f second
   pub place_is : place ≡ place_in Superblock first
-  pub class_is : class ≡ class_of_slot (get_or slots first nothing)
+  pub class_is : class ≡ class_of_written_slot (get_or slots first nothing)
 
 -- what an update answers of the copies that it read back
-abbrev pub IsVerdict : {T : Type 0} → List Slot → SuperFields → Result T UpdateError → Type 0
-IsVerdict slots f (Ok x) = AreEnough slots f
-IsVerdict slots f (Err (Damaged place class)) = IsDamaged slots f place class
-IsVerdict slots f (Err DiskFault) = ⊥
+abbrev pub IsUpdateVerdict : {T : Type 0} → List Slot → SuperFields → Result T UpdateError → Type 0
+IsUpdateVerdict slots f (Ok x) = AreEnough slots f
+IsUpdateVerdict slots f (Err (Damaged place class)) = IsDamaged slots f place class
+IsUpdateVerdict slots f (Err DiskFault) = ⊥
 
 -- it read four copies back, and this is what they are; over a disk that tells what it shows they are those shown there
 pub record ReadsBack {T : Type 0} (told : Option Told) (f : SuperFields) (result : Result T UpdateError) : Type 0 where
   pub slots : List Slot
   pub shown : ShowsSlots told slots
-  pub verdict : IsVerdict slots f result
+  pub verdict : IsUpdateVerdict slots f result
 
 -- an update adds all its events, or a part of them, from the first on, where the disk failed
 abbrev pub AddsUpdate : {T : Type 0} → List Event → Option Told → Option Told → Result T UpdateError → Type 0
@@ -150,7 +150,7 @@ KeepsMembers members (Some t) (Some u) = (n : ℕ) → n < 4 → IsTrue (get_or 
 
 -- at this moment whatever a stop leaves has the content chosen, unless it is misled
 abbrev pub KeepsUnlessMisled : Log → Content → Log → Type 0
-KeepsUnlessMisled entry c log = (image : Image) → IsLeft log image → ¬ IsMisled (content_at (now entry)) log c image → IsChosen (content_at image) c
+KeepsUnlessMisled entry c log = (image : Image) → IsLeft log image → ¬ IsMisled (content_at (now entry)) log c image → IsChosenContent (content_at image) c
 
 -- with no word on the history: so it is at each moment, where none of the copies was being written
 abbrev pub RepairsUnlessMisled : Chosen → Option Told → Option Told → Type 0

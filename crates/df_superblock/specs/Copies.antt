@@ -3,9 +3,9 @@ use Rattle.std.specs.Prelude.{◌≡◌, ◌≢◌, ◌⊎◌, ◌<◌, ◌≤�
 use Rattle.df_base.specs.Image.{Image, covers}
 use Rattle.df_base.specs.Log.{Event, Write, Sync, Stop, Log, IsLeft, loose, now}
 use Rattle.df_base.specs.Moments.{Extends}
-use Rattle.df_format.specs.Copies.{Content, content_at, rank_of}
+use Rattle.df_format.specs.Copies.{Content, content_at, rank_of_copy}
 use Rattle.df_quorum.specs.declared.choice.Chosen.{Chosen}
-use Rattle.df_quorum.specs.Quorum.{Copies, IsChosen, AreMembers}
+use Rattle.df_quorum.specs.Quorum.{Copies, IsChosenContent, AreMembers}
 
 -- no copy's sector was written since the last sync or stop: the four copies are sectors 0 to 3
 abbrev pub AreQuiet : Log → Type 0
@@ -32,7 +32,7 @@ pub record IsMisled (before : Copies) (log : Log) (c : Content) (image : Image) 
   pub at_place : content_at image place ≡ Some content
   pub at_other : content_at image other ≡ Some content
   pub differs : content ≢ c
-  pub not_below : rank_of c ≤ rank_of content
+  pub not_below : rank_of_copy c ≤ rank_of_copy content
   pub new : before place ≡ Some content → before other ≢ Some content
 
 -- none of these events writes the sector, and none is a stop
@@ -45,17 +45,17 @@ Spare ((Stop cs) ∷ es) sector = ⊥
 -- At a moment of an update, with no word on the history: whatever a stop leaves has the new content chosen if copy 1
 -- shows it, and else the old one; and the old one as long as copy 1 wasn't written.
 pub record IsOldOrNew (entry : Log) (old new : Content) (log : Log) : Type 0 where
-  pub left : (image : Image) → IsLeft log image → OfEither image old new (IsChosen (content_at image))
-  pub first : (since : Extends log entry) → Spare since.0 1 → (image : Image) → IsLeft log image → IsChosen (content_at image) old
+  pub left : (image : Image) → IsLeft log image → OfEither image old new (IsChosenContent (content_at image))
+  pub first : (since : Extends log entry) → Spare since.0 1 → (image : Image) → IsLeft log image → IsChosenContent (content_at image) old
 
 -- four equal copies that are to be updated to a content above theirs
 pub record MayUpdate (log : Log) (old new : Content) : Type 0 where
   pub quiet : AreQuiet log
   pub equal : AreEqual (now log) old
-  pub above : rank_of old < rank_of new
+  pub above : rank_of_copy old < rank_of_copy new
 
 -- the choice among these copies, with its members
 pub record IsChoice (copies : Copies) (chosen : Chosen) (c : Content) : Type 0 where
-  pub is : IsChosen copies c
+  pub is : IsChosenContent copies c
   pub fields : c.fields ≡ chosen.content
   pub members : AreMembers copies c chosen.members

@@ -6,8 +6,8 @@ use Rattle.df_theory.specs.UnitLog.{UnitLog, loose, now, settled, wrote, PutsOne
 use Rattle.df_theory.specs.Chance.{InImages, InPool, InWrites}
 
 -- a stop now may leave these copies: any at the loose ones, and at all others what is shown now
-abbrev pub LeavesCopies : UnitLog → Units → Type 0
-LeavesCopies log image = (n : ℕ) → n < 4 → loose log (CopyPlace n) ≡ false → image (CopyPlace n) ≡ now log (CopyPlace n)
+abbrev pub MayLeaveCopies : UnitLog → Units → Type 0
+MayLeaveCopies log image = (n : ℕ) → n < 4 → loose log (CopyPlace n) ≡ false → image (CopyPlace n) ≡ now log (CopyPlace n)
 
 -- each copy shown was settled there or is being written there
 abbrev pub KnowsCopies : UnitLog → Units → Type 0
@@ -40,7 +40,7 @@ pub record Misleads : Type 0 where
   pub chosen : IsChosen (now log) c
   pub outside : now log (CopyPlace 0) ≡ Some (CopyUnit c) → ⊥
   pub one : PutsOne put (CopyPlace 0) (CopyUnit c)
-  pub left : LeavesCopies (wrote put log) image
+  pub left : MayLeaveCopies (wrote put log) image
   pub known : KnowsCopies (wrote put log) image
   pub other : IsChosen image d
   pub differs : d ≡ c → ⊥

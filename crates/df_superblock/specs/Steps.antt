@@ -15,8 +15,8 @@ abbrev pub AreStepsOfCopies : List Event → List Step → Type 0
 AreStepsOfCopies events steps = (layout : Layout) (cluster : ℕ) → AreSteps (format_of layout cluster) events steps
 
 -- a copy is put, and synced
-abbrev pub write_steps : ℕ → SuperFields → List Step
-write_steps number f = Puts (put_copy number f) ∷ Syncs ∷ []
+abbrev pub copy_write_steps : ℕ → SuperFields → List Step
+copy_write_steps number f = Puts (put_copy number f) ∷ Syncs ∷ []
 
 -- the copies that a repair puts, from this number on, with their numbers: those that aren't members
 abbrev pub repaired : SuperFields → ℕ → List Bool → List (ℕ × Units)

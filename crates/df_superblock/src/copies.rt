@@ -1,9 +1,9 @@
 // Reads and writes of single copies. A copy is durable before its writer answers.
 ghost use Rattle.std.specs.Prelude.{◌≡◌, ◌<◌, [], ◌∷◌, length, IfOk, OnOk};
 ghost use Rattle.df_superblock.specs.Below.{HasCause, Sync, Adds, own_copy};
-ghost use Rattle.df_superblock.specs.Calls.{ShowsSector, ShowsSlot, ShowsSlots, ShowsCopies, slot_of};
+ghost use Rattle.df_superblock.specs.Calls.{ShowsSector, ShowsCopySlot, ShowsSlots, ShowsCopies, slot_of};
 ghost use Rattle.df_superblock.specs.Events.{copy_written};
-ghost use Rattle.df_superblock.specs.Steps.{AreStepsOfCopies, write_steps};
+ghost use Rattle.df_superblock.specs.Steps.{AreStepsOfCopies, copy_write_steps};
 
 use df_base::Failed;
 use df_buffers::{ProbeRoom, Raw, SuperSector};
@@ -41,7 +41,7 @@ fn slot_in(room: &Raw<SuperSector>, number: u8) -> Slot
 fn read_copy<D: Disk>(disk: &mut D, room: &mut Raw<SuperSector>, number: u8) -> Result<Slot, Failed>
     requires number { number < 4 }
     requires size { length room.old.bytes ≡ 4096 }
-    ensures shown { IfOk result (ShowsSlot (D.told disk.old) number) }
+    ensures shown { IfOk result (ShowsCopySlot (D.told disk.old) number) }
     ensures same { D.told disk.new ≡ D.told disk.old }
     ensures cause { HasCause (D.faults disk.old) (D.faults disk.new) result }
 {
@@ -73,7 +73,7 @@ pub fn write_copy<D: Disk>(
 ) -> Result<(), Failed>
     requires { number < 4 }
     ensures events { Adds (copy_written number content.now ∷ Sync ∷ []) (D.told disk.old) (D.told disk.new) result }
-    ensures steps { AreStepsOfCopies (copy_written number content.now ∷ Sync ∷ []) (write_steps number content.now) }
+    ensures steps { AreStepsOfCopies (copy_written number content.now ∷ Sync ∷ []) (copy_write_steps number content.now) }
     ensures cause { HasCause (D.faults disk.old) (D.faults disk.new) result }
 {
     let bytes = room.sector_mut(number).bytes_mut();

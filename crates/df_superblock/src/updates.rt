@@ -1,7 +1,7 @@
 // Updates: the four copies in order, each durable before the next one is written, and a look at what became of them.
 ghost use Rattle.std.specs.Prelude.{◌≡◌, ◌<◌, ◌≤◌, ℕ, IsTrue, ◌↔◌, IfSome, IfNone, OnOk};
 ghost use Rattle.df_superblock.specs.Below.{HasCause, IsBlamed, Adds, update_steps, put_copies};
-ghost use Rattle.df_superblock.specs.Calls.{Holds, IsRead, IsFirstMissing, IsVerdict, IsJudged, IsUndamaged, AddsUpdate, UpdatesSafely, ShowsEqual, EndsEqual, class_of_slot, is_update_fault};
+ghost use Rattle.df_superblock.specs.Calls.{SlotHolds, IsCopyRead, IsFirstMissing, IsUpdateVerdict, IsJudged, IsUndamaged, AddsUpdate, UpdatesSafely, ShowsEqual, EndsEqual, class_of_written_slot, is_update_fault};
 ghost use Rattle.df_superblock.specs.Events.{update_events};
 ghost use Rattle.df_superblock.specs.Steps.{AreStepsOfCopies};
 
@@ -64,7 +64,7 @@ fn write_all<D: Disk>(disk: &mut D, room: &mut ProbeRoom, content: &Super) -> Re
 }
 
 fn class_of(slot: &Slot) -> Class
-    ensures { result ≡ class_of_slot slot.now }
+    ensures { result ≡ class_of_written_slot slot.now }
 {
     match slot {
         Slot::Sound(_) => Class::Stale,
@@ -80,7 +80,7 @@ fn has_fields(copy: &SuperCopy, content: &Super) -> bool
 
 // Whether the slot of this number holds the copy that was written.
 fn holds(number: u8, slot: &Slot, content: &Super) -> bool
-    ensures { IsTrue result ↔ Holds number slot.now content.now }
+    ensures { IsTrue result ↔ SlotHolds number slot.now content.now }
 {
     match slot {
         Slot::Sound(copy) => copy.number == number && has_fields(copy, content),
@@ -90,7 +90,7 @@ fn holds(number: u8, slot: &Slot, content: &Super) -> bool
 
 fn is_read(slots: &[Slot; 4], content: &Super, number: u8) -> bool
     requires { number < 4 }
-    ensures { IsTrue result ↔ IsRead slots.now content.now number }
+    ensures { IsTrue result ↔ IsCopyRead slots.now content.now number }
 {
     holds(number, &slots[usize::from(number)], content)
 }
@@ -98,7 +98,7 @@ fn is_read(slots: &[Slot; 4], content: &Super, number: u8) -> bool
 // The first copy from a number on that wasn't read as it was written.
 fn first_missing(slots: &[Slot; 4], content: &Super, from: u8) -> Option<u8>
     ensures some { IfSome result (λ first. IsFirstMissing slots.now content.now from first) }
-    ensures none { IfNone result ((n : ℕ) → from ≤ n → n < 4 → IsRead slots.now content.now n) }
+    ensures none { IfNone result ((n : ℕ) → from ≤ n → n < 4 → IsCopyRead slots.now content.now n) }
 {
     for number in from..4 {
         if !is_read(slots, content, number) {
@@ -110,7 +110,7 @@ fn first_missing(slots: &[Slot; 4], content: &Super, from: u8) -> Option<u8>
 
 // Whether enough copies were read as they were written; else the first that wasn't.
 fn judge(slots: &[Slot; 4], content: &Super) -> Result<(), UpdateError>
-    ensures { IsVerdict slots.now content.now result }
+    ensures { IsUpdateVerdict slots.now content.now result }
 {
     match first_missing(slots, content, 0) {
         None => Ok(()),

@@ -12,7 +12,7 @@ use Rattle.df_rows.specs.Tables.{Table}
 use Rattle.df_session.specs.Below.{AgreeShown}
 use Rattle.df_session.specs.Leaving.{IsReadPlace}
 use Rattle.df_table.specs.declared.ending.Ending.{Ending}
-use Rattle.df_table.specs.Opening.{AreFollowed, ArePrepares, AreRead, AreTaken, BlockHurt, Finds, FindsOf, Found, OtherBlock, OtherClient, OtherPrepare, PrepareHurt}
+use Rattle.df_table.specs.Opening.{AreFollowed, ArePrepares, AreReadBlocks, AreTakenBlocks, BlockHurt, FindsOf, FindsTable, Found, OtherBlock, OtherClient, OtherPrepare, PrepareHurt}
 
 -- each address is one of the grid
 abbrev pub AreInside : Layout → List (ℕ × ℕ) → Type 0
@@ -49,7 +49,7 @@ module _ (layout : Layout) (one other : Shown) (agree : AgreeShown layout one ot
       ∙ ap (λ (c : Class). prepare_given (prepare_sum m op) (other.units (PreparePlace slot)) c) (class_same (PreparePlace slot) read (agree.units.prepare slot))
 
   module _ (slots : (op : ℕ) → IsReadPlace layout (PreparePlace (op % m.layout.slots))) (inside : AreInside layout m.blocks.live) where
-    read_same : (xs : List (ℕ × ℕ)) (bodies : List (List ℕ)) → AreInside layout xs → AreRead one m xs bodies → AreRead other m xs bodies
+    read_same : (xs : List (ℕ × ℕ)) (bodies : List (List ℕ)) → AreInside layout xs → AreReadBlocks one m xs bodies → AreReadBlocks other m xs bodies
     read_same [] [] all are = tt
     read_same [] (body ∷ bodies) all are = absurd are
     read_same (x ∷ xs) [] all are = absurd are
@@ -59,7 +59,7 @@ module _ (layout : Layout) (one other : Shown) (agree : AgreeShown layout one ot
     prepares_same op [] are = tt
     prepares_same op (p ∷ ps) are = (sym (prepare_same op (slots op)) ∙ are.0, prepares_same (op + 1) ps are.1)
 
-    abbrev taken_same : (rest : List (ℕ × ℕ)) (t : Table) → AreTaken layout one m rest t → AreTaken layout other m rest t
+    abbrev taken_same : (rest : List (ℕ × ℕ)) (t : Table) → AreTakenBlocks layout one m rest t → AreTakenBlocks layout other m rest t
     taken_same rest t are = record {
       own = are.own;
       before = are.before;
@@ -83,10 +83,10 @@ module _ (layout : Layout) (one other : Shown) (agree : AgreeShown layout one ot
     }
 
     -- the next one to be read
-    next_inside : (x : ℕ × ℕ) (rest : List (ℕ × ℕ)) (t : Table) → AreTaken layout one m (x ∷ rest) t → IsReadPlace layout (BlockPlace x.0)
+    next_inside : (x : ℕ × ℕ) (rest : List (ℕ × ℕ)) (t : Table) → AreTakenBlocks layout one m (x ∷ rest) t → IsReadPlace layout (BlockPlace x.0)
     next_inside x rest t are = (back_inside layout are.before (x ∷ rest) (subst (AreInside layout) are.of inside)).0
 
-    finds_same : (r : Result Table Ending) → Finds layout one m r → Finds layout other m r
+    finds_same : (r : Result Table Ending) → FindsTable layout one m r → FindsTable layout other m r
     finds_same r (OtherClient place is none) = OtherClient place is none
     finds_same r (BlockHurt x rest t class taken hurt) = BlockHurt x rest t class (taken_same (x ∷ rest) t taken) (sym (block_same x.0 (next_inside x rest t taken)) ∙ hurt)
     finds_same r (OtherBlock x rest t b taken read norows) = OtherBlock x rest t b (taken_same (x ∷ rest) t taken) (sym (block_same x.0 (next_inside x rest t taken)) ∙ read) norows

@@ -9,7 +9,7 @@ use Rattle.df_model.specs.Refusals.{next_request, session_of_client}
 use Rattle.df_session.specs.Below.{State as Replica, memory}
 use Rattle.df_layout.specs.declared.layout.Layout.{Layout}
 use Rattle.df_table.specs.Policy.{the_client}
-use Rattle.df_table.specs.Ready.{IsReady}
+use Rattle.df_table.specs.Ready.{IsReadyReplica}
 use Rattle.df_table.proofs.Fine.{own_session}
 
 first_some : (ss : List told.Session) (x : told.Session) → slice_get ss 0 ≡ Some x → slice_get (map session_of ss) 0 ≡ Some (session_of x)
@@ -20,7 +20,7 @@ first_none : (ss : List told.Session) → slice_get ss 0 ≡ None → slice_get 
 first_none [] is = refl
 first_none (y ∷ ss) is = absurd (none-some y (sym is))
 
-module _ (layout : Layout) (s : Replica) (ready : IsReady layout s) where
+module _ (layout : Layout) (s : Replica) (ready : IsReadyReplica layout s) where
   -- its number is small
   small : (x : told.Session) → slice_get s.table.sessions 0 ≡ Some x → x.request ≤ 2 ^ 62
   small x is =

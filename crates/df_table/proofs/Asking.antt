@@ -12,7 +12,7 @@ use Rattle.df_rows.specs.declared.refusal.Refusal.{Refusal}
 use Rattle.df_rows.specs.Answers.{refusal_of}
 use Rattle.df_rows.specs.Commands.{IsCommand, Map, body_of}
 use Rattle.df_rows.specs.Grammar.{Count, Drop, Get, Put, Said}
-use Rattle.df_rows.specs.Lines.{accepted, asks, line_in, unless_refused}
+use Rattle.df_rows.specs.Lines.{accepted, asked_by_line, line_in, unless_refused}
 use Rattle.df_rows.specs.Tables.{CanApply, Table}
 use Rattle.df_session.specs.Below.{State as Replica}
 use Rattle.df_session.specs.Links.{AreCalls, EndsCalls, command_in, list_of}
@@ -111,15 +111,15 @@ next_has c None has is = tt
 next_has c (Some a) has is = subst HasChange (sym is) has
 
 pub asked_have : (part : Type 0) (failed : Option Act) (cs : List Command) (acts : List Act) (answers : List Answer) → Asks part failed cs acts answers → HaveChanges cs → ActsHave acts × FailHas failed
-asked_have part failed [] [] [] asks have = (tt, subst FailHas (sym asks) tt)
-asked_have part failed (c ∷ cs) [] [] asks have = (tt, next_has c failed have.0 asks.1)
-asked_have part failed [] [] (x ∷ answers) asks have = absurd asks
-asked_have part failed (c ∷ cs) [] (x ∷ answers) asks have = absurd asks
-asked_have part failed [] (a ∷ acts) answers asks have = absurd asks
-asked_have part failed (c ∷ cs) (a ∷ acts) [] asks have = absurd asks
-asked_have part failed (c ∷ cs) (a ∷ acts) (x ∷ answers) asks have =
-    let rest = asked_have part failed cs acts answers asks.2 have.1 in
-    ((subst HasChange (sym asks.0) have.0, rest.0), rest.1)
+asked_have part failed [] [] [] asked_by_line have = (tt, subst FailHas (sym asked_by_line) tt)
+asked_have part failed (c ∷ cs) [] [] asked_by_line have = (tt, next_has c failed have.0 asked_by_line.1)
+asked_have part failed [] [] (x ∷ answers) asked_by_line have = absurd asked_by_line
+asked_have part failed (c ∷ cs) [] (x ∷ answers) asked_by_line have = absurd asked_by_line
+asked_have part failed [] (a ∷ acts) answers asked_by_line have = absurd asked_by_line
+asked_have part failed (c ∷ cs) (a ∷ acts) [] asked_by_line have = absurd asked_by_line
+asked_have part failed (c ∷ cs) (a ∷ acts) (x ∷ answers) asked_by_line have =
+    let rest = asked_have part failed cs acts answers asked_by_line.2 have.1 in
+    ((subst HasChange (sym asked_by_line.0) have.0, rest.0), rest.1)
 
 pub acts_have : (acts more : List Act) → ActsHave acts → ActsHave more → ActsHave (acts ++ more)
 acts_have [] more have rest = rest
@@ -201,12 +201,12 @@ none_or (Some refusal) = refl
 pub one_asked : (t : Table) (said : Said) → AsksOne t (accepted t said)
 one_asked t (Put key value) = go (refusal_of t (line_in (Put key value))) refl
   where
-    go : (o : Option Refusal) → refusal_of t (line_in (Put key value)) ≡ o → AsksOne t (unless_refused o (asks (Put key value)))
+    go : (o : Option Refusal) → refusal_of t (line_in (Put key value)) ≡ o → AsksOne t (unless_refused o (asked_by_line (Put key value)))
     go None fine = inr (commands.Put (key, value), refl, (put_may t key _ fine).1)
     go (Some refusal) is = inl refl
 one_asked t (Drop key) = go (refusal_of t (line_in (Drop key)))
   where
-    go : (o : Option Refusal) → AsksOne t (unless_refused o (asks (Drop key)))
+    go : (o : Option Refusal) → AsksOne t (unless_refused o (asked_by_line (Drop key)))
     go None = inr (commands.Drop key, refl, tt)
     go (Some refusal) = inl refl
 one_asked t (Get key) = inl (none_or (refusal_of t (line_in (Get key))))

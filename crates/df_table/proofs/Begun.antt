@@ -24,9 +24,9 @@ use Rattle.df_rows.specs.Limits.{blocks_of_table}
 use Rattle.df_rows.specs.Tables.{Table}
 use Rattle.df_session.specs.Below.{DataFile, State as Replica, memory, shape, spelling}
 use Rattle.df_session.specs.Serving.{Firm, Keeps}
-use Rattle.df_table.specs.Opening.{AreTaken, NoneIsOther}
+use Rattle.df_table.specs.Opening.{AreTakenBlocks, NoneIsOther}
 use Rattle.df_table.specs.Policy.{opening, the_client}
-use Rattle.df_table.specs.Ready.{HasCaughtUp, IsBegun, IsReady, places}
+use Rattle.df_table.specs.Ready.{HasCaughtUp, IsBegun, IsReadyReplica, places}
 use Rattle.df_table.proofs.Fine.{AreOwn}
 use Rattle.df_table.proofs.Finished.{idle_runs, no_running}
 use Rattle.df_table.proofs.Needed.{few_linked}
@@ -117,7 +117,7 @@ own_all m none place x is = go (x.client == the_client) refl
 
 -- ---- the replica is ready
 
-module _ (layout : Layout) (w : Work) (s : Replica) (begun : IsBegun layout w s) (shown : Shown) (table : Table) (taken : AreTaken layout shown (memory s) [] table) where
+module _ (layout : Layout) (w : Work) (s : Replica) (begun : IsBegun layout w s) (shown : Shown) (table : Table) (taken : AreTakenBlocks layout shown (memory s) [] table) where
   none_runs : s.running ≡ None
   none_runs = no_running s s.running (ap (λ (m : Memory). m.running) begun.stands.1 ∙ ap (course_of (spelling s.file)) begun.idle)
 
@@ -128,7 +128,7 @@ module _ (layout : Layout) (w : Work) (s : Replica) (begun : IsBegun layout w s)
   same_live =
       ap (λ (m : Memory). m.blocks.live) begun.stands.1 ∙ ap (λ (f : ℕ → Option ℕ). entries f (addresses (shape s.file).layout)) begun.live ∙ sym (ap (λ (m : Memory). m.blocks.durable) begun.stands.1)
 
-  ready_there : (t : Replica) → HasCaughtUp s t → t.live ≡ true → (u : Work) → Keeps Firm t u None → IsReady layout t
+  ready_there : (t : Replica) → HasCaughtUp s t → t.live ≡ true → (u : Work) → Keeps Firm t u None → IsReadyReplica layout t
   ready_there t caught live u keeps = record {
     live = live;
     work = u;
@@ -147,7 +147,7 @@ module _ (layout : Layout) (w : Work) (s : Replica) (begun : IsBegun layout w s)
     };
   }
 
-  pub ready_found : {T : Type 0} (t : Replica) (old new : Option Told) (r : Result T Ending) → Comes (opening (memory s)) s t old new r → OnOk r (HasCaughtUp s t) → OnOk r (t.live ≡ true) → OnOk r (IsReady layout t)
+  pub ready_found : {T : Type 0} (t : Replica) (old new : Option Told) (r : Result T Ending) → Comes (opening (memory s)) s t old new r → OnOk r (HasCaughtUp s t) → OnOk r (t.live ≡ true) → OnOk r (IsReadyReplica layout t)
   ready_found t old new (Ok x) made caught live =
       let keeps = makes_keep (opening (memory s)) s t old new made w begun.stands in
       ready_there t caught live keeps.0 keeps.1

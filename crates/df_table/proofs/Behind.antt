@@ -5,7 +5,7 @@ use Rattle.std.specs.FinMap.{len-insert, len-remove}
 use Rattle.std.specs.Cmp.{nat_cmp_total}
 use Rattle.df_disk.specs.Told.{Told}
 use Rattle.df_layout.specs.declared.layout.Layout.{Layout}
-use Rattle.df_lines.specs.Room.{IsAtEnd, Room}
+use Rattle.df_lines.specs.Room.{IsAtEnd, ReaderParts}
 use Rattle.df_rows.specs.declared.line.Line.TheVariants as lines
 use Rattle.df_rows.specs.declared.refusal.Refusal.{Refusal}
 use Rattle.df_rows.specs.Answers.{refusal_of}
@@ -13,7 +13,7 @@ use Rattle.df_rows.specs.Grammar.{Count, Drop, Get, Put, Said}
 use Rattle.df_inspect.specs.Prints.{Prints}
 use Rattle.df_rows.specs.Commands.{IsCommand}
 use Rattle.df_rows.specs.Limits.{most_rows, rows_in_block}
-use Rattle.df_rows.specs.Lines.{accepted, behind, text_of, unless_refused}
+use Rattle.df_rows.specs.Lines.{accepted, line_of_turn, table_after, unless_refused}
 use Rattle.df_rows.specs.Tables.{HasRoom, Table, with_command, with_commands}
 use Rattle.df_rows.specs.declared.command.Command.{Command}
 use Rattle.df_rows.specs.declared.command.Command.TheVariants as commands
@@ -24,9 +24,9 @@ use Rattle.df_table.specs.declared.turns.Turn.{Turn as Step}
 use Rattle.df_table.specs.declared.turns.Turn.TheVariants.{Ends, GoesOn as Goes}
 use Rattle.df_session.specs.Below.{State as Replica}
 use Rattle.df_table.specs.Calls.{IsChanged}
-use Rattle.df_table.specs.Outside.{Writes}
-use Rattle.df_table.specs.Ready.{IsReady, IsSteady, Leaves}
-use Rattle.df_table.specs.Serving.{Executes, IsServing, OnGoing, Tells, printed_turn}
+use Rattle.df_table.specs.Outside.{WritesTableText}
+use Rattle.df_table.specs.Ready.{IsReadyReplica, IsSteady, LeavesScript}
+use Rattle.df_table.specs.Serving.{ExecutesLine, IsServing, OnGoing, TellsLine, printed_turn}
 use Rattle.df_table.specs.Statuses.{ending_text, status_of}
 use Rattle.df_table.proofs.Blamed.{on_going, printed_line, tells_line, told_line}
 use Rattle.df_table.proofs.Executed.{changed_answers, changed_ends, get_none, put_may, told_answers}
@@ -62,7 +62,7 @@ by_refusal : (t : Table) (cs : List Command) (o : Option Refusal) → HasFew t.m
 by_refusal t cs None here done = done refl
 by_refusal t cs (Some refusal) here done = here
 
-behind_few : (t : Table) (said : Said) → map.len t.rows ≤ t.max → HasFew t.max (behind t said)
+behind_few : (t : Table) (said : Said) → map.len t.rows ≤ t.max → HasFew t.max (table_after t said)
 behind_few t (Put key value) few =
     by_refusal t (commands.Put (key, value) ∷ []) (refusal_of t (lines.Put key (length value))) (record { max_is = refl; few = few })
     (λ fine. record { max_is = refl; few = put_few t key value (put_may t key (length value) fine).1 few })
@@ -71,7 +71,7 @@ behind_few t (Get key) few = subst (λ (cs : List Command). HasFew t.max (with_c
 behind_few t Count few = record { max_is = refl; few = few }
 
 -- after a line that was executed the table is as it has to be
-pub steady_behind : (layout : Layout) (s t : Replica) (table later : Table) (said : Said) → IsSteady layout s table → IsReady layout t → later ≡ behind table said → IsSteady layout t later
+pub steady_behind : (layout : Layout) (s t : Replica) (table later : Table) (said : Said) → IsSteady layout s table → IsReadyReplica layout t → later ≡ table_after table said → IsSteady layout t later
 steady_behind layout s t table later said steady ready is =
     let few = behind_few table said (subst (λ (n : ℕ). map.len table.rows ≤ n) (sym steady.max) steady.few) in
     let after = subst (λ (x : Table). HasFew table.max x) (sym is) few in
@@ -80,19 +80,19 @@ steady_behind layout s t table later said steady ready is =
 -- ---- a session
 
 -- a line without a command was answered: nothing has changed
-pub told_executes : (layout : Layout) (said : Said) (s : Session) (told : Option Told) (written took : Option (List ℕ)) (text : List ℕ) (turn : Step) → accepted s.table said ≡ [] → text_of s.table s.replica.head said ≡ text → Tells text written took turn → s.replica.live ≡ true
-    → Executes layout said s s told told written took turn
+pub told_executes : (layout : Layout) (said : Said) (s : Session) (told : Option Told) (written took : Option (List ℕ)) (text : List ℕ) (turn : Step) → accepted s.table said ≡ [] → line_of_turn s.table s.replica.head said ≡ text → TellsLine text written took turn → s.replica.live ≡ true
+    → ExecutesLine layout said s s told told written took turn
 told_executes layout said s told written took text turn none text_is tells live = record {
   answers = λ steady. told_answers layout said s.replica told s.table written took none text turn text_is tells;
   steady = λ steady. on_going turn (IsSteady layout s.replica s.table) steady;
   live = on_going turn (s.replica.live ≡ true) live;
-  behind_is = on_going turn (s.table ≡ behind s.table said) (sym (ap (λ (cs : List Command). with_commands cs s.table) none));
+  behind_is = on_going turn (s.table ≡ table_after s.table said) (sym (ap (λ (cs : List Command). with_commands cs s.table) none));
   leaves = record { layout = refl; lines = refl; block = refl; count = refl };
   ends = tells_line text written took turn tells;
 }
 
 -- the next line was taken: the session may execute it
-module _ (layout : Layout) (s : Session) (left more : Option (List ℕ)) (serving : IsServing layout s left) (room : Room) (bound : room.reading.bound ≡ s.lines.reading.bound) (at_end : (IsTrue s.lines.ended → IsAtEnd left) → IsTrue room.ended → IsAtEnd more) (less : room.reading.budget < s.lines.reading.budget) where
+module _ (layout : Layout) (s : Session) (left more : Option (List ℕ)) (serving : IsServing layout s left) (room : ReaderParts) (bound : room.reading.bound ≡ s.lines.reading.bound) (at_end : (IsTrue s.lines.ended → IsAtEnd left) → IsTrue room.ended → IsAtEnd more) (less : room.reading.budget < s.lines.reading.budget) where
   pub taken_line : IsServing layout (record s { lines = room }) more
   taken_line = record {
     live = serving.live;
@@ -103,14 +103,14 @@ module _ (layout : Layout) (s : Session) (left more : Option (List ℕ)) (servin
   }
 
   -- and when it was executed, the next one
-  module _ (now : Session) (leaves : Leaves (record s { lines = room }) now) where
+  module _ (now : Session) (leaves : LeavesScript (record s { lines = room }) now) where
     executed_on : now.replica.live ≡ true → IsServing layout (record now { count = now.count + 1 }) more
     executed_on live = record {
       live = live;
       block = subst (λ (n : ℕ). 64 * rows_in_block layout ≤ n) (sym leaves.block) serving.block;
-      bound = ap (λ (r : Room). r.reading.bound) leaves.lines ∙ bound ∙ serving.bound;
-      count = omega (arith, serving.count, less, leaves.count, ap (λ (r : Room). r.reading.budget) leaves.lines);
-      at_end = subst (λ (r : Room). IsTrue r.ended → IsAtEnd more) (sym leaves.lines) (at_end serving.at_end);
+      bound = ap (λ (r : ReaderParts). r.reading.bound) leaves.lines ∙ bound ∙ serving.bound;
+      count = omega (arith, serving.count, less, leaves.count, ap (λ (r : ReaderParts). r.reading.budget) leaves.lines);
+      at_end = subst (λ (r : ReaderParts). IsTrue r.ended → IsAtEnd more) (sym leaves.lines) (at_end serving.at_end);
     }
 
     pub executed_serving : (turn : Step) → OnGoing turn (now.replica.live ≡ true) → OnGoing turn (IsServing layout (record now { count = now.count + 1 }) more)
@@ -118,26 +118,26 @@ module _ (layout : Layout) (s : Session) (left more : Option (List ℕ)) (servin
     executed_serving (Ends status) live = tt
 
 -- a line with a command was executed
-module _ (layout : Layout) (said : Said) (c : Command) (old new : Session) (told later : Option Told) (written took : Option (List ℕ)) (asks : accepted old.table said ≡ c ∷ []) (fits : IsCommand c) (leaves : Leaves old new) where
+module _ (layout : Layout) (said : Said) (c : Command) (old new : Session) (told later : Option Told) (written took : Option (List ℕ)) (asks : accepted old.table said ≡ c ∷ []) (fits : IsCommand c) (leaves : LeavesScript old new) where
   -- it was done, and its answer printed, or the sink failed
-  pub done_executes : (op : ℕ) (E : Type 0) (r : Result (Unit {0}) E) (text : List ℕ) (turn : Step) → (IsReady layout old.replica → map.len old.table.rows ≤ most_rows layout → IsChanged layout old.table.rows c old.replica new.replica told later (Ok op))
-      → new.table ≡ with_command c old.table → new.replica.live ≡ true → (op ≡ old.replica.head + 1 → text_of old.table old.replica.head said ≡ text) → Prints text written took r → turn ≡ printed_turn r → Executes layout said old new told later written took turn
+  pub done_executes : (op : ℕ) (E : Type 0) (r : Result (Unit {0}) E) (text : List ℕ) (turn : Step) → (IsReadyReplica layout old.replica → map.len old.table.rows ≤ most_rows layout → IsChanged layout old.table.rows c old.replica new.replica told later (Ok op))
+      → new.table ≡ with_command c old.table → new.replica.live ≡ true → (op ≡ old.replica.head + 1 → line_of_turn old.table old.replica.head said ≡ text) → Prints text written took r → turn ≡ printed_turn r → ExecutesLine layout said old new told later written took turn
   done_executes op E r text turn changed table live text_is prints is =
-      let behind_is : new.table ≡ behind old.table said = table ∙ sym (ap (λ (cs : List Command). with_commands cs old.table) asks) in
+      let behind_is : new.table ≡ table_after old.table said = table ∙ sym (ap (λ (cs : List Command). with_commands cs old.table) asks) in
       record {
         answers = λ steady.
             let done = changed steady.ready steady.few in
             changed_answers layout said c old.replica new.replica told later old.table new.table written took asks fits op E r text turn (text_is done.op) done.makes table done.head prints is;
         steady = λ steady. on_going turn (IsSteady layout new.replica new.table) (steady_behind layout old.replica new.replica old.table new.table said steady (changed steady.ready steady.few).ready behind_is);
         live = on_going turn (new.replica.live ≡ true) live;
-        behind_is = on_going turn (new.table ≡ behind old.table said) behind_is;
+        behind_is = on_going turn (new.table ≡ table_after old.table said) behind_is;
         leaves = leaves;
         ends = printed_line E r turn is;
       }
 
   -- something ended the session within it
-  pub ended_executes : (ending : Ending) (status : Status) → (IsReady layout old.replica → map.len old.table.rows ≤ most_rows layout → IsChanged layout old.table.rows c old.replica new.replica told later (Err ending)) → Writes (ending_text ending) (status_of ending) written took status
-      → Executes layout said old new told later written took (Ends status)
+  pub ended_executes : (ending : Ending) (status : Status) → (IsReadyReplica layout old.replica → map.len old.table.rows ≤ most_rows layout → IsChanged layout old.table.rows c old.replica new.replica told later (Err ending)) → WritesTableText (ending_text ending) (status_of ending) written took status
+      → ExecutesLine layout said old new told later written took (Ends status)
   ended_executes ending status changed wrote = record {
     answers = λ steady. changed_ends layout said c old.replica new.replica told later old.table new.table written took asks fits ℕ ending status (changed steady.ready steady.few).makes wrote (changed steady.ready steady.few).ends;
     steady = λ steady. tt;

@@ -7,8 +7,8 @@ use Rattle.df_table.specs.declared.status.Status.{Status}
 use Rattle.df_table.specs.declared.status.Status.TheVariants.{DiskFault, Done, Memory, ReadFault, Refused, Script, Words, WriteFault}
 use Rattle.df_table.specs.declared.turns.Turn.{Turn as Step}
 use Rattle.df_table.specs.declared.turns.Turn.TheVariants.{Ends, GoesOn as Goes}
-use Rattle.df_table.specs.Outside.{Blames, Writes}
-use Rattle.df_table.specs.Serving.{BlamesIfEnds, EndsLine, EndsTurn, OnGoing, Tells, printed_turn}
+use Rattle.df_table.specs.Outside.{Blames, WritesTableText}
+use Rattle.df_table.specs.Serving.{EndsLine, EndsTurn, OnGoing, StepBlamesIfEnds, TellsLine, printed_turn}
 use Rattle.df_table.specs.Statuses.{ending_text, is_disk, status_of}
 
 -- what holds holds where the session goes on
@@ -18,22 +18,22 @@ on_going (Ends status) P holds = tt
 
 -- ---- a text that is printed
 
-pub printed_sink : (E : Type 0) (r : Result (Unit {0}) E) (before now : ℕ) → HasCause before now r → BlamesIfEnds WriteFault before now (printed_turn r)
+pub printed_sink : (E : Type 0) (r : Result (Unit {0}) E) (before now : ℕ) → HasCause before now r → StepBlamesIfEnds WriteFault before now (printed_turn r)
 printed_sink E (Ok done) before now cause = cause.same
 printed_sink E (Err e) before now cause = record { rose = λ is. cause.failed; same = λ no. absurd (no refl) }
 
-pub printed_disk : (E : Type 0) (r : Result (Unit {0}) E) (before now : ℕ) → now ≡ before → BlamesIfEnds DiskFault before now (printed_turn r)
+pub printed_disk : (E : Type 0) (r : Result (Unit {0}) E) (before now : ℕ) → now ≡ before → StepBlamesIfEnds DiskFault before now (printed_turn r)
 printed_disk E (Ok done) before now same = same
 printed_disk E (Err e) before now same = record { rose = λ is. absurd (let apart : WriteFault ≡ DiskFault = is in cc); same = λ no. same }
 
 -- ---- what ended the session is told
 
 module _ (before now : ℕ) (old new : Option (List ℕ)) (status : Status) where
-  quiet : (ending : Ending) → (status_of ending ≡ DiskFault → ⊥) → Writes (ending_text ending) (status_of ending) old new status → now ≡ before → Blames DiskFault before now status
+  quiet : (ending : Ending) → (status_of ending ≡ DiskFault → ⊥) → WritesTableText (ending_text ending) (status_of ending) old new status → now ≡ before → Blames DiskFault before now status
   quiet ending other (inl told) same = record { rose = λ is. absurd (other (sym told.0 ∙ is)); same = λ no. same }
   quiet ending other (inr fails) same = record { rose = λ is. absurd (let apart : WriteFault ≡ DiskFault = sym fails.0 ∙ is in cc); same = λ no. same }
 
-  pub told_disk : (ending : Ending) → (ending ≡ Disk → status ≡ DiskFault) → Writes (ending_text ending) (status_of ending) old new status → Blamed (is_disk ending) before now → Blames DiskFault before now status
+  pub told_disk : (ending : Ending) → (ending ≡ Disk → status ≡ DiskFault) → WritesTableText (ending_text ending) (status_of ending) old new status → Blamed (is_disk ending) before now → Blames DiskFault before now status
   told_disk Disk fault wrote blamed = record { rose = λ is. blamed.1; same = λ no. absurd (no (fault refl)) }
   told_disk (Damaged place class) fault wrote blamed = quiet (Damaged place class) (λ is. cc) wrote blamed
   told_disk (NotTable place) fault wrote blamed = quiet (NotTable place) (λ is. cc) wrote blamed
@@ -52,7 +52,7 @@ pub other_fault : (fault status : Status) (before now : ℕ) → (status ≡ fau
 other_fault fault status before now other same = record { rose = λ is. absurd (other is); same = λ no. same }
 
 -- a text that was told blames the sink alone
-pub tells_disk : (text : List ℕ) (old new : Option (List ℕ)) (turn : Step) (before now : ℕ) → Tells text old new turn → now ≡ before → BlamesIfEnds DiskFault before now turn
+pub tells_disk : (text : List ℕ) (old new : Option (List ℕ)) (turn : Step) (before now : ℕ) → TellsLine text old new turn → now ≡ before → StepBlamesIfEnds DiskFault before now turn
 tells_disk text old new Goes before now told same = same
 tells_disk text old new (Ends WriteFault) before now told same = other_fault DiskFault WriteFault before now (λ is. cc) same
 tells_disk text old new (Ends Done) before now told same = absurd told
@@ -64,13 +64,13 @@ tells_disk text old new (Ends ReadFault) before now told same = absurd told
 tells_disk text old new (Ends Memory) before now told same = absurd told
 
 -- a line that is refused blames the sink, or nothing
-pub script_other : (fault : Status) (text : List ℕ) (old new : Option (List ℕ)) (status : Status) → (fault ≡ Script → ⊥) → (fault ≡ WriteFault → ⊥) → Writes text Script old new status → status ≡ fault → ⊥
+pub script_other : (fault : Status) (text : List ℕ) (old new : Option (List ℕ)) (status : Status) → (fault ≡ Script → ⊥) → (fault ≡ WriteFault → ⊥) → WritesTableText text Script old new status → status ≡ fault → ⊥
 script_other fault text old new status script write (inl told) is = script (sym is ∙ told.0)
 script_other fault text old new status script write (inr fails) is = write (sym is ∙ fails.0)
 
 -- ---- how a line ends
 
-pub tells_line : (text : List ℕ) (old new : Option (List ℕ)) (turn : Step) → Tells text old new turn → EndsLine turn
+pub tells_line : (text : List ℕ) (old new : Option (List ℕ)) (turn : Step) → TellsLine text old new turn → EndsLine turn
 tells_line text old new Goes told = tt
 tells_line text old new (Ends WriteFault) told = tt
 tells_line text old new (Ends Done) told = absurd told
@@ -92,12 +92,12 @@ ending_line (NotTable place) = tt
 ending_line OpsSpent = tt
 ending_line SequenceSpent = tt
 
-pub told_line : (ending : Ending) (old new : Option (List ℕ)) (status : Status) → Writes (ending_text ending) (status_of ending) old new status → EndsLine (Ends status)
+pub told_line : (ending : Ending) (old new : Option (List ℕ)) (status : Status) → WritesTableText (ending_text ending) (status_of ending) old new status → EndsLine (Ends status)
 told_line ending old new status (inl told) = subst (λ (s : Status). EndsLine (Ends s)) (sym told.0) (ending_line ending)
 told_line ending old new status (inr fails) = subst (λ (s : Status). EndsLine (Ends s)) (sym fails.0) tt
 
 -- so it doesn't blame the source
-pub unread_source : (turn : Step) (before now : ℕ) → EndsLine turn → now ≡ before → BlamesIfEnds ReadFault before now turn
+pub unread_source : (turn : Step) (before now : ℕ) → EndsLine turn → now ≡ before → StepBlamesIfEnds ReadFault before now turn
 unread_source Goes before now ends same = same
 unread_source (Ends Refused) before now ends same = other_fault ReadFault Refused before now (λ is. cc) same
 unread_source (Ends DiskFault) before now ends same = other_fault ReadFault DiskFault before now (λ is. cc) same
@@ -120,6 +120,6 @@ line_turn (Ends Script) ends = absurd ends
 line_turn (Ends ReadFault) ends = absurd ends
 line_turn (Ends Memory) ends = absurd ends
 
-pub script_turn : (text : List ℕ) (old new : Option (List ℕ)) (status : Status) → Writes text Script old new status → EndsTurn (Ends status)
+pub script_turn : (text : List ℕ) (old new : Option (List ℕ)) (status : Status) → WritesTableText text Script old new status → EndsTurn (Ends status)
 script_turn text old new status (inl told) = subst (λ (s : Status). EndsTurn (Ends s)) (sym told.0) tt
 script_turn text old new status (inr fails) = subst (λ (s : Status). EndsTurn (Ends s)) (sym fails.0) tt

@@ -22,7 +22,7 @@ use Rattle.df_session.proofs.Laws.{reads_block}
 use Rattle.df_table.specs.declared.ending.Ending.{Ending}
 use Rattle.df_table.specs.declared.ending.Ending.TheVariants.{Damaged}
 use Rattle.df_table.specs.Calls.{Comes}
-use Rattle.df_table.specs.Opening.{GivesRows, LacksRows, ReadsBlock, TakesRows, block_ending}
+use Rattle.df_table.specs.Opening.{GivesRows, LacksRows, ReadsTableBlock, TakesRows, block_ending}
 use Rattle.df_table.specs.Statuses.{is_disk}
 use Rattle.df_table.proofs.BodyTaken.{body_comes, by_body}
 use Rattle.df_table.proofs.Joined.{one_failed, one_spent}
@@ -46,15 +46,15 @@ module _ (address : ℕ) (s t : Replica) (old new : Option Told) (same : new ≡
 -- ---- what is found
 
 module _ (address : ℕ) (s : Replica) (told : Option Told) (t : Told) (is : told ≡ Some t) (before most : ℕ) (table : Table) where
-  pub block_found_here : (b : Block) (body : List ℕ) (r : Result Table Ending) → b.body ≡ body → IsReadBlock address s told (Ok b) → TakesRows address before most table body r → ReadsBlock (shown_of s.file t.shown) (memory s) address before most table r
+  pub block_found_here : (b : Block) (body : List ℕ) (r : Result Table Ending) → b.body ≡ body → IsReadBlock address s told (Ok b) → TakesRows address before most table body r → ReadsTableBlock (shown_of s.file t.shown) (memory s) address before most table r
   block_found_here b body r same exact takes =
-      by_body Table (GivesRows before most table b.body) (LacksRows address before most table b.body) (ReadsBlock (shown_of s.file t.shown) (memory s) address before most table) r (λ later is. (b, shown, is)) (λ place is. (b, shown, is))
+      by_body Table (GivesRows before most table b.body) (LacksRows address before most table b.body) (ReadsTableBlock (shown_of s.file t.shown) (memory s) address before most table) r (λ later is. (b, shown, is)) (λ place is. (b, shown, is))
       (subst (λ (x : List ℕ). TakesRows address before most table x r) (sym same) takes)
     where
       shown : block_read (shown_of s.file t.shown) (memory s) (ReadBlock address) ≡ Ok b
       shown = sym (subst (λ (o : Option Told). IsBlockFound s address o (Ok b)) is exact.1)
 
-  pub block_unfound : (e : ReadError) → (e ≡ read.NotLive → ⊥) → IsReadBlock address s told (Err e) → ReadsBlock (shown_of s.file t.shown) (memory s) address before most table (Err (block_ending e))
+  pub block_unfound : (e : ReadError) → (e ≡ read.NotLive → ⊥) → IsReadBlock address s told (Err e) → ReadsTableBlock (shown_of s.file t.shown) (memory s) address before most table (Err (block_ending e))
   block_unfound read.DiskFault known exact = tt
   block_unfound read.NotLive known exact = absurd (known refl)
   block_unfound (read.Damaged place class) known exact = (exact.1, sym (subst (λ (o : Option Told). IsBlockFound s address o (Err class)) is exact.2))

@@ -31,14 +31,14 @@ use Rattle.df_session.specs.Beginning.{IsBegin, begin_refusal, begun}
 use Rattle.df_session.specs.Below.{State as Replica, RunningState, memory}
 use Rattle.df_session.specs.Blocks.{IsRelease, IsWriteBlock, next_block, released, written}
 use Rattle.df_session.specs.Calls.{machine_answer}
-use Rattle.df_session.specs.Endings.{EndsBy, GivesAnswer, is_disk as by_fault}
+use Rattle.df_session.specs.Endings.{EndsBy, GivesAnswer, is_disk_fault as by_fault}
 use Rattle.df_session.specs.Links.{Makes}
 use Rattle.df_session.specs.declared.hearing.Fault.{Fault}
 use Rattle.df_session.specs.declared.hearing.Fault.TheVariants as faults
 use Rattle.df_result.specs.Replying.{IsReply, next_reply, replied}
 use Rattle.df_session.specs.Stepping.{IsStep, OfRunning}
 use Rattle.df_session.proofs.Laws.{on_running}
-use Rattle.df_table.specs.Calls.{Comes, IsRunning, MayAppend, MayBegin, Stepped, accepted_or, done_of, op_of}
+use Rattle.df_table.specs.Calls.{CheckpointStepped, Comes, IsCheckpointing, MayAppendCommand, MayBegin, accepted_or, done_of, op_of}
 use Rattle.df_table.specs.declared.ending.Ending.TheVariants.{Disk, OpsSpent, SequenceSpent}
 use Rattle.df_table.specs.Policy.{the_client}
 use Rattle.df_table.specs.Statuses.{ended_by, is_disk}
@@ -185,7 +185,7 @@ module _ (s t : Replica) (old new : Option Told) where
   -- ---- an append
 
   pub record Appends (request : ℕ) (body : List ℕ) (a : Answer) : Type 0 where
-    pub comes : MayAppend s request body → Comes (Append the_client request body ∷ []) s t old new (op_of a)
+    pub comes : MayAppendCommand s request body → Comes (Append the_client request body ∷ []) s t old new (op_of a)
     pub state : OnOk (op_of a) (t ≡ appended s (next_unit s the_client request body))
     pub op : IfOk (op_of a) (λ op. op ≡ s.head + 1)
     pub blames : (before now : ℕ) → now ≡ before → IsBlamed is_disk before now (op_of a)
@@ -239,9 +239,9 @@ module _ (s t : Replica) (old new : Option Told) where
 
   pub record Steps (a : Answer) : Type 0 where
     pub comes : MakeAll (Advance ∷ []) s t old new
-    pub state : Stepped (done_of a) s t
+    pub state : CheckpointStepped (done_of a) s t
 
-  module _ (runs : IsRunning s) where
+  module _ (runs : IsCheckpointing s) where
     step_answered : (r : Result Progress StepError) → IsStep s t old new r → (x : Answered) → Makes Advance s t old new (Some x) → machine_answer (answers.Advance r) ≡ Some x → Steps (answers.Advance r)
     step_answered (Ok (progress.Working left)) is x makes told = record {
       comes = one_made Advance s t old new x makes (accepted_by (ToAdvance (Ok (progress.Working left))) x told tt);

@@ -11,7 +11,7 @@ use Rattle.df_session.specs.Below.{State as Replica, memory}
 use Rattle.df_table.specs.declared.ending.Ending.{Ending}
 use Rattle.df_table.specs.Calls.{Changes, Checkpoints, Comes, MakesRoom}
 use Rattle.df_table.specs.Policy.{checkpoint, is_full, request, room_for, the_client}
-use Rattle.df_table.specs.Ready.{HasRoom}
+use Rattle.df_table.specs.Ready.{HasRingRoom}
 use Rattle.df_table.specs.Turns.{EndIn, MakeAll}
 use Rattle.df_table.proofs.Joined.{comes_more, end_front, end_more, make_more, make_none}
 
@@ -60,11 +60,11 @@ module _ (layout : Layout) (rows : Map) (c : Change) (s : Replica) where
   room_ends T t old new ending ends = (ends.0, end_front (room_for layout (memory s) rows ends.0) (request (memory s) c) s t old new ending ends.1)
 
   -- after it, the head and the sessions are those of before
-  same_request : (u : Replica) → HasRoom layout s u → request (memory u) c ≡ request (memory s) c
+  same_request : (u : Replica) → HasRingRoom layout s u → request (memory u) c ≡ request (memory s) c
   same_request u room =
       ap (λ (ss : List Session). Append the_client (next_request (session_of_client the_client ss)) (body_of c) ∷ Reply (u.head + 1) [] ∷ []) room.sessions
       ∙ ap (λ (h : ℕ). Append the_client (next_request (session_of_client the_client (memory s).sessions)) (body_of c) ∷ Reply (h + 1) [] ∷ []) room.head
 
-  pub change_comes : {T : Type 0} (u t : Replica) (old one new : Option Told) (r : Result T Ending) → MakesRoom {T = Unit {0}} layout rows s u old one (Ok tt) → HasRoom layout s u → Comes (request (memory u) c) u t one new r → Changes layout rows c s t old new r
+  pub change_comes : {T : Type 0} (u t : Replica) (old one new : Option Told) (r : Result T Ending) → MakesRoom {T = Unit {0}} layout rows s u old one (Ok tt) → HasRingRoom layout s u → Comes (request (memory u) c) u t one new r → Changes layout rows c s t old new r
   change_comes u t old one new r makes room comes =
       (makes.0, comes_more (room_for layout (memory s) rows makes.0) (request (memory s) c) s u t old one new makes.1 r (subst (λ (l : List Command). Comes l u t one new r) (same_request u room) comes))

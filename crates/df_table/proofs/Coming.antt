@@ -32,11 +32,11 @@ use Rattle.df_session.specs.Serving.{Whole, format}
 use Rattle.df_session.specs.Session.{IsMidway as IsMidwayIn}
 use Rattle.df_session.proofs.Laws.{added_is_told}
 use Rattle.df_table.specs.declared.status.Status.{Status}
-use Rattle.df_table.specs.Keeping.{IsMidway, KeepsFrom}
-use Rattle.df_table.specs.Lives.{Chapter, Extent, GoesOn, Keeps, KeepsBy, KeepsIn, KeepsOf, MayHave, ToAMoment, ToItsEnd, WasRun, no_changes}
+use Rattle.df_table.specs.Keeping.{IsTableMidway, KeepsFrom}
+use Rattle.df_table.specs.Lives.{KeepsBy, KeepsChapter, KeepsIn, KeepsOf, MayHaveTable, RunExtent, TableChapter, TableGoesOn, ToAMoment, ToItsEnd, WasRun, no_changes}
 use Rattle.df_table.specs.Outside.{Outside}
-use Rattle.df_table.specs.Run.{Does, Outcome, ServesTable}
-use Rattle.df_table.specs.Table.{HasTable, IsTable}
+use Rattle.df_table.specs.Run.{DoesTable, ServesTable, TableOutcome}
+use Rattle.df_table.specs.Table.{HasTable, IsObjectTable}
 use Rattle.df_table.specs.Written.{IsTableIn}
 use Rattle.df_table.proofs.Finding.{table_is_found}
 use Rattle.df_table.proofs.Lasting.{none_taken, table_later}
@@ -58,36 +58,36 @@ now_left log is = record { whole = now_is_image log.start log.events is.start is
 
 module _ (file : DataFile) where
   -- it has a view, with each block that it references, whose sessions are the client's; and its table is one that the file may have come to
-  pub record Has (chapters : List Chapter) (image : Image) : Type 0 where
+  pub record Has (chapters : List TableChapter) (image : Image) : Type 0 where
     pub view : View
     pub held : Held (shape file) ((format file).unit_at image) view
     pub stands : Stands ((format file).unit_at image) view
     pub own : OwnView view
     pub table : Table
-    pub is : IsTable file ((format file).unit_at image) view table
-    pub had : MayHave file.layout chapters table
+    pub is : IsObjectTable file ((format file).unit_at image) view table
+    pub had : MayHaveTable file.layout chapters table
 
-  seen_has : (chapters : List Chapter) (image : Image) (table : Table) → Seen file image → HasTable file table image → MayHave file.layout chapters table → Has chapters image
+  seen_has : (chapters : List TableChapter) (image : Image) (table : Table) → Seen file image → HasTable file table image → MayHaveTable file.layout chapters table → Has chapters image
   seen_has chapters image table seen has had = record {
     view = seen.view;
     held = seen.held;
     stands = seen.stands;
     own = seen.own;
     table = table;
-    is = subst (λ (v : View). IsTable file ((format file).unit_at image) v table) (one_view (shape file) ((format file).unit_at image) has.view seen.view has.held seen.held) has.table;
+    is = subst (λ (v : View). IsObjectTable file ((format file).unit_at image) v table) (one_view (shape file) ((format file).unit_at image) has.view seen.view has.held seen.held) has.table;
     had = had;
   }
 
   -- the log is safe, and so is each image that a stop may leave
-  pub record Order (chapters : List Chapter) (log : Log) : Type 0 where
+  pub record Order (chapters : List TableChapter) (log : Log) : Type 0 where
     pub safe : IsSafeDisk (format file) (shape file) log
     pub left : (image : Image) → IsLeft log image → NoChanceOf (format file) log image → Has chapters image
 
-  order_seen : (chapters : List Chapter) (log : Log) → Order chapters log → EachSeen file log
+  order_seen : (chapters : List TableChapter) (log : Log) → Order chapters log → EachSeen file log
   order_seen chapters log order image left chance = let has = order.left image left chance in record { view = has.view; held = has.held; stands = has.stands; own = has.own }
 
   -- after a run
-  mid_order : (chapters : List Chapter) (before : Table) (c : Chapter) (log : Log) → MayHave file.layout chapters before → EachSeen file log → IsMidway file (with_commands c.kept before) c.perhaps log → Order (c ∷ chapters) log
+  mid_order : (chapters : List TableChapter) (before : Table) (c : TableChapter) (log : Log) → MayHaveTable file.layout chapters before → EachSeen file log → IsTableMidway file (with_commands c.kept before) c.perhaps log → Order (c ∷ chapters) log
   mid_order chapters before c log had seen mid = record {
     safe = mid.safe;
     left = λ image left chance.
@@ -96,7 +96,7 @@ module _ (file : DataFile) where
   }
 
   -- of which nothing is surely kept
-  none_order : (chapters : List Chapter) (more : List Change) (log : Log) → Order chapters log → Order (record { kept = []; perhaps = more } ∷ chapters) log
+  none_order : (chapters : List TableChapter) (more : List Change) (log : Log) → Order chapters log → Order (record { kept = []; perhaps = more } ∷ chapters) log
   none_order chapters more log order = record {
     safe = order.safe;
     left = λ image left chance.
@@ -107,18 +107,18 @@ module _ (file : DataFile) where
 -- ---- what a run leaves
 
 -- by what is kept of it, at the end and at each moment
-pub record Comes (file : DataFile) (chapters : List Chapter) (t n : Told) (keeps : Extent → Chapter → Type 0) : Type 0 where
+pub record Comes (file : DataFile) (chapters : List TableChapter) (t n : Told) (keeps : RunExtent → TableChapter → Type 0) : Type 0 where
   pub honest : IsHonest n
-  pub at_end : (c : Chapter) → keeps ToItsEnd c → Order file (c ∷ chapters) n.log
-  pub moments : (log : Log) (k : ℕ) (c : Chapter) → IsMoment t.log n.log log → keeps (ToAMoment log k) c → Order file (c ∷ chapters) log
+  pub at_end : (c : TableChapter) → keeps ToItsEnd c → Order file (c ∷ chapters) n.log
+  pub moments : (log : Log) (k : ℕ) (c : TableChapter) → IsMoment t.log n.log log → keeps (ToAMoment log k) c → Order file (c ∷ chapters) log
 
 -- a file in order
-pub record InOrder (file : DataFile) (chapters : List Chapter) (t : Told) : Type 0 where
+pub record InOrder (file : DataFile) (chapters : List TableChapter) (t : Told) : Type 0 where
   pub version : file.version ≡ 2
   pub honest : IsHonest t
   pub order : Order file chapters t.log
 
-module _ (file : DataFile) (chapters : List Chapter) (t : Told) (is : InOrder file chapters t) (chance : NoChanceOf (format file) t.log (now t.log)) where
+module _ (file : DataFile) (chapters : List TableChapter) (t : Told) (is : InOrder file chapters t) (chance : NoChanceOf (format file) t.log (now t.log)) where
   -- ---- as it is opened
 
   pub here : Has file chapters (now t.log)
@@ -145,10 +145,10 @@ module _ (file : DataFile) (chapters : List Chapter) (t : Told) (is : InOrder fi
   stands_shown : Stands (unit_at file.layout file.cluster t.shown) view
   stands_shown = subst (λ (image : Image). Stands (unit_at file.layout file.cluster image) view) shows here.stands
 
-  is_shown : IsTable file (unit_at file.layout file.cluster t.shown) view table
-  is_shown = subst (λ (image : Image). IsTable file (unit_at file.layout file.cluster image) view table) shows here.is
+  is_shown : IsObjectTable file (unit_at file.layout file.cluster t.shown) view table
+  is_shown = subst (λ (image : Image). IsObjectTable file (unit_at file.layout file.cluster image) view table) shows here.is
 
-  pub goes_on : GoesOn file chapters t
+  pub goes_on : TableGoesOn file chapters t
   goes_on = record { view = view; may = may; table = table; is = is_shown; had = here.had; finds = table_is_found file t view table found_shown here.own is_shown }
 
   one_opened : (layout : Layout) (s : Replica) → IsOpened layout t.shown s → s.file ≡ file
@@ -166,7 +166,7 @@ module _ (file : DataFile) (chapters : List Chapter) (t : Told) (is : InOrder fi
 
   -- ---- no calls were made
 
-  abbrev None_kept : Extent → Chapter → Type 0
+  abbrev None_kept : RunExtent → TableChapter → Type 0
   None_kept extent c = c ≡ no_changes
 
   quiet : (es : List Event) (n : Told) → Some n ≡ after_all es (Some t) → EachMoment t.log n.log (Order file chapters) → Comes file chapters t n None_kept
@@ -174,8 +174,8 @@ module _ (file : DataFile) (chapters : List Chapter) (t : Told) (is : InOrder fi
       let grew = goes es t n told in
       record {
         honest = grew.honest is.honest;
-        at_end = λ c none. subst (λ (x : Chapter). Order file (x ∷ chapters) n.log) (sym none) (none_order file chapters [] n.log (each n.log (record { since = grew.grew; until = extends_self n.log })));
-        moments = λ log k c moment none. subst (λ (x : Chapter). Order file (x ∷ chapters) log) (sym none) (none_order file chapters [] log (each log moment));
+        at_end = λ c none. subst (λ (x : TableChapter). Order file (x ∷ chapters) n.log) (sym none) (none_order file chapters [] n.log (each n.log (record { since = grew.grew; until = extends_self n.log })));
+        moments = λ log k c moment none. subst (λ (x : TableChapter). Order file (x ∷ chapters) log) (sym none) (none_order file chapters [] log (each log moment));
       }
 
   same : (n : Told) → Some n ≡ Some t → Comes file chapters t n None_kept
@@ -255,7 +255,7 @@ module _ (file : DataFile) (chapters : List Chapter) (t : Told) (is : InOrder fi
     from_table : (after : Told) × KeepsFrom file table t es c serves.keeps.changes serves.keeps.pending after
     from_table =
         subst
-        (λ (f : DataFile). (view : View) (base : Told) (table : Table) → base.shown ≡ t.shown → MayOpen f view base → IsTable f (unit_at f.layout f.cluster t.shown) view table → (after : Told) × KeepsFrom f table base es c serves.keeps.changes serves.keeps.pending after)
+        (λ (f : DataFile). (view : View) (base : Told) (table : Table) → base.shown ≡ t.shown → MayOpen f view base → IsObjectTable f (unit_at f.layout f.cluster t.shown) view table → (after : Told) × KeepsFrom f table base es c serves.keeps.changes serves.keeps.pending after)
         one serves.keeps.keeps view t table refl may is_shown
 
     keeps : KeepsFrom file table t es c serves.keeps.changes serves.keeps.pending n
@@ -289,34 +289,34 @@ module _ (file : DataFile) (chapters : List Chapter) (t : Told) (is : InOrder fi
         (weaker (did Sync t).log n.log (IsMidwayIn file Whole start (c.acts ++ list_of c.failed)) (EachSeen file) (λ log mid image left no. some_seen file (c.acts ++ list_of c.failed) start image (all_have file c.acts c.failed have.0 have.1) begun_own (mid.left image left no))
         (subst (λ (x : Told). EachMoment (did Sync t).log x.log (IsMidwayIn file Whole start (c.acts ++ list_of c.failed))) last file_kept.moments))
 
-    mid_here : (chapter : Chapter) (log : Log) → IsMoment t.log n.log log → IsMidway file (with_commands chapter.kept table) chapter.perhaps log → Order file (chapter ∷ chapters) log
+    mid_here : (chapter : TableChapter) (log : Log) → IsMoment t.log n.log log → IsTableMidway file (with_commands chapter.kept table) chapter.perhaps log → Order file (chapter ∷ chapters) log
     mid_here chapter log moment mid = mid_order file chapters table chapter log here.had (seen log moment) mid
 
-    ended : (chapter : Chapter) → Keeps ToItsEnd c serves.keeps.changes serves.keeps.pending chapter → Order file (chapter ∷ chapters) n.log
-    ended chapter kept_is = subst (λ (x : Chapter). Order file (x ∷ chapters) n.log) (sym kept_is) (mid_here (record { kept = serves.keeps.changes; perhaps = serves.keeps.pending }) n.log (record { since = grew_all; until = extends_self n.log }) keeps.end_safe)
+    ended : (chapter : TableChapter) → KeepsChapter ToItsEnd c serves.keeps.changes serves.keeps.pending chapter → Order file (chapter ∷ chapters) n.log
+    ended chapter kept_is = subst (λ (x : TableChapter). Order file (x ∷ chapters) n.log) (sym kept_is) (mid_here (record { kept = serves.keeps.changes; perhaps = serves.keeps.pending }) n.log (record { since = grew_all; until = extends_self n.log }) keeps.end_safe)
 
-    cut : (log : Log) (k : ℕ) (chapter : Chapter) → IsMoment t.log n.log log → Keeps (ToAMoment log k) c serves.keeps.changes serves.keeps.pending chapter → Order file (chapter ∷ chapters) log
+    cut : (log : Log) (k : ℕ) (chapter : TableChapter) → IsMoment t.log n.log log → KeepsChapter (ToAMoment log k) c serves.keeps.changes serves.keeps.pending chapter → Order file (chapter ∷ chapters) log
     cut log zero chapter moment kept_is =
-        let none : Chapter = record { kept = []; perhaps = serves.keeps.changes ++ serves.keeps.pending } in
-        subst (λ (x : Chapter). Order file (x ∷ chapters) log) (sym kept_is)
+        let none : TableChapter = record { kept = []; perhaps = serves.keeps.changes ++ serves.keeps.pending } in
+        subst (λ (x : TableChapter). Order file (x ∷ chapters) log) (sym kept_is)
         (from_before Sync t.log n.log (Order file (none ∷ chapters)) (none_order file chapters none.perhaps t.log is.order) grew
         (λ l later. mid_here none l (record { since = extends_on l (did Sync t).log t.log later.since (Sync ∷ [], refl, refl); until = later.until }) (keeps.moments l later)) log moment)
     cut log (suc k) chapter moment kept_is =
         mid_here chapter log moment
-        (subst (λ (l : List Change). IsMidway file (with_commands chapter.kept table) l log) (sym kept_is.4)
+        (subst (λ (l : List Change). IsTableMidway file (with_commands chapter.kept table) l log) (sym kept_is.4)
         (keeps.answered (suc k) log chapter.kept kept_is.0 kept_is.2 kept_is.3 (subst (λ (o : Option Told). WereAnswered (suc k) o log c) old_is kept_is.1) moment.until))
 
-    served : Comes file chapters t n (λ extent chapter. Keeps extent c serves.keeps.changes serves.keeps.pending chapter)
+    served : Comes file chapters t n (λ extent chapter. KeepsChapter extent c serves.keeps.changes serves.keeps.pending chapter)
     served = record { honest = subst IsHonest last file_kept.honest; at_end = ended; moments = λ log k chapter moment kept_is. cut log k chapter moment kept_is }
 
   -- ---- a run
 
-  does_comes : (layout : Layout) (old new : Outside) (status : Status) (n : Told) → new.told ≡ Some n → (does : Does layout t old new status) → Comes file chapters t n (λ extent c. KeepsOf extent layout t old new status does c)
+  does_comes : (layout : Layout) (old new : Outside) (status : Status) (n : Told) → new.told ≡ Some n → (does : DoesTable layout t old new status) → Comes file chapters t n (λ extent c. KeepsOf extent layout t old new status does c)
   does_comes layout old new status n to (inl refuses) = barrier n (sym to ∙ refuses.barrier)
   does_comes layout old new status n to (inr (inl fails)) = stops layout n (subst (StopsOpening layout t) to fails.disk)
   does_comes layout old new status n to (inr (inr serves)) = served layout old new status n to serves.0 serves.1
 
-  outcome_comes : (old new : Outside) (status : Status) (n : Told) → old.told ≡ Some t → new.told ≡ Some n → (outcome : Outcome t old new status) → Comes file chapters t n (λ extent c. KeepsBy extent t old new status outcome c)
+  outcome_comes : (old new : Outside) (status : Status) (n : Told) → old.told ≡ Some t → new.told ≡ Some n → (outcome : TableOutcome t old new status) → Comes file chapters t n (λ extent c. KeepsBy extent t old new status outcome c)
   outcome_comes old new status n from to (inl nothing) = same n (sym to ∙ nothing.same ∙ from)
   outcome_comes old new status n from to (inr (inl refuses)) = same n (sym to ∙ refuses.same ∙ from)
   outcome_comes old new status n from to (inr (inr own)) = does_comes own.layout old new status n to own.does

@@ -20,7 +20,7 @@ use Rattle.df_rows.specs.declared.refusal.Refusal.TheVariants.{NoKey, TableFull,
 use Rattle.df_rows.specs.Answers.{is_full_for, missing, refusal_of, refusal_text}
 use Rattle.df_rows.specs.Commands.{IsCommand}
 use Rattle.df_rows.specs.Grammar.{Drop, Get, Put, Said, said_with, value_length}
-use Rattle.df_rows.specs.Lines.{accepted, asks, done_text, line_in, refusal_or, text_of, unless_refused, value_in}
+use Rattle.df_rows.specs.Lines.{accepted, asked_by_line, done_text, line_in, line_of_turn, refusal_or, unless_refused, value_in}
 use Rattle.df_rows.specs.Tables.{HasRoom, Table, with_command, with_commands}
 use Rattle.df_session.specs.Below.{State as Replica, memory}
 use Rattle.df_table.specs.declared.ending.Ending.{Ending}
@@ -28,10 +28,10 @@ use Rattle.df_table.specs.declared.status.Status.{Status}
 use Rattle.df_table.specs.declared.status.Status.TheVariants.{DiskFault, Done, Memory, ReadFault, Refused, Script, Words, WriteFault}
 use Rattle.df_table.specs.declared.turns.Turn.{Turn as Step}
 use Rattle.df_table.specs.declared.turns.Turn.TheVariants.{Ends, GoesOn as Goes}
-use Rattle.df_table.specs.Outside.{Writes}
+use Rattle.df_table.specs.Outside.{WritesTableText}
 use Rattle.df_table.specs.Calls.{Changes}
 use Rattle.df_table.specs.Policy.{line_commands}
-use Rattle.df_table.specs.Serving.{Answers, IsExecuted, Tells, printed_turn}
+use Rattle.df_table.specs.Serving.{AnswersLine, IsExecuted, TellsLine, printed_turn}
 use Rattle.df_table.specs.Statuses.{ending_text, status_of}
 use Rattle.df_table.specs.Turns.{AreFit, EndIn, IsAccepted, IsOfCall, MakeAll}
 
@@ -61,11 +61,11 @@ pub drop_asks : (t : Table) (key : ℕ) → refusal_of t (lines.Drop key) ≡ No
 drop_asks t key fine = ap (λ (o : Option Refusal). unless_refused o (commands.Drop key ∷ [])) fine
 
 -- and their texts
-pub put_text : (t : Table) (n key size : ℕ) (body : List ℕ) → size ≤ length body → refusal_of t (lines.Put key size) ≡ None → text_of t n (Put key (take size body)) ≡ done_text t n (Put key (take size body))
+pub put_text : (t : Table) (n key size : ℕ) (body : List ℕ) → size ≤ length body → refusal_of t (lines.Put key size) ≡ None → line_of_turn t n (Put key (take size body)) ≡ done_text t n (Put key (take size body))
 put_text t n key size body within fine =
     ap (λ (k : ℕ). refusal_or (refusal_of t (lines.Put key k)) (done_text t n (Put key (take size body)))) (length-take-le size body within) ∙ ap (λ (o : Option Refusal). refusal_or o (done_text t n (Put key (take size body)))) fine
 
-pub drop_text : (t : Table) (n key : ℕ) → refusal_of t (lines.Drop key) ≡ None → text_of t n (Drop key) ≡ done_text t n (Drop key)
+pub drop_text : (t : Table) (n key : ℕ) → refusal_of t (lines.Drop key) ≡ None → line_of_turn t n (Drop key) ≡ done_text t n (Drop key)
 drop_text t n key fine = ap (λ (o : Option Refusal). refusal_or o (done_text t n (Drop key))) fine
 
 -- ---- a line with a command
@@ -87,10 +87,10 @@ module _ (layout : Layout) (said : Said) (c : Command) (s t : Replica) (old new 
     head = head ∙ ap (λ (l : List Command). s.head + length l) (sym asks_is);
   }
 
-  pub ended : (steps : ℕ) (ending : Ending) (written took : Option (List ℕ)) (turn : Step) (ends : Status) → turn ≡ Ends ends → EndIn (line_commands layout (memory s) table.rows steps (c ∷ [])) s t old new ending → Writes (ending_text ending) (status_of ending) written took ends
-      → IsOfCall new ending → Answers layout said s t old new table later written took turn
+  pub ended : (steps : ℕ) (ending : Ending) (written took : Option (List ℕ)) (turn : Step) (ends : Status) → turn ≡ Ends ends → EndIn (line_commands layout (memory s) table.rows steps (c ∷ [])) s t old new ending → WritesTableText (ending_text ending) (status_of ending) written took ends
+      → IsOfCall new ending → AnswersLine layout said s t old new table later written took turn
   ended steps ending written took turn ends is halts wrote of_call =
-      subst (λ (u : Step). Answers layout said s t old new table later written took u) (sym is)
+      subst (λ (u : Step). AnswersLine layout said s t old new table later written took u) (sym is)
       (inr (ending, steps, subst (λ (l : List Command). EndIn (line_commands layout (memory s) table.rows steps l) s t old new ending) (sym asks_is) halts, wrote, fit_is, of_call))
 
 -- ---- a line without one
@@ -114,19 +114,19 @@ module _ (layout : Layout) (said : Said) (s : Replica) (told : Option Told) (tab
   }
 
 pub refused_none : (table : Table) (said : Said) (refusal : Refusal) → refusal_of table (line_in said) ≡ Some refusal → accepted table said ≡ []
-refused_none table said refusal is = ap (λ (o : Option Refusal). unless_refused o (asks said)) is
+refused_none table said refusal is = ap (λ (o : Option Refusal). unless_refused o (asked_by_line said)) is
 
 pub get_none : (table : Table) (key : ℕ) → accepted table (Get key) ≡ []
 get_none table key = none_asked table (refusal_of table (lines.Get key))
 
 -- ---- what is printed
 
-pub printed_tells : (text : List ℕ) (written took : Option (List ℕ)) (E : Type 0) (r : Result (Unit {0}) E) → Prints text written took r → Tells text written took (printed_turn r)
+pub printed_tells : (text : List ℕ) (written took : Option (List ℕ)) (E : Type 0) (r : Result (Unit {0}) E) → Prints text written took r → TellsLine text written took (printed_turn r)
 printed_tells text written took E (Ok done) prints = prints.whole
 printed_tells text written took E (Err e) prints = prints.part
 
-pub from_tells : (layout : Layout) (said : Said) (s t : Replica) (old new : Option Told) (table later : Table) (written took : Option (List ℕ)) (text : List ℕ) (turn : Step) → IsExecuted layout said s t old new table later → text_of table s.head said ≡ text → Tells text written took turn
-    → Answers layout said s t old new table later written took turn
+pub from_tells : (layout : Layout) (said : Said) (s t : Replica) (old new : Option Told) (table later : Table) (written took : Option (List ℕ)) (text : List ℕ) (turn : Step) → IsExecuted layout said s t old new table later → line_of_turn table s.head said ≡ text → TellsLine text written took turn
+    → AnswersLine layout said s t old new table later written took turn
 from_tells layout said s t old new table later written took text Goes e is tells = (e, subst (Appends written took) (sym is) tells)
 from_tells layout said s t old new table later written took text (Ends WriteFault) e is tells = inl (e, refl, subst (AppendsPart written took) (sym is) tells)
 from_tells layout said s t old new table later written took text (Ends Done) e is tells = absurd tells
@@ -141,30 +141,30 @@ from_tells layout said s t old new table later written took text (Ends Memory) e
 
 module _ (layout : Layout) (said : Said) (c : Command) (s t : Replica) (old new : Option Told) (table later : Table) (written took : Option (List ℕ)) (asks_is : accepted table said ≡ c ∷ []) (fits : IsCommand c) where
   -- it was done and printed, or the sink failed
-  pub changed_answers : {T : Type 0} (x : T) (E : Type 0) (r : Result (Unit {0}) E) (text : List ℕ) (turn : Step) → text_of table s.head said ≡ text → Changes layout table.rows c s t old new (Ok x) → later ≡ with_command c table → t.head ≡ s.head + 1 → Prints text written took r → turn ≡ printed_turn r
-      → Answers layout said s t old new table later written took turn
+  pub changed_answers : {T : Type 0} (x : T) (E : Type 0) (r : Result (Unit {0}) E) (text : List ℕ) (turn : Step) → line_of_turn table s.head said ≡ text → Changes layout table.rows c s t old new (Ok x) → later ≡ with_command c table → t.head ≡ s.head + 1 → Prints text written took r → turn ≡ printed_turn r
+      → AnswersLine layout said s t old new table later written took turn
   changed_answers x E r text turn text_is makes changed head prints is =
-      subst (λ (u : Step). Answers layout said s t old new table later written took u) (sym is)
+      subst (λ (u : Step). AnswersLine layout said s t old new table later written took u) (sym is)
       (from_tells layout said s t old new table later written took text (printed_turn r) (executed layout said c s t old new table later asks_is fits makes.0 makes.1 changed head) text_is (printed_tells text written took E r prints))
 
   -- or something ended the session within it
-  pub changed_ends : (T : Type 0) (ending : Ending) (ends : Status) → Changes {T = T} layout table.rows c s t old new (Err ending) → Writes (ending_text ending) (status_of ending) written took ends → IsOfCall new ending → Answers layout said s t old new table later written took (Ends ends)
+  pub changed_ends : (T : Type 0) (ending : Ending) (ends : Status) → Changes {T = T} layout table.rows c s t old new (Err ending) → WritesTableText (ending_text ending) (status_of ending) written took ends → IsOfCall new ending → AnswersLine layout said s t old new table later written took (Ends ends)
   changed_ends T ending ends makes wrote of_call = ended layout said c s t old new table later asks_is fits makes.0 ending written took (Ends ends) ends refl makes.1 wrote of_call
 
 -- a line without a command was answered
 module _ (layout : Layout) (said : Said) (s : Replica) (told : Option Told) (table : Table) (written took : Option (List ℕ)) (none : accepted table said ≡ []) where
-  pub told_answers : (text : List ℕ) (turn : Step) → text_of table s.head said ≡ text → Tells text written took turn → Answers layout said s s told told table table written took turn
+  pub told_answers : (text : List ℕ) (turn : Step) → line_of_turn table s.head said ≡ text → TellsLine text written took turn → AnswersLine layout said s s told told table table written took turn
   told_answers text turn text_is tells = from_tells layout said s s told told table table written took text turn (nothing_done layout said s told table none) text_is tells
 
 -- what is printed as a turn
-pub turn_tells : (text : List ℕ) (written took : Option (List ℕ)) (E : Type 0) (r : Result (Unit {0}) E) (turn : Step) → Prints text written took r → turn ≡ printed_turn r → Tells text written took turn
-turn_tells text written took E r turn prints is = subst (Tells text written took) (sym is) (printed_tells text written took E r prints)
+pub turn_tells : (text : List ℕ) (written took : Option (List ℕ)) (E : Type 0) (r : Result (Unit {0}) E) (turn : Step) → Prints text written took r → turn ≡ printed_turn r → TellsLine text written took turn
+turn_tells text written took E r turn prints is = subst (TellsLine text written took) (sym is) (printed_tells text written took E r prints)
 
 -- the text of a line that isn't refused, and of one that is
-pub fine_text : (t : Table) (n : ℕ) (said : Said) → refusal_of t (line_in said) ≡ None → text_of t n said ≡ done_text t n said
+pub fine_text : (t : Table) (n : ℕ) (said : Said) → refusal_of t (line_in said) ≡ None → line_of_turn t n said ≡ done_text t n said
 fine_text t n said fine = ap (λ (o : Option Refusal). refusal_or o (done_text t n said)) fine
 
-pub refused_text : (t : Table) (n : ℕ) (said : Said) (refusal : Refusal) → refusal_of t (line_in said) ≡ Some refusal → text_of t n said ≡ refusal_text refusal
+pub refused_text : (t : Table) (n : ℕ) (said : Said) (refusal : Refusal) → refusal_of t (line_in said) ≡ Some refusal → line_of_turn t n said ≡ refusal_text refusal
 refused_text t n said refusal is = ap (λ (o : Option Refusal). refusal_or o (done_text t n said)) is
 
 -- of a line as it was read, whose value is in the buffer

@@ -22,8 +22,8 @@ use Rattle.df_session.specs.Begun.{begun_work}
 use Rattle.df_session.specs.Below.{DataFile, shape, spelling}
 use Rattle.df_session.specs.Reading.{shown_of}
 use Rattle.df_table.specs.Laws.{FindsIn}
-use Rattle.df_table.specs.Opening.{ArePrepares, AreRead, Found}
-use Rattle.df_table.specs.Table.{IsTable, ShowsBodies, ShowsBody}
+use Rattle.df_table.specs.Opening.{ArePrepares, AreReadBlocks, Found}
+use Rattle.df_table.specs.Table.{IsObjectTable, ShowsBodies, ShowsBody}
 use Rattle.df_table.proofs.FoundTable.{as_many}
 use Rattle.df_table.proofs.Owned.{OwnView, after_own, own_at}
 
@@ -40,13 +40,13 @@ module _ (shown : Shown) (m : Memory) where
   body_read x body known s = (s.block, block_shown (sum_at x.0 m.blocks.live) (shown.units (BlockPlace x.0)) (class_at shown (BlockPlace x.0)) s.block s.there (known ∙ ap Some (sym s.sum)) s.own, s.body_is)
 
   module _ (f : ℕ → Option ℕ) where
-    entry_read : (a : ℕ) (rest : List (ℕ × ℕ)) → ((c : ℕ) → f a ≡ Some c → sum_at a m.blocks.live ≡ Some c) → ((bodies : List (List ℕ)) → ShowsBodies shown.units rest bodies → AreRead shown m rest bodies) → (o : Option ℕ) → f a ≡ o → (bodies : List (List ℕ))
-        → ShowsBodies shown.units (entry a o rest) bodies → AreRead shown m (entry a o rest) bodies
+    entry_read : (a : ℕ) (rest : List (ℕ × ℕ)) → ((c : ℕ) → f a ≡ Some c → sum_at a m.blocks.live ≡ Some c) → ((bodies : List (List ℕ)) → ShowsBodies shown.units rest bodies → AreReadBlocks shown m rest bodies) → (o : Option ℕ) → f a ≡ o → (bodies : List (List ℕ))
+        → ShowsBodies shown.units (entry a o rest) bodies → AreReadBlocks shown m (entry a o rest) bodies
     entry_read a rest known more None is bodies shows = more bodies shows
     entry_read a rest known more (Some c) is [] shows = absurd shows
     entry_read a rest known more (Some c) is (body ∷ bodies) shows = (body_read (a, c) body (known c is) shows.0, more bodies shows.1)
 
-    bodies_read : (s n : ℕ) → ((a c : ℕ) → s ≤ a → a < s + n → f a ≡ Some c → sum_at a m.blocks.live ≡ Some c) → (bodies : List (List ℕ)) → ShowsBodies shown.units (entries f (range_with_len s n)) bodies → AreRead shown m (entries f (range_with_len s n)) bodies
+    bodies_read : (s n : ℕ) → ((a c : ℕ) → s ≤ a → a < s + n → f a ≡ Some c → sum_at a m.blocks.live ≡ Some c) → (bodies : List (List ℕ)) → ShowsBodies shown.units (entries f (range_with_len s n)) bodies → AreReadBlocks shown m (entries f (range_with_len s n)) bodies
     bodies_read s zero known [] shows = tt
     bodies_read s zero known (body ∷ bodies) shows = absurd shows
     bodies_read s (suc n) known bodies shows =
@@ -71,12 +71,12 @@ module _ (shown : Shown) (m : Memory) where
 
 -- ---- the table
 
-pub table_is_found : (file : DataFile) (t : Told) (v : View) (table : Table) → IsFound (shape file) (unit_at file.layout file.cluster t.shown) v → OwnView v → IsTable file (unit_at file.layout file.cluster t.shown) v table → FindsIn file t v table
+pub table_is_found : (file : DataFile) (t : Told) (v : View) (table : Table) → IsFound (shape file) (unit_at file.layout file.cluster t.shown) v → OwnView v → IsObjectTable file (unit_at file.layout file.cluster t.shown) v table → FindsIn file t v table
 table_is_found file t v table found own is =
     let w : Work = begun_work file t.shown v in
     let m : Memory = memory_of (shape file) (spelling file) w in
     let shown : Shown = shown_of file t.shown in
-    let read : AreRead shown m m.blocks.live is.bodies =
+    let read : AreReadBlocks shown m m.blocks.live is.bodies =
     bodies_read shown m v.checkpoint.parts.references 1 file.layout.blocks (λ a c from to known. entry_at v.checkpoint.parts.references 1 file.layout.blocks a from to ∙ known) is.bodies is.there in
     Found table
     (record {

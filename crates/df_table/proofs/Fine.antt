@@ -19,9 +19,9 @@ use Rattle.df_rows.specs.Commands.{IsCommand, body_of}
 use Rattle.df_session.specs.Below.{State as Replica, memory}
 use Rattle.df_result.specs.Appending.{appended, next_unit}
 use Rattle.df_session.specs.Beginning.{needed}
-use Rattle.df_table.specs.Calls.{MayAppend, MayBegin}
+use Rattle.df_table.specs.Calls.{MayAppendCommand, MayBegin}
 use Rattle.df_table.specs.Policy.{is_full, the_client}
-use Rattle.df_table.specs.Ready.{IsReady}
+use Rattle.df_table.specs.Ready.{IsReadyReplica}
 
 -- ---- tests, of which only the last one may hold
 
@@ -73,7 +73,7 @@ low_op (s ∷ ss) n low = low 0 s refl
 
 -- ---- an append
 
-module _ (layout : Layout) (s : Replica) (ready : IsReady layout s) where
+module _ (layout : Layout) (s : Replica) (ready : IsReadyReplica layout s) where
   -- the ops of all sessions are up to the head
   ops : (k : ℕ) (t : Session) → slice_get (memory s).sessions k ≡ Some t → t.op ≤ (memory s).head
   ops = subst (λ (n : Memory). (k : ℕ) (t : Session) → slice_get n.sessions k ≡ Some t → t.op ≤ n.head) (sym ready.stands.1) (tracks _ _ ready.stands.0.view).below
@@ -91,7 +91,7 @@ module _ (layout : Layout) (s : Replica) (ready : IsReady layout s) where
         (le-ltb _ _ (omega (arith, short, s.file.layout.message_size_within.0)), (first, (repeated_test o (memory s).replies, (le-ltb _ _ low, (ap not (eq-eqb (next_request o) (next_request o) refl), (ne_eqb _ _ (λ same. omega (arith, same, ready.own.answered)), (room, tt))))))),
       )
 
-  pub may_append : (body : List ℕ) → is_full (memory s) ≡ false → length body ≤ 64 → MayAppend s (next_request (session_of_client the_client (memory s).sessions)) body
+  pub may_append : (body : List ℕ) → is_full (memory s) ≡ false → length body ≤ 64 → MayAppendCommand s (next_request (session_of_client the_client (memory s).sessions)) body
   may_append body room short =
       let o = session_of_client the_client (memory s).sessions in
       let asks = request_refusals (memory s) the_client (next_request o) body in
@@ -130,11 +130,11 @@ may_begin s idle free =
 -- ---- a command is stored
 
 -- with the client's next number and the command's body
-pub may_store : (layout : Layout) (s : Replica) → IsReady layout s → is_full (memory s) ≡ false → (c : Command) → IsCommand c → (n : ℕ) (body : List ℕ) → n ≡ next_request (session_of_client the_client (memory s).sessions) → body ≡ body_of c → MayAppend s n body
+pub may_store : (layout : Layout) (s : Replica) → IsReadyReplica layout s → is_full (memory s) ≡ false → (c : Command) → IsCommand c → (n : ℕ) (body : List ℕ) → n ≡ next_request (session_of_client the_client (memory s).sessions) → body ≡ body_of c → MayAppendCommand s n body
 may_store layout s ready room c fits n body number spells =
-    subst (λ (k : ℕ). MayAppend s k body) (sym number)
-    (subst (λ (bytes : List ℕ). MayAppend s (next_request (session_of_client the_client (memory s).sessions)) bytes) (sym spells) (may_append layout s ready (body_of c) room (short_body c fits)))
+    subst (λ (k : ℕ). MayAppendCommand s k body) (sym number)
+    (subst (λ (bytes : List ℕ). MayAppendCommand s (next_request (session_of_client the_client (memory s).sessions)) bytes) (sym spells) (may_append layout s ready (body_of c) room (short_body c fits)))
 
 -- and the reply to it
-pub may_answer : (layout : Layout) (s t : Replica) → IsReady layout s → (n : ℕ) (body : List ℕ) (op : ℕ) → op ≡ s.head + 1 → t ≡ appended s (next_unit s the_client n body) → first_refusal (reply_refusals (memory t) op []) ≡ None
+pub may_answer : (layout : Layout) (s t : Replica) → IsReadyReplica layout s → (n : ℕ) (body : List ℕ) (op : ℕ) → op ≡ s.head + 1 → t ≡ appended s (next_unit s the_client n body) → first_refusal (reply_refusals (memory t) op []) ≡ None
 may_answer layout s t ready n body op next behind = subst (λ (v : Replica). first_refusal (reply_refusals (memory v) op []) ≡ None) (sym behind) (may_reply layout s ready n body op next)

@@ -18,7 +18,7 @@ use Rattle.df_session.specs.Serving.{Firm, Keeps}
 use Rattle.df_table.specs.declared.ending.Ending.{Ending}
 use Rattle.df_table.specs.Calls.{Advances, Checkpoints, Concludes, Fills, MayBegin}
 use Rattle.df_table.specs.Policy.{releases, writes}
-use Rattle.df_table.specs.Ready.{HasFree, HasRoom, IsEmptied, IsFinished, IsReady, WroteBlocks, places, without_live}
+use Rattle.df_table.specs.Ready.{HasFree, HasRingRoom, IsEmptied, IsFinished, IsReadyReplica, WroteBlocks, places, without_live}
 use Rattle.df_table.specs.Turns.{EndIn, MakeAll}
 use Rattle.df_table.proofs.Fine.{AreOwn, may_begin}
 use Rattle.df_table.proofs.Free.{enough_free}
@@ -39,7 +39,7 @@ no_running s (Some r) is = absurd (cc (is))
 pub idle_runs : (s : Replica) → s.running ≡ None → (memory s).running ≡ None
 idle_runs s none = ap (λ (o : Option RunningState). (memory (record s { running = o })).running) none
 
-module _ (layout : Layout) (s : Replica) (ready : IsReady layout s) where
+module _ (layout : Layout) (s : Replica) (ready : IsReadyReplica layout s) where
   none_runs : ready.work.running ≡ None
   none_runs = no_course (spelling s.file) ready.work.running (sym (ap (λ (m : Memory). m.running) ready.stands.1) ∙ ready.own.idle)
 
@@ -57,7 +57,7 @@ module _ (layout : Layout) (s : Replica) (ready : IsReady layout s) where
 
 -- ---- before the writes
 
-pub emptied : (layout : Layout) (s t : Replica) (old new : Option Told) → IsReady layout s → t ≡ without_live s → MakeAll (releases (memory s)) s t old new → IsEmptied layout s t
+pub emptied : (layout : Layout) (s t : Replica) (old new : Option Told) → IsReadyReplica layout s → t ≡ without_live s → MakeAll (releases (memory s)) s t old new → IsEmptied layout s t
 emptied layout s t old new ready state made =
     let keeps = makes_keep (releases (memory s)) s t old new made ready.work ready.stands in
     record { ready = ready; state = state; work = keeps.0; stands = keeps.1 }
@@ -100,7 +100,7 @@ module _ (layout : Layout) (s t : Replica) (e : IsEmptied layout s t) (n : ℕ) 
 
     -- ---- after the checkpoint
 
-    pub room_there : (v : Replica) → IsFinished (captured u []) (begun u []) v → v.live ≡ true → (w : Work) → Keeps Firm v w None → HasRoom layout s v
+    pub room_there : (v : Replica) → IsFinished (captured u []) (begun u []) v → v.live ≡ true → (w : Work) → Keeps Firm v w None → HasRingRoom layout s v
     room_there v done live w keeps = record {
       ready = record {
         live = live;
@@ -125,7 +125,7 @@ module _ (layout : Layout) (s t : Replica) (e : IsEmptied layout s t) (n : ℕ) 
     }
 
     -- where all was accepted
-    pub room_made : {T : Type 0} (v : Replica) (old mid new : Option Told) (rows : Map) (r : Result T Ending) → MakeAll (writes layout rows) t u old mid → Concludes u v mid new r → OnOk r (IsFinished (captured u []) (begun u []) v) → OnOk r (v.live ≡ true) → OnOk r (HasRoom layout s v)
+    pub room_made : {T : Type 0} (v : Replica) (old mid new : Option Told) (rows : Map) (r : Result T Ending) → MakeAll (writes layout rows) t u old mid → Concludes u v mid new r → OnOk r (IsFinished (captured u []) (begun u []) v) → OnOk r (v.live ≡ true) → OnOk r (HasRingRoom layout s v)
     room_made v old mid new rows (Ok x) made concludes done live =
         let there = makes_keep (writes layout rows) t u old mid made e.work e.stands in
         let after = makes_keep (Begin [] ∷ replicate concludes.0 Advance) u v mid new concludes.1 there.0 there.1 in

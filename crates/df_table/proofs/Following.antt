@@ -13,8 +13,8 @@ use Rattle.df_rows.proofs.Laws.{commands_more, one_command}
 use Rattle.std.proofs.lemmas.Bool.{false≢true}
 use Rattle.df_table.specs.declared.ending.Ending.{Ending}
 use Rattle.df_table.specs.declared.ending.Ending.TheVariants.{Damaged, Disk, NotTable, OpsSpent, SequenceSpent}
-use Rattle.df_table.specs.Opening.{AreFollowed, ArePrepares, AreTaken, Finds, FindsOf, NoCommand, OtherPrepare, PrepareHurt, ReadsPrepare}
-use Rattle.df_table.specs.Table.{Follows}
+use Rattle.df_table.specs.Opening.{AreFollowed, ArePrepares, AreTakenBlocks, FindsOf, FindsTable, NoCommand, OtherPrepare, PrepareHurt, ReadsPrepare}
+use Rattle.df_table.specs.Table.{CommandFollows}
 use Rattle.df_table.proofs.Leads.{follow_more}
 
 prepares_more : (shown : Shown) (m : Memory) (op at : ℕ) (ps : List Message) (p : Message) → at ≡ op + length ps → ArePrepares shown m op ps → message_given shown m (ReadPrepare at) ≡ Ok p → ArePrepares shown m op (ps ++ p ∷ [])
@@ -23,11 +23,11 @@ prepares_more shown m op at (q ∷ ps) p is are one = (are.0, prepares_more show
 
 module _ (layout : Layout) (shown : Shown) (m : Memory) where
   -- none is after the checkpoint's op
-  pub followed_none : (t : Table) → AreTaken layout shown m [] t → AreFollowed layout shown m m.content.op t
+  pub followed_none : (t : Table) → AreTakenBlocks layout shown m [] t → AreFollowed layout shown m m.content.op t
   followed_none t taken = record { base = t; blocks = taken; prepares = []; upto = omega arith; read = tt; commands = []; follow = tt; is = refl }
 
   module _ (op : ℕ) (t : Table) (is : AreFollowed layout shown m op t) where
-    followed_one : (p : Message) → message_given shown m (ReadPrepare (op + 1)) ≡ Ok p → (c : Command) → Follows t p.body c → AreFollowed layout shown m (op + 1) (with_command c t)
+    followed_one : (p : Message) → message_given shown m (ReadPrepare (op + 1)) ≡ Ok p → (c : Command) → CommandFollows t p.body c → AreFollowed layout shown m (op + 1) (with_command c t)
     followed_one p shows c follows = record {
       base = is.base;
       blocks = is.blocks;
@@ -35,7 +35,7 @@ module _ (layout : Layout) (shown : Shown) (m : Memory) where
       upto = omega (arith, is.upto, length-append is.prepares (p ∷ []));
       read = prepares_more shown m (m.content.op + 1) (op + 1) is.prepares p (omega (arith, is.upto)) is.read shows;
       commands = is.commands ++ c ∷ [];
-      follow = follow_more is.base is.prepares is.commands p c is.follow (subst (λ (k : Table). Follows k p.body c) is.is follows);
+      follow = follow_more is.base is.prepares is.commands p c is.follow (subst (λ (k : Table). CommandFollows k p.body c) is.is follows);
       is = ap (with_command c) is.is ∙ sym (commands_more is.commands (c ∷ []) is.base);
     }
 
@@ -46,8 +46,8 @@ module _ (layout : Layout) (shown : Shown) (m : Memory) where
     -- or how it ends
     pub followed_ends : (A : Type 0) (later : Table) (ending : Ending) → op < m.head → ReadsPrepare {A = A} layout shown m (op + 1) t later (Err ending) → FindsOf layout shown m (Err ending)
     followed_ends A later Disk less reads = inl refl
-    followed_ends A later (Damaged place class) less reads = inr (subst (λ (p : Place). Finds layout shown m (Err (Damaged p class))) (sym reads.0) (PrepareHurt op t class is less reads.1))
-    followed_ends A later (NotTable place) less reads = inr (subst (λ (p : Place). Finds layout shown m (Err (NotTable p))) (sym reads.2.0) (OtherPrepare op t reads.0 is less reads.1 reads.2.1))
+    followed_ends A later (Damaged place class) less reads = inr (subst (λ (p : Place). FindsTable layout shown m (Err (Damaged p class))) (sym reads.0) (PrepareHurt op t class is less reads.1))
+    followed_ends A later (NotTable place) less reads = inr (subst (λ (p : Place). FindsTable layout shown m (Err (NotTable p))) (sym reads.2.0) (OtherPrepare op t reads.0 is less reads.1 reads.2.1))
     followed_ends A later OpsSpent less reads = absurd reads
     followed_ends A later SequenceSpent less reads = absurd reads
 

@@ -21,7 +21,7 @@ use Rattle.df_session.specs.Below.{shape, spelling}
 use Rattle.df_session.specs.Reading.{shown_of}
 use Rattle.df_table.specs.declared.ending.Ending.{Ending}
 use Rattle.df_table.specs.Laws.{FoundIsTable}
-use Rattle.df_table.specs.Opening.{AreFollowed, ArePrepares, AreRead, BlockHurt, Finds, Found, OtherBlock, OtherClient, OtherPrepare, PrepareHurt}
+use Rattle.df_table.specs.Opening.{AreFollowed, ArePrepares, AreReadBlocks, BlockHurt, FindsTable, Found, OtherBlock, OtherClient, OtherPrepare, PrepareHurt}
 use Rattle.df_table.specs.Table.{FollowAll, ShowsBodies, ShowsBody}
 
 -- ---- a table was found
@@ -29,7 +29,7 @@ use Rattle.df_table.specs.Table.{FollowAll, ShowsBodies, ShowsBody}
 pub unok : (x y : Table) (r : Result Table Ending) → r ≡ Ok x → r ≡ Ok y → x ≡ y
 unok x y r one two = cc
 
-pub found_followed : (layout : Layout) (shown : Shown) (m : Memory) (t : Table) (r : Result Table Ending) → r ≡ Ok t → Finds layout shown m r → AreFollowed layout shown m m.head t
+pub found_followed : (layout : Layout) (shown : Shown) (m : Memory) (t : Table) (r : Result Table Ending) → r ≡ Ok t → FindsTable layout shown m r → AreFollowed layout shown m m.head t
 found_followed layout shown m t r is (Found u are) = let same : u ≡ t = unok u t (Ok u) refl is in subst (λ (x : Table). AreFollowed layout shown m m.head x) same are
 found_followed layout shown m t r is (OtherClient place other none) = absurd (cc (is))
 found_followed layout shown m t r is (BlockHurt x rest u class taken hurt) = absurd (cc (is))
@@ -74,19 +74,19 @@ module _ (shown : Shown) (m : Memory) where
       record { block = read.0; there = is.there; sum = one_some (sum_at a m.blocks.live) read.0.checksum c is.sum known; own = is.own; body_is = read.2 }
 
   module _ (f : ℕ → Option ℕ) where
-    entry_seen : (a : ℕ) (rest : List (ℕ × ℕ)) → ((c : ℕ) → f a ≡ Some c → sum_at a m.blocks.live ≡ Some c) → ((bodies : List (List ℕ)) → AreRead shown m rest bodies → ShowsBodies shown.units rest bodies) → (o : Option ℕ) → f a ≡ o → (bodies : List (List ℕ))
-        → AreRead shown m (entry a o rest) bodies → ShowsBodies shown.units (entry a o rest) bodies
+    entry_seen : (a : ℕ) (rest : List (ℕ × ℕ)) → ((c : ℕ) → f a ≡ Some c → sum_at a m.blocks.live ≡ Some c) → ((bodies : List (List ℕ)) → AreReadBlocks shown m rest bodies → ShowsBodies shown.units rest bodies) → (o : Option ℕ) → f a ≡ o → (bodies : List (List ℕ))
+        → AreReadBlocks shown m (entry a o rest) bodies → ShowsBodies shown.units (entry a o rest) bodies
     entry_seen a rest known more None is bodies read = more bodies read
     entry_seen a rest known more (Some c) is [] read = absurd read
     entry_seen a rest known more (Some c) is (body ∷ bodies) read = (body_seen a c body (known c is) read.0, more bodies read.1)
 
-    bodies_seen : (s n : ℕ) → ((a c : ℕ) → s ≤ a → a < s + n → f a ≡ Some c → sum_at a m.blocks.live ≡ Some c) → (bodies : List (List ℕ)) → AreRead shown m (entries f (range_with_len s n)) bodies → ShowsBodies shown.units (entries f (range_with_len s n)) bodies
+    bodies_seen : (s n : ℕ) → ((a c : ℕ) → s ≤ a → a < s + n → f a ≡ Some c → sum_at a m.blocks.live ≡ Some c) → (bodies : List (List ℕ)) → AreReadBlocks shown m (entries f (range_with_len s n)) bodies → ShowsBodies shown.units (entries f (range_with_len s n)) bodies
     bodies_seen s zero known [] read = tt
     bodies_seen s zero known (body ∷ bodies) read = absurd read
     bodies_seen s (suc n) known bodies read =
         entry_seen s (entries f (range_with_len (s + 1) n)) (λ c is. known s c (omega arith) (omega arith) is) (bodies_seen (s + 1) n (λ a c from to is. known a c (omega (arith, from)) (omega (arith, to)) is)) (f s) refl bodies read
 
-  pub as_many : (xs : List (ℕ × ℕ)) (bodies : List (List ℕ)) → AreRead shown m xs bodies → length bodies ≡ length xs
+  pub as_many : (xs : List (ℕ × ℕ)) (bodies : List (List ℕ)) → AreReadBlocks shown m xs bodies → length bodies ≡ length xs
   as_many [] [] read = refl
   as_many [] (body ∷ bodies) read = absurd read
   as_many (x ∷ xs) [] read = absurd read
@@ -132,7 +132,7 @@ found_is_table file t v table whole found finds =
     let shown : Shown = shown_of file t.shown in
     let are = found_followed file.layout shown m table (Ok table) refl finds in
     let live : m.blocks.live ≡ are.blocks.before = are.blocks.of ∙ append-nil are.blocks.before in
-    let read : AreRead shown m m.blocks.live are.blocks.bodies = subst (λ (l : List (ℕ × ℕ)). AreRead shown m l are.blocks.bodies) (sym live) are.blocks.read in
+    let read : AreReadBlocks shown m m.blocks.live are.blocks.bodies = subst (λ (l : List (ℕ × ℕ)). AreReadBlocks shown m l are.blocks.bodies) (sym live) are.blocks.read in
     let tail : are.prepares ≡ v.tail =
     tail_seen shown m (m.content.op + 1) are.prepares v.tail _ _ _ _ are.read found.tail.chain (λ q at. (found.tail.takes q at).shown) (omega (arith, are.upto)) in
     record {

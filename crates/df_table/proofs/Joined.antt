@@ -6,7 +6,7 @@ use Rattle.df_disk.specs.Told.{Told}
 use Rattle.df_layout.specs.declared.places.Place.{Place}
 use Rattle.df_model.specs.Commands.{Answer, Command}
 use Rattle.df_session.specs.Below.{State as Replica}
-use Rattle.df_session.specs.Endings.{EndsBy, IsDamaged}
+use Rattle.df_session.specs.Endings.{EndsBy, IsDamagedStep}
 use Rattle.df_session.specs.Links.{AreCalls, EndsCalls, Makes, command_in, list_of}
 use Rattle.df_session.specs.Session.{Act}
 use Rattle.df_session.specs.declared.hearing.Fault.{Fault}
@@ -111,7 +111,7 @@ module _ (command : Command) (s t : Replica) (old new : Option Told) where
   -- it was made, and has no answer
   why_failed : (act : Act) → act.command ≡ command → (fault : Fault) → EndsBy fault command new → EndsFor (ended_by fault) new [] (Some act)
   why_failed act is faults.Disk ends = (act, refl)
-  why_failed act is (faults.Damaged place class) ends = inl (act, refl, subst (λ (c : Command). IsDamaged c new place class) (sym is) ends)
+  why_failed act is (faults.Damaged place class) ends = inl (act, refl, subst (λ (c : Command). IsDamagedStep c new place class) (sym is) ends)
 
   pub one_failed : (fault : Fault) → Makes command s t old new None × EndsBy fault command new → EndIn (command ∷ []) s t old new (ended_by fault)
   one_failed fault made = record {

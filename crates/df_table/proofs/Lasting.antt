@@ -15,13 +15,13 @@ use Rattle.df_rows.specs.Tables.{Table, with_commands}
 use Rattle.df_rows.proofs.Laws.{commands_more}
 use Rattle.df_session.specs.Acknowledging.{HadReturned}
 use Rattle.df_session.specs.Below.{DataFile, State as Replica, shape, told_after}
-use Rattle.df_session.specs.Links.{AreCalls, Calls, events_of}
+use Rattle.df_session.specs.Links.{AreCalls, Calls, call_events}
 use Rattle.df_session.specs.Serving.{IsKept, Whole, format, next}
 use Rattle.df_session.specs.Session.{Act}
 use Rattle.df_session.specs.Session as machine
 use Rattle.df_session.proofs.Laws.{added_is_told, told_append}
 use Rattle.df_result.proofs.Laws.{joined, nothing_is_served}
-use Rattle.df_table.specs.Keeping.{AreChanges, Changes, IsMidway, IsPending}
+use Rattle.df_table.specs.Keeping.{AreChanges, Changes, IsPending, IsTableMidway}
 use Rattle.df_table.specs.Table.{HasTable}
 use Rattle.df_table.specs.Written.{IsTableIn, WroteBodies}
 use Rattle.df_table.proofs.Later.{good, good_moments, kept_behind, same_behind, told_log}
@@ -78,7 +78,7 @@ module _ (file : DataFile) where
 
   -- one of two views, of which the first one has the table, and the second one that after some of the changes
   pub mid_of : (log : Log) (v u : View) (t : Table) (changes : List Change) (m : ℕ) → IsTableIn file (units_log (format file) log) v t → IsTableIn file (units_log (format file) log) u (with_commands (take m changes) t)
-      → IsGoodWholeDisk (format file) (shape file) v u log → IsMidway file t changes log
+      → IsGoodWholeDisk (format file) (shape file) v u log → IsTableMidway file t changes log
   mid_of log v u t changes m first second good = record {
     safe = good.safe;
     left = λ image left chance. elim (good.left image left chance) [
@@ -88,7 +88,7 @@ module _ (file : DataFile) where
   }
 
   -- where the file is kept for a state
-  pub mid_kept : (s : Replica) (w : Work) (n : Told) (t : Table) (changes : List Change) → At file s w n t → IsMidway file t changes n.log
+  pub mid_kept : (s : Replica) (w : Work) (n : Told) (t : Table) (changes : List Change) → At file s w n t → IsTableMidway file t changes n.log
   mid_kept s w n t changes is =
       let each = (nothing_is_served s (Some n) is.live).kept_on Whole w (Some n) is.kept_is in
       let mid = subst (λ (f : DataFile). machine.IsMidway f Whole w [] n.log) is.same (each.0.1 n.log (record { since = extends_self n.log; until = extends_self n.log })) in
@@ -118,7 +118,7 @@ module _ (file : DataFile) where
   take_behind m [] more = (m, refl)
   take_behind m (c ∷ some) more = let rest = take_behind m some more in (suc rest.0, ap (λ (l : List Change). c ∷ l) rest.1)
 
-  pub mid_more : (log : Log) (t : Table) (some more : List Change) → IsMidway file t some log → IsMidway file t (some ++ more) log
+  pub mid_more : (log : Log) (t : Table) (some more : List Change) → IsTableMidway file t some log → IsTableMidway file t (some ++ more) log
   mid_more log t some more is = record {
     safe = is.safe;
     left = λ image left chance.
@@ -127,7 +127,7 @@ module _ (file : DataFile) where
         (k.0, subst (λ (l : List Change). HasTable file (with_commands l t) image) (sym k.1) has.1);
   }
 
-  pub mid_behind : (log : Log) (t : Table) (some more : List Change) → IsMidway file (with_commands some t) more log → IsMidway file t (some ++ more) log
+  pub mid_behind : (log : Log) (t : Table) (some more : List Change) → IsTableMidway file (with_commands some t) more log → IsTableMidway file t (some ++ more) log
   mid_behind log t some more is = record {
     safe = is.safe;
     left = λ image left chance.
@@ -178,11 +178,11 @@ module _ (file : DataFile) (failed : Option Act) (u to : Replica) (mid new : Opt
   last_told n = told_after (last_events failed u to mid new last) n
 
   -- those of the call that has no answer
-  failed_moments : (w : Work) (n : Told) (t : Table) → At file u w n t → FailKept file failed w n t → EachMoment n.log (last_told n).log (IsMidway file t pending)
+  failed_moments : (w : Work) (n : Told) (t : Table) → At file u w n t → FailKept file failed w n t → EachMoment n.log (last_told n).log (IsTableMidway file t pending)
   failed_moments w n t is fails = go failed is_pending last fails
     where
-      go : (f : Option Act) → IsPending f pending → (l : Last f u to mid new) → FailKept file f w n t → EachMoment n.log (told_after (last_events f u to mid new l) n).log (IsMidway file t pending)
-      go None none l fails = started n.log (IsMidway file t pending) (mid_kept file u w n t pending is)
+      go : (f : Option Act) → IsPending f pending → (l : Last f u to mid new) → FailKept file f w n t → EachMoment n.log (told_after (last_events f u to mid new l) n).log (IsTableMidway file t pending)
+      go None none l fails = started n.log (IsTableMidway file t pending) (mid_kept file u w n t pending is)
       go (Some a) some l fails = λ log moment.
           let good = subst (λ (f : DataFile). IsGoodWholeDisk (format f) (shape f) (kept w) (kept (next f w a.given a.command).0) log) is.same (good_moments a u to mid new None w n is.kept_is l.call log moment) in
           let later = fails pending some in
@@ -190,21 +190,21 @@ module _ (file : DataFile) (failed : Option Act) (u to : Replica) (mid new : Opt
           (table_later file n.log log (kept (next file w a.given a.command).0) (with_commands (take later.0 pending) t) moment.since later.1) good
 
   abbrev all_told : (s : Replica) (old : Option Told) (acts : List Act) (answers : List Answer) → AreCalls s old acts answers u mid → Told → Told
-  all_told s old acts answers calls n = last_told (told_after (events_of s old acts answers u mid calls) n)
+  all_told s old acts answers calls n = last_told (told_after (call_events s old acts answers u mid calls) n)
 
   -- those of one call and of those after it
   moments_on : (a : Act) (s r : Replica) (old one : Option Told) (x : Answer) (w : Work) (n after : Told) (t : Table) (some more : List Change) → At file s w n t → (c : Calls a s r old one (Some x))
       → IsTableIn file (units_log (format file) n.log) (kept (next file w a.given a.command).0) (with_commands some t) → Extends after.log (told_after c.call.events n).log
-      → EachMoment (told_after c.call.events n).log after.log (IsMidway file (with_commands some t) more) → EachMoment n.log after.log (IsMidway file t (some ++ more))
+      → EachMoment (told_after c.call.events n).log after.log (IsTableMidway file (with_commands some t) more) → EachMoment n.log after.log (IsTableMidway file t (some ++ more))
   moments_on a s r old one x w n after t some more is c table later rest =
-      joined n.log (told_after c.call.events n).log after.log (IsMidway file t (some ++ more)) later
+      joined n.log (told_after c.call.events n).log after.log (IsTableMidway file t (some ++ more)) later
       (λ log moment.
       mid_more file log t some more
       (mid_of file log (kept w) (kept (next file w a.given a.command).0) t some (length some) (table_later file n.log log (kept w) t moment.since is.table)
       (subst (λ (l : List Change). IsTableIn file (units_log (format file) log) (kept (next file w a.given a.command).0) (with_commands l t)) (sym (take_all some))
       (table_later file n.log log (kept (next file w a.given a.command).0) (with_commands some t) moment.since table))
       (good file a s r old one x w n is.same is.kept_is c.call log moment)))
-      (weaker (told_after c.call.events n).log after.log (IsMidway file (with_commands some t) more) (IsMidway file t (some ++ more)) (λ log is. mid_behind file log t some more is) rest)
+      (weaker (told_after c.call.events n).log after.log (IsTableMidway file (with_commands some t) more) (IsTableMidway file t (some ++ more)) (λ log is. mid_behind file log t some more is) rest)
     where
       take_all : (l : List Change) → take (length l) l ≡ l
       take_all [] = refl
@@ -212,18 +212,18 @@ module _ (file : DataFile) (failed : Option Act) (u to : Replica) (mid new : Opt
 
   all_grew : (s : Replica) (old : Option Told) (acts : List Act) (answers : List Answer) (calls : AreCalls s old acts answers u mid) (n : Told) → Extends (all_told s old acts answers calls n).log n.log
   all_grew s old acts answers calls n =
-      let es = events_of s old acts answers u mid calls in
+      let es = call_events s old acts answers u mid calls in
       extends_on (all_told s old acts answers calls n).log (told_after es n).log n.log (grew (last_events failed u to mid new last) (told_after es n)) (grew es n)
 
   abbrev Fact : (s : Replica) (old : Option Told) (acts : List Act) (answers : List Answer) → AreCalls s old acts answers u mid → (n : Told) (t : Table) (changes : List Change) → Type 0
-  Fact s old acts answers calls n t changes = EachMoment n.log (all_told s old acts answers calls n).log (IsMidway file t changes)
+  Fact s old acts answers calls n t changes = EachMoment n.log (all_told s old acts answers calls n).log (IsTableMidway file t changes)
 
   -- at each moment of all of them
   pub each_moment : (acts : List Act) (answers : List Answer) (s : Replica) (old : Option Told) (calls : AreCalls s old acts answers u mid) (w : Work) (n : Told) (t : Table) (changes : List Change) → At file s w n t
-      → AreKept file failed w n t s old acts answers u mid calls → AreChanges acts answers changes → EachMoment n.log (all_told s old acts answers calls n).log (IsMidway file t (changes ++ pending))
+      → AreKept file failed w n t s old acts answers u mid calls → AreChanges acts answers changes → EachMoment n.log (all_told s old acts answers calls n).log (IsTableMidway file t (changes ++ pending))
   each_moment [] [] s old calls w n t changes is kept_all are =
       let there : At file u w n t = subst (λ (r : Replica). At file r w n t) (sym calls.0) is in
-      subst (λ (l : List Change). EachMoment n.log (last_told n).log (IsMidway file t (l ++ pending))) (sym are) (failed_moments w n t there kept_all)
+      subst (λ (l : List Change). EachMoment n.log (last_told n).log (IsTableMidway file t (l ++ pending))) (sym are) (failed_moments w n t there kept_all)
   each_moment [] (x ∷ answers) s old calls w n t changes is kept_all are = absurd calls
   each_moment (a ∷ acts) [] s old calls w n t changes is kept_all are = absurd calls
   each_moment (a ∷ acts) (x ∷ answers) s old calls w n t changes is kept_all are =
@@ -232,21 +232,21 @@ module _ (file : DataFile) (failed : Option Act) (u to : Replica) (mid new : Opt
       let here = kept_all some are.2 in
       let c = calls.2 in
       let es = c.call.events in
-      let rest = events_of calls.0 calls.1 acts answers u mid calls.3 in
+      let rest = call_events calls.0 calls.1 acts answers u mid calls.3 in
       let behind = told_after es n in
       let there = at_behind file a s calls.0 old calls.1 x w n t (with_commands some t) is c here.0 in
       let later = each_moment acts answers calls.0 calls.1 calls.3 (next file w a.given a.command).0 behind (with_commands some t) more there here.1 are.3 in
       let all = moments_on a s calls.0 old calls.1 x w n (all_told calls.0 calls.1 acts answers calls.3 behind) t some (more ++ pending) is c here.0 (all_grew calls.0 calls.1 acts answers calls.3 behind) later in
       let ends : all_told s old (a ∷ acts) (x ∷ answers) calls n ≡ all_told calls.0 calls.1 acts answers calls.3 behind = ap last_told (told_append es rest n) in
-      subst (λ (o : Told). EachMoment n.log o.log (IsMidway file t (changes ++ pending))) (sym ends)
-      (subst (λ (l : List Change). EachMoment n.log (all_told calls.0 calls.1 acts answers calls.3 behind).log (IsMidway file t l)) (sym (append_assoc some more pending) ∙ ap (λ (l : List Change). l ++ pending) (sym are.4)) all)
+      subst (λ (o : Told). EachMoment n.log o.log (IsTableMidway file t (changes ++ pending))) (sym ends)
+      (subst (λ (l : List Change). EachMoment n.log (all_told calls.0 calls.1 acts answers calls.3 behind).log (IsTableMidway file t l)) (sym (append_assoc some more pending) ∙ ap (λ (l : List Change). l ++ pending) (sym are.4)) all)
 
   -- at the end
   pub at_end : (acts : List Act) (answers : List Answer) (s : Replica) (old : Option Told) (calls : AreCalls s old acts answers u mid) (w : Work) (n : Told) (t : Table) (changes : List Change) → At file s w n t
-      → AreKept file failed w n t s old acts answers u mid calls → AreChanges acts answers changes → IsMidway file (with_commands changes t) pending (all_told s old acts answers calls n).log
+      → AreKept file failed w n t s old acts answers u mid calls → AreChanges acts answers changes → IsTableMidway file (with_commands changes t) pending (all_told s old acts answers calls n).log
   at_end [] [] s old calls w n t changes is kept_all are =
       let there : At file u w n t = subst (λ (r : Replica). At file r w n t) (sym calls.0) is in
-      subst (λ (l : List Change). IsMidway file (with_commands l t) pending (last_told n).log) (sym are)
+      subst (λ (l : List Change). IsTableMidway file (with_commands l t) pending (last_told n).log) (sym are)
       (failed_moments w n t there kept_all (last_told n).log (record { since = grew (last_events failed u to mid new last) n; until = extends_self (last_told n).log }))
   at_end (a ∷ acts) (x ∷ answers) s old calls w n t changes is kept_all are =
       let c = calls.2 in
@@ -257,18 +257,18 @@ module _ (file : DataFile) (failed : Option Act) (u to : Replica) (mid new : Opt
       let here = kept_all some are.2 in
       let there = at_behind file a s calls.0 old calls.1 x w n t (with_commands some t) is c here.0 in
       let later = at_end acts answers calls.0 calls.1 calls.3 (next file w a.given a.command).0 behind (with_commands some t) more there here.1 are.3 in
-      let ends : all_told s old (a ∷ acts) (x ∷ answers) calls n ≡ all_told calls.0 calls.1 acts answers calls.3 behind = ap last_told (told_append es (events_of calls.0 calls.1 acts answers u mid calls.3) n) in
-      subst (λ (o : Told). IsMidway file (with_commands changes t) pending o.log) (sym ends)
-      (subst (λ (x : Table). IsMidway file x pending (all_told calls.0 calls.1 acts answers calls.3 behind).log) (sym (ap (λ (l : List Change). with_commands l t) are.4 ∙ commands_more some more t)) later)
+      let ends : all_told s old (a ∷ acts) (x ∷ answers) calls n ≡ all_told calls.0 calls.1 acts answers calls.3 behind = ap last_told (told_append es (call_events calls.0 calls.1 acts answers u mid calls.3) n) in
+      subst (λ (o : Told). IsTableMidway file (with_commands changes t) pending o.log) (sym ends)
+      (subst (λ (x : Table). IsTableMidway file x pending (all_told calls.0 calls.1 acts answers calls.3 behind).log) (sym (ap (λ (l : List Change). with_commands l t) are.4 ∙ commands_more some more t)) later)
   at_end [] (x ∷ answers) s old calls w n t changes is kept_all are = absurd calls
   at_end (a ∷ acts) [] s old calls w n t changes is kept_all are = absurd calls
 
   -- at each moment from the k-th answer on
   pub from_answer : (k : ℕ) (acts : List Act) (answers : List Answer) (s : Replica) (old : Option Told) (calls : AreCalls s old acts answers u mid) (w : Work) (n : Told) (t : Table) (some more : List Change) (log : Log) → At file s w n t
       → AreKept file failed w n t s old acts answers u mid calls → AreChanges (take k acts) (take k answers) some → AreChanges (drop k acts) (drop k answers) more → HadReturned k (Some n) log s old acts answers u mid calls
-      → Extends (all_told s old acts answers calls n).log log → IsMidway file (with_commands some t) (more ++ pending) log
+      → Extends (all_told s old acts answers calls n).log log → IsTableMidway file (with_commands some t) (more ++ pending) log
   from_answer zero acts answers s old calls w n t some more log is kept_all before after since until =
-      subst (λ (l : List Change). IsMidway file (with_commands l t) (more ++ pending) log) (sym (none_before acts answers some before))
+      subst (λ (l : List Change). IsTableMidway file (with_commands l t) (more ++ pending) log) (sym (none_before acts answers some before))
       (each_moment acts answers s old calls w n t more is kept_all (all_behind acts answers more after) log (record { since = since; until = until }))
     where
       none_before : (acts : List Act) (answers : List Answer) (l : List Change) → AreChanges (take 0 acts) (take 0 answers) l → l ≡ []
@@ -291,8 +291,8 @@ module _ (file : DataFile) (failed : Option Act) (u to : Replica) (mid new : Opt
       let es = c.call.events in
       let behind = told_after es n in
       let there = at_behind file a s calls.0 old calls.1 x w n t (with_commands first t) is c here.0 in
-      let ends : all_told s old (a ∷ acts) (x ∷ answers) calls n ≡ all_told calls.0 calls.1 acts answers calls.3 behind = ap last_told (told_append es (events_of calls.0 calls.1 acts answers u mid calls.3) n) in
+      let ends : all_told s old (a ∷ acts) (x ∷ answers) calls n ≡ all_told calls.0 calls.1 acts answers calls.3 behind = ap last_told (told_append es (call_events calls.0 calls.1 acts answers u mid calls.3) n) in
       let later =
       from_answer k acts answers calls.0 calls.1 calls.3 (next file w a.given a.command).0 behind (with_commands first t) before.1 more log there here.1 before.3 after
       (subst (λ (o : Option Told). HadReturned k o log calls.0 calls.1 acts answers u mid calls.3) (added_is_told es n) since) (subst (λ (o : Told). Extends o.log log) ends until) in
-      subst (λ (x : Table). IsMidway file x (more ++ pending) log) (sym (ap (λ (l : List Change). with_commands l t) before.4 ∙ commands_more first before.1 t)) later
+      subst (λ (x : Table). IsTableMidway file x (more ++ pending) log) (sym (ap (λ (l : List Change). with_commands l t) before.4 ∙ commands_more first before.1 t)) later

@@ -13,18 +13,18 @@ use Rattle.df_session.specs.Below.{DataFile, shape}
 use Rattle.df_theory.specs.UnitLog.{UnitLog}
 use Rattle.df_theory.specs.Units.{Message, Parts}
 use Rattle.df_theory.specs.View.{Checkpoint, View}
-use Rattle.df_table.specs.Table.{FollowAll, Follows, references_of}
+use Rattle.df_table.specs.Table.{CommandFollows, FollowAll, references_of}
 use Rattle.df_table.specs.Written.{IsTableIn, WroteBodies}
 
 -- one prepare more
-pub follow_more : (t : Table) (ps : List Message) (cs : List Command) (p : Message) (c : Command) → FollowAll t ps cs → Follows (with_commands cs t) p.body c → FollowAll t (ps ++ p ∷ []) (cs ++ c ∷ [])
+pub follow_more : (t : Table) (ps : List Message) (cs : List Command) (p : Message) (c : Command) → FollowAll t ps cs → CommandFollows (with_commands cs t) p.body c → FollowAll t (ps ++ p ∷ []) (cs ++ c ∷ [])
 follow_more t [] [] p c all one = (one, tt)
 follow_more t [] (d ∷ cs) p c all one = absurd all
 follow_more t (q ∷ ps) [] p c all one = absurd all
 follow_more t (q ∷ ps) (d ∷ cs) p c all one = (all.0, follow_more (with_command d t) ps cs p c all.1 one)
 
 -- after an append whose body is a command's, for which there is room
-pub table_appended : (file : DataFile) (log : UnitLog) (v u : View) (t : Table) (p : Message) (c : Command) → u.checkpoint ≡ v.checkpoint → u.tail ≡ v.tail ++ p ∷ [] → Follows t p.body c → IsTableIn file log v t → IsTableIn file log u (with_command c t)
+pub table_appended : (file : DataFile) (log : UnitLog) (v u : View) (t : Table) (p : Message) (c : Command) → u.checkpoint ≡ v.checkpoint → u.tail ≡ v.tail ++ p ∷ [] → CommandFollows t p.body c → IsTableIn file log v t → IsTableIn file log u (with_command c t)
 table_appended file log v u t p c same longer follows is = record {
   bodies = is.bodies;
   there = subst (λ (l : List (ℕ × ℕ)). WroteBodies log l is.bodies) (sym (ap (λ k. references_of file (record v { checkpoint = k })) same)) is.there;
@@ -32,7 +32,7 @@ table_appended file log v u t p c same longer follows is = record {
   base = is.base;
   rows = is.rows;
   commands = is.commands ++ c ∷ [];
-  tail = subst (λ (l : List Message). FollowAll is.base l (is.commands ++ c ∷ [])) (sym longer) (follow_more is.base v.tail is.commands p c is.tail (subst (λ (b : Table). Follows b p.body c) is.is follows));
+  tail = subst (λ (l : List Message). FollowAll is.base l (is.commands ++ c ∷ [])) (sym longer) (follow_more is.base v.tail is.commands p c is.tail (subst (λ (b : Table). CommandFollows b p.body c) is.is follows));
   is = ap (with_command c) is.is ∙ sym (commands_more is.commands (c ∷ []) is.base);
 }
 

@@ -16,7 +16,7 @@ use Rattle.df_model.specs.declared.errors.FormatError.{FormatError}
 use Rattle.df_session.specs.Below.{DataFile, shape}
 use Rattle.df_session.specs.Making.{Formats, MayMakeOn, file_of, making_events}
 use Rattle.df_session.specs.Serving.{format}
-use Rattle.df_table.specs.Lives.{Chapter, EveryLifeGoesOn, Life, NextRunServesIt}
+use Rattle.df_table.specs.Lives.{EveryTableGoesOn, NextRunServesIt, TableChapter, TableLife}
 use Rattle.df_table.specs.Lives.Life.{Begun, Ended, Made, Ran, Stopped}
 use Rattle.df_table.specs.Table.{empty_table}
 use Rattle.df_table.proofs.Coming.{Has, InOrder, goes, goes_on, run_comes}
@@ -33,7 +33,7 @@ left_by log changes is loose = record {
 }
 
 -- after it nothing is loose, so that another one leaves the same
-stopped : (file : DataFile) (chapters : List Chapter) (t : Told) (changes : List (ℕ × List ℕ)) → file.version ≡ 2 → IsSafeDisk (format file) (shape file) t.log → IsHonest t → AreLoose t.log.events changes → NoChanceOf (format file) t.log (changed changes (now t.log))
+stopped : (file : DataFile) (chapters : List TableChapter) (t : Told) (changes : List (ℕ × List ℕ)) → file.version ≡ 2 → IsSafeDisk (format file) (shape file) t.log → IsHonest t → AreLoose t.log.events changes → NoChanceOf (format file) t.log (changed changes (now t.log))
     → Has file chapters (changed changes (now t.log)) → InOrder file chapters (did (Stop changes) t)
 stopped file chapters t changes version safe honest loose chance there = record {
   version = version;
@@ -82,7 +82,7 @@ module _ (layout : Layout) (cluster : ℕ) (t n : Told) (makable : MayMakeOn lay
 
 -- ---- the laws
 
-in_order : (file : DataFile) (t : Told) (chapters : List Chapter) → Life file t chapters → InOrder file chapters t
+in_order : (file : DataFile) (t : Told) (chapters : List TableChapter) → TableLife file t chapters → InOrder file chapters t
 in_order _ _ _ (Made layout cluster t n makable honest formats) = made layout cluster t n makable honest formats
 in_order _ _ _ (Begun layout cluster t n m result changes makable formats moment honest loose chance held) =
     stopped (file_of layout cluster makable.named) [] m changes refl (safe_each layout cluster t n makable result formats m.log moment) honest loose chance (first_has layout cluster t n makable (changed changes (now m.log)) held)
@@ -97,7 +97,7 @@ in_order _ _ _ (Stopped file t chapters changes life loose chance) =
     let is = in_order file t chapters life in
     stopped file chapters t changes is.version is.order.safe is.honest loose chance (is.order.left (changed changes (now t.log)) (left_by t.log changes is.order.safe.is_log loose) chance)
 
-pub every_life_goes_on : EveryLifeGoesOn
+pub every_life_goes_on : EveryTableGoesOn
 every_life_goes_on file t chapters life chance = goes_on file chapters t (in_order file t chapters life) chance
 
 pub next_run_serves_it : NextRunServesIt

@@ -6,7 +6,7 @@ use Rattle.df_base.proofs.Laws.{zero_plus, suc_minus, suc_plus}
 use Rattle.df_layout.specs.declared.layout.Layout.{Layout}
 use Rattle.df_theory.specs.Units.{Parts}
 use Rattle.df_theory.specs.Units as model
-use Rattle.df_trailer.specs.Spelling.{blocks_of, is_referenced, listed, spell}
+use Rattle.df_trailer.specs.Spelling.{block_checksums, is_referenced, listed, spell}
 use Rattle.df_trailer.specs.Text.{ones}
 use Rattle.df_trailer.proofs.Laws.{text_sized}
 use Rattle.df_units.specs.Meaning.{layout_of}
@@ -52,7 +52,7 @@ ones_known live f s (suc n) is =
     first : (o p : Option ℕ) → p ≡ o → (bs : List Bool) (m : ℕ) → ones bs ≡ m → ones (is_referenced p ∷ bs) ≡ one_if (is_known o) + m
     first o p same bs m rest = ap (λ (q : Option ℕ). ones (is_referenced q ∷ bs)) same ∙ ones_case o bs m rest
 
-few_ones : (l : model.Layout) (parts : Parts) (live : List (ℕ × ℕ)) → parts.references ≡ (λ a. sum_at a live) → ones (map is_referenced (blocks_of l parts)) ≤ length live
+few_ones : (l : model.Layout) (parts : Parts) (live : List (ℕ × ℕ)) → parts.references ≡ (λ a. sum_at a live) → ones (map is_referenced (block_checksums l parts)) ≤ length live
 few_ones l parts live is =
     let all : ones (map is_referenced (listed (λ k. sum_at (suc k) live) l.blocks)) ≡ count (λ a. is_known (sum_at a live)) (range_with_len 1 l.blocks) = ones_known live (λ k. sum_at (suc k) live) 1 l.blocks (λ k. ap (λ (a : ℕ). sum_at a live) (suc_plus k)) in
     subst (λ (f : ℕ → Option ℕ). ones (map is_referenced (listed (λ k. f (suc k)) l.blocks)) ≤ length live) (sym is) (omega (arith, all, known_few live 1 l.blocks))

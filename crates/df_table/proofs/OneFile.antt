@@ -18,7 +18,7 @@ use Rattle.df_session.proofs.Laws.{file_there, found_file, layout_there}
 use Rattle.df_table.specs.declared.ending.Ending.TheVariants.{Disk}
 use Rattle.df_table.specs.declared.status.Status.{Status}
 use Rattle.df_table.specs.Laws.{FindsIn}
-use Rattle.df_table.specs.Opening.{Finds}
+use Rattle.df_table.specs.Opening.{FindsTable}
 use Rattle.df_table.specs.Outside.{Outside}
 use Rattle.df_table.specs.Run.{ServesTable}
 use Rattle.df_table.proofs.OneFound.{finds_one}
@@ -46,10 +46,10 @@ module _ (file : DataFile) (view : View) (t : Told) (may : MayOpen file view t) 
     | inr finds ↦
         let s = found.replica in
         let there : IsFound (shape s.file) (unit_at s.file.layout s.file.cluster t.shown) view = subst (λ (f : DataFile). IsFound (shape f) (unit_at f.layout f.cluster t.shown) view) (sym (found_one layout found)) found_here in
-        let own : Finds s.file.layout (shown_of s.file t.shown) (memory_of (shape s.file) (spelling s.file) (begun_work s.file t.shown view)) serves.opened =
-        subst (λ (m : Memory). Finds s.file.layout (shown_of s.file t.shown) m serves.opened) (serves.calls.stands view there).1
-        (subst (λ (l : Layout). Finds l (shown_of s.file t.shown) (memory s) serves.opened) (sym (layout_there layout t found)) finds) in
-        let mine : Finds file.layout (shown_of file t.shown) (memory_of (shape file) (spelling file) (begun_work file t.shown view)) serves.opened =
-        subst (λ (f : DataFile). Finds f.layout (shown_of f t.shown) (memory_of (shape f) (spelling f) (begun_work f t.shown view)) serves.opened) (found_one layout found) own in
+        let own : FindsTable s.file.layout (shown_of s.file t.shown) (memory_of (shape s.file) (spelling s.file) (begun_work s.file t.shown view)) serves.opened =
+        subst (λ (m : Memory). FindsTable s.file.layout (shown_of s.file t.shown) m serves.opened) (serves.calls.stands view there).1
+        (subst (λ (l : Layout). FindsTable l (shown_of s.file t.shown) (memory s) serves.opened) (sym (layout_there layout t found)) finds) in
+        let mine : FindsTable file.layout (shown_of file t.shown) (memory_of (shape file) (spelling file) (begun_work file t.shown view)) serves.opened =
+        subst (λ (f : DataFile). FindsTable f.layout (shown_of f t.shown) (memory_of (shape f) (spelling f) (begun_work f t.shown view)) serves.opened) (found_one layout found) own in
         inr (finds_one file.layout (shown_of file t.shown) (memory_of (shape file) (spelling file) (begun_work file t.shown view)) serves.opened (Ok table) mine is)
   ]

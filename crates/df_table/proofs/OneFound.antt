@@ -10,7 +10,7 @@ use Rattle.df_model.specs.Commands.{ReadBlock, ReadPrepare}
 use Rattle.df_model.specs.Memory.{Memory}
 use Rattle.df_model.specs.Supply.{Shown, block_read, message_given}
 use Rattle.df_rows.specs.declared.command.Command.{Command}
-use Rattle.df_rows.specs.Blocks.{Takes, TakesAll}
+use Rattle.df_rows.specs.Blocks.{TableTakes, TakesAll}
 use Rattle.df_rows.specs.Limits.{blocks_of_table}
 use Rattle.df_rows.specs.Rows.{Entry}
 use Rattle.df_rows.specs.Tables.{Table, with_command, with_commands, with_rows}
@@ -18,8 +18,8 @@ use Rattle.df_rows.proofs.Laws.{one_body, one_command}
 use Rattle.df_table.specs.declared.ending.Ending.{Ending}
 use Rattle.df_table.specs.declared.ending.Ending.TheVariants.{Damaged, NotTable}
 use Rattle.df_table.specs.Laws.{FindsOne}
-use Rattle.df_table.specs.Opening.{AreFollowed, AreRead, ArePrepares, AreTaken, BlockHurt, Finds, Found, IsOther, NoCommand, NoRows, NoneIsOther, OtherBlock, OtherClient, OtherPrepare, PrepareHurt, place_at}
-use Rattle.df_table.specs.Table.{FollowAll, Follows, empty_table}
+use Rattle.df_table.specs.Opening.{AreFollowed, AreReadBlocks, ArePrepares, AreTakenBlocks, BlockHurt, FindsTable, Found, IsOtherClient, NoCommand, NoRows, NoneIsOther, OtherBlock, OtherClient, OtherPrepare, PrepareHurt, place_at}
+use Rattle.df_table.specs.Table.{CommandFollows, FollowAll, empty_table}
 
 ok_one : (A E : Type 0) (r : Result A E) (a b : A) → r ≡ Ok a → r ≡ Ok b → a ≡ b
 ok_one A E r a b one two = let same : Ok a ≡ Ok b = sym one ∙ two in let is : a ≡ b = cc in is
@@ -38,17 +38,17 @@ module _ (shown : Shown) (m : Memory) where
     block : Block
     read : block_read shown m (ReadBlock x.0) ≡ Ok block
     entries : List Entry
-    takes : Takes t block.body entries
+    takes : TableTakes t block.body entries
     bodies : List (List ℕ)
-    reads : AreRead shown m xs bodies
+    reads : AreReadBlocks shown m xs bodies
     rest : TakesAll (with_rows entries t) bodies u
 
-  block_head : (x : ℕ × ℕ) (xs : List (ℕ × ℕ)) (bodies : List (List ℕ)) (t u : Table) → AreRead shown m (x ∷ xs) bodies → TakesAll t bodies u → BlockHead x xs t u
+  block_head : (x : ℕ × ℕ) (xs : List (ℕ × ℕ)) (bodies : List (List ℕ)) (t u : Table) → AreReadBlocks shown m (x ∷ xs) bodies → TakesAll t bodies u → BlockHead x xs t u
   block_head x xs [] t u read takes = absurd read
   block_head x xs (body ∷ more) t u read takes =
-      record { block = read.0.0; read = read.0.1; entries = takes.0; takes = subst (λ (b : List ℕ). Takes t b takes.0) (sym read.0.2) takes.1; bodies = more; reads = read.1; rest = takes.2 }
+      record { block = read.0.0; read = read.0.1; entries = takes.0; takes = subst (λ (b : List ℕ). TableTakes t b takes.0) (sym read.0.2) takes.1; bodies = more; reads = read.1; rest = takes.2 }
 
-  block_none : (bodies : List (List ℕ)) (t u : Table) → AreRead shown m [] bodies → TakesAll t bodies u → u ≡ t
+  block_none : (bodies : List (List ℕ)) (t u : Table) → AreReadBlocks shown m [] bodies → TakesAll t bodies u → u ≡ t
   block_none [] t u read takes = takes
   block_none (body ∷ more) t u read takes = absurd read
 
@@ -60,7 +60,7 @@ module _ (shown : Shown) (m : Memory) where
     block : Block
     read : block_read shown m (ReadBlock next.0) ≡ Ok block
     entries : List Entry
-    takes : Takes t block.body entries
+    takes : TableTakes t block.body entries
     less : short < long
 
   -- both end there
@@ -79,15 +79,15 @@ module _ (shown : Shown) (m : Memory) where
   all_on r1 r2 t1 t2 n1 n2 (inr (inl g)) = inr (inl (one_on r2 t2 n2 n1 g))
   all_on r1 r2 t1 t2 n1 n2 (inr (inr g)) = inr (inr (one_on r1 t1 n1 n2 g))
 
-  compare : (b1 r1 b2 r2 : List (ℕ × ℕ)) (bodies1 bodies2 : List (List ℕ)) (t t1 t2 : Table) → b1 ++ r1 ≡ b2 ++ r2 → AreRead shown m b1 bodies1 → TakesAll t bodies1 t1 → AreRead shown m b2 bodies2 → TakesAll t bodies2 t2
+  compare : (b1 r1 b2 r2 : List (ℕ × ℕ)) (bodies1 bodies2 : List (List ℕ)) (t t1 t2 : Table) → b1 ++ r1 ≡ b2 ++ r2 → AreReadBlocks shown m b1 bodies1 → TakesAll t bodies1 t1 → AreReadBlocks shown m b2 bodies2 → TakesAll t bodies2 t2
       → Compared r1 r2 t1 t2 (length b1) (length b2)
   compare [] r1 [] r2 bodies1 bodies2 t t1 t2 is read1 take1 read2 take2 = inl (record { rest = is; table = block_none bodies1 t t1 read1 take1 ∙ sym (block_none bodies2 t t2 read2 take2) })
   compare [] r1 (y ∷ b2) r2 bodies1 bodies2 t t1 t2 is read1 take1 read2 take2 =
       let h = block_head y b2 bodies2 t t2 read2 take2 in
-      inr (inr (record { next = y; more = b2 ++ r2; is = is; block = h.block; read = h.read; entries = h.entries; takes = subst (λ (u : Table). Takes u h.block.body h.entries) (sym (block_none bodies1 t t1 read1 take1)) h.takes; less = omega arith }))
+      inr (inr (record { next = y; more = b2 ++ r2; is = is; block = h.block; read = h.read; entries = h.entries; takes = subst (λ (u : Table). TableTakes u h.block.body h.entries) (sym (block_none bodies1 t t1 read1 take1)) h.takes; less = omega arith }))
   compare (x ∷ b1) r1 [] r2 bodies1 bodies2 t t1 t2 is read1 take1 read2 take2 =
       let h = block_head x b1 bodies1 t t1 read1 take1 in
-      inr (inl (record { next = x; more = b1 ++ r1; is = sym is; block = h.block; read = h.read; entries = h.entries; takes = subst (λ (u : Table). Takes u h.block.body h.entries) (sym (block_none bodies2 t t2 read2 take2)) h.takes; less = omega arith }))
+      inr (inl (record { next = x; more = b1 ++ r1; is = sym is; block = h.block; read = h.read; entries = h.entries; takes = subst (λ (u : Table). TableTakes u h.block.body h.entries) (sym (block_none bodies2 t t2 read2 take2)) h.takes; less = omega arith }))
   compare (x ∷ b1) r1 (y ∷ b2) r2 bodies1 bodies2 t t1 t2 is read1 take1 read2 take2 =
       let one = block_head x b1 bodies1 t t1 read1 take1 in
       let two = block_head y b2 bodies2 t t2 read2 take2 in
@@ -95,7 +95,7 @@ module _ (shown : Shown) (m : Memory) where
       let first : x ≡ y = cc in
       let more : b1 ++ r1 ≡ b2 ++ r2 = cc in
       let block = ok_one Block Class (block_read shown m (ReadBlock x.0)) one.block two.block one.read (ap (λ (z : ℕ × ℕ). block_read shown m (ReadBlock z.0)) first ∙ two.read) in
-      let entries = one_body t one.block.body two.entries one.entries (subst (λ (b : Block). Takes t b.body two.entries) (sym block) two.takes) one.takes in
+      let entries = one_body t one.block.body two.entries one.entries (subst (λ (b : Block). TableTakes t b.body two.entries) (sym block) two.takes) one.takes in
       all_on r1 r2 t1 t2 (length b1) (length b2)
       (compare b1 r1 b2 r2 one.bodies two.bodies (with_rows one.entries t) t1 t2 more one.reads one.rest two.reads (subst (λ (es : List Entry). TakesAll (with_rows es t) two.bodies t2) entries two.rest))
 
@@ -105,7 +105,7 @@ module _ (shown : Shown) (m : Memory) where
     prepare : Message
     read : message_given shown m (ReadPrepare (op + short)) ≡ Ok prepare
     command : Command
-    follows : Follows t prepare.body command
+    follows : CommandFollows t prepare.body command
     less : short < long
 
   record TailEndsThere (t1 t2 : Table) (n1 n2 : ℕ) : Type 0 where
@@ -168,7 +168,7 @@ module _ (layout : Layout) (shown : Shown) (m : Memory) where
 
   record SessionStop (r : Result Table Ending) : Type 0 where
     place : ℕ
-    is : IsOther m place
+    is : IsOtherClient m place
     none : NoneIsOther m place
     result : r ≡ Err (NotTable (place_at ClientReplies place))
 
@@ -176,7 +176,7 @@ module _ (layout : Layout) (shown : Shown) (m : Memory) where
     x : ℕ × ℕ
     rest : List (ℕ × ℕ)
     table : Table
-    taken : AreTaken layout shown m (x ∷ rest) table
+    taken : AreTakenBlocks layout shown m (x ∷ rest) table
     why : BlockWhy x taken.before table r
 
   record TailStop (r : Result Table Ending) : Type 0 where
@@ -188,7 +188,7 @@ module _ (layout : Layout) (shown : Shown) (m : Memory) where
   abbrev Stop : Result Table Ending → Type 0
   Stop r = SessionStop r ⊎ (BlockStop r ⊎ TailStop r)
 
-  stop_of : (r : Result Table Ending) → Finds layout shown m r → Stop r
+  stop_of : (r : Result Table Ending) → FindsTable layout shown m r → Stop r
   stop_of r (OtherClient place is none) = inl (record { place = place; is = is; none = none; result = refl })
   stop_of r (BlockHurt x rest t class taken hurt) = inr (inl (record { x = x; rest = rest; table = t; taken = taken; why = inl (class, hurt, refl) }))
   stop_of r (OtherBlock x rest t b taken read norows) = inr (inl (record { x = x; rest = rest; table = t; taken = taken; why = inr (b, read, norows, refl) }))
@@ -207,17 +207,17 @@ module _ (layout : Layout) (shown : Shown) (m : Memory) where
     where
       go : BlockWhy x before t r → block_read shown m (ReadBlock x.0) ≡ Ok g.block → ⊥
       go (inl hurt) read = ok_err Block Class (block_read shown m (ReadBlock x.0)) g.block hurt.0 read hurt.1
-      go (inr (b, there, inl none, is)) read = none g.entries (subst (λ (y : Block). Takes t y.body g.entries) (ok_one Block Class (block_read shown m (ReadBlock x.0)) g.block b read there) g.takes)
+      go (inr (b, there, inl none, is)) read = none g.entries (subst (λ (y : Block). TableTakes t y.body g.entries) (ok_one Block Class (block_read shown m (ReadBlock x.0)) g.block b read there) g.takes)
       go (inr (b, there, inr many, is)) read = omega (arith, many, few, g.less)
 
-  compare_taken : (r1 r2 : List (ℕ × ℕ)) (t1 t2 : Table) (a : AreTaken layout shown m r1 t1) (b : AreTaken layout shown m r2 t2) → Compared shown m r1 r2 t1 t2 (length a.before) (length b.before)
+  compare_taken : (r1 r2 : List (ℕ × ℕ)) (t1 t2 : Table) (a : AreTakenBlocks layout shown m r1 t1) (b : AreTakenBlocks layout shown m r2 t2) → Compared shown m r1 r2 t1 t2 (length a.before) (length b.before)
   compare_taken r1 r2 t1 t2 a b = compare shown m a.before r1 b.before r2 a.bodies b.bodies (empty_table layout) t1 t2 (sym a.of ∙ b.of) a.read a.taken b.read b.taken
 
   no_more : (t : Table) (short long : ℕ) → GoesOn shown m [] t short long → ⊥
   no_more t short long g = let whole : [] ≡ g.next ∷ g.more = g.is in cc
 
   -- all were read, and one ended among them
-  among_all : (r : Result Table Ending) (base : Table) (s : BlockStop r) (all : AreTaken layout shown m [] base) → ⊥
+  among_all : (r : Result Table Ending) (base : Table) (s : BlockStop r) (all : AreTakenBlocks layout shown m [] base) → ⊥
   among_all r base s all = go (compare_taken (s.x ∷ s.rest) [] s.table base s.taken all)
     where
       go : Compared shown m (s.x ∷ s.rest) [] s.table base (length s.taken.before) (length all.before) → ⊥
@@ -263,7 +263,7 @@ module _ (layout : Layout) (shown : Shown) (m : Memory) where
       go : TailWhy op t r → message_given shown m (ReadPrepare (op + 1)) ≡ Ok g.prepare → ⊥
       go (inl (less, class, hurt, is)) read = ok_err Message Class (message_given shown m (ReadPrepare (op + 1))) g.prepare class read hurt
       go (inr (inl (less, p, there, none, is))) read =
-          none g.command (subst (λ (v : Table). Follows v p.body g.command) (sym same) (subst (λ (q : Message). Follows u q.body g.command) (ok_one Message Class (message_given shown m (ReadPrepare (op + 1))) g.prepare p read there) g.follows))
+          none g.command (subst (λ (v : Table). CommandFollows v p.body g.command) (sym same) (subst (λ (q : Message). CommandFollows u q.body g.command) (ok_one Message Class (message_given shown m (ReadPrepare (op + 1))) g.prepare p read there) g.follows))
       go (inr (inr (all, is))) read = omega (arith, from, all, within, g.less)
 
   tail_way : (op : ℕ) (t : Table) (r1 r2 : Result Table Ending) → TailWhy op t r1 → TailWhy op t r2 → r1 ≡ r2
@@ -279,7 +279,7 @@ module _ (layout : Layout) (shown : Shown) (m : Memory) where
   tail_way op t r1 r2 (inr (inr (all, is))) (inr (inl (less, p, read, none, so))) = absurd (omega (arith, less, all))
   tail_way op t r1 r2 (inr (inr (all, is))) (inr (inr (end, so))) = is ∙ sym so
 
-  one_base : (t1 t2 : Table) (a : AreTaken layout shown m [] t1) (b : AreTaken layout shown m [] t2) → t1 ≡ t2
+  one_base : (t1 t2 : Table) (a : AreTakenBlocks layout shown m [] t1) (b : AreTakenBlocks layout shown m [] t2) → t1 ≡ t2
   one_base t1 t2 a b = go (compare_taken [] [] t1 t2 a b)
     where
       go : Compared shown m [] [] t1 t2 (length a.before) (length b.before) → t1 ≡ t2

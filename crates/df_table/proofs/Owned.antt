@@ -6,7 +6,7 @@ use Rattle.df_base.specs.Log.{IsLeft, Log}
 use Rattle.df_theory.specs.Device.{NoChanceOf}
 use Rattle.df_theory.specs.Holds.{Held, Stands}
 use Rattle.df_theory.specs.Next.{IsSameBare}
-use Rattle.df_theory.specs.Sessions.{noted, session_of, sessions_after}
+use Rattle.df_theory.specs.Sessions.{noted, session_of_header, sessions_after}
 use Rattle.df_theory.specs.Units.{Header, Message, Parts, Session}
 use Rattle.df_theory.specs.View.{View}
 use Rattle.df_model.specs.After.{after_running, after_step_of, begun, outcome, with_live, with_prepare, with_reply, with_running}
@@ -47,7 +47,7 @@ noted_own : (h : Header) (ss : List Session) → h.client ≡ the_client → All
 noted_own h [] mine own = (mine, tt)
 noted_own h (s ∷ ss) mine own = go (noted_own h ss mine own.1) (s.client == h.client)
   where
-    go : AllOwn (noted h ss) → (b : Bool) → AllOwn (if b then session_of h ∷ ss else s ∷ noted h ss)
+    go : AllOwn (noted h ss) → (b : Bool) → AllOwn (if b then session_of_header h ∷ ss else s ∷ noted h ss)
     go rest true = (mine, own.1)
     go rest false = (own.0, rest)
 

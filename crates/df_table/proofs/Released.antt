@@ -13,13 +13,13 @@ use Rattle.df_session.specs.Blocks.{released}
 use Rattle.df_table.specs.declared.ending.Ending.{Ending}
 use Rattle.df_table.specs.Calls.{Comes}
 use Rattle.df_table.specs.Policy.{releases, releases_at}
-use Rattle.df_table.specs.Ready.{IsReady, without_live}
+use Rattle.df_table.specs.Ready.{IsReadyReplica, without_live}
 use Rattle.df_table.specs.Turns.{EndIn, MakeAll}
 use Rattle.df_table.proofs.Joined.{make_none}
 use Rattle.df_table.proofs.Making.{IsMaking, all_making, making_ends, making_more}
 
 -- the live blocks of a replica that is ready, as a map's entries
-pub live_entries : (layout : Layout) (s : Replica) (ready : IsReady layout s) → s.blocks.live ≡ entries ready.work.live (range_with_len 1 layout.blocks)
+pub live_entries : (layout : Layout) (s : Replica) (ready : IsReadyReplica layout s) → s.blocks.live ≡ entries ready.work.live (range_with_len 1 layout.blocks)
 live_entries layout s ready = ap (λ (m : Memory). m.blocks.live) ready.stands.1 ∙ ap (λ (l : Layout). entries ready.work.live (range_with_len 1 l.blocks)) ready.layout_is
 
 -- the releases of entries

@@ -8,7 +8,7 @@ use Rattle.df_layout.specs.declared.layout.Layout.{Layout}
 use Rattle.df_theory.specs.View.{View, boot_of}
 use Rattle.df_lines.specs.Room.{line_bound}
 use Rattle.df_lines.specs.Text.{after_line, line_of, taken}
-use Rattle.df_rows.specs.Grammar.{Count, Drop, Get, Put, Said, Says}
+use Rattle.df_rows.specs.Grammar.{Count, Drop, Get, Put, Said, SaysTableLine}
 use Rattle.df_lines.specs.Lines.{Begins, IsRefused}
 use Rattle.df_rows.specs.Tables.{Table}
 use Rattle.df_session.specs.Below.{DataFile, IsNotRefused, State as Replica, memory}
@@ -21,35 +21,35 @@ use Rattle.df_table.specs.declared.ending.Ending.{Ending}
 use Rattle.df_table.specs.declared.ending.Ending.TheVariants.{Damaged, Disk, NotTable, OpsSpent, SequenceSpent}
 use Rattle.df_table.specs.declared.status.Status.{Status}
 use Rattle.df_table.specs.declared.status.Status.TheVariants.{Done, DiskFault, Memory, ReadFault, WriteFault}
-use Rattle.df_table.specs.Completeness.{EndsSpent, IsSpent, IsWhole, SafeIsRun}
+use Rattle.df_table.specs.Completeness.{EndsSpent, IsSpentEnding, IsWholeTableScript, SafeTableIsRun}
 use Rattle.df_table.specs.Laws.{FindsIn}
-use Rattle.df_table.specs.Outside.{Faults, HasCauses, NoneFailed, Outside}
-use Rattle.df_table.specs.Run.{Does, Outcome}
-use Rattle.df_table.specs.Session.{EndsAs, Halt, HaltsIn, NotOpened, Served, Serves, ServesLines, said_in, script_budget}
+use Rattle.df_table.specs.Outside.{Faults, HasTableCauses, NoneFailed, Outside}
+use Rattle.df_table.specs.Run.{DoesTable, TableOutcome}
+use Rattle.df_table.specs.Session.{EndsAs, Halt, HaltsIn, NotOpened, Served, ServesFoundTable, ServesLines, said_in, script_budget}
 use Rattle.df_table.specs.Statuses.{status_of}
-use Rattle.df_table.specs.Turns.{IsOfCall, all_said}
+use Rattle.df_table.specs.Turns.{IsOfCall, table_said}
 use Rattle.df_table.proofs.OneFile.{found_of}
 use Rattle.df_table.proofs.Sessioned.{called_told}
 
 -- ---- a text that is whole has no line that is refused
 
-says_some : (said : Said) (text : List ℕ) → text ≡ [] → Says (line_of text) said → ⊥
-says_some (Put key value) text none says = let no : Says [] (Put key value) = subst (λ (l : List ℕ). Says (line_of l) (Put key value)) none says in cc (no.is)
-says_some (Drop key) text none says = let no : Says [] (Drop key) = subst (λ (l : List ℕ). Says (line_of l) (Drop key)) none says in cc (no.is)
-says_some (Get key) text none says = let no : Says [] (Get key) = subst (λ (l : List ℕ). Says (line_of l) (Get key)) none says in cc (no.is)
-says_some Count text none says = let no : Says [] Count = subst (λ (l : List ℕ). Says (line_of l) Count) none says in cc (no.is)
+says_some : (said : Said) (text : List ℕ) → text ≡ [] → SaysTableLine (line_of text) said → ⊥
+says_some (Put key value) text none says = let no : SaysTableLine [] (Put key value) = subst (λ (l : List ℕ). SaysTableLine (line_of l) (Put key value)) none says in cc (no.is)
+says_some (Drop key) text none says = let no : SaysTableLine [] (Drop key) = subst (λ (l : List ℕ). SaysTableLine (line_of l) (Drop key)) none says in cc (no.is)
+says_some (Get key) text none says = let no : SaysTableLine [] (Get key) = subst (λ (l : List ℕ). SaysTableLine (line_of l) (Get key)) none says in cc (no.is)
+says_some Count text none says = let no : SaysTableLine [] Count = subst (λ (l : List ℕ). SaysTableLine (line_of l) Count) none says in cc (no.is)
 
-whole_uncut : (bound budget : ℕ) (text rest : List ℕ) (all asked : List Said) (spare left : ℕ) → Begins Says bound budget text all spare [] → Begins Says bound budget text asked left rest → IsRefused Says bound left rest → ⊥
+whole_uncut : (bound budget : ℕ) (text rest : List ℕ) (all asked : List Said) (spare left : ℕ) → Begins SaysTableLine bound budget text all spare [] → Begins SaysTableLine bound budget text asked left rest → IsRefused SaysTableLine bound left rest → ⊥
 whole_uncut bound budget text rest [] [] spare left whole begins refused = refused.some (begins.1 ∙ sym whole.1)
 whole_uncut bound budget text rest (a ∷ all) [] spare left whole begins refused =
-    let no : IsRefused Says bound budget text = subst (λ (n : ℕ). IsRefused Says bound n text) begins.0 (subst (λ (l : List ℕ). IsRefused Says bound left l) begins.1 refused) in no.none a whole.0
+    let no : IsRefused SaysTableLine bound budget text = subst (λ (n : ℕ). IsRefused SaysTableLine bound n text) begins.0 (subst (λ (l : List ℕ). IsRefused SaysTableLine bound left l) begins.1 refused) in no.none a whole.0
 whole_uncut bound budget text rest [] (b ∷ asked) spare left whole begins refused = says_some b text (sym whole.1) begins.0.says
 whole_uncut bound budget text rest (a ∷ all) (b ∷ asked) spare left whole begins refused = whole_uncut bound (budget - taken text) (after_line text) rest all asked spare left whole.1 begins.1 refused
 
 -- ---- a run
 
 module _ (file : DataFile) (view : View) (table : Table) (t : Told) (text : List ℕ) (old new : Outside) (before now : Faults) (status : Status) (may : MayOpen file view t) (unspent : boot_of view < 2 ^ 62) (finds : FindsIn file t view table) (left : old.left ≡ Some text)
-    (whole : IsWhole file.layout text) (causes : HasCauses before now status) (none : NoneFailed before now) where
+    (whole : IsWholeTableScript file.layout text) (causes : HasTableCauses before now status) (none : NoneFailed before now) where
   unfailed : (status ≡ DiskFault → ⊥) × (status ≡ ReadFault → ⊥) × (status ≡ WriteFault → ⊥)
   unfailed = nothing_failed DiskFault ReadFault WriteFault before now status causes none
 
@@ -66,8 +66,8 @@ module _ (file : DataFile) (view : View) (table : Table) (t : Told) (text : List
     halted h is Disk ends so of_call = absurd (unfailed.0 so)
     halted h is (Damaged place class) ends so of_call = absurd (let untold : Some told.0 ≡ None = sym told.1 ∙ of_call in cc)
     halted h is (NotTable place) ends so of_call = absurd of_call
-    halted h is OpsSpent ends so of_call = inr (inr (record { replica = s; mid = mid; lines = lines; halt = h; is = is; spent = subst IsSpent (sym ends) tt }))
-    halted h is SequenceSpent ends so of_call = inr (inr (record { replica = s; mid = mid; lines = lines; halt = h; is = is; spent = subst IsSpent (sym ends) tt }))
+    halted h is OpsSpent ends so of_call = inr (inr (record { replica = s; mid = mid; lines = lines; halt = h; is = is; spent = subst IsSpentEnding (sym ends) tt }))
+    halted h is SequenceSpent ends so of_call = inr (inr (record { replica = s; mid = mid; lines = lines; halt = h; is = is; spent = subst IsSpentEnding (sym ends) tt }))
 
     by_halt : (halt : Option Halt) (cut : Bool) → lines.halt ≡ halt → lines.cut ≡ cut → EndsAs halt cut status → Ends
     by_halt None false is cut ends = elim ends [
@@ -76,7 +76,7 @@ module _ (file : DataFile) (view : View) (table : Table) (t : Told) (text : List
     ]
     by_halt None true is cut ends =
         let read = lines.text text left in
-        absurd (whole_uncut (line_bound file.layout) script_budget text read.1 whole.lines (all_said lines.turns ++ said_in lines.halt) whole.left read.0 whole.begins read.2 (read.3.refused cut))
+        absurd (whole_uncut (line_bound file.layout) script_budget text read.1 whole.lines (table_said lines.turns ++ said_in lines.halt) whole.left read.0 whole.begins read.2 (read.3.refused cut))
     by_halt (Some h) cut is cut_is ends =
         let halts : HaltsIn file.layout lines.replica lines.mid lines.table (Some h) lines.last new.told = subst (λ (o : Option Halt). HaltsIn file.layout lines.replica lines.mid lines.table o lines.last new.told) is lines.halts in
         halted h is h.ending refl ends.1 halts.3
@@ -89,7 +89,7 @@ module _ (file : DataFile) (view : View) (table : Table) (t : Told) (text : List
 
   -- ---- the opening
 
-  serves_end : (s : Replica) (told : Option Told) (opened : Result Table Ending) → Serves file.layout s told old new status opened → (opened ≡ Err Disk) ⊎ (opened ≡ Ok table) → (n : Told) × (new.told ≡ Some n) → Ends
+  serves_end : (s : Replica) (told : Option Told) (opened : Result Table Ending) → ServesFoundTable file.layout s told old new status opened → (opened ≡ Err Disk) ⊎ (opened ≡ Ok table) → (n : Told) × (new.told ≡ Some n) → Ends
   serves_end s told opened (NotOpened ending last ends unread writes) (inl disk) later = absurd (elim writes [
     | inl wrote ↦ unfailed.0 (wrote.0 ∙ (let same : ending ≡ Disk = cc in ap status_of same))
     | inr part ↦ unfailed.2 part.0
@@ -100,7 +100,7 @@ module _ (file : DataFile) (view : View) (table : Table) (t : Told) (text : List
       let same : u ≡ table = cc in
       lines_end later r mid (subst (λ (x : Table). ServesLines file.layout x r mid old new status) same lines)
 
-  does_end : Does file.layout t old new status → Ends
+  does_end : DoesTable file.layout t old new status → Ends
   does_end (inl refuses) = absurd (refuses.other (answers.1.answered refuses.error refuses.is))
   does_end (inr (inl fails)) = absurd (unfailed.0 fails.fault)
   does_end (inr (inr serves)) =
@@ -111,14 +111,14 @@ module _ (file : DataFile) (view : View) (table : Table) (t : Told) (text : List
       serves_end found.replica found.mended serves.1.opened serves.1.serves (found_of file view t may table finds file.layout old new status found serves.1)
       (_, sym told.1 ∙ serves.1.calls.adds ∙ ap (after_all (events_made c)) (found.mending.told ∙ added_is_told es (did Sync t)) ∙ added_is_told (events_made c) _)
 
-  pub outcome_ends : old.told ≡ Some t → Outcome t old new status → Ends
+  pub outcome_ends : old.told ≡ Some t → TableOutcome t old new status → Ends
   outcome_ends from (inl nothing) = elim nothing.why [
     | inl memory ↦ inr (inl memory)
     | inr disk ↦ absurd (unfailed.0 disk)
   ]
   outcome_ends from (inr (inl refuses)) = absurd (answers.1.usable refuses.error refuses.is)
-  outcome_ends from (inr (inr own)) = does_end (subst (λ (l : Layout). Does l t old new status) (answers.1.layout own.layout own.shown) own.does)
+  outcome_ends from (inr (inr own)) = does_end (subst (λ (l : Layout). DoesTable l t old new status) (answers.1.layout own.layout own.shown) own.does)
 
-pub safe_is_run : SafeIsRun
+pub safe_is_run : SafeTableIsRun
 safe_is_run file view table t text old new before now status may unspent finds from left whole causes none runs =
     outcome_ends file view table t text old new before now status may unspent finds left whole causes none from (runs t from (answers file view table t text old new before now status may unspent finds left whole causes none).0)

@@ -27,9 +27,9 @@ use Rattle.df_table.specs.declared.status.Status.{Status}
 use Rattle.df_table.specs.Opening.{FindsOf}
 use Rattle.df_table.specs.Outside.{Outside}
 use Rattle.df_table.specs.Ready.{IsBegun}
-use Rattle.df_table.specs.Run.{Does, ServesTable}
-use Rattle.df_table.specs.Session.{AreCallsOf, Halt, HaltsIn, NotOpened, Served, Serves, ServesLines, ServesOpened, halted_acts, halted_answers, halted_failed}
-use Rattle.df_table.specs.Turns.{AreTurns, Turn, all_acts, all_answers}
+use Rattle.df_table.specs.Run.{DoesTable, ServesTable}
+use Rattle.df_table.specs.Session.{AreCallsOf, Halt, HaltsIn, NotOpened, Served, ServesFoundTable, ServesLines, ServesOpened, halted_acts, halted_answers, halted_failed}
+use Rattle.df_table.specs.Turns.{AreTurns, TableTurn, table_acts, table_answers}
 use Rattle.df_table.proofs.Agreed.{AreInside, entries_inside, finds_of_same}
 use Rattle.df_table.proofs.Begun.{begun_entries}
 use Rattle.df_table.proofs.Joined.{ends_join}
@@ -37,9 +37,9 @@ use Rattle.df_table.proofs.Sessioned.{sessions_keep}
 
 -- ---- all of its calls
 
-turns_calls : (layout : Layout) (s : Replica) (old : Option Told) (t : Table) (turns : List Turn) (u : Replica) (new : Option Told) (v : Table) → AreTurns layout s old t turns u new v → AreCalls s old (all_acts turns) (all_answers turns) u new
+turns_calls : (layout : Layout) (s : Replica) (old : Option Told) (t : Table) (turns : List TableTurn) (u : Replica) (new : Option Told) (v : Table) → AreTurns layout s old t turns u new v → AreCalls s old (table_acts turns) (table_answers turns) u new
 turns_calls layout s old t [] u new v are = (are.0, are.1)
-turns_calls layout s old t (x ∷ turns) u new v are = calls_join s are.0 u old are.1 new x.acts (all_acts turns) x.answers (all_answers turns) are.4 (turns_calls layout are.0 are.1 _ turns u new v are.7)
+turns_calls layout s old t (x ∷ turns) u new v are = calls_join s are.0 u old are.1 new x.acts (table_acts turns) x.answers (table_answers turns) are.4 (turns_calls layout are.0 are.1 _ turns u new v are.7)
 
 halt_calls : (layout : Layout) (s : Replica) (old : Option Told) (t : Table) (halt : Option Halt) (u : Replica) (new : Option Told) → (halts : HaltsIn layout s old t halt u new)
     → EndsCalls s u old new (halted_acts layout s old t halt u new halts) (halted_answers layout s old t halt u new halts) (halted_failed layout s old t halt u new halts)
@@ -47,7 +47,7 @@ halt_calls layout s old t None u new halts = (halts.0, halts.1)
 halt_calls layout s old t (Some h) u new halts = halts.1.calls
 
 -- all of them, of a replica and over what a disk shows
-record AllCalls (layout : Layout) (s : Replica) (told : Option Told) (old new : Outside) (status : Status) (opened : Result Table Ending) (serves : Serves layout s told old new status opened) : Type 0 where
+record AllCalls (layout : Layout) (s : Replica) (told : Option Told) (old new : Outside) (status : Status) (opened : Result Table Ending) (serves : ServesFoundTable layout s told old new status opened) : Type 0 where
   to : Replica
   acts : List Act
   answers : List Answer
@@ -55,7 +55,7 @@ record AllCalls (layout : Layout) (s : Replica) (told : Option Told) (old new : 
   calls : EndsCalls s to told new.told acts answers failed
   of : AreCallsOf layout s told old new status opened serves (record { from = s; to = to; old = told; new = new.told; acts = acts; answers = answers; failed = failed; calls = calls })
 
-all_calls : (layout : Layout) (s : Replica) (told : Option Told) (old new : Outside) (status : Status) (opened : Result Table Ending) → (serves : Serves layout s told old new status opened) → AllCalls layout s told old new status opened serves
+all_calls : (layout : Layout) (s : Replica) (told : Option Told) (old new : Outside) (status : Status) (opened : Result Table Ending) → (serves : ServesFoundTable layout s told old new status opened) → AllCalls layout s told old new status opened serves
 all_calls layout s told old new status opened (NotOpened ending last ends unread writes) =
     record { to = last; acts = ends.acts; answers = ends.answers; failed = ends.failed; calls = ends.calls; of = (refl, refl, refl, refl, refl, refl) }
 all_calls layout s told old new status opened (Served t u mid opens lines) =
@@ -64,13 +64,13 @@ all_calls layout s told old new status opened (Served t u mid opens lines) =
     let acts = halted_acts layout lines.replica lines.mid lines.table lines.halt lines.last new.told lines.halts in
     let answers = halted_answers layout lines.replica lines.mid lines.table lines.halt lines.last new.told lines.halts in
     let failed = halted_failed layout lines.replica lines.mid lines.table lines.halt lines.last new.told lines.halts in
-    let behind = ends_join u lines.replica lines.last mid lines.mid new.told (all_acts lines.turns) acts (all_answers lines.turns) answers failed turns halts in
+    let behind = ends_join u lines.replica lines.last mid lines.mid new.told (table_acts lines.turns) acts (table_answers lines.turns) answers failed turns halts in
     record {
       to = lines.last;
-      acts = opens.acts ++ (all_acts lines.turns ++ acts);
-      answers = opens.answers ++ (all_answers lines.turns ++ answers);
+      acts = opens.acts ++ (table_acts lines.turns ++ acts);
+      answers = opens.answers ++ (table_answers lines.turns ++ answers);
       failed = failed;
-      calls = ends_join s u lines.last told mid new.told opens.acts (all_acts lines.turns ++ acts) opens.answers (all_answers lines.turns ++ answers) failed opens.calls behind;
+      calls = ends_join s u lines.last told mid new.told opens.acts (table_acts lines.turns ++ acts) opens.answers (table_answers lines.turns ++ answers) failed opens.calls behind;
       of = (refl, refl, refl, refl, refl, refl);
     }
 
@@ -96,12 +96,12 @@ module _ (layout : Layout) (s : Replica) (told : Option Told) (before old new : 
     written = lines.written;
   }
 
-  there : (opened : Result Table Ending) → Serves layout s told (record old { told = before.told }) new status opened → Serves layout s told old new status opened
+  there : (opened : Result Table Ending) → ServesFoundTable layout s told (record old { told = before.told }) new status opened → ServesFoundTable layout s told old new status opened
   there opened (NotOpened ending last ends unread writes) = NotOpened ending last ends unread writes
   there opened (Served t u mid opens lines) = Served t u mid opens (lines_moved t u mid lines)
 
-  pub moved : (opened : Result Table Ending) → Serves layout s told before new status opened → Serves layout s told old new status opened
-  moved opened serves = there opened (subst (λ (o : Outside). Serves layout s told o new status opened) same_outside serves)
+  pub moved : (opened : Result Table Ending) → ServesFoundTable layout s told before new status opened → ServesFoundTable layout s told old new status opened
+  moved opened serves = there opened (subst (λ (o : Outside). ServesFoundTable layout s told o new status opened) same_outside serves)
 
 -- ---- the file
 
@@ -139,8 +139,8 @@ module _ (layout : Layout) (t : Told) (s : Replica) (mended : Option Told) (whol
   -- over what the disk then shows, which no read tells apart from what it showed at first
   module _ (mid : Told) (agree : AgreeShown s.file.layout (shown_of s.file mid.shown) (shown_of s.file t.shown)) (before old new : Outside) (status : Status) (there : before.told ≡ mended) (left : before.left ≡ old.left) (written : before.written ≡ old.written)
       (opens : ServesOpened layout s mid before new status) where
-    serves : Serves layout s mended old new status opens.opened
-    serves = subst (λ (o : Option Told). Serves layout s o old new status opens.opened) there (moved layout s before.told before old new status left written opens.opened opens.serves)
+    serves : ServesFoundTable layout s mended old new status opens.opened
+    serves = subst (λ (o : Option Told). ServesFoundTable layout s o old new status opens.opened) there (moved layout s before.told before old new status left written opens.opened opens.serves)
 
     all : AllCalls layout s mended old new status opens.opened serves
     all = all_calls layout s mended old new status opens.opened serves
@@ -165,5 +165,5 @@ module _ (layout : Layout) (t : Told) (s : Replica) (mended : Option Told) (whol
       keeps = sessions_keep layout t s mended over old new status opens.opened serves made whole live of finds all.of;
     }
 
-    pub does : Does layout t old new status
+    pub does : DoesTable layout t old new status
     does = inr (inr (found, served))

@@ -16,7 +16,7 @@ use Rattle.df_rows.specs.Limits.{most_rows}
 use Rattle.df_rows.specs.Lines.{map_text}
 use Rattle.df_rows.specs.Rows.{Entry}
 use Rattle.df_lines.specs.Lines.{Begins}
-use Rattle.df_rows.specs.Grammar.{Says}
+use Rattle.df_rows.specs.Grammar.{SaysTableLine}
 use Rattle.df_rows.specs.Tables.{AreNew, CanApply, Table, with_command, with_commands, with_row, with_rows}
 use Rattle.df_session.specs.Below.{State as Replica}
 use Rattle.df_lines.proofs.Laws.{unread_none}
@@ -24,24 +24,24 @@ use Rattle.df_table.specs.declared.ending.Ending.{Ending}
 use Rattle.df_table.specs.declared.ending.Ending.TheVariants.{Disk}
 use Rattle.df_table.specs.declared.session.Session.{Session}
 use Rattle.df_table.specs.declared.status.Status.{Status}
-use Rattle.df_table.specs.Opening.{AreFollowed, BlockHurt, Finds, FindsOf, Found, OtherBlock, OtherClient, OtherPrepare, PrepareHurt}
+use Rattle.df_table.specs.Opening.{AreFollowed, BlockHurt, FindsOf, FindsTable, Found, OtherBlock, OtherClient, OtherPrepare, PrepareHurt}
 use Rattle.df_table.specs.Outside.{Outside}
-use Rattle.df_table.specs.Ready.{IsReady, IsSteady}
-use Rattle.df_table.specs.Serving.{Ended, state}
-use Rattle.df_table.specs.Session.{EndsWith, ServesLines, closing, said_in, script_budget}
+use Rattle.df_table.specs.Ready.{IsReadyReplica, IsSteady}
+use Rattle.df_table.specs.Serving.{ServingEnded, state}
+use Rattle.df_table.specs.Session.{ServesLines, ServingEndsWith, closing, said_in, script_budget}
 use Rattle.df_table.specs.Table.{FollowAll, empty_table}
-use Rattle.df_table.specs.Turns.{Turn, all_said}
+use Rattle.df_table.specs.Turns.{TableTurn, table_said}
 use Rattle.df_table.proofs.Behind.{HasFew, drop_few, put_few}
 use Rattle.df_table.proofs.FoundTable.{unok}
 
 -- one line a turn
-as_many : (turns : List Turn) → length turns ≡ length (all_said turns)
+as_many : (turns : List TableTurn) → length turns ≡ length (table_said turns)
 as_many [] = refl
 as_many (x ∷ turns) = omega (arith, as_many turns)
 
 module _ (layout : Layout) (mid : Option Told) (before after : Outside) (s now : Session) (status : Status) (fresh : IsFresh (line_bound layout) s.lines) (none : s.count ≡ 0)
-    (e : Ended layout (state (record { told = mid; left = before.left; written = before.written }) s) (state after now) status) where
-  counted : s.count + length e.turns ≡ length (all_said e.turns)
+    (e : ServingEnded layout (state (record { told = mid; left = before.left; written = before.written }) s) (state after now) status) where
+  counted : s.count + length e.turns ≡ length (table_said e.turns)
   counted = omega (arith, none, as_many e.turns)
 
   budget_is : s.lines.reading.budget ≡ script_budget
@@ -57,12 +57,12 @@ module _ (layout : Layout) (mid : Option Told) (before after : Outside) (s now :
     halts = e.halts;
     text = λ text is.
         let so = e.text text (text_is text is) in
-        (so.0, so.1, subst (λ (n : ℕ). Begins Says (line_bound layout) n text (all_said e.turns ++ said_in e.halt) so.0 so.1) budget_is so.2, so.3);
+        (so.0, so.1, subst (λ (n : ℕ). Begins SaysTableLine (line_bound layout) n text (table_said e.turns ++ said_in e.halt) so.0 so.1) budget_is so.2, so.3);
     replica = e.replica;
     mid = e.mid;
     table = e.table;
     halt = e.halt;
-    written = subst (λ (n : ℕ). EndsWith (map_text s.table s.replica.head (all_said e.turns) ++ closing n e.halt e.cut) e.halt e.cut before.written after.written status) counted e.written;
+    written = subst (λ (n : ℕ). ServingEndsWith (map_text s.table s.replica.head (table_said e.turns) ++ closing n e.halt e.cut) e.halt e.cut before.written after.written status) counted e.written;
     cut = e.cut;
     last = now.replica;
   }
@@ -97,7 +97,7 @@ followed_few layout shown m op t are =
 no_disk : (x : Table) (r : Result Table Ending) → r ≡ Ok x → r ≡ Err Disk → ⊥
 no_disk x r one two = cc
 
-finds_few : (layout : Layout) (shown : Shown) (m : Memory) (t : Table) (r : Result Table Ending) → r ≡ Ok t → Finds layout shown m r → HasFew (most_rows layout) t
+finds_few : (layout : Layout) (shown : Shown) (m : Memory) (t : Table) (r : Result Table Ending) → r ≡ Ok t → FindsTable layout shown m r → HasFew (most_rows layout) t
 finds_few layout shown m t r is (Found u are) = let same : u ≡ t = unok u t (Ok u) refl is in subst (λ (x : Table). HasFew (most_rows layout) x) same (followed_few layout shown m m.head u are)
 finds_few layout shown m t r is (OtherClient place other none) = absurd (cc (is))
 finds_few layout shown m t r is (BlockHurt x rest u class taken hurt) = absurd (cc (is))
@@ -105,6 +105,6 @@ finds_few layout shown m t r is (OtherBlock x rest u b taken read norows) = absu
 finds_few layout shown m t r is (PrepareHurt op u class are less hurt) = absurd (cc (is))
 finds_few layout shown m t r is (OtherPrepare op u p are less read none) = absurd (cc (is))
 
-pub found_steady : (layout : Layout) (shown : Shown) (m : Memory) (t : Table) (s : Replica) → FindsOf layout shown m (Ok t) → IsReady layout s → IsSteady layout s t
+pub found_steady : (layout : Layout) (shown : Shown) (m : Memory) (t : Table) (s : Replica) → FindsOf layout shown m (Ok t) → IsReadyReplica layout s → IsSteady layout s t
 found_steady layout shown m t s (inl failed) ready = absurd (no_disk t (Ok t) refl failed)
 found_steady layout shown m t s (inr finds) ready = let few = finds_few layout shown m t (Ok t) refl finds in record { ready = ready; max = few.max_is; few = few.few }

@@ -16,7 +16,7 @@ use Rattle.df_session.specs.Acknowledging.{HadAnswers}
 use Rattle.df_session.specs.Begun.{begun_work}
 use Rattle.df_session.specs.Below.{DataFile, State as Replica, memory, told_after}
 use Rattle.df_session.specs.Following.{MayOpen}
-use Rattle.df_session.specs.Links.{CallsMade, EndsCalls, events_made, events_of, events_to}
+use Rattle.df_session.specs.Links.{CallsMade, EndsCalls, call_events, events_made, events_to}
 use Rattle.df_session.specs.Opened.{MendsAll}
 use Rattle.df_session.specs.Reading.{shown_of}
 use Rattle.df_session.specs.Serving.{Firm, Keeps}
@@ -26,13 +26,13 @@ use Rattle.df_result.proofs.Laws.{joined}
 use Rattle.df_table.specs.declared.ending.Ending.{Ending}
 use Rattle.df_table.specs.declared.ending.Ending.TheVariants.{Disk}
 use Rattle.df_table.specs.declared.status.Status.{Status}
-use Rattle.df_table.specs.Keeping.{AreChanges, IsMidway, IsPending, KeepsTable}
-use Rattle.df_table.specs.Opening.{Finds, FindsOf}
+use Rattle.df_table.specs.Keeping.{AreChanges, IsPending, IsTableMidway, KeepsTable}
+use Rattle.df_table.specs.Opening.{FindsOf, FindsTable}
 use Rattle.df_table.specs.Outside.{Outside}
 use Rattle.df_table.specs.Policy.{opening}
-use Rattle.df_table.specs.Session.{AreCallsOf, NotOpened, Served, Serves, halted_acts, halted_answers, halted_failed}
-use Rattle.df_table.specs.Table.{IsTable}
-use Rattle.df_table.specs.Turns.{all_acts, all_answers}
+use Rattle.df_table.specs.Session.{AreCallsOf, NotOpened, Served, ServesFoundTable, halted_acts, halted_answers, halted_failed}
+use Rattle.df_table.specs.Table.{IsObjectTable}
+use Rattle.df_table.specs.Turns.{table_acts, table_answers}
 use Rattle.df_table.proofs.Asking.{ActsHave, FailHas, acts_have, asked_have, asks_ends, asks_made, changes_there, opening_has, pending_there}
 use Rattle.df_table.proofs.FoundTable.{found_is_table}
 use Rattle.df_table.proofs.Lasting.{At, at_end, each_moment, from_answer, grew}
@@ -50,24 +50,24 @@ module _ (file : DataFile) (from to : Replica) (old new : Option Told) (acts : L
   abbrev last : (failed : Option Act) → EndsCalls from to old new acts answers failed → Told
   last failed calls = told_after (events_to from to old new acts answers failed calls) n
 
-  moments_all : (failed : Option Act) (calls : EndsCalls from to old new acts answers failed) → AllKept failed → IsPending failed pending → EachMoment n.log (last failed calls).log (IsMidway file t (changes ++ pending))
+  moments_all : (failed : Option Act) (calls : EndsCalls from to old new acts answers failed) → AllKept failed → IsPending failed pending → EachMoment n.log (last failed calls).log (IsTableMidway file t (changes ++ pending))
   moments_all None calls kept is = each_moment file None to to new new pending is tt acts answers from old calls w n t changes at (kept to new calls) are
   moments_all (Some a) calls kept is =
-      subst (λ (o : Told). EachMoment n.log o.log (IsMidway file t (changes ++ pending))) (sym (told_append (events_of from old acts answers calls.0 calls.1 calls.2) calls.3.call.events n))
+      subst (λ (o : Told). EachMoment n.log o.log (IsTableMidway file t (changes ++ pending))) (sym (told_append (call_events from old acts answers calls.0 calls.1 calls.2) calls.3.call.events n))
       (each_moment file (Some a) calls.0 to calls.1 new pending is calls.3 acts answers from old calls.2 w n t changes at (kept calls.0 calls.1 calls.2) are)
 
-  end_all : (failed : Option Act) (calls : EndsCalls from to old new acts answers failed) → AllKept failed → IsPending failed pending → IsMidway file (with_commands changes t) pending (last failed calls).log
+  end_all : (failed : Option Act) (calls : EndsCalls from to old new acts answers failed) → AllKept failed → IsPending failed pending → IsTableMidway file (with_commands changes t) pending (last failed calls).log
   end_all None calls kept is = at_end file None to to new new pending is tt acts answers from old calls w n t changes at (kept to new calls) are
   end_all (Some a) calls kept is =
-      subst (λ (o : Told). IsMidway file (with_commands changes t) pending o.log) (sym (told_append (events_of from old acts answers calls.0 calls.1 calls.2) calls.3.call.events n))
+      subst (λ (o : Told). IsTableMidway file (with_commands changes t) pending o.log) (sym (told_append (call_events from old acts answers calls.0 calls.1 calls.2) calls.3.call.events n))
       (at_end file (Some a) calls.0 to calls.1 new pending is calls.3 acts answers from old calls.2 w n t changes at (kept calls.0 calls.1 calls.2) are)
 
   answered_all : (failed : Option Act) (calls : EndsCalls from to old new acts answers failed) → AllKept failed → IsPending failed pending → (k : ℕ) (log : Log) (some more : List Change) → AreChanges (take k acts) (take k answers) some → AreChanges (drop k acts) (drop k answers) more
-      → HadAnswers k (Some n) log from to old new acts answers failed calls → Extends (last failed calls).log log → IsMidway file (with_commands some t) (more ++ pending) log
+      → HadAnswers k (Some n) log from to old new acts answers failed calls → Extends (last failed calls).log log → IsTableMidway file (with_commands some t) (more ++ pending) log
   answered_all None calls kept is k log some more before after had until = from_answer file None to to new new pending is tt k acts answers from old calls w n t some more log at (kept to new calls) before after had until
   answered_all (Some a) calls kept is k log some more before after had until =
       from_answer file (Some a) calls.0 to calls.1 new pending is calls.3 k acts answers from old calls.2 w n t some more log at (kept calls.0 calls.1 calls.2) before after had
-      (subst (λ (o : Told). Extends o.log log) (told_append (events_of from old acts answers calls.0 calls.1 calls.2) calls.3.call.events n) until)
+      (subst (λ (o : Told). Extends o.log log) (told_append (call_events from old acts answers calls.0 calls.1 calls.2) calls.3.call.events n) until)
 
 -- ---- after an open
 
@@ -78,7 +78,7 @@ module _ (t : Told) (s : Replica) (mended : Option Told) (over : MendsAll t s me
   -- these acts, by whatever calls, leave the table or change it by their commands
   abbrev EachKept : List Act → List Answer → Option Act → Type 0
   EachKept acts answers failed =
-      (u : Replica) (mid : Option Told) (view : View) (base : Told) (table : Table) → base.shown ≡ t.shown → MayOpen s.file view base → IsTable s.file (unit_at s.file.layout s.file.cluster t.shown) view table
+      (u : Replica) (mid : Option Told) (view : View) (base : Told) (table : Table) → base.shown ≡ t.shown → MayOpen s.file view base → IsObjectTable s.file (unit_at s.file.layout s.file.cluster t.shown) view table
       → KeptAll s.file failed u mid s mended (begun_work s.file t.shown view) (begins base) table acts answers
 
   module _ (made : CallsMade) (acts : List Act) (answers : List Answer) (failed : Option Act) (from_is : made.from ≡ s) (old_is : made.old ≡ mended) (acts_is : made.acts ≡ acts) (answers_is : made.answers ≡ answers) (failed_is : made.failed ≡ failed)
@@ -112,7 +112,7 @@ module _ (t : Told) (s : Replica) (mended : Option Told) (over : MendsAll t s me
             record {
               is = refl;
               moments =
-                  joined (did Sync base).log n.log after.log (IsMidway s.file table (there.0 ++ pends.0)) (grew (events_made made) n) (mending_moments t s mended over whole live view base table same may is (there.0 ++ pends.0))
+                  joined (did Sync base).log n.log after.log (IsTableMidway s.file table (there.0 ++ pends.0)) (grew (events_made made) n) (mending_moments t s mended over whole live view base table same may is (there.0 ++ pends.0))
                   (moments_all s.file made.from made.to made.old made.new made.acts made.answers w n table at there.0 pends.0 there.1 made.failed made.calls kept pends.1);
               answered = λ k log some more before behind had until.
                   answered_all s.file made.from made.to made.old made.new made.acts made.answers w n table at there.0 pends.0 there.1 made.failed made.calls kept pends.1 k log some more before behind had until;
@@ -124,12 +124,12 @@ module _ (t : Told) (s : Replica) (mended : Option Told) (over : MendsAll t s me
 -- ---- a session
 
 -- what is told before its calls, and after them
-pub called_told : (layout : Layout) (s : Replica) (told : Option Told) (old new : Outside) (status : Status) (opened : Result Table Ending) (serves : Serves layout s told old new status opened) (c : CallsMade) → AreCallsOf layout s told old new status opened serves c → (c.old ≡ told) × (c.new ≡ new.told)
+pub called_told : (layout : Layout) (s : Replica) (told : Option Told) (old new : Outside) (status : Status) (opened : Result Table Ending) (serves : ServesFoundTable layout s told old new status opened) (c : CallsMade) → AreCallsOf layout s told old new status opened serves c → (c.old ≡ told) × (c.new ≡ new.told)
 called_told layout s told old new status opened (NotOpened ending last ends unread writes) c are = (are.1, are.2)
 called_told layout s told old new status opened (Served found r mid opens lines) c are = (are.1, are.2)
 
 -- a table's program asks for each of them
-pub called_have : (layout : Layout) (s : Replica) (told : Option Told) (old new : Outside) (status : Status) (opened : Result Table Ending) (serves : Serves layout s told old new status opened) (c : CallsMade) → AreCallsOf layout s told old new status opened serves c → ActsHave c.acts × FailHas c.failed
+pub called_have : (layout : Layout) (s : Replica) (told : Option Told) (old new : Outside) (status : Status) (opened : Result Table Ending) (serves : ServesFoundTable layout s told old new status opened) (c : CallsMade) → AreCallsOf layout s told old new status opened serves c → ActsHave c.acts × FailHas c.failed
 called_have layout s told old new status opened (NotOpened ending last ends unread writes) c are =
     let have = asked_have (Unit {0}) ends.failed (opening (memory s)) ends.acts ends.answers (asks_ends (opening (memory s)) s last told new.told ending ends) (opening_has (memory s)) in
     (subst ActsHave (sym are.3) have.0, subst FailHas (sym are.5) have.1)
@@ -142,7 +142,7 @@ called_have layout s told old new status opened (Served found r mid opens lines)
 -- of all calls of a session the table is kept
 abbrev pub SessionsKeepTable : Type 0
 SessionsKeepTable =
-    (layout : Layout) (t : Told) (s : Replica) (mended : Option Told) (over : MendsAll t s mended) (old new : Outside) (status : Status) (opened : Result Table Ending) (serves : Serves layout s mended old new status opened) (made : CallsMade)
+    (layout : Layout) (t : Told) (s : Replica) (mended : Option Told) (over : MendsAll t s mended) (old new : Outside) (status : Status) (opened : Result Table Ending) (serves : ServesFoundTable layout s mended old new status opened) (made : CallsMade)
     → IsImage t.shown → s.live ≡ true → s.file.layout ≡ layout → FindsOf layout (shown_of s.file t.shown) (memory s) opened → AreCallsOf layout s mended old new status opened serves made → KeepsTable t s over.mending.events made
 
 no_disk : (x : Table) → Ok x ≡ Err Disk → ⊥
@@ -159,7 +159,7 @@ sessions_keep layout t s mended over old new status opened (Served found r mid o
     let answers = halted_answers layout lines.replica lines.mid lines.table lines.halt lines.last new.told lines.halts in
     let failed = halted_failed layout lines.replica lines.mid lines.table lines.halt lines.last new.told lines.halts in
     let asks = asks_made (opening (memory s)) s r mended mid opens.acts opens.answers opens.calls opens.are opens.accepted in
-    keeps_table t s mended over whole live made (opens.acts ++ (all_acts lines.turns ++ acts)) (opens.answers ++ (all_answers lines.turns ++ answers)) failed are.0 are.1 are.3 are.4 are.5
+    keeps_table t s mended over whole live made (opens.acts ++ (table_acts lines.turns ++ acts)) (opens.answers ++ (table_answers lines.turns ++ answers)) failed are.0 are.1 are.3 are.4 are.5
     (called_have layout s mended old new status opened (Served found r mid opens lines) made are)
     (λ u new_told view base table same may is.
     let w = begun_work s.file t.shown view in
@@ -172,9 +172,9 @@ sessions_keep layout t s mended over old new status opened (Served found r mid o
       | inr finds_it ↦
           table_is_one s.file (unit_at s.file.layout s.file.cluster t.shown) view table found is
           (found_is_table s.file t view found whole there
-          (subst (λ (m : Memory). Finds s.file.layout (shown_of s.file t.shown) m (Ok found)) stands.1 (subst (λ (l : Layout). Finds l (shown_of s.file t.shown) (memory s) (Ok found)) (sym own) finds_it)))
+          (subst (λ (m : Memory). FindsTable s.file.layout (shown_of s.file t.shown) m (Ok found)) stands.1 (subst (λ (l : Layout). FindsTable l (shown_of s.file t.shown) (memory s) (Ok found)) (sym own) finds_it)))
     ] in
     let behind = acts_stand s.file opens.acts opens.answers s r mended mid opens.calls w refl stands in
-    opening_then s.file failed u new_told s mended w n table at opens.acts opens.answers (all_acts lines.turns ++ acts) (all_answers lines.turns ++ answers) (memory s) asks
+    opening_then s.file failed u new_told s mended w n table at opens.acts opens.answers (table_acts lines.turns ++ acts) (table_answers lines.turns ++ answers) (memory s) asks
     (λ s' old' w' n' t' here so work.
     lines_kept s.file u new_told layout own lines.turns r lines.replica lines.last mid lines.mid new.told found lines.table lines.halt lines.are lines.halts behind.0 s' old' w' n' t' here (so ∙ one) (subst (λ (v : Work). Keeps Firm r v None) (sym work) behind.1)))

@@ -26,9 +26,9 @@ use Rattle.df_session.specs.Following.{MayOpen}
 use Rattle.df_session.specs.Opened.{MendsAll, begun_state}
 use Rattle.df_session.specs.Serving.{Whole, format}
 use Rattle.df_session.proofs.Laws.{calls_keep}
-use Rattle.df_table.specs.Keeping.{IsMidway}
-use Rattle.df_table.specs.Table.{IsTable, ShowsBodies, references_of}
-use Rattle.df_table.specs.Written.{IsTableIn, IsWritten}
+use Rattle.df_table.specs.Keeping.{IsTableMidway}
+use Rattle.df_table.specs.Table.{IsObjectTable, ShowsBodies, references_of}
+use Rattle.df_table.specs.Written.{IsTableIn, WasUnitWritten}
 use Rattle.df_table.proofs.Lasting.{At, grew, mid_of, none_taken, table_later}
 use Rattle.df_table.proofs.Leads.{table_bare}
 use Rattle.df_table.proofs.Written.{bodies_as, in_pools, table_as}
@@ -36,10 +36,10 @@ use Rattle.df_table.proofs.Written.{bodies_as, in_pools, table_as}
 -- ---- what is shown was written
 
 module _ (log : UnitLog) (image : Units) (chance : NoChance log image) where
-  pub table_written : (file : DataFile) (v : View) (t : Table) → IsTable file image v t → IsTableIn file log v t
+  pub table_written : (file : DataFile) (v : View) (t : Table) → IsObjectTable file image v t → IsTableIn file log v t
   table_written file v t is =
-      let written : (place : Place) (x : AnyUnit) → image place ≡ Some x → IsWritten log place x = λ place x there. in_pools log.start log.events place x (chance.pooled place x there) in
-      table_as (λ place unit. image place ≡ Some unit) (IsWritten log) file v t (bodies_as (λ place unit. image place ≡ Some unit) (IsWritten log) written (references_of file v)) is
+      let written : (place : Place) (x : AnyUnit) → image place ≡ Some x → WasUnitWritten log place x = λ place x there. in_pools log.start log.events place x (chance.pooled place x there) in
+      table_as (λ place unit. image place ≡ Some unit) (WasUnitWritten log) file v t (bodies_as (λ place unit. image place ≡ Some unit) (WasUnitWritten log) written (references_of file v)) is
 
 -- ---- each block is shown that is referenced
 
@@ -64,7 +64,7 @@ module _ (image : Units) (f : ℕ → Option ℕ) where
 -- ---- an open
 
 module _ (t : Told) (s : Replica) (mended : Option Told) (over : MendsAll t s mended) (whole : IsImage t.shown) (live : s.live ≡ true) (view : View) (base : Told) (table : Table) (same : base.shown ≡ t.shown) (may : MayOpen s.file view base)
-    (is : IsTable s.file (unit_at s.file.layout s.file.cluster t.shown) view table) where
+    (is : IsObjectTable s.file (unit_at s.file.layout s.file.cluster t.shown) view table) where
   abbrev pub behind : Told
   behind = told_after over.mending.events (did Sync base)
 
@@ -86,7 +86,7 @@ module _ (t : Told) (s : Replica) (mended : Option Told) (over : MendsAll t s me
   at_base : IsTableIn s.file (units_log (format s.file) base.log) view table
   at_base =
       table_written (units_log (format s.file) base.log) ((format s.file).unit_at (logs.now base.log)) may.no_chance s.file view table
-      (subst (λ (image : Image). IsTable s.file (unit_at s.file.layout s.file.cluster image) view table) (sym shows) is)
+      (subst (λ (image : Image). IsObjectTable s.file (unit_at s.file.layout s.file.cluster image) view table) (sym shows) is)
 
   at_barrier : IsTableIn s.file (units_log (format s.file) (did Sync base).log) view table
   at_barrier = table_later s.file base.log (did Sync base).log view table (Sync ∷ [], refl, refl) at_base
@@ -101,7 +101,7 @@ module _ (t : Told) (s : Replica) (mended : Option Told) (over : MendsAll t s me
   }
 
   -- and so it is at each moment of its mending, whatever is done after it
-  pub mending_moments : (changes : List Change) → EachMoment (did Sync base).log behind.log (IsMidway s.file table changes)
+  pub mending_moments : (changes : List Change) → EachMoment (did Sync base).log behind.log (IsTableMidway s.file table changes)
   mending_moments changes log moment =
       let opens = over.over Whole view base same may stands in
       let later : View = kept (begun_state s.file base view s.fields) in

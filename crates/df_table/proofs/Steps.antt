@@ -7,18 +7,18 @@ use Rattle.df_model.specs.Commands.{Advance, Command}
 use Rattle.df_session.specs.Below.{RunningState, State as Replica}
 use Rattle.df_session.specs.Stepping.{OfRunning, advanced, finished}
 use Rattle.df_table.specs.declared.ending.Ending.{Ending}
-use Rattle.df_table.specs.Calls.{IsRunning, Stepped}
+use Rattle.df_table.specs.Calls.{CheckpointStepped, IsCheckpointing}
 use Rattle.df_table.specs.Ready.{IsFinished}
 use Rattle.df_table.specs.Turns.{EndIn, MakeAll}
 use Rattle.df_table.proofs.Joined.{end_more, make_more}
 
 -- ---- states
 
-runs_on : (s t : Replica) (running : Option RunningState) → OfRunning running (λ r. (s.blocks.left ≢ []) × (t ≡ advanced s r)) → IsRunning t
+runs_on : (s t : Replica) (running : Option RunningState) → OfRunning running (λ r. (s.blocks.left ≢ []) × (t ≡ advanced s r)) → IsCheckpointing t
 runs_on s t None is = absurd is
-runs_on s t (Some r) is = subst (λ (u : Replica). IsRunning u) (sym is.1) tt
+runs_on s t (Some r) is = subst (λ (u : Replica). IsCheckpointing u) (sym is.1) tt
 
-pub still_runs : (s t : Replica) → Stepped false s t → IsRunning t
+pub still_runs : (s t : Replica) → CheckpointStepped false s t → IsCheckpointing t
 still_runs s t is = runs_on s t s.running is
 
 one_less : (s : Replica) (r : RunningState) (left : List ℕ) → left ≢ [] → length (advanced (record s { blocks = record s.blocks { left = left } }) r).blocks.left < length left
@@ -29,7 +29,7 @@ less : (s t : Replica) (running : Option RunningState) → OfRunning running (λ
 less s t None is = absurd is
 less s t (Some r) is = subst (λ (u : Replica). length u.blocks.left < length s.blocks.left) (sym is.1) (one_less s r s.blocks.left is.0)
 
-pub fewer : (s t : Replica) → Stepped false s t → length t.blocks.left < length s.blocks.left
+pub fewer : (s t : Replica) → CheckpointStepped false s t → length t.blocks.left < length s.blocks.left
 fewer s t is = less s t s.running is
 
 -- ---- a checkpoint from its begin on
@@ -82,7 +82,7 @@ module _ (r : RunningState) (s t u : Replica) (is : IsUnder r s t) where
         chain = one.2 ∙ is.chain;
       })
 
-  pub under_more : Stepped false t u → IsUnder r s u
+  pub under_more : CheckpointStepped false t u → IsUnder r s u
   under_more step = more_under t.running is.running step
 
   done_under : (running : Option RunningState) → OfRunning running (λ q. q.op ≡ r.op) → OfRunning running (λ q. (t.blocks.left ≡ []) × (u ≡ finished t q)) → IsFinished r s u
@@ -101,7 +101,7 @@ module _ (r : RunningState) (s t u : Replica) (is : IsUnder r s t) where
         live = is.live;
       })
 
-  pub under_done : Stepped true t u → IsFinished r s u
+  pub under_done : CheckpointStepped true t u → IsFinished r s u
   under_done step = done_under t.running is.running step
 
 -- ---- calls

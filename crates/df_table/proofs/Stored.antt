@@ -6,7 +6,7 @@ use Rattle.df_format.specs.declared.header.Header.{Header}
 use Rattle.df_layout.specs.declared.layout.Layout.{Layout}
 use Rattle.df_sessions.specs.declared.session.Session as told
 use Rattle.df_sessions.specs.Requests.{session_of, sessions_of}
-use Rattle.df_sessions.specs.Table.{requested, with_reply, with_request}
+use Rattle.df_sessions.specs.Table.{requested, with_reply_stored, with_request}
 use Rattle.df_theory.specs.Units.{Session}
 use Rattle.df_model.specs.Commands.{Answer, Command}
 use Rattle.df_model.specs.Work.{Work}
@@ -17,7 +17,7 @@ use Rattle.df_session.specs.Links.{AreCalls}
 use Rattle.df_session.specs.Serving.{Firm, Keeps, next}
 use Rattle.df_session.specs.Session.{Act}
 use Rattle.df_table.specs.Policy.{the_client}
-use Rattle.df_table.specs.Ready.{IsReady}
+use Rattle.df_table.specs.Ready.{IsReadyReplica}
 use Rattle.df_table.specs.Turns.{MakeAll}
 use Rattle.df_table.proofs.Fine.{AreOwn}
 
@@ -58,7 +58,7 @@ request_own request op [] own = (refl, tt)
 request_own request op (x ∷ ss) own =
     subst (λ (b : Bool). AllOwn (if b then requested the_client request op ∷ ss else x ∷ with_request the_client request op ss)) (sym (eq-eqb x.client the_client own.0)) (refl, own.1)
 
-reply_own : (place : ℕ) (check : List ℕ) (ss : List told.Session) → AllOwn ss → AllOwn (with_reply place check ss)
+reply_own : (place : ℕ) (check : List ℕ) (ss : List told.Session) → AllOwn ss → AllOwn (with_reply_stored place check ss)
 reply_own zero check [] own = tt
 reply_own (suc place) check [] own = tt
 reply_own zero check (x ∷ ss) own = (own.0, own.1)
@@ -66,11 +66,11 @@ reply_own (suc place) check (x ∷ ss) own = (own.0, reply_own place check ss ow
 
 -- ---- the state after both
 
-module _ (layout : Layout) (s : Replica) (ready : IsReady layout s) (request : ℕ) (body : List ℕ) (h : Header) where
+module _ (layout : Layout) (s : Replica) (ready : IsReadyReplica layout s) (request : ℕ) (body : List ℕ) (h : Header) where
   abbrev behind : Replica
   behind = replied (appended s (next_unit s the_client request body)) h
 
-  ready_behind : (u : Work) → Keeps Firm behind u None → IsReady layout behind
+  ready_behind : (u : Work) → Keeps Firm behind u None → IsReadyReplica layout behind
   ready_behind u keeps = record {
     live = ready.live;
     work = u;
@@ -85,8 +85,8 @@ module _ (layout : Layout) (s : Replica) (ready : IsReady layout s) (request : �
     space = record { live = ready.space.live; few = ready.space.few; chain = ready.space.chain };
   }
 
-  pub ready_stored : (v t : Replica) (old new : Option Told) (commands : List Command) → v ≡ appended s (next_unit s the_client request body) → t ≡ replied v h → MakeAll commands s t old new → IsReady layout t
+  pub ready_stored : (v t : Replica) (old new : Option Told) (commands : List Command) → v ≡ appended s (next_unit s the_client request body) → t ≡ replied v h → MakeAll commands s t old new → IsReadyReplica layout t
   ready_stored v t old new commands one two made =
       let is : t ≡ behind = two ∙ ap (λ (r : Replica). replied r h) one in
       let keeps = makes_keep commands s t old new made ready.work ready.stands in
-      subst (λ (r : Replica). IsReady layout r) (sym is) (ready_behind keeps.0 (subst (λ (r : Replica). Keeps Firm r keeps.0 None) is keeps.1))
+      subst (λ (r : Replica). IsReadyReplica layout r) (sym is) (ready_behind keeps.0 (subst (λ (r : Replica). Keeps Firm r keeps.0 None) is keeps.1))

@@ -6,7 +6,7 @@ use Rattle.df_model.specs.Commands.{Answer, Command}
 use Rattle.df_model.specs.Memory.{Memory, memory_of}
 use Rattle.df_model.specs.Work.{Work}
 use Rattle.df_rows.specs.declared.command.Command.{Command as Change}
-use Rattle.df_rows.specs.Lines.{accepted, behind}
+use Rattle.df_rows.specs.Lines.{accepted, table_after}
 use Rattle.df_rows.specs.Tables.{Table, with_commands}
 use Rattle.df_session.specs.Below.{DataFile, State as Replica, memory, shape, spelling}
 use Rattle.df_session.specs.Links.{AreCalls}
@@ -14,7 +14,7 @@ use Rattle.df_session.specs.Serving.{Firm, Keeps, next}
 use Rattle.df_session.specs.Session.{Act, work_after}
 use Rattle.df_table.specs.Policy.{line_commands, opening}
 use Rattle.df_table.specs.Session.{Halt, HaltsIn, halted_acts, halted_answers, halted_failed}
-use Rattle.df_table.specs.Turns.{AreFit, AreTurns, Turn, all_acts, all_answers, commands_of}
+use Rattle.df_table.specs.Turns.{AreFit, AreTurns, TableTurn, commands_of, table_acts, table_answers}
 use Rattle.df_table.proofs.Asking.{ActsHave, AsksOne, FailHas, acts_have, asked_have, asks_ends, asks_made, line_has, one_asked, opening_plain}
 use Rattle.df_table.proofs.Lasting.{At, FailKept}
 use Rattle.df_table.proofs.Walked.{Asks, KeptAll, walk_change, walk_plain}
@@ -133,9 +133,9 @@ halt_kept file u new layout own r last told told' table (Some h) halts same s ol
     line_to_end file e.failed u new s old w n t at e.acts e.answers (memory r) halts.0 cs (subst (λ (z : Table). AsksOne z cs) (sym so) (one_asked table h.said)) halts.2 (memory_there file r w same stands) asks
 
 -- those of all lines
-pub lines_kept : (file : DataFile) (u : Replica) (new : Option Told) (layout : Layout) → file.layout ≡ layout → (turns : List Turn) (r q last : Replica) (told mid told' : Option Told) (table later : Table) (halt : Option Halt) → AreTurns layout r told table turns q mid later
+pub lines_kept : (file : DataFile) (u : Replica) (new : Option Told) (layout : Layout) → file.layout ≡ layout → (turns : List TableTurn) (r q last : Replica) (told mid told' : Option Told) (table later : Table) (halt : Option Halt) → AreTurns layout r told table turns q mid later
     → (halts : HaltsIn layout q mid later halt last told') → r.file ≡ file → (s : Replica) (old : Option Told) (w : Work) (n : Told) (t : Table) → At file s w n t → t ≡ table → Keeps Firm r w None
-    → KeptAll file (halted_failed layout q mid later halt last told' halts) u new s old w n t (all_acts turns ++ halted_acts layout q mid later halt last told' halts) (all_answers turns ++ halted_answers layout q mid later halt last told' halts)
+    → KeptAll file (halted_failed layout q mid later halt last told' halts) u new s old w n t (table_acts turns ++ halted_acts layout q mid later halt last told' halts) (table_answers turns ++ halted_answers layout q mid later halt last told' halts)
 lines_kept file u new layout own [] r q last told mid told' table later halt are halts same s old w n t at so stands =
     halt_kept file u new layout own q last mid told' later halt halts (ap (λ (x : Replica). x.file) are.0 ∙ same) s old w n t at (so ∙ sym are.2) (subst (λ (x : Replica). Keeps Firm x w None) (sym are.0) stands)
 lines_kept file u new layout own (x ∷ turns) r q last told mid told' table later halt are halts same s old w n t at so stands =
@@ -147,11 +147,11 @@ lines_kept file u new layout own (x ∷ turns) r q last told mid told' table lat
     subst (λ (l : Layout). Asks ⊥ None (line_commands l (memory r) t.rows are.2 cs) x.acts x.answers) (sym own)
     (subst (λ (z : Table). Asks ⊥ None (line_commands layout (memory r) z.rows are.2 cs) x.acts x.answers) (sym so) (asks_made (commands_of layout r table are.2 x.said) r are.0 told are.1 x.acts x.answers are.4 are.3 are.5)) in
     let then = acts_stand file x.acts x.answers r are.0 told are.1 are.4 w same stands in
-    by_lists file failed u new s old w n t ((x.acts ++ all_acts turns) ++ acts) (x.acts ++ (all_acts turns ++ acts)) ((x.answers ++ all_answers turns) ++ answers) (x.answers ++ (all_answers turns ++ answers)) (append_assoc x.acts (all_acts turns) acts)
-    (append_assoc x.answers (all_answers turns) answers)
-    (line_then file failed u new s old w n t at x.acts x.answers (all_acts turns ++ acts) (all_answers turns ++ answers) (memory r) are.2 cs (subst (λ (z : Table). AsksOne z cs) (sym so) (one_asked table x.said)) are.6 (memory_there file r w same stands) asks
+    by_lists file failed u new s old w n t ((x.acts ++ table_acts turns) ++ acts) (x.acts ++ (table_acts turns ++ acts)) ((x.answers ++ table_answers turns) ++ answers) (x.answers ++ (table_answers turns ++ answers)) (append_assoc x.acts (table_acts turns) acts)
+    (append_assoc x.answers (table_answers turns) answers)
+    (line_then file failed u new s old w n t at x.acts x.answers (table_acts turns ++ acts) (table_answers turns ++ answers) (memory r) are.2 cs (subst (λ (z : Table). AsksOne z cs) (sym so) (one_asked table x.said)) are.6 (memory_there file r w same stands) asks
     (λ s' old' w' n' t' here more_so work.
-    lines_kept file u new layout own turns are.0 q last are.1 mid told' (behind table x.said) later halt are.7 halts then.0 s' old' w' n' t' here (more_so ∙ ap (with_commands cs) so) (subst (λ (v : Work). Keeps Firm are.0 v None) (sym work) then.1)))
+    lines_kept file u new layout own turns are.0 q last are.1 mid told' (table_after table x.said) later halt are.7 halts then.0 s' old' w' n' t' here (more_so ∙ ap (with_commands cs) so) (subst (λ (v : Work). Keeps Firm are.0 v None) (sym work) then.1)))
 
 -- ---- which puts and drops are among them
 
@@ -161,15 +161,15 @@ halt_has layout r last told told' table (Some h) halts =
     let e = halts.1 in
     asked_have (Unit {0}) e.failed (commands_of layout r table halts.0 h.said) e.acts e.answers (asks_ends (commands_of layout r table halts.0 h.said) r last told told' h.ending e) (line_has layout (memory r) table.rows halts.0 (accepted table h.said) halts.2)
 
-turns_have : (layout : Layout) (turns : List Turn) (r q : Replica) (told mid : Option Told) (table later : Table) → AreTurns layout r told table turns q mid later → ActsHave (all_acts turns)
+turns_have : (layout : Layout) (turns : List TableTurn) (r q : Replica) (told mid : Option Told) (table later : Table) → AreTurns layout r told table turns q mid later → ActsHave (table_acts turns)
 turns_have layout [] r q told mid table later are = tt
 turns_have layout (x ∷ turns) r q told mid table later are =
-    acts_have x.acts (all_acts turns)
+    acts_have x.acts (table_acts turns)
     (asked_have ⊥ None (commands_of layout r table are.2 x.said) x.acts x.answers (asks_made (commands_of layout r table are.2 x.said) r are.0 told are.1 x.acts x.answers are.4 are.3 are.5) (line_has layout (memory r) table.rows are.2 (accepted table x.said) are.6)).0
-    (turns_have layout turns are.0 q are.1 mid (behind table x.said) later are.7)
+    (turns_have layout turns are.0 q are.1 mid (table_after table x.said) later are.7)
 
-pub lines_have : (layout : Layout) (turns : List Turn) (r q last : Replica) (told mid told' : Option Told) (table later : Table) (halt : Option Halt) → AreTurns layout r told table turns q mid later → (halts : HaltsIn layout q mid later halt last told')
-    → ActsHave (all_acts turns ++ halted_acts layout q mid later halt last told' halts) × FailHas (halted_failed layout q mid later halt last told' halts)
+pub lines_have : (layout : Layout) (turns : List TableTurn) (r q last : Replica) (told mid told' : Option Told) (table later : Table) (halt : Option Halt) → AreTurns layout r told table turns q mid later → (halts : HaltsIn layout q mid later halt last told')
+    → ActsHave (table_acts turns ++ halted_acts layout q mid later halt last told' halts) × FailHas (halted_failed layout q mid later halt last told' halts)
 lines_have layout turns r q last told mid told' table later halt are halts =
     let ends = halt_has layout q last mid told' later halt halts in
-    (acts_have (all_acts turns) (halted_acts layout q mid later halt last told' halts) (turns_have layout turns r q told mid table later are) ends.0, ends.1)
+    (acts_have (table_acts turns) (halted_acts layout q mid later halt last told' halts) (turns_have layout turns r q told mid table later are) ends.0, ends.1)

@@ -9,14 +9,14 @@ use Rattle.df_model.specs.Commands.{Command, ReadBlock}
 use Rattle.df_model.specs.Memory.{Memory}
 use Rattle.df_model.specs.Supply.{Shown, block_read}
 use Rattle.df_model.proofs.Laws.{entry_at}
-use Rattle.df_rows.specs.Blocks.{Takes, TakesAll}
+use Rattle.df_rows.specs.Blocks.{TableTakes, TakesAll}
 use Rattle.df_rows.specs.Limits.{blocks_of_table}
 use Rattle.df_rows.specs.Rows.{Entry}
 use Rattle.df_rows.specs.Tables.{Table, with_rows}
 use Rattle.df_table.specs.declared.ending.Ending.{Ending}
 use Rattle.df_table.specs.declared.ending.Ending.TheVariants.{Damaged, Disk, NotTable, OpsSpent, SequenceSpent}
 use Rattle.df_table.specs.declared.opening.Taken.{Taken}
-use Rattle.df_table.specs.Opening.{AreRead, AreTaken, BlockHurt, Finds, FindsOf, NoneIsOther, OtherBlock, ReadsNext}
+use Rattle.df_table.specs.Opening.{AreReadBlocks, AreTakenBlocks, BlockHurt, FindsOf, FindsTable, NoneIsOther, OtherBlock, ReadsNext}
 use Rattle.df_table.specs.Calls.{Comes}
 use Rattle.df_table.specs.Policy.{block_reads, reads_at}
 use Rattle.df_table.specs.Table.{empty_table}
@@ -29,14 +29,14 @@ use Rattle.df_layout.specs.declared.places.Place.{Place}
 
 -- ---- one more
 
-read_more : (shown : Shown) (m : Memory) (xs : List (ℕ × ℕ)) (bodies : List (List ℕ)) (x : ℕ × ℕ) (b : Block) → AreRead shown m xs bodies → block_read shown m (ReadBlock x.0) ≡ Ok b → AreRead shown m (xs ++ x ∷ []) (bodies ++ b.body ∷ [])
+read_more : (shown : Shown) (m : Memory) (xs : List (ℕ × ℕ)) (bodies : List (List ℕ)) (x : ℕ × ℕ) (b : Block) → AreReadBlocks shown m xs bodies → block_read shown m (ReadBlock x.0) ≡ Ok b → AreReadBlocks shown m (xs ++ x ∷ []) (bodies ++ b.body ∷ [])
 read_more shown m [] [] x b are is = ((b, is, refl), tt)
 read_more shown m [] (body ∷ bodies) x b are is = absurd are
 read_more shown m (y ∷ xs) [] x b are is = absurd are
 read_more shown m (y ∷ xs) (body ∷ bodies) x b are is = (are.0, read_more shown m xs bodies x b are.1 is)
 
-takes_more : (t u : Table) (bodies : List (List ℕ)) (body : List ℕ) (es : List Entry) → TakesAll t bodies u → Takes u body es → TakesAll t (bodies ++ body ∷ []) (with_rows es u)
-takes_more t u [] body es all one = (es, subst (λ (k : Table). Takes k body es) all one, ap (with_rows es) all)
+takes_more : (t u : Table) (bodies : List (List ℕ)) (body : List ℕ) (es : List Entry) → TakesAll t bodies u → TableTakes u body es → TakesAll t (bodies ++ body ∷ []) (with_rows es u)
+takes_more t u [] body es all one = (es, subst (λ (k : Table). TableTakes k body es) all one, ap (with_rows es) all)
 takes_more t u (b ∷ bodies) body es all one = (all.0, all.1, takes_more (with_rows all.0 t) u bodies body es all.2 one)
 
 unok : (x y : Taken) (r : Result Taken Ending) → r ≡ Ok x → r ≡ Ok y → x ≡ y
@@ -49,7 +49,7 @@ no_ok e x r one two = cc
 
 -- Of n addresses those up to b were gone through, and so many of them were live: their blocks are a table.
 pub record IsTaking (layout : Layout) (shown : Shown) (m : Memory) (f : ℕ → Option ℕ) (n b : ℕ) (t : Table) (taken : ℕ) : Type 0 where
-  pub are : AreTaken layout shown m (entries f (range_with_len (b + 1) (n - b))) t
+  pub are : AreTakenBlocks layout shown m (entries f (range_with_len (b + 1) (n - b))) t
   pub count : taken ≡ length are.before
 
 module _ (layout : Layout) (shown : Shown) (m : Memory) (f : ℕ → Option ℕ) (n : ℕ) (live : m.blocks.live ≡ entries f (range_with_len 1 n)) where
@@ -79,7 +79,7 @@ module _ (layout : Layout) (shown : Shown) (m : Memory) (f : ℕ → Option ℕ)
         one_more : n - b ≡ suc (n - (b + 1))
         one_more = omega (arith, less)
 
-    abbrev split : (o : Option ℕ) → sum_at (b + 1) m.blocks.live ≡ o → AreTaken layout shown m (entry (b + 1) o rest) t
+    abbrev split : (o : Option ℕ) → sum_at (b + 1) m.blocks.live ≡ o → AreTakenBlocks layout shown m (entry (b + 1) o rest) t
     split o found = record {
       own = is.are.own;
       before = is.are.before;
@@ -95,7 +95,7 @@ module _ (layout : Layout) (shown : Shown) (m : Memory) (f : ℕ → Option ℕ)
     taking_on none = record { are = split None none; count = is.count }
 
     -- the block of the next address is taken
-    pub taking_more : (c : ℕ) → sum_at (b + 1) m.blocks.live ≡ Some c → (block : Block) → block_read shown m (ReadBlock (b + 1)) ≡ Ok block → taken < blocks_of_table layout → (es : List Entry) → Takes t block.body es → IsTaking layout shown m f n (b + 1) (with_rows es t) (taken + 1)
+    pub taking_more : (c : ℕ) → sum_at (b + 1) m.blocks.live ≡ Some c → (block : Block) → block_read shown m (ReadBlock (b + 1)) ≡ Ok block → taken < blocks_of_table layout → (es : List Entry) → TableTakes t block.body es → IsTaking layout shown m f n (b + 1) (with_rows es t) (taken + 1)
     taking_more c some block shows room es takes = record {
       are = record {
         own = is.are.own;
@@ -125,10 +125,10 @@ module _ (layout : Layout) (shown : Shown) (m : Memory) (f : ℕ → Option ℕ)
     taking_ends None none ending reads = absurd (no_ok ending x (Err ending) refl reads)
     taking_ends (Some c) some Disk reads = inl refl
     taking_ends (Some c) some (Damaged place class) reads =
-        inr (subst (λ (p : Place). Finds layout shown m (Err (Damaged p class))) (sym reads.0) (BlockHurt (b + 1, c) (rest b less x.table x.count is) x.table class (split b less x.table x.count is (Some c) some) reads.1))
+        inr (subst (λ (p : Place). FindsTable layout shown m (Err (Damaged p class))) (sym reads.0) (BlockHurt (b + 1, c) (rest b less x.table x.count is) x.table class (split b less x.table x.count is (Some c) some) reads.1))
     taking_ends (Some c) some (NotTable place) reads =
         let takes = reads.2 in
-        inr (subst (λ (p : Place). Finds layout shown m (Err (NotTable p))) (sym takes.0)
+        inr (subst (λ (p : Place). FindsTable layout shown m (Err (NotTable p))) (sym takes.0)
         (OtherBlock (b + 1, c) (rest b less x.table x.count is) x.table reads.0 (split b less x.table x.count is (Some c) some) reads.1 (elim takes.1 [
           | inl norows ↦ inl norows
           | inr full ↦ inr (subst (λ (k : ℕ). blocks_of_table layout ≤ k) is.count full)
@@ -137,8 +137,8 @@ module _ (layout : Layout) (shown : Shown) (m : Memory) (f : ℕ → Option ℕ)
     taking_ends (Some c) some SequenceSpent reads = absurd reads
 
   -- all were gone through
-  pub taking_all : (b : ℕ) (t : Table) (taken : ℕ) → b ≡ n → IsTaking layout shown m f n b t taken → AreTaken layout shown m [] t
-  taking_all b t taken all is = subst (λ (l : List (ℕ × ℕ)). AreTaken layout shown m l t) (ap (λ (k : ℕ). entries f (range_with_len (b + 1) k)) none_left) is.are
+  pub taking_all : (b : ℕ) (t : Table) (taken : ℕ) → b ≡ n → IsTaking layout shown m f n b t taken → AreTakenBlocks layout shown m [] t
+  taking_all b t taken all is = subst (λ (l : List (ℕ × ℕ)). AreTakenBlocks layout shown m l t) (ap (λ (k : ℕ). entries f (range_with_len (b + 1) k)) none_left) is.are
     where
       none_left : n - b ≡ 0
       none_left = omega (arith, all)

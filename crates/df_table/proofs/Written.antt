@@ -11,8 +11,8 @@ use Rattle.df_theory.specs.Holds.{Stands}
 use Rattle.df_theory.specs.UnitLog.{UnitEvent, UnitLog}
 use Rattle.df_theory.specs.Units.{AnyUnit, Block, BlockPlace, BlockUnit, Place, Units}
 use Rattle.df_theory.specs.View.{View}
-use Rattle.df_table.specs.Table.{HaveBodies, IsTable, IsTableBy, ShowsBodies, ShowsBody, references_of}
-use Rattle.df_table.specs.Written.{IsTableIn, IsWritten, WroteBodies, WroteBody}
+use Rattle.df_table.specs.Table.{HaveBodies, IsObjectTable, IsTableBy, ShowsBodies, ShowsBody, references_of}
+use Rattle.df_table.specs.Written.{IsTableIn, WasUnitWritten, WroteBodies, WroteBody}
 
 -- ---- what is said of places alone
 
@@ -60,24 +60,24 @@ module _ (log : UnitLog) (image : Units) (chance : NoChance log image) where
     all_shown (a ∷ places) bodies wrote = entry_shown a places (all_shown places) (f a) refl bodies wrote
 
   -- the table of an image that stands is that of the log
-  pub table_shown : (file : DataFile) (v : View) (t : Table) → Stands image v → IsTableIn file log v t → IsTable file image v t
-  table_shown file v t stands is = table_as (IsWritten log) (λ place unit. image place ≡ Some unit) file v t (all_shown v.checkpoint.parts.references stands (addresses (shape file).layout)) is
+  pub table_shown : (file : DataFile) (v : View) (t : Table) → Stands image v → IsTableIn file log v t → IsObjectTable file image v t
+  table_shown file v t stands is = table_as (WasUnitWritten log) (λ place unit. image place ≡ Some unit) file v t (all_shown v.checkpoint.parts.references stands (addresses (shape file).layout)) is
 
 -- ---- later
 
 module _ (f : Format) (place : Place) (x : AnyUnit) where
-  written_add : (e : Event) (log : Log) → IsWritten (units_log f log) place x → IsWritten (units_log f (add e log)) place x
+  written_add : (e : Event) (log : Log) → WasUnitWritten (units_log f log) place x → WasUnitWritten (units_log f (add e log)) place x
   written_add (Write at bytes) log is = inr is
   written_add Sync log is = inr is
   written_add (Stop changes) log is = inr is
 
-  pub written_on : (es : List Event) (log : Log) → IsWritten (units_log f log) place x → IsWritten (units_log f (adds es log)) place x
+  pub written_on : (es : List Event) (log : Log) → WasUnitWritten (units_log f log) place x → WasUnitWritten (units_log f (adds es log)) place x
   written_on [] log is = is
   written_on (e ∷ es) log is = written_on es (add e log) (written_add e log is)
 
 pub bodies_on : (f : Format) (es : List Event) (log : Log) (references : List (ℕ × ℕ)) (bodies : List (List ℕ)) → WroteBodies (units_log f log) references bodies → WroteBodies (units_log f (adds es log)) references bodies
-bodies_on f es log references bodies wrote = bodies_as (IsWritten (units_log f log)) (IsWritten (units_log f (adds es log))) (λ place x is. written_on f place x es log is) references bodies wrote
+bodies_on f es log references bodies wrote = bodies_as (WasUnitWritten (units_log f log)) (WasUnitWritten (units_log f (adds es log))) (λ place x is. written_on f place x es log is) references bodies wrote
 
 -- and so is the table, whatever is done
 pub table_on : (file : DataFile) (f : Format) (es : List Event) (log : Log) (v : View) (t : Table) → IsTableIn file (units_log f log) v t → IsTableIn file (units_log f (adds es log)) v t
-table_on file f es log v t is = table_as (IsWritten (units_log f log)) (IsWritten (units_log f (adds es log))) file v t (bodies_on f es log (references_of file v)) is
+table_on file f es log v t is = table_as (WasUnitWritten (units_log f log)) (WasUnitWritten (units_log f (adds es log))) file v t (bodies_on f es log (references_of file v)) is

@@ -17,7 +17,7 @@ use Rattle.df_session.specs.Stepping.{OfRunning, advanced, finished}
 use Rattle.df_table.specs.declared.ending.Ending.{Ending}
 use Rattle.df_table.specs.declared.ending.Ending.TheVariants.{OpsSpent}
 use Rattle.df_table.specs.Policy.{checkpoint, line_commands, opening, room_for, the_client, writes}
-use Rattle.df_table.specs.Ready.{IsReady}
+use Rattle.df_table.specs.Ready.{IsReadyReplica}
 use Rattle.df_table.specs.Turns.{EndIn, IsOfCall, MakeAll}
 
 -- all of these commands were made and accepted; or the first of them were made, and this ended them
@@ -28,8 +28,8 @@ Comes commands s t old new (Err ending) = EndIn commands s t old new ending
 -- ---- what may be refused
 
 -- no reason refuses an append, but that no op is left
-abbrev pub MayAppend : Replica → (request : ℕ) → List ℕ → Type 0
-MayAppend s request body =
+abbrev pub MayAppendCommand : Replica → (request : ℕ) → List ℕ → Type 0
+MayAppendCommand s request body =
     let refusal = first_refusal (append_refusals (memory s) the_client request body) in
     (refusal ≡ None) ⊎ (refusal ≡ Some append.OpsSpent)
 
@@ -38,8 +38,8 @@ abbrev pub MayBegin : Replica → Type 0
 MayBegin s = let refusal = begin_refusal s [] in (refusal ≡ None) ⊎ (refusal ≡ Some begin.SequenceSpent)
 
 -- a checkpoint runs
-abbrev pub IsRunning : Replica → Type 0
-IsRunning s = OfRunning s.running (λ r. Unit {0})
+abbrev pub IsCheckpointing : Replica → Type 0
+IsCheckpointing s = OfRunning s.running (λ r. Unit {0})
 
 -- ---- answers
 
@@ -61,9 +61,9 @@ done_of answer = false
 -- ---- states
 
 -- after a step, by whether the checkpoint is done
-abbrev pub Stepped : Bool → (s t : Replica) → Type 0
-Stepped false s t = OfRunning s.running (λ r. (s.blocks.left ≢ []) × (t ≡ advanced s r))
-Stepped true s t = OfRunning s.running (λ r. (s.blocks.left ≡ []) × (t ≡ finished s r))
+abbrev pub CheckpointStepped : Bool → (s t : Replica) → Type 0
+CheckpointStepped false s t = OfRunning s.running (λ r. (s.blocks.left ≢ []) × (t ≡ advanced s r))
+CheckpointStepped true s t = OfRunning s.running (λ r. (s.blocks.left ≡ []) × (t ≡ finished s r))
 
 -- ---- a checkpoint of the table, and a line
 
@@ -96,9 +96,9 @@ pub record IsChanged (layout : Layout) (rows : Map) (c : Change) (s t : Replica)
   pub makes : Changes layout rows c s t old new result
   pub op : IfOk result (λ op. op ≡ s.head + 1)
   pub head : OnOk result (t.head ≡ s.head + 1)
-  pub ready : OnOk result (IsReady layout t)
+  pub ready : OnOk result (IsReadyReplica layout t)
   pub ends : IfErr result (IsOfCall new)
 
 -- those of the opening
-abbrev pub Opens : {T : Type 0} → (s t : Replica) → (old new : Option Told) → Result T Ending → Type 0
-Opens s t old new result = Comes (opening (memory s)) s t old new result
+abbrev pub OpensTable : {T : Type 0} → (s t : Replica) → (old new : Option Told) → Result T Ending → Type 0
+OpensTable s t old new result = Comes (opening (memory s)) s t old new result

@@ -4,7 +4,7 @@ use Rattle.df_disk.specs.Told.{Told}
 use Rattle.df_layout.specs.declared.layout.Layout.{Layout}
 use Rattle.df_theory.specs.View.{View, boot_of}
 use Rattle.df_lines.specs.Room.{line_bound}
-use Rattle.df_rows.specs.Grammar.{Said, Says}
+use Rattle.df_rows.specs.Grammar.{Said, SaysTableLine}
 use Rattle.df_lines.specs.Lines.{Begins}
 use Rattle.df_rows.specs.Tables.{Table}
 use Rattle.df_session.specs.Below.{DataFile, State as Replica}
@@ -14,21 +14,21 @@ use Rattle.df_table.specs.declared.ending.Ending.TheVariants.{OpsSpent, Sequence
 use Rattle.df_table.specs.declared.status.Status.{Status}
 use Rattle.df_table.specs.declared.status.Status.TheVariants.{Done, Memory}
 use Rattle.df_table.specs.Laws.{FindsIn}
-use Rattle.df_table.specs.Outside.{Faults, HasCauses, NoneFailed, Outside}
-use Rattle.df_table.specs.Run.{Runs}
+use Rattle.df_table.specs.Outside.{Faults, HasTableCauses, NoneFailed, Outside}
+use Rattle.df_table.specs.Run.{RunsTable}
 use Rattle.df_table.specs.Session.{Halt, ServesLines, script_budget}
 
 -- each line of the text is one of a table's script, within the bound of a layout and the budget
-pub record IsWhole (layout : Layout) (text : List ℕ) : Type 0 where
+pub record IsWholeTableScript (layout : Layout) (text : List ℕ) : Type 0 where
   pub lines : List Said
   pub left : ℕ
-  pub begins : Begins Says (line_bound layout) script_budget text lines left []
+  pub begins : Begins SaysTableLine (line_bound layout) script_budget text lines left []
 
 -- no op, or no sequence, is left
-abbrev pub IsSpent : Ending → Type 0
-IsSpent OpsSpent = Unit {0}
-IsSpent SequenceSpent = Unit {0}
-IsSpent ending = ⊥
+abbrev pub IsSpentEnding : Ending → Type 0
+IsSpentEnding OpsSpent = Unit {0}
+IsSpentEnding SequenceSpent = Unit {0}
+IsSpentEnding ending = ⊥
 
 -- from this table on lines were executed, until one for which no op, or no sequence, is left
 pub record EndsSpent (layout : Layout) (table : Table) (old new : Outside) (status : Status) : Type 0 where
@@ -37,11 +37,11 @@ pub record EndsSpent (layout : Layout) (table : Table) (old new : Outside) (stat
   pub lines : ServesLines layout table replica mid old new status
   pub halt : Halt
   pub is : lines.halt ≡ Some halt
-  pub spent : IsSpent halt.ending
+  pub spent : IsSpentEnding halt.ending
 
 -- Over a file that may be opened, while boots are left, with a table that the opening finds and a script that is whole: where nothing failed all of it was executed, or memory was wanting, or
 -- ops or sequences are spent.
-abbrev pub SafeIsRun : Type 0
-SafeIsRun =
-    (file : DataFile) (view : View) (table : Table) (t : Told) (text : List ℕ) (old new : Outside) (before now : Faults) (status : Status) → MayOpen file view t → boot_of view < 2 ^ 62 → FindsIn file t view table → old.told ≡ Some t → old.left ≡ Some text → IsWhole file.layout text
-    → HasCauses before now status → NoneFailed before now → Runs old new status → (status ≡ Done) ⊎ (status ≡ Memory) ⊎ EndsSpent file.layout table old new status
+abbrev pub SafeTableIsRun : Type 0
+SafeTableIsRun =
+    (file : DataFile) (view : View) (table : Table) (t : Told) (text : List ℕ) (old new : Outside) (before now : Faults) (status : Status) → MayOpen file view t → boot_of view < 2 ^ 62 → FindsIn file t view table → old.told ≡ Some t → old.left ≡ Some text → IsWholeTableScript file.layout text
+    → HasTableCauses before now status → NoneFailed before now → RunsTable old new status → (status ≡ Done) ⊎ (status ≡ Memory) ⊎ EndsSpent file.layout table old new status

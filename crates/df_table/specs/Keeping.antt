@@ -18,7 +18,7 @@ use Rattle.df_session.specs.Keeping.{over}
 use Rattle.df_session.specs.Links.{CallsMade, events_made}
 use Rattle.df_session.specs.Serving.{format}
 use Rattle.df_session.specs.Session.{Act}
-use Rattle.df_table.specs.Table.{HasTable, IsTable}
+use Rattle.df_table.specs.Table.{HasTable, IsObjectTable}
 
 -- ---- puts and drops among calls
 
@@ -40,7 +40,7 @@ IsPending (Some a) changes = Changes a.command (ToAppend (Ok (0, 0))) changes
 -- ---- moments
 
 -- the log is safe, and whatever a stop leaves, under no chance, has the table after some of these puts and drops, from the first on
-pub record IsMidway (file : DataFile) (t : Table) (changes : List Change) (log : Log) : Type 0 where
+pub record IsTableMidway (file : DataFile) (t : Table) (changes : List Change) (log : Log) : Type 0 where
   pub safe : IsSafeDisk (format file) (shape file) log
   pub left : (image : Image) → IsLeft log image → NoChanceOf (format file) log image → (n : ℕ) × HasTable file (with_commands (take n changes) t) image
 
@@ -48,16 +48,16 @@ pub record IsMidway (file : DataFile) (t : Table) (changes : List Change) (log :
 -- were answered by then, and at the end with all that were answered, but perhaps for the one in which the disk failed.
 pub record KeepsFrom (file : DataFile) (t : Table) (base : Told) (mending : List Event) (c : CallsMade) (changes pending : List Change) (after : Told) : Type 0 where
   pub is : over mending (events_made c) base ≡ Some after
-  pub moments : EachMoment (did Sync base).log after.log (IsMidway file t (changes ++ pending))
+  pub moments : EachMoment (did Sync base).log after.log (IsTableMidway file t (changes ++ pending))
   pub answered : (k : ℕ) (log : Log) (some more : List Change) → AreChanges (take k c.acts) (take k c.answers) some → AreChanges (drop k c.acts) (drop k c.answers) more
-      → WereAnswered k (over mending [] base) log c → IsUntil (Some after) log → IsMidway file (with_commands some t) (more ++ pending) log
-  pub end_safe : IsMidway file (with_commands changes t) pending after.log
+      → WereAnswered k (over mending [] base) log c → IsUntil (Some after) log → IsTableMidway file (with_commands some t) (more ++ pending) log
+  pub end_safe : IsTableMidway file (with_commands changes t) pending after.log
 
--- By each log that shows what was shown, and by which the file may be opened, the told one or one that is begun anew there.
+-- By each log that shows what was shown, and by which the file may be opened, the told one or one that is restarted there.
 pub record KeepsTable (t : Told) (s : Replica) (mending : List Event) (c : CallsMade) : Type 0 where
   pub changes : List Change
   pub pending : List Change
   pub are : AreChanges c.acts c.answers changes
   pub is_pending : IsPending c.failed pending
-  pub keeps : (view : View) (base : Told) (table : Table) → base.shown ≡ t.shown → MayOpen s.file view base → IsTable s.file (unit_at s.file.layout s.file.cluster t.shown) view table
+  pub keeps : (view : View) (base : Told) (table : Table) → base.shown ≡ t.shown → MayOpen s.file view base → IsObjectTable s.file (unit_at s.file.layout s.file.cluster t.shown) view table
       → (after : Told) × KeepsFrom s.file table base mending c changes pending after

@@ -21,41 +21,41 @@ use Rattle.df_session.specs.Below.{DataFile, State as Replica, memory, shape, sp
 use Rattle.df_session.specs.Reading.{shown_of}
 use Rattle.df_session.specs.Serving.{Firm, Keeps}
 use Rattle.df_table.specs.declared.ending.Ending.{Ending}
-use Rattle.df_table.specs.Opening.{Finds}
+use Rattle.df_table.specs.Opening.{FindsTable}
 use Rattle.df_table.specs.Policy.{checkpoint}
-use Rattle.df_table.specs.Ready.{IsReady}
-use Rattle.df_table.specs.Table.{IsTable, ShowsBodies, empty_table, references_of}
+use Rattle.df_table.specs.Ready.{IsReadyReplica}
+use Rattle.df_table.specs.Table.{IsObjectTable, ShowsBodies, empty_table, references_of}
 use Rattle.df_table.specs.Turns.{MakeAll}
 
 -- ---- one table
 
 -- an image and a view have one table
 abbrev pub TableIsOne : Type 0
-TableIsOne = (file : DataFile) (image : Units) (v : View) (t u : Table) → IsTable file image v t → IsTable file image v u → t ≡ u
+TableIsOne = (file : DataFile) (image : Units) (v : View) (t u : Table) → IsObjectTable file image v t → IsObjectTable file image v u → t ≡ u
 
 -- the opening of what a disk shows, where this view is found in it, finds this table: no session is another client's, each block that is referenced has rows, and each prepare of the
 -- tail is a command
 abbrev pub FindsIn : DataFile → Told → View → Table → Type 0
-FindsIn file t view table = Finds file.layout (shown_of file t.shown) (memory_of (shape file) (spelling file) (begun_work file t.shown view)) (Ok table)
+FindsIn file t view table = FindsTable file.layout (shown_of file t.shown) (memory_of (shape file) (spelling file) (begun_work file t.shown view)) (Ok table)
 
 -- what an opening finds is it
 abbrev pub FoundIsTable : Type 0
 FoundIsTable =
     (file : DataFile) (t : Told) (v : View) (table : Table) → IsImage t.shown → IsFound (shape file) (unit_at file.layout file.cluster t.shown) v
-    → FindsIn file t v table → IsTable file (unit_at file.layout file.cluster t.shown) v table
+    → FindsIn file t v table → IsObjectTable file (unit_at file.layout file.cluster t.shown) v table
 
 -- and it finds one thing
 abbrev pub FindsOne : Type 0
-FindsOne = (layout : Layout) (shown : Shown) (m : Memory) (one other : Result Table Ending) → Finds layout shown m one → Finds layout shown m other → one ≡ other
+FindsOne = (layout : Layout) (shown : Shown) (m : Memory) (one other : Result Table Ending) → FindsTable layout shown m one → FindsTable layout shown m other → one ≡ other
 
 -- a file that was just made has the empty one
 abbrev pub FirstIsEmpty : Type 0
-FirstIsEmpty = (file : DataFile) (image : Units) → IsTable file image (first_view file.layout file.cluster) (empty_table file.layout)
+FirstIsEmpty = (file : DataFile) (image : Units) → IsObjectTable file image (first_view file.layout file.cluster) (empty_table file.layout)
 
 -- ---- the order of rows
 
 -- after a checkpoint of a table that is done the referenced blocks, in order of address, have its rows, in order of key: the k-th row of the table is row k of its blocks
 abbrev pub RowsInOrder : Type 0
 RowsInOrder =
-    (layout : Layout) (s t : Replica) (o n : Told) (rows : Map) (steps : ℕ) (w : Work) → IsReady layout s → IsImage o.shown → MakeAll (checkpoint layout (memory s) rows steps) s t (Some o) (Some n) → (memory t).running ≡ None → Keeps Firm t w None
+    (layout : Layout) (s t : Replica) (o n : Told) (rows : Map) (steps : ℕ) (w : Work) → IsReadyReplica layout s → IsImage o.shown → MakeAll (checkpoint layout (memory s) rows steps) s t (Some o) (Some n) → (memory t).running ≡ None → Keeps Firm t w None
     → ShowsBodies (unit_at t.file.layout t.file.cluster n.shown) (references_of t.file (kept w)) (bodies_of (rows_in_block layout) (map.entries rows))

@@ -15,7 +15,7 @@ use Rattle.df_model.specs.declared.reading.ReadError.TheVariants as read
 use Rattle.df_model.specs.Memory.{Memory}
 use Rattle.df_model.specs.Supply.{Shown, block_read, message_given}
 use Rattle.df_rows.specs.declared.command.Command.{Command}
-use Rattle.df_rows.specs.Blocks.{Takes, TakesAll}
+use Rattle.df_rows.specs.Blocks.{TableTakes, TakesAll}
 use Rattle.df_rows.specs.Limits.{blocks_of_table}
 use Rattle.df_rows.specs.Rows.{Entry}
 use Rattle.df_rows.specs.Tables.{Table, with_command, with_commands, with_rows}
@@ -23,7 +23,7 @@ use Rattle.df_table.specs.declared.ending.Ending.{Ending}
 use Rattle.df_table.specs.declared.ending.Ending.TheVariants.{Damaged, Disk, NotTable}
 use Rattle.df_table.specs.declared.opening.Taken.{Taken}
 use Rattle.df_table.specs.Policy.{the_client}
-use Rattle.df_table.specs.Table.{FollowAll, Follows, empty_table}
+use Rattle.df_table.specs.Table.{CommandFollows, FollowAll, empty_table}
 
 abbrev pub place_at : Zone → ℕ → Place
 place_at zone index = record { zone = zone; index = index }
@@ -31,10 +31,10 @@ place_at zone index = record { zone = zone; index = index }
 -- ---- what is read
 
 -- these blocks are read over what is shown, and these are their bodies
-abbrev pub AreRead : Shown → Memory → List (ℕ × ℕ) → List (List ℕ) → Type 0
-AreRead shown m [] [] = Unit {0}
-AreRead shown m (x ∷ more) (body ∷ bodies) = ((b : Block) × (block_read shown m (ReadBlock x.0) ≡ Ok b) × (b.body ≡ body)) × AreRead shown m more bodies
-AreRead shown m references bodies = ⊥
+abbrev pub AreReadBlocks : Shown → Memory → List (ℕ × ℕ) → List (List ℕ) → Type 0
+AreReadBlocks shown m [] [] = Unit {0}
+AreReadBlocks shown m (x ∷ more) (body ∷ bodies) = ((b : Block) × (block_read shown m (ReadBlock x.0) ≡ Ok b) × (b.body ≡ body)) × AreReadBlocks shown m more bodies
+AreReadBlocks shown m references bodies = ⊥
 
 -- the prepares from this op on are read, and these are they
 abbrev pub ArePrepares : Shown → Memory → (op : ℕ) → List Message → Type 0
@@ -44,29 +44,29 @@ ArePrepares shown m op (p ∷ ps) = (message_given shown m (ReadPrepare op) ≡ 
 -- ---- how far it comes
 
 -- the session at this place is another client's
-pub record IsOther (m : Memory) (place : ℕ) : Type 0 where
+pub record IsOtherClient (m : Memory) (place : ℕ) : Type 0 where
   pub session : Session
   pub at : slice_get m.sessions place ≡ Some session
   pub other : session.client ≡ the_client → ⊥
 
 -- no session before this place is
 abbrev pub NoneIsOther : Memory → (place : ℕ) → Type 0
-NoneIsOther m place = (k : ℕ) → k < place → IsOther m k → ⊥
+NoneIsOther m place = (k : ℕ) → k < place → IsOtherClient m k → ⊥
 
 -- All sessions are the one client's, and the referenced blocks, all but these last ones, are a table.
-pub record AreTaken (layout : Layout) (shown : Shown) (m : Memory) (rest : List (ℕ × ℕ)) (t : Table) : Type 0 where
+pub record AreTakenBlocks (layout : Layout) (shown : Shown) (m : Memory) (rest : List (ℕ × ℕ)) (t : Table) : Type 0 where
   pub own : NoneIsOther m (length m.sessions)
   pub before : List (ℕ × ℕ)
   pub of : m.blocks.live ≡ before ++ rest
   pub few : length before ≤ blocks_of_table layout
   pub bodies : List (List ℕ)
-  pub read : AreRead shown m before bodies
+  pub read : AreReadBlocks shown m before bodies
   pub taken : TakesAll (empty_table layout) bodies t
 
 -- All of them are, and the prepares after the checkpoint, up to this op, are commands, after which this is the table.
 pub record AreFollowed (layout : Layout) (shown : Shown) (m : Memory) (op : ℕ) (t : Table) : Type 0 where
   pub base : Table
-  pub blocks : AreTaken layout shown m [] base
+  pub blocks : AreTakenBlocks layout shown m [] base
   pub prepares : List Message
   pub upto : op ≡ m.content.op + length prepares
   pub read : ArePrepares shown m (m.content.op + 1) prepares
@@ -76,31 +76,31 @@ pub record AreFollowed (layout : Layout) (shown : Shown) (m : Memory) (op : ℕ)
 
 -- the body isn't whole rows with new keys for which there is room, or as many blocks as a table may have stand before it
 abbrev pub NoRows : Layout → Table → (before : List (ℕ × ℕ)) → List ℕ → Type 0
-NoRows layout t before body = ((entries : List Entry) → Takes t body entries → ⊥) ⊎ (blocks_of_table layout ≤ length before)
+NoRows layout t before body = ((entries : List Entry) → TableTakes t body entries → ⊥) ⊎ (blocks_of_table layout ≤ length before)
 
 -- it is no command's, or there is no room for what that puts
 abbrev pub NoCommand : Table → List ℕ → Type 0
-NoCommand t body = (c : Command) → Follows t body c → ⊥
+NoCommand t body = (c : Command) → CommandFollows t body c → ⊥
 
 -- ---- what it finds
 
 -- In this order: the least place with a session of another client; of each referenced block, in order of address, that it isn't shown, or has no rows of the table; of each prepare
 -- after the checkpoint, in order of op, that it isn't shown, or is no command. Else the file is a table's, and this is the table.
-pub data Finds (layout : Layout) (shown : Shown) (m : Memory) : Result Table Ending → Type 0 where
-  OtherClient : (place : ℕ) → IsOther m place → NoneIsOther m place → Finds layout shown m (Err (NotTable (place_at ClientReplies place)))
-  BlockHurt : (x : ℕ × ℕ) (rest : List (ℕ × ℕ)) (t : Table) (class : Class) → AreTaken layout shown m (x ∷ rest) t → block_read shown m (ReadBlock x.0) ≡ Err class
-      → Finds layout shown m (Err (Damaged (place_at Grid x.0) class))
-  OtherBlock : (x : ℕ × ℕ) (rest : List (ℕ × ℕ)) (t : Table) (b : Block) → (taken : AreTaken layout shown m (x ∷ rest) t) → block_read shown m (ReadBlock x.0) ≡ Ok b → NoRows layout t taken.before b.body
-      → Finds layout shown m (Err (NotTable (place_at Grid x.0)))
+pub data FindsTable (layout : Layout) (shown : Shown) (m : Memory) : Result Table Ending → Type 0 where
+  OtherClient : (place : ℕ) → IsOtherClient m place → NoneIsOther m place → FindsTable layout shown m (Err (NotTable (place_at ClientReplies place)))
+  BlockHurt : (x : ℕ × ℕ) (rest : List (ℕ × ℕ)) (t : Table) (class : Class) → AreTakenBlocks layout shown m (x ∷ rest) t → block_read shown m (ReadBlock x.0) ≡ Err class
+      → FindsTable layout shown m (Err (Damaged (place_at Grid x.0) class))
+  OtherBlock : (x : ℕ × ℕ) (rest : List (ℕ × ℕ)) (t : Table) (b : Block) → (taken : AreTakenBlocks layout shown m (x ∷ rest) t) → block_read shown m (ReadBlock x.0) ≡ Ok b → NoRows layout t taken.before b.body
+      → FindsTable layout shown m (Err (NotTable (place_at Grid x.0)))
   PrepareHurt : (op : ℕ) (t : Table) (class : Class) → AreFollowed layout shown m op t → op < m.head → message_given shown m (ReadPrepare (op + 1)) ≡ Err class
-      → Finds layout shown m (Err (Damaged (place_at WalPrepares ((op + 1) % layout.slots)) class))
+      → FindsTable layout shown m (Err (Damaged (place_at WalPrepares ((op + 1) % layout.slots)) class))
   OtherPrepare : (op : ℕ) (t : Table) (p : Message) → AreFollowed layout shown m op t → op < m.head → message_given shown m (ReadPrepare (op + 1)) ≡ Ok p → NoCommand t p.body
-      → Finds layout shown m (Err (NotTable (place_at WalPrepares ((op + 1) % layout.slots))))
-  Found : (t : Table) → AreFollowed layout shown m m.head t → Finds layout shown m (Ok t)
+      → FindsTable layout shown m (Err (NotTable (place_at WalPrepares ((op + 1) % layout.slots))))
+  Found : (t : Table) → AreFollowed layout shown m m.head t → FindsTable layout shown m (Ok t)
 
 -- what an opening finds, unless the disk failed in it
 abbrev pub FindsOf : Layout → Shown → Memory → Result Table Ending → Type 0
-FindsOf layout shown m opened = (opened ≡ Err Disk) ⊎ Finds layout shown m opened
+FindsOf layout shown m opened = (opened ≡ Err Disk) ⊎ FindsTable layout shown m opened
 
 -- ---- its parts
 
@@ -124,31 +124,31 @@ TakesBody taken other (Err ending) = ⊥
 
 -- the body of a block, after so many: its rows are taken; or it has no rows of the table, or is one too many
 abbrev pub GivesRows : (before most : ℕ) → Table → List ℕ → Table → Type 0
-GivesRows before most t body new = (before < most) × ((entries : List Entry) × Takes t body entries × (new ≡ with_rows entries t))
+GivesRows before most t body new = (before < most) × ((entries : List Entry) × TableTakes t body entries × (new ≡ with_rows entries t))
 
 abbrev pub LacksRows : (address before most : ℕ) → Table → List ℕ → Place → Type 0
-LacksRows address before most t body place = (place ≡ place_at Grid address) × (((entries : List Entry) → Takes t body entries → ⊥) ⊎ (most ≤ before))
+LacksRows address before most t body place = (place ≡ place_at Grid address) × (((entries : List Entry) → TableTakes t body entries → ⊥) ⊎ (most ≤ before))
 
 abbrev pub TakesRows : (address before most : ℕ) → Table → List ℕ → Result Table Ending → Type 0
 TakesRows address before most t body result = TakesBody (GivesRows before most t body) (LacksRows address before most t body) result
 
 -- a block that is read, after so many: it is taken; or it isn't shown, has no rows of the table, or is one too many; or the disk fails
-abbrev pub ReadsBlock : Shown → Memory → (address before most : ℕ) → Table → Result Table Ending → Type 0
-ReadsBlock shown m address before most t (Ok new) = (b : Block) × (block_read shown m (ReadBlock address) ≡ Ok b) × TakesRows address before most t b.body (Ok new)
-ReadsBlock shown m address before most t (Err (Damaged place class)) = (place ≡ place_at Grid address) × (block_read shown m (ReadBlock address) ≡ Err class)
-ReadsBlock shown m address before most t (Err (NotTable place)) = (b : Block) × (block_read shown m (ReadBlock address) ≡ Ok b) × TakesRows address before most t b.body (Err (NotTable place))
-ReadsBlock shown m address before most t (Err Disk) = Unit {0}
-ReadsBlock shown m address before most t (Err ending) = ⊥
+abbrev pub ReadsTableBlock : Shown → Memory → (address before most : ℕ) → Table → Result Table Ending → Type 0
+ReadsTableBlock shown m address before most t (Ok new) = (b : Block) × (block_read shown m (ReadBlock address) ≡ Ok b) × TakesRows address before most t b.body (Ok new)
+ReadsTableBlock shown m address before most t (Err (Damaged place class)) = (place ≡ place_at Grid address) × (block_read shown m (ReadBlock address) ≡ Err class)
+ReadsTableBlock shown m address before most t (Err (NotTable place)) = (b : Block) × (block_read shown m (ReadBlock address) ≡ Ok b) × TakesRows address before most t b.body (Err (NotTable place))
+ReadsTableBlock shown m address before most t (Err Disk) = Unit {0}
+ReadsTableBlock shown m address before most t (Err ending) = ⊥
 
 -- what is known of an address: no block is live there, and nothing is read; or one is
 abbrev pub ReadsNext : Shown → Memory → (address most : ℕ) → Taken → Option ℕ → Result Taken Ending → Type 0
 ReadsNext shown m address most t None result = result ≡ Ok t
-ReadsNext shown m address most t (Some c) (Ok next) = ReadsBlock shown m address t.count most t.table (Ok next.table) × (next.count ≡ t.count + 1)
-ReadsNext shown m address most t (Some c) (Err ending) = ReadsBlock shown m address t.count most t.table (Err ending)
+ReadsNext shown m address most t (Some c) (Ok next) = ReadsTableBlock shown m address t.count most t.table (Ok next.table) × (next.count ≡ t.count + 1)
+ReadsNext shown m address most t (Some c) (Err ending) = ReadsTableBlock shown m address t.count most t.table (Err ending)
 
 -- the body of a prepare in this slot: its command is applied, or it is none
 abbrev pub GivesCommand : {A : Type 0} → (t new : Table) → List ℕ → A → Type 0
-GivesCommand t new body done = (c : Command) × Follows t body c × (new ≡ with_command c t)
+GivesCommand t new body done = (c : Command) × CommandFollows t body c × (new ≡ with_command c t)
 
 abbrev pub LacksCommand : Place → Table → List ℕ → Place → Type 0
 LacksCommand slot t body place = (place ≡ slot) × NoCommand t body
@@ -167,7 +167,7 @@ ReadsPrepare layout shown m op t new (Err ending) = ⊥
 
 -- all blocks are read, and all prepares
 abbrev pub TakesBlocks : Layout → Shown → Memory → Result Table Ending → Type 0
-TakesBlocks layout shown m (Ok t) = AreTaken layout shown m [] t
+TakesBlocks layout shown m (Ok t) = AreTakenBlocks layout shown m [] t
 TakesBlocks layout shown m (Err ending) = FindsOf layout shown m (Err ending)
 
 abbrev pub TakesTail : {A : Type 0} → Layout → Shown → Memory → (new : Table) → Result A Ending → Type 0

@@ -10,13 +10,13 @@ pub use Rattle.df_telling.specs.One.{Faults, NoneFailed, Outside, around, counts
 pub use Rattle.df_telling.specs.Telling.{Blames}
 
 -- each fault has its cause
-abbrev pub HasCauses : (before now : Faults) → Status → Type 0
-HasCauses before now status = one.HasCauses DiskFault ReadFault WriteFault before now status
+abbrev pub HasTableCauses : (before now : Faults) → Status → Type 0
+HasTableCauses before now status = one.HasCausesOfOne DiskFault ReadFault WriteFault before now status
 
 -- a text is written, and the call ends with this status; or a front of the text is there, where the sink failed
-abbrev pub Writes : List ℕ → Status → Option (List ℕ) → Option (List ℕ) → Status → Type 0
-Writes text given old new status = telling.Writes WriteFault text given old new status
+abbrev pub WritesTableText : List ℕ → Status → Option (List ℕ) → Option (List ℕ) → Status → Type 0
+WritesTableText text given old new status = telling.Writes WriteFault text given old new status
 
 -- why a file isn't opened: the refusal's line is written; a failing disk has none
-abbrev pub PrintsError : OpenError → (old new : Option (List ℕ)) → Status → Type 0
-PrintsError error old new status = telling.PrintsError Refused DiskFault WriteFault error old new status
+abbrev pub PrintsTableError : OpenError → (old new : Option (List ℕ)) → Status → Type 0
+PrintsTableError error old new status = telling.PrintsError Refused DiskFault WriteFault error old new status

@@ -16,7 +16,7 @@ use Rattle.df_table.specs.Policy.{is_full, the_client}
 use Rattle.df_table.specs.declared.session.Session.{Session as Serving}
 
 -- what a session keeps of memory: no checkpoint runs, nothing waits for its reply or is staged, and all sessions are the one client's
-pub record IsOwn (m : Memory) : Type 0 where
+pub record IsOwnMemory (m : Memory) : Type 0 where
   pub idle : m.running ≡ None
   pub answered : m.replies ≡ m.head
   pub unstaged : m.staged ≡ []
@@ -37,17 +37,17 @@ abbrev pub without_live : Replica → Replica
 without_live s = record s { blocks = record s.blocks { live = [] } }
 
 -- calls may go on, and the replica stands for a state of the machine that makes sense
-pub record IsReady (layout : Layout) (s : Replica) : Type 0 where
+pub record IsReadyReplica (layout : Layout) (s : Replica) : Type 0 where
   pub live : s.live ≡ true
   pub work : Work
   pub stands : Keeps Firm s work None
   pub layout_is : s.file.layout ≡ layout
-  pub own : IsOwn (memory s)
+  pub own : IsOwnMemory (memory s)
   pub space : HasSpace layout (memory s)
 
 -- so it is, and the table has no more rows than the layout allows
 pub record IsSteady (layout : Layout) (s : Replica) (t : Table) : Type 0 where
-  pub ready : IsReady layout s
+  pub ready : IsReadyReplica layout s
   pub max : t.max ≡ most_rows layout
   pub few : maps.len t.rows ≤ most_rows layout
 
@@ -83,7 +83,7 @@ pub record WroteBlocks (count : ℕ) (s t : Replica) : Type 0 where
 
 -- all live blocks of a replica that was ready were let go
 pub record IsEmptied (layout : Layout) (s t : Replica) : Type 0 where
-  pub ready : IsReady layout s
+  pub ready : IsReadyReplica layout s
   pub state : t ≡ without_live s
   pub work : Work
   pub stands : Keeps Firm t work None
@@ -102,14 +102,14 @@ pub record IsFinished (r : RunningState) (s t : Replica) : Type 0 where
   pub chain : length t.blocks.chain ≡ length s.blocks.written + length s.blocks.left
 
 -- so it is, and the ring has a slot for the next op, where neither the head nor the sessions have changed
-pub record HasRoom (layout : Layout) (s t : Replica) : Type 0 where
-  pub ready : IsReady layout t
+pub record HasRingRoom (layout : Layout) (s t : Replica) : Type 0 where
+  pub ready : IsReadyReplica layout t
   pub room : is_full (memory t) ≡ false
   pub head : t.head ≡ s.head
   pub sessions : (memory t).sessions ≡ (memory s).sessions
 
 -- a line leaves the layout, the script's reader, the size of the block's memory and the count of lines
-pub record Leaves (old new : Serving) : Type 0 where
+pub record LeavesScript (old new : Serving) : Type 0 where
   pub layout : new.layout ≡ old.layout
   pub lines : new.lines ≡ old.lines
   pub block : vec_len new.block ≡ vec_len old.block

@@ -19,13 +19,13 @@ use Rattle.df_table.specs.declared.status.Status.{Status}
 use Rattle.df_table.specs.declared.status.Status.TheVariants as ends
 use Rattle.df_table.specs.Keeping.{KeepsTable}
 use Rattle.df_table.specs.Opening.{FindsOf}
-use Rattle.df_table.specs.Outside.{Outside, Writes}
-use Rattle.df_table.specs.Session.{AreCallsOf, Serves}
+use Rattle.df_table.specs.Outside.{Outside, WritesTableText}
+use Rattle.df_table.specs.Session.{AreCallsOf, ServesFoundTable}
 
 -- ---- words
 
-abbrev pub usage : List ℕ
-usage = codes "usage: objecttable FILE table\n"
+abbrev pub table_usage : List ℕ
+table_usage = codes "table_usage: objecttable FILE table\n"
 
 -- the words are exactly this one
 abbrev pub IsTableWord : List (List ℕ) → Type 0
@@ -34,24 +34,24 @@ IsTableWord words = words ≡ codes "table" ∷ []
 -- ---- a file that isn't served
 
 -- nothing is printed, and nothing is read of the source
-pub record IsSilent (old new : Outside) : Type 0 where
+pub record PrintsNothing (old new : Outside) : Type 0 where
   pub written : new.written ≡ old.written
   pub unread : new.left ≡ old.left
 
 -- the line of a refusal is printed, and nothing is read of the source
 pub record Refuse (error : OpenError) (old new : Outside) (status : Status) : Type 0 where
-  pub prints : Writes (open_refusal error) ends.Refused old.written new.written status
+  pub prints : WritesTableText (open_refusal error) ends.Refused old.written new.written status
   pub unread : new.left ≡ old.left
 
 -- the superblock that the disk shows can't be used; nothing is written to the disk
-pub record RefusesSuperblock (t : Told) (old new : Outside) (status : Status) : Type 0 where
+pub record RefusesTableSuperblock (t : Told) (old new : Outside) (status : Status) : Type 0 where
   pub error : OpenError
   pub is : Refuses t.shown error
   pub refuse : Refuse error old new status
   pub same : new.told ≡ old.told
 
 -- the file is refused after the barrier, and nothing is written to it
-pub record RefusesFile (layout : Layout) (t : Told) (old new : Outside) (status : Status) : Type 0 where
+pub record RefusesTableFile (layout : Layout) (t : Told) (old new : Outside) (status : Status) : Type 0 where
   pub error : OpenError
   pub is : Surveys layout t.shown (Err error)
   pub other : error ≢ opens.DiskFault
@@ -59,14 +59,14 @@ pub record RefusesFile (layout : Layout) (t : Told) (old new : Outside) (status 
   pub barrier : new.told ≡ Some (did Sync t)
 
 -- the disk failed before the file was found
-pub record FailsToFind (layout : Layout) (t : Told) (old new : Outside) (status : Status) : Type 0 where
+pub record FailsToFindTable (layout : Layout) (t : Told) (old new : Outside) (status : Status) : Type 0 where
   pub fault : status ≡ ends.DiskFault
-  pub silent : IsSilent old new
+  pub silent : PrintsNothing old new
   pub disk : StopsOpening layout t new.told
 
 -- memory was wanting, or the disk failed in the first reads: nothing was done
-pub record DidNothing (old new : Outside) (status : Status) : Type 0 where
-  pub silent : IsSilent old new
+pub record ServedNothing (old new : Outside) (status : Status) : Type 0 where
+  pub silent : PrintsNothing old new
   pub same : new.told ≡ old.told
   pub why : (status ≡ ends.Memory) ⊎ (status ≡ ends.DiskFault)
 
@@ -77,7 +77,7 @@ pub record DidNothing (old new : Outside) (status : Status) : Type 0 where
 pub record ServesTable (layout : Layout) (t : Told) (found : FoundFile layout t) (old new : Outside) (status : Status) : Type 0 where
   pub opened : Result Table Ending
   pub finds : FindsOf layout (shown_of found.replica.file t.shown) (memory found.replica) opened
-  pub serves : Serves layout found.replica found.mended old new status opened
+  pub serves : ServesFoundTable layout found.replica found.mended old new status opened
   pub made : CallsMade
   pub of : AreCallsOf layout found.replica found.mended old new status opened serves made
   pub calls : CallsKeep t found.replica found.mended found.mending made
@@ -86,18 +86,18 @@ pub record ServesTable (layout : Layout) (t : Told) (found : FoundFile layout t)
 -- ---- the program
 
 -- in rooms of a layout: the file is refused, or the disk fails before it is found, or its table is served
-abbrev pub Does : Layout → Told → Outside → Outside → Status → Type 0
-Does layout t old new status = RefusesFile layout t old new status ⊎ FailsToFind layout t old new status ⊎ ((found : FoundFile layout t) × ServesTable layout t found old new status)
+abbrev pub DoesTable : Layout → Told → Outside → Outside → Status → Type 0
+DoesTable layout t old new status = RefusesTableFile layout t old new status ⊎ FailsToFindTable layout t old new status ⊎ ((found : FoundFile layout t) × ServesTable layout t found old new status)
 
 -- rooms are taken for the layout that the superblock names
-pub record ServesOwn (t : Told) (old new : Outside) (status : Status) : Type 0 where
+pub record ServesOwnTable (t : Told) (old new : Outside) (status : Status) : Type 0 where
   pub layout : Layout
   pub shown : IsLayoutShown t.shown layout
-  pub does : Does layout t old new status
+  pub does : DoesTable layout t old new status
 
 -- memory was wanting or the disk failed in the first reads, or the superblock is refused, or the table is served in rooms of the file's own layout
-abbrev pub Outcome : Told → Outside → Outside → Status → Type 0
-Outcome t old new status = DidNothing old new status ⊎ RefusesSuperblock t old new status ⊎ ServesOwn t old new status
+abbrev pub TableOutcome : Told → Outside → Outside → Status → Type 0
+TableOutcome t old new status = ServedNothing old new status ⊎ RefusesTableSuperblock t old new status ⊎ ServesOwnTable t old new status
 
-abbrev pub Runs : Outside → Outside → Status → Type 0
-Runs old new status = (t : Told) → old.told ≡ Some t → IsImage t.shown → Outcome t old new status
+abbrev pub RunsTable : Outside → Outside → Status → Type 0
+RunsTable old new status = (t : Told) → old.told ≡ Some t → IsImage t.shown → TableOutcome t old new status

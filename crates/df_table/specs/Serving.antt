@@ -6,9 +6,9 @@ use Rattle.df_layout.specs.declared.layout.Layout.{Layout}
 use Rattle.df_lines.specs.Room.{IsAtEnd, line_bound}
 use Rattle.df_lines.specs.Text.{unread}
 use Rattle.df_model.specs.Commands.{Answer}
-use Rattle.df_rows.specs.Grammar.{Said, Says}
+use Rattle.df_rows.specs.Grammar.{Said, SaysTableLine}
 use Rattle.df_rows.specs.Limits.{rows_in_block}
-use Rattle.df_rows.specs.Lines.{accepted as change_of, all_accepted, behind, map_text, text_of}
+use Rattle.df_rows.specs.Lines.{accepted as change_of, all_accepted, line_of_turn, map_text, table_after}
 use Rattle.df_lines.specs.Lines.{Begins}
 use Rattle.df_rows.specs.Tables.{Table}
 use Rattle.df_session.specs.Below.{State as Replica}
@@ -20,16 +20,16 @@ use Rattle.df_table.specs.declared.status.Status.{Status}
 use Rattle.df_table.specs.declared.status.Status.TheVariants.{DiskFault, Memory, Refused, Words, WriteFault}
 use Rattle.df_table.specs.declared.turns.Turn.{Turn as Step}
 use Rattle.df_table.specs.declared.turns.Turn.TheVariants.{Ends, GoesOn as Goes}
-use Rattle.df_table.specs.Outside.{Blames, Outside, Writes}
-use Rattle.df_table.specs.Ready.{IsSteady, Leaves}
-use Rattle.df_table.specs.Session.{EndsText, EndsWith, Halt, HaltsIn, closing, said_in}
+use Rattle.df_table.specs.Outside.{Blames, Outside, WritesTableText}
+use Rattle.df_table.specs.Ready.{IsSteady, LeavesScript}
+use Rattle.df_table.specs.Session.{EndsTableText, Halt, HaltsIn, ServingEndsWith, closing, said_in}
 use Rattle.df_table.specs.Statuses.{ending_text, status_of}
-use Rattle.df_table.specs.Turns.{AreFit, AreTurns, EndIn, IsAccepted, IsOfCall, Turn, all_said, commands_of}
+use Rattle.df_table.specs.Turns.{AreFit, AreTurns, EndIn, IsAccepted, IsOfCall, TableTurn, commands_of, table_said}
 
 -- ---- how far it has come
 
 -- what is around it, the table and the replica, the text that is unread where the source tells it, how many bytes may still be taken, and how many lines were executed
-pub record State : Type 0 where
+pub record ServingState : Type 0 where
   pub outside : Outside
   pub table : Table
   pub replica : Replica
@@ -37,7 +37,7 @@ pub record State : Type 0 where
   pub budget : ℕ
   pub lines : ℕ
 
-abbrev pub state : Outside → Session → State
+abbrev pub state : Outside → Session → ServingState
 state outside s = record { outside = outside; table = s.table; replica = s.replica; text = unread s.lines.reading.held outside.left; budget = s.lines.reading.budget; lines = s.count }
 
 -- what is true of it between two lines, whatever the disk tells
@@ -49,16 +49,16 @@ pub record IsServing (layout : Layout) (s : Session) (left : Option (List ℕ)) 
   pub at_end : IsTrue s.lines.ended → IsAtEnd left
 
 -- from origin to now these lines were executed, the first ones of the text, and what a map answers to them is written
-pub record Executed (layout : Layout) (origin now : State) (turns : List Turn) : Type 0 where
-  pub text : (text : List ℕ) → origin.text ≡ Some text → (rest : List ℕ) × (now.text ≡ Some rest) × Begins Says (line_bound layout) origin.budget text (all_said turns) now.budget rest
-  pub written : Appends origin.outside.written now.outside.written (map_text origin.table origin.replica.head (all_said turns))
+pub record ServingExecuted (layout : Layout) (origin now : ServingState) (turns : List TableTurn) : Type 0 where
+  pub text : (text : List ℕ) → origin.text ≡ Some text → (rest : List ℕ) × (now.text ≡ Some rest) × Begins SaysTableLine (line_bound layout) origin.budget text (table_said turns) now.budget rest
+  pub written : Appends origin.outside.written now.outside.written (map_text origin.table origin.replica.head (table_said turns))
   pub lines : now.lines ≡ origin.lines + length turns
   pub calls : AreTurns layout origin.replica origin.outside.told origin.table turns now.replica now.outside.told now.table
-  pub head : now.replica.head ≡ origin.replica.head + length (all_accepted origin.table (all_said turns))
+  pub head : now.replica.head ≡ origin.replica.head + length (all_accepted origin.table (table_said turns))
 
 -- and then it ended: no line was left, the next one is none, the source failed, or something ended it within the next line
-pub record Ended (layout : Layout) (origin now : State) (status : Status) : Type 0 where
-  pub turns : List Turn
+pub record ServingEnded (layout : Layout) (origin now : ServingState) (status : Status) : Type 0 where
+  pub turns : List TableTurn
   pub replica : Replica
   pub mid : Option Told
   pub table : Table
@@ -67,8 +67,8 @@ pub record Ended (layout : Layout) (origin now : State) (status : Status) : Type
   pub cut : Bool
   pub halts : HaltsIn layout replica mid table halt now.replica now.outside.told
   pub text : (text : List ℕ) → origin.text ≡ Some text
-      → (budget : ℕ) × (rest : List ℕ) × Begins Says (line_bound layout) origin.budget text (all_said turns ++ said_in halt) budget rest × EndsText (line_bound layout) budget rest now.outside.left cut status
-  pub written : EndsWith (map_text origin.table origin.replica.head (all_said turns) ++ closing (origin.lines + length turns) halt cut) halt cut origin.outside.written now.outside.written status
+      → (budget : ℕ) × (rest : List ℕ) × Begins SaysTableLine (line_bound layout) origin.budget text (table_said turns ++ said_in halt) budget rest × EndsTableText (line_bound layout) budget rest now.outside.left cut status
+  pub written : ServingEndsWith (map_text origin.table origin.replica.head (table_said turns) ++ closing (origin.lines + length turns) halt cut) halt cut origin.outside.written now.outside.written status
 
 -- ---- one line
 
@@ -81,15 +81,15 @@ pub record IsExecuted (layout : Layout) (said : Said) (s t : Replica) (old new :
   pub are : map command_in acts ≡ commands_of layout s table steps said
   pub accepted : All IsAccepted answers
   pub fit : AreFit (change_of table said)
-  pub behind_is : later ≡ behind table said
+  pub behind_is : later ≡ table_after table said
   pub head : t.head ≡ s.head + length (change_of table said)
 
 -- and its answer is printed, or a front of it where the sink failed; or something ended the session within it, and says why
-abbrev pub Answers : Layout → Said → (s t : Replica) → (old new : Option Told) → (table later : Table) → (written took : Option (List ℕ)) → Step → Type 0
-Answers layout said s t old new table later written took Goes = IsExecuted layout said s t old new table later × Appends written took (text_of table s.head said)
-Answers layout said s t old new table later written took (Ends status) =
-    (IsExecuted layout said s t old new table later × (status ≡ WriteFault) × AppendsPart written took (text_of table s.head said))
-    ⊎ ((ending : Ending) × (steps : ℕ) × EndIn (commands_of layout s table steps said) s t old new ending × Writes (ending_text ending) (status_of ending) written took status × AreFit (change_of table said)
+abbrev pub AnswersLine : Layout → Said → (s t : Replica) → (old new : Option Told) → (table later : Table) → (written took : Option (List ℕ)) → Step → Type 0
+AnswersLine layout said s t old new table later written took Goes = IsExecuted layout said s t old new table later × Appends written took (line_of_turn table s.head said)
+AnswersLine layout said s t old new table later written took (Ends status) =
+    (IsExecuted layout said s t old new table later × (status ≡ WriteFault) × AppendsPart written took (line_of_turn table s.head said))
+    ⊎ ((ending : Ending) × (steps : ℕ) × EndIn (commands_of layout s table steps said) s t old new ending × WritesTableText (ending_text ending) (status_of ending) written took status × AreFit (change_of table said)
     × IsOfCall new ending)
 
 -- where the session goes on
@@ -112,19 +112,19 @@ EndsTurn (Ends Words) = ⊥
 EndsTurn turn = Unit {0}
 
 -- It was executed by a session: where replica and table were as they have to be, it was answered so, and they are so again. Where the session goes on, the table is the one after the line.
-pub record Executes (layout : Layout) (said : Said) (old new : Session) (told later : Option Told) (written took : Option (List ℕ)) (turn : Step) : Type 0 where
-  pub answers : IsSteady layout old.replica old.table → Answers layout said old.replica new.replica told later old.table new.table written took turn
+pub record ExecutesLine (layout : Layout) (said : Said) (old new : Session) (told later : Option Told) (written took : Option (List ℕ)) (turn : Step) : Type 0 where
+  pub answers : IsSteady layout old.replica old.table → AnswersLine layout said old.replica new.replica told later old.table new.table written took turn
   pub steady : IsSteady layout old.replica old.table → OnGoing turn (IsSteady layout new.replica new.table)
   pub live : OnGoing turn (new.replica.live ≡ true)
-  pub behind_is : OnGoing turn (new.table ≡ behind old.table said)
-  pub leaves : Leaves old new
+  pub behind_is : OnGoing turn (new.table ≡ table_after old.table said)
+  pub leaves : LeavesScript old new
   pub ends : EndsLine turn
 
 -- a text is printed, or a front of it where the sink failed
-abbrev pub Tells : List ℕ → (old new : Option (List ℕ)) → Step → Type 0
-Tells text old new Goes = Appends old new text
-Tells text old new (Ends WriteFault) = AppendsPart old new text
-Tells text old new (Ends status) = ⊥
+abbrev pub TellsLine : List ℕ → (old new : Option (List ℕ)) → Step → Type 0
+TellsLine text old new Goes = Appends old new text
+TellsLine text old new (Ends WriteFault) = AppendsPart old new text
+TellsLine text old new (Ends status) = ⊥
 
 abbrev pub printed_turn : {T E : Type 0} → Result T E → Step
 printed_turn (Ok x) = Goes
@@ -132,17 +132,17 @@ printed_turn (Err e) = Ends WriteFault
 
 -- ---- turns
 
-abbrev pub GoesOn : Layout → (old new : State) → Type 0
-GoesOn layout old new = (origin : State) (turns : List Turn) → Executed layout origin old turns → (more : List Turn) × Executed layout origin new (turns ++ more)
+abbrev pub ServingGoesOn : Layout → (old new : ServingState) → Type 0
+ServingGoesOn layout old new = (origin : ServingState) (turns : List TableTurn) → ServingExecuted layout origin old turns → (more : List TableTurn) × ServingExecuted layout origin new (turns ++ more)
 
-abbrev pub EndsIn : Layout → (old new : State) → Status → Type 0
-EndsIn layout old new status = (origin : State) (turns : List Turn) → Executed layout origin old turns → Ended layout origin new status
+abbrev pub ServingEndsIn : Layout → (old new : ServingState) → Status → Type 0
+ServingEndsIn layout old new status = (origin : ServingState) (turns : List TableTurn) → ServingExecuted layout origin old turns → ServingEnded layout origin new status
 
-abbrev pub Turns : Layout → (old new : State) → Step → Type 0
-Turns layout old new Goes = GoesOn layout old new
-Turns layout old new (Ends status) = EndsIn layout old new status
+abbrev pub TableTurns : Layout → (old new : ServingState) → Step → Type 0
+TableTurns layout old new Goes = ServingGoesOn layout old new
+TableTurns layout old new (Ends status) = ServingEndsIn layout old new status
 
 -- a turn that goes on has raised no count
-abbrev pub BlamesIfEnds : Status → (before now : ℕ) → Step → Type 0
-BlamesIfEnds fault before now Goes = now ≡ before
-BlamesIfEnds fault before now (Ends status) = Blames fault before now status
+abbrev pub StepBlamesIfEnds : Status → (before now : ℕ) → Step → Type 0
+StepBlamesIfEnds fault before now Goes = now ≡ before
+StepBlamesIfEnds fault before now (Ends status) = Blames fault before now status

@@ -10,15 +10,15 @@ use Rattle.df_table.specs.declared.status.Status.{Status}
 use Rattle.df_table.specs.declared.status.Status.TheVariants as ends
 
 -- those of `datafile` that come
-abbrev pub number_of : Status → ℕ
-number_of ends.Done = 0
-number_of ends.Words = 2
-number_of ends.Script = 3
-number_of ends.Refused = 4
-number_of ends.DiskFault = 5
-number_of ends.ReadFault = 6
-number_of ends.WriteFault = 7
-number_of ends.Memory = 8
+abbrev pub table_exit_number : Status → ℕ
+table_exit_number ends.Done = 0
+table_exit_number ends.Words = 2
+table_exit_number ends.Script = 3
+table_exit_number ends.Refused = 4
+table_exit_number ends.DiskFault = 5
+table_exit_number ends.ReadFault = 6
+table_exit_number ends.WriteFault = 7
+table_exit_number ends.Memory = 8
 
 -- the disk failed
 abbrev pub is_disk : Ending → Bool

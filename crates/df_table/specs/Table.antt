@@ -22,7 +22,7 @@ abbrev pub references_of : DataFile → View → List (ℕ × ℕ)
 references_of file v = entries v.checkpoint.parts.references (addresses (shape file).layout)
 
 -- a block with this checksum, no trailer's, is said to be at this address, and this is its body
-pub record HasBody (At : Place → AnyUnit → Type 0) (x : ℕ × ℕ) (body : List ℕ) : Type 0 where
+pub record HasBlockBody (At : Place → AnyUnit → Type 0) (x : ℕ × ℕ) (body : List ℕ) : Type 0 where
   pub block : Block
   pub there : At (BlockPlace x.0) (BlockUnit block)
   pub sum : block.checksum ≡ x.1
@@ -32,12 +32,12 @@ pub record HasBody (At : Place → AnyUnit → Type 0) (x : ℕ × ℕ) (body : 
 -- so it is of each of these, in order
 abbrev pub HaveBodies : (Place → AnyUnit → Type 0) → List (ℕ × ℕ) → List (List ℕ) → Type 0
 HaveBodies At [] [] = Unit {0}
-HaveBodies At (x ∷ more) (body ∷ bodies) = HasBody At x body × HaveBodies At more bodies
+HaveBodies At (x ∷ more) (body ∷ bodies) = HasBlockBody At x body × HaveBodies At more bodies
 HaveBodies At references bodies = ⊥
 
 -- the image shows them
 abbrev pub ShowsBody : Units → (ℕ × ℕ) → List ℕ → Type 0
-ShowsBody image x body = HasBody (λ place unit. image place ≡ Some unit) x body
+ShowsBody image x body = HasBlockBody (λ place unit. image place ≡ Some unit) x body
 
 abbrev pub ShowsBodies : Units → List (ℕ × ℕ) → List (List ℕ) → Type 0
 ShowsBodies image references bodies = HaveBodies (λ place unit. image place ≡ Some unit) references bodies
@@ -45,7 +45,7 @@ ShowsBodies image references bodies = HaveBodies (λ place unit. image place ≡
 -- ---- commands
 
 -- a body is a command's, and the table has room for what it puts
-pub record Follows (t : Table) (body : List ℕ) (c : Command) : Type 0 where
+pub record CommandFollows (t : Table) (body : List ℕ) (c : Command) : Type 0 where
   pub body_is : body ≡ body_of c
   pub fits : IsCommand c
   pub room : CanApply t c
@@ -53,7 +53,7 @@ pub record Follows (t : Table) (body : List ℕ) (c : Command) : Type 0 where
 -- so it is of the bodies of prepares, each after those before it
 abbrev pub FollowAll : Table → List Message → List Command → Type 0
 FollowAll t [] [] = Unit {0}
-FollowAll t (p ∷ ps) (c ∷ more) = Follows t p.body c × FollowAll (with_command c t) ps more
+FollowAll t (p ∷ ps) (c ∷ more) = CommandFollows t p.body c × FollowAll (with_command c t) ps more
 FollowAll t ps cs = ⊥
 
 -- ---- the table
@@ -73,11 +73,11 @@ pub record IsTableBy (At : Place → AnyUnit → Type 0) (file : DataFile) (v : 
   pub is : t ≡ with_commands commands base
 
 -- over an image that shows them
-abbrev pub IsTable : DataFile → Units → View → Table → Type 0
-IsTable file image v t = IsTableBy (λ place unit. image place ≡ Some unit) file v t
+abbrev pub IsObjectTable : DataFile → Units → View → Table → Type 0
+IsObjectTable file image v t = IsTableBy (λ place unit. image place ≡ Some unit) file v t
 
 -- an image of the disk has a view whose table this is
 pub record HasTable (file : DataFile) (t : Table) (image : Image) : Type 0 where
   pub view : View
   pub held : Held (shape file) ((format file).unit_at image) view
-  pub table : IsTable file ((format file).unit_at image) view t
+  pub table : IsObjectTable file ((format file).unit_at image) view t

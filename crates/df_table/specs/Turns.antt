@@ -14,12 +14,12 @@ use Rattle.df_rows.specs.Commands.{IsCommand}
 use Rattle.df_rows.specs.Grammar.{Said}
 use Rattle.df_rows.specs.Tables.{Table}
 use Rattle.df_session.specs.Below.{State as Replica, memory}
-use Rattle.df_session.specs.Endings.{IsDamaged}
+use Rattle.df_session.specs.Endings.{IsDamagedStep}
 use Rattle.df_session.specs.Links.{AreCalls, EndsCalls, command_in, list_of}
 use Rattle.df_session.specs.Session.{Act}
 use Rattle.df_table.specs.declared.ending.Ending.{Ending}
 use Rattle.df_table.specs.declared.ending.Ending.TheVariants.{Disk, Damaged, NotTable, OpsSpent, SequenceSpent}
-use Rattle.df_rows.specs.Lines.{accepted, behind}
+use Rattle.df_rows.specs.Lines.{accepted, table_after}
 use Rattle.df_table.specs.Policy.{line_commands}
 
 -- ---- commands
@@ -65,7 +65,7 @@ ReadsDamaged place class answer = (answer ≡ ToReadBlock (Err (read.Damaged pla
 abbrev pub EndsFor : Ending → (new : Option Told) → List Answer → (failed : Option Act) → Type 0
 EndsFor Disk new answers failed = (a : Act) × (failed ≡ Some a)
 EndsFor (Damaged place class) new answers failed =
-    ((a : Act) × (failed ≡ Some a) × IsDamaged a.command new place class) ⊎ ((failed ≡ None) × ((answer : Answer) × LastIs answer answers × ReadsDamaged place class answer))
+    ((a : Act) × (failed ≡ Some a) × IsDamagedStep a.command new place class) ⊎ ((failed ≡ None) × ((answer : Answer) × LastIs answer answers × ReadsDamaged place class answer))
 EndsFor (NotTable place) new answers failed = failed ≡ None
 EndsFor OpsSpent new answers failed = (failed ≡ None) × LastIs (ToAppend (Err append.OpsSpent)) answers
 EndsFor SequenceSpent new answers failed = (failed ≡ None) × LastIs (ToBegin (Err begin.SequenceSpent)) answers
@@ -92,7 +92,7 @@ pub record EndIn (commands : List Command) (s t : Replica) (old new : Option Tol
 -- ---- a line
 
 -- a line that was executed, with the calls that it took
-pub record Turn : Type 0 where
+pub record TableTurn : Type 0 where
   pub said : Said
   pub acts : List Act
   pub answers : List Answer
@@ -107,19 +107,19 @@ AreFit [] = Unit {0}
 AreFit (c ∷ more) = IsCommand c × AreFit more
 
 -- from one state to another these lines were executed, one after the other: each took its calls, all of which were answered
-abbrev pub AreTurns : Layout → (s : Replica) (old : Option Told) (t : Table) → List Turn → (u : Replica) (new : Option Told) (v : Table) → Type 0
+abbrev pub AreTurns : Layout → (s : Replica) (old : Option Told) (t : Table) → List TableTurn → (u : Replica) (new : Option Told) (v : Table) → Type 0
 AreTurns layout s old t [] u new v = (u ≡ s) × (new ≡ old) × (v ≡ t)
 AreTurns layout s old t (x ∷ turns) u new v =
-    (r : Replica) × (mid : Option Told) × (steps : ℕ) × (map command_in x.acts ≡ commands_of layout s t steps x.said) × AreCalls s old x.acts x.answers r mid × All IsAccepted x.answers × AreFit (accepted t x.said) × AreTurns layout r mid (behind t x.said) turns u new v
+    (r : Replica) × (mid : Option Told) × (steps : ℕ) × (map command_in x.acts ≡ commands_of layout s t steps x.said) × AreCalls s old x.acts x.answers r mid × All IsAccepted x.answers × AreFit (accepted t x.said) × AreTurns layout r mid (table_after t x.said) turns u new v
 
-abbrev pub all_said : List Turn → List Said
-all_said [] = []
-all_said (x ∷ turns) = x.said ∷ all_said turns
+abbrev pub table_said : List TableTurn → List Said
+table_said [] = []
+table_said (x ∷ turns) = x.said ∷ table_said turns
 
-abbrev pub all_acts : List Turn → List Act
-all_acts [] = []
-all_acts (x ∷ turns) = x.acts ++ all_acts turns
+abbrev pub table_acts : List TableTurn → List Act
+table_acts [] = []
+table_acts (x ∷ turns) = x.acts ++ table_acts turns
 
-abbrev pub all_answers : List Turn → List Answer
-all_answers [] = []
-all_answers (x ∷ turns) = x.answers ++ all_answers turns
+abbrev pub table_answers : List TableTurn → List Answer
+table_answers [] = []
+table_answers (x ∷ turns) = x.answers ++ table_answers turns

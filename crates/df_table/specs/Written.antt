@@ -6,19 +6,19 @@ use Rattle.df_theory.specs.Units.{AnyUnit, Place}
 use Rattle.df_theory.specs.View.{View}
 use Rattle.df_rows.specs.Tables.{Table}
 use Rattle.df_session.specs.Below.{DataFile}
-use Rattle.df_table.specs.Table.{HasBody, HaveBodies, IsTableBy}
+use Rattle.df_table.specs.Table.{HasBlockBody, HaveBodies, IsTableBy}
 
 -- the unit was settled at its place, or stood whole in a write, now or at an earlier moment of the log
-abbrev pub IsWritten : UnitLog → Place → AnyUnit → Type 0
-IsWritten log place x = InPools log.start log.events place x
+abbrev pub WasUnitWritten : UnitLog → Place → AnyUnit → Type 0
+WasUnitWritten log place x = InPools log.start log.events place x
 
 -- a block with this checksum, no trailer's, was written at this address, and this is its body
 abbrev pub WroteBody : UnitLog → (ℕ × ℕ) → List ℕ → Type 0
-WroteBody log x body = HasBody (IsWritten log) x body
+WroteBody log x body = HasBlockBody (WasUnitWritten log) x body
 
 abbrev pub WroteBodies : UnitLog → List (ℕ × ℕ) → List (List ℕ) → Type 0
-WroteBodies log references bodies = HaveBodies (IsWritten log) references bodies
+WroteBodies log references bodies = HaveBodies (WasUnitWritten log) references bodies
 
 -- the table of a view, the blocks of which were written in the log
 abbrev pub IsTableIn : DataFile → UnitLog → View → Table → Type 0
-IsTableIn file log v t = IsTableBy (IsWritten log) file v t
+IsTableIn file log v t = IsTableBy (WasUnitWritten log) file v t

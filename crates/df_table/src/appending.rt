@@ -10,7 +10,7 @@ ghost use Rattle.df_rows.specs.Tables.{CanApply, with_command};
 ghost use Rattle.df_session.specs.Below.{memory};
 ghost use Rattle.df_table.specs.Calls.{Comes, IsChanged, MakesRoom};
 ghost use Rattle.df_table.specs.Policy.{is_full, request, the_client};
-ghost use Rattle.df_table.specs.Ready.{HasRoom, IsReady, Leaves};
+ghost use Rattle.df_table.specs.Ready.{HasRingRoom, IsReadyReplica, LeavesScript};
 ghost use Rattle.df_table.specs.Statuses.{is_disk};
 ghost use Rattle.df_table.specs.Turns.{IsOfCall};
 
@@ -24,7 +24,7 @@ use df_session::Replica;
 
 // The number of the client's next request, where all sessions are its own: so there is one at most.
 fn next_request(replica: &Replica) -> u64
-    ensures { (layout : Shape) → IsReady layout replica.now → result ≡ next_request (session_of_client the_client (memory replica.now).sessions) }
+    ensures { (layout : Shape) → IsReadyReplica layout replica.now → result ≡ next_request (session_of_client the_client (memory replica.now).sessions) }
 {
     match replica.session(0) {
         Some(session) => session.request.saturating_add(1),
@@ -36,13 +36,13 @@ fn next_request(replica: &Replica) -> u64
 fn make_room<D: Disk>(disk: &mut D, session: &mut Session) -> Result<(), Ending>
     requires live { session.old.replica.live ≡ true }
     requires buffer { 64 * limits.rows_in_block session.old.layout ≤ vec_len session.old.block }
-    ensures makes { IsReady session.old.layout session.old.replica → map.len session.old.table.rows ≤ limits.most_rows session.old.layout
+    ensures makes { IsReadyReplica session.old.layout session.old.replica → map.len session.old.table.rows ≤ limits.most_rows session.old.layout
         → MakesRoom session.old.layout session.old.table.rows session.old.replica session.new.replica (D.told disk.old) (D.told disk.new) result }
-    ensures room { IsReady session.old.layout session.old.replica → map.len session.old.table.rows ≤ limits.most_rows session.old.layout
-        → OnOk result (HasRoom session.old.layout session.old.replica session.new.replica) }
+    ensures room { IsReadyReplica session.old.layout session.old.replica → map.len session.old.table.rows ≤ limits.most_rows session.old.layout
+        → OnOk result (HasRingRoom session.old.layout session.old.replica session.new.replica) }
     ensures live { OnOk result (session.new.replica.live ≡ true) }
     ensures table { session.new.table ≡ session.old.table }
-    ensures leaves { Leaves session.old session.new }
+    ensures leaves { LeavesScript session.old session.new }
     ensures ends { IfErr result (IsOfCall (D.told disk.new)) }
     ensures disk { IsBlamed is_disk (D.faults disk.old) (D.faults disk.new) result }
 {
@@ -63,11 +63,11 @@ fn make_room<D: Disk>(disk: &mut D, session: &mut Session) -> Result<(), Ending>
 fn store<D: Disk>(disk: &mut D, replica: &mut Replica, command: &Command) -> Result<u64, Ending>
     requires live { replica.old.live ≡ true }
     requires fits { IsCommand command.now }
-    ensures makes { (layout : Shape) → IsReady layout replica.old → is_full (memory replica.old) ≡ false
+    ensures makes { (layout : Shape) → IsReadyReplica layout replica.old → is_full (memory replica.old) ≡ false
         → Comes (request (memory replica.old) command.now) replica.old replica.new (D.told disk.old) (D.told disk.new) result }
     ensures op { IfOk result (λ op. op ≡ replica.old.head + 1) }
     ensures head { OnOk result (replica.new.head ≡ replica.old.head + 1) }
-    ensures ready { (layout : Shape) → IsReady layout replica.old → is_full (memory replica.old) ≡ false → OnOk result (IsReady layout replica.new) }
+    ensures ready { (layout : Shape) → IsReadyReplica layout replica.old → is_full (memory replica.old) ≡ false → OnOk result (IsReadyReplica layout replica.new) }
     ensures live { OnOk result (replica.new.live ≡ true) }
     ensures ends { IfErr result (IsOfCall (D.told disk.new)) }
     ensures disk { IsBlamed is_disk (D.faults disk.old) (D.faults disk.new) result }
@@ -93,11 +93,11 @@ pub(crate) fn change<D: Disk>(
     requires buffer { 64 * limits.rows_in_block session.old.layout ≤ vec_len session.old.block }
     requires fits { IsCommand command }
     requires room { CanApply session.old.table command }
-    ensures changed { IsReady session.old.layout session.old.replica → map.len session.old.table.rows ≤ limits.most_rows session.old.layout
+    ensures changed { IsReadyReplica session.old.layout session.old.replica → map.len session.old.table.rows ≤ limits.most_rows session.old.layout
         → IsChanged session.old.layout session.old.table.rows command session.old.replica session.new.replica (D.told disk.old) (D.told disk.new) result }
     ensures table { OnOk result (session.new.table ≡ with_command command session.old.table) }
     ensures live { OnOk result (session.new.replica.live ≡ true) }
-    ensures leaves { Leaves session.old session.new }
+    ensures leaves { LeavesScript session.old session.new }
     ensures disk { IsBlamed is_disk (D.faults disk.old) (D.faults disk.new) result }
 {
     match make_room(disk, session) {

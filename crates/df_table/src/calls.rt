@@ -10,7 +10,7 @@ ghost use Rattle.df_session.specs.Beginning.{begun};
 ghost use Rattle.df_session.specs.Below.{memory};
 ghost use Rattle.df_session.specs.Blocks.{next_block, released, written};
 ghost use Rattle.df_result.specs.Replying.{next_reply, replied};
-ghost use Rattle.df_table.specs.Calls.{Comes, IsRunning, MayAppend, MayBegin, Stepped, accepted_or, done_of, op_of};
+ghost use Rattle.df_table.specs.Calls.{CheckpointStepped, Comes, IsCheckpointing, MayAppendCommand, MayBegin, accepted_or, done_of, op_of};
 ghost use Rattle.df_table.specs.Policy.{the_client};
 ghost use Rattle.df_table.specs.Statuses.{is_disk};
 ghost use Rattle.df_table.specs.Turns.{IsOfCall};
@@ -41,7 +41,7 @@ pub(crate) fn append<D: Disk>(
     body: &[u8],
 ) -> Result<u64, Ending>
     requires live { replica.old.live ≡ true }
-    ensures makes { MayAppend replica.old request body.now → Comes (Append the_client request body.now ∷ []) replica.old replica.new (D.told disk.old) (D.told disk.new) result }
+    ensures makes { MayAppendCommand replica.old request body.now → Comes (Append the_client request body.now ∷ []) replica.old replica.new (D.told disk.old) (D.told disk.new) result }
     ensures state { OnOk result (replica.new ≡ appended replica.old (next_unit replica.old the_client request body.now)) }
     ensures op { IfOk result (λ op. op ≡ replica.old.head + 1) }
     ensures live { OnOk result (replica.new.live ≡ true) }
@@ -145,9 +145,9 @@ fn is_done(answer: &Answer) -> bool
 /// Takes a step of the checkpoint that runs, and says whether it is done.
 pub(crate) fn step<D: Disk>(disk: &mut D, replica: &mut Replica) -> Result<bool, Ending>
     requires live { replica.old.live ≡ true }
-    requires runs { IsRunning replica.old }
+    requires runs { IsCheckpointing replica.old }
     ensures makes { Comes (Advance ∷ []) replica.old replica.new (D.told disk.old) (D.told disk.new) result }
-    ensures state { IfOk result (λ done. Stepped done replica.old replica.new) }
+    ensures state { IfOk result (λ done. CheckpointStepped done replica.old replica.new) }
     ensures live { OnOk result (replica.new.live ≡ true) }
     ensures ends { IfErr result (IsOfCall (D.told disk.new)) }
     ensures disk { IsBlamed is_disk (D.faults disk.old) (D.faults disk.new) result }

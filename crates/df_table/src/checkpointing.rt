@@ -8,9 +8,9 @@ ghost use Rattle.df_rows.specs.Limits as limits;
 ghost use Rattle.df_session.specs.Beginning.{begun, captured};
 ghost use Rattle.df_session.specs.Below.{RunningState, State as Standing, memory};
 ghost use Rattle.df_session.specs.Blocks.{released};
-ghost use Rattle.df_table.specs.Calls.{Advances, Checkpoints, Comes, Concludes, Fills, IsRunning, MayBegin};
+ghost use Rattle.df_table.specs.Calls.{Advances, Checkpoints, Comes, Concludes, Fills, IsCheckpointing, MayBegin};
 ghost use Rattle.df_table.specs.Policy.{body_at, is_full, releases, releases_at, writes};
-ghost use Rattle.df_table.specs.Ready.{HasFree, HasRoom, IsEmptied, IsFinished, IsReady, WroteBlocks, without_live};
+ghost use Rattle.df_table.specs.Ready.{HasFree, HasRingRoom, IsEmptied, IsFinished, IsReadyReplica, WroteBlocks, without_live};
 ghost use Rattle.df_table.specs.Statuses.{is_disk};
 ghost use Rattle.df_table.specs.Turns.{IsOfCall};
 
@@ -23,7 +23,7 @@ use df_session::Replica;
 
 /// Whether the ring has no slot for the next op.
 pub(crate) fn is_full(replica: &Replica) -> bool
-    ensures { (layout : Shape) → IsReady layout replica.now → result ≡ is_full (memory replica.now) }
+    ensures { (layout : Shape) → IsReadyReplica layout replica.now → result ≡ is_full (memory replica.now) }
 {
     let summary = replica.summary();
     let last = summary
@@ -51,8 +51,8 @@ fn release_at<D: Disk>(disk: &mut D, replica: &mut Replica, address: u64) -> Res
 // Lets all live blocks go. Those of the durable checkpoint aren't written over before the next one is done.
 fn release_all<D: Disk>(disk: &mut D, replica: &mut Replica, layout: &Layout) -> Result<(), Ending>
     requires live { replica.old.live ≡ true }
-    ensures makes { IsReady layout.now replica.old → Comes (releases (memory replica.old)) replica.old replica.new (D.told disk.old) (D.told disk.new) result }
-    ensures state { IsReady layout.now replica.old → OnOk result (replica.new ≡ without_live replica.old) }
+    ensures makes { IsReadyReplica layout.now replica.old → Comes (releases (memory replica.old)) replica.old replica.new (D.told disk.old) (D.told disk.new) result }
+    ensures state { IsReadyReplica layout.now replica.old → OnOk result (replica.new ≡ without_live replica.old) }
     ensures live { OnOk result (replica.new.live ≡ true) }
     ensures ends { IfErr result (IsOfCall (D.told disk.new)) }
     ensures disk { IsBlamed is_disk (D.faults disk.old) (D.faults disk.new) result }
@@ -119,7 +119,7 @@ fn write_table<D: Disk>(
 // Takes all steps of the checkpoint that runs.
 fn finish<D: Disk>(disk: &mut D, replica: &mut Replica) -> Result<(), Ending>
     requires live { replica.old.live ≡ true }
-    requires runs { IsRunning replica.old }
+    requires runs { IsCheckpointing replica.old }
     ensures makes { Advances replica.old replica.new (D.told disk.old) (D.told disk.new) result }
     ensures finished { (r : RunningState) → replica.old.running ≡ Some r → OnOk result (IsFinished r replica.old replica.new) }
     ensures live { OnOk result (replica.new.live ≡ true) }
@@ -165,7 +165,7 @@ fn fill<D: Disk>(
     requires buffer { 64 * limits.rows_in_block layout.now ≤ length buffer.old }
     ensures makes { (s : Standing) → IsEmptied layout.now s replica.old → map.len table.now.rows ≤ limits.most_rows layout.now
         → Fills layout.now table.now.rows replica.old replica.new (D.told disk.old) (D.told disk.new) result }
-    ensures room { (s : Standing) → IsEmptied layout.now s replica.old → map.len table.now.rows ≤ limits.most_rows layout.now → OnOk result (HasRoom layout.now s replica.new) }
+    ensures room { (s : Standing) → IsEmptied layout.now s replica.old → map.len table.now.rows ≤ limits.most_rows layout.now → OnOk result (HasRingRoom layout.now s replica.new) }
     ensures live { OnOk result (replica.new.live ≡ true) }
     ensures ends { IfErr result (IsOfCall (D.told disk.new)) }
     ensures disk { IsBlamed is_disk (D.faults disk.old) (D.faults disk.new) result }
@@ -186,9 +186,9 @@ pub(crate) fn checkpoint<D: Disk>(
 ) -> Result<(), Ending>
     requires live { replica.old.live ≡ true }
     requires buffer { 64 * limits.rows_in_block layout.now ≤ length buffer.old }
-    ensures makes { IsReady layout.now replica.old → map.len table.now.rows ≤ limits.most_rows layout.now
+    ensures makes { IsReadyReplica layout.now replica.old → map.len table.now.rows ≤ limits.most_rows layout.now
         → Checkpoints layout.now table.now.rows replica.old replica.new (D.told disk.old) (D.told disk.new) result }
-    ensures room { IsReady layout.now replica.old → map.len table.now.rows ≤ limits.most_rows layout.now → OnOk result (HasRoom layout.now replica.old replica.new) }
+    ensures room { IsReadyReplica layout.now replica.old → map.len table.now.rows ≤ limits.most_rows layout.now → OnOk result (HasRingRoom layout.now replica.old replica.new) }
     ensures live { OnOk result (replica.new.live ≡ true) }
     ensures ends { IfErr result (IsOfCall (D.told disk.new)) }
     ensures disk { IsBlamed is_disk (D.faults disk.old) (D.faults disk.new) result }

@@ -2,7 +2,7 @@
 ghost use Rattle.std.specs.Prelude.{◌≡◌};
 ghost use Rattle.df_base.specs.Causes.{HasCause};
 ghost use Rattle.df_inspect.specs.Prints.{Prints};
-ghost use Rattle.df_table.specs.Outside.{Blames, Writes};
+ghost use Rattle.df_table.specs.Outside.{Blames, WritesTableText};
 ghost use Rattle.df_table.specs.Statuses.{ended_by, ending_text, status_of};
 
 use crate::status::Status;
@@ -67,7 +67,7 @@ fn print_ending<W: Sink>(sink: &mut W, ending: Ending) -> Result<(), Failed>
 
 /// Prints why a session ends; a failing disk has no line.
 pub(crate) fn tell_ending<W: Sink>(sink: &mut W, ending: Ending) -> Status
-    ensures writes { Writes (ending_text ending) (status_of ending) (W.written sink.old) (W.written sink.new) result }
+    ensures writes { WritesTableText (ending_text ending) (status_of ending) (W.written sink.old) (W.written sink.new) result }
     ensures disk { ending ≡ Ending.Disk → result ≡ Status.DiskFault }
     ensures sink { Blames Status.WriteFault (W.faults sink.old) (W.faults sink.new) result }
 {

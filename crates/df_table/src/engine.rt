@@ -2,8 +2,8 @@
 ghost use Rattle.std.specs.Prelude.{◌≡◌, ◌↔◌, ◌*◌, ◌≤◌, codes, map, string_bytes, vec_len, IfOk, IsTrue};
 ghost use Rattle.df_lines.specs.Room.{IsFresh, line_bound};
 ghost use Rattle.df_rows.specs.Limits as limits;
-ghost use Rattle.df_table.specs.Outside.{Blames, HasCauses, Writes, around, counts};
-ghost use Rattle.df_table.specs.Run.{IsSilent, IsTableWord, Runs, usage};
+ghost use Rattle.df_table.specs.Outside.{Blames, HasTableCauses, WritesTableText, around, counts};
+ghost use Rattle.df_table.specs.Run.{IsTableWord, PrintsNothing, RunsTable, table_usage};
 ghost use Rattle.df_table.specs.Table.{empty_table};
 
 use crate::serving::{Reserved, serve_table};
@@ -40,7 +40,7 @@ fn is_word(word: &str) -> bool
 
 // Prints the word that has a meaning.
 fn print_usage<W: Sink>(sink: &mut W) -> Status
-    ensures usage { Writes usage Status.Words (W.written sink.old) (W.written sink.new) result }
+    ensures usage { WritesTableText table_usage Status.Words (W.written sink.old) (W.written sink.new) result }
     ensures sink { Blames Status.WriteFault (W.faults sink.old) (W.faults sink.new) result }
 {
     end_with(sink, USAGE, Status::Words, Status::WriteFault)
@@ -73,9 +73,9 @@ fn run_file<D: Disk, S: Source, W: Sink>(
     sink: &mut W,
     disk: &mut D,
 ) -> Status
-    ensures runs { Runs (around (D.told disk.old) (S.left source.old) (W.written sink.old)) (around (D.told disk.new) (S.left source.new) (W.written sink.new)) result }
-    ensures causes { HasCauses (counts (D.faults disk.old) (S.faults source.old) (W.faults sink.old)) (counts (D.faults disk.new) (S.faults source.new) (W.faults sink.new)) result }
-    ensures memory { result ≡ Status.Memory → IsSilent
+    ensures runs { RunsTable (around (D.told disk.old) (S.left source.old) (W.written sink.old)) (around (D.told disk.new) (S.left source.new) (W.written sink.new)) result }
+    ensures causes { HasTableCauses (counts (D.faults disk.old) (S.faults source.old) (W.faults sink.old)) (counts (D.faults disk.new) (S.faults source.new) (W.faults sink.new)) result }
+    ensures memory { result ≡ Status.Memory → PrintsNothing
         (record { told = D.told disk.old; left = S.left source.old; written = W.written sink.old })
         (record { told = D.told disk.new; left = S.left source.new; written = W.written sink.new }) }
     ensures unwritten { result ≡ Status.Memory → D.told disk.new ≡ D.told disk.old }
@@ -110,7 +110,7 @@ pub fn run_table<D: Disk, S: Source, W: Sink>(
     disk: &mut D,
 ) -> Status
     // Other words print the usage line, and touch neither the disk nor the source.
-    ensures usage { (IsTableWord (map string_bytes words.now) → ⊥) → Writes usage Status.Words (W.written sink.old) (W.written sink.new) result }
+    ensures usage { (IsTableWord (map string_bytes words.now) → ⊥) → WritesTableText table_usage Status.Words (W.written sink.old) (W.written sink.new) result }
     ensures untouched { (IsTableWord (map string_bytes words.now) → ⊥) → D.told disk.new ≡ D.told disk.old }
     ensures unread { (IsTableWord (map string_bytes words.now) → ⊥) → S.left source.new ≡ S.left source.old }
     ensures words { result ≡ Status.Words → IsTableWord (map string_bytes words.now) → ⊥ }
@@ -118,17 +118,17 @@ pub fn run_table<D: Disk, S: Source, W: Sink>(
     // The file is refused as any open of it refuses it, or since it is no table's, by the first place that shows it. Else the script is executed: what is written is the text of
     // a map, from the table on that the file has, and from the barrier on whatever a stop leaves has that table after the first puts and drops, all that were answered by then
     // and perhaps some after them.
-    ensures runs { IsTableWord (map string_bytes words.now) → Runs
+    ensures runs { IsTableWord (map string_bytes words.now) → RunsTable
         (record { told = D.told disk.old; left = S.left source.old; written = W.written sink.old })
         (record { told = D.told disk.new; left = S.left source.new; written = W.written sink.new }) result }
 
     // Want of memory comes before anything was read of the script or written. A call ends at its first fault: of the three counts one at most
     // rises, once, that of what the status blames.
-    ensures memory { result ≡ Status.Memory → IsSilent
+    ensures memory { result ≡ Status.Memory → PrintsNothing
         (record { told = D.told disk.old; left = S.left source.old; written = W.written sink.old })
         (record { told = D.told disk.new; left = S.left source.new; written = W.written sink.new }) }
     ensures unwritten { result ≡ Status.Memory → D.told disk.new ≡ D.told disk.old }
-    ensures causes { HasCauses
+    ensures causes { HasTableCauses
         (record { disk = D.faults disk.old; source = S.faults source.old; sink = W.faults sink.old })
         (record { disk = D.faults disk.new; source = S.faults source.new; sink = W.faults sink.new }) result }
 {

@@ -7,10 +7,10 @@ ghost use Rattle.df_model.specs.Commands.{ReadBlock, ReadPrepare};
 ghost use Rattle.df_model.specs.Work.{Work, is_known};
 ghost use Rattle.df_session.specs.Below.{memory};
 ghost use Rattle.df_session.specs.Reading.{shown_of};
-ghost use Rattle.df_table.specs.Calls.{Comes, Opens};
-ghost use Rattle.df_table.specs.Opening.{FindsOf, IsOther, NoneIsOther, ReadsBlock, ReadsNext, ReadsPrepare, TakesBlocks, TakesCommand, TakesRows, TakesTail, block_ending, place_at, prepare_ending};
+ghost use Rattle.df_table.specs.Calls.{Comes, OpensTable};
+ghost use Rattle.df_table.specs.Opening.{FindsOf, IsOtherClient, NoneIsOther, ReadsNext, ReadsPrepare, ReadsTableBlock, TakesBlocks, TakesCommand, TakesRows, TakesTail, block_ending, place_at, prepare_ending};
 ghost use Rattle.df_table.specs.Policy.{block_reads, prepare_reads, reads_at, replies};
-ghost use Rattle.df_table.specs.Ready.{HasCaughtUp, IsBegun, IsReady};
+ghost use Rattle.df_table.specs.Ready.{HasCaughtUp, IsBegun, IsReadyReplica};
 ghost use Rattle.df_table.specs.Statuses.{is_disk};
 ghost use Rattle.df_table.specs.Table.{empty_table};
 
@@ -24,7 +24,7 @@ use df_session::Replica;
 
 // Whether the session at a place is another client's.
 fn is_other(replica: &Replica, place: u64) -> bool
-    ensures { IsTrue result ↔ IsOther (memory replica.now) place }
+    ensures { IsTrue result ↔ IsOtherClient (memory replica.now) place }
 {
     match replica.session(place) {
         Some(session) => session.client != CLIENT,
@@ -34,7 +34,7 @@ fn is_other(replica: &Replica, place: u64) -> bool
 
 // The least place of another client's session.
 fn other_client(replica: &Replica) -> Option<u64>
-    ensures found { IfSome result (λ place. IsOther (memory replica.now) place × NoneIsOther (memory replica.now) place) }
+    ensures found { IfSome result (λ place. IsOtherClient (memory replica.now) place × NoneIsOther (memory replica.now) place) }
     ensures none { IfNone result (NoneIsOther (memory replica.now) (length replica.now.table.sessions)) }
 {
     for place in 0..replica.summary().sessions {
@@ -99,7 +99,7 @@ fn take_block<D: Disk>(
     requires live { replica.old.live ≡ true }
     requires known { is_known (sum_at address (memory replica.old).blocks.live) ≡ true }
     ensures makes { Comes (ReadBlock address ∷ []) replica.old replica.new (D.told disk.old) (D.told disk.new) result }
-    ensures reads { (t : Told) → D.told disk.old ≡ Some t → ReadsBlock (shown_of replica.old.file t.shown) (memory replica.old) address before most table result }
+    ensures reads { (t : Told) → D.told disk.old ≡ Some t → ReadsTableBlock (shown_of replica.old.file t.shown) (memory replica.old) address before most table result }
     ensures kept { OnOk result (replica.new ≡ replica.old) }
     ensures same { D.told disk.new ≡ D.told disk.old }
     ensures disk { IsBlamed is_disk (D.faults disk.old) (D.faults disk.new) result }
@@ -308,9 +308,9 @@ pub(crate) fn open_table<D: Disk>(
 ) -> Result<ObjectTable, Ending>
     requires empty { table ≡ empty_table layout.now }
     requires live { replica.old.live ≡ true }
-    ensures opens { (w : Work) → IsBegun layout.now w replica.old → Opens replica.old replica.new (D.told disk.old) (D.told disk.new) result }
+    ensures opens { (w : Work) → IsBegun layout.now w replica.old → OpensTable replica.old replica.new (D.told disk.old) (D.told disk.new) result }
     ensures finds { (w : Work) → IsBegun layout.now w replica.old → (t : Told) → D.told disk.old ≡ Some t → FindsOf layout.now (shown_of replica.old.file t.shown) (memory replica.old) result }
-    ensures ready { (w : Work) → IsBegun layout.now w replica.old → (t : Told) → D.told disk.old ≡ Some t → OnOk result (IsReady layout.now replica.new) }
+    ensures ready { (w : Work) → IsBegun layout.now w replica.old → (t : Told) → D.told disk.old ≡ Some t → OnOk result (IsReadyReplica layout.now replica.new) }
     ensures live { OnOk result (replica.new.live ≡ true) }
     ensures disk { IsBlamed is_disk (D.faults disk.old) (D.faults disk.new) result }
 {

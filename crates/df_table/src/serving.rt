@@ -5,9 +5,9 @@ ghost use Rattle.df_disk.specs.Told.{Told};
 ghost use Rattle.df_lines.specs.Room.{IsFresh, line_bound};
 ghost use Rattle.df_model.specs.Work.{Work};
 ghost use Rattle.df_rows.specs.Limits as limits;
-ghost use Rattle.df_table.specs.Outside.{HasCauses, around, counts};
+ghost use Rattle.df_table.specs.Outside.{HasTableCauses, around, counts};
 ghost use Rattle.df_table.specs.Ready.{IsBegun};
-ghost use Rattle.df_table.specs.Run.{Does};
+ghost use Rattle.df_table.specs.Run.{DoesTable};
 ghost use Rattle.df_table.specs.Session.{ServesOpened};
 ghost use Rattle.df_table.specs.Table.{empty_table};
 
@@ -62,7 +62,7 @@ fn serve_opened<D: Disk, S: Source, W: Sink>(
     ensures memory { result ≡ Status.Memory → ⊥ }
     ensures words { result ≡ Status.Words → ⊥ }
     ensures serves { (w : Work) → IsBegun opening.layout w replica → (t : Told) → D.told disk.old ≡ Some t → ServesOpened opening.layout replica t (around (D.told disk.old) (S.left source.old) (W.written sink.old)) (around (D.told disk.new) (S.left source.new) (W.written sink.new)) result }
-    ensures causes { HasCauses (counts (D.faults disk.old) (S.faults source.old) (W.faults sink.old)) (counts (D.faults disk.new) (S.faults source.new) (W.faults sink.new)) result }
+    ensures causes { HasTableCauses (counts (D.faults disk.old) (S.faults source.old) (W.faults sink.old)) (counts (D.faults disk.new) (S.faults source.new) (W.faults sink.new)) result }
 {
     let Opening {
         layout,
@@ -97,8 +97,8 @@ pub(crate) fn serve_table<D: Disk, S: Source, W: Sink>(
     requires lines { IsFresh (line_bound reserved.rooms.layout) reserved.lines }
     requires table { reserved.table ≡ empty_table reserved.rooms.layout }
     requires block { 64 * limits.rows_in_block reserved.rooms.layout ≤ vec_len reserved.block }
-    ensures serves { (t : Told) → D.told disk.old ≡ Some t → IsImage t.shown → Does reserved.rooms.layout t (around (D.told disk.old) (S.left source.old) (W.written sink.old)) (around (D.told disk.new) (S.left source.new) (W.written sink.new)) result }
-    ensures causes { HasCauses (counts (D.faults disk.old) (S.faults source.old) (W.faults sink.old)) (counts (D.faults disk.new) (S.faults source.new) (W.faults sink.new)) result }
+    ensures serves { (t : Told) → D.told disk.old ≡ Some t → IsImage t.shown → DoesTable reserved.rooms.layout t (around (D.told disk.old) (S.left source.old) (W.written sink.old)) (around (D.told disk.new) (S.left source.new) (W.written sink.new)) result }
+    ensures causes { HasTableCauses (counts (D.faults disk.old) (S.faults source.old) (W.faults sink.old)) (counts (D.faults disk.new) (S.faults source.new) (W.faults sink.new)) result }
     ensures memory { result ≡ Status.Memory → ⊥ }
     ensures words { result ≡ Status.Words → ⊥ }
 {

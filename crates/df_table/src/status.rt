@@ -24,11 +24,11 @@ pub enum Status {
 
 impl Status {
     ghost use Rattle.std.specs.Prelude.{◌≡◌};
-    ghost use Rattle.df_table.specs.Statuses.{number_of};
+    ghost use Rattle.df_table.specs.Statuses.{table_exit_number};
 
     /// The exit status of the program.
     pub fn number(self) -> u8
-        ensures { result ≡ number_of self }
+        ensures { result ≡ table_exit_number self }
     {
         self as u8
     }

@@ -6,9 +6,9 @@ ghost use Rattle.df_rows.specs.Answers.{refusal_of};
 ghost use Rattle.df_rows.specs.Lines.{done_text};
 ghost use Rattle.df_rows.specs.declared.line.Line.TheVariants as lines;
 ghost use Rattle.df_rows.specs.Grammar.{Count, Drop, Get, Put, said_with, value_length};
-ghost use Rattle.df_table.specs.Outside.{Blames, Writes, around};
+ghost use Rattle.df_table.specs.Outside.{Blames, WritesTableText, around};
 ghost use Rattle.df_table.specs.Ready.{IsSteady};
-ghost use Rattle.df_table.specs.Serving.{BlamesIfEnds, Ended, EndsTurn, Executes, IsServing, OnGoing, Tells, Turns, printed_turn, state};
+ghost use Rattle.df_table.specs.Serving.{EndsTurn, ExecutesLine, IsServing, OnGoing, ServingEnded, StepBlamesIfEnds, TableTurns, TellsLine, printed_turn, state};
 
 use crate::appending::change;
 use crate::ending::tell_ending;
@@ -40,7 +40,7 @@ fn printed(done: Result<(), Failed>) -> Turn
 // Writes the line that refuses the next line of a script, of which `lines` were executed.
 fn refuse<W: Sink>(sink: &mut W, lines: u64) -> Status
     requires { lines < 2 ^ 63 }
-    ensures line { Writes (script_text (lines + 1)) Status.Script (W.written sink.old) (W.written sink.new) result }
+    ensures line { WritesTableText (script_text (lines + 1)) Status.Script (W.written sink.old) (W.written sink.new) result }
     ensures sink { Blames Status.WriteFault (W.faults sink.old) (W.faults sink.new) result }
 {
     match print_script(sink, lines + 1) {
@@ -60,9 +60,9 @@ fn put<D: Disk, W: Sink>(
     requires serving { (at_end : Option (List ℕ)) × IsServing session.old.layout session.old at_end }
     requires size { size ≤ length session.old.lines.body }
     requires fine { refusal_of session.old.table (lines.Put key size) ≡ None }
-    ensures executes { Executes session.old.layout (Put key (take size session.old.lines.body)) session.old session.new (D.told disk.old) (D.told disk.new) (W.written sink.old) (W.written sink.new) result }
-    ensures disk { BlamesIfEnds Status.DiskFault (D.faults disk.old) (D.faults disk.new) result }
-    ensures sink { BlamesIfEnds Status.WriteFault (W.faults sink.old) (W.faults sink.new) result }
+    ensures executes { ExecutesLine session.old.layout (Put key (take size session.old.lines.body)) session.old session.new (D.told disk.old) (D.told disk.new) (W.written sink.old) (W.written sink.new) result }
+    ensures disk { StepBlamesIfEnds Status.DiskFault (D.faults disk.old) (D.faults disk.new) result }
+    ensures sink { StepBlamesIfEnds Status.WriteFault (W.faults sink.old) (W.faults sink.new) result }
 {
     let row = Row::new(key, session.lines.body(size));
     match change(disk, session, Command::Put(row)) {
@@ -75,9 +75,9 @@ fn put<D: Disk, W: Sink>(
 fn drop_key<D: Disk, W: Sink>(disk: &mut D, sink: &mut W, session: &mut Session, key: u128) -> Turn
     requires serving { (at_end : Option (List ℕ)) × IsServing session.old.layout session.old at_end }
     requires fine { refusal_of session.old.table (lines.Drop key) ≡ None }
-    ensures executes { Executes session.old.layout (Drop key) session.old session.new (D.told disk.old) (D.told disk.new) (W.written sink.old) (W.written sink.new) result }
-    ensures disk { BlamesIfEnds Status.DiskFault (D.faults disk.old) (D.faults disk.new) result }
-    ensures sink { BlamesIfEnds Status.WriteFault (W.faults sink.old) (W.faults sink.new) result }
+    ensures executes { ExecutesLine session.old.layout (Drop key) session.old session.new (D.told disk.old) (D.told disk.new) (W.written sink.old) (W.written sink.new) result }
+    ensures disk { StepBlamesIfEnds Status.DiskFault (D.faults disk.old) (D.faults disk.new) result }
+    ensures sink { StepBlamesIfEnds Status.WriteFault (W.faults sink.old) (W.faults sink.new) result }
 {
     match change(disk, session, Command::Drop(key)) {
         Ok(op) => printed(print_answer(sink, &Answer::Dropped { op })),
@@ -88,8 +88,8 @@ fn drop_key<D: Disk, W: Sink>(disk: &mut D, sink: &mut W, session: &mut Session,
 // Prints the value of a key that the table has.
 fn get<W: Sink>(sink: &mut W, session: &Session, key: u128) -> Turn
     requires { map.contains_key session.now.table.rows key ≡ true }
-    ensures tells { (n : ℕ) → Tells (done_text session.now.table n (Get key)) (W.written sink.old) (W.written sink.new) result }
-    ensures sink { BlamesIfEnds Status.WriteFault (W.faults sink.old) (W.faults sink.new) result }
+    ensures tells { (n : ℕ) → TellsLine (done_text session.now.table n (Get key)) (W.written sink.old) (W.written sink.new) result }
+    ensures sink { StepBlamesIfEnds Status.WriteFault (W.faults sink.old) (W.faults sink.new) result }
 {
     match session.table.get(key) {
         Some(value) => printed(print_answer(sink, &Answer::Found { key, value })),
@@ -99,8 +99,8 @@ fn get<W: Sink>(sink: &mut W, session: &Session, key: u128) -> Turn
 
 // Prints how many rows there are.
 fn count<W: Sink>(sink: &mut W, session: &Session) -> Turn
-    ensures tells { (n : ℕ) → Tells (done_text session.now.table n Count) (W.written sink.old) (W.written sink.new) result }
-    ensures sink { BlamesIfEnds Status.WriteFault (W.faults sink.old) (W.faults sink.new) result }
+    ensures tells { (n : ℕ) → TellsLine (done_text session.now.table n Count) (W.written sink.old) (W.written sink.new) result }
+    ensures sink { StepBlamesIfEnds Status.WriteFault (W.faults sink.old) (W.faults sink.new) result }
 {
     let rows = session.table.len();
     printed(print_answer(sink, &Answer::Counted { rows }))
@@ -111,9 +111,9 @@ fn perform<D: Disk, W: Sink>(disk: &mut D, sink: &mut W, session: &mut Session, 
     requires serving { (at_end : Option (List ℕ)) × IsServing session.old.layout session.old at_end }
     requires size { value_length line ≤ length session.old.lines.body }
     requires fine { refusal_of session.old.table line ≡ None }
-    ensures executes { Executes session.old.layout (said_with session.old.lines.body line) session.old session.new (D.told disk.old) (D.told disk.new) (W.written sink.old) (W.written sink.new) result }
-    ensures disk { BlamesIfEnds Status.DiskFault (D.faults disk.old) (D.faults disk.new) result }
-    ensures sink { BlamesIfEnds Status.WriteFault (W.faults sink.old) (W.faults sink.new) result }
+    ensures executes { ExecutesLine session.old.layout (said_with session.old.lines.body line) session.old session.new (D.told disk.old) (D.told disk.new) (W.written sink.old) (W.written sink.new) result }
+    ensures disk { StepBlamesIfEnds Status.DiskFault (D.faults disk.old) (D.faults disk.new) result }
+    ensures sink { StepBlamesIfEnds Status.WriteFault (W.faults sink.old) (W.faults sink.new) result }
 {
     match line {
         Line::Put { key, length } => put(disk, sink, session, key, length),
@@ -127,9 +127,9 @@ fn perform<D: Disk, W: Sink>(disk: &mut D, sink: &mut W, session: &mut Session, 
 fn execute<D: Disk, W: Sink>(disk: &mut D, sink: &mut W, session: &mut Session, line: Line) -> Turn
     requires serving { (at_end : Option (List ℕ)) × IsServing session.old.layout session.old at_end }
     requires size { value_length line ≤ length session.old.lines.body }
-    ensures executes { Executes session.old.layout (said_with session.old.lines.body line) session.old session.new (D.told disk.old) (D.told disk.new) (W.written sink.old) (W.written sink.new) result }
-    ensures disk { BlamesIfEnds Status.DiskFault (D.faults disk.old) (D.faults disk.new) result }
-    ensures sink { BlamesIfEnds Status.WriteFault (W.faults sink.old) (W.faults sink.new) result }
+    ensures executes { ExecutesLine session.old.layout (said_with session.old.lines.body line) session.old session.new (D.told disk.old) (D.told disk.new) (W.written sink.old) (W.written sink.new) result }
+    ensures disk { StepBlamesIfEnds Status.DiskFault (D.faults disk.old) (D.faults disk.new) result }
+    ensures sink { StepBlamesIfEnds Status.WriteFault (W.faults sink.old) (W.faults sink.new) result }
 {
     match session.table.refusal(&line) {
         Some(refusal) => printed(print_answer(sink, &Answer::Refused(refusal))),
@@ -145,7 +145,7 @@ fn take_turn<D: Disk, S: Source, W: Sink>(
     session: &mut Session,
 ) -> Turn
     requires serving { IsServing session.old.layout session.old (S.left source.old) }
-    ensures turns { IsSteady session.old.layout session.old.replica session.old.table → Turns session.old.layout
+    ensures turns { IsSteady session.old.layout session.old.replica session.old.table → TableTurns session.old.layout
         (state (record { told = D.told disk.old; left = S.left source.old; written = W.written sink.old }) session.old)
         (state (record { told = D.told disk.new; left = S.left source.new; written = W.written sink.new }) session.new) result }
     ensures steady { IsSteady session.old.layout session.old.replica session.old.table → OnGoing result (IsSteady session.old.layout session.new.replica session.new.table) }
@@ -153,9 +153,9 @@ fn take_turn<D: Disk, S: Source, W: Sink>(
     ensures layout { OnGoing result (session.new.layout ≡ session.old.layout) }
     ensures never { EndsTurn result }
     ensures budget { OnGoing result (session.new.lines.reading.budget < session.old.lines.reading.budget) }
-    ensures disk { BlamesIfEnds Status.DiskFault (D.faults disk.old) (D.faults disk.new) result }
-    ensures source { BlamesIfEnds Status.ReadFault (S.faults source.old) (S.faults source.new) result }
-    ensures sink { BlamesIfEnds Status.WriteFault (W.faults sink.old) (W.faults sink.new) result }
+    ensures disk { StepBlamesIfEnds Status.DiskFault (D.faults disk.old) (D.faults disk.new) result }
+    ensures source { StepBlamesIfEnds Status.ReadFault (S.faults source.old) (S.faults source.new) result }
+    ensures sink { StepBlamesIfEnds Status.WriteFault (W.faults sink.old) (W.faults sink.new) result }
 {
     match session.lines.next(source) {
         Ok(Next::Line(line)) => {
@@ -179,7 +179,7 @@ pub(crate) fn serve_lines<D: Disk, S: Source, W: Sink>(
     requires { IsServing session.old.layout session.old (S.left source.old) }
     ensures memory { result ≡ Status.Memory → ⊥ }
     ensures words { result ≡ Status.Words → ⊥ }
-    ensures session { IsSteady session.old.layout session.old.replica session.old.table → Ended session.old.layout
+    ensures session { IsSteady session.old.layout session.old.replica session.old.table → ServingEnded session.old.layout
         (state (around (D.told disk.old) (S.left source.old) (W.written sink.old)) session.old) (state (around (D.told disk.new) (S.left source.new) (W.written sink.new)) session.new) result }
     ensures disk { Blames Status.DiskFault (D.faults disk.old) (D.faults disk.new) result }
     ensures source { Blames Status.ReadFault (S.faults source.old) (S.faults source.new) result }

@@ -5,7 +5,7 @@ use Rattle.df_inspect.specs.Opening.{open_refusal}
 use Rattle.df_model.specs.declared.errors.OpenError.{OpenError}
 use Rattle.df_model.specs.declared.errors.OpenError.TheVariants as opens
 use Rattle.df_model.specs.Faults.{is_open_fault}
-use Rattle.df_telling.specs.One.{Faults, HasCauses, NoneFailed}
+use Rattle.df_telling.specs.One.{Faults, HasCausesOfOne, NoneFailed}
 use Rattle.df_telling.specs.Telling.{Blames, PrintsError, Writes}
 
 -- ---- one fault
@@ -54,7 +54,7 @@ pub record AreApart {S : Type 0} (disk source sink : S) : Type 0 where
 
 module _ {S : Type 0} (disk source sink : S) (apart : AreApart disk source sink) (before now : Faults) (old new : Option (List ℕ)) (status : S) (unread : now.source ≡ before.source) (blame : Blames sink before.sink now.sink status) where
   -- a text was printed that ends with a status which blames neither the disk nor the source
-  pub text_causes : (text : List ℕ) (given : S) → (given ≡ disk → ⊥) → (given ≡ source → ⊥) → now.disk ≡ before.disk → Writes sink text given old new status → HasCauses disk source sink before now status
+  pub text_causes : (text : List ℕ) (given : S) → (given ≡ disk → ⊥) → (given ≡ source → ⊥) → now.disk ≡ before.disk → Writes sink text given old new status → HasCausesOfOne disk source sink before now status
   text_causes text given one two same printed = record {
     disk = no_blame disk before.disk now.disk status same (text_ends sink text given disk old new status printed one apart.sink_disk);
     source = no_blame source before.source now.source status unread (text_ends sink text given source old new status printed two apart.sink_source);
@@ -62,7 +62,7 @@ module _ {S : Type 0} (disk source sink : S) (apart : AreApart disk source sink)
   }
 
   -- the disk failed
-  pub fault_causes : status ≡ disk → Rose before.disk now.disk → HasCauses disk source sink before now status
+  pub fault_causes : status ≡ disk → Rose before.disk now.disk → HasCausesOfOne disk source sink before now status
   fault_causes is rose = record {
     disk = its_blame disk before.disk now.disk status is rose;
     source = no_blame source before.source now.source status unread (λ no. apart.disk_source (sym is ∙ no));
@@ -70,7 +70,7 @@ module _ {S : Type 0} (disk source sink : S) (apart : AreApart disk source sink)
   }
 
   -- a file isn't opened
-  pub open_causes : (T : Type 0) (e : OpenError) (refused : S) → (refused ≡ disk → ⊥) → (refused ≡ source → ⊥) → IsBlamed {T = T} is_open_fault before.disk now.disk (Err e) → PrintsError refused disk sink e old new status → HasCauses disk source sink before now status
+  pub open_causes : (T : Type 0) (e : OpenError) (refused : S) → (refused ≡ disk → ⊥) → (refused ≡ source → ⊥) → IsBlamed {T = T} is_open_fault before.disk now.disk (Err e) → PrintsError refused disk sink e old new status → HasCausesOfOne disk source sink before now status
   open_causes T e refused one two blamed prints =
       elim (open_fault e) [
         | inl fault ↦ fault_causes (prints.failing fault).0 (subst (λ (x : OpenError). Blamed (is_open_fault x) before.disk now.disk) fault blamed).1
@@ -78,5 +78,5 @@ module _ {S : Type 0} (disk source sink : S) (apart : AreApart disk source sink)
       ]
 
 -- nothing failed
-pub nothing_failed : {S : Type 0} (disk source sink : S) (before now : Faults) (status : S) → HasCauses disk source sink before now status → NoneFailed before now → (status ≡ disk → ⊥) × (status ≡ source → ⊥) × (status ≡ sink → ⊥)
+pub nothing_failed : {S : Type 0} (disk source sink : S) (before now : Faults) (status : S) → HasCausesOfOne disk source sink before now status → NoneFailed before now → (status ≡ disk → ⊥) × (status ≡ source → ⊥) × (status ≡ sink → ⊥)
 nothing_failed disk source sink before now status causes none = (λ is. none.disk (causes.disk.rose is), λ is. none.source (causes.source.rose is), λ is. none.sink (causes.sink.rose is))

@@ -29,7 +29,7 @@ pub record NoneFailed (before now : Faults) : Type 0 where
   pub sink : Rose before.sink now.sink → ⊥
 
 -- each fault has its cause: of the three counts one at most rose, once, that of what the status blames
-pub record HasCauses {S : Type 0} (on_disk on_source on_sink : S) (before now : Faults) (status : S) : Type 0 where
+pub record HasCausesOfOne {S : Type 0} (on_disk on_source on_sink : S) (before now : Faults) (status : S) : Type 0 where
   pub disk : Blames on_disk before.disk now.disk status
   pub source : Blames on_source before.source now.source status
   pub sink : Blames on_sink before.sink now.sink status

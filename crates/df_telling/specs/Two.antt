@@ -29,11 +29,11 @@ pub record BlamesDisks {S : Type 0} (fault : S) (before now : Faults) (status : 
   pub same : (status ≡ fault → ⊥) → (now.first ≡ before.first) × (now.second ≡ before.second)
 
 -- each fault has its cause: of the three counts one at most rose, once, that of what the status blames
-pub record HasCauses {S : Type 0} (disks sink : S) (before now : Faults) (status : S) : Type 0 where
+pub record HasCausesOfTwo {S : Type 0} (disks sink : S) (before now : Faults) (status : S) : Type 0 where
   pub by_disks : BlamesDisks disks before now status
   pub by_sink : Blames sink before.sink now.sink status
 
 -- neither the second disk nor the sink was touched
-pub record IsSilent (old new : Outside) : Type 0 where
+pub record TouchesNeither (old new : Outside) : Type 0 where
   pub second : new.second ≡ old.second
   pub written : new.written ≡ old.written

@@ -4,7 +4,7 @@ ghost use Rattle.df_layout.specs.declared.layout.Layout.{Layout as AnyLayout};
 ghost use Rattle.df_format.specs.Rules.{ObeysRules};
 ghost use Rattle.df_format.specs.Own.{own_place};
 ghost use Rattle.df_format.specs.Making.{for_body};
-ghost use Rattle.df_grid.specs.Table.{IsIdle, IsReady};
+ghost use Rattle.df_grid.specs.Table.{IsIdle, IsReadyTrailer};
 
 use df_base::{Failed, check};
 use df_buffers::{Block, Raw};
@@ -46,7 +46,7 @@ pub(crate) fn put_next(
     ensures layout { grid.new.layout ≡ grid.old.layout }
     ensures cluster { grid.new.cluster ≡ 7 }
     ensures idle { IsIdle grid.old.blocks → IsIdle grid.new.blocks }
-    ensures ready { IsReady grid.old.blocks → IsReady grid.new.blocks }
+    ensures ready { IsReadyTrailer grid.old.blocks → IsReadyTrailer grid.new.blocks }
 {
     let Some(address) = grid.next() else {
         return Ok(None);
@@ -83,7 +83,7 @@ pub(crate) fn begin(grid: &mut Grid) -> Result<(), Failed>
     requires idle { IsIdle grid.old.blocks }
     ensures layout { grid.new.layout ≡ grid.old.layout }
     ensures cluster { grid.new.cluster ≡ grid.old.cluster }
-    ensures ready { OnOk result (IsReady grid.new.blocks) }
+    ensures ready { OnOk result (IsReadyTrailer grid.new.blocks) }
 {
     if grid.free() == 0 {
         return Err(Failed);
@@ -111,7 +111,7 @@ pub(crate) fn write_and_end(
     disk: &mut MemoryDisk,
     sequence: u64,
 ) -> Result<(), Failed>
-    requires ready { IsReady grid.old.blocks }
+    requires ready { IsReadyTrailer grid.old.blocks }
     requires sequence { (2 ≤ sequence) × (sequence ≤ 100) }
     ensures layout { grid.new.layout ≡ grid.old.layout }
     ensures cluster { grid.new.cluster ≡ grid.old.cluster }

@@ -1,7 +1,7 @@
 // What no clause says: that the calls come together over a disk in memory. Expected values are worked out by hand from the rules of
 // what is held.
 ghost use Rattle.std.specs.Prelude.{◌≡◌};
-ghost use Rattle.df_grid.specs.Table.{IsIdle, IsReady};
+ghost use Rattle.df_grid.specs.Table.{IsIdle, IsReadyTrailer};
 
 use crate::block_examples::{begin, put_all, put_next, write_and_end};
 use crate::chain_examples::new_grid;
@@ -34,7 +34,7 @@ fn release(grid: &mut Grid, address: u64) -> (bool, Option<u64>)
     ensures layout { grid.new.layout ≡ grid.old.layout }
     ensures cluster { grid.new.cluster ≡ grid.old.cluster }
     ensures idle { IsIdle grid.old.blocks → IsIdle grid.new.blocks }
-    ensures ready { IsReady grid.old.blocks → IsReady grid.new.blocks }
+    ensures ready { IsReadyTrailer grid.old.blocks → IsReadyTrailer grid.new.blocks }
 {
     let released = grid.release(address);
     (released, grid.next())

@@ -3,7 +3,7 @@ ghost use Rattle.std.specs.Prelude.{◌≡◌, ◌+◌, ◌-◌, ◌/◌, ◌≤
 ghost use Rattle.df_trailer.specs.Reading.{HasRead, bytes_read};
 ghost use Rattle.df_units.specs.Superblocks.{AreFieldsOf};
 ghost use Rattle.df_grid.specs.Table.{IsIdle, no_blocks};
-ghost use Rattle.df_tests_grid.specs.Examples.{IsLeft};
+ghost use Rattle.df_tests_grid.specs.Examples.{AreLeftToWrite};
 
 use arrayvec::ArrayVec;
 use df_base::{Check, Failed};
@@ -96,7 +96,7 @@ pub(crate) fn super_of(layout: &Layout, last: Reference, size: u64, op: u64) -> 
 pub(crate) fn begin(grid: &mut Grid, blocks: u64) -> Result<(), Failed>
     requires idle { IsIdle grid.old.blocks }
     requires some { (1 ≤ blocks) × (blocks ≤ 70) }
-    ensures left { OnOk result (IsLeft 0 blocks grid.new.blocks) }
+    ensures left { OnOk result (AreLeftToWrite 0 blocks grid.new.blocks) }
     ensures layout { grid.new.layout ≡ grid.old.layout }
     ensures cluster { grid.new.cluster ≡ grid.old.cluster }
 {
@@ -115,10 +115,10 @@ pub(crate) fn write_any(
     left: u64,
     piece: &[u8],
 ) -> Result<(), Failed>
-    requires left { IsLeft index left grid.old.blocks }
+    requires left { AreLeftToWrite index left grid.old.blocks }
     requires some { 0 < left }
     requires fits { 256 + length piece.now ≤ grid.old.layout.block_size }
-    ensures left { OnOk result (IsLeft (index + 1) (left - 1) grid.new.blocks) }
+    ensures left { OnOk result (AreLeftToWrite (index + 1) (left - 1) grid.new.blocks) }
     ensures layout { grid.new.layout ≡ grid.old.layout }
     ensures cluster { grid.new.cluster ≡ grid.old.cluster }
 {

@@ -1,7 +1,7 @@
 // What the tests of the rings share: prepares of a small file of cluster 7, and scans.
 ghost use Rattle.std.specs.Prelude.{◌≡◌, ◌≤◌, ◌<◌, ◌+◌, ◌^◌, [], length, OnOk, IsSome};
 ghost use Rattle.df_layout.specs.declared.layout.Layout.{Layout as AnyLayout};
-ghost use Rattle.df_journal.specs.Shows.{IsTable};
+ghost use Rattle.df_journal.specs.Shows.{IsSeenTable};
 ghost use Rattle.df_format.specs.Making.{for_body};
 ghost use Rattle.df_format.specs.Own.{own_place};
 ghost use Rattle.df_format.specs.Rules.{ObeysRules};
@@ -92,7 +92,7 @@ pub(crate) fn tried_from(
     requires { start.now.op ≤ 2 ^ 62 }
     ensures count { length result.0.slots ≡ layout.now.slots }
     ensures start { result.0.start ≡ start.now }
-    ensures table { OnOk result.1 (IsTable layout.now result.0.start.cluster result.0.slots) }
+    ensures table { OnOk result.1 (IsSeenTable layout.now result.0.start.cluster result.0.slots) }
 {
     let blank = SlotSeen {
         header: Err(Class::Garbled),
@@ -120,7 +120,7 @@ pub(crate) fn scanned_from(
     requires { start.now.op ≤ 2 ^ 62 }
     ensures count { length result.slots ≡ layout.now.slots }
     ensures start { result.start ≡ start.now }
-    ensures table { IsTable layout.now result.start.cluster result.slots }
+    ensures table { IsSeenTable layout.now result.start.cluster result.slots }
 {
     let (found, done) = tried_from(rt, alloc, disk, layout, start);
     done.expect(rt, "a disk whose calls all succeed");
@@ -138,7 +138,7 @@ pub(crate) fn tried(
 ) -> (SlotTable, Result<(), Failed>)
     requires { op ≤ 2 ^ 62 }
     ensures count { length result.0.slots ≡ layout.now.slots }
-    ensures table { OnOk result.1 (IsTable layout.now result.0.start.cluster result.0.slots) }
+    ensures table { OnOk result.1 (IsSeenTable layout.now result.0.start.cluster result.0.slots) }
 {
     let start = Start {
         cluster: 7,
@@ -158,7 +158,7 @@ pub(crate) fn scanned(
     boot: u64,
 ) -> SlotTable
     ensures count { length result.slots ≡ layout.now.slots }
-    ensures table { IsTable layout.now result.start.cluster result.slots }
+    ensures table { IsSeenTable layout.now result.start.cluster result.slots }
 {
     let (found, done) = tried(rt, alloc, disk, layout, 0, boot);
     done.expect(rt, "a disk whose calls all succeed");

@@ -1,6 +1,6 @@
 // What no clause says: that a table comes through a disk in memory, and that a failed write is answered.
 ghost use Rattle.std.specs.Prelude.{◌≡◌};
-ghost use Rattle.df_headers.specs.Ring.{IsTable};
+ghost use Rattle.df_headers.specs.Ring.{IsHeaderTable};
 
 use crate::rings::reserved_table;
 use crate::stored::Board;
@@ -20,7 +20,7 @@ fn write_second(
     room: &mut Raw<HeaderSector>,
 ) -> Result<(), Failed>
     requires slots { layout.now.slots ≡ 32 }
-    requires table { IsTable layout.now 7 table.now }
+    requires table { IsHeaderTable layout.now 7 table.now }
 {
     table.write_sector(board, room, 1)
 }

@@ -1,7 +1,7 @@
 // What is found of prepares that the superblock names, of groups and of earlier boots: after a checkpoint at op 4 whose superblock
 // has head 6 and boot 3, and in a file of version 1.
 ghost use Rattle.std.specs.Prelude.{◌≡◌, ◌≤◌};
-ghost use Rattle.df_headers.specs.Ring.{IsTable};
+ghost use Rattle.df_headers.specs.Ring.{IsHeaderTable};
 
 use crate::files::{blank, prepare_header, scanned_from};
 use crate::rings::reserved_table;
@@ -51,10 +51,10 @@ fn write_unit(
     is_told: bool,
 )
     requires layout { unit.now.layout ≡ layout.now }
-    requires shown { IsTable layout.now unit.now.unit.header.cluster tables.old.shown }
-    requires unshown { IsTable layout.now unit.now.unit.header.cluster tables.old.unshown }
-    ensures shown { IsTable layout.now unit.now.unit.header.cluster tables.new.shown }
-    ensures unshown { IsTable layout.now unit.now.unit.header.cluster tables.new.unshown }
+    requires shown { IsHeaderTable layout.now unit.now.unit.header.cluster tables.old.shown }
+    requires unshown { IsHeaderTable layout.now unit.now.unit.header.cluster tables.old.unshown }
+    ensures shown { IsHeaderTable layout.now unit.now.unit.header.cluster tables.new.shown }
+    ensures unshown { IsHeaderTable layout.now unit.now.unit.header.cluster tables.new.unshown }
 {
     if is_told {
         let mut sector: Raw<HeaderSector> = Raw::reserve(alloc, layout).expect(
@@ -81,10 +81,10 @@ fn write(
     requires slots { layout.now.slots ≡ 32 }
     requires size { layout.now.message_size ≡ 8192 }
     requires op { (5 ≤ op) × (op ≤ 8) }
-    requires shown { IsTable layout.now 7 tables.old.shown }
-    requires unshown { IsTable layout.now 7 tables.old.unshown }
-    ensures shown { IsTable layout.now 7 tables.new.shown }
-    ensures unshown { IsTable layout.now 7 tables.new.unshown }
+    requires shown { IsHeaderTable layout.now 7 tables.old.shown }
+    requires unshown { IsHeaderTable layout.now 7 tables.old.unshown }
+    ensures shown { IsHeaderTable layout.now 7 tables.new.shown }
+    ensures unshown { IsHeaderTable layout.now 7 tables.new.unshown }
 {
     let (boot, is_paired, left) = *written;
     let room: Raw<Prepare> = Raw::reserve(alloc, layout).expect(rt, "memory of a room");
@@ -111,8 +111,8 @@ fn write_all(
 ) -> Check
     requires slots { layout.now.slots ≡ 32 }
     requires size { layout.now.message_size ≡ 8192 }
-    requires shown { IsTable layout.now 7 tables.old.shown }
-    requires unshown { IsTable layout.now 7 tables.old.unshown }
+    requires shown { IsHeaderTable layout.now 7 tables.old.shown }
+    requires unshown { IsHeaderTable layout.now 7 tables.old.unshown }
 {
     let five = write(disk, layout, tables, rt, alloc, 5, &written[0], BASE);
     let six = write(disk, layout, tables, rt, alloc, 6, &written[1], five);

@@ -1,6 +1,6 @@
 // Appends that are found again, and what is decided where something of them was lost.
 ghost use Rattle.std.specs.Prelude.{◌≡◌, ◌≤◌};
-ghost use Rattle.df_headers.specs.Ring.{IsTable};
+ghost use Rattle.df_headers.specs.Ring.{IsHeaderTable};
 
 use crate::files::{prepare_header, scanned};
 use crate::rings::reserved_table;
@@ -32,8 +32,8 @@ fn append_next(
     requires size { layout.now.message_size ≡ 8192 }
     requires op { (1 ≤ op) × (op ≤ 1000) }
     requires boot { boot ≤ 1000 }
-    requires table { IsTable layout.now 7 table.old }
-    ensures { IsTable layout.now 7 table.new }
+    requires table { IsHeaderTable layout.now 7 table.old }
+    ensures { IsHeaderTable layout.now 7 table.new }
 {
     let room: Raw<Prepare> = Raw::reserve(alloc, layout).expect(rt, "memory of a room");
     let mut sector = Raw::reserve(alloc, layout).expect(rt, "memory of a sector");
@@ -51,7 +51,7 @@ pub(crate) fn write_ring(
     table: &HeaderTable,
 )
     requires slots { layout.now.slots ≡ 32 }
-    requires table { IsTable layout.now 7 table.now }
+    requires table { IsHeaderTable layout.now 7 table.now }
 {
     let mut sector = Raw::reserve(alloc, layout).expect(rt, "memory of a sector");
     table

@@ -13,7 +13,7 @@ use Rattle.df_theory.specs.Rests.{RestsOn}
 use Rattle.df_theory.specs.Found.{IsTail, NotLost, slot_behind}
 use Rattle.df_theory.proofs.Knowns.{IsNamedTail, fitting_front, known_at, known_same, named_tail}
 use Rattle.df_theory.specs.Opens.{AreFitting, BootSpent, named_by, Damaged, Found, IsReadable, IsShown, ReadsTo, Refusal, Refused}
-use Rattle.df_theory.specs.DamageLaws.{BlameLaw, BlamesHurt, IsGroupUnhurt, IsHurt, ReadLaw}
+use Rattle.df_theory.specs.DamageLaws.{BlameLaw, IsGroupUnhurt, IsHurt, ReadLaw, RefusalBlamesHurt}
 use Rattle.df_theory.proofs.Choices.{one_chosen}
 use Rattle.df_theory.proofs.OneView.{same_parts}
 use Rattle.df_theory.proofs.Once.{same_links}
@@ -73,8 +73,8 @@ read_law log shown place other x y chance at is = chance.distinct place other x 
 -- ---- step by step
 
 module _ (sh : Shape) (log : UnitLog) (v : View) (shown : Units) (rests : RestsOn sh log v) (chance : NoChance log shown) (agreed : Agree shown v.checkpoint.content) (r : Refusal) where
-  blame_replies : (tail : List Message) → IsTail sh shown v.checkpoint tail → NotLost shown v.checkpoint.content (v.checkpoint.content.op + length tail) → AnswersReplies shown v.checkpoint tail (Refused r) → BlamesHurt sh log v shown r
-  blame_replies tail is_tail not_lost (n, counted, inl p) = subst (λ (x : Refusal). BlamesHurt sh log v shown x) (let both : Refused r ≡ Refused (Damaged (ReplyPlace p.0)) = p.2 in let one : Damaged (ReplyPlace p.0) ≡ r = cc in one) (λ unhurt. blamed unhurt)
+  blame_replies : (tail : List Message) → IsTail sh shown v.checkpoint tail → NotLost shown v.checkpoint.content (v.checkpoint.content.op + length tail) → AnswersReplies shown v.checkpoint tail (Refused r) → RefusalBlamesHurt sh log v shown r
+  blame_replies tail is_tail not_lost (n, counted, inl p) = subst (λ (x : Refusal). RefusalBlamesHurt sh log v shown x) (let both : Refused r ≡ Refused (Damaged (ReplyPlace p.0)) = p.2 in let one : Damaged (ReplyPlace p.0) ≡ r = cc in one) (λ unhurt. blamed unhurt)
     where
       blamed : shown (ReplyPlace p.0) ≡ now log (ReplyPlace p.0) → (s : Session) × (q : Message) × (found : List Message) × (slice_get (sessions v) p.0 ≡ Some s) × In q v.tail × (q.header.client ≡ s.client) × IsTail sh shown v.checkpoint found × (v.checkpoint.content.op + length found < q.header.op) × (IsGroupUnhurt sh log v shown q → ⊥)
       blamed unhurt = elim (reply_is_hurt_law sh log v shown tail n p.0 p.1.session rests chance is_tail counted p.1.at p.1.stored unhurt) [
@@ -83,11 +83,11 @@ module _ (sh : Shape) (log : UnitLog) (v : View) (shown : Units) (rests : RestsO
       ]
   blame_replies tail is_tail not_lost (n, counted, inr p) = elim p.5 [
     | inl q ↦ absurd (let both : Refused r ≡ Found p.0 = q.1 in cc)
-    | inr q ↦ subst (λ (x : Refusal). BlamesHurt sh log v shown x) (let both : Refused r ≡ Refused BootSpent = q.1 in let one : BootSpent ≡ r = cc in one) (omega (arith, q.0, ap (λ (b : Checkpoint). b.content.boot) p.1))
+    | inr q ↦ subst (λ (x : Refusal). RefusalBlamesHurt sh log v shown x) (let both : Refused r ≡ Refused BootSpent = q.1 in let one : BootSpent ≡ r = cc in one) (omega (arith, q.0, ap (λ (b : Checkpoint). b.content.boot) p.1))
   ]
 
-  blame_tail : AnswersTail sh shown v.checkpoint (Refused r) → BlamesHurt sh log v shown r
-  blame_tail (tail, is_tail, inl p) = subst (λ (x : Refusal). BlamesHurt sh log v shown x)
+  blame_tail : AnswersTail sh shown v.checkpoint (Refused r) → RefusalBlamesHurt sh log v shown r
+  blame_tail (tail, is_tail, inl p) = subst (λ (x : Refusal). RefusalBlamesHurt sh log v shown x)
       (let both : Refused r ≡ Refused (Damaged (PreparePlace (slot_behind sh v.checkpoint tail p.1.0))) = p.1.2 in let one : Damaged (PreparePlace (slot_behind sh v.checkpoint tail p.1.0)) ≡ r = cc in one)
       (λ unhurt. p.0 (lost_is_hurt_law sh log v shown tail p.1.0 rests chance agreed is_tail p.1.1 unhurt))
   blame_tail (tail, is_tail, inr p) = blame_replies tail is_tail p.0 p.1
@@ -102,8 +102,8 @@ module _ (sh : Shape) (log : UnitLog) (v : View) (shown : Units) (rests : RestsO
   one_named s p q at there checksum = chance.distinct (PreparePlace s) (PreparePlace s) (PrepareUnit p) (PrepareUnit q)
       (pool_pools log.start log.events (PreparePlace s) (PrepareUnit p) (chance.pooled (PreparePlace s) (PrepareUnit p) at)) (pool_pools log.start log.events (PreparePlace s) (PrepareUnit q) (rests.pooled (PreparePlace s) (PrepareUnit q) there)) checksum
 
-  blame_known : AnswersKnown sh shown v.checkpoint (Refused r) → BlamesHurt sh log v shown r
-  blame_known (inl p) = subst (λ (x : Refusal). BlamesHurt sh log v shown x) (let both : Refused r ≡ Refused (Damaged (PreparePlace (p.0 % sh.layout.slots))) = p.2 in let one : Damaged (PreparePlace (p.0 % sh.layout.slots)) ≡ r = cc in one) (λ unhurt.
+  blame_known : AnswersKnown sh shown v.checkpoint (Refused r) → RefusalBlamesHurt sh log v shown r
+  blame_known (inl p) = subst (λ (x : Refusal). RefusalBlamesHurt sh log v shown x) (let both : Refused r ≡ Refused (Damaged (PreparePlace (p.0 % sh.layout.slots))) = p.2 in let one : Damaged (PreparePlace (p.0 % sh.layout.slots)) ≡ r = cc in one) (λ unhurt.
       let lack = p.1 in
       let ks : List Message = take (v.checkpoint.content.pin - v.checkpoint.content.op) v.tail in
       let at = known_at sh.layout.slots (now log) (v.checkpoint.content.op + 1) v.checkpoint.content.pin_checksum p.0 v.checkpoint.content.pin ks (named.known (omega (arith, named.count, lack.count, lack.above))) (omega (arith, lack.above)) (omega (arith, named.count, lack.count)) (omega (arith, named.count)) in
@@ -118,12 +118,12 @@ module _ (sh : Shape) (log : UnitLog) (v : View) (shown : Units) (rests : RestsO
       absurd (unfit.fails (fitting_front sh v.checkpoint (p.0 ++ unfit.next ∷ []) unfit.rest (subst (λ (l : List Message). AreFitting sh v.checkpoint l) (sym split) named.fits)))
   blame_known (inr (inr p)) = blame_tail p
 
-  blame_traces : AnswersTraces sh shown v.checkpoint (Refused r) → BlamesHurt sh log v shown r
+  blame_traces : AnswersTraces sh shown v.checkpoint (Refused r) → RefusalBlamesHurt sh log v shown r
   blame_traces (inl p) = absurd (p.1 (not_behind sh log v shown rests chance.pooled))
   blame_traces (inr p) = blame_known p.1
 
-  blame_trailer : AnswersTrailer sh shown v.checkpoint.content (Refused r) → BlamesHurt sh log v shown r
-  blame_trailer (inl p) = subst (λ (x : Refusal). BlamesHurt sh log v shown x) (let both : Refused r ≡ Refused (Damaged (BlockPlace p.0)) = p.4 in let one : Damaged (BlockPlace p.0) ≡ r = cc in one) (wanted_hurt sh log v shown rests chance p.0 p.1 p.2 p.3)
+  blame_trailer : AnswersTrailer sh shown v.checkpoint.content (Refused r) → RefusalBlamesHurt sh log v shown r
+  blame_trailer (inl p) = subst (λ (x : Refusal). RefusalBlamesHurt sh log v shown x) (let both : Refused r ≡ Refused (Damaged (BlockPlace p.0)) = p.4 in let one : Damaged (BlockPlace p.0) ≡ r = cc in one) (wanted_hurt sh log v shown rests chance p.0 p.1 p.2 p.3)
   blame_trailer (inr (inl p)) = absurd (p.1 v.checkpoint refl (record {
     chosen = chosen_still sh log v shown rests chance.pooled agreed;
     sound = rests.holds.bears.sound.checkpoint;
@@ -131,11 +131,11 @@ module _ (sh : Shape) (log : UnitLog) (v : View) (shown : Units) (rests : RestsO
   }))
   blame_trailer (inr (inr p)) = blame_traces (subst (λ (b : Checkpoint). AnswersTraces sh shown b (Refused r)) (readable_is sh log v shown rests chance agreed p.0 p.2) p.3)
 
-  blame_fields : AnswersFields sh shown v.checkpoint.content (Refused r) → BlamesHurt sh log v shown r
+  blame_fields : AnswersFields sh shown v.checkpoint.content (Refused r) → RefusalBlamesHurt sh log v shown r
   blame_fields (inl p) = absurd (p.0 rests.holds.bears.sound.checkpoint.tests rests.holds.bears.sound.checkpoint.trailer.reference)
   blame_fields (inr p) = blame_trailer p.2
 
-  pub blame : Answers sh shown (Refused r) → BlamesHurt sh log v shown r
+  pub blame : Answers sh shown (Refused r) → RefusalBlamesHurt sh log v shown r
   blame (inl p) = absurd (p.0 v.checkpoint.content agreed)
   blame (inr p) = blame_fields (subst (λ (c : Content). AnswersFields sh shown c (Refused r)) (one_chosen shown p.0 v.checkpoint.content p.1 (chosen_still sh log v shown rests chance.pooled agreed)) p.2)
 

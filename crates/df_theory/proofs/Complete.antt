@@ -15,7 +15,7 @@ use Rattle.df_theory.specs.View.{Checkpoint, PassesTests, View}
 use Rattle.df_theory.specs.Cases.{Takes}
 use Rattle.df_theory.specs.Groups.{AreBehind, AreMore}
 use Rattle.df_theory.specs.Found.{AreOfPlaces, IsFound, IsLongest, IsReach, IsReplies, IsStored, IsTail, NotBehind, NotLost}
-use Rattle.df_theory.specs.Opens.{Answer, AreFitting, AreKnown, BadTrailer, Behind, IsAnswered, IsReadable, IsShown, IsUnfit, IsUsable, LacksBlock, LacksKnown, LacksReply, Lost, Opened, Opens, ReachesReplies, ReachesTail, ReadsTo, Spent, Split, Unanswered, Unfit, Unknown, Unusable, named_by}
+use Rattle.df_theory.specs.Opens.{AreFitting, AreKnown, BadTrailer, Behind, IsAnswered, IsReadable, IsShown, IsUnfit, IsUsableSuperblock, LacksBlock, LacksKnown, LacksReply, Lost, OpenAnswer, Opened, Opens, ReachesReplies, ReachesTail, ReadsTo, Spent, Split, Unanswered, Unfit, Unknown, Unusable, named_by}
 use Rattle.df_theory.specs.ViewLaws.{AnAnswerLaw}
 use Rattle.df_theory.proofs.Tails.{chain_ops, in_either}
 use Rattle.df_theory.proofs.Sessions.{chain_append}
@@ -294,7 +294,7 @@ is_stored image b tail n answered = record {
 
 -- ---- step by step
 
-module _ (sh : Shape) (image : Units) (places : AreOfPlaces sh image) (none : (x : Answer) → Opens sh image x → ⊥) where
+module _ (sh : Shape) (image : Units) (places : AreOfPlaces sh image) (none : (x : OpenAnswer) → Opens sh image x → ⊥) where
   from_replies : (b : Checkpoint) (tail : List Message) (n : ℕ) → ReachesReplies sh image b tail n → ⊥
   from_replies b tail n reaches = all_answered image b.content (sessions_after b.parts.sessions tail) n (λ k lacks. none _ (Unanswered b tail n k reaches lacks)) (length (sessions_after b.parts.sessions tail)) (λ answered.
       let found : IsFound sh image (view_of image b tail n) = record {
@@ -337,7 +337,7 @@ module _ (sh : Shape) (image : Units) (places : AreOfPlaces sh image) (none : (x
   from_chosen : (c : Content) → IsChosen image c → ⊥
   from_chosen c chosen = either (PassesTests sh c × IsReference sh.layout c) (λ e. elim e [
     | inl passes ↦
-        let usable : IsUsable sh image c = record { chosen = chosen; tests = passes.0; reference = passes.1 } in
+        let usable : IsUsableSuperblock sh image c = record { chosen = chosen; tests = passes.0; reference = passes.1 } in
         let shown : (a k : ℕ) → ReadsTo sh image c a k → IsShown image a k = λ a k reads. elim (shown_or_not image a k) [ inl holds ↦ holds | inr fails ↦ absurd (none _ (LacksBlock c a k usable reads fails)) ] in
         either ((b : Checkpoint) × (b.content ≡ c) × IsReadable sh image b) (λ e. elim e [
           | inl read ↦ from_read read.0 read.2

@@ -1,4 +1,4 @@
--- A file at rest whose only prepare is lost: an open refuses, and names its slot.
+-- A file, of which nothing is loose, whose only prepare is lost: an open refuses, and names its slot.
 use Rattle.std.proofs.Common.{◌≡◌, inl, ℕ, ◌%◌, ◌<◌, List, [], ◌∷◌, length, Some, None, refl, sym, ◌∙◌, ap, arith}
 use Rattle.df_theory.specs.Units.{AnyUnit, Message, Place, PreparePlace, PrepareUnit, Units}
 use Rattle.df_theory.specs.UnitLog.{now}

@@ -1,11 +1,11 @@
--- What damage can do to a file at rest.
+-- What damage can do to a file whose log rests on a view.
 use Rattle.std.proofs.Common.{◌≡◌, ◌⊎◌, inl, inr, ℕ, ◌+◌, ◌-◌, ◌%◌, ◌<◌, ◌≤◌, ◌==◌, Bool, true, false, if◌then◌else◌, zero, suc, List, [], ◌∷◌, ◌++◌, length, take, drop, Some, None, refl, sym, ◌∙◌, ap, subst, arith, length-append}
 use Rattle.std.specs.List.{slice_get}
 use Rattle.std.proofs.lemmas.List.{length-take, take_at}
 use Rattle.std.proofs.lemmas.Bool.{cases_lt}
 use Rattle.std.proofs.lemmas.Bool.Decides.{nat_tests}
 use Rattle.df_theory.specs.Units.{AnyUnit, BlockPlace, BlockUnit, Content, CopyPlace, CopyUnit, Header, HeaderPlace, HeaderUnit, Message, Place, PreparePlace, PrepareUnit, ReplyPlace, ReplyUnit, Session, Units}
-use Rattle.df_theory.specs.Sessions.{Answers, noted, session_of, sessions_after}
+use Rattle.df_theory.specs.Sessions.{Answers, noted, session_of_header, sessions_after}
 use Rattle.df_theory.specs.Tails.{AreGroups, BindsHead, Chain, In, last_checksum, last_mark}
 use Rattle.df_theory.specs.Groups.{IsShort, ShowsOwn}
 use Rattle.df_theory.specs.Cases.{Takes}
@@ -298,20 +298,20 @@ checkpoint_stays_law sh log v w shown rests chance agreed f = λ i. record { con
 pub missing_is_hurt_law : MissingIsHurtLaw
 missing_is_hurt_law sh log v shown tail rests chance found lost p at above unhurt = missing sh log v shown rests chance.pooled tail found chance lost p at above unhurt
 
-noted_past : (h : Header) (s t : Session) (ss rest : List Session) (k : ℕ) (b : Bool) → slice_get ss k ≡ Some s → (slice_get rest k ≡ Some s) ⊎ ((h.client ≡ s.client) × (slice_get rest k ≡ Some (session_of h)))
-    → (slice_get (if b then session_of h ∷ ss else t ∷ rest) (suc k) ≡ Some s) ⊎ ((h.client ≡ s.client) × (slice_get (if b then session_of h ∷ ss else t ∷ rest) (suc k) ≡ Some (session_of h)))
+noted_past : (h : Header) (s t : Session) (ss rest : List Session) (k : ℕ) (b : Bool) → slice_get ss k ≡ Some s → (slice_get rest k ≡ Some s) ⊎ ((h.client ≡ s.client) × (slice_get rest k ≡ Some (session_of_header h)))
+    → (slice_get (if b then session_of_header h ∷ ss else t ∷ rest) (suc k) ≡ Some s) ⊎ ((h.client ≡ s.client) × (slice_get (if b then session_of_header h ∷ ss else t ∷ rest) (suc k) ≡ Some (session_of_header h)))
 noted_past h s t ss rest k true at later = inl at
 noted_past h s t ss rest k false at later = later
 
 -- a session stays at its place, or a prepare of its client replaces it
-noted_at : (h : Header) (ss : List Session) (k : ℕ) (s : Session) → slice_get ss k ≡ Some s → (slice_get (noted h ss) k ≡ Some s) ⊎ ((h.client ≡ s.client) × (slice_get (noted h ss) k ≡ Some (session_of h)))
+noted_at : (h : Header) (ss : List Session) (k : ℕ) (s : Session) → slice_get ss k ≡ Some s → (slice_get (noted h ss) k ≡ Some s) ⊎ ((h.client ≡ s.client) × (slice_get (noted h ss) k ≡ Some (session_of_header h)))
 noted_at h [] k s at = absurd (let none : None ≡ Some s = at in cc)
 noted_at h (t ∷ ss) zero s at = go (t.client == h.client) refl
   where
     one : t ≡ s
     one = let both : Some t ≡ Some s = at in cc
 
-    go : (b : Bool) → (t.client == h.client) ≡ b → (slice_get (if b then session_of h ∷ ss else t ∷ noted h ss) 0 ≡ Some s) ⊎ ((h.client ≡ s.client) × (slice_get (if b then session_of h ∷ ss else t ∷ noted h ss) 0 ≡ Some (session_of h)))
+    go : (b : Bool) → (t.client == h.client) ≡ b → (slice_get (if b then session_of_header h ∷ ss else t ∷ noted h ss) 0 ≡ Some s) ⊎ ((h.client ≡ s.client) × (slice_get (if b then session_of_header h ∷ ss else t ∷ noted h ss) 0 ≡ Some (session_of_header h)))
     go true test = inr (sym (same_client test) ∙ ap (λ (x : Session). x.client) one, refl)
       where
         same_client : (t.client == h.client) ≡ true → t.client ≡ h.client
@@ -323,8 +323,8 @@ after_at : (ss : List Session) (ps : List Message) (k : ℕ) (s : Session) → s
 after_at ss [] k s at = inl at
 after_at ss (p ∷ ps) k s at = elim (noted_at p.header ss k s at) [
   | inl stays ↦ elim (after_at (noted p.header ss) ps k s stays) [ inl is ↦ inl is | inr new ↦ inr (new.0, new.1, new.2, inr new.3, new.4) ]
-  | inr new ↦ elim (after_at (noted p.header ss) ps k (session_of p.header) new.1) [
-    | inl is ↦ inr (session_of p.header, p, is, inl refl, refl)
+  | inr new ↦ elim (after_at (noted p.header ss) ps k (session_of_header p.header) new.1) [
+    | inl is ↦ inr (session_of_header p.header, p, is, inl refl, refl)
     | inr later ↦ inr (later.0, later.1, later.2, inr later.3, later.4)
   ]
 ]

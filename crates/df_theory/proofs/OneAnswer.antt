@@ -11,7 +11,7 @@ use Rattle.df_theory.specs.Trailer.{InChain, IsCount, Links}
 use Rattle.df_theory.specs.View.{Checkpoint, IsSoundCheckpoint, View, boot_of, sessions}
 use Rattle.df_theory.specs.Holds.{IsNamed}
 use Rattle.df_theory.specs.Found.{IsFound, IsReach, IsReplies, IsStored, IsTail, NotBehind, NotLost, slot_behind}
-use Rattle.df_theory.specs.Opens.{Answer, Arrives, BadField, BootSpent, Spent, Damaged, Found, IsLowest, IsReadable, IsShown, LacksReply, NoQuorum, Opened, ReadsTo, Refused}
+use Rattle.df_theory.specs.Opens.{OpenAnswer, Arrives, BadField, BootSpent, Spent, Damaged, Found, IsLowest, IsReadable, IsShown, LacksReply, NoQuorum, Opened, ReadsTo, Refused}
 use Rattle.df_theory.specs.ViewLaws.{FoundAnswerLaw, OneAnswerLaw, SpentAnswerLaw}
 use Rattle.df_theory.proofs.Choices.{one_chosen}
 use Rattle.df_theory.proofs.OneView.{same_chain, same_parts}
@@ -118,13 +118,13 @@ same_state image b tail n v w base_v base_w tail_v tail_w count_v count_w stored
     stored : (k : ℕ) → v.stored k ≡ w.stored k
     stored k = one_stored image v w stored_v stored_w sessions_are count k (v.stored k) (w.stored k) refl refl
 
-last_one : (v w : View) (x y : Answer) → v ≡ w → AnswersLast v x → AnswersLast w y → x ≡ y
+last_one : (v w : View) (x y : OpenAnswer) → v ≡ w → AnswersLast v x → AnswersLast w y → x ≡ y
 last_one v w x y same (inl p) (inl q) = p.1 ∙ ap Found same ∙ sym q.1
 last_one v w x y same (inl p) (inr q) = absurd (omega (arith, p.0, q.0, ap boot_of same))
 last_one v w x y same (inr p) (inl q) = absurd (omega (arith, p.0, q.0, ap boot_of same))
 last_one v w x y same (inr p) (inr q) = p.1 ∙ sym q.1
 
-replies_one : (image : Units) (b : Checkpoint) (tail : List Message) (x y : Answer) → AnswersReplies image b tail x → AnswersReplies image b tail y → x ≡ y
+replies_one : (image : Units) (b : Checkpoint) (tail : List Message) (x y : OpenAnswer) → AnswersReplies image b tail x → AnswersReplies image b tail y → x ≡ y
 replies_one image b tail x y one two = go one.2 two.2
   where
     same : two.0 ≡ one.0
@@ -142,7 +142,7 @@ replies_one image b tail x y one two = go one.2 two.2
     go (inr p) (inl q) = absurd (none_lacks image b tail two.0 q.0 p.0 q.1 p.1 p.2 (p.3 ∙ sym same) p.4)
     go (inr p) (inr q) = last_one p.0 q.0 x y (same_state image b tail one.0 p.0 q.0 p.1 q.1 p.2 q.2 p.3 (q.3 ∙ same) p.4 q.4) p.5 q.5
 
-tail_one : (sh : Shape) (image : Units) (b : Checkpoint) (x y : Answer) → AnswersTail sh image b x → AnswersTail sh image b y → x ≡ y
+tail_one : (sh : Shape) (image : Units) (b : Checkpoint) (x y : OpenAnswer) → AnswersTail sh image b x → AnswersTail sh image b y → x ≡ y
 tail_one sh image b x y one two = go one.2 (subst (λ (l : List Message). ((NotLost image b.content (b.content.op + length l) → ⊥) × ((more : List Message) × IsReach sh image b l more × (y ≡ Refused (Damaged (PreparePlace (slot_behind sh b l more)))))) ⊎ (NotLost image b.content (b.content.op + length l) × AnswersReplies image b l y)) same two.2)
   where
     same : two.0 ≡ one.0
@@ -162,7 +162,7 @@ tail_one sh image b x y one two = go one.2 (subst (λ (l : List Message). ((NotL
     go (inr p) (inr q) = replies_one image b one.0 x y p.1 q.1
 
 -- the prepares that the superblock names
-known_one : (sh : Shape) (image : Units) (b : Checkpoint) (x y : Answer) → b.content.op ≤ b.content.pin → AnswersKnown sh image b x → AnswersKnown sh image b y → x ≡ y
+known_one : (sh : Shape) (image : Units) (b : Checkpoint) (x y : OpenAnswer) → b.content.op ≤ b.content.pin → AnswersKnown sh image b x → AnswersKnown sh image b y → x ≡ y
 known_one sh image b x y from (inl p) (inl q) = p.2 ∙ ap (λ (n : ℕ). Refused (Damaged (PreparePlace (n % sh.layout.slots)))) (one_lacking sh image b.content p.0 q.0 p.1 q.1) ∙ sym q.2
 known_one sh image b x y from (inl p) (inr (inl q)) = absurd (none_lacking sh image b.content.op (q.0 ++ q.1.next ∷ q.1.rest) b.content p.0 q.1.known q.1.count p.1.above p.1)
 known_one sh image b x y from (inl p) (inr (inr q)) = absurd (named_all sh image b (take (b.content.pin - b.content.op) q.0) (tail_named sh image b q.0 q.1 from) p.0 p.1)
@@ -184,13 +184,13 @@ same_lowest image c n m one two = elim (cases_lt n m) [
   | inr more ↦ elim (cases_lt m n) [ inl less ↦ absurd (one.lowest m less two.shows) | inr same ↦ omega arith ]
 ]
 
-traces_one : (sh : Shape) (image : Units) (b : Checkpoint) (x y : Answer) → b.content.op ≤ b.content.pin → AnswersTraces sh image b x → AnswersTraces sh image b y → x ≡ y
+traces_one : (sh : Shape) (image : Units) (b : Checkpoint) (x y : OpenAnswer) → b.content.op ≤ b.content.pin → AnswersTraces sh image b x → AnswersTraces sh image b y → x ≡ y
 traces_one sh image b x y from (inl p) (inl q) = p.3 ∙ ap (λ (n : ℕ). Refused (Damaged (CopyPlace n))) (same_lowest image b.content p.0 q.0 p.2 q.2) ∙ sym q.3
 traces_one sh image b x y from (inl p) (inr q) = absurd (p.1 q.0)
 traces_one sh image b x y from (inr p) (inl q) = absurd (q.1 p.0)
 traces_one sh image b x y from (inr p) (inr q) = known_one sh image b x y from p.1 q.1
 
-trailer_one : (sh : Shape) (image : Units) (c : Content) (x y : Answer) → AnswersTrailer sh image c x → AnswersTrailer sh image c y → x ≡ y
+trailer_one : (sh : Shape) (image : Units) (c : Content) (x y : OpenAnswer) → AnswersTrailer sh image c x → AnswersTrailer sh image c y → x ≡ y
 trailer_one sh image c x y (inl p) (inl q) = p.4 ∙ ap (λ (n : ℕ). Refused (Damaged (BlockPlace n))) (same_wanted image p.2.read q.2.read c.trailer c.trailer_checksum p.0 p.1 q.0 q.1 p.2.arrives q.2.arrives p.3 q.3) ∙ sym q.4
 trailer_one sh image c x y (inl p) (inr (inl q)) = absurd (p.3 (q.0 p.0 p.1 p.2))
 trailer_one sh image c x y (inl p) (inr (inr q)) = absurd (p.3 (readable_reads sh image q.0 p.0 p.1 q.2 (subst (λ (d : Content). ReadsTo sh image d p.0 p.1) (sym q.1) p.2)))
@@ -201,13 +201,13 @@ trailer_one sh image c x y (inr (inr p)) (inl q) = absurd (q.3 (readable_reads s
 trailer_one sh image c x y (inr (inr p)) (inr (inl q)) = absurd (q.1 p.0 p.1 p.2)
 trailer_one sh image c x y (inr (inr p)) (inr (inr q)) = traces_one sh image p.0 x y p.2.sound.tests.pin.0 p.3 (subst (λ (b : Checkpoint). AnswersTraces sh image b y) (readable_one sh image q.0 p.0 q.2 p.2) q.3)
 
-fields_one : (sh : Shape) (image : Units) (c : Content) (x y : Answer) → AnswersFields sh image c x → AnswersFields sh image c y → x ≡ y
+fields_one : (sh : Shape) (image : Units) (c : Content) (x y : OpenAnswer) → AnswersFields sh image c x → AnswersFields sh image c y → x ≡ y
 fields_one sh image c x y (inl p) (inl q) = p.1 ∙ sym q.1
 fields_one sh image c x y (inl p) (inr q) = absurd (p.0 q.0 q.1)
 fields_one sh image c x y (inr p) (inl q) = absurd (q.0 p.0 p.1)
 fields_one sh image c x y (inr p) (inr q) = trailer_one sh image c x y p.2 q.2
 
-answers_one : (sh : Shape) (image : Units) (x y : Answer) → Answers sh image x → Answers sh image y → x ≡ y
+answers_one : (sh : Shape) (image : Units) (x y : OpenAnswer) → Answers sh image x → Answers sh image y → x ≡ y
 answers_one sh image x y (inl p) (inl q) = p.1 ∙ sym q.1
 answers_one sh image x y (inl p) (inr q) = absurd (p.0 q.0 q.1.agreed)
 answers_one sh image x y (inr p) (inl q) = absurd (q.0 p.0 p.1.agreed)

@@ -9,7 +9,7 @@ use Rattle.df_theory.specs.Holds.{Holds}
 use Rattle.df_theory.specs.Next.{Append, Boot, Finish, Next, Reply, Same}
 use Rattle.df_theory.specs.Chance.{InImages}
 use Rattle.df_theory.specs.First.{AreMade}
-use Rattle.df_theory.specs.Grown.{AllInHistory, GoesOn, Grows, IsClear, IsLeft}
+use Rattle.df_theory.specs.Grown.{AllInHistory, GoesOn, Grows, IsClear, IsLeftGroup}
 use Rattle.df_theory.specs.Past.{FromEmpty, Was}
 use Rattle.df_theory.specs.HistoryLaws.{OnePrepareLaw, StampLaw}
 use Rattle.df_theory.proofs.Grew.{Grew, next_grew}
@@ -162,7 +162,7 @@ pub record HasGap (images : List Units) (p : Message) : Type 0 where
   pub lacks : (t : ℕ) (q : Message) → InImages images (PreparePlace t) (PrepareUnit q) → q.header.op ≡ missing → q.header.boot ≡ p.header.boot → q.header.group ≡ p.header.group → ⊥
 
 -- where a prepare is left of a group that is cut
-pub gap_left : (images : List Units) (image : Units) (v : View) (p : Message) → IsLeft images image v p → HasGap (image ∷ images) p
+pub gap_left : (images : List Units) (image : Units) (v : View) (p : Message) → IsLeftGroup images image v p → HasGap (image ∷ images) p
 gap_left images image v p left = record {
   missing = left.missing;
   from = omega (arith, left.cut.first, left.from);
@@ -212,7 +212,7 @@ settled_was sh (image ∷ images) v (holds, inr (history, (u, next, grows))) emp
       inl (v, inl refl, subst (λ (q : Message). In q v.tail) same new.2)
   | inr survivor ↦
       let same : survivor.0 ≡ p = (let e = survivor.1 in cc) in
-      let left : IsLeft images image v p = subst (λ (q : Message). IsLeft images image v q) same survivor.2 in
+      let left : IsLeftGroup images image v p = subst (λ (q : Message). IsLeftGroup images image v q) same survivor.2 in
       inr (gap_left images image v p left)
 ]
 

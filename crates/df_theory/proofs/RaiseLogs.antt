@@ -9,7 +9,7 @@ use Rattle.df_theory.specs.Runs.{AtEach, Syncs, after_steps}
 use Rattle.df_theory.specs.MakingLaws.{all_puts}
 use Rattle.df_theory.specs.MendLaws.{AllPutCopy, AllPutTable, PutsTable, copy_steps, header_steps}
 use Rattle.df_theory.specs.CopyPuts.{PutsCopies, update_steps}
-use Rattle.df_theory.specs.Upgrades.{begun}
+use Rattle.df_theory.specs.Upgrades.{restarted_at}
 use Rattle.df_theory.proofs.Runs.{after_append, each_append}
 use Rattle.df_theory.proofs.Standing.{miss}
 use Rattle.df_theory.proofs.Mends.{no_copy}
@@ -57,10 +57,10 @@ module _ (image : Units) (table : ℕ → Header) where
     allowed_old (ReplyPlace k) x is = tt
     allowed_old (BlockPlace a) x is = tt
 
-    pub moment_begun : IsMoment More (begun image)
+    pub moment_begun : IsMoment More (restarted_at image)
     moment_begun = record { pooled = pooled; shown = allowed_old; body = λ place of. record { dry = refl; shows = refl } }
       where
-        pooled : (place : Place) (x : AnyUnit) → InPool (begun image) place x → IsAllowed image table More place x
+        pooled : (place : Place) (x : AnyUnit) → InPool (restarted_at image) place x → IsAllowed image table More place x
         pooled place x (inl (inl is)) = allowed_old place x is
         pooled place x (inl (inr none)) = absurd none
         pooled place x (inr none) = absurd none

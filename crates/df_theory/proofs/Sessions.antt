@@ -4,7 +4,7 @@ use Rattle.std.specs.List.{slice_get}
 use Rattle.std.proofs.lemmas.List.{take-append-drop}
 use Rattle.std.proofs.lemmas.Bool.{cases_eq}
 use Rattle.df_theory.specs.Units.{Header, Message, Session}
-use Rattle.df_theory.specs.Sessions.{Has, MayAsk, Tracks, noted, session_of, sessions_after}
+use Rattle.df_theory.specs.Sessions.{Has, MayAsk, Tracks, noted, session_of_header, sessions_after}
 use Rattle.df_theory.specs.Tails.{Chain, In, last_checksum, last_mark}
 use Rattle.df_theory.specs.Shape.{clients}
 
@@ -60,17 +60,17 @@ last_mark-drop (suc n) m (x ∷ ps) = last_mark-drop n x.header.mark ps
 pub sessions-drop : (n : ℕ) (ss : List Session) (ps : List Message) → sessions_after (sessions_after ss (take n ps)) (drop n ps) ≡ sessions_after ss ps
 sessions-drop n ss ps = sym (sessions-append ss (take n ps) (drop n ps)) ∙ ap (λ (l : List Message). sessions_after ss l) (take-append-drop n ps)
 
-noted_first : (h : Header) (s t : Session) (ss rest : List Session) (b : Bool) → slice_get (if b then session_of h ∷ ss else s ∷ rest) 0 ≡ Some t → (t ≡ session_of h) ⊎ (s ≡ t)
-noted_first h s t ss rest true is = inl (let both : Some (session_of h) ≡ Some t = is in cc)
+noted_first : (h : Header) (s t : Session) (ss rest : List Session) (b : Bool) → slice_get (if b then session_of_header h ∷ ss else s ∷ rest) 0 ≡ Some t → (t ≡ session_of_header h) ⊎ (s ≡ t)
+noted_first h s t ss rest true is = inl (let both : Some (session_of_header h) ≡ Some t = is in cc)
 noted_first h s t ss rest false is = inr (let both : Some s ≡ Some t = is in cc)
 
-noted_later : (h : Header) (s t : Session) (ss rest : List Session) (k : ℕ) (b : Bool) → slice_get (if b then session_of h ∷ ss else s ∷ rest) (suc k) ≡ Some t → (slice_get ss k ≡ Some t) ⊎ (slice_get rest k ≡ Some t)
+noted_later : (h : Header) (s t : Session) (ss rest : List Session) (k : ℕ) (b : Bool) → slice_get (if b then session_of_header h ∷ ss else s ∷ rest) (suc k) ≡ Some t → (slice_get ss k ≡ Some t) ⊎ (slice_get rest k ≡ Some t)
 noted_later h s t ss rest k true is = inl is
 noted_later h s t ss rest k false is = inr is
 
 -- each session after a prepare is its own or one from before, at the same place
-pub noted_get : (h : Header) (ss : List Session) (k : ℕ) (t : Session) → slice_get (noted h ss) k ≡ Some t → (t ≡ session_of h) ⊎ (slice_get ss k ≡ Some t)
-noted_get h [] zero t is = inl (let both : Some (session_of h) ≡ Some t = is in cc)
+pub noted_get : (h : Header) (ss : List Session) (k : ℕ) (t : Session) → slice_get (noted h ss) k ≡ Some t → (t ≡ session_of_header h) ⊎ (slice_get ss k ≡ Some t)
+noted_get h [] zero t is = inl (let both : Some (session_of_header h) ≡ Some t = is in cc)
 noted_get h [] (suc k) t is = absurd (let none : None ≡ Some t = is in cc)
 noted_get h (s ∷ ss) zero t is = elim (noted_first h s t ss (noted h ss) (s.client == h.client) is) [ inl new ↦ inl new | inr old ↦ inr (ap Some old) ]
 noted_get h (s ∷ ss) (suc k) t is = elim (noted_later h s t ss (noted h ss) k (s.client == h.client) is) [
@@ -78,17 +78,17 @@ noted_get h (s ∷ ss) (suc k) t is = elim (noted_later h s t ss (noted h ss) k 
   | inr rest ↦ noted_get h ss k t rest
 ]
 
-noted_has_case : (h : Header) (s : Session) (ss rest : List Session) (b : Bool) → Has rest h.op → Has (if b then session_of h ∷ ss else s ∷ rest) h.op
-noted_has_case h s ss rest true has = (0, session_of h, refl, refl)
+noted_has_case : (h : Header) (s : Session) (ss rest : List Session) (b : Bool) → Has rest h.op → Has (if b then session_of_header h ∷ ss else s ∷ rest) h.op
+noted_has_case h s ss rest true has = (0, session_of_header h, refl, refl)
 noted_has_case h s ss rest false has = (suc has.0, has.1, has.2, has.3)
 
 -- its own session is there
 pub noted_has : (h : Header) (ss : List Session) → Has (noted h ss) h.op
-noted_has h [] = (0, session_of h, refl, refl)
+noted_has h [] = (0, session_of_header h, refl, refl)
 noted_has h (s ∷ ss) = noted_has_case h s ss (noted h ss) (s.client == h.client) (noted_has h ss)
 
 keeps_case : (room : ℕ) (h : Header) (s t : Session) (ss rest : List Session) (k : ℕ) (b : Bool) → (s.client == h.client) ≡ b → MayAsk room h (s ∷ ss) → ((rooms j : ℕ) → MayAsk rooms h ss → slice_get ss j ≡ Some t → (slice_get rest j ≡ Some t) ⊎ (t.op ≤ h.mark)) → slice_get (s ∷ ss) k ≡ Some t
-    → (slice_get (if b then session_of h ∷ ss else s ∷ rest) k ≡ Some t) ⊎ (t.op ≤ h.mark)
+    → (slice_get (if b then session_of_header h ∷ ss else s ∷ rest) k ≡ Some t) ⊎ (t.op ≤ h.mark)
 keeps_case room h s t ss rest zero true is (inl here) more at =
     let one : s ≡ t = (let two : Some s ≡ Some t = at in cc) in
     inr (omega (arith, here.2, ap (λ (w : Session). w.op) one))
@@ -104,7 +104,7 @@ noted_keeps room h [] k t may at = absurd (let none : None ≡ Some t = at in cc
 noted_keeps room h (s ∷ ss) k t may at = keeps_case room h s t ss (noted h ss) k (s.client == h.client) refl may (λ rooms j asks there. noted_keeps rooms h ss j t asks there) at
 
 noted_one_case : (h : Header) (s t u : Session) (ss rest : List Session) (j k : ℕ) (b : Bool) → ((i : ℕ) (w : Session) → slice_get (s ∷ ss) i ≡ Some w → w.op < h.op) → ((a c : ℕ) → slice_get rest a ≡ Some t → slice_get rest c ≡ Some u → a ≡ c)
-    → slice_get (if b then session_of h ∷ ss else s ∷ rest) j ≡ Some t → slice_get (if b then session_of h ∷ ss else s ∷ rest) k ≡ Some u → t.op ≡ h.op → u.op ≡ h.op → j ≡ k
+    → slice_get (if b then session_of_header h ∷ ss else s ∷ rest) j ≡ Some t → slice_get (if b then session_of_header h ∷ ss else s ∷ rest) k ≡ Some u → t.op ≡ h.op → u.op ≡ h.op → j ≡ k
 noted_one_case h s t u ss rest zero zero b below same one two t_op u_op = refl
 noted_one_case h s t u ss rest zero (suc k) true below same one two t_op u_op = absurd (omega (arith, below (suc k) u two))
 noted_one_case h s t u ss rest (suc j) zero true below same one two t_op u_op = absurd (omega (arith, below (suc j) t one))
@@ -179,7 +179,7 @@ last_mark-take (suc n) clients op parent mark ss [] chain = omega arith
 last_mark-take (suc n) clients op parent mark ss (x ∷ ps) chain = last_mark-take n clients (op + 1) x.header.checksum x.header.mark (noted x.header ss) ps chain.1
 
 -- a session after these prepares is one from before, or that of one of them
-pub after_get : (ss : List Session) (ps : List Message) (k : ℕ) (t : Session) → slice_get (sessions_after ss ps) k ≡ Some t → (slice_get ss k ≡ Some t) ⊎ ((p : Message) × In p ps × (t ≡ session_of p.header))
+pub after_get : (ss : List Session) (ps : List Message) (k : ℕ) (t : Session) → slice_get (sessions_after ss ps) k ≡ Some t → (slice_get ss k ≡ Some t) ⊎ ((p : Message) × In p ps × (t ≡ session_of_header p.header))
 after_get ss [] k t is = inl is
 after_get ss (p ∷ ps) k t is = elim (after_get (noted p.header ss) ps k t is) [
   | inl old ↦ elim (noted_get p.header ss k t old) [ inl new ↦ inr (p, inl refl, new) | inr before ↦ inl before ]

@@ -89,7 +89,7 @@ safe_if sh log v fair grows here each =
           inl (p.view, record { fair = (left, chance, fair); grows = grows_more sh (settled log) v image grows p });
     }
 
--- a log that has just been synced is at rest
+-- a log that has just been synced rests on its view
 pub synced_rests : (sh : Shape) (log : UnitLog) (v : View) → HasGrown sh (add Synced log) v → RestsOn sh (add Synced log) v
 synced_rests sh log v g = record {
   fair = g.fair;
@@ -182,7 +182,7 @@ module _ (sh : Shape) (log : UnitLog) (v : View) (put : Units) (rest : RestsOn s
     ]);
   }
 
-  -- the log after the write and a sync is at rest
+  -- the log after the write and a sync rests on its view
   pub write_synced : (u : View) → GoesOn (settled log) v u → TornView sh log v put (overlay put (now log)) u → RestsOn sh (add Synced (wrote put log)) u
   unfolding torn_outcome
   write_synced u next t = synced_rests sh (wrote put log) u (record { fair = rest.fair; grows = grows_more sh (settled log) v (now (wrote put log)) rest.grows (torn_outcome (overlay put (now log)) u next wrote_pooled t) })

@@ -13,7 +13,7 @@ use Rattle.df_theory.specs.Next.{MayBoot, booted, kept}
 use Rattle.df_theory.specs.UnitLog.{IsLeftBy, Synced, UnitLog, add, now, put_one, same_place, wrote}
 use Rattle.df_theory.specs.Chance.{Distinct, EachLeft, InPool, NoChance}
 use Rattle.df_theory.specs.Found.{AreOfPlaces, IsClean, IsFound, IsInRange, IsOfPlace}
-use Rattle.df_theory.specs.Upgrades.{HasBare, MayRaise, as_version, begun, of_version}
+use Rattle.df_theory.specs.Upgrades.{HasBare, MayRaise, as_version, of_version, restarted_at}
 use Rattle.df_theory.specs.Sample.{UpgradeSampleLaw}
 use Rattle.df_theory.proofs.Choices.{chosen_above, same_copy}
 use Rattle.df_theory.proofs.CopyVotes.{agree_at}
@@ -200,7 +200,7 @@ unclean clean = elim (clean 2 content2 refl (λ e. omega arith)) [
 -- ---- a stop within copy 2 of the update
 
 abbrev half : UnitLog
-half = add Synced (wrote (put_one (CopyPlace 1) (CopyUnit content3)) (add Synced (wrote (put_one (CopyPlace 0) (CopyUnit content3)) (add Synced (wrote (put_one (CopyPlace 2) (CopyUnit content1)) (begun image))))))
+half = add Synced (wrote (put_one (CopyPlace 1) (CopyUnit content3)) (add Synced (wrote (put_one (CopyPlace 0) (CopyUnit content3)) (add Synced (wrote (put_one (CopyPlace 2) (CopyUnit content1)) (restarted_at image))))))
 
 abbrev log : UnitLog
 log = wrote (put_one (CopyPlace 2) (CopyUnit content3)) half
@@ -254,8 +254,8 @@ image_known place x is = go (same_place (CopyPlace 2) place) is
 
 log_known : All IsKnown log.start log.events
 log_known =
-    let l1 : UnitLog = add Synced (wrote (put_one (CopyPlace 2) (CopyUnit content1)) (begun image)) in
-    let a1 : All IsKnown l1.start l1.events = put_all IsKnown (CopyPlace 2) (CopyUnit content1) (begun image) (inl refl) image_known in
+    let l1 : UnitLog = add Synced (wrote (put_one (CopyPlace 2) (CopyUnit content1)) (restarted_at image)) in
+    let a1 : All IsKnown l1.start l1.events = put_all IsKnown (CopyPlace 2) (CopyUnit content1) (restarted_at image) (inl refl) image_known in
     let l2 : UnitLog = add Synced (wrote (put_one (CopyPlace 0) (CopyUnit content3)) l1) in
     let a2 : All IsKnown l2.start l2.events = put_all IsKnown (CopyPlace 0) (CopyUnit content3) l1 (inr refl) a1 in
     let a3 : All IsKnown half.start half.events = put_all IsKnown (CopyPlace 1) (CopyUnit content3) l2 (inr refl) a2 in

@@ -15,7 +15,7 @@ use Rattle.df_theory.specs.Runs.{AtEach, after_steps}
 use Rattle.df_theory.specs.CopyPuts.{PutsCopies, update_steps}
 use Rattle.df_theory.specs.MendLaws.{copy_steps, header_steps, mend_steps}
 use Rattle.df_theory.specs.Found.{IsClean, IsFound}
-use Rattle.df_theory.specs.Upgrades.{BeginsRaised, EndsRaised, HasBare, IsCleanBeyond, IsRaised, MayRaise, OpenLaw, RaiseAnewLaw, RaiseEndsLaw, RaiseLaw, UpgradeLaw, begun, of_version, raise_steps}
+use Rattle.df_theory.specs.Upgrades.{BeginsRaised, EndsRaised, HasBare, IsCleanBeyond, IsRaised, MayRaise, OpenLaw, RaiseAnewLaw, RaiseEndsLaw, RaiseLaw, UpgradeLaw, of_version, raise_steps, restarted_at}
 use Rattle.df_theory.proofs.Choices.{same_copy}
 use Rattle.df_theory.proofs.CopyVotes.{IsStage, chosen_first, chosen_last, chosen_not_yet, chosen_second}
 use Rattle.df_theory.proofs.Runs.{after_append, each_append, each_weaker}
@@ -38,32 +38,32 @@ module _ (sh : Shape) (ver : ℕ) (image : Units) (v : View) (table : ℕ → He
 
   -- ---- the two phases
 
-  begun_restoring : Restoring (begun image)
+  begun_restoring : Restoring (restarted_at image)
   begun_restoring = record { moment = moment_begun image table (IsChoice image table c may.agreed.first may.agreed.second); first = record { dry = refl; shows = may.agreed.at_first }; second = record { dry = refl; shows = may.agreed.at_second } }
 
   abbrev mid : UnitLog
-  mid = after_steps (header_steps headers) (begun image)
+  mid = after_steps (header_steps headers) (restarted_at image)
 
   abbrev restored : UnitLog
   restored = after_steps (copy_steps copies) mid
 
-  restoring_first : AtEach Restoring (begun image) (header_steps headers) × Restoring mid
-  restoring_first = restoring_headers image table c may.agreed.first may.agreed.second headers (begun image) may.puts_headers begun_restoring
+  restoring_first : AtEach Restoring (restarted_at image) (header_steps headers) × Restoring mid
+  restoring_first = restoring_headers image table c may.agreed.first may.agreed.second headers (restarted_at image) may.puts_headers begun_restoring
 
   restoring_second : AtEach Restoring mid (copy_steps copies) × Restoring restored
   restoring_second = restoring_copies image table c may.agreed.first may.agreed.second copies mid may.puts_copies restoring_first.1
 
   restored_dry : IsDry restored
-  restored_dry = dry_copies copies mid (dry_headers headers (begun image) (λ place. refl))
+  restored_dry = dry_copies copies mid (dry_headers headers (restarted_at image) (λ place. refl))
 
   restored_copy : (k : ℕ) → k < 4 → now restored (CopyPlace k) ≡ Some (CopyUnit c)
   restored_copy k below = copies_shown c may.agreed.first may.agreed.second copies mid may.puts_copies k (elim (may.each_copy k below) [
-    | inl shown ↦ inl (missed (CopyPlace k) (header_steps headers) (begun image) (header_steps_miss table headers may.puts_headers k) ∙ shown)
+    | inl shown ↦ inl (missed (CopyPlace k) (header_steps headers) (restarted_at image) (header_steps_miss table headers may.puts_headers k) ∙ shown)
     | inr number ↦ inr number
   ])
 
   restored_header : (s : ℕ) → s < sh.layout.slots → now restored (HeaderPlace s) ≡ Some (HeaderUnit (table s))
-  restored_header s below = missed (HeaderPlace s) (copy_steps copies) mid (copies_miss c may.agreed.first may.agreed.second copies may.puts_copies s) ∙ steps_shown table headers (begun image) may.puts_headers s (may.each_slot s below)
+  restored_header s below = missed (HeaderPlace s) (copy_steps copies) mid (copies_miss c may.agreed.first may.agreed.second copies may.puts_copies s) ∙ steps_shown table headers (restarted_at image) may.puts_headers s (may.each_slot s below)
 
   raising_begins : Raising restored 0
   raising_begins = record {
@@ -143,13 +143,13 @@ module _ (sh : Shape) (ver : ℕ) (image : Units) (v : View) (table : ℕ → He
 
   -- a fact of each moment
   each_moment : (Moment : UnitLog → Type 0) → ((log : UnitLog) → Restoring log → Moment log) → ((log : UnitLog) (k : ℕ) → Raising log k → Moment log) → (puts : PutsCopies d)
-      → AtEach Moment (begun image) (raise_steps headers copies puts)
+      → AtEach Moment (restarted_at image) (raise_steps headers copies puts)
   each_moment Moment one two puts =
-      each_append Moment (mend_steps headers copies) (update_steps puts) (begun image)
-      (each_append Moment (header_steps headers) (copy_steps copies) (begun image) (each_weaker Restoring Moment one (header_steps headers) (begun image) restoring_first.0) (each_weaker Restoring Moment one (copy_steps copies) mid restoring_second.0))
-      (subst (λ (l : UnitLog). AtEach Moment l (update_steps puts)) (sym (after_append (header_steps headers) (copy_steps copies) (begun image))) (each_raising image table c d Moment two puts restored raising_begins).0)
+      each_append Moment (mend_steps headers copies) (update_steps puts) (restarted_at image)
+      (each_append Moment (header_steps headers) (copy_steps copies) (restarted_at image) (each_weaker Restoring Moment one (header_steps headers) (restarted_at image) restoring_first.0) (each_weaker Restoring Moment one (copy_steps copies) mid restoring_second.0))
+      (subst (λ (l : UnitLog). AtEach Moment l (update_steps puts)) (sym (after_append (header_steps headers) (copy_steps copies) (restarted_at image))) (each_raising image table c d Moment two puts restored raising_begins).0)
 
-  pub raise_left : (puts : PutsCopies d) → AtEach (λ log. EachLeft log (λ j. HasBare sh ver j v d)) (begun image) (raise_steps headers copies puts)
+  pub raise_left : (puts : PutsCopies d) → AtEach (λ log. EachLeft log (λ j. HasBare sh ver j v d)) (restarted_at image) (raise_steps headers copies puts)
   raise_left puts = each_moment (λ log. EachLeft log (λ j. HasBare sh ver j v d)) restoring_left raising_left puts
 
   -- ---- clean starts
@@ -189,7 +189,7 @@ module _ (sh : Shape) (ver : ℕ) (image : Units) (v : View) (table : ℕ → He
           | inr (e, one, inr (below, new)) ↦ (e, one, λ differs. inl new)
         ]
 
-    pub raise_clean : (puts : PutsCopies d) → AtEach (λ log. EachLeft log (λ j. Holds sh j v ⊎ IsRaised (of_version ver sh) j (booted v d))) (begun image) (raise_steps headers copies puts)
+    pub raise_clean : (puts : PutsCopies d) → AtEach (λ log. EachLeft log (λ j. Holds sh j v ⊎ IsRaised (of_version ver sh) j (booted v d))) (restarted_at image) (raise_steps headers copies puts)
     raise_clean puts = each_moment (λ log. EachLeft log (λ j. Holds sh j v ⊎ IsRaised (of_version ver sh) j (booted v d))) restoring_clean raising_clean puts
 
   -- ---- the end
@@ -199,10 +199,10 @@ module _ (sh : Shape) (ver : ℕ) (image : Units) (v : View) (table : ℕ → He
     last = after_steps (update_steps puts) restored
 
     abbrev done : UnitLog
-    done = after_steps (raise_steps headers copies puts) (begun image)
+    done = after_steps (raise_steps headers copies puts) (restarted_at image)
 
     same : done ≡ last
-    same = after_append (mend_steps headers copies) (update_steps puts) (begun image) ∙ ap (λ (l : UnitLog). after_steps (update_steps puts) l) (after_append (header_steps headers) (copy_steps copies) (begun image))
+    same = after_append (mend_steps headers copies) (update_steps puts) (restarted_at image) ∙ ap (λ (l : UnitLog). after_steps (update_steps puts) l) (after_append (header_steps headers) (copy_steps copies) (restarted_at image))
 
     ended : Raising last 4
     ended = (each_raising image table c d (λ log. Unit {0}) (λ log k is. tt) puts restored raising_begins).1
@@ -261,9 +261,9 @@ pub open_law : OpenLaw
 open_law sh image v table headers copies d puts may =
     let kept = raise_law sh v.checkpoint.content.version image v table headers copies d puts may in
     let same : v.checkpoint.content.version ≡ sh.version = may.found.checkpoint.tests.version in (
-      subst (λ (n : ℕ). AtEach (λ log. EachLeft log (λ left. IsFound sh left v ⊎ IsFound (of_version n sh) left (booted v d))) (begun image) (raise_steps headers copies puts)) same kept.0,
+      subst (λ (n : ℕ). AtEach (λ log. EachLeft log (λ left. IsFound sh left v ⊎ IsFound (of_version n sh) left (booted v d))) (restarted_at image) (raise_steps headers copies puts)) same kept.0,
       kept.1,
-      subst (λ (n : ℕ). EndsRaised (of_version n sh) (after_steps (raise_steps headers copies puts) (begun image)) (booted v d)) same (raise_ends_law sh v.checkpoint.content.version image v table headers copies d puts may).0,
+      subst (λ (n : ℕ). EndsRaised (of_version n sh) (after_steps (raise_steps headers copies puts) (restarted_at image)) (booted v d)) same (raise_ends_law sh v.checkpoint.content.version image v table headers copies d puts may).0,
     )
 
 pub upgrade_law : UpgradeLaw

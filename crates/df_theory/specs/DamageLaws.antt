@@ -1,4 +1,4 @@
--- What damage can do to a file at rest: sectors hurt, lost or swapped, so long as no unit comes about by chance.
+-- What damage can do to a file whose log rests on a view: sectors hurt, lost or swapped, so long as no unit comes about by chance.
 use Rattle.std.specs.Prelude.{◌≡◌, ◌⊎◌, ◌<◌, ◌≤◌, ◌+◌, ◌-◌, ◌%◌, ◌^◌, ℕ, length, List, ◌++◌, Some}
 use Rattle.std.specs.List.{slice_get}
 use Rattle.df_theory.specs.Units.{AnyUnit, Block, BlockPlace, Content, CopyPlace, Header, HeaderPlace, HeaderUnit, Message, Place, PreparePlace, ReplyPlace, ReplyUnit, Session, Units}
@@ -96,23 +96,23 @@ abbrev pub IsHurt : UnitLog → Units → Place → Type 0
 IsHurt log shown place = shown place ≡ now log place → ⊥
 
 -- a refusal that blames what is hurt: a block of the grid or a slot of the prepare ring that is hurt; for a reply its slot, or a slot of the group of a prepare of the same client and of a later op than the tail that is found reaches. A file whose boot is spent is refused without blame
-abbrev pub BlamesHurt : Shape → UnitLog → View → Units → Refusal → Type 0
-BlamesHurt sh log v shown NoQuorum = ⊥
-BlamesHurt sh log v shown BadField = ⊥
-BlamesHurt sh log v shown BootSpent = boot_of v ≡ 2 ^ 62
-BlamesHurt sh log v shown (Damaged (CopyPlace n)) = ⊥
-BlamesHurt sh log v shown (Damaged (HeaderPlace s)) = ⊥
-BlamesHurt sh log v shown (Damaged (PreparePlace s)) = IsHurt log shown (PreparePlace s)
-BlamesHurt sh log v shown (Damaged (BlockPlace a)) = IsHurt log shown (BlockPlace a)
-BlamesHurt sh log v shown (Damaged (ReplyPlace k)) =
+abbrev pub RefusalBlamesHurt : Shape → UnitLog → View → Units → Refusal → Type 0
+RefusalBlamesHurt sh log v shown NoQuorum = ⊥
+RefusalBlamesHurt sh log v shown BadField = ⊥
+RefusalBlamesHurt sh log v shown BootSpent = boot_of v ≡ 2 ^ 62
+RefusalBlamesHurt sh log v shown (Damaged (CopyPlace n)) = ⊥
+RefusalBlamesHurt sh log v shown (Damaged (HeaderPlace s)) = ⊥
+RefusalBlamesHurt sh log v shown (Damaged (PreparePlace s)) = IsHurt log shown (PreparePlace s)
+RefusalBlamesHurt sh log v shown (Damaged (BlockPlace a)) = IsHurt log shown (BlockPlace a)
+RefusalBlamesHurt sh log v shown (Damaged (ReplyPlace k)) =
     shown (ReplyPlace k) ≡ now log (ReplyPlace k)
     → (s : Session) × (p : Message) × (tail : List Message) × (slice_get (sessions v) k ≡ Some s) × In p v.tail × (p.header.client ≡ s.client) × IsTail sh shown v.checkpoint tail × (v.checkpoint.content.op + length tail < p.header.op) × (IsGroupUnhurt sh log v shown p → ⊥)
 
--- at rest, while two copies show the choice, each refusal of an open blames what is hurt
+-- where the log rests on a view and two copies show the choice, each refusal of an open blames what is hurt
 abbrev pub BlameLaw : Type 0
 BlameLaw =
     (sh : Shape) (log : UnitLog) (v : View) (shown : Units) (refusal : Refusal) → RestsOn sh log v → NoChance log shown → Agree shown v.checkpoint.content
-    → Opens sh shown (Refused refusal) → BlamesHurt sh log v shown refusal
+    → Opens sh shown (Refused refusal) → RefusalBlamesHurt sh log v shown refusal
 
 -- a read by a known checksum gives the unit that was written there, and no other: any unit of the pools, and what is shown with its checksum
 abbrev pub ReadLaw : Type 0

@@ -64,14 +64,14 @@ AloneLaw = (sh : Shape) (image : Units) (b : Checkpoint) (tail : List Message) �
 -- ---- the group rule, told by the prepare before
 
 -- the prepare before is the last of its group
-abbrev pub Ends : Option Header → Type 0
-Ends None = ⊥
-Ends (Some q) = q.group_last ≡ q.op
+abbrev pub GroupEnded : Option Header → Type 0
+GroupEnded None = ⊥
+GroupEnded (Some q) = q.group_last ≡ q.op
 
 -- it begins a group: after the checkpoint, after the pin, or after a group that is over
 pub record IsGroupFirst (op pin : ℕ) (before : Option Header) (h : Header) : Type 0 where
   pub first : h.group ≡ h.op
-  pub behind : (h.op ≡ op + 1) ⊎ (h.op ≡ pin + 1) ⊎ Ends before
+  pub behind : (h.op ≡ op + 1) ⊎ (h.op ≡ pin + 1) ⊎ GroupEnded before
 
 -- or it goes on with the group of the prepare before, which isn't over
 pub record IsGroupNext (op pin : ℕ) (before : Option Header) (h : Header) : Type 0 where
@@ -146,7 +146,7 @@ FlushRingLaw =
     → (s : ℕ) → s < slots sh → now (after_steps (flush_steps prepares headers) log) (HeaderPlace s) ≡ Some (HeaderUnit (table s))
 
 -- a file that is mended: it is tidy, but for what survived above its head
-pub record IsMended (sh : Shape) (log : UnitLog) (v : View) : Type 0 where
+pub record IsMendedLog (sh : Shape) (log : UnitLog) (v : View) : Type 0 where
   pub rests : RestsOn sh log v
   pub quiet : IsQuiet log
   pub whole : IsWhole sh (now log) v
@@ -158,5 +158,5 @@ boot_command v d puts = record { steps = Syncs ∷ update_steps puts; view = boo
 -- it leads to a tidy file, whatever survived before
 abbrev pub TidyBootLaw : Type 0
 TidyBootLaw =
-    (sh : Shape) (log : UnitLog) (v : View) (d : Content) (puts : PutsCopies d) → IsMended sh log v → MayBoot v d
+    (sh : Shape) (log : UnitLog) (v : View) (d : Content) (puts : PutsCopies d) → IsMendedLog sh log v → MayBoot v d
     → LeadsTidily sh log v (boot_command v d puts) × (IsStanding log v → KeepsStanding sh log v (boot_command v d puts))

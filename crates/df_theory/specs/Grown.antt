@@ -28,7 +28,7 @@ abbrev pub IsClear : List Units → View → Type 0
 IsClear images v = (s : ℕ) (p : Message) → InImages images (PreparePlace s) (PrepareUnit p) → p.header.boot ≡ boot_of v → p.header.op ≤ head v
 
 -- a part of a group that a stop left above the head, all of it at once: of the group one is missing
-pub record IsLeft (images : List Units) (image : Units) (v : View) (p : Message) : Type 0 where
+pub record IsLeftGroup (images : List Units) (image : Units) (v : View) (p : Message) : Type 0 where
   pub clear : IsClear images v
   pub own : p.header.boot ≡ boot_of v
   pub cut : IsCutOff (head v) p.header
@@ -40,7 +40,7 @@ pub record IsLeft (images : List Units) (image : Units) (v : View) (p : Message)
 abbrev pub IsSurvivor : List Units → Units → View → Place → AnyUnit → Type 0
 IsSurvivor images image v (CopyPlace n) x = ⊥
 IsSurvivor images image v (HeaderPlace s) x = ⊥
-IsSurvivor images image v (PreparePlace s) x = (p : Message) × (x ≡ PrepareUnit p) × IsLeft images image v p
+IsSurvivor images image v (PreparePlace s) x = (p : Message) × (x ≡ PrepareUnit p) × IsLeftGroup images image v p
 IsSurvivor images image v (ReplyPlace k) x = ⊥
 IsSurvivor images image v (BlockPlace a) x = ⊥
 

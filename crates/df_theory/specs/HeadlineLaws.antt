@@ -27,6 +27,6 @@ HeadlineLaw = (sh : Shape) (log : UnitLog) (v : View) (cs : List Command) → Re
 abbrev pub BarrierLaw : Type 0
 BarrierLaw = (sh : Shape) (log : UnitLog) (v : View) → Grown sh (add Synced log) → IsFound sh (now log) v → RestsOn sh (add Synced log) v
 
--- any image that is found to have a state, whatever was done to it, begins a log anew, where its copies are clean
+-- any image that is found to have a state, whatever was done to it, restarts a log, where its copies are clean
 abbrev pub CleanStartLaw : Type 0
 CleanStartLaw = (sh : Shape) (image : Units) (v : View) → AreOfPlaces sh image → IsFound sh image v → IsClean image v → RestsOn sh (record { start = image; events = [] }) v

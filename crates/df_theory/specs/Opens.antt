@@ -18,9 +18,9 @@ pub data Refusal : Type 0 where
   Damaged : (place : Place) → Refusal
   BootSpent : Refusal
 
-pub data Answer : Type 0 where
-  Refused : (refusal : Refusal) → Answer
-  Found : (view : View) → Answer
+pub data OpenAnswer : Type 0 where
+  Refused : (refusal : Refusal) → OpenAnswer
+  Found : (view : View) → OpenAnswer
 
 -- ---- the trailer
 
@@ -77,7 +77,7 @@ pub record LacksReply (image : Units) (c : Content) (ss : List Session) (n k : �
 -- ---- the steps
 
 -- the chosen superblock passes its tests, so that its trailer may be read
-pub record IsUsable (sh : Shape) (image : Units) (c : Content) : Type 0 where
+pub record IsUsableSuperblock (sh : Shape) (image : Units) (c : Content) : Type 0 where
   pub chosen : IsChosen image c
   pub tests : PassesTests sh c
   pub reference : IsReference sh.layout c
@@ -135,15 +135,15 @@ pub record ReachesReplies (sh : Shape) (image : Units) (b : Checkpoint) (tail : 
   pub replies : IsReplies image b.content tail n
 
 -- the answer of an open: the first step that refuses, in this order, or the state
-pub data Opens (sh : Shape) (image : Units) : Answer → Type 0 where
+pub data Opens (sh : Shape) (image : Units) : OpenAnswer → Type 0 where
   -- no two copies agree
   Split : IsSplit image → Opens sh image (Refused NoQuorum)
   -- the chosen superblock fails a test
   Unusable : (c : Content) → IsChosen image c → (PassesTests sh c → IsReference sh.layout c → ⊥) → Opens sh image (Refused BadField)
   -- a block of the trailer is wanted and not shown
-  LacksBlock : (c : Content) (a k : ℕ) → IsUsable sh image c → ReadsTo sh image c a k → (IsShown image a k → ⊥) → Opens sh image (Refused (Damaged (BlockPlace a)))
+  LacksBlock : (c : Content) (a k : ℕ) → IsUsableSuperblock sh image c → ReadsTo sh image c a k → (IsShown image a k → ⊥) → Opens sh image (Refused (Damaged (BlockPlace a)))
   -- all blocks that are wanted are shown, and the trailer fails a test
-  BadTrailer : (c : Content) → IsUsable sh image c → ((a k : ℕ) → ReadsTo sh image c a k → IsShown image a k) → ((b : Checkpoint) → b.content ≡ c → IsReadable sh image b → ⊥) → Opens sh image (Refused BadField)
+  BadTrailer : (c : Content) → IsUsableSuperblock sh image c → ((a k : ℕ) → ReadsTo sh image c a k → IsShown image a k) → ((b : Checkpoint) → b.content ≡ c → IsReadable sh image b → ⊥) → Opens sh image (Refused BadField)
   -- a unit is of a later checkpoint
   Behind : (b : Checkpoint) (n : ℕ) → IsReadable sh image b → (NotBehind sh image b.content → ⊥) → IsLowest image b.content n → Opens sh image (Refused (Damaged (CopyPlace n)))
   -- a prepare that the superblock names isn't shown, or doesn't fit

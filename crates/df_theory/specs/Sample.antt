@@ -60,7 +60,7 @@ pub record UpdateSampleLaw : Type 0 where
   pub mends : List (ℕ × Units)
   pub may : MayMend shape (add (Stopped image) log) view table [] mends
 
--- and a file at rest with a hurt place: the slot of its only prepare shows nothing, the header tells, and the open refuses, naming that slot
+-- and a file, of which nothing is loose, with a hurt place: the slot of its only prepare shows nothing, the header tells, and the open refuses, naming that slot
 pub record HurtSampleLaw : Type 0 where
   pub shape : Shape
   pub log : UnitLog

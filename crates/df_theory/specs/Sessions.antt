@@ -3,13 +3,13 @@ use Rattle.std.specs.Prelude.{◌≡◌, ◌⊎◌, ◌<◌, ◌≤◌, ◌+◌,
 use Rattle.std.specs.List.{slice_get}
 use Rattle.df_theory.specs.Units.{Header, Message, Session}
 
-abbrev pub session_of : Header → Session
-session_of h = record { client = h.client; request = h.request; op = h.op }
+abbrev pub session_of_header : Header → Session
+session_of_header h = record { client = h.client; request = h.request; op = h.op }
 
 -- the table after a prepare: a known client's session is replaced, a new client's goes last
 abbrev pub noted : Header → List Session → List Session
-noted h [] = session_of h ∷ []
-noted h (s ∷ ss) = if s.client == h.client then session_of h ∷ ss else s ∷ noted h ss
+noted h [] = session_of_header h ∷ []
+noted h (s ∷ ss) = if s.client == h.client then session_of_header h ∷ ss else s ∷ noted h ss
 
 -- the table after these prepares
 abbrev pub sessions_after : List Session → List Message → List Session

@@ -1,4 +1,4 @@
--- An open that raises the boot, and an upgrade, which raises the version too: a file is restored, as an open mends it, and then gets a superblock with the next boot. It is one log, begun anew at the image that the barrier settled; no clean start is asked.
+-- An open that raises the boot, and an upgrade, which raises the version too: a file is restored, as an open mends it, and then gets a superblock with the next boot. It is one log, restarted at the image that the barrier settled; no clean start is asked.
 use Rattle.std.specs.Prelude.{◌≡◌, ◌⊎◌, ◌<◌, ◌≤◌, ℕ, List, ◌++◌, Some, []}
 use Rattle.df_theory.specs.CopyPuts.{PutsCopies, update_steps}
 use Rattle.df_theory.specs.Units.{Content, CopyPlace, CopyUnit, Header, HeaderPlace, HeaderUnit, Message, PreparePlace, PrepareUnit, ReplyPlace, ReplyUnit, Units}
@@ -23,9 +23,9 @@ of_version n sh = record sh { version = n }
 abbrev pub as_version : ℕ → View → View
 as_version n v = booted v (record v.checkpoint.content { version = n })
 
--- a log that is begun anew at an image
-abbrev pub begun : Units → UnitLog
-begun image = record { start = image; events = [] }
+-- a log that is restarted at an image
+abbrev pub restarted_at : Units → UnitLog
+restarted_at image = record { start = image; events = [] }
 
 -- what is written over an image in which an open finds a view: the headers and the copies that an open mends, and a content that follows by a boot update, but for its version
 pub record MayRaise (sh : Shape) (n : ℕ) (image : Units) (v : View) (table : ℕ → Header) (headers : List Units) (copies : List (ℕ × Units)) (d : Content) : Type 0 where
@@ -51,7 +51,7 @@ HasBare sh n image v d = IsFound sh image v ⊎ IsFound (of_version n sh) image 
 abbrev pub RaiseLaw : Type 0
 RaiseLaw =
     (sh : Shape) (n : ℕ) (image : Units) (v : View) (table : ℕ → Header) (headers : List Units) (copies : List (ℕ × Units)) (d : Content) (puts : PutsCopies d) → MayRaise sh n image v table headers copies d
-    → AtEach (λ log. EachLeft log (λ left. HasBare sh n left v d)) (begun image) (raise_steps headers copies puts) × IsSameBare (as_version n v) (booted v d)
+    → AtEach (λ log. EachLeft log (λ left. HasBare sh n left v d)) (restarted_at image) (raise_steps headers copies puts) × IsSameBare (as_version n v) (booted v d)
 
 -- an image with the new superblock: it holds its view, and all its prepares and replies are of earlier boots
 pub record IsRaised (sh : Shape) (image : Units) (u : View) : Type 0 where
@@ -65,10 +65,10 @@ pub record EndsRaised (sh : Shape) (log : UnitLog) (u : View) : Type 0 where
   pub whole : IsWhole sh (now log) u
   pub found : IsFound sh (now log) u
 
--- a log may be begun anew at this image
+-- a log may be restarted at this image
 pub record BeginsRaised (sh : Shape) (image : Units) (u : View) : Type 0 where
   pub raised : IsRaised sh image u
-  pub rests : RestsOn sh (begun image) u
+  pub rests : RestsOn sh (restarted_at image) u
 
 -- beside the four copies none is later: there are four. Of the four themselves nothing is asked
 abbrev pub IsCleanBeyond : Units → View → Type 0
@@ -77,14 +77,14 @@ IsCleanBeyond image v = (n : ℕ) (c : Content) → 4 ≤ n → image (CopyPlace
 abbrev pub RaiseEndsLaw : Type 0
 RaiseEndsLaw =
     (sh : Shape) (n : ℕ) (image : Units) (v : View) (table : ℕ → Header) (headers : List Units) (copies : List (ℕ × Units)) (d : Content) (puts : PutsCopies d) → MayRaise sh n image v table headers copies d
-    → EndsRaised (of_version n sh) (after_steps (raise_steps headers copies puts) (begun image)) (booted v d)
-    × (IsCleanBeyond image v → BeginsRaised (of_version n sh) (now (after_steps (raise_steps headers copies puts) (begun image))) (booted v d))
+    → EndsRaised (of_version n sh) (after_steps (raise_steps headers copies puts) (restarted_at image)) (booted v d)
+    × (IsCleanBeyond image v → BeginsRaised (of_version n sh) (now (after_steps (raise_steps headers copies puts) (restarted_at image))) (booted v d))
 
 -- where the start was clean, what a stop leaves is clean too: the next log may begin there
 abbrev pub RaiseAnewLaw : Type 0
 RaiseAnewLaw =
     (sh : Shape) (n : ℕ) (image : Units) (v : View) (table : ℕ → Header) (headers : List Units) (copies : List (ℕ × Units)) (d : Content) (puts : PutsCopies d) → MayRaise sh n image v table headers copies d → IsClean image v
-    → AtEach (λ log. EachLeft log (λ left. Holds sh left v ⊎ IsRaised (of_version n sh) left (booted v d))) (begun image) (raise_steps headers copies puts)
+    → AtEach (λ log. EachLeft log (λ left. Holds sh left v ⊎ IsRaised (of_version n sh) left (booted v d))) (restarted_at image) (raise_steps headers copies puts)
 
 -- ---- an open, of any image in which it finds a view: it keeps the version
 
@@ -92,9 +92,9 @@ abbrev pub OpenLaw : Type 0
 OpenLaw =
     (sh : Shape) (image : Units) (v : View) (table : ℕ → Header) (headers : List Units) (copies : List (ℕ × Units)) (d : Content) (puts : PutsCopies d)
     → MayRaise sh v.checkpoint.content.version image v table headers copies d
-    → AtEach (λ log. EachLeft log (λ left. IsFound sh left v ⊎ IsFound sh left (booted v d))) (begun image) (raise_steps headers copies puts)
+    → AtEach (λ log. EachLeft log (λ left. IsFound sh left v ⊎ IsFound sh left (booted v d))) (restarted_at image) (raise_steps headers copies puts)
     × IsSameBare v (booted v d)
-    × EndsRaised sh (after_steps (raise_steps headers copies puts) (begun image)) (booted v d)
+    × EndsRaised sh (after_steps (raise_steps headers copies puts) (restarted_at image)) (booted v d)
 
 -- ---- an upgrade: from version 1 to version 2
 
@@ -103,7 +103,7 @@ abbrev pub UpgradeLaw : Type 0
 UpgradeLaw =
     (sh : Shape) (image : Units) (v : View) (table : ℕ → Header) (headers : List Units) (copies : List (ℕ × Units)) (d : Content) (puts : PutsCopies d)
     → sh.version ≡ 1 → MayRaise sh 2 image v table headers copies d
-    → AtEach (λ log. EachLeft log (λ left. HasBare sh 2 left v d)) (begun image) (raise_steps headers copies puts)
+    → AtEach (λ log. EachLeft log (λ left. HasBare sh 2 left v d)) (restarted_at image) (raise_steps headers copies puts)
     × IsSameBare (as_version 2 v) (booted v d)
-    × EndsRaised (of_version 2 sh) (after_steps (raise_steps headers copies puts) (begun image)) (booted v d)
+    × EndsRaised (of_version 2 sh) (after_steps (raise_steps headers copies puts) (restarted_at image)) (booted v d)
     × (v.checkpoint.content.version ≡ 1) × (d.version ≡ 2) × (d.boot ≡ 1)

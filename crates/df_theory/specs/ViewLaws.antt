@@ -8,7 +8,7 @@ use Rattle.df_theory.specs.View.{Checkpoint, PassesTests, View, boot_of, head}
 use Rattle.df_theory.specs.Holds.{Holds}
 use Rattle.df_theory.specs.Cases.{SaysOfSlot, IsEmpty, IsTake, decided, decision}
 use Rattle.df_theory.specs.Found.{AreOfPlaces, IsClean, IsFound}
-use Rattle.df_theory.specs.Opens.{Answer, AreKnown, BootSpent, Found, IsUnfit, LacksKnown, Opens, Refused}
+use Rattle.df_theory.specs.Opens.{AreKnown, BootSpent, Found, IsUnfit, LacksKnown, OpenAnswer, Opens, Refused}
 
 -- an image holds one view
 abbrev pub OneViewLaw : Type 0
@@ -34,7 +34,7 @@ OneChosenLaw = (image : Units) (c d : Content) → IsChosen image c → IsChosen
 
 -- an open gives one answer
 abbrev pub OneAnswerLaw : Type 0
-OneAnswerLaw = (sh : Shape) (image : Units) (x y : Answer) → Opens sh image x → Opens sh image y → x ≡ y
+OneAnswerLaw = (sh : Shape) (image : Units) (x y : OpenAnswer) → Opens sh image x → Opens sh image y → x ≡ y
 
 -- the answer is a state exactly where no step refuses
 abbrev pub FoundAnswerLaw : Type 0
@@ -50,7 +50,7 @@ DecisionLaw = (n b o : ℕ) (image : Units) → SaysOfSlot b o (image (HeaderPla
 
 -- an open of any image has an answer: there is none of which no step speaks
 abbrev pub AnAnswerLaw : Type 0
-AnAnswerLaw = (sh : Shape) (image : Units) → AreOfPlaces sh image → ((x : Answer) → Opens sh image x → ⊥) → ⊥
+AnAnswerLaw = (sh : Shape) (image : Units) → AreOfPlaces sh image → ((x : OpenAnswer) → Opens sh image x → ⊥) → ⊥
 
 -- of the prepares that the superblock names, one op is refused: the greatest one that isn't shown, or else the least one that doesn't fit
 abbrev pub OneKnownLaw : Type 0

@@ -27,7 +27,7 @@ SyncLaw = (sh : Shape) (log : UnitLog) (v : View) → Grown sh (add Synced log) 
 abbrev pub StopLaw : Type 0
 StopLaw = (sh : Shape) (log : UnitLog) (v : View) (image : Units) → Grown sh (add (Stopped image) log) → Holds sh image v → RestsOn sh (add (Stopped image) log) v
 
--- a log that is begun anew at an image which holds a view rests on it. Holding asks that beside copy 0 no copy shows a content above the choice: without that a later repair can be misled to it
+-- a log that is restarted at an image which holds a view rests on it. Holding asks that beside copy 0 no copy shows a content above the choice: without that a later repair can be misled to it
 abbrev pub AnewLaw : Type 0
 AnewLaw = (sh : Shape) (image : Units) (v : View) → Holds sh image v → RestsOn sh (record { start = image; events = [] }) v
 
@@ -49,7 +49,7 @@ pub record IsHeaderSector (sh : Shape) (image : Units) (p : Message) (put : Unit
       × ((image (HeaderPlace s) ≡ Some (HeaderUnit h)) ⊎ ((s ≡ p.header.op % slots sh) × (h ≡ p.header)))
 
 -- an append: the prepare, a sync, its header sector, a sync. From the first sync on each image left has the prepare
-pub record Appends (sh : Shape) (log : UnitLog) (v u : View) (prepare headers : Units) : Type 0 where
+pub record AppendsPrepare (sh : Shape) (log : UnitLog) (v u : View) (prepare headers : Units) : Type 0 where
   pub before : IsGoodLog sh v v log
   pub prepare_loose : IsGoodLog sh v u (wrote prepare log)
   pub prepare_synced : IsGoodLog sh u u (add Synced (wrote prepare log))
@@ -60,7 +60,7 @@ abbrev pub AppendLaw : Type 0
 AppendLaw =
     (sh : Shape) (log : UnitLog) (v : View) (p : Message) (prepare headers : Units)
     → RestsOn sh log v → IsQuiet log → IsClear (settled log) v → MayAppend sh v (p ∷ []) → PutsOne prepare (PreparePlace (p.header.op % slots sh)) (PrepareUnit p) → IsHeaderSector sh (now log) p headers
-    → Appends sh log v (appended v (p ∷ [])) prepare headers
+    → AppendsPrepare sh log v (appended v (p ∷ [])) prepare headers
 
 -- a write for each prepare of a group, in any order
 abbrev pub AllPutPrepare : Shape → List Message → List Units → Type 0

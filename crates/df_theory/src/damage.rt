@@ -1,4 +1,4 @@
-// What damage can do to a file at rest, and what it cannot.
+// What damage can do to a file whose log rests on a view, and what it cannot.
 
 ghost use Rattle.df_theory.specs.DamageLaws.{HurtLaw, CheckpointStaysLaw, NeverBehindLaw, HeadersTellLaw, TailIsFrontLaw, LostIsHurtLaw, MissingIsHurtLaw, ReplyIsHurtLaw, FieldsHoldLaw, BlameLaw, ReadLaw, NoBadFieldLaw};
 
@@ -47,7 +47,7 @@ pub fn fields_hold()
     ensures { FieldsHoldLaw }
 {}
 
-/// At rest, while two copies show the choice, a refusal blames what is hurt.
+/// Where the log rests on a view and two copies show the choice, a refusal blames what is hurt.
 pub fn refusal_blames_what_is_hurt()
     ensures { BlameLaw }
 {}

@@ -7,12 +7,12 @@ pub fn raising_keeps_the_state()
     ensures { RaiseLaw }
 {}
 
-/// At its end nothing is loose and nothing is left to mend, and a log may be begun anew there.
+/// At its end nothing is loose and nothing is left to mend, and a log may be restarted there.
 pub fn raising_ends_whole()
     ensures { RaiseEndsLaw }
 {}
 
-/// Where the start was clean, a log may be begun anew at each image left.
+/// Where the start was clean, a log may be restarted at each image left.
 pub fn raising_stays_clean()
     ensures { RaiseAnewLaw }
 {}

@@ -23,7 +23,7 @@ pub fn stopped_log_rests()
     ensures { StopLaw }
 {}
 
-/// A log may be begun anew at an image that holds a view.
+/// A log may be restarted at an image that holds a view.
 pub fn log_begins_anew()
     ensures { AnewLaw }
 {}
@@ -93,7 +93,7 @@ pub fn barrier_begins()
     ensures { BarrierLaw }
 {}
 
-/// An image that is found to have a state begins a log anew, where its copies are clean.
+/// An image that is found to have a state restarts a log, where its copies are clean.
 pub fn clean_image_begins()
     ensures { CleanStartLaw }
 {}

@@ -10,14 +10,14 @@ use Rattle.df_model.specs.declared.commands.Answer.{Answer as Called}
 use Rattle.df_session.specs.Below.{State as Replica}
 use Rattle.df_script_model.specs.Script.{answer_text}
 use Rattle.df_script_model.specs.Texts.{damaged_text}
-use Rattle.df_session.specs.Endings.{IsDamaged, MakesTo, is_disk}
+use Rattle.df_session.specs.Endings.{IsDamagedStep, MakesTo, is_disk_fault}
 use Rattle.df_session.specs.Links.{Makes}
 use Rattle.df_session.specs.declared.hearing.Fault.{Fault}
 use Rattle.df_session.specs.declared.hearing.Fault.TheVariants.{Disk, Damaged}
 use Rattle.df_top.specs.Outside.{PrintsLine}
-use Rattle.df_top.specs.Step.{Answers}
+use Rattle.df_top.specs.Step.{AnswersCommand}
 use Rattle.df_top.specs.Session.{IsDamagedLine}
-use Rattle.df_top.specs.Turning.{BlamesIfEnds, IsPrinted, Tells, printed_turn}
+use Rattle.df_top.specs.Turning.{BlamesIfEnds, IsPrinted, TellsAnswer, printed_turn}
 use Rattle.df_top.specs.declared.turns.Turn.{Turn}
 use Rattle.df_top.specs.declared.turns.Turn.TheVariants.{GoesOn, Ends}
 use Rattle.df_top.specs.declared.status.Status.{Status}
@@ -37,19 +37,19 @@ not_fault text old new turn printed is = subst (λ (u : Turn). IsPrinted text ol
 
 module _ (command : Command) (s t : Replica) (old new : Option Told) (written took : Option (List ℕ)) where
   -- it was answered, and the answer was printed
-  pub printed_is : (x : Answer) → Makes command s t old new (Some x) → (turn : Turn) → IsPrinted (answer_text command x) written took turn → Answers command s t old new written took turn
+  pub printed_is : (x : Answer) → Makes command s t old new (Some x) → (turn : Turn) → IsPrinted (answer_text command x) written took turn → AnswersCommand command s t old new written took turn
   printed_is x makes GoesOn printed = (x, makes, printed)
   printed_is x makes (Ends WriteFault) printed = inl (x, makes, printed)
   printed_is x makes turn printed = absurd printed
 
   -- the disk failed in it
-  pub failed_is : Makes command s t old new None → (turn : Turn) → (turn ≡ Ends DiskFault) × (took ≡ written) → Answers command s t old new written took turn
-  failed_is makes turn is = subst (λ (u : Turn). Answers command s t old new written took u) (sym is.0) (makes, is.1)
+  pub failed_is : Makes command s t old new None → (turn : Turn) → (turn ≡ Ends DiskFault) × (took ≡ written) → AnswersCommand command s t old new written took turn
+  failed_is makes turn is = subst (λ (u : Turn). AnswersCommand command s t old new written took u) (sym is.0) (makes, is.1)
 
   -- it is a step that is damaged, and its line was printed
-  pub damaged_is : (line : List ℕ) → Makes command s t old new None → IsDamagedLine command new line → (status : Status) → PrintsLine line Refused written took status → Answers command s t old new written took (Ends status)
-  damaged_is line makes damaged status (inl printed) = subst (λ (q : Status). Answers command s t old new written took (Ends q)) (sym printed.0) (line, makes, damaged, printed.1)
-  damaged_is line makes damaged status (inr printed) = subst (λ (q : Status). Answers command s t old new written took (Ends q)) (sym printed.0) (inr (line, makes, damaged, printed.1))
+  pub damaged_is : (line : List ℕ) → Makes command s t old new None → IsDamagedLine command new line → (status : Status) → PrintsLine line Refused written took status → AnswersCommand command s t old new written took (Ends status)
+  damaged_is line makes damaged status (inl printed) = subst (λ (q : Status). AnswersCommand command s t old new written took (Ends q)) (sym printed.0) (line, makes, damaged, printed.1)
+  damaged_is line makes damaged status (inr printed) = subst (λ (q : Status). AnswersCommand command s t old new written took (Ends q)) (sym printed.0) (inr (line, makes, damaged, printed.1))
 
 -- ---- causes
 
@@ -63,13 +63,13 @@ disk_rose before now turn is rose = subst (λ (u : Turn). BlamesIfEnds DiskFault
 -- ---- a step that is damaged
 
 -- its line says so
-pub damaged_line : (command : Command) (told : Option Told) (place : Place) (class : Class) → IsDamaged command told place class → IsDamagedLine command told (damaged_text place class)
+pub damaged_line : (command : Command) (told : Option Told) (place : Place) (class : Class) → IsDamagedStep command told place class → IsDamagedLine command told (damaged_text place class)
 damaged_line command told place class is = record { place = place; class = class; is = refl; step = is }
 
 -- ---- what a call comes to
 
 -- a failing disk has no line
-pub told_fault : (command : Command) (written took : Option (List ℕ)) (turn : Turn) → Tells command (Err Disk) written took turn → (turn ≡ Ends DiskFault) × (took ≡ written)
+pub told_fault : (command : Command) (written took : Option (List ℕ)) (turn : Turn) → TellsAnswer command (Err Disk) written took turn → (turn ≡ Ends DiskFault) × (took ≡ written)
 told_fault command written took GoesOn tells = absurd tells
 told_fault command written took (Ends status) tells = (λ i. Ends (tells.0 i), tells.1)
 
@@ -78,8 +78,8 @@ line_not_fault line old new status (inl printed) is = cc (printed.0, is)
 line_not_fault line old new status (inr printed) is = cc (printed.0, is)
 
 -- a step that is damaged ends the session by its line
-comes_damaged : (command : Command) (s t : Replica) (old new : Option Told) (written took : Option (List ℕ)) (before now : ℕ) (place : Place) (class : Class) → Makes command s t old new None → IsDamaged command new place class → now ≡ before
-    → (turn : Turn) → Tells command (Err (Damaged place class)) written took turn → Answers command s t old new written took turn × BlamesIfEnds DiskFault before now turn
+comes_damaged : (command : Command) (s t : Replica) (old new : Option Told) (written took : Option (List ℕ)) (before now : ℕ) (place : Place) (class : Class) → Makes command s t old new None → IsDamagedStep command new place class → now ≡ before
+    → (turn : Turn) → TellsAnswer command (Err (Damaged place class)) written took turn → AnswersCommand command s t old new written took turn × BlamesIfEnds DiskFault before now turn
 comes_damaged command s t old new written took before now place class makes damaged same GoesOn tells = absurd tells
 comes_damaged command s t old new written took before now place class makes damaged same (Ends status) tells = (
   damaged_is command s t old new written took (damaged_text place class) makes (damaged_line command new place class damaged) status tells,
@@ -88,7 +88,7 @@ comes_damaged command s t old new written took before now place class makes dama
 
 module _ (command : Command) (s t : Replica) (old new : Option Told) (written took : Option (List ℕ)) (before now : ℕ) (turn : Turn) where
   abbrev pub Comes : Type 0
-  Comes = Answers command s t old new written took turn × BlamesIfEnds DiskFault before now turn
+  Comes = AnswersCommand command s t old new written took turn × BlamesIfEnds DiskFault before now turn
 
   pub comes_answered : (x : Answer) → Makes command s t old new (Some x) → now ≡ before → IsPrinted (answer_text command x) written took turn → Comes
   comes_answered x makes same printed = (
@@ -100,7 +100,7 @@ module _ (command : Command) (s t : Replica) (old new : Option Told) (written to
   comes_failed makes ended rose = (failed_is command s t old new written took makes turn ended, disk_rose before now turn ended.0 rose)
 
   -- what was heard of its answer was told
-  pub comes_told : (r : Result Called Fault) → MakesTo command s t old new r → IsBlamed is_disk before now r → Tells command r written took turn → Comes
+  pub comes_told : (r : Result Called Fault) → MakesTo command s t old new r → IsBlamed is_disk_fault before now r → TellsAnswer command r written took turn → Comes
   comes_told (Ok a) gives same tells = comes_answered gives.told gives.makes same (subst (λ (l : List ℕ). IsPrinted l written took turn) (same_words command gives.told a gives.in_words).0 tells)
   comes_told (Err Disk) makes blamed tells = comes_failed makes.0 (told_fault command written took turn tells) blamed.1
   comes_told (Err (Damaged place class)) makes same tells = comes_damaged command s t old new written took before now place class makes.0 makes.1 same turn tells

@@ -19,7 +19,7 @@ use Rattle.df_session.specs.BlockReads.{what_block}
 use Rattle.df_script_model.specs.Texts.{block_text}
 use Rattle.df_session.proofs.Laws.{reads_block}
 use Rattle.df_session.specs.Endings.{heard}
-use Rattle.df_top.specs.Turning.{IsPrinted, Tells, printed_turn}
+use Rattle.df_top.specs.Turning.{IsPrinted, TellsAnswer, printed_turn}
 use Rattle.df_top.specs.declared.turns.Turn.{Turn}
 use Rattle.df_top.proofs.Answered.{Comes, comes_answered, comes_failed, prints_turn, told_fault}
 
@@ -37,7 +37,7 @@ module _ (address : ℕ) (s t : Replica) (old new : Option Told) (same : new ≡
   pub block_shown : (b : Block) → ServesBlockRead (ReadBlock address) s t old (what_block (Ok b)) (answer_of is_read_fault ToReadBlock (Ok b)) → now ≡ before → IsPrinted (block_text address b) written took turn → Reads
   block_shown b serves still printed = comes_answered (ReadBlock address) s t old new written took before now turn (ToReadBlock (Ok b)) (reads_block s t old new same address (Some (Ok b)) (Some (ToReadBlock (Ok b))) serves) still printed
 
-  pub block_refused : (e : ReadError) → ServesBlockRead (ReadBlock address) s t old (what_block (Err e)) (answer_of is_read_fault ToReadBlock (Err e)) → IsBlamed {T = Block} is_read_fault before now (Err e) → Tells (ReadBlock address) (heard (answers.ReadBlock (Err e))) written took turn → Reads
+  pub block_refused : (e : ReadError) → ServesBlockRead (ReadBlock address) s t old (what_block (Err e)) (answer_of is_read_fault ToReadBlock (Err e)) → IsBlamed {T = Block} is_read_fault before now (Err e) → TellsAnswer (ReadBlock address) (heard (answers.ReadBlock (Err e))) written took turn → Reads
   block_refused read.DiskFault serves blamed tells = comes_failed (ReadBlock address) s t old new written took before now turn (reads_block s t old new same address None None serves) (told_fault (ReadBlock address) written took turn tells) blamed.1
   block_refused read.NotLive serves still tells = comes_answered (ReadBlock address) s t old new written took before now turn (ToReadBlock (Err read.NotLive)) (reads_block s t old new same address None (Some (ToReadBlock (Err read.NotLive))) serves) still tells
   block_refused (read.Damaged a b) serves still tells =

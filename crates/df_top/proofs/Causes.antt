@@ -5,11 +5,11 @@ use Rattle.df_model.specs.declared.errors.OpenError.{OpenError}
 use Rattle.df_model.specs.Faults.{is_open_fault}
 use Rattle.df_telling.proofs.Laws.{AreApart, fault_causes, open_causes, refusal_ends, text_causes, text_ends}
 use Rattle.df_top.specs.Outside.{Blames, HasCauses, Outside, PrintsLine, counts}
-use Rattle.df_top.specs.Refusing.{PrintsError}
+use Rattle.df_top.specs.Refusing.{PrintsOpenError}
 use Rattle.df_layout.specs.declared.damage.Mend.{Mend}
 use Rattle.df_top.specs.Reporting.{status_of}
 use Rattle.df_top.specs.Lines.{Turned, act_of}
-use Rattle.df_top.specs.Session.{Ended, EndsWith, State}
+use Rattle.df_top.specs.Session.{Ended, EndsWith, SessionState}
 use Rattle.df_pace.specs.declared.pace.Pace.{Pace}
 use Rattle.df_session.specs.Session.{Act}
 use Rattle.df_top.specs.declared.status.Status.{Status}
@@ -50,11 +50,11 @@ module _ (disk disk_now source sink sink_now : ℕ) (old new : Option (List ℕ)
   failed_causes is rose blame = fault_causes DiskFault ReadFault WriteFault apart (counts disk source sink) (counts disk_now source sink_now) old new status refl blame is rose
 
   -- a file isn't opened
-  pub refused_causes : (T : Type 0) (e : OpenError) → IsBlamed {T = T} is_open_fault disk disk_now (Err e) → PrintsError e old new status → Blames WriteFault sink sink_now status → Causes
+  pub refused_causes : (T : Type 0) (e : OpenError) → IsBlamed {T = T} is_open_fault disk disk_now (Err e) → PrintsOpenError e old new status → Blames WriteFault sink sink_now status → Causes
   refused_causes T e blamed prints blame = open_causes DiskFault ReadFault WriteFault apart (counts disk source sink) (counts disk_now source sink_now) old new status refl blame T e Refused (λ no. cc) (λ no. cc) blamed prints
 
 -- neither want of memory nor other words are answered of such a file
-pub refused_never : (e : OpenError) (old new : Option (List ℕ)) (status : Status) → PrintsError e old new status → (status ≡ Memory → ⊥) × (status ≡ Words → ⊥)
+pub refused_never : (e : OpenError) (old new : Option (List ℕ)) (status : Status) → PrintsOpenError e old new status → (status ≡ Memory → ⊥) × (status ≡ Words → ⊥)
 refused_never e old new status prints = (
   refusal_ends Refused DiskFault WriteFault Memory e old new status prints (λ no. cc) (λ no. cc) (λ no. cc),
   refusal_ends Refused DiskFault WriteFault Words e old new status prints (λ no. cc) (λ no. cc) (λ no. cc),
@@ -70,7 +70,7 @@ no_words : (n : ℕ) (old new : Outside) (turns : List Turned) (failed : Option 
 no_words n old new turns None cut ends = ends
 no_words n old new turns (Some a) cut ends = ends
 
-pub ended_never : (pace : Pace) (bound : ℕ) (origin now : State) (status : Status) → Ended pace bound origin now status → (status ≡ Memory → ⊥) × (status ≡ Words → ⊥)
+pub ended_never : (pace : Pace) (bound : ℕ) (origin now : SessionState) (status : Status) → Ended pace bound origin now status → (status ≡ Memory → ⊥) × (status ≡ Words → ⊥)
 ended_never pace bound origin now status e =
     let with : Status → Type 0 = EndsWith origin.lines origin.outside now.outside e.turns (act_of e.failing) e.cut in (
       λ is. no_memory origin.lines origin.outside now.outside e.turns (act_of e.failing) e.cut (subst with is e.written),

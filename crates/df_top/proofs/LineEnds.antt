@@ -1,21 +1,21 @@
 -- What one line does to a session: it goes on with the call that the line asks for, or ends.
 use Rattle.std.proofs.Common.{◌≡◌, ◌⊎◌, ◌<◌, inl, inr, true, ℕ, ◌+◌, List, ◌++◌, length, Option, Some, ◌∙◌, ap, subst}
 use Rattle.df_lines.specs.declared.line.Line.{Line}
-use Rattle.df_lines.specs.Grammar.{Said, Says, said_with}
+use Rattle.df_lines.specs.Grammar.{Said, SaysLine, said_with}
 use Rattle.df_lines.specs.Reads.{RefusesNext, TakesLine}
-use Rattle.df_lines.specs.Room.{Room, Tells}
+use Rattle.df_lines.specs.Room.{HasTextToCome, ReaderParts}
 use Rattle.df_lines.specs.Script.{IsRefused}
 use Rattle.df_lines.specs.Text.{line_of, unread}
 use Rattle.df_disk.specs.Told.{Told}
 use Rattle.df_session.specs.Below.{State as Replica}
 use Rattle.df_model.specs.Commands.{Command}
-use Rattle.df_pace.specs.Beats.{behind_line}
+use Rattle.df_pace.specs.Beats.{beat_after_line}
 use Rattle.df_pace.specs.declared.pace.Pace.{Pace}
-use Rattle.df_top.specs.Lines.{ByLine, command_of}
+use Rattle.df_top.specs.Lines.{ByLine, command_of_line}
 use Rattle.df_top.specs.Outside.{Outside}
-use Rattle.df_top.specs.Pacing.{IsIdle, IsNext, runs}
-use Rattle.df_top.specs.Session.{EndedIsEnd, HoldsLine, State, state}
-use Rattle.df_top.specs.Step.{Answers, EndsIn, RefusesLine, Takes, Turns}
+use Rattle.df_top.specs.Pacing.{IsIdleBeat, IsNextCommand, runs}
+use Rattle.df_top.specs.Session.{EndedIsEnd, HoldsLine, SessionState, state}
+use Rattle.df_top.specs.Step.{AnswersCommand, EndsIn, RefusesLine, TakesNextLine, Turns}
 use Rattle.df_top.specs.Turning.{OnGoing}
 use Rattle.df_top.specs.declared.session.Session.{Session}
 use Rattle.df_top.specs.declared.turns.Turn.{Turn}
@@ -25,7 +25,7 @@ use Rattle.df_top.specs.declared.status.Status.TheVariants.{Done, Found, Words, 
 use Rattle.df_top.proofs.Progress.{ends_answer, ends_damaged, ends_damaged_fault, ends_disk, ends_script, ends_script_fault, goes_on}
 
 -- the line that refuses the next line ends the session
-pub ends_refused : (pace : Pace) (bound : ℕ) (old new : State) → new.outside.told ≡ old.outside.told → new.replica ≡ old.replica → IsIdle old.beat old.replica → ((rest : List ℕ) → old.text ≡ Some rest → IsRefused bound old.budget rest)
+pub ends_refused : (pace : Pace) (bound : ℕ) (old new : SessionState) → new.outside.told ≡ old.outside.told → new.replica ≡ old.replica → IsIdleBeat old.beat old.replica → ((rest : List ℕ) → old.text ≡ Some rest → IsRefused bound old.budget rest)
     → ((rest : List ℕ) → old.text ≡ Some rest → (remains : List ℕ) → new.outside.left ≡ Some remains → HoldsLine bound rest remains) → (status : Status)
     → RefusesLine old.lines old.outside.written new.outside.written status → EndsIn pace bound old new status
 ends_refused pace bound old new same one idle refused holds Script wrote = ends_script pace bound old new same one idle refused holds wrote
@@ -33,17 +33,17 @@ ends_refused pace bound old new same one idle refused holds WriteFault wrote = e
 ends_refused pace bound old new same one idle refused holds status wrote = absurd wrote
 
 -- what the reader refuses is refused
-pub refused_next : (outside : Outside) (left : Option (List ℕ)) (old : Session) (room : Room) → EndedIsEnd old outside.left
-    → ((text : List ℕ) → Tells old.lines outside.left text → RefusesNext Says old.lines.reading room.reading text (unread room.reading.held left))
+pub refused_next : (outside : Outside) (left : Option (List ℕ)) (old : Session) (room : ReaderParts) → EndedIsEnd old outside.left
+    → ((text : List ℕ) → HasTextToCome old.lines outside.left text → RefusesNext SaysLine old.lines.reading room.reading text (unread room.reading.held left))
     → (text : List ℕ) → (state outside old).text ≡ Some text → IsRefused old.lines.reading.bound old.lines.reading.budget text
 refused_next outside left old room ended gives text is = (gives text (record { is = is; ended = ended })).refuses
 
 -- and the reader holds it, or more of it than the bound
-pub held_next : (outside : Outside) (left : Option (List ℕ)) (old : Session) (room : Room) → EndedIsEnd old outside.left → room.reading.bound ≡ old.lines.reading.bound
-    → ((text : List ℕ) → Tells old.lines outside.left text → RefusesNext Says old.lines.reading room.reading text (unread room.reading.held left))
+pub held_next : (outside : Outside) (left : Option (List ℕ)) (old : Session) (room : ReaderParts) → EndedIsEnd old outside.left → room.reading.bound ≡ old.lines.reading.bound
+    → ((text : List ℕ) → HasTextToCome old.lines outside.left text → RefusesNext SaysLine old.lines.reading room.reading text (unread room.reading.held left))
     → (text : List ℕ) → (state outside old).text ≡ Some text → (remains : List ℕ) → left ≡ Some remains → HoldsLine old.lines.reading.bound text remains
 held_next outside left old room ended bound gives text is remains has =
-    let refuses : RefusesNext Says old.lines.reading room.reading text (unread room.reading.held left) = gives text (record { is = is; ended = ended }) in
+    let refuses : RefusesNext SaysLine old.lines.reading room.reading text (unread room.reading.held left) = gives text (record { is = is; ended = ended }) in
     let whole : Some (room.reading.held ++ remains) ≡ Some text = subst (λ (o : Option (List ℕ)). unread room.reading.held o ≡ Some text) has refuses.rest in
     record {
       held = room.reading.held;
@@ -53,34 +53,34 @@ held_next outside left old room ended bound gives text is remains has =
 
 -- ---- a line was taken
 
-module _ (before after : Outside) (old : Session) (room : Room) (line : Line) (ended : EndedIsEnd old before.left)
-    (gives : (text : List ℕ) → Tells old.lines before.left text → TakesLine Says old.lines.reading room.reading text (unread room.reading.held after.left) (said_with room.body line)) where
+module _ (before after : Outside) (old : Session) (room : ReaderParts) (line : Line) (ended : EndedIsEnd old before.left)
+    (gives : (text : List ℕ) → HasTextToCome old.lines before.left text → TakesLine SaysLine old.lines.reading room.reading text (unread room.reading.held after.left) (said_with room.body line)) where
   abbrev said : Said
   said = said_with room.body line
 
   module _ (new : Session) (kept : new.lines ≡ room) where
-    takes : Takes old.lines.reading.bound (state before old) said (state after new).text (state after new).budget
+    takes : TakesNextLine old.lines.reading.bound (state before old) said (state after new).text (state after new).budget
     takes text is =
         let line_is = gives text (record { is = is; ended = ended }) in (
           line_is.line,
-          ap (λ (l : Room). unread l.reading.held after.left) kept ∙ line_is.rest,
-          ap (λ (l : Room). l.reading.budget) kept ∙ line_is.budget,
+          ap (λ (l : ReaderParts). unread l.reading.held after.left) kept ∙ line_is.rest,
+          ap (λ (l : ReaderParts). l.reading.budget) kept ∙ line_is.budget,
         )
 
-    module _ (pace : Pace) (idle : IsIdle old.beat old.replica) where
+    module _ (pace : Pace) (idle : IsIdleBeat old.beat old.replica) where
       abbrev bound : ℕ
       bound = old.lines.reading.bound
 
-      next : (c : Command) → c ≡ command_of said → IsNext old.beat old.replica (ByLine said) c
+      next : (c : Command) → c ≡ command_of_line said → IsNextCommand old.beat old.replica (ByLine said) c
       next c is = (is, idle)
 
-      pub line_turns : (turn : Turn) → Answers (command_of said) old.replica new.replica before.told after.told before.written after.written turn → OnGoing turn (new.count ≡ old.count + 1)
-          → new.beat ≡ behind_line pace old.beat new.replica.head (runs new.replica) → Turns pace bound (state before old) (state after new) turn
+      pub line_turns : (turn : Turn) → AnswersCommand (command_of_line said) old.replica new.replica before.told after.told before.written after.written turn → OnGoing turn (new.count ≡ old.count + 1)
+          → new.beat ≡ beat_after_line pace old.beat new.replica.head (runs new.replica) → Turns pace bound (state before old) (state after new) turn
       line_turns GoesOn did count beat = goes_on pace bound (state before old) (state after new) said takes idle did count beat
-      line_turns (Ends DiskFault) did count beat = ends_disk pace bound (state before old) (state after new) (ByLine said) (command_of said) takes next did
+      line_turns (Ends DiskFault) did count beat = ends_disk pace bound (state before old) (state after new) (ByLine said) (command_of_line said) takes next did
       line_turns (Ends WriteFault) (inl did) count beat = ends_answer pace bound (state before old) (state after new) said takes idle did
-      line_turns (Ends WriteFault) (inr did) count beat = ends_damaged_fault pace bound (state before old) (state after new) (ByLine said) (command_of said) takes next did
-      line_turns (Ends Refused) did count beat = ends_damaged pace bound (state before old) (state after new) (ByLine said) (command_of said) takes next did
+      line_turns (Ends WriteFault) (inr did) count beat = ends_damaged_fault pace bound (state before old) (state after new) (ByLine said) (command_of_line said) takes next did
+      line_turns (Ends Refused) did count beat = ends_damaged pace bound (state before old) (state after new) (ByLine said) (command_of_line said) takes next did
       line_turns (Ends Done) did count beat = absurd did
       line_turns (Ends Found) did count beat = absurd did
       line_turns (Ends Words) did count beat = absurd did
@@ -90,6 +90,6 @@ module _ (before after : Outside) (old : Session) (room : Room) (line : Line) (e
 
 -- ---- calls may go on after a line that was answered
 
-pub live_on : (said : Said) (s t : Replica) (old new : Option Told) (written took : Option (List ℕ)) (turn : Turn) → Answers (command_of said) s t old new written took turn → OnGoing turn (t.live ≡ true)
+pub live_on : (said : Said) (s t : Replica) (old new : Option Told) (written took : Option (List ℕ)) (turn : Turn) → AnswersCommand (command_of_line said) s t old new written took turn → OnGoing turn (t.live ≡ true)
 live_on said s t old new written took GoesOn did = did.1.calls.call.live
 live_on said s t old new written took (Ends status) did = tt

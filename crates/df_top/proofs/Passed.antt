@@ -12,25 +12,25 @@ use Rattle.df_model.specs.declared.errors.StepError.TheVariants as step
 use Rattle.df_model.specs.Faults.{is_append_fault, is_block_fault, is_flush_fault, is_lookup_fault, is_prepare_fault, is_read_fault, is_reply_fault}
 use Rattle.df_units.specs.Meaning.{number_of}
 use Rattle.df_session.specs.Calls.{machine_answer}
-use Rattle.df_lines.specs.Room.{Room}
-use Rattle.df_pace.specs.Beats.{command_of, is_begun, next_piece, pieces_left}
+use Rattle.df_lines.specs.Room.{ReaderParts}
+use Rattle.df_pace.specs.Beats.{command_of_piece, is_begun, next_piece, pieces_left}
 use Rattle.df_pace.specs.declared.beat.Beat.{Beat}
 use Rattle.df_pace.specs.declared.beat.Piece.{Piece}
 use Rattle.df_pace.specs.declared.pace.Pace.{Pace}
 use Rattle.df_pace.proofs.Laws.{fewer_due}
 use Rattle.df_session.specs.Below.{State as Replica}
 use Rattle.df_script_model.specs.Texts.{damaged_text}
-use Rattle.df_session.specs.Endings.{GivesAnswer, is_disk}
+use Rattle.df_session.specs.Endings.{GivesAnswer, is_disk_fault}
 use Rattle.df_session.specs.Links.{Makes}
 use Rattle.df_session.specs.declared.hearing.Fault.{Fault}
 use Rattle.df_session.specs.declared.hearing.Fault.TheVariants.{Disk, Damaged}
 use Rattle.df_top.specs.Lines.{ByLoop}
 use Rattle.df_top.specs.Outside.{PrintsLine}
-use Rattle.df_top.specs.Pacing.{IsNext, runs}
+use Rattle.df_top.specs.Pacing.{IsNextCommand, runs}
 use Rattle.df_top.specs.Refusing.{PrintsFault}
-use Rattle.df_top.specs.Session.{IsDamagedLine, State}
+use Rattle.df_top.specs.Session.{IsDamagedLine, SessionState}
 use Rattle.df_top.specs.Step.{Passes, Turns}
-use Rattle.df_top.specs.Turning.{BlamesIfEnds, DoesPiece, IsReady, Leaves, OnGoing, begun_in}
+use Rattle.df_top.specs.Turning.{BlamesIfEnds, DoesPiece, IsReadySession, LeavesReader, OnGoing, has_begun_in}
 use Rattle.df_top.specs.declared.session.Session.{Session}
 use Rattle.df_top.specs.declared.turns.Turn.{Turn}
 use Rattle.df_top.specs.declared.turns.Turn.TheVariants.{GoesOn, Ends}
@@ -49,7 +49,7 @@ begun_of : (x y : Said) (b : Bool) → b ≡ is_begun y → Some y ≡ Some x �
 begun_of x y b so is = let one : y ≡ x = cc is in so ∙ ap is_begun one
 
 -- an answer and the machine's say the same of it
-begun_same : (x : Said) (a : Answer) → machine_answer a ≡ Some x → begun_in a ≡ is_begun x
+begun_same : (x : Said) (a : Answer) → machine_answer a ≡ Some x → has_begun_in a ≡ is_begun x
 begun_same x (answers.Begin (Ok blocks)) is = begun_of x (ToBegin (Ok blocks)) true refl is
 begun_same x (answers.Begin (Err e)) is = begun_of x (ToBegin (Err e)) false refl is
 begun_same x (answers.Append (Ok receipt)) is = begun_of x (ToAppend (Ok (receipt.op, number_of receipt.checksum))) false refl is
@@ -77,20 +77,20 @@ begun_same x (answers.ReadBlock (Err e)) is = begun_if (is_read_fault e) x (ToRe
 begun_same x (answers.Scrub scrubbed) is = begun_of x (ToScrub scrubbed) false refl is
 begun_same x answers.Recent is = absurd (none-some x is)
 
-pub does_answered : (command : Command) (s t : Replica) (old new : Option Told) (a : Answer) (begun : Bool) → GivesAnswer command s t old new a → begun ≡ begun_in a → DoesPiece command s t old new (Ok begun)
+pub does_answered : (command : Command) (s t : Replica) (old new : Option Told) (a : Answer) (begun : Bool) → GivesAnswer command s t old new a → begun ≡ has_begun_in a → DoesPiece command s t old new (Ok begun)
 does_answered command s t old new a begun gives is = (gives.told, gives.makes, is ∙ begun_same gives.told a gives.in_words)
 
 -- ---- what a piece leaves as it is
 
-pub leaves_on : {r s t : Session} → Leaves r s → Leaves s t → Leaves r t
+pub leaves_on : {r s t : Session} → LeavesReader r s → LeavesReader s t → LeavesReader r t
 leaves_on one more = record { lines = more.lines ∙ one.lines; count = more.count ∙ one.count; pace = more.pace ∙ one.pace }
 
 -- so a session that was ready still is, where calls may go on
-pub worked_ready : {s t : Session} {left : Option (List ℕ)} → IsReady s left → Leaves s t → t.replica.live ≡ true → IsReady t left
+pub worked_ready : {s t : Session} {left : Option (List ℕ)} → IsReadySession s left → LeavesReader s t → t.replica.live ≡ true → IsReadySession t left
 worked_ready ready leaves live = record {
   live = live;
-  count = omega (arith, ready.count, leaves.count, ap (λ (r : Room). r.reading.budget) leaves.lines);
-  at_end = λ ended. ready.at_end (subst (λ (r : Room). IsTrue r.ended) leaves.lines ended);
+  count = omega (arith, ready.count, leaves.count, ap (λ (r : ReaderParts). r.reading.budget) leaves.lines);
+  at_end = λ ended. ready.at_end (subst (λ (r : ReaderParts). IsTrue r.ended) leaves.lines ended);
 }
 
 -- ---- a piece that ends the session
@@ -104,7 +104,7 @@ module _ (p : Piece) (command : Command) (s t : Replica) (old new : Option Told)
   line_passes line status makes damaged same (inr printed) = subst (λ (q : Status). Comes (Ends q)) (sym printed.0) ((line, makes, damaged, printed.1), disk_same before now (Ends WriteFault) same (λ no. cc))
 
   -- the disk failed in it, or its step is damaged, and the line that says so was printed
-  pub fault_passes : (fault : Fault) (status : Status) → DoesPiece command s t old new (Err fault) → IsBlamed {T = Bool} is_disk before now (Err fault) → PrintsFault fault written took status → Comes (Ends status)
+  pub fault_passes : (fault : Fault) (status : Status) → DoesPiece command s t old new (Err fault) → IsBlamed {T = Bool} is_disk_fault before now (Err fault) → PrintsFault fault written took status → Comes (Ends status)
   fault_passes Disk status does blamed printed = subst (λ (q : Status). Comes (Ends q)) (sym printed.0) ((does.0, printed.1), disk_rose before now (Ends DiskFault) refl blamed.1)
   fault_passes (Damaged place class) status does same printed = line_passes (damaged_text place class) status does.0 (damaged_line command new place class does.1) same printed
 
@@ -123,11 +123,11 @@ passes_unread p asked s t old new written took b c (Ends Memory) did = absurd di
 
 -- ---- what it does to a session
 
-module _ (pace : Pace) (bound : ℕ) (old new : State) (p : Piece) (text : new.text ≡ old.text) (budget : new.budget ≡ old.budget) (lines : new.lines ≡ old.lines) (due : next_piece old.beat.due (runs old.replica) ≡ Some p) where
+module _ (pace : Pace) (bound : ℕ) (old new : SessionState) (p : Piece) (text : new.text ≡ old.text) (budget : new.budget ≡ old.budget) (lines : new.lines ≡ old.lines) (due : next_piece old.beat.due (runs old.replica) ≡ Some p) where
   abbrev command : Command
-  command = command_of p old.replica.root
+  command = command_of_piece p old.replica.root
 
-  next : (c : Command) → c ≡ command → IsNext old.beat old.replica (ByLoop p) c
+  next : (c : Command) → c ≡ command → IsNextCommand old.beat old.replica (ByLoop p) c
   next c is = (is, due)
 
   pub passes_turns : (turn : Turn) → Passes p command old.replica new.replica old.outside.told new.outside.told old.outside.written new.outside.written old.beat new.beat turn → Turns pace bound old new turn

@@ -7,20 +7,20 @@ use Rattle.df_base.proofs.Laws.{appends_more, appends_part}
 use Rattle.df_disk.specs.Told.{Told}
 use Rattle.df_inspect.specs.Opening.{script_text}
 use Rattle.df_lines.specs.Grammar.{Said}
-use Rattle.df_lines.specs.Script.{Begins, IsRefused}
+use Rattle.df_lines.specs.Script.{BeginsWithLines, IsRefused}
 use Rattle.df_lines.specs.Text.{after_line}
 use Rattle.df_model.specs.Commands.{Answer, Command}
-use Rattle.df_pace.specs.Beats.{command_of as piece_command, next_piece}
+use Rattle.df_pace.specs.Beats.{command_of_piece as piece_command, next_piece}
 use Rattle.df_pace.specs.declared.beat.Beat.{Beat}
 use Rattle.df_pace.specs.declared.beat.Piece.{Piece}
 use Rattle.df_pace.specs.declared.pace.Pace.{Pace}
 use Rattle.df_session.specs.Below.{State as Replica}
 use Rattle.df_session.specs.Session.{Act}
-use Rattle.df_top.specs.Lines.{Asker, ByLine, ByLoop, Turned, all_said, all_text, command_of, said_by, told_by}
+use Rattle.df_top.specs.Lines.{Asker, ByLine, ByLoop, Turned, all_said, all_text, command_of_line, said_by, told_by}
 use Rattle.df_session.specs.Links.{Calls, Makes}
-use Rattle.df_top.specs.Pacing.{AreTurns, EndTurns, IsIdle, IsNext, behind, runs}
-use Rattle.df_top.specs.Session.{Ended, EndsText, EndsWith, Executed, HoldsLine, IsDamagedLine, State}
-use Rattle.df_top.specs.Step.{EndsDamaged, EndsIn, GoesOn, IsAnswered, Takes}
+use Rattle.df_top.specs.Pacing.{AreTurns, EndTurns, IsIdleBeat, IsNextCommand, beat_after, runs}
+use Rattle.df_top.specs.Session.{Ended, EndsText, EndsWith, Executed, HoldsLine, IsDamagedLine, SessionState}
+use Rattle.df_top.specs.Step.{EndsDamaged, EndsIn, IsAnsweredCall, SessionGoesOn, TakesNextLine}
 use Rattle.df_top.specs.declared.status.Status.{Status}
 use Rattle.df_top.specs.declared.status.Status.TheVariants.{Done, Script, Refused, DiskFault, ReadFault, WriteFault}
 use Rattle.df_top.proofs.Written.{begins_more, said_more, text_more, turns_join}
@@ -28,7 +28,7 @@ use Rattle.df_top.proofs.Written.{begins_more, said_more, text_more, turns_join}
 -- ---- on
 
 -- at the start nothing was executed
-pub executed_none : (pace : Pace) (bound : ℕ) (origin : State) → Executed pace bound origin origin []
+pub executed_none : (pace : Pace) (bound : ℕ) (origin : SessionState) → Executed pace bound origin origin []
 executed_none pace bound origin = record {
   text = λ text is. (text, is, (refl, refl));
   written = Appends-nil origin.outside.written;
@@ -37,38 +37,38 @@ executed_none pace bound origin = record {
 }
 
 -- a call takes the line that asks for it, or no line
-abbrev pub TakesFor : (bound : ℕ) → State → Asker → Option (List ℕ) → ℕ → Type 0
-TakesFor bound old (ByLine said) text budget = Takes bound old said text budget
+abbrev pub TakesFor : (bound : ℕ) → SessionState → Asker → Option (List ℕ) → ℕ → Type 0
+TakesFor bound old (ByLine said) text budget = TakesNextLine bound old said text budget
 TakesFor bound old (ByLoop p) text budget = (text ≡ old.text) × (budget ≡ old.budget)
 
 -- the text with one call more
-text_on : (pace : Pace) (bound : ℕ) (origin old : State) (turns : List Turned) (asker : Asker) (left : Option (List ℕ)) (budget : ℕ)
+text_on : (pace : Pace) (bound : ℕ) (origin old : SessionState) (turns : List Turned) (asker : Asker) (left : Option (List ℕ)) (budget : ℕ)
     → Executed pace bound origin old turns → TakesFor bound old asker left budget → (text : List ℕ) → origin.text ≡ Some text
-    → (rest : List ℕ) × (left ≡ Some rest) × Begins bound origin.budget text (all_said turns ++ said_by asker) budget rest
+    → (rest : List ℕ) × (left ≡ Some rest) × BeginsWithLines bound origin.budget text (all_said turns ++ said_by asker) budget rest
 text_on pace bound origin old turns (ByLine said) left budget so_far takes text is =
     let before = so_far.text text is in
     let line = takes before.0 before.1 in (
       after_line before.0,
       line.1,
-      subst (λ (n : ℕ). Begins bound origin.budget text (all_said turns ++ said ∷ []) n (after_line before.0)) (sym line.2)
+      subst (λ (n : ℕ). BeginsWithLines bound origin.budget text (all_said turns ++ said ∷ []) n (after_line before.0)) (sym line.2)
           (begins_more bound origin.budget text (all_said turns) old.budget before.0 said before.2 line.0),
     )
 text_on pace bound origin old turns (ByLoop p) left budget so_far takes text is =
     let before = so_far.text text is in (
       before.0,
       takes.0 ∙ before.1,
-      subst (λ (n : ℕ). Begins bound origin.budget text (all_said turns ++ []) n before.0) (sym takes.1)
-          (subst (λ (l : List Said). Begins bound origin.budget text l old.budget before.0) (sym (append-nil (all_said turns))) before.2),
+      subst (λ (n : ℕ). BeginsWithLines bound origin.budget text (all_said turns ++ []) n before.0) (sym takes.1)
+          (subst (λ (l : List Said). BeginsWithLines bound origin.budget text l old.budget before.0) (sym (append-nil (all_said turns))) before.2),
     )
 
 -- the call was made and answered
-module _ (pace : Pace) (bound : ℕ) (old new : State) (asker : Asker) (takes : TakesFor bound old asker new.text new.budget) (act : Act) (next : IsNext old.beat old.replica asker act.command) (x : Answer)
-    (calls : Calls act old.replica new.replica old.outside.told new.outside.told (Some x)) (origin : State) (turns : List Turned) (so_far : Executed pace bound origin old turns) where
+module _ (pace : Pace) (bound : ℕ) (old new : SessionState) (asker : Asker) (takes : TakesFor bound old asker new.text new.budget) (act : Act) (next : IsNextCommand old.beat old.replica asker act.command) (x : Answer)
+    (calls : Calls act old.replica new.replica old.outside.told new.outside.told (Some x)) (origin : SessionState) (turns : List Turned) (so_far : Executed pace bound origin old turns) where
   abbrev one : Turned
   one = record { asker = asker; act = act; answer = x }
 
   abbrev beat_then : Beat
-  beat_then = behind pace old.beat asker new.replica x
+  beat_then = beat_after pace old.beat asker new.replica x
 
   all_turns : AreTurns pace origin.beat origin.replica origin.outside.told (turns ++ one ∷ []) beat_then new.replica new.outside.told
   all_turns =
@@ -80,10 +80,10 @@ module _ (pace : Pace) (bound : ℕ) (old new : State) (asker : Asker) (takes : 
   text_is : all_text (turns ++ one ∷ []) ≡ all_text turns ++ told_by asker x
   text_is = text_more turns (one ∷ []) ∙ ap (λ (l : List ℕ). all_text turns ++ l) (append-nil (told_by asker x))
 
-  said_on : (text : List ℕ) → origin.text ≡ Some text → (rest : List ℕ) × (new.text ≡ Some rest) × Begins bound origin.budget text (all_said (turns ++ one ∷ [])) new.budget rest
+  said_on : (text : List ℕ) → origin.text ≡ Some text → (rest : List ℕ) × (new.text ≡ Some rest) × BeginsWithLines bound origin.budget text (all_said (turns ++ one ∷ [])) new.budget rest
   said_on text is =
       let more = text_on pace bound origin old turns asker new.text new.budget so_far takes text is in
-      (more.0, more.1, subst (λ (l : List Said). Begins bound origin.budget text l new.budget more.0) (sym said_is) more.2)
+      (more.0, more.1, subst (λ (l : List Said). BeginsWithLines bound origin.budget text l new.budget more.0) (sym said_is) more.2)
 
   pub call_done : Appends old.outside.written new.outside.written (told_by asker x) → new.lines ≡ old.lines + length (said_by asker) → new.beat ≡ beat_then → (more : List Turned) × Executed pace bound origin new (turns ++ more)
   call_done wrote lines beat = (
@@ -107,7 +107,7 @@ module _ (pace : Pace) (bound : ℕ) (old new : State) (asker : Asker) (takes : 
         let more = said_on text is in (
           new.budget,
           more.0,
-          subst (λ (l : List Said). Begins bound origin.budget text l new.budget more.0) (sym (append-nil (all_said (turns ++ one ∷ [])))) more.2,
+          subst (λ (l : List Said). BeginsWithLines bound origin.budget text l new.budget more.0) (sym (append-nil (all_said (turns ++ one ∷ [])))) more.2,
           record { refused = λ no. absurd (cc); held = λ no. absurd (cc); finished = λ no. absurd (cc) },
         );
     written =
@@ -117,50 +117,50 @@ module _ (pace : Pace) (bound : ℕ) (old new : State) (asker : Asker) (takes : 
   }
 
 -- a line was executed
-pub goes_on : (pace : Pace) (bound : ℕ) (old new : State) (said : Said) → Takes bound old said new.text new.budget → IsIdle old.beat old.replica
-    → (done : IsAnswered (command_of said) old.replica new.replica old.outside.told new.outside.told (λ line. Appends old.outside.written new.outside.written line)) → new.lines ≡ old.lines + 1
-    → new.beat ≡ behind pace old.beat (ByLine said) new.replica done.0 → GoesOn pace bound old new
+pub goes_on : (pace : Pace) (bound : ℕ) (old new : SessionState) (said : Said) → TakesNextLine bound old said new.text new.budget → IsIdleBeat old.beat old.replica
+    → (done : IsAnsweredCall (command_of_line said) old.replica new.replica old.outside.told new.outside.told (λ line. Appends old.outside.written new.outside.written line)) → new.lines ≡ old.lines + 1
+    → new.beat ≡ beat_after pace old.beat (ByLine said) new.replica done.0 → SessionGoesOn pace bound old new
 goes_on pace bound old new said takes idle done lines beat origin turns so_far =
     call_done pace bound old new (ByLine said) takes done.1.act (done.1.is, idle) done.0 done.1.calls origin turns so_far done.2 (omega (arith, lines)) beat
 
 -- a piece of the loop's work was done
-module _ (pace : Pace) (bound : ℕ) (old new : State) (p : Piece) (text : new.text ≡ old.text) (budget : new.budget ≡ old.budget) (due : next_piece old.beat.due (runs old.replica) ≡ Some p) where
-  pub works_on : (x : Answer) → Makes (piece_command p old.replica.root) old.replica new.replica old.outside.told new.outside.told (Some x) → new.outside.written ≡ old.outside.written → new.lines ≡ old.lines → new.beat ≡ behind pace old.beat (ByLoop p) new.replica x
-      → GoesOn pace bound old new
+module _ (pace : Pace) (bound : ℕ) (old new : SessionState) (p : Piece) (text : new.text ≡ old.text) (budget : new.budget ≡ old.budget) (due : next_piece old.beat.due (runs old.replica) ≡ Some p) where
+  pub works_on : (x : Answer) → Makes (piece_command p old.replica.root) old.replica new.replica old.outside.told new.outside.told (Some x) → new.outside.written ≡ old.outside.written → new.lines ≡ old.lines → new.beat ≡ beat_after pace old.beat (ByLoop p) new.replica x
+      → SessionGoesOn pace bound old new
   works_on x makes wrote lines beat origin turns so_far =
       call_done pace bound old new (ByLoop p) (text, budget) makes.act (makes.is, due) x makes.calls origin turns so_far
       (subst (λ (o : Option (List ℕ)). Appends old.outside.written o []) (sym wrote) (Appends-nil old.outside.written)) (omega (arith, lines)) beat
 
 -- ---- some calls and some more
 
-pub on_none : (pace : Pace) (bound : ℕ) (old new : State) → new ≡ old → GoesOn pace bound old new
-on_none pace bound old new same origin turns so_far = ([], subst (λ (l : List Turned). Executed pace bound origin new l) (sym (append-nil turns)) (subst (λ (s : State). Executed pace bound origin s turns) (sym same) so_far))
+pub on_none : (pace : Pace) (bound : ℕ) (old new : SessionState) → new ≡ old → SessionGoesOn pace bound old new
+on_none pace bound old new same origin turns so_far = ([], subst (λ (l : List Turned). Executed pace bound origin new l) (sym (append-nil turns)) (subst (λ (s : SessionState). Executed pace bound origin s turns) (sym same) so_far))
 
-pub on_more : (pace : Pace) (bound : ℕ) (old mid new : State) → GoesOn pace bound old mid → GoesOn pace bound mid new → GoesOn pace bound old new
+pub on_more : (pace : Pace) (bound : ℕ) (old mid new : SessionState) → SessionGoesOn pace bound old mid → SessionGoesOn pace bound mid new → SessionGoesOn pace bound old new
 on_more pace bound old mid new one two origin turns so_far =
     let first = one origin turns so_far in
     let second = two origin (turns ++ first.0) first.1 in
     (first.0 ++ second.0, subst (λ (l : List Turned). Executed pace bound origin new l) (append_assoc turns first.0 second.0) second.1)
 
-pub on_ends : (pace : Pace) (bound : ℕ) (old mid new : State) (status : Status) → GoesOn pace bound old mid → EndsIn pace bound mid new status → EndsIn pace bound old new status
+pub on_ends : (pace : Pace) (bound : ℕ) (old mid new : SessionState) (status : Status) → SessionGoesOn pace bound old mid → EndsIn pace bound mid new status → EndsIn pace bound old new status
 on_ends pace bound old mid new status one two origin turns so_far = let first = one origin turns so_far in two origin (turns ++ first.0) first.1
 
 -- ---- the end
 
 -- nothing more was executed
-module _ (pace : Pace) (bound : ℕ) (old new : State) (same_told : new.outside.told ≡ old.outside.told) (same_replica : new.replica ≡ old.replica) (idle : IsIdle old.beat old.replica) where
-  stays : (status : Status) (origin : State) (turns : List Turned) → Executed pace bound origin old turns → EndTurns pace origin.beat origin.replica origin.outside.told turns None status new.replica new.outside.told
+module _ (pace : Pace) (bound : ℕ) (old new : SessionState) (same_told : new.outside.told ≡ old.outside.told) (same_replica : new.replica ≡ old.replica) (idle : IsIdleBeat old.beat old.replica) where
+  stays : (status : Status) (origin : SessionState) (turns : List Turned) → Executed pace bound origin old turns → EndTurns pace origin.beat origin.replica origin.outside.told turns None status new.replica new.outside.told
   stays status origin turns so_far = (
     old.beat,
     subst (λ (o : Option Told). AreTurns pace origin.beat origin.replica origin.outside.told turns old.beat new.replica o) (sym same_told)
         (subst (λ (r : Replica). AreTurns pace origin.beat origin.replica origin.outside.told turns old.beat r old.outside.told) (sym same_replica) so_far.calls),
-    λ no. subst (λ (r : Replica). IsIdle old.beat r) (sym same_replica) idle,
+    λ no. subst (λ (r : Replica). IsIdleBeat old.beat r) (sym same_replica) idle,
   )
 
-  said_all : (origin : State) (turns : List Turned) (text rest : List ℕ) → Begins bound origin.budget text (all_said turns) old.budget rest → Begins bound origin.budget text (all_said turns ++ []) old.budget rest
-  said_all origin turns text rest begins = subst (λ (l : List Said). Begins bound origin.budget text l old.budget rest) (sym (append-nil (all_said turns))) begins
+  said_all : (origin : SessionState) (turns : List Turned) (text rest : List ℕ) → BeginsWithLines bound origin.budget text (all_said turns) old.budget rest → BeginsWithLines bound origin.budget text (all_said turns ++ []) old.budget rest
+  said_all origin turns text rest begins = subst (λ (l : List Said). BeginsWithLines bound origin.budget text l old.budget rest) (sym (append-nil (all_said turns))) begins
 
-  written_so : (origin : State) (turns : List Turned) → new.outside.written ≡ old.outside.written → Executed pace bound origin old turns → Appends origin.outside.written new.outside.written (all_text turns)
+  written_so : (origin : SessionState) (turns : List Turned) → new.outside.written ≡ old.outside.written → Executed pace bound origin old turns → Appends origin.outside.written new.outside.written (all_text turns)
   written_so origin turns same so_far = subst (λ (o : Option (List ℕ)). Appends origin.outside.written o (all_text turns)) (sym same) so_far.written
 
   -- the text is at its end
@@ -192,13 +192,13 @@ module _ (pace : Pace) (bound : ℕ) (old new : State) (same_told : new.outside.
   -- the next line is refused, and was read, and the line that says so is written, or a front of it
   module _ (refused : (rest : List ℕ) → old.text ≡ Some rest → IsRefused bound old.budget rest)
       (holds : (rest : List ℕ) → old.text ≡ Some rest → (remains : List ℕ) → new.outside.left ≡ Some remains → HoldsLine bound rest remains) where
-    cut_text : (origin : State) (turns : List Turned) (status : Status) → (status ≡ Done → ⊥) → Executed pace bound origin old turns → (text : List ℕ) → origin.text ≡ Some text
-        → (budget : ℕ) × (rest : List ℕ) × Begins bound origin.budget text (all_said turns ++ []) budget rest × EndsText bound budget rest new.outside.left true status
+    cut_text : (origin : SessionState) (turns : List Turned) (status : Status) → (status ≡ Done → ⊥) → Executed pace bound origin old turns → (text : List ℕ) → origin.text ≡ Some text
+        → (budget : ℕ) × (rest : List ℕ) × BeginsWithLines bound origin.budget text (all_said turns ++ []) budget rest × EndsText bound budget rest new.outside.left true status
     cut_text origin turns status unfinished so_far text is =
         let before = so_far.text text is in
         (old.budget, before.0, said_all origin turns text before.0 before.2, record { refused = λ yes. refused before.0 before.1; held = λ yes. holds before.0 before.1; finished = λ done. absurd (unfinished done) })
 
-    ends_cut : (status : Status) → (status ≡ Done → ⊥) → (origin : State) (turns : List Turned) → Executed pace bound origin old turns → EndsWith origin.lines origin.outside new.outside turns None true status → Ended pace bound origin new status
+    ends_cut : (status : Status) → (status ≡ Done → ⊥) → (origin : SessionState) (turns : List Turned) → Executed pace bound origin old turns → EndsWith origin.lines origin.outside new.outside turns None true status → Ended pace bound origin new status
     ends_cut status unfinished origin turns so_far written = record {
       turns = turns;
       failing = None;
@@ -223,15 +223,15 @@ module _ (pace : Pace) (bound : ℕ) (old new : State) (same_told : new.outside.
         (subst (λ (n : ℕ). AppendsPart old.outside.written new.outside.written (script_text (n + 1))) so_far.lines wrote))
 
 -- the session ends within a call
-module _ (pace : Pace) (bound : ℕ) (old new : State) (asker : Asker) (command : Command) (takes : TakesFor bound old asker new.text new.budget) (next : (c : Command) → c ≡ command → IsNext old.beat old.replica asker c) where
-  last_text : (origin : State) (turns : List Turned) (status : Status) → (status ≡ Done → ⊥) → Executed pace bound origin old turns → (text : List ℕ) → origin.text ≡ Some text
-      → (budget : ℕ) × (rest : List ℕ) × Begins bound origin.budget text (all_said turns ++ said_by asker) budget rest × EndsText bound budget rest new.outside.left false status
+module _ (pace : Pace) (bound : ℕ) (old new : SessionState) (asker : Asker) (command : Command) (takes : TakesFor bound old asker new.text new.budget) (next : (c : Command) → c ≡ command → IsNextCommand old.beat old.replica asker c) where
+  last_text : (origin : SessionState) (turns : List Turned) (status : Status) → (status ≡ Done → ⊥) → Executed pace bound origin old turns → (text : List ℕ) → origin.text ≡ Some text
+      → (budget : ℕ) × (rest : List ℕ) × BeginsWithLines bound origin.budget text (all_said turns ++ said_by asker) budget rest × EndsText bound budget rest new.outside.left false status
   last_text origin turns status unfinished so_far text is =
       let more = text_on pace bound origin old turns asker new.text new.budget so_far takes text is in
       (new.budget, more.0, more.2, record { refused = λ no. absurd (cc); held = λ no. absurd (cc); finished = λ done. absurd (unfinished done) })
 
   -- it wasn't answered
-  ends_failing : (status : Status) → (status ≡ Done → ⊥) → (makes : Makes command old.replica new.replica old.outside.told new.outside.told None) (origin : State) (turns : List Turned) → Executed pace bound origin old turns
+  ends_failing : (status : Status) → (status ≡ Done → ⊥) → (makes : Makes command old.replica new.replica old.outside.told new.outside.told None) (origin : SessionState) (turns : List Turned) → Executed pace bound origin old turns
       → EndsWith origin.lines origin.outside new.outside turns (Some makes.act) false status → Ended pace bound origin new status
   ends_failing status unfinished makes origin turns so_far written = record {
     turns = turns;
@@ -263,6 +263,6 @@ module _ (pace : Pace) (bound : ℕ) (old new : State) (asker : Asker) (command 
       (refl, failed.0, damaged_step failed.1 failed.0 failed.2, appends_part origin.outside.written old.outside.written new.outside.written (all_text turns) failed.0 so_far.written failed.3)
 
 -- the sink failed with the answer to a line
-pub ends_answer : (pace : Pace) (bound : ℕ) (old new : State) (said : Said) → Takes bound old said new.text new.budget → IsIdle old.beat old.replica
-    → IsAnswered (command_of said) old.replica new.replica old.outside.told new.outside.told (λ line. AppendsPart old.outside.written new.outside.written line) → EndsIn pace bound old new WriteFault
+pub ends_answer : (pace : Pace) (bound : ℕ) (old new : SessionState) (said : Said) → TakesNextLine bound old said new.text new.budget → IsIdleBeat old.beat old.replica
+    → IsAnsweredCall (command_of_line said) old.replica new.replica old.outside.told new.outside.told (λ line. AppendsPart old.outside.written new.outside.written line) → EndsIn pace bound old new WriteFault
 ends_answer pace bound old new said takes idle done origin turns so_far = call_cut_off pace bound old new (ByLine said) takes done.1.act (done.1.is, idle) done.0 done.1.calls origin turns so_far done.2

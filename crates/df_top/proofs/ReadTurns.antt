@@ -26,7 +26,7 @@ use Rattle.df_script_model.specs.Texts.{message_text}
 use Rattle.df_session.specs.Endings.{heard}
 use Rattle.df_session.specs.declared.hearing.Fault.{Fault}
 use Rattle.df_session.proofs.Laws.{reads_prepare, reads_reply}
-use Rattle.df_top.specs.Turning.{IsPrinted, Tells, printed_turn}
+use Rattle.df_top.specs.Turning.{IsPrinted, TellsAnswer, printed_turn}
 use Rattle.df_top.specs.declared.turns.Turn.{Turn}
 use Rattle.df_top.proofs.Answered.{Comes, comes_answered, comes_failed, prints_turn, told_fault}
 
@@ -46,7 +46,7 @@ module _ (s t : Replica) (old new : Option Told) (same : new ≡ old) (written t
     pub prepare_shown : (m : Message) → ServesRead (ReadPrepare op) s t old (prepare_found (Ok m)) (answer_of is_prepare_fault ToReadPrepare (Ok m)) → now ≡ before → IsPrinted (message_text (codes "prepare") m) written took turn → Reads (ReadPrepare op)
     prepare_shown m serves still printed = comes_answered (ReadPrepare op) s t old new written took before now turn (ToReadPrepare (Ok m)) (reads_prepare s t old new same op (Some (Ok m)) (Some (ToReadPrepare (Ok m))) serves) still printed
 
-    pub prepare_refused : (e : PrepareError) → ServesRead (ReadPrepare op) s t old (prepare_found (Err e)) (answer_of is_prepare_fault ToReadPrepare (Err e)) → IsBlamed {T = Message} is_prepare_fault before now (Err e) → Tells (ReadPrepare op) (heard (answers.ReadPrepare (Err e))) written took turn → Reads (ReadPrepare op)
+    pub prepare_refused : (e : PrepareError) → ServesRead (ReadPrepare op) s t old (prepare_found (Err e)) (answer_of is_prepare_fault ToReadPrepare (Err e)) → IsBlamed {T = Message} is_prepare_fault before now (Err e) → TellsAnswer (ReadPrepare op) (heard (answers.ReadPrepare (Err e))) written took turn → Reads (ReadPrepare op)
     prepare_refused prepare.DiskFault serves blamed tells = comes_failed (ReadPrepare op) s t old new written took before now turn (reads_prepare s t old new same op None None serves) (told_fault (ReadPrepare op) written took turn tells) blamed.1
     prepare_refused (prepare.NotKept a b) serves still tells =
         comes_answered (ReadPrepare op) s t old new written took before now turn (ToReadPrepare (Err (prepare.NotKept a b))) (reads_prepare s t old new same op None (Some (ToReadPrepare (Err (prepare.NotKept a b)))) serves) still tells
@@ -58,7 +58,7 @@ module _ (s t : Replica) (old new : Option Told) (same : new ≡ old) (written t
     pub reply_shown : (m : Message) → ServesRead (ReadReply client) s t old (reply_found (Ok m)) (answer_of is_lookup_fault ToReadReply (Ok m)) → now ≡ before → IsPrinted (message_text (codes "reply") m) written took turn → Reads (ReadReply client)
     reply_shown m serves still printed = comes_answered (ReadReply client) s t old new written took before now turn (ToReadReply (Ok m)) (reads_reply s t old new same client (Some (Ok m)) (Some (ToReadReply (Ok m))) serves) still printed
 
-    pub reply_refused : (e : LookupError) → ServesRead (ReadReply client) s t old (reply_found (Err e)) (answer_of is_lookup_fault ToReadReply (Err e)) → IsBlamed {T = Message} is_lookup_fault before now (Err e) → Tells (ReadReply client) (heard (answers.ReadReply (Err e))) written took turn → Reads (ReadReply client)
+    pub reply_refused : (e : LookupError) → ServesRead (ReadReply client) s t old (reply_found (Err e)) (answer_of is_lookup_fault ToReadReply (Err e)) → IsBlamed {T = Message} is_lookup_fault before now (Err e) → TellsAnswer (ReadReply client) (heard (answers.ReadReply (Err e))) written took turn → Reads (ReadReply client)
     reply_refused lookup.DiskFault serves blamed tells = comes_failed (ReadReply client) s t old new written took before now turn (reads_reply s t old new same client None None serves) (told_fault (ReadReply client) written took turn tells) blamed.1
     reply_refused lookup.NoClient serves still tells = comes_answered (ReadReply client) s t old new written took before now turn (ToReadReply (Err lookup.NoClient)) (reads_reply s t old new same client None (Some (ToReadReply (Err lookup.NoClient))) serves) still tells
     reply_refused (lookup.ReplyPending a) serves still tells =
@@ -75,5 +75,5 @@ came_as {A} {E} asked command is_fault s t r q old new written took before now t
     (subst (λ (u : Replica). Comes command s u old new written took before now turn) (sym (leaves ∙ ap (λ (x : Result A E). left_by is_fault s x) came)) answers)
 
 -- and what was told of it, whatever asked for it
-pub tells_as : (asked command : Command) (r q : Result Answered Fault) (written took : Option (List ℕ)) (turn : Turn) → asked ≡ command → q ≡ r → Tells asked q written took turn → Tells command r written took turn
-tells_as asked command r q written took turn is same tells = subst (λ (c : Command). Tells c r written took turn) is (subst (λ (x : Result Answered Fault). Tells asked x written took turn) same tells)
+pub tells_as : (asked command : Command) (r q : Result Answered Fault) (written took : Option (List ℕ)) (turn : Turn) → asked ≡ command → q ≡ r → TellsAnswer asked q written took turn → TellsAnswer command r written took turn
+tells_as asked command r q written took turn is same tells = subst (λ (c : Command). TellsAnswer c r written took turn) is (subst (λ (x : Result Answered Fault). TellsAnswer asked x written took turn) same tells)

@@ -27,7 +27,7 @@ use Rattle.df_session.specs.Found.{FoundFile, no_calls}
 use Rattle.df_session.specs.Laws.{CallsKeep}
 use Rattle.df_telling.proofs.Laws.{open_fault}
 use Rattle.df_top.specs.Outside.{Outside, PrintsLine}
-use Rattle.df_top.specs.Refusing.{PrintsError}
+use Rattle.df_top.specs.Refusing.{PrintsOpenError}
 use Rattle.df_top.specs.Reporting.{Inspects, Recovers, report_of, status_of}
 use Rattle.df_top.specs.Run.{ComesTo}
 use Rattle.df_top.specs.Scrubs.{PrintsTour, ScrubsFile}
@@ -101,7 +101,7 @@ module _ (layout : Layout) (t : Told) (old new : Outside) (status : Status) (who
     },
   )
 
-  pub not_surveyed : (e : OpenError) → TellsSurvey layout old.told (Err e) → Syncs {T = Replica} old.told new.told (Err e) → PrintsError e old.written new.written status → ComesTo Inspect layout t old new status
+  pub not_surveyed : (e : OpenError) → TellsSurvey layout old.told (Err e) → Syncs {T = Replica} old.told new.told (Err e) → PrintsOpenError e old.written new.written status → ComesTo Inspect layout t old new status
   not_surveyed e answer syncs prints =
       not_opened Inspect layout t old new status e whole told answer unread (λ no. syncs_once old.told new.told e no syncs)
       (λ image is. subst (λ (o : Option Told). AddsPart (Sync ∷ []) o new.told) told (syncs_failed old.told new.told e is syncs)) prints

@@ -10,7 +10,7 @@ use Rattle.df_model.specs.Memory.{Memory, memory_of}
 use Rattle.df_model.specs.Sense.{IsWork}
 use Rattle.df_model.specs.Supply.{Codec, Shown}
 use Rattle.df_model.specs.Work.{Work}
-use Rattle.df_pace.specs.Beats.{IsCounted, command_of as piece_command, due_at, is_begun, next_piece, rest_due, runs_at, started, without}
+use Rattle.df_pace.specs.Beats.{IsHeadCounted, command_of_piece as piece_command, due_at, is_begun, next_piece, rest_due, runs_at, started, without}
 use Rattle.df_pace.specs.Loop.{Stand, all_by_loop, all_commands, answer_at, by_loop, by_script, commands_due, paced, passed, start}
 use Rattle.df_pace.specs.declared.beat.Beat.{Beat}
 use Rattle.df_pace.specs.declared.beat.Piece.{Piece}
@@ -27,9 +27,9 @@ use Rattle.df_session.specs.Links.{command_in}
 use Rattle.df_session.specs.Resulting.{AnswersResult}
 use Rattle.df_session.proofs.Laws.{one_more_is_result, opened_agrees, opened_answers}
 use Rattle.df_session.specs.Session.{Act}
-use Rattle.df_top.specs.Lines.{Asker, ByLine, ByLoop, Failing, Turned, all_acts, all_answers, all_said, all_text, command_of}
+use Rattle.df_top.specs.Lines.{Asker, ByLine, ByLoop, Failing, Turned, all_acts, all_answers, all_said, all_text, command_of_line}
 use Rattle.df_top.specs.Outside.{IsThrough}
-use Rattle.df_top.specs.Pacing.{AreTurns, EndTurns, IsIdle, IsNext, all_calls, behind, runs}
+use Rattle.df_top.specs.Pacing.{AreTurns, EndTurns, IsIdleBeat, IsNextCommand, all_calls, beat_after, runs}
 use Rattle.df_top.specs.Resulting.{IsResultOf, joined}
 use Rattle.df_top.specs.declared.status.Status.{Status}
 use Rattle.df_top.specs.declared.status.Status.TheVariants.{WriteFault}
@@ -46,7 +46,7 @@ module _ (pace : Pace) (file : DataFile) where
   from d x = all_by_loop sh cd x (rest_due sh cd d x)
 
   abbrev lines_in : List Turned → List Command
-  lines_in turns = map command_of (all_said turns)
+  lines_in turns = map command_of_line (all_said turns)
 
   -- from a stand on, where so much is left, these calls print the script's text, and are the first of what is left and of all that comes after it
   record Over (d : Due) (x : Stand) (turns : List Turned) (idle : Type 0) : Type 0 where
@@ -112,21 +112,21 @@ module _ (pace : Pace) (file : DataFile) where
   -- ---- all calls
 
   -- what was accepted since the loop's last begin is what is counted
-  grown : (x : Stand) (since last : ℕ) → IsCounted x since → last ≡ head x.work.view → last - since ≡ x.appended
+  grown : (x : Stand) (since last : ℕ) → IsHeadCounted x since → last ≡ head x.work.view → last - since ≡ x.appended
   grown x since last counted is = omega (arith, counted, is)
 
   -- what goes on from after a call is so
   abbrev Later : (e : Beat) → (v : Replica) → Told → List Turned → Type 0 → Type 0
-  Later e v n turns idle = (z : Stand) → Keeps Firm v z.work None → AgreeShown file.layout (shown_of file n.shown) z.shown → IsCounted z e.since → Over e.due z turns idle
+  Later e v n turns idle = (z : Stand) → Keeps Firm v z.work None → AgreeShown file.layout (shown_of file n.shown) z.shown → IsHeadCounted z e.since → Over e.due z turns idle
 
-  module _ (act : Act) (answer : Answer) (turns : List Turned) (s v : Replica) (b : Beat) (x : Stand) (idle : Type 0) (n : Told) (here : Stands s x) (counted : IsCounted x b.since) (result : IsResult file x.shown x.work act.command answer v n) where
-    call_over : (asker : Asker) → IsNext b s asker act.command → Later (behind pace b asker v answer) v n turns idle → Over b.due x (record { asker = asker; act = act; answer = answer } ∷ turns) idle
+  module _ (act : Act) (answer : Answer) (turns : List Turned) (s v : Replica) (b : Beat) (x : Stand) (idle : Type 0) (n : Told) (here : Stands s x) (counted : IsHeadCounted x b.since) (result : IsResult file x.shown x.work act.command answer v n) where
+    call_over : (asker : Asker) → IsNextCommand b s asker act.command → Later (beat_after pace b asker v answer) v n turns idle → Over b.due x (record { asker = asker; act = act; answer = answer } ∷ turns) idle
     call_over (ByLine said) next later =
-        let c : Command = command_of said in
+        let c : Command = command_of_line said in
         let is : IsResult file x.shown x.work c answer v n = subst (λ (d : Command). IsResult file x.shown x.work d answer v n) next.0 result in
         let z : Stand = by_script sh cd x c in
         let there : Stands v z = stands v z is.file_is is.keeps in
-        let count : IsCounted z b.since = line_counts sh cd x c b.since here.sense counted in
+        let count : IsHeadCounted z b.since = line_counts sh cd x c b.since here.sense counted in
         let more = later z is.keeps is.shown_is count in
         let none : rest_due sh cd b.due x ≡ [] = nothing_due sh cd b.due x (ap (λ (r : Bool). next_piece b.due r) (sym (runs_is s x here)) ∙ next.1) in
         let due : due_at pace (v.head - b.since) (runs v) ≡ due_at pace z.appended (runs_at sh cd z) = λ i. due_at pace (grown z b.since v.head count (head_is v z there) i) (runs_is v z there i) in
@@ -138,8 +138,8 @@ module _ (pace : Pace) (file : DataFile) where
         let is : IsResult file x.shown x.work c answer v n = subst (λ (d : Command). IsResult file x.shown x.work d answer v n) asked result in
         let z : Stand = by_loop sh cd x c in
         let there : Stands v z = stands v z is.file_is is.keeps in
-        let count : IsCounted z (if is_begun answer then v.head else b.since) =
-        subst (λ (k : ℕ). IsCounted z k) (λ i. if is_begun (sym is.answer_is i) then sym (head_is v z there) i else b.since) (piece_counts sh cd x p b.since here.sense counted) in
+        let count : IsHeadCounted z (if is_begun answer then v.head else b.since) =
+        subst (λ (k : ℕ). IsHeadCounted z k) (λ i. if is_begun (sym is.answer_is i) then sym (head_is v z there) i else b.since) (piece_counts sh cd x p b.since here.sense counted) in
         let more = later z is.keeps is.shown_is count in
         let both = piece_over b.due p x act turns idle (ap (λ (r : Bool). next_piece b.due r) (sym (runs_is s x here)) ∙ next.1) asked more in
         record { text = both.0; rest = more.rest; commands = both.1; whole = more.whole }
@@ -153,15 +153,15 @@ module _ (pace : Pace) (file : DataFile) where
       (told_after here.events t, one.0, subst (λ (f : DataFile). IsResult f x.shown x.work act.command answer v (told_after here.events t)) of one.1)
 
   turns_over : (turns : List Turned) (s u : Replica) (old new : Option Told) (b c : Beat) (t : Told) (x : Stand) → s.file ≡ file → old ≡ Some t → AreTurns pace b s old turns c u new → Keeps Firm s x.work None → IsImage t.shown
-      → AgreeShown file.layout (shown_of file t.shown) x.shown → IsCounted x b.since → Over b.due x turns (IsIdle c u)
+      → AgreeShown file.layout (shown_of file t.shown) x.shown → IsHeadCounted x b.since → Over b.due x turns (IsIdleBeat c u)
   turns_over [] s u old new b c t x of told are k whole agree counted =
-      over_none b.due x (IsIdle c u)
+      over_none b.due x (IsIdleBeat c u)
       (λ idle. ap (λ (r : Bool). next_piece b.due r) (sym (runs_is s x (stands s x of k))) ∙ subst (λ (e : Beat). next_piece e.due (runs s) ≡ None) are.2 (subst (λ (r : Replica). next_piece c.due (runs r) ≡ None) are.0 idle))
   turns_over (y ∷ turns) s u old new b c t x of told are k whole agree counted =
       let v = are.0 in
       let one = one_more y.act y.answer s v old are.1 t x of told are.3.call k whole agree in
-      call_over y.act y.answer turns s v b x (IsIdle c u) one.0 (stands s x of k) counted one.2 y.asker are.2
-      (λ z keeps shown count. turns_over turns v u are.1 new (behind pace b y.asker v y.answer) c one.0 z one.2.file_is one.1 are.4 keeps one.2.whole shown count)
+      call_over y.act y.answer turns s v b x (IsIdleBeat c u) one.0 (stands s x of k) counted one.2 y.asker are.2
+      (λ z keeps shown count. turns_over turns v u are.1 new (beat_after pace b y.asker v y.answer) c one.0 z one.2.file_is one.1 are.4 keeps one.2.whole shown count)
 
 -- ---- a session that was opened
 
@@ -176,10 +176,10 @@ module _ (pace : Pace) (s : Replica) (t : Told) (mended : Option Told) (over : M
   none : rest_due (shape s.file) (codec s.file) b.due x ≡ []
   none = nothing_due (shape s.file) (codec s.file) b.due x (starts_idle s.head (runs_at (shape s.file) (codec s.file) x))
 
-  counted : IsCounted x s.head
+  counted : IsHeadCounted x s.head
   counted = let same = head_is pace s.file s x (stands pace s.file s x refl k) in omega (arith, same)
 
-  over_all : (turns : List Turned) (c : Beat) (u : Replica) (mid : Option Told) → AreTurns pace b s mended turns c u mid → Over pace s.file b.due x turns (IsIdle c u)
+  over_all : (turns : List Turned) (c : Beat) (u : Replica) (mid : Option Told) → AreTurns pace b s mended turns c u mid → Over pace s.file b.due x turns (IsIdleBeat c u)
   over_all turns c u mid are =
       let here = opened_agrees s t mended over shown whole agree in
       turns_over pace s.file turns s u mended mid b c here.first x refl here.told are k here.whole here.agrees counted
@@ -188,7 +188,7 @@ module _ (pace : Pace) (s : Replica) (t : Told) (mended : Option Told) (over : M
   result_is : (turns : List Turned) (status : Status) (idle : Type 0) → AnswersResult s.file shown w (all_acts turns) (all_answers turns) → Over pace s.file b.due x turns idle → (IsThrough status → idle) → IsResultOf pace s.file shown w turns status
   result_is turns status idle answers is through =
       let here : all_by_loop (shape s.file) (codec s.file) x (rest_due (shape s.file) (codec s.file) b.due x) ≡ x = ap (λ (cs : List Command). all_by_loop (shape s.file) (codec s.file) x cs) none in
-      let says : List Command = map command_of (all_said turns) in
+      let says : List Command = map command_of_line (all_said turns) in
       record {
         answers = answers;
         text = is.text ∙ ap (λ (u : Stand). joined (paced (shape s.file) (codec s.file) pace u says)) here;
@@ -199,8 +199,8 @@ module _ (pace : Pace) (s : Replica) (t : Told) (mended : Option Told) (over : M
 
   pub opened_prints : (turns : List Turned) (failing : Option Failing) (status : Status) → (IsThrough status → (failing ≡ None) × (status ≡ WriteFault → ⊥)) → EndTurns pace b s mended turns failing status last new → IsResultOf pace s.file shown w turns status
   opened_prints turns None status through ends =
-      result_is turns status (IsIdle ends.0 last) (opened_answers s t mended over whole w k last new None shown agree (all_acts turns) (all_answers turns) (all_calls pace b s mended turns None status last new ends)) (over_all turns ends.0 last new ends.1)
+      result_is turns status (IsIdleBeat ends.0 last) (opened_answers s t mended over whole w k last new None shown agree (all_acts turns) (all_answers turns) (all_calls pace b s mended turns None status last new ends)) (over_all turns ends.0 last new ends.1)
       (λ yes. ends.2 (through yes).1)
   opened_prints turns (Some f) status through ends =
-      result_is turns status (IsIdle ends.0 ends.1) (opened_answers s t mended over whole w k last new (Some f.act) shown agree (all_acts turns) (all_answers turns) (all_calls pace b s mended turns (Some f) status last new ends))
+      result_is turns status (IsIdleBeat ends.0 ends.1) (opened_answers s t mended over whole w k last new (Some f.act) shown agree (all_acts turns) (all_answers turns) (all_calls pace b s mended turns (Some f) status last new ends))
       (over_all turns ends.0 ends.1 ends.2 ends.3) (λ yes. absurd (let no = (through yes).0 in cc))

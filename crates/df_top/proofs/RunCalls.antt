@@ -21,7 +21,7 @@ use Rattle.df_workload.specs.Hearing.{outcome_in}
 use Rattle.df_workload.specs.declared.outcome.Outcome.{Outcome}
 use Rattle.df_session.specs.Calls.{IsExact, machine_answer}
 use Rattle.df_session.specs.Endings.{GivesAnswer}
-use Rattle.df_top.specs.Works.{HearsOf, IsRunning, RunsOn, StepsOn}
+use Rattle.df_top.specs.Works.{HearsOf, IsRunning, StepsOn, StillRuns}
 use Rattle.df_session.proofs.Laws.{append_moves, flush_moves, on_running, reply_moves, write_moves}
 use Rattle.df_top.proofs.SameWords.{same_words}
 
@@ -35,22 +35,22 @@ same_running : (s t : Replica) → t ≡ s → t.running ≡ s.running
 same_running s t is = ap (λ (r : Replica). r.running) is
 
 module _ (s t : Replica) (same : t.running ≡ s.running) where
-  append_on : (client request : ℕ) (body : List ℕ) (o : Outcome) → RunsOn (Append client request body) s t (Ok o)
+  append_on : (client request : ℕ) (body : List ℕ) (o : Outcome) → StillRuns (Append client request body) s t (Ok o)
   append_on client request body o = stays s t same
 
-  stage_on : (client request : ℕ) (body : List ℕ) (o : Outcome) → RunsOn (Stage client request body) s t (Ok o)
+  stage_on : (client request : ℕ) (body : List ℕ) (o : Outcome) → StillRuns (Stage client request body) s t (Ok o)
   stage_on client request body o = stays s t same
 
-  flush_on : (o : Outcome) → RunsOn Flush s t (Ok o)
+  flush_on : (o : Outcome) → StillRuns Flush s t (Ok o)
   flush_on o = stays s t same
 
-  reply_on : (op : ℕ) (body : List ℕ) (o : Outcome) → RunsOn (Reply op body) s t (Ok o)
+  reply_on : (op : ℕ) (body : List ℕ) (o : Outcome) → StillRuns (Reply op body) s t (Ok o)
   reply_on op body o = stays s t same
 
-  write_on : (kind : ℕ) (body : List ℕ) (o : Outcome) → RunsOn (WriteBlock kind body) s t (Ok o)
+  write_on : (kind : ℕ) (body : List ℕ) (o : Outcome) → StillRuns (WriteBlock kind body) s t (Ok o)
   write_on kind body o = stays s t same
 
-  release_on : (address : ℕ) (o : Outcome) → RunsOn (Release address) s t (Ok o)
+  release_on : (address : ℕ) (o : Outcome) → StillRuns (Release address) s t (Ok o)
   release_on address o = stays s t same
 
 release_running : (s t : Replica) (address : ℕ) (r : Result (Unit {0}) NotLive) → IsRelease address s t r → t.running ≡ s.running
@@ -61,7 +61,7 @@ stage_running : (s t : Replica) (client request : ℕ) (body : List ℕ) (r : Re
 stage_running s t client request body (Ok op) is = ap (λ (r : Replica). r.running) is.2
 stage_running s t client request body (Err e) is = same_running s t is.1
 
-begin_on : (s t : Replica) (root : List ℕ) (r : Result ℕ BeginError) → IsBegin root s t r → RunsOn (Begin root) s t (Ok (outcome_in (answers.Begin r)))
+begin_on : (s t : Replica) (root : List ℕ) (r : Result ℕ BeginError) → IsBegin root s t r → StillRuns (Begin root) s t (Ok (outcome_in (answers.Begin r)))
 begin_on s t root (Ok blocks) is = λ flag had set. subst (λ (r : Replica). IsRunning r) (sym is.2) tt
 begin_on s t root (Err e) is = stays s t (same_running s t is.1)
 
@@ -88,7 +88,7 @@ none_left s t None is = absurd is
 none_left s t (Some r) is = ap (λ (u : Replica). u.blocks.left) is
 
 module _ (s t : Replica) (old new : Option Told) where
-  step_on : (r : Result Progress StepError) → IsStep s t old new r → (x : Answered) → machine_answer (answers.Advance r) ≡ Some x → RunsOn Advance s t (Ok (outcome_in (answers.Advance r)))
+  step_on : (r : Result Progress StepError) → IsStep s t old new r → (x : Answered) → machine_answer (answers.Advance r) ≡ Some x → StillRuns Advance s t (Ok (outcome_in (answers.Advance r)))
   step_on (Ok (Working left)) is x said = λ flag had set. runs_on s t s.running (on_running s.running (λ r i. i.2) is)
   step_on (Ok (Done sequence)) is x said = λ flag had set. absurd (cc)
   step_on (Err step.NotRunning) is x said = stays s t (same_running s t is.1)
@@ -107,19 +107,19 @@ module _ (s t : Replica) (old new : Option Told) where
 -- what a call that was answered comes to, by what the run hears of it
 pub record Call (command : Command) (s t : Replica) (old new : Option Told) (outcome : Outcome) : Type 0 where
   pub makes : HearsOf command s t old new (Ok outcome)
-  pub runs : RunsOn command s t (Ok outcome)
+  pub runs : StillRuns command s t (Ok outcome)
   pub steps : command ≡ Advance → StepsOn s t (Ok outcome)
 
 module _ (s t : Replica) (old new : Option Told) (a : Answer) (x : Answered) (said : machine_answer a ≡ Some x) where
-  exact_on : (command : Command) → IsExact command s t old new a → RunsOn command s t (Ok (outcome_in a))
+  exact_on : (command : Command) → IsExact command s t old new a → StillRuns command s t (Ok (outcome_in a))
   exact_on (Append client request body) is = append_on s t (append_moves s t old new client request body is.0 is.2).1 client request body (outcome_in a)
   exact_on (Stage client request body) is = stage_on s t (stage_running s t client request body is.0 is.2) client request body (outcome_in a)
   exact_on Flush is = flush_on s t (flush_moves s t old new is.0 is.2).1 (outcome_in a)
   exact_on (Reply op body) is = reply_on s t (reply_moves s t old new op body is.0 is.2).1 op body (outcome_in a)
   exact_on (WriteBlock kind body) is = write_on s t (write_moves s t old new kind body is.0 is.2).1 kind body (outcome_in a)
   exact_on (Release address) is = release_on s t (release_running s t address is.0 is.2) address (outcome_in a)
-  exact_on (Begin root) is = subst (λ (y : Answer). RunsOn (Begin root) s t (Ok (outcome_in y))) (sym is.1) (begin_on s t root is.0 is.2)
-  exact_on Advance is = subst (λ (y : Answer). RunsOn Advance s t (Ok (outcome_in y))) (sym is.1) (step_on s t old new is.0 is.2 x (subst (λ (y : Answer). machine_answer y ≡ Some x) is.1 said))
+  exact_on (Begin root) is = subst (λ (y : Answer). StillRuns (Begin root) s t (Ok (outcome_in y))) (sym is.1) (begin_on s t root is.0 is.2)
+  exact_on Advance is = subst (λ (y : Answer). StillRuns Advance s t (Ok (outcome_in y))) (sym is.1) (step_on s t old new is.0 is.2 x (subst (λ (y : Answer). machine_answer y ≡ Some x) is.1 said))
   exact_on (ReadPrepare op) is = absurd is
   exact_on (ReadReply client) is = absurd is
   exact_on (ReadBlock address) is = absurd is

@@ -7,7 +7,7 @@ use Rattle.df_model.specs.Commands.{Advance, Command}
 use Rattle.df_session.specs.Session.{Act}
 use Rattle.df_script_model.specs.Texts.{damaged_text}
 use Rattle.df_session.specs.Below.{State as Replica}
-use Rattle.df_workload.specs.Asking.{asks, command_of}
+use Rattle.df_workload.specs.Asking.{asks, command_asked}
 use Rattle.df_workload.specs.declared.asked.Asked.{Asked}
 use Rattle.df_workload.specs.Following.{Follows}
 use Rattle.df_workload.specs.Hearing.{runs_after, told}
@@ -20,7 +20,7 @@ use Rattle.df_session.specs.Endings.{EndsBy}
 use Rattle.df_session.specs.Links.{command_in}
 use Rattle.df_session.specs.declared.hearing.Fault.{Fault}
 use Rattle.df_session.specs.declared.hearing.Fault.TheVariants.{Disk, Damaged}
-use Rattle.df_top.specs.Works.{Comes, Fails, HearsOf, IsRunning, PrintsRun, RunsOn, StepsOn, Worked, Works, Writes, steps_left}
+use Rattle.df_top.specs.Works.{Comes, Fails, HearsOf, IsRunning, PrintsRun, StepsOn, StillRuns, Worked, Works, WritesReport, steps_left}
 use Rattle.df_top.specs.declared.status.Status.{Status}
 use Rattle.df_session.proofs.Laws.{calls_join}
 use Rattle.df_top.proofs.Answered.{damaged_line}
@@ -75,7 +75,7 @@ module _ (run : Run) (s t : Replica) (old new : Option Told) (command : Command)
   pub made_live : (o : Outcome) → HearsOf command s t old new (Ok o) → t.live ≡ true
   made_live o made = made.1.calls.call.live
 
-  pub made_runs : (o : Outcome) → RunsOn command s t (Ok o) → (run.running ≡ true → IsRunning s) → (told o run).running ≡ true → IsRunning t
+  pub made_runs : (o : Outcome) → StillRuns command s t (Ok o) → (run.running ≡ true → IsRunning s) → (told o run).running ≡ true → IsRunning t
   made_runs o runs had set = runs run.running had (sym (runs_so run.point o run command is) ∙ set)
 
   pub made_fails : (T : Type 0) (fault : Fault) → HearsOf command s t old new (Err fault) → Comes {T = T} run s old run t new (Err fault)
@@ -111,7 +111,7 @@ fewer_steps o run s t is steps runs set =
 
 pub record EndsRun (begun : Run) (s : Replica) (old : Option Told) (run : Run) (t : Replica) (new : Option Told) (written took : Option (List ℕ)) (status : Status) : Type 0 where
   pub worked : Worked begun s old run t new
-  pub writes : Writes run t new worked.failed written took status
+  pub writes : WritesReport run t new worked.failed written took status
 
 module _ (begun : Run) (s : Replica) (old : Option Told) (run : Run) (t : Replica) (new : Option Told) where
   abbrev whole : Works begun s old run t new → asks run ≡ None → Worked begun s old run t new
@@ -132,19 +132,19 @@ module _ (begun : Run) (s : Replica) (old : Option Told) (run : Run) (t : Replic
     Ends = EndsRun begun s old run t new written took status
 
     pub ends_run : {T : Type 0} (r : Result T Fault) → Comes begun s old run t new r → OnOk r (asks run ≡ None) → PrintsRun run t r written took status → Ends
-    ends_run (Ok x) works over (inl printed) = record { worked = whole works over; writes = subst (λ (q : Status). Writes run t new None written took q) (sym printed.0) printed.1 }
-    ends_run (Ok x) works over (inr printed) = record { worked = whole works over; writes = subst (λ (q : Status). Writes run t new None written took q) (sym printed.0) printed.1 }
-    ends_run (Err Disk) f over printed = record { worked = cut f; writes = subst (λ (q : Status). Writes run t new (Some f.act) written took q) (sym printed.0) printed.1 }
-    ends_run (Err (Damaged place class)) f over (inl printed) = record { worked = cut f; writes = subst (λ (q : Status). Writes run t new (Some f.act) written took q) (sym printed.0) (damaged_text place class, damaged_line f.act.command new place class f.ends, printed.1) }
-    ends_run (Err (Damaged place class)) f over (inr printed) = record { worked = cut f; writes = subst (λ (q : Status). Writes run t new (Some f.act) written took q) (sym printed.0) (damaged_text place class, damaged_line f.act.command new place class f.ends, printed.1) }
+    ends_run (Ok x) works over (inl printed) = record { worked = whole works over; writes = subst (λ (q : Status). WritesReport run t new None written took q) (sym printed.0) printed.1 }
+    ends_run (Ok x) works over (inr printed) = record { worked = whole works over; writes = subst (λ (q : Status). WritesReport run t new None written took q) (sym printed.0) printed.1 }
+    ends_run (Err Disk) f over printed = record { worked = cut f; writes = subst (λ (q : Status). WritesReport run t new (Some f.act) written took q) (sym printed.0) printed.1 }
+    ends_run (Err (Damaged place class)) f over (inl printed) = record { worked = cut f; writes = subst (λ (q : Status). WritesReport run t new (Some f.act) written took q) (sym printed.0) (damaged_text place class, damaged_line f.act.command new place class f.ends, printed.1) }
+    ends_run (Err (Damaged place class)) f over (inr printed) = record { worked = cut f; writes = subst (λ (q : Status). WritesReport run t new (Some f.act) written took q) (sym printed.0) (damaged_text place class, damaged_line f.act.command new place class f.ends, printed.1) }
 
 -- what is asked for is one command
 one_asked : (run : Run) (a b : Command) → asks run ≡ Some a → asks run ≡ Some b → a ≡ b
 one_asked run a b one other = cc (one, other)
 
 -- it is what was matched
-pub asks_so : (run : Run) (a b : Asked) → asks run ≡ Some (command_of run a) → a ≡ b → asks run ≡ Some (command_of run b)
-asks_so run a b is same = subst (λ (x : Asked). asks run ≡ Some (command_of run x)) same is
+pub asks_so : (run : Run) (a b : Asked) → asks run ≡ Some (command_asked run a) → a ≡ b → asks run ≡ Some (command_asked run b)
+asks_so run a b is same = subst (λ (x : Asked). asks run ≡ Some (command_asked run x)) same is
 
 -- so what holds of the command that was made holds of the one that is asked for
 pub as_asked : (P : Command → Type 0) (run : Run) (made asked : Command) → asks run ≡ Some asked → made ≡ asked → P made → (c : Command) → asks run ≡ Some c → P c

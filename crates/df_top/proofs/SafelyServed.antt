@@ -6,7 +6,7 @@ use Rattle.df_layout.specs.declared.damage.Mend.{Mend}
 use Rattle.df_layout.specs.declared.layout.Layout.{Layout}
 use Rattle.df_lines.specs.Grammar.{Said}
 use Rattle.df_lines.specs.Room.{line_bound}
-use Rattle.df_lines.specs.Script.{Begins, IsRefused, IsScript}
+use Rattle.df_lines.specs.Script.{BeginsWithLines, IsRefused, IsScript}
 use Rattle.df_lines.proofs.Laws.{one_script, begins_one}
 use Rattle.df_pace.specs.Beats.{idle}
 use Rattle.df_pace.specs.declared.pace.Pace.{Pace}
@@ -17,7 +17,7 @@ use Rattle.df_session.specs.Session.{Act}
 use Rattle.df_session.proofs.Laws.{safe_is_not_refused}
 use Rattle.df_session.specs.Found.{FoundFile}
 use Rattle.df_telling.proofs.Laws.{nothing_failed}
-use Rattle.df_top.specs.Completeness.{IsCarriedOut, IsWhole, SafeIsRun, SafeIsServed}
+use Rattle.df_top.specs.Completeness.{IsCarriedOut, IsWholeScript, SafeIsRun, SafeIsServed}
 use Rattle.df_top.specs.Opening.{RefusesFile}
 use Rattle.df_top.specs.Outside.{Faults, HasCauses, NoneFailed, Outside}
 use Rattle.df_top.specs.Reporting.{status_of}
@@ -26,7 +26,7 @@ use Rattle.df_top.specs.Run.{ComesTo, Does, DidNothing, RefusesSuperblock, Serve
 use Rattle.df_top.specs.Lines.{Turned, act_of, all_said, said_of}
 use Rattle.df_top.specs.Session.{EndsWith}
 use Rattle.df_workload.specs.declared.state.State.{State as Generated}
-use Rattle.df_top.specs.Works.{Writes}
+use Rattle.df_top.specs.Works.{WritesReport}
 use Rattle.df_top.specs.declared.mode.Mode.{Mode}
 use Rattle.df_top.specs.declared.mode.Mode.TheVariants.{Format, Run, Recover, Inspect, Scrub, Workload, Upgrade, Paced}
 use Rattle.df_top.specs.declared.status.Status.{Status}
@@ -65,16 +65,16 @@ session_ends n old new turns failed cut status ends = absurd ends
 
 -- ---- a text that is whole has no line that is refused
 
-whole_uncut : (layout : Layout) (text rest : List ℕ) (asked : List Said) (budget : ℕ) → IsWhole layout text → Begins (line_bound layout) script_budget text asked budget rest → IsRefused (line_bound layout) budget rest → ⊥
+whole_uncut : (layout : Layout) (text rest : List ℕ) (asked : List Said) (budget : ℕ) → IsWholeScript layout text → BeginsWithLines (line_bound layout) script_budget text asked budget rest → IsRefused (line_bound layout) budget rest → ⊥
 whole_uncut layout text rest asked budget whole begins refused =
     let cut : IsScript (line_bound layout) script_budget text asked = record { left = budget; rest = rest; begins = begins; ends = inr refused } in
     let all : IsScript (line_bound layout) script_budget text whole.lines = record { left = whole.left; rest = []; begins = whole.begins; ends = inl refl } in
     let same : whole.lines ≡ asked = one_script (line_bound layout) script_budget text whole.lines asked all cut in
-    let read : Begins (line_bound layout) script_budget text asked whole.left [] = subst (λ (l : List Said). Begins (line_bound layout) script_budget text l whole.left []) same whole.begins in
+    let read : BeginsWithLines (line_bound layout) script_budget text asked whole.left [] = subst (λ (l : List Said). BeginsWithLines (line_bound layout) script_budget text l whole.left []) same whole.begins in
     refused.some (begins_one (line_bound layout) script_budget text asked budget whole.left rest [] begins read)
 
 -- a generated run ends at its end, at a step that is damaged, or with a cause
-run_ends : (run : Generated) (last : Replica) (told : Option Told) (failed : Option Act) (written took : Option (List ℕ)) (status : Status) → Writes run last told failed written took status
+run_ends : (run : Generated) (last : Replica) (told : Option Told) (failed : Option Act) (written took : Option (List ℕ)) (status : Status) → WritesReport run last told failed written took status
     → (status ≡ Done) ⊎ (status ≡ Refused) ⊎ (status ≡ DiskFault) ⊎ (status ≡ WriteFault)
 run_ends run last told None written took Done writes = inl refl
 run_ends run last told None written took WriteFault writes = inr (inr (inr refl))
@@ -111,7 +111,7 @@ module _ (file : DataFile) (view : View) (t : Told) (old new : Outside) (before 
     | Damaged refused ↦ absurd (serves.undamaged refused)
   ]
 
-  worked : (run : Generated) (last : Replica) (told : Option Told) (failed : Option Act) (written took : Option (List ℕ)) → Writes run last told failed written took status → (status ≡ Refused → ⊥) → status ≡ Done
+  worked : (run : Generated) (last : Replica) (told : Option Told) (failed : Option Act) (written took : Option (List ℕ)) → WritesReport run last told failed written took status → (status ≡ Refused → ⊥) → status ≡ Done
   worked run last told failed written took writes undamaged = elim (run_ends run last told failed written took status writes) [
     | inl done ↦ done
     | inr (inl refused) ↦ absurd (undamaged refused)

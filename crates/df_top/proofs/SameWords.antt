@@ -1,7 +1,7 @@
 -- An answer and the machine's have one line, and a generated run hears the same of both.
 use Rattle.std.proofs.Common.{◌≡◌, Bool, true, false, Some, None, if◌then◌else◌, refl, subst, Ok, Err}
 use Rattle.std.proofs.lemmas.Option.{none-some}
-use Rattle.df_inspect.specs.Answers.{text_of}
+use Rattle.df_inspect.specs.Answers.{line_of_answer}
 use Rattle.df_model.specs.Commands.{Answer as Answered, Command, ToAdvance, ToAppend, ToBegin, ToFlush, ToReadBlock, ToReadPrepare, ToReadReply, ToRelease, ToReply, ToScrub, ToStage, ToWriteBlock}
 use Rattle.df_model.specs.declared.answers.Progress.TheVariants.{Done, Working}
 use Rattle.df_model.specs.declared.commands.Answer.{Answer}
@@ -14,7 +14,7 @@ use Rattle.df_workload.specs.Hearing.{outcome_in, outcome_of}
 use Rattle.df_session.specs.Calls.{machine_answer}
 
 abbrev pub SameWords : Command → Answer → Answered → Type 0
-SameWords c a x = (text_of c a ≡ answer_text c x) × (outcome_in a ≡ outcome_of x)
+SameWords c a x = (line_of_answer c a ≡ answer_text c x) × (outcome_in a ≡ outcome_of x)
 
 module _ (c : Command) (x : Answered) where
   said : (a : Answer) (y : Answered) → SameWords c a y → Some y ≡ Some x → SameWords c a x

@@ -17,8 +17,8 @@ use Rattle.df_session.specs.Below.{verdict_in, State as Replica}
 use Rattle.df_script_model.specs.Texts.{recent_text}
 use Rattle.df_top.specs.Findings.{items_of}
 use Rattle.df_session.specs.Links.{Makes}
-use Rattle.df_top.specs.Step.{Answers}
-use Rattle.df_top.specs.Turning.{Tells, printed_turn}
+use Rattle.df_top.specs.Step.{AnswersCommand}
+use Rattle.df_top.specs.Turning.{TellsAnswer, printed_turn}
 use Rattle.df_top.specs.declared.turns.Turn.{Turn}
 use Rattle.df_session.proofs.Laws.{adds_none, made}
 use Rattle.df_top.proofs.Answered.{Comes, comes_answered, printed_is, prints_turn}
@@ -55,7 +55,7 @@ module _ (s t : Replica) (old new : Option Told) (same : new ≡ old) where
     };
   }
 
-  pub scrub_done : (written took : Option (List ℕ)) (before now : ℕ) (turn : Turn) (x : Scrubbed) → ServesScrub s t old (Ok x) → now ≡ before → Tells Scrub (Ok (answers.Scrub x)) written took turn → Comes Scrub s t old new written took before now turn
+  pub scrub_done : (written took : Option (List ℕ)) (before now : ℕ) (turn : Turn) (x : Scrubbed) → ServesScrub s t old (Ok x) → now ≡ before → TellsAnswer Scrub (Ok (answers.Scrub x)) written took turn → Comes Scrub s t old new written took before now turn
   scrub_done written took before now turn x serves still tells = comes_answered Scrub s t old new written took before now turn (ToScrub x) (makes (Ok x) serves) still tells
 
 -- ---- the ring
@@ -86,7 +86,7 @@ take_more (x ∷ xs) (suc n) =
 
 -- what was printed of them is the line's text
 pub ring_printed : (s : Replica) (told : Option Told) (written took : Option (List ℕ)) → Serves Recent s s told told (Some (ToRecent s.findings)) → {T E : Type 0} (r : Result T E) → Prints (recent_text s.findings) written took r
-    → Answers Recent s s told told written took (printed_turn r)
+    → AnswersCommand Recent s s told told written took (printed_turn r)
 ring_printed s told written took serves r prints =
     printed_is Recent s s told told written took (ToRecent s.findings) (made Recent ForRecent s s told told (Some (ToRecent s.findings)) refl serves refl) (printed_turn r)
     (prints_turn (recent_text s.findings) written took r prints)

@@ -25,13 +25,13 @@ use Rattle.df_telling.proofs.Laws.{open_fault}
 use Rattle.df_top.specs.Acknowledging.{script_calls}
 use Rattle.df_top.specs.Opening.{FailsToFind, RefusesFileAs, StopsBefore}
 use Rattle.df_top.specs.Outside.{IsThrough, Outside}
-use Rattle.df_top.specs.Refusing.{PrintsError}
+use Rattle.df_top.specs.Refusing.{PrintsOpenError}
 use Rattle.df_top.specs.Mode.{Executes}
 use Rattle.df_top.specs.Run.{ComesTo, Does, ServesScript, start}
 use Rattle.df_session.specs.Session.{Act}
 use Rattle.df_lines.proofs.Laws.{unread_none}
 use Rattle.df_top.specs.Lines.{Failing, Turned, act_of, all_acts, all_answers}
-use Rattle.df_top.specs.Session.{Ended, EndsWith, State, state}
+use Rattle.df_top.specs.Session.{Ended, EndsWith, SessionState, state}
 use Rattle.df_top.specs.declared.mode.Mode.{Mode}
 use Rattle.df_top.specs.declared.mode.Mode.TheVariants.{Run, Paced}
 use Rattle.df_top.specs.declared.session.Session.{Session}
@@ -51,11 +51,11 @@ begins_so told old s bound fresh none idle = λ i. record {
   beat = idle i;
 }
 
-pub from_start : (pace : Pace) (told : Option Told) (old : Outside) (s : Session) (layout : Layout) (last : State) (status : Status) → IsFresh (line_bound layout) s.lines → s.count ≡ 0 → s.beat ≡ started s.replica.head
+pub from_start : (pace : Pace) (told : Option Told) (old : Outside) (s : Session) (layout : Layout) (last : SessionState) (status : Status) → IsFresh (line_bound layout) s.lines → s.count ≡ 0 → s.beat ≡ started s.replica.head
     → Ended pace s.lines.reading.bound (state (record { told = told; left = old.left; written = old.written }) s) last status → Ended pace (line_bound layout) (start told old s.replica) last status
 from_start pace told old s layout last status fresh none idle ended =
     subst (λ (n : ℕ). Ended pace n (start told old s.replica) last status) (ap (λ (r : Reading). r.bound) fresh.reading)
-    (subst (λ (o : State). Ended pace s.lines.reading.bound o last status) (begins_so told old s (line_bound layout) fresh none idle) ended)
+    (subst (λ (o : SessionState). Ended pace s.lines.reading.bound o last status) (begins_so told old s (line_bound layout) fresh none idle) ended)
 
 -- ---- a file that was opened
 
@@ -91,7 +91,7 @@ through_whole n old new turns failing cut Found ends is = absurd is
 -- ---- it is served
 
 module _ (pace : Pace) (layout : Layout) (t : Told) (old new : Outside) (status : Status) (s : Replica) (mended : Option Told) (whole : IsImage t.shown) (told : old.told ≡ Some t) (live : s.live ≡ true) (of : s.file.layout ≡ layout) (over : MendsAll t s mended)
-    (last : State) (last_is : last.outside ≡ new) (ended : Ended pace (line_bound layout) (start mended old s) last status) where
+    (last : SessionState) (last_is : last.outside ≡ new) (ended : Ended pace (line_bound layout) (start mended old s) last status) where
   abbrev found : FoundFile layout t
   found = opened_file layout t s mended whole of over
 
@@ -114,14 +114,14 @@ module _ (pace : Pace) (layout : Layout) (t : Told) (old new : Outside) (status 
 
   undamaged : status ≡ Refused → ⊥
   undamaged is =
-      let origin : State = start mended old s in
+      let origin : SessionState = start mended old s in
       refused_never origin.lines origin.outside last.outside ended.turns (act_of ended.failing) ended.cut tells_on.0 tells_on.1
       (subst (λ (x : Status). EndsWith origin.lines origin.outside last.outside ended.turns (act_of ended.failing) ended.cut x) is ended.written)
 
   calls : CallsKeep t found.replica found.mended found.mending (script_calls ended)
   calls = calls_keep t s mended over last.replica last.outside.told (all_acts ended.turns) (all_answers ended.turns) (act_of ended.failing) made.calls whole live
 
-  abbrev origin : State
+  abbrev origin : SessionState
   origin = start mended old s
 
   serves_here : ServesScript pace layout t found old new status
@@ -143,7 +143,7 @@ module _ (pace : Pace) (layout : Layout) (t : Told) (old new : Outside) (status 
 -- ---- it isn't
 
 pub refuses : (version : ℕ) (layout : Layout) (t : Told) (old new : Outside) (status : Status) (e : OpenError) → (e ≡ opens.DiskFault → ⊥) → IsImage t.shown → old.told ≡ Some t → TellsSurveyAs version layout old.told (Err e) → new.left ≡ old.left → new.told ≡ after Sync old.told
-    → PrintsError e old.written new.written status → RefusesFileAs version layout t old new status
+    → PrintsOpenError e old.written new.written status → RefusesFileAs version layout t old new status
 refuses version layout t old new status e other whole told answer unread barrier prints = record {
   error = e;
   is = record { why = (subst (λ (o : Option Told). TellsSurveyAs version layout o (Err e)) told answer) whole; other = other };
@@ -151,12 +151,12 @@ refuses version layout t old new status e other whole told answer unread barrier
   barrier = barrier ∙ ap (after Sync) told;
 }
 
-pub fails : (mode : Mode) (layout : Layout) (t : Told) (old new : Outside) (status : Status) (e : OpenError) → e ≡ opens.DiskFault → StopsBefore mode layout t new.told → new.left ≡ old.left → PrintsError e old.written new.written status → FailsToFind mode layout t old new status
+pub fails : (mode : Mode) (layout : Layout) (t : Told) (old new : Outside) (status : Status) (e : OpenError) → e ≡ opens.DiskFault → StopsBefore mode layout t new.told → new.left ≡ old.left → PrintsOpenError e old.written new.written status → FailsToFind mode layout t old new status
 fails mode layout t old new status e is stops unread prints = record { fault = (prints.failing is).0; silent = record { written = (prints.failing is).1; unread = unread }; disk = stops }
 
 -- so no word is carried out
 pub not_opened : (mode : Mode) (layout : Layout) (t : Told) (old new : Outside) (status : Status) (e : OpenError) → IsImage t.shown → old.told ≡ Some t → TellsSurvey layout old.told (Err e) → new.left ≡ old.left → ((e ≡ opens.DiskFault → ⊥) → new.told ≡ after Sync old.told)
-    → (IsImage t.shown → e ≡ opens.DiskFault → StopsBefore mode layout t new.told) → PrintsError e old.written new.written status → ComesTo mode layout t old new status
+    → (IsImage t.shown → e ≡ opens.DiskFault → StopsBefore mode layout t new.told) → PrintsOpenError e old.written new.written status → ComesTo mode layout t old new status
 not_opened mode layout t old new status e whole told answer unread barrier stops prints =
     elim (open_fault e) [
       | inl is ↦ inr (inl (fails mode layout t old new status e is (stops whole is) unread prints))
@@ -173,7 +173,7 @@ executed mode pace is layout t old new status served = absurd is
 
 -- or the file isn't opened
 pub not_executed : (mode : Mode) (pace : Pace) → Executes mode pace → (layout : Layout) (t : Told) (old new : Outside) (status : Status) (e : OpenError) → IsImage t.shown → old.told ≡ Some t → TellsSurvey layout old.told (Err e) → new.left ≡ old.left → ((e ≡ opens.DiskFault → ⊥) → new.told ≡ after Sync old.told)
-    → (IsImage t.shown → e ≡ opens.DiskFault → StopsOpening layout t new.told) → PrintsError e old.written new.written status → Does mode layout t old new status
+    → (IsImage t.shown → e ≡ opens.DiskFault → StopsOpening layout t new.told) → PrintsOpenError e old.written new.written status → Does mode layout t old new status
 not_executed Run pace is layout t old new status e whole told answer unread barrier stops prints = (tt, not_opened Run layout t old new status e whole told answer unread barrier stops prints)
 not_executed (Paced given) pace is layout t old new status e whole told answer unread barrier stops prints = (tt, not_opened (Paced given) layout t old new status e whole told answer unread barrier stops prints)
 not_executed mode pace is layout t old new status e whole told answer unread barrier stops prints = absurd is

@@ -10,10 +10,10 @@ use Rattle.df_format.specs.Copies.{Content, content_at}
 use Rattle.df_format.specs.declared.superblock.SuperFields.{SuperFields}
 use Rattle.df_lines.specs.Grammar.{Said}
 use Rattle.df_lines.specs.Room.{line_bound}
-use Rattle.df_lines.specs.Script.{Begins, IsRefused, IsScript}
+use Rattle.df_lines.specs.Script.{BeginsWithLines, IsRefused, IsScript}
 use Rattle.df_lines.specs.Text.{after_line, taken}
 use Rattle.df_lines.proofs.Laws.{one_script}
-use Rattle.df_quorum.specs.Quorum.{IsChosen}
+use Rattle.df_quorum.specs.Quorum.{IsChosenContent}
 use Rattle.df_theory.specs.Found.{IsFound}
 use Rattle.df_theory.specs.Units.{AnyUnit, BlockPlace, Place, PreparePlace, ReplyPlace}
 use Rattle.df_theory.specs.View.{View}
@@ -29,7 +29,7 @@ use Rattle.df_session.specs.Reading.{shown_of}
 use Rattle.df_session.proofs.Laws.{file_there, layout_there, one_super, same_file, super_shown, view_there, agree_self}
 use Rattle.df_session.specs.Below.{AgreeShown, codec}
 use Rattle.df_session.specs.Found.{FoundFile}
-use Rattle.df_top.specs.Lines.{Failing, Turned, act_of, all_said, all_text, command_of, printed, said_of}
+use Rattle.df_top.specs.Lines.{Failing, Turned, act_of, all_said, all_text, command_of_line, printed, said_of}
 use Rattle.df_top.specs.OneText.{OneText, ShowSame, TextIsResult, status_by, text_by}
 use Rattle.df_top.specs.Outside.{IsThrough, Outside}
 use Rattle.df_top.specs.Resulting.{TextAlone, joined, text_over}
@@ -40,7 +40,7 @@ use Rattle.df_top.specs.declared.status.Status.TheVariants.{Done, Script, Words,
 
 -- ---- how a text ends
 
-begins_one : (bound budget : ℕ) (text : List ℕ) (says : List Said) (left other : ℕ) (rest more : List ℕ) → Begins bound budget text says left rest → Begins bound budget text says other more → (left ≡ other) × (rest ≡ more)
+begins_one : (bound budget : ℕ) (text : List ℕ) (says : List Said) (left other : ℕ) (rest more : List ℕ) → BeginsWithLines bound budget text says left rest → BeginsWithLines bound budget text says other more → (left ≡ other) × (rest ≡ more)
 begins_one bound budget text [] left other rest more one two = (one.0 ∙ sym two.0, one.1 ∙ sym two.1)
 begins_one bound budget text (said ∷ says) left other rest more one two = begins_one bound (budget - taken text) (after_line text) says left other rest more one.1 two.1
 
@@ -50,9 +50,9 @@ pub record EndsAs (bound budget : ℕ) (text : List ℕ) (says lines : List Said
   pub status_is : status ≡ status_by script.ends
   pub text_is : (n : ℕ) (printed : List ℕ) → more n printed ≡ text_by script.ends n printed
 
-module _ (bound budget : ℕ) (text : List ℕ) (says lines : List Said) (script : IsScript bound budget text says) (left : ℕ) (rest : List ℕ) (begins : Begins bound budget text lines left rest) where
+module _ (bound budget : ℕ) (text : List ℕ) (says lines : List Said) (script : IsScript bound budget text says) (left : ℕ) (rest : List ℕ) (begins : BeginsWithLines bound budget text lines left rest) where
   behind : lines ≡ says → (left ≡ script.left) × (rest ≡ script.rest)
-  behind same = begins_one bound budget text says left script.left rest script.rest (subst (λ (l : List Said). Begins bound budget text l left rest) same begins) script.begins
+  behind same = begins_one bound budget text says left script.left rest script.rest (subst (λ (l : List Said). BeginsWithLines bound budget text l left rest) same begins) script.begins
 
   ends_whole : rest ≡ [] → EndsAs bound budget text says lines script Done (λ n printed. printed)
   ends_whole none = go script.ends refl
@@ -80,22 +80,22 @@ module _ (bound budget : ℕ) (text : List ℕ) (says lines : List Said) (script
 pub record IsThroughBy (bound budget : ℕ) (text : List ℕ) (turns : List Turned) (old new : Outside) (status : Status) : Type 0 where
   pub left : ℕ
   pub rest : List ℕ
-  pub begins : Begins bound budget text (all_said turns) left rest
+  pub begins : BeginsWithLines bound budget text (all_said turns) left rest
   pub ends : ((status ≡ Done) × (rest ≡ []) × Appends old.written new.written (all_text turns)) ⊎ ((status ≡ Script) × IsRefused bound left rest × Appends old.written new.written (all_text turns ++ script_text (length (all_said turns) + 1)))
 
 module _ (bound : ℕ) (text : List ℕ) (turns : List Turned) (old new : Outside) (budget : ℕ) (left : ℕ) (rest : List ℕ) where
-  through : (failing : Option Failing) (cut : Bool) (status : Status) → Begins bound budget text (all_said turns ++ said_of failing) left rest → EndsText bound left rest new.left cut status → EndsWith 0 old new turns (act_of failing) cut status → IsThrough status
+  through : (failing : Option Failing) (cut : Bool) (status : Status) → BeginsWithLines bound budget text (all_said turns ++ said_of failing) left rest → EndsText bound left rest new.left cut status → EndsWith 0 old new turns (act_of failing) cut status → IsThrough status
       → IsThroughBy bound budget text turns old new status
   through None cut Done begins ends wrote is = record {
     left = left;
     rest = rest;
-    begins = subst (λ (l : List Said). Begins bound budget text l left rest) (append-nil (all_said turns)) begins;
+    begins = subst (λ (l : List Said). BeginsWithLines bound budget text l left rest) (append-nil (all_said turns)) begins;
     ends = inl (refl, (ends.finished refl).0, subst (λ (b : Bool). Appends old.written new.written (printed 0 turns b)) wrote.0 wrote.1);
   }
   through None cut Script begins ends wrote is = record {
     left = left;
     rest = rest;
-    begins = subst (λ (l : List Said). Begins bound budget text l left rest) (append-nil (all_said turns)) begins;
+    begins = subst (λ (l : List Said). BeginsWithLines bound budget text l left rest) (append-nil (all_said turns)) begins;
     ends =
         let count : 0 + length (all_said turns) + 1 ≡ length (all_said turns) + 1 = omega arith in
         inr (refl, ends.refused wrote.0, subst (λ (n : ℕ). Appends old.written new.written (all_text turns ++ script_text n)) count (subst (λ (b : Bool). Appends old.written new.written (printed 0 turns b)) wrote.0 wrote.1));
@@ -171,13 +171,13 @@ text_is_result pace layout t old new status opening serves view text says script
 
 -- beside no work
 pub text_alone : TextAlone
-text_alone file shown w says = ap joined (idle_law (shape file) (codec file) shown w (map command_of says))
+text_alone file shown w says = ap joined (idle_law (shape file) (codec file) shown w (map command_of_line says))
 
 -- ---- two images that show the same
 
 module _ (layout : Layout) (a b : Image) (same : ShowSame layout a b) where
-  super_there : (f : SuperFields) (content : Content) → IsChosen (content_at a) content → IsChosen (content_at b) content
-  super_there f content chosen = subst (λ (shown : ℕ → Option Content). IsChosen shown content) (λ i n. same.copies n i) chosen
+  super_there : (f : SuperFields) (content : Content) → IsChosenContent (content_at a) content → IsChosenContent (content_at b) content
+  super_there f content chosen = subst (λ (shown : ℕ → Option Content). IsChosenContent shown content) (λ i n. same.copies n i) chosen
 
   units_there : (cluster : ℕ) → unit_at layout cluster a ≡ unit_at layout cluster b
   units_there cluster i place = same.units cluster place i

@@ -16,7 +16,7 @@ use Rattle.df_session.specs.Below.{ScrubState, State as Replica}
 use Rattle.df_script_model.specs.Texts.{scrubbed_text}
 use Rattle.df_session.specs.Scrubbing.{IsScrub, scrub_of, with_scrub}
 use Rattle.df_top.specs.Scrubs.{PrintsTour, failing_blocks, tour_report, tour_status}
-use Rattle.df_top.specs.Touring.{EndsTour, TakesStep, TellsFound, TellsStep}
+use Rattle.df_top.specs.Touring.{EndsTour, TakesStep, TellsStep, TellsTourFound}
 use Rattle.df_top.specs.declared.status.Status.{Status}
 use Rattle.df_top.specs.declared.status.Status.TheVariants.{DiskFault, Done, Found, WriteFault}
 use Rattle.df_top.specs.declared.turns.Turn.{Turn}
@@ -203,7 +203,7 @@ disk_still x old new before now GoesOn tells same = same
 disk_still x old new before now (Ends status) tells same = no_blame DiskFault before now status same (calm x old new status tells)
 
 -- where the disk failed in a step, what was found before has its lines
-pub found_told : (s : Replica) (t : Told) (u v : Replica) (told : Option Told) (old mid new : Option (List ℕ)) → IsTouring s t (scrub_of u) old mid → TakesStep u v told mid new (Ends DiskFault) → TellsFound v.tour.failing old new
+pub found_told : (s : Replica) (t : Told) (u v : Replica) (told : Option Told) (old mid new : Option (List ℕ)) → IsTouring s t (scrub_of u) old mid → TakesStep u v told mid new (Ends DiskFault) → TellsTourFound v.tour.failing old new
 found_told s t u v told old mid new so (inl (x, is, tells)) = absurd (calm x mid new DiskFault tells refl)
 found_told s t u v told old mid new so (inr failed) = (
   so.listed,

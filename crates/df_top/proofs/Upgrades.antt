@@ -24,7 +24,7 @@ use Rattle.df_telling.proofs.Laws.{open_fault}
 use Rattle.df_top.specs.Completeness.{OldIsUpgraded, SecondIsLeft}
 use Rattle.df_top.specs.Hurting.{RefusesCopiesAs}
 use Rattle.df_top.specs.Outside.{Faults, HasCauses, NoneFailed, Outside}
-use Rattle.df_top.specs.Refusing.{PrintsError}
+use Rattle.df_top.specs.Refusing.{PrintsOpenError}
 use Rattle.df_top.specs.Run.{DidNothing, RefusesSuperblockAs}
 use Rattle.df_top.specs.Upgrading.{ComesToUpgrade, FailsToUpgrade, RunsUpgrade, UpgradeIsOfHurt, UpgradesHurt, UpgradesOverHurt, UpgradesOwn}
 use Rattle.df_top.specs.Within.{WritesOwnAs}
@@ -35,11 +35,11 @@ use Rattle.df_top.proofs.Within.{barrier_within, mends_within}
 
 -- ---- it isn't upgraded
 
-abbrev failing : (layout : Layout) (t : Told) (old new : Outside) (status : Status) (e : OpenError) → e ≡ opens.DiskFault → StopsUpgrading layout t new.told → new.left ≡ old.left → PrintsError e old.written new.written status → FailsToUpgrade layout t old new status
+abbrev failing : (layout : Layout) (t : Told) (old new : Outside) (status : Status) (e : OpenError) → e ≡ opens.DiskFault → StopsUpgrading layout t new.told → new.left ≡ old.left → PrintsOpenError e old.written new.written status → FailsToUpgrade layout t old new status
 failing layout t old new status e is stops unread prints = record { fault = (prints.failing is).0; silent = record { written = (prints.failing is).1; unread = unread }; disk = stops }
 
 pub not_upgraded : (layout : Layout) (t : Told) (old new : Outside) (status : Status) (e : OpenError) → IsImage t.shown → old.told ≡ Some t → TellsSurveyAs 1 layout old.told (Err e) → new.left ≡ old.left → ((e ≡ opens.DiskFault → ⊥) → new.told ≡ after Sync old.told)
-    → (IsImage t.shown → e ≡ opens.DiskFault → StopsUpgrading layout t new.told) → PrintsError e old.written new.written status → ComesToUpgrade layout t old new status
+    → (IsImage t.shown → e ≡ opens.DiskFault → StopsUpgrading layout t new.told) → PrintsOpenError e old.written new.written status → ComesToUpgrade layout t old new status
 not_upgraded layout t old new status e whole told answer unread barrier stops prints =
     elim (open_fault e) [
       | inl is ↦ inr (inl (failing layout t old new status e is (stops whole is) unread prints))

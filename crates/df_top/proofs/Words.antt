@@ -1,7 +1,7 @@
 -- What the words ask for, and which clauses of a run speak of them.
 use Rattle.std.proofs.Common.{◌≡◌, ℕ, List, refl, subst}
 use Rattle.df_layout.specs.declared.layout.Layout.{Layout}
-use Rattle.df_top.specs.Mode.{AsksOfFile, IsOfFile, IsRunnable, Means, task_of}
+use Rattle.df_top.specs.Mode.{AsksForFile, AsksOfFile, IsRunnable, Means, task_of}
 use Rattle.df_top.specs.declared.mode.Mode.{Mode}
 use Rattle.df_top.specs.declared.mode.Mode.TheVariants.{Format, Run, Recover, Inspect, Scrub, Workload, Upgrade, Paced}
 use Rattle.df_top.specs.declared.mode.NewFile.{NewFile}
@@ -16,12 +16,12 @@ pub same_cluster_asked : (words : List (List ℕ)) (layout other : Layout) (clus
 same_cluster_asked words layout other cluster another one two = let same : Format layout cluster ≡ Format other another = one_mode words (Format layout cluster) (Format other another) one two in cc
 
 -- and those that ask for a making ask for nothing of a file that is there
-pub makes_alone : (words : List (List ℕ)) (layout : Layout) (cluster : ℕ) (mode : Mode) → Means words (Format layout cluster) → Means words mode → IsOfFile mode → ⊥
-makes_alone words layout cluster mode one other of = subst IsOfFile (one_mode words mode (Format layout cluster) other one) of
+pub makes_alone : (words : List (List ℕ)) (layout : Layout) (cluster : ℕ) (mode : Mode) → Means words (Format layout cluster) → Means words mode → AsksForFile mode → ⊥
+makes_alone words layout cluster mode one other of = subst AsksForFile (one_mode words mode (Format layout cluster) other one) of
 
 -- so do those that ask for an upgrade: they ask for no making
-pub upgrades_alone : (words : List (List ℕ)) (mode : Mode) → Means words Upgrade → Means words mode → IsOfFile mode → ⊥
-upgrades_alone words mode one other of = subst IsOfFile (one_mode words mode Upgrade other one) of
+pub upgrades_alone : (words : List (List ℕ)) (mode : Mode) → Means words Upgrade → Means words mode → AsksForFile mode → ⊥
+upgrades_alone words mode one other of = subst AsksForFile (one_mode words mode Upgrade other one) of
 
 pub makes_none : (words : List (List ℕ)) (layout : Layout) (cluster : ℕ) → Means words (Format layout cluster) → Means words Upgrade → ⊥
 makes_none words layout cluster one other = let no : Format layout cluster ≡ Upgrade = one_mode words (Format layout cluster) Upgrade one other in cc
@@ -29,11 +29,11 @@ makes_none words layout cluster one other = let no : Format layout cluster ≡ U
 -- ---- a word on a file
 
 -- words that ask for such a word ask for no other
-pub of_file_asked : (words : List (List ℕ)) (mode : Mode) → AsksOfFile words → Means words mode → IsOfFile mode
-of_file_asked words mode asks means = subst IsOfFile (one_mode words asks.mode mode asks.means means) asks.of_file
+pub of_file_asked : (words : List (List ℕ)) (mode : Mode) → AsksOfFile words → Means words mode → AsksForFile mode
+of_file_asked words mode asks means = subst AsksForFile (one_mode words asks.mode mode asks.means means) asks.of_file
 
 -- and it can be carried out
-pub runnable : (words : List (List ℕ)) (mode : Mode) → Means words mode → IsOfFile mode → IsRunnable mode
+pub runnable : (words : List (List ℕ)) (mode : Mode) → Means words mode → AsksForFile mode → IsRunnable mode
 runnable words (Format layout cluster) means of = of
 runnable words Upgrade means of = of
 runnable words Run means of = tt
@@ -44,7 +44,7 @@ runnable words (Paced pace) means of = tt
 runnable words (Workload seed count) means of = (means.some, means.million)
 
 -- what is to be done is of the word: it opens or surveys a file
-pub opens_file : (mode : Mode) → task_of mode ≡ task.Open → IsOfFile mode
+pub opens_file : (mode : Mode) → task_of mode ≡ task.Open → AsksForFile mode
 opens_file (Format layout cluster) is = absurd (let no : task.Make (record { layout = layout; cluster = cluster }) ≡ task.Open = is in cc)
 opens_file Upgrade is = absurd (let no : task.Upgrade ≡ task.Open = is in cc)
 opens_file Run is = tt
@@ -80,7 +80,7 @@ makes_file (Paced pace) file is = absurd (let no : task.Open ≡ task.Make file 
 makes_file (Workload seed count) file is = absurd (let no : task.Open ≡ task.Make file = is in cc)
 
 -- so words that make a file ask for nothing of one that is there, and for no upgrade
-pub none_asked : (words : List (List ℕ)) (mode : Mode) (file : NewFile) → task_of mode ≡ task.Make file → Means words mode → (other : Mode) → Means words other → IsOfFile other → ⊥
+pub none_asked : (words : List (List ℕ)) (mode : Mode) (file : NewFile) → task_of mode ≡ task.Make file → Means words mode → (other : Mode) → Means words other → AsksForFile other → ⊥
 none_asked words mode file is means other asks of = makes_alone words file.layout file.cluster other (subst (Means words) (makes_file mode file is) means) asks of
 
 pub no_upgrade_asked : (words : List (List ℕ)) (mode : Mode) (file : NewFile) → task_of mode ≡ task.Make file → Means words mode → Means words Upgrade → ⊥

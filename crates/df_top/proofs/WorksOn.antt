@@ -18,7 +18,7 @@ use Rattle.df_session.specs.Opened.{MendsAll, ToldBy}
 use Rattle.df_session.specs.Session.{Act}
 use Rattle.df_workload.specs.Rounds.{start}
 use Rattle.df_workload.specs.declared.state.State.{State as Run}
-use Rattle.df_session.specs.Endings.{is_disk}
+use Rattle.df_session.specs.Endings.{is_disk_fault}
 use Rattle.df_session.specs.Found.{FoundFile}
 use Rattle.df_session.specs.Laws.{CallsKeep}
 use Rattle.df_session.specs.declared.hearing.Fault.{Fault}
@@ -28,7 +28,7 @@ use Rattle.df_top.specs.Acknowledging.{run_calls}
 use Rattle.df_top.specs.Outside.{Blames, HasCauses, Outside, PrintsLine, status_or}
 use Rattle.df_top.specs.Refusing.{PrintsFault}
 use Rattle.df_top.specs.Working.{WorksThrough}
-use Rattle.df_top.specs.Works.{PrintsRun, Writes, workload_of}
+use Rattle.df_top.specs.Works.{PrintsRun, WritesReport, workload_of}
 use Rattle.df_top.specs.declared.status.Status.{Status}
 use Rattle.df_top.specs.declared.status.Status.TheVariants.{Done, Words, Refused, WriteFault, Memory}
 use Rattle.df_top.proofs.Causes.{calm_done, calm_refused, failed_causes, line_causes, never_printed}
@@ -59,7 +59,7 @@ prints_damaged fault place class old new r status is prints ended =
 -- ---- causes
 
 -- a run that ended so ends with no fault of another
-pub run_causes : {T : Type 0} (run : Run) (t : Replica) (r : Result T Fault) (disk disk_now source sink sink_now : ℕ) (old new : Option (List ℕ)) (status : Status) → PrintsRun run t r old new status → IsBlamed is_disk disk disk_now r
+pub run_causes : {T : Type 0} (run : Run) (t : Replica) (r : Result T Fault) (disk disk_now source sink sink_now : ℕ) (old new : Option (List ℕ)) (status : Status) → PrintsRun run t r old new status → IsBlamed is_disk_fault disk disk_now r
     → Blames WriteFault sink sink_now status → HasCauses (record { disk = disk; source = source; sink = sink }) (record { disk = disk_now; source = source; sink = sink_now }) status
 run_causes run t (Ok x) disk disk_now source sink sink_now old new status printed same blame = line_causes disk disk_now source sink sink_now old new status (workload_text (workload_of run t)) Done calm_done same printed blame
 run_causes run t (Err (Damaged place class)) disk disk_now source sink sink_now old new status printed same blame = line_causes disk disk_now source sink sink_now old new status (damaged_text place class) Refused calm_refused same printed blame
@@ -73,7 +73,7 @@ run_never run t (Err Disk) old new status printed = (λ is. cc (printed.0, is), 
 -- ---- a disk that tells what it shows
 
 -- no run ends there by a step that is damaged
-damaged_never : (run : Run) (t : Replica) (told : Option Told) (failed : Option Act) (old new : Option (List ℕ)) (u : Told) → told ≡ Some u → Writes run t told failed old new Refused → ⊥
+damaged_never : (run : Run) (t : Replica) (told : Option Told) (failed : Option Act) (old new : Option (List ℕ)) (u : Told) → told ≡ Some u → WritesReport run t told failed old new Refused → ⊥
 damaged_never run t told None old new u is writes = writes
 damaged_never run t told (Some a) old new u is writes = none-some u (sym writes.1.step.untold ∙ is)
 
@@ -99,7 +99,7 @@ module _ (seed count : ℕ) (layout : Layout) (t : Told) (old new : Outside) (st
   undamaged : status ≡ Refused → ⊥
   undamaged is =
       damaged_never run last new.told ended.worked.failed old.written new.written tells_on.0 tells_on.1
-      (subst (λ (x : Status). Writes run last new.told ended.worked.failed old.written new.written x) is ended.writes)
+      (subst (λ (x : Status). WritesReport run last new.told ended.worked.failed old.written new.written x) is ended.writes)
 
   calls : CallsKeep t found.replica found.mended found.mending (run_calls ended.worked)
   calls = calls_keep t s mended over last new.told ended.worked.acts ended.worked.answers ended.worked.failed ended.worked.calls image live

@@ -1,14 +1,14 @@
 -- The calls of a session go on, and so do their lines and what they print.
 use Rattle.std.proofs.Common.{◌≡◌, ℕ, ◌-◌, List, [], ◌∷◌, ◌++◌, Option, refl, sym, ◌∙◌, ap, subst, append_assoc}
 use Rattle.df_lines.specs.Grammar.{Said}
-use Rattle.df_lines.specs.Script.{Begins, IsLine}
+use Rattle.df_lines.specs.Script.{BeginsWithLines, IsLine}
 use Rattle.df_lines.specs.Text.{after_line, taken}
 use Rattle.df_disk.specs.Told.{Told}
 use Rattle.df_pace.specs.declared.beat.Beat.{Beat}
 use Rattle.df_pace.specs.declared.pace.Pace.{Pace}
 use Rattle.df_session.specs.Below.{State as Replica}
 use Rattle.df_top.specs.Lines.{Turned, all_said, all_text, said_by, told_by}
-use Rattle.df_top.specs.Pacing.{AreTurns, behind}
+use Rattle.df_top.specs.Pacing.{AreTurns, beat_after}
 
 -- ---- calls more
 
@@ -25,12 +25,12 @@ pub turns_join : (pace : Pace) (b c d : Beat) (s t u : Replica) (old mid new : O
 turns_join pace b c d s t u old mid new [] more are rest =
     subst (λ (e : Beat). AreTurns pace e s old more d u new) are.2 (subst (λ (o : Option Told). AreTurns pace c s o more d u new) are.1 (subst (λ (r : Replica). AreTurns pace c r mid more d u new) are.0 rest))
 turns_join pace b c d s t u old mid new (x ∷ turns) more are rest =
-    (are.0, are.1, are.2, are.3, turns_join pace (behind pace b x.asker are.0 x.answer) c d are.0 t u are.1 mid new turns more are.4 rest)
+    (are.0, are.1, are.2, are.3, turns_join pace (beat_after pace b x.asker are.0 x.answer) c d are.0 t u are.1 mid new turns more are.4 rest)
 
 -- ---- one line more
 
-pub begins_more : (bound budget : ℕ) (text : List ℕ) (asked : List Said) (left : ℕ) (rest : List ℕ) (said : Said) → Begins bound budget text asked left rest → IsLine bound left rest said
-    → Begins bound budget text (asked ++ said ∷ []) (left - taken rest) (after_line rest)
+pub begins_more : (bound budget : ℕ) (text : List ℕ) (asked : List Said) (left : ℕ) (rest : List ℕ) (said : Said) → BeginsWithLines bound budget text asked left rest → IsLine bound left rest said
+    → BeginsWithLines bound budget text (asked ++ said ∷ []) (left - taken rest) (after_line rest)
 begins_more bound budget text [] left rest said begins is = (
   subst (λ (n : ℕ). IsLine bound n text said) begins.0 (subst (λ (t : List ℕ). IsLine bound left t said) begins.1 is),
   ((λ i. begins.0 i - taken (begins.1 i)), λ i. after_line (begins.1 i)),

@@ -7,12 +7,12 @@ use Rattle.df_session.specs.Links.{CallsMade}
 use Rattle.df_workload.specs.declared.state.State.{State as Run}
 use Rattle.df_top.specs.Lines.{act_of, all_acts, all_answers}
 use Rattle.df_top.specs.Pacing.{all_calls}
-use Rattle.df_top.specs.Session.{Ended, State}
+use Rattle.df_top.specs.Session.{Ended, SessionState}
 use Rattle.df_top.specs.Works.{Worked}
 use Rattle.df_top.specs.declared.status.Status.{Status}
 
 -- those of a script
-abbrev pub script_calls : {pace : Pace} {bound : ℕ} {origin now : State} {status : Status} → Ended pace bound origin now status → CallsMade
+abbrev pub script_calls : {pace : Pace} {bound : ℕ} {origin now : SessionState} {status : Status} → Ended pace bound origin now status → CallsMade
 script_calls {pace = pace} {origin = origin} {now = now} {status = status} ended = record {
   from = origin.replica;
   to = now.replica;

@@ -5,14 +5,14 @@ use Rattle.df_disk.specs.Told.{Told}
 use Rattle.df_layout.specs.declared.layout.Layout.{Layout}
 use Rattle.df_lines.specs.Grammar.{Said}
 use Rattle.df_lines.specs.Room.{line_bound}
-use Rattle.df_lines.specs.Script.{Begins}
+use Rattle.df_lines.specs.Script.{BeginsWithLines}
 use Rattle.df_session.specs.Below.{DataFile, IsUnformatted, shape}
 use Rattle.df_theory.specs.Found.{IsFound}
 use Rattle.df_theory.specs.View.{View, boot_of}
 use Rattle.df_units.specs.Bytes.{unit_at}
 use Rattle.df_session.specs.Following.{MayOpen}
 use Rattle.df_top.specs.Formats.{Formats}
-use Rattle.df_top.specs.Mode.{IsOfFile}
+use Rattle.df_top.specs.Mode.{AsksForFile}
 use Rattle.df_top.specs.Outside.{Faults, HasCauses, NoneFailed, Outside}
 use Rattle.df_top.specs.Run.{Runs, ServesIn, script_budget}
 use Rattle.df_top.specs.Upgrading.{RunsUpgrade}
@@ -22,31 +22,31 @@ use Rattle.df_top.specs.declared.status.Status.{Status}
 use Rattle.df_top.specs.declared.status.Status.TheVariants.{Done, Found, Memory, Script}
 
 -- each line of the text is a line of a script, within the bound of a layout and the budget
-pub record IsWhole (layout : Layout) (text : List ℕ) : Type 0 where
+pub record IsWholeScript (layout : Layout) (text : List ℕ) : Type 0 where
   pub lines : List Said
   pub left : ℕ
-  pub begins : Begins (line_bound layout) script_budget text lines left []
+  pub begins : BeginsWithLines (line_bound layout) script_budget text lines left []
 
 -- the script is cut at a line, and only where its text isn't whole
-pub record IsCut (layout : Layout) (left : Option (List ℕ)) (status : Status) : Type 0 where
+pub record IsCutScript (layout : Layout) (left : Option (List ℕ)) (status : Status) : Type 0 where
   pub script : status ≡ Script
-  pub why : (text : List ℕ) → left ≡ Some text → IsWhole layout text → ⊥
+  pub why : (text : List ℕ) → left ≡ Some text → IsWholeScript layout text → ⊥
 
 -- the word was carried out: a script that is whole was read to its end, and a report may list what is to be mended, or blocks that fail
 abbrev pub IsCarriedOut : Mode → Layout → Option (List ℕ) → Status → Type 0
 IsCarriedOut (Format shape cluster) layout left status = ⊥
 IsCarriedOut Upgrade layout left status = ⊥
-IsCarriedOut Run layout left status = (status ≡ Done) ⊎ IsCut layout left status
+IsCarriedOut Run layout left status = (status ≡ Done) ⊎ IsCutScript layout left status
 IsCarriedOut Recover layout left status = status ≡ Done
 IsCarriedOut Inspect layout left status = (status ≡ Done) ⊎ (status ≡ Found)
 IsCarriedOut Scrub layout left status = (status ≡ Done) ⊎ (status ≡ Found)
 IsCarriedOut (Workload seed count) layout left status = status ≡ Done
-IsCarriedOut (Paced pace) layout left status = (status ≡ Done) ⊎ IsCut layout left status
+IsCarriedOut (Paced pace) layout left status = (status ≡ Done) ⊎ IsCutScript layout left status
 
 -- whatever word on a file is run, over a disk that may be opened, while boots are left: where nothing failed, it was carried out, or memory was wanting
 abbrev pub SafeIsRun : Type 0
 SafeIsRun =
-    (mode : Mode) (file : DataFile) (view : View) (t : Told) (old new : Outside) (before now : Faults) (status : Status) → IsOfFile mode → MayOpen file view t → boot_of view < 2 ^ 62 → old.told ≡ Some t
+    (mode : Mode) (file : DataFile) (view : View) (t : Told) (old new : Outside) (before now : Faults) (status : Status) → AsksForFile mode → MayOpen file view t → boot_of view < 2 ^ 62 → old.told ≡ Some t
     → HasCauses before now status → NoneFailed before now → Runs mode old new status → (status ≡ Memory) ⊎ IsCarriedOut mode file.layout old.left status
 
 -- and in rooms of the file's layout it was carried out

@@ -47,7 +47,7 @@ ServesOverHurt mode layout old new status = (file : DataFile) (view : View) (t :
 
 -- ---- the program
 
--- the superblock can't be used, where the version is asked for: that is of damage, and never comes at rest while two copies stand, nor where what is hurt isn't needed
+-- the superblock can't be used, where the version is asked for: that is of damage, and never comes where the four copies were equal and two stand, nor where what is hurt isn't needed
 pub record RefusesCopiesAs (version : ℕ) (file : DataFile) (view : View) (t : Told) (old new : Outside) (status : Status) : Type 0 where
   pub refuses : RefusesSuperblockAs version t old new status
   pub damage : MayBeOfDamage refuses.error

@@ -9,20 +9,20 @@ use Rattle.df_session.specs.Session.{Act}
 use Rattle.df_script_model.specs.Script.{answer_text}
 
 -- the call that a line asks for
-abbrev pub command_of : Said → Command
-command_of (lines.Append client request body) = Append client request body
-command_of (lines.Stage client request body) = Stage client request body
-command_of lines.Flush = Flush
-command_of (lines.Reply op body) = Reply op body
-command_of (lines.Block kind body) = WriteBlock kind body
-command_of (lines.Release address) = Release address
-command_of (lines.Checkpoint root) = Begin root
-command_of lines.Step = Advance
-command_of (lines.Prepare op) = ReadPrepare op
-command_of (lines.Lookup client) = ReadReply client
-command_of (lines.Read address) = ReadBlock address
-command_of lines.Scrub = Scrub
-command_of lines.Recent = Recent
+abbrev pub command_of_line : Said → Command
+command_of_line (lines.Append client request body) = Append client request body
+command_of_line (lines.Stage client request body) = Stage client request body
+command_of_line lines.Flush = Flush
+command_of_line (lines.Reply op body) = Reply op body
+command_of_line (lines.Block kind body) = WriteBlock kind body
+command_of_line (lines.Release address) = Release address
+command_of_line (lines.Checkpoint root) = Begin root
+command_of_line lines.Step = Advance
+command_of_line (lines.Prepare op) = ReadPrepare op
+command_of_line (lines.Lookup client) = ReadReply client
+command_of_line (lines.Read address) = ReadBlock address
+command_of_line lines.Scrub = Scrub
+command_of_line lines.Recent = Recent
 
 -- ---- a call that was made
 
@@ -73,7 +73,7 @@ said_of (Some f) = said_by f.asker
 
 -- an answer has its line where a line of the script asked for it; nothing is printed of the loop's work
 abbrev pub told_by : Asker → Answer → List ℕ
-told_by (ByLine said) answer = answer_text (command_of said) answer
+told_by (ByLine said) answer = answer_text (command_of_line said) answer
 told_by (ByLoop piece) answer = []
 
 -- the lines that the answers print

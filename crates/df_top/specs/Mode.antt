@@ -47,10 +47,10 @@ abbrev pub OneMeaning : Type 0
 OneMeaning = (words : List (List ℕ)) (one other : Mode) → Means words one → Means words other → one ≡ other
 
 -- what is asked for opens a file that is there, or surveys it: none is made, and none is brought to another version
-abbrev pub IsOfFile : Mode → Type 0
-IsOfFile (Format layout cluster) = ⊥
-IsOfFile Upgrade = ⊥
-IsOfFile mode = Unit {0}
+abbrev pub AsksForFile : Mode → Type 0
+AsksForFile (Format layout cluster) = ⊥
+AsksForFile Upgrade = ⊥
+AsksForFile mode = Unit {0}
 
 -- it can be carried out on one: a generated run has a round at least, and no more rounds than the words may ask for
 abbrev pub IsRunnable : Mode → Type 0
@@ -69,7 +69,7 @@ task_of mode = Open
 pub record AsksOfFile (words : List (List ℕ)) : Type 0 where
   pub mode : Mode
   pub means : Means words mode
-  pub of_file : IsOfFile mode
+  pub of_file : AsksForFile mode
 
 -- it executes a script, with work of this pace beside it
 abbrev pub Executes : Mode → Pace → Type 0

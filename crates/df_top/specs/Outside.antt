@@ -10,7 +10,7 @@ pub use Rattle.df_telling.specs.Telling.{Blames}
 
 -- each fault has its cause
 abbrev pub HasCauses : (before now : Faults) → Status → Type 0
-HasCauses before now status = one.HasCauses DiskFault ReadFault WriteFault before now status
+HasCauses before now status = one.HasCausesOfOne DiskFault ReadFault WriteFault before now status
 
 -- a text is printed and the call ends with this status, or a front of the text is there where the sink failed
 abbrev pub PrintsLine : List ℕ → Status → Option (List ℕ) → Option (List ℕ) → Status → Type 0

@@ -2,12 +2,12 @@
 use Rattle.std.specs.Prelude.{◌≡◌, Bool, List, [], ◌∷◌, Option, Some, None}
 use Rattle.df_disk.specs.Told.{Told}
 use Rattle.df_model.specs.Commands.{Answer, Command}
-use Rattle.df_pace.specs.Beats.{behind_line, behind_piece, command_of as piece_command, is_begun, next_piece}
+use Rattle.df_pace.specs.Beats.{beat_after_line, beat_after_piece, command_of_piece as piece_command, is_begun, next_piece}
 use Rattle.df_pace.specs.declared.beat.Beat.{Beat}
 use Rattle.df_pace.specs.declared.pace.Pace.{Pace}
 use Rattle.df_session.specs.Below.{State as Replica, is_running, memory}
 use Rattle.df_session.specs.Links.{AreCalls, Calls, EndsCalls}
-use Rattle.df_top.specs.Lines.{Asker, ByLine, ByLoop, Failing, Turned, act_of, all_acts, all_answers, command_of}
+use Rattle.df_top.specs.Lines.{Asker, ByLine, ByLoop, Failing, Turned, act_of, all_acts, all_answers, command_of_line}
 use Rattle.df_top.specs.declared.status.Status.{Status}
 use Rattle.df_top.specs.declared.status.Status.TheVariants.{WriteFault}
 
@@ -17,18 +17,18 @@ abbrev pub runs : Replica → Bool
 runs s = is_running (memory s).running
 
 -- nothing is due
-abbrev pub IsIdle : Beat → Replica → Type 0
-IsIdle b s = next_piece b.due (runs s) ≡ None
+abbrev pub IsIdleBeat : Beat → Replica → Type 0
+IsIdleBeat b s = next_piece b.due (runs s) ≡ None
 
 -- a line is next where nothing is due, and asks for its call; a piece of the work where it is the next that is due
-abbrev pub IsNext : Beat → Replica → Asker → Command → Type 0
-IsNext b s (ByLine said) c = (c ≡ command_of said) × IsIdle b s
-IsNext b s (ByLoop p) c = (c ≡ piece_command p s.root) × (next_piece b.due (runs s) ≡ Some p)
+abbrev pub IsNextCommand : Beat → Replica → Asker → Command → Type 0
+IsNextCommand b s (ByLine said) c = (c ≡ command_of_line said) × IsIdleBeat b s
+IsNextCommand b s (ByLoop p) c = (c ≡ piece_command p s.root) × (next_piece b.due (runs s) ≡ Some p)
 
 -- where the loop stands after a call that was answered
-abbrev pub behind : Pace → Beat → Asker → Replica → Answer → Beat
-behind pace b (ByLine said) t x = behind_line pace b t.head (runs t)
-behind pace b (ByLoop p) t x = behind_piece p (is_begun x) b t.head
+abbrev pub beat_after : Pace → Beat → Asker → Replica → Answer → Beat
+beat_after pace b (ByLine said) t x = beat_after_line pace b t.head (runs t)
+beat_after pace b (ByLoop p) t x = beat_after_piece p (is_begun x) b t.head
 
 -- ---- calls in turn
 
@@ -36,16 +36,16 @@ behind pace b (ByLoop p) t x = behind_piece p (is_begun x) b t.head
 abbrev pub AreTurns : Pace → (b : Beat) → (s : Replica) → (old : Option Told) → List Turned → (c : Beat) → (t : Replica) → (new : Option Told) → Type 0
 AreTurns pace b s old [] c t new = (t ≡ s) × (new ≡ old) × (c ≡ b)
 AreTurns pace b s old (x ∷ turns) c t new =
-    (u : Replica) × (mid : Option Told) × IsNext b s x.asker x.act.command × Calls x.act s u old mid (Some x.answer) × AreTurns pace (behind pace b x.asker u x.answer) u mid turns c t new
+    (u : Replica) × (mid : Option Told) × IsNextCommand b s x.asker x.act.command × Calls x.act s u old mid (Some x.answer) × AreTurns pace (beat_after pace b x.asker u x.answer) u mid turns c t new
 
 abbrev pub calls_in : (pace : Pace) → (b : Beat) → (s : Replica) → (old : Option Told) → (turns : List Turned) → (c : Beat) → (t : Replica) → (new : Option Told) → AreTurns pace b s old turns c t new → AreCalls s old (all_acts turns) (all_answers turns) t new
 calls_in pace b s old [] c t new are = (are.0, are.1)
-calls_in pace b s old (x ∷ turns) c t new are = (are.0, are.1, are.3, calls_in pace (behind pace b x.asker are.0 x.answer) are.0 are.1 turns c t new are.4)
+calls_in pace b s old (x ∷ turns) c t new are = (are.0, are.1, are.3, calls_in pace (beat_after pace b x.asker are.0 x.answer) are.0 are.1 turns c t new are.4)
 
 -- They were; and the next one was not answered, if there is one. Else all of the work that is due was done, where the sink didn't fail with an answer's line.
 abbrev pub EndTurns : Pace → (b : Beat) → (s : Replica) → (old : Option Told) → List Turned → Option Failing → Status → (t : Replica) → (new : Option Told) → Type 0
-EndTurns pace b s old turns None status t new = (c : Beat) × AreTurns pace b s old turns c t new × ((status ≡ WriteFault → ⊥) → IsIdle c t)
-EndTurns pace b s old turns (Some f) status t new = (c : Beat) × (u : Replica) × (mid : Option Told) × AreTurns pace b s old turns c u mid × IsNext c u f.asker f.act.command × Calls f.act u t mid new None
+EndTurns pace b s old turns None status t new = (c : Beat) × AreTurns pace b s old turns c t new × ((status ≡ WriteFault → ⊥) → IsIdleBeat c t)
+EndTurns pace b s old turns (Some f) status t new = (c : Beat) × (u : Replica) × (mid : Option Told) × AreTurns pace b s old turns c u mid × IsNextCommand c u f.asker f.act.command × Calls f.act u t mid new None
 
 abbrev pub all_calls : (pace : Pace) → (b : Beat) → (s : Replica) → (old : Option Told) → (turns : List Turned) → (failing : Option Failing) → (status : Status) → (t : Replica) → (new : Option Told) → EndTurns pace b s old turns failing status t new → EndsCalls s t old new (all_acts turns) (all_answers turns) (act_of failing)
 all_calls pace b s old turns None status t new ends = calls_in pace b s old turns ends.0 t new ends.1

@@ -13,8 +13,8 @@ use Rattle.df_top.specs.declared.status.Status.{Status}
 use Rattle.df_top.specs.declared.status.Status.TheVariants.{DiskFault, Refused, WriteFault}
 
 -- the refusal's line is printed; a failing disk has none
-abbrev pub PrintsError : OpenError → (old new : Option (List ℕ)) → Status → Type 0
-PrintsError error old new status = telling.PrintsError Refused DiskFault WriteFault error old new status
+abbrev pub PrintsOpenError : OpenError → (old new : Option (List ℕ)) → Status → Type 0
+PrintsOpenError error old new status = telling.PrintsError Refused DiskFault WriteFault error old new status
 
 pub record PrintsFormatError (error : FormatError) (old new : Option (List ℕ)) (status : Status) : Type 0 where
   pub fault : error ≡ formats.DiskFault → (status ≡ DiskFault) × (new ≡ old)

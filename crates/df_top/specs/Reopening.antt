@@ -25,7 +25,7 @@ pub record IsLivedFile (file : DataFile) (logs : List Log) (log : Log) : Type 0 
   pub left : (image : Image) → IsLeft log image → NoChanceOf (format file) log image → (view : View) × Held (shape file) ((format file).unit_at image) view
   pub lived : IsLivedDisk file logs log
 
--- a log was begun anew at the barrier of an open, and these events followed: so it is at each moment of them
+-- a log was restarted at the barrier of an open, and these events followed: so it is at each moment of them
 pub record LivesThrough (file : DataFile) (log : Log) (logs : List Log) (t : Told) (later : Option Told) : Type 0 where
   pub events : List Event
   pub told : later ≡ after_all events (Some (did Sync t))

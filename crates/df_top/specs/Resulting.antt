@@ -16,7 +16,7 @@ use Rattle.df_pace.specs.declared.pace.Pace.{Pace}
 use Rattle.df_script_model.specs.Script.{printed}
 use Rattle.df_session.specs.Links.{command_in}
 use Rattle.df_session.specs.Resulting.{AnswersResult}
-use Rattle.df_top.specs.Lines.{Turned, all_acts, all_answers, all_said, all_text, command_of}
+use Rattle.df_top.specs.Lines.{Turned, all_acts, all_answers, all_said, all_text, command_of_line}
 use Rattle.df_top.specs.Outside.{IsThrough}
 use Rattle.df_top.specs.declared.status.Status.{Status}
 
@@ -27,7 +27,7 @@ joined (text ∷ texts) = text ++ joined texts
 
 -- what these lines print over what is shown, from this state of the machine on, with work of this pace beside them
 abbrev pub text_over : Pace → DataFile → Shown → Work → List Said → List ℕ
-text_over pace file shown w says = joined (paced (shape file) (codec file) pace (start shown w) (map command_of says))
+text_over pace file shown w says = joined (paced (shape file) (codec file) pace (start shown w) (map command_of_line says))
 
 -- what they print over a file whose disk shows this image, in which an open finds this view, and whose boot it raises
 abbrev pub script_text_of : Pace → DataFile → View → Image → List Said → List ℕ
@@ -35,11 +35,11 @@ script_text_of pace file view image says = text_over pace file (shown_of file im
 
 -- beside no work it is what the machine prints of the lines alone
 abbrev pub TextAlone : Type 0
-TextAlone = (file : DataFile) (shown : Shown) (w : Work) (says : List Said) → text_over idle file shown w says ≡ joined (printed (shape file) (codec file) shown w (map command_of says))
+TextAlone = (file : DataFile) (shown : Shown) (w : Work) (says : List Said) → text_over idle file shown w says ≡ joined (printed (shape file) (codec file) shown w (map command_of_line says))
 
 -- all commands of a session: its lines', each followed by those of the loop that are due after it
 abbrev pub commands_over : Pace → DataFile → Shown → Work → List Said → List Command
-commands_over pace file shown w says = all_commands (shape file) (codec file) pace (start shown w) (map command_of says)
+commands_over pace file shown w says = all_commands (shape file) (codec file) pace (start shown w) (map command_of_line says)
 
 -- So it is of these calls: they answer and print what the machine does, and they are the first of all commands that their lines come to; all of them where nothing failed.
 pub record IsResultOf (pace : Pace) (file : DataFile) (shown : Shown) (w : Work) (turns : List Turned) (status : Status) : Type 0 where

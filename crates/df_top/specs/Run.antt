@@ -22,14 +22,14 @@ use Rattle.df_session.specs.Links.{events_made}
 use Rattle.df_session.specs.Laws.{CallsKeep}
 use Rattle.df_upgrade.specs.Below.{RefusesAs}
 use Rattle.df_top.specs.Acknowledging.{script_calls}
-use Rattle.df_top.specs.Mode.{IsOfFile}
+use Rattle.df_top.specs.Mode.{AsksForFile}
 use Rattle.df_top.specs.Opening.{FailsToFind, IsSilent, PrintsRefusal, RefusesFile}
 use Rattle.df_top.specs.Outside.{Outside}
 use Rattle.df_top.specs.Reporting.{Inspects, Recovers}
 use Rattle.df_top.specs.Scrubs.{ScrubsFile}
 use Rattle.df_top.specs.Working.{WorksThrough}
 use Rattle.df_top.specs.Resulting.{IsResultOf}
-use Rattle.df_top.specs.Session.{Ended, State}
+use Rattle.df_top.specs.Session.{Ended, SessionState}
 use Rattle.df_top.specs.Usage.{usage}
 use Rattle.df_top.specs.declared.mode.Mode.{Mode}
 use Rattle.df_top.specs.declared.mode.Mode.TheVariants.{Format, Run, Recover, Inspect, Scrub, Workload, Upgrade, Paced}
@@ -47,13 +47,13 @@ script_budget = 2 ^ 32
 -- ---- a session
 
 -- a state of a session that was just opened: nothing was executed
-abbrev pub start : (told : Option Told) → Outside → Replica → State
+abbrev pub start : (told : Option Told) → Outside → Replica → SessionState
 start told old replica = record { outside = record { told = told; left = old.left; written = old.written }; text = old.left; budget = script_budget; lines = 0; replica = replica; beat = started replica.head }
 
 -- The script is served, with work of this pace beside it, on a file whose boot was raised; what all these calls keep is what calls on an open file keep, and what is answered and printed, and which work is done, is a
 -- function of what the disk shows at first, and of the lines. No step finds the superblock damaged that it wrote, since the disk tells what it shows.
 pub record ServesScript (pace : Pace) (layout : Layout) (t : Told) (found : FoundFile layout t) (old new : Outside) (status : Status) : Type 0 where
-  pub last : State
+  pub last : SessionState
   pub last_is : last.outside ≡ new
   pub session : Ended pace (line_bound layout) (start found.mended old found.replica) last status
   pub result : (view : View) (shown : Shown) → IsFound (shape found.replica.file) (unit_at found.replica.file.layout found.replica.file.cluster t.shown) view → AgreeShown found.replica.file.layout (shown_of found.replica.file t.shown) shown
@@ -81,7 +81,7 @@ ComesTo mode layout t old new status = RefusesFile layout t old new status ⊎ F
 
 -- what a word does with a file in rooms of a layout, if it works on one
 abbrev pub Does : Mode → Layout → Told → Outside → Outside → Status → Type 0
-Does mode layout t old new status = IsOfFile mode × ComesTo mode layout t old new status
+Does mode layout t old new status = AsksForFile mode × ComesTo mode layout t old new status
 
 -- and so it does over a disk that tells what it shows
 abbrev pub ServesIn : Mode → Layout → Outside → Outside → Status → Type 0

@@ -5,7 +5,7 @@ use Rattle.df_disk.specs.Told.{Told}
 use Rattle.df_layout.specs.declared.damage.Class.{Class}
 use Rattle.df_layout.specs.declared.places.Place.{Place}
 use Rattle.df_lines.specs.Room.{IsAtEnd}
-use Rattle.df_lines.specs.Script.{Begins, IsRefused}
+use Rattle.df_lines.specs.Script.{BeginsWithLines, IsRefused}
 use Rattle.df_lines.specs.Text.{line_of, unread}
 use Rattle.df_model.specs.Commands.{Command}
 use Rattle.df_pace.specs.declared.beat.Beat.{Beat}
@@ -13,7 +13,7 @@ use Rattle.df_pace.specs.declared.pace.Pace.{Pace}
 use Rattle.df_session.specs.Below.{State as Replica}
 use Rattle.df_session.specs.Session.{Act}
 use Rattle.df_script_model.specs.Texts.{damaged_text}
-use Rattle.df_session.specs.Endings.{IsDamaged}
+use Rattle.df_session.specs.Endings.{IsDamagedStep}
 use Rattle.df_top.specs.Lines.{Failing, Turned, act_of, all_said, printed, said_of}
 use Rattle.df_top.specs.Outside.{Outside}
 use Rattle.df_top.specs.Pacing.{AreTurns, EndTurns}
@@ -23,7 +23,7 @@ use Rattle.df_top.specs.declared.status.Status.TheVariants.{Done, Script, Refuse
 
 -- What a session has before it: the outside, the text that is unread where the source tells it, how many bytes may still be taken, how many lines were
 -- executed, the replica, and where the loop beside the script stands.
-pub record State : Type 0 where
+pub record SessionState : Type 0 where
   pub outside : Outside
   pub text : Option (List ℕ)
   pub budget : ℕ
@@ -31,7 +31,7 @@ pub record State : Type 0 where
   pub replica : Replica
   pub beat : Beat
 
-abbrev pub state : Outside → Session → State
+abbrev pub state : Outside → Session → SessionState
 state outside s = record { outside = outside; text = unread s.lines.reading.held outside.left; budget = s.lines.reading.budget; lines = s.count; replica = s.replica; beat = s.beat }
 
 -- a source that has said that it has ended has nothing left
@@ -41,8 +41,8 @@ EndedIsEnd s left = IsTrue s.lines.ended → IsAtEnd left
 -- ---- executed, and ended
 
 -- from origin to now these calls were made and answered: their lines are the first ones of the text, and what the lines' answers print is written
-pub record Executed (pace : Pace) (bound : ℕ) (origin now : State) (turns : List Turned) : Type 0 where
-  pub text : (text : List ℕ) → origin.text ≡ Some text → (rest : List ℕ) × (now.text ≡ Some rest) × Begins bound origin.budget text (all_said turns) now.budget rest
+pub record Executed (pace : Pace) (bound : ℕ) (origin now : SessionState) (turns : List Turned) : Type 0 where
+  pub text : (text : List ℕ) → origin.text ≡ Some text → (rest : List ℕ) × (now.text ≡ Some rest) × BeginsWithLines bound origin.budget text (all_said turns) now.budget rest
   pub written : Appends origin.outside.written now.outside.written (printed origin.lines turns false)
   pub lines : now.lines ≡ origin.lines + length (all_said turns)
   pub calls : AreTurns pace origin.beat origin.replica origin.outside.told turns now.beat now.replica now.outside.told
@@ -64,7 +64,7 @@ pub record IsDamagedLine (command : Command) (told : Option Told) (line : List �
   pub place : Place
   pub class : Class
   pub is : line ≡ damaged_text place class
-  pub step : IsDamaged command told place class
+  pub step : IsDamagedStep command told place class
 
 -- What is written at the end, and which call was not answered: all that is to be printed, or a front of it where the sink failed. After a step that is
 -- damaged comes its line.
@@ -80,11 +80,11 @@ EndsWith n old new turns failed cut status = ⊥
 
 -- from origin to now a session was executed to its end: the lines of these calls are the first ones of the text, each call was answered, and then one more was not, or
 -- there was none
-pub record Ended (pace : Pace) (bound : ℕ) (origin now : State) (status : Status) : Type 0 where
+pub record Ended (pace : Pace) (bound : ℕ) (origin now : SessionState) (status : Status) : Type 0 where
   pub turns : List Turned
   pub failing : Option Failing
   pub cut : Bool
   pub text : (text : List ℕ) → origin.text ≡ Some text
-      → (budget : ℕ) × (rest : List ℕ) × Begins bound origin.budget text (all_said turns ++ said_of failing) budget rest × EndsText bound budget rest now.outside.left cut status
+      → (budget : ℕ) × (rest : List ℕ) × BeginsWithLines bound origin.budget text (all_said turns ++ said_of failing) budget rest × EndsText bound budget rest now.outside.left cut status
   pub written : EndsWith origin.lines origin.outside now.outside turns (act_of failing) cut status
   pub calls : EndTurns pace origin.beat origin.replica origin.outside.told turns failing status now.replica now.outside.told

@@ -7,7 +7,7 @@ use Rattle.df_lines.specs.Grammar.{Said}
 use Rattle.df_lines.specs.Script.{IsLine}
 use Rattle.df_lines.specs.Text.{after_line, taken}
 use Rattle.df_model.specs.Commands.{Answer, Command}
-use Rattle.df_pace.specs.Beats.{behind_piece, is_begun}
+use Rattle.df_pace.specs.Beats.{beat_after_piece, is_begun}
 use Rattle.df_pace.specs.declared.beat.Beat.{Beat}
 use Rattle.df_pace.specs.declared.beat.Piece.{Piece}
 use Rattle.df_pace.specs.declared.pace.Pace.{Pace}
@@ -15,32 +15,32 @@ use Rattle.df_session.specs.Below.{State as Replica}
 use Rattle.df_script_model.specs.Script.{answer_text}
 use Rattle.df_session.specs.Links.{Makes}
 use Rattle.df_top.specs.Lines.{Turned}
-use Rattle.df_top.specs.Session.{Ended, Executed, IsDamagedLine, State}
+use Rattle.df_top.specs.Session.{Ended, Executed, IsDamagedLine, SessionState}
 use Rattle.df_top.specs.declared.turns.Turn.{Turn}
 use Rattle.df_top.specs.declared.turns.Turn.TheVariants.{GoesOn as Goes, Ends as EndsBy}
 use Rattle.df_top.specs.declared.status.Status.{Status}
 use Rattle.df_top.specs.declared.status.Status.TheVariants.{Script, Refused, DiskFault, WriteFault}
 
 -- the call was made and was answered
-abbrev pub IsAnswered : Command → (s t : Replica) → (old new : Option Told) → (List ℕ → Type 0) → Type 0
-IsAnswered command s t old new Printed = (x : Answer) × Makes command s t old new (Some x) × Printed (answer_text command x)
+abbrev pub IsAnsweredCall : Command → (s t : Replica) → (old new : Option Told) → (List ℕ → Type 0) → Type 0
+IsAnsweredCall command s t old new Printed = (x : Answer) × Makes command s t old new (Some x) × Printed (answer_text command x)
 
 -- it is a step that is damaged, and has no answer but the line that ends the session
 abbrev pub EndsDamaged : Command → (s t : Replica) → (old new : Option Told) → (List ℕ → Type 0) → Type 0
 EndsDamaged command s t old new Printed = (line : List ℕ) × Makes command s t old new None × IsDamagedLine command new line × Printed line
 
 -- the call was made and its answer is printed; or the disk failed in it; or it is a step that is damaged; or the sink failed with its line
-abbrev pub Answers : Command → (s t : Replica) → (old new : Option Told) → (written took : Option (List ℕ)) → Turn → Type 0
-Answers command s t old new written took Goes = IsAnswered command s t old new (λ line. Appends written took line)
-Answers command s t old new written took (EndsBy DiskFault) = Makes command s t old new None × (took ≡ written)
-Answers command s t old new written took (EndsBy Refused) = EndsDamaged command s t old new (λ line. Appends written took line)
-Answers command s t old new written took (EndsBy WriteFault) = IsAnswered command s t old new (λ line. AppendsPart written took line) ⊎ EndsDamaged command s t old new (λ line. AppendsPart written took line)
-Answers command s t old new written took (EndsBy status) = ⊥
+abbrev pub AnswersCommand : Command → (s t : Replica) → (old new : Option Told) → (written took : Option (List ℕ)) → Turn → Type 0
+AnswersCommand command s t old new written took Goes = IsAnsweredCall command s t old new (λ line. Appends written took line)
+AnswersCommand command s t old new written took (EndsBy DiskFault) = Makes command s t old new None × (took ≡ written)
+AnswersCommand command s t old new written took (EndsBy Refused) = EndsDamaged command s t old new (λ line. Appends written took line)
+AnswersCommand command s t old new written took (EndsBy WriteFault) = IsAnsweredCall command s t old new (λ line. AppendsPart written took line) ⊎ EndsDamaged command s t old new (λ line. AppendsPart written took line)
+AnswersCommand command s t old new written took (EndsBy status) = ⊥
 
 -- A piece of the loop's work was done: the call was made, and nothing is printed of its answer; or the disk failed in it; or it is a step that is damaged, whose line
 -- ends the session; or the sink failed with that.
 abbrev pub Passes : Piece → Command → (s t : Replica) → (old new : Option Told) → (written took : Option (List ℕ)) → (b c : Beat) → Turn → Type 0
-Passes p command s t old new written took b c Goes = (x : Answer) × Makes command s t old new (Some x) × (took ≡ written) × (c ≡ behind_piece p (is_begun x) b t.head)
+Passes p command s t old new written took b c Goes = (x : Answer) × Makes command s t old new (Some x) × (took ≡ written) × (c ≡ beat_after_piece p (is_begun x) b t.head)
 Passes p command s t old new written took b c (EndsBy DiskFault) = Makes command s t old new None × (took ≡ written)
 Passes p command s t old new written took b c (EndsBy Refused) = EndsDamaged command s t old new (λ line. Appends written took line)
 Passes p command s t old new written took b c (EndsBy WriteFault) = EndsDamaged command s t old new (λ line. AppendsPart written took line)
@@ -53,17 +53,17 @@ RefusesLine n old new WriteFault = AppendsPart old new (script_text (n + 1))
 RefusesLine n old new status = ⊥
 
 -- the next line was taken, and says this
-abbrev pub Takes : (bound : ℕ) → State → Said → Option (List ℕ) → ℕ → Type 0
-Takes bound old said text budget =
+abbrev pub TakesNextLine : (bound : ℕ) → SessionState → Said → Option (List ℕ) → ℕ → Type 0
+TakesNextLine bound old said text budget =
     (rest : List ℕ) → old.text ≡ Some rest → IsLine bound old.budget rest said × (text ≡ Some (after_line rest)) × (budget ≡ old.budget - taken rest)
 
 -- the session goes on with some calls more, or ends
-abbrev pub GoesOn : Pace → (bound : ℕ) → (old new : State) → Type 0
-GoesOn pace bound old new = (origin : State) (turns : List Turned) → Executed pace bound origin old turns → (more : List Turned) × Executed pace bound origin new (turns ++ more)
+abbrev pub SessionGoesOn : Pace → (bound : ℕ) → (old new : SessionState) → Type 0
+SessionGoesOn pace bound old new = (origin : SessionState) (turns : List Turned) → Executed pace bound origin old turns → (more : List Turned) × Executed pace bound origin new (turns ++ more)
 
-abbrev pub EndsIn : Pace → (bound : ℕ) → (old new : State) → Status → Type 0
-EndsIn pace bound old new status = (origin : State) (turns : List Turned) → Executed pace bound origin old turns → Ended pace bound origin new status
+abbrev pub EndsIn : Pace → (bound : ℕ) → (old new : SessionState) → Status → Type 0
+EndsIn pace bound old new status = (origin : SessionState) (turns : List Turned) → Executed pace bound origin old turns → Ended pace bound origin new status
 
-abbrev pub Turns : Pace → (bound : ℕ) → (old new : State) → Turn → Type 0
-Turns pace bound old new Goes = GoesOn pace bound old new
+abbrev pub Turns : Pace → (bound : ℕ) → (old new : SessionState) → Turn → Type 0
+Turns pace bound old new Goes = SessionGoesOn pace bound old new
 Turns pace bound old new (EndsBy status) = EndsIn pace bound old new status

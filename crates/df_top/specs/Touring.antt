@@ -35,8 +35,8 @@ abbrev pub TakesStep : (s t : Replica) → Option Told → (old new : Option (Li
 TakesStep s t told old new turn = ((x : Scrubbed) × IsScrub s t told (Ok x) × TellsStep x old new turn) ⊎ ((turn ≡ Ends DiskFault) × (new ≡ old) × (t ≡ record s { live = false }))
 
 -- a tour has found so many failing blocks, and each of them has its line
-abbrev pub TellsFound : ℕ → (old new : Option (List ℕ)) → Type 0
-TellsFound found old new = (listed : List Finding) × (length listed ≡ found) × Appends old new (failing_texts listed)
+abbrev pub TellsTourFound : ℕ → (old new : Option (List ℕ)) → Type 0
+TellsTourFound found old new = (listed : List Finding) × (length listed ≡ found) × Appends old new (failing_texts listed)
 
 -- a tour ends with no other status
 abbrev pub EndsTour : Status → Type 0

@@ -1,7 +1,7 @@
 -- What the functions that serve a script say of their session.
 use Rattle.std.specs.Prelude.{◌≡◌, ◌≤◌, ◌+◌, ◌^◌, ℕ, Bool, true, false, List, Option, Some, None, Result, Ok, Err}
 use Rattle.df_base.specs.Streams.{Appends, AppendsPart}
-use Rattle.df_inspect.specs.Answers.{text_of}
+use Rattle.df_inspect.specs.Answers.{line_of_answer}
 use Rattle.df_disk.specs.Told.{Told}
 use Rattle.df_model.specs.Commands.{Answer as Said, Command, ReadBlock, ReadPrepare, ReadReply}
 use Rattle.df_model.specs.declared.commands.Answer.{Answer}
@@ -42,10 +42,10 @@ IsPrinted text old new (Ends WriteFault) = AppendsPart old new text
 IsPrinted text old new (Ends status) = ⊥
 
 -- how what was heard of an answer is told: it has its line, and the session goes on; or the session ends, by the line of a step that is damaged, or by none where the disk failed
-abbrev pub Tells : Command → Result Answer Fault → (old new : Option (List ℕ)) → Turn → Type 0
-Tells command (Ok answer) old new turn = IsPrinted (text_of command answer) old new turn
-Tells command (Err fault) old new GoesOn = ⊥
-Tells command (Err fault) old new (Ends status) = PrintsFault fault old new status
+abbrev pub TellsAnswer : Command → Result Answer Fault → (old new : Option (List ℕ)) → Turn → Type 0
+TellsAnswer command (Ok answer) old new turn = IsPrinted (line_of_answer command answer) old new turn
+TellsAnswer command (Err fault) old new GoesOn = ⊥
+TellsAnswer command (Err fault) old new (Ends status) = PrintsFault fault old new status
 
 -- the call lends the unit that it reads
 abbrev pub LendsUnit : Command → Type 0
@@ -55,9 +55,9 @@ LendsUnit (ReadBlock address) = Unit {0}
 LendsUnit command = ⊥
 
 -- a checkpoint was begun by a call that answered so
-abbrev pub begun_in : Answer → Bool
-begun_in (answers.Begin (Ok blocks)) = true
-begun_in answer = false
+abbrev pub has_begun_in : Answer → Bool
+has_begun_in (answers.Begin (Ok blocks)) = true
+has_begun_in answer = false
 
 -- what a piece of the work comes to: whether a checkpoint was begun by it, or why no call may follow
 abbrev pub DoesPiece : Command → (s t : Replica) → (old new : Option Told) → Result Bool Fault → Type 0
@@ -65,13 +65,13 @@ DoesPiece command s t old new (Ok begun) = (x : Said) × Makes command s t old n
 DoesPiece command s t old new (Err fault) = Makes command s t old new None × EndsBy fault command new
 
 -- the reader, how many lines were executed and the pace are as they were
-pub record Leaves (old new : Session) : Type 0 where
+pub record LeavesReader (old new : Session) : Type 0 where
   pub lines : new.lines ≡ old.lines
   pub count : new.count ≡ old.count
   pub pace : new.pace ≡ old.pace
 
 -- calls may go on, and no more lines were executed than bytes were taken
-pub record IsReady (s : Session) (left : Option (List ℕ)) : Type 0 where
+pub record IsReadySession (s : Session) (left : Option (List ℕ)) : Type 0 where
   pub live : s.replica.live ≡ true
   pub count : s.count + s.lines.reading.budget ≤ 2 ^ 33
   pub at_end : EndedIsEnd s left

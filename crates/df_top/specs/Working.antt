@@ -9,7 +9,7 @@ use Rattle.df_session.specs.Found.{FoundFile}
 use Rattle.df_session.specs.Laws.{CallsKeep}
 use Rattle.df_top.specs.Acknowledging.{run_calls}
 use Rattle.df_top.specs.Outside.{Outside}
-use Rattle.df_top.specs.Works.{Worked, Writes}
+use Rattle.df_top.specs.Works.{Worked, WritesReport}
 use Rattle.df_top.specs.declared.status.Status.{Status}
 use Rattle.df_top.specs.declared.status.Status.TheVariants.{Refused}
 
@@ -19,6 +19,6 @@ pub record WorksThrough (seed count : ℕ) (layout : Layout) (t : Told) (found :
   pub run : Run
   pub last : Replica
   pub worked : Worked (start seed count layout.clients) found.replica found.mended run last new.told
-  pub written : Writes run last new.told worked.failed old.written new.written status
+  pub written : WritesReport run last new.told worked.failed old.written new.written status
   pub calls : CallsKeep t found.replica found.mended found.mending (run_calls worked)
   pub undamaged : status ≡ Refused → ⊥

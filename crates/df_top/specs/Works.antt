@@ -41,9 +41,9 @@ pub record CanGoOn (run : Run) (s : Replica) : Type 0 where
   pub runs : run.running ≡ true → IsRunning s
 
 -- where the flag of the run is set after an answer, a checkpoint runs, if that was so before
-abbrev pub RunsOn : Command → (s t : Replica) → Result Outcome Fault → Type 0
-RunsOn command s t (Ok outcome) = (flag : Bool) → (flag ≡ true → IsRunning s) → runs_after command outcome flag ≡ true → IsRunning t
-RunsOn command s t (Err e) = Unit {0}
+abbrev pub StillRuns : Command → (s t : Replica) → Result Outcome Fault → Type 0
+StillRuns command s t (Ok outcome) = (flag : Bool) → (flag ≡ true → IsRunning s) → runs_after command outcome flag ≡ true → IsRunning t
+StillRuns command s t (Err e) = Unit {0}
 
 -- a step is refused only where no checkpoint runs; one that isn't the last leaves one block less to write, and the last one none
 abbrev pub StepsOn : (s t : Replica) → Result Outcome Fault → Type 0
@@ -111,13 +111,13 @@ abbrev pub workload_of : Run → Replica → Workload
 workload_of run t = workload_with run t.head t.replies t.fields.sequence
 
 -- What is written at the end: the report, nothing where the disk failed, the line of a step that is damaged; or a front of it where the sink failed.
-abbrev pub Writes : Run → Replica → (told : Option Told) → (failed : Option Act) → (old new : Option (List ℕ)) → Status → Type 0
-Writes run t told None old new ends.Done = Appends old new (workload_text (workload_of run t))
-Writes run t told None old new ends.WriteFault = AppendsPart old new (workload_text (workload_of run t))
-Writes run t told (Some a) old new ends.DiskFault = new ≡ old
-Writes run t told (Some a) old new ends.Refused = (line : List ℕ) × IsDamagedLine a.command told line × Appends old new line
-Writes run t told (Some a) old new ends.WriteFault = (line : List ℕ) × IsDamagedLine a.command told line × AppendsPart old new line
-Writes run t told failed old new status = ⊥
+abbrev pub WritesReport : Run → Replica → (told : Option Told) → (failed : Option Act) → (old new : Option (List ℕ)) → Status → Type 0
+WritesReport run t told None old new ends.Done = Appends old new (workload_text (workload_of run t))
+WritesReport run t told None old new ends.WriteFault = AppendsPart old new (workload_text (workload_of run t))
+WritesReport run t told (Some a) old new ends.DiskFault = new ≡ old
+WritesReport run t told (Some a) old new ends.Refused = (line : List ℕ) × IsDamagedLine a.command told line × Appends old new line
+WritesReport run t told (Some a) old new ends.WriteFault = (line : List ℕ) × IsDamagedLine a.command told line × AppendsPart old new line
+WritesReport run t told failed old new status = ⊥
 
 -- how many steps a run has at its end: one for each block of the running trailer, and the last
 abbrev pub steps_left : Run → Replica → ℕ

@@ -3,13 +3,13 @@ ghost use Rattle.std.specs.Prelude.{◌≡◌, ◌<◌, Option, List, ℕ, Some,
 ghost use Rattle.df_base.specs.Causes.{IsBlamed};
 ghost use Rattle.df_inspect.specs.Answers.{command_of as call_of};
 ghost use Rattle.df_model.specs.Commands.{Begin, Scrub};
-ghost use Rattle.df_pace.specs.Beats.{behind_piece, command_of, is_begun, next_piece, pieces_left};
+ghost use Rattle.df_pace.specs.Beats.{beat_after_piece, command_of_piece, is_begun, next_piece, pieces_left};
 ghost use Rattle.df_session.specs.Calls.{HasAnswer};
-ghost use Rattle.df_session.specs.Endings.{is_disk};
-ghost use Rattle.df_top.specs.Pacing.{IsIdle, runs};
+ghost use Rattle.df_session.specs.Endings.{is_disk_fault};
+ghost use Rattle.df_top.specs.Pacing.{IsIdleBeat, runs};
 ghost use Rattle.df_top.specs.Session.{state};
 ghost use Rattle.df_top.specs.Step.{Passes, Turns};
-ghost use Rattle.df_top.specs.Turning.{BlamesIfEnds, DoesPiece, Leaves, OnGoing, begun_in};
+ghost use Rattle.df_top.specs.Turning.{BlamesIfEnds, DoesPiece, LeavesReader, OnGoing, has_begun_in};
 
 use crate::session::Session;
 use crate::status::Status;
@@ -39,7 +39,7 @@ fn make_piece<D: Disk>(disk: &mut D, replica: &mut Replica, command: Command) ->
     requires live { replica.old.live ≡ true }
     requires answer { HasAnswer (call_of command) }
     ensures does { DoesPiece (call_of command.entry) replica.old replica.new (D.told disk.old) (D.told disk.new) result }
-    ensures disk { IsBlamed is_disk (D.faults disk.old) (D.faults disk.new) result }
+    ensures disk { IsBlamed is_disk_fault (D.faults disk.old) (D.faults disk.new) result }
 {
     match make(disk, replica, command) {
         Ok(answer) => Ok(is_begun(&answer)),
@@ -49,7 +49,7 @@ fn make_piece<D: Disk>(disk: &mut D, replica: &mut Replica, command: Command) ->
 
 // Whether a checkpoint was begun by a call that answered so.
 fn is_begun(answer: &Answer) -> bool
-    ensures { result ≡ begun_in answer.now }
+    ensures { result ≡ has_begun_in answer.now }
 {
     matches!(answer, Answer::Begin(Ok(_)))
 }
@@ -58,7 +58,7 @@ fn is_begun(answer: &Answer) -> bool
 fn begin<D: Disk>(disk: &mut D, replica: &mut Replica) -> Result<bool, Fault>
     requires live { replica.old.live ≡ true }
     ensures does { DoesPiece (Begin replica.old.root) replica.old replica.new (D.told disk.old) (D.told disk.new) result }
-    ensures disk { IsBlamed is_disk (D.faults disk.old) (D.faults disk.new) result }
+    ensures disk { IsBlamed is_disk_fault (D.faults disk.old) (D.faults disk.new) result }
 {
     let root = durable_root(replica);
     let root = root.as_slice();
@@ -69,7 +69,7 @@ fn begin<D: Disk>(disk: &mut D, replica: &mut Replica) -> Result<bool, Fault>
 fn scrub<D: Disk>(disk: &mut D, replica: &mut Replica) -> Result<bool, Fault>
     requires live { replica.old.live ≡ true }
     ensures does { DoesPiece Scrub replica.old replica.new (D.told disk.old) (D.told disk.new) result }
-    ensures disk { IsBlamed is_disk (D.faults disk.old) (D.faults disk.new) result }
+    ensures disk { IsBlamed is_disk_fault (D.faults disk.old) (D.faults disk.new) result }
 {
     match replica.scrub_step(disk) {
         Ok(_) => Ok(false),
@@ -80,8 +80,8 @@ fn scrub<D: Disk>(disk: &mut D, replica: &mut Replica) -> Result<bool, Fault>
 // Makes the call of a piece, and says whether a checkpoint was begun by it.
 fn do_piece<D: Disk>(disk: &mut D, replica: &mut Replica, piece: Piece) -> Result<bool, Fault>
     requires live { replica.old.live ≡ true }
-    ensures does { DoesPiece (command_of piece replica.old.root) replica.old replica.new (D.told disk.old) (D.told disk.new) result }
-    ensures disk { IsBlamed is_disk (D.faults disk.old) (D.faults disk.new) result }
+    ensures does { DoesPiece (command_of_piece piece replica.old.root) replica.old replica.new (D.told disk.old) (D.told disk.new) result }
+    ensures disk { IsBlamed is_disk_fault (D.faults disk.old) (D.faults disk.new) result }
 {
     match piece {
         Piece::Begin => begin(disk, replica),
@@ -93,9 +93,9 @@ fn do_piece<D: Disk>(disk: &mut D, replica: &mut Replica, piece: Piece) -> Resul
 // Does a piece: the session goes on, or ends with the call, by the line of a step that is damaged or by none.
 fn pass<D: Disk, W: Sink>(disk: &mut D, sink: &mut W, session: &mut Session, piece: Piece) -> Turn
     requires live { session.old.replica.live ≡ true }
-    ensures passes { Passes piece (command_of piece session.old.replica.root) session.old.replica session.new.replica (D.told disk.old) (D.told disk.new) (W.written sink.old) (W.written sink.new) session.old.beat session.new.beat result }
+    ensures passes { Passes piece (command_of_piece piece session.old.replica.root) session.old.replica session.new.replica (D.told disk.old) (D.told disk.new) (W.written sink.old) (W.written sink.new) session.old.beat session.new.beat result }
     ensures live { OnGoing result (session.new.replica.live ≡ true) }
-    ensures leaves { Leaves session.old session.new }
+    ensures leaves { LeavesReader session.old session.new }
     ensures disk { BlamesIfEnds Status.DiskFault (D.faults disk.old) (D.faults disk.new) result }
     ensures source { (faults : ℕ) → BlamesIfEnds Status.ReadFault faults faults result }
     ensures sink { BlamesIfEnds Status.WriteFault (W.faults sink.old) (W.faults sink.new) result }
@@ -122,7 +122,7 @@ fn do_next<D: Disk, W: Sink>(
     ensures turns { (left : Option (List ℕ)) (bound : ℕ) → Turns session.old.pace bound
         (state (record { told = D.told disk.old; left = left; written = W.written sink.old }) session.old)
         (state (record { told = D.told disk.new; left = left; written = W.written sink.new }) session.new) result }
-    ensures leaves { Leaves session.old session.new }
+    ensures leaves { LeavesReader session.old session.new }
     ensures live { OnGoing result (session.new.replica.live ≡ true) }
     ensures fewer { OnGoing result (pieces_left session.new.beat.due < pieces_left session.old.beat.due) }
     ensures disk { BlamesIfEnds Status.DiskFault (D.faults disk.old) (D.faults disk.new) result }
@@ -145,8 +145,8 @@ pub fn work<D: Disk, W: Sink>(disk: &mut D, sink: &mut W, session: &mut Session)
     ensures turns { (left : Option (List ℕ)) (bound : ℕ) → Turns session.old.pace bound
         (state (record { told = D.told disk.old; left = left; written = W.written sink.old }) session.old)
         (state (record { told = D.told disk.new; left = left; written = W.written sink.new }) session.new) result }
-    ensures idle { OnGoing result (IsIdle session.new.beat session.new.replica) }
-    ensures leaves { Leaves session.old session.new }
+    ensures idle { OnGoing result (IsIdleBeat session.new.beat session.new.replica) }
+    ensures leaves { LeavesReader session.old session.new }
     ensures live { OnGoing result (session.new.replica.live ≡ true) }
     ensures disk { BlamesIfEnds Status.DiskFault (D.faults disk.old) (D.faults disk.new) result }
     ensures source { (faults : ℕ) → BlamesIfEnds Status.ReadFault faults faults result }

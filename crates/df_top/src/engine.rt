@@ -6,7 +6,7 @@ ghost use Rattle.df_layout.specs.declared.layout.Layout.{Layout};
 ghost use Rattle.df_lines.specs.Room.{IsFresh, line_bound};
 ghost use Rattle.df_units.specs.Within.{AddsWithin};
 ghost use Rattle.df_top.specs.declared.mode.Mode.{Mode};
-ghost use Rattle.df_top.specs.Mode.{AsksScript, IsOfFile, IsRunnable, Means, MeansNothing, ReadsScript};
+ghost use Rattle.df_top.specs.Mode.{AsksForFile, AsksScript, IsRunnable, Means, MeansNothing, ReadsScript};
 ghost use Rattle.df_top.specs.Formats.{Formats, MakesFile};
 ghost use Rattle.df_top.specs.Hurting.{RunsOverHurt};
 ghost use Rattle.df_top.specs.Outside.{Blames, HasCauses, around, counts};
@@ -113,7 +113,7 @@ pub fn run<D: Disk, S: Source, W: Sink>(
     // whose boot is raised, as each word does it but `inspect`, which prints the report of what it finds, and adds nothing but the sync of its barrier; `scrub` prints
     // the referenced blocks that fail; `workload` carries out a generated run as the machine does, keeps what was answered, and
     // prints what it did.
-    ensures runs { (mode : Mode) → IsOfFile mode → Means (map string_bytes words.now) mode → Runs mode
+    ensures runs { (mode : Mode) → AsksForFile mode → Means (map string_bytes words.now) mode → Runs mode
         (record { told = D.told disk.old; left = S.left source.old; written = W.written sink.old })
         (record { told = D.told disk.new; left = S.left source.new; written = W.written sink.new }) result }
     ensures inspects { Means (map string_bytes words.now) Mode.Inspect → AddsPart (Sync ∷ []) (D.told disk.old) (D.told disk.new) }
@@ -126,18 +126,18 @@ pub fn run<D: Disk, S: Source, W: Sink>(
 
     // Every write lies within the zones of the file: of the one that is made, or of the one whose superblock is shown.
     ensures made_within { (layout : Layout) (cluster : ℕ) → Means (map string_bytes words.now) (Mode.Format layout cluster) → AddsWithin layout (D.told disk.old) (D.told disk.new) }
-    ensures within { (mode : Mode) → IsOfFile mode → Means (map string_bytes words.now) mode → WritesOwn (D.told disk.old) (D.told disk.new) }
+    ensures within { (mode : Mode) → AsksForFile mode → Means (map string_bytes words.now) mode → WritesOwn (D.told disk.old) (D.told disk.new) }
     ensures upgraded_within { Means (map string_bytes words.now) Mode.Upgrade → WritesOwnAs 1 (D.told disk.old) (D.told disk.new) }
 
     // Where sectors of the file were damaged, lost or swapped before, they find a state that the file really had, or refuse it
     // because of a sector that is hurt; and a read of a script gives what is the state's own, as it was written.
-    ensures hurt { (mode : Mode) → IsOfFile mode → Means (map string_bytes words.now) mode → RunsOverHurt mode
+    ensures hurt { (mode : Mode) → AsksForFile mode → Means (map string_bytes words.now) mode → RunsOverHurt mode
         (record { told = D.told disk.old; left = S.left source.old; written = W.written sink.old })
         (record { told = D.told disk.new; left = S.left source.new; written = W.written sink.new }) result }
 
     // Where they were before other opens, too, while two superblock copies were spared before each, the state is one that the file had
     // since the last open that raised its boot; and from the barrier on the history stays such a one at each moment.
-    ensures lived { (mode : Mode) → IsOfFile mode → Means (map string_bytes words.now) mode → RunsOverHistory mode
+    ensures lived { (mode : Mode) → AsksForFile mode → Means (map string_bytes words.now) mode → RunsOverHistory mode
         (record { told = D.told disk.old; left = S.left source.old; written = W.written sink.old })
         (record { told = D.told disk.new; left = S.left source.new; written = W.written sink.new }) result }
 

@@ -1,7 +1,7 @@
 // The lines of a script that read: each call lends the unit that it read, and its line is printed from there.
 ghost use Rattle.std.specs.Prelude.{◌≡◌, true};
 ghost use Rattle.df_inspect.specs.Answers.{command_of};
-ghost use Rattle.df_top.specs.Step.{Answers};
+ghost use Rattle.df_top.specs.Step.{AnswersCommand};
 ghost use Rattle.df_top.specs.Turning.{BlamesIfEnds, LendsUnit};
 
 use crate::status::Status;
@@ -22,7 +22,7 @@ pub fn read<D: Disk, W: Sink>(
 ) -> Turn
     requires live { replica.old.live ≡ true }
     requires lends { LendsUnit (command_of command) }
-    ensures answers { Answers (command_of command.entry) replica.old replica.new (D.told disk.old) (D.told disk.new) (W.written sink.old) (W.written sink.new) result }
+    ensures answers { AnswersCommand (command_of command.entry) replica.old replica.new (D.told disk.old) (D.told disk.new) (W.written sink.old) (W.written sink.new) result }
     ensures disk { BlamesIfEnds Status.DiskFault (D.faults disk.old) (D.faults disk.new) result }
     ensures sink { BlamesIfEnds Status.WriteFault (W.faults sink.old) (W.faults sink.new) result }
 {

@@ -4,7 +4,7 @@ ghost use Rattle.df_disk.specs.Told.{Told};
 ghost use Rattle.df_model.specs.Commands.{Recent, Scrub, ToRecent};
 ghost use Rattle.df_session.specs.Answering.{Serves};
 ghost use Rattle.df_top.specs.Findings.{items_of};
-ghost use Rattle.df_top.specs.Step.{Answers};
+ghost use Rattle.df_top.specs.Step.{AnswersCommand};
 ghost use Rattle.df_top.specs.Turning.{BlamesIfEnds};
 
 use crate::status::Status;
@@ -29,7 +29,7 @@ const UNUSED: Finding = Finding {
 /// Takes a step of the scrubber's tour, and prints what it found.
 pub fn scrub<D: Disk, W: Sink>(disk: &mut D, sink: &mut W, replica: &mut Replica) -> Turn
     requires live { replica.old.live ≡ true }
-    ensures answers { Answers Scrub replica.old replica.new (D.told disk.old) (D.told disk.new) (W.written sink.old) (W.written sink.new) result }
+    ensures answers { AnswersCommand Scrub replica.old replica.new (D.told disk.old) (D.told disk.new) (W.written sink.old) (W.written sink.new) result }
     ensures disk { BlamesIfEnds Status.DiskFault (D.faults disk.old) (D.faults disk.new) result }
     ensures sink { BlamesIfEnds Status.WriteFault (W.faults sink.old) (W.faults sink.new) result }
 {
@@ -76,7 +76,7 @@ fn fill(replica: &Replica, row: &mut [Finding]) -> usize
 /// Prints what the scrubber found last, the newest 64 findings. No disk is touched.
 pub fn recent<W: Sink>(sink: &mut W, replica: &Replica) -> Turn
     requires live { replica.now.live ≡ true }
-    ensures answers { (told : Option Told) → Answers Recent replica.now replica.now told told (W.written sink.old) (W.written sink.new) result }
+    ensures answers { (told : Option Told) → AnswersCommand Recent replica.now replica.now told told (W.written sink.old) (W.written sink.new) result }
     ensures disk { (faults : ℕ) → BlamesIfEnds Status.DiskFault faults faults result }
     ensures sink { BlamesIfEnds Status.WriteFault (W.faults sink.old) (W.faults sink.new) result }
 {

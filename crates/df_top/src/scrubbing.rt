@@ -9,7 +9,7 @@ ghost use Rattle.df_top.specs.declared.mode.Mode.{Mode};
 ghost use Rattle.df_top.specs.Outside.{Blames, EndsWithFile, HasCauses, PrintsLine, around, counts};
 ghost use Rattle.df_top.specs.Run.{ServesIn};
 ghost use Rattle.df_top.specs.Scrubs.{PrintsTour, tour_status};
-ghost use Rattle.df_top.specs.Touring.{EndsTour, TakesStep, TellsFound, TellsStep};
+ghost use Rattle.df_top.specs.Touring.{EndsTour, TakesStep, TellsStep, TellsTourFound};
 ghost use Rattle.df_top.specs.Turning.{BlamesIfEnds};
 
 use crate::status::Status;
@@ -81,7 +81,7 @@ fn tour<D: Disk, W: Sink>(disk: &mut D, sink: &mut W, replica: &mut Replica) -> 
     ensures tours { (t : Told) → D.told disk.old ≡ Some t → replica.old.tour ≡ first_tour
         → PrintsTour replica.old t.shown (W.written sink.old) (W.written sink.new) result }
     ensures found { (t : Told) → D.told disk.old ≡ Some t → replica.old.tour ≡ first_tour → result ≡ Status.DiskFault
-        → TellsFound replica.new.tour.failing (W.written sink.old) (W.written sink.new) }
+        → TellsTourFound replica.new.tour.failing (W.written sink.old) (W.written sink.new) }
     ensures ends { EndsTour result }
     ensures same { D.told disk.new ≡ D.told disk.old }
     ensures disk { Blames Status.DiskFault (D.faults disk.old) (D.faults disk.new) result }

@@ -25,11 +25,11 @@ pub enum Status {
 
 impl Status {
     ghost use Rattle.std.specs.Prelude.{◌≡◌};
-    ghost use Rattle.df_top.specs.Statuses.{number_of};
+    ghost use Rattle.df_top.specs.Statuses.{exit_number};
 
     /// The exit status of the program.
     pub fn number(self) -> u8
-        ensures { result ≡ number_of self }
+        ensures { result ≡ exit_number self }
     {
         match self {
             Status::Done => 0,

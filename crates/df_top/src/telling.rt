@@ -3,9 +3,9 @@ ghost use Rattle.std.specs.Prelude.{◌≡◌, true};
 ghost use Rattle.df_inspect.specs.Answers.{command_of};
 ghost use Rattle.df_session.specs.Calls.{HasAnswer};
 ghost use Rattle.df_top.specs.Outside.{Blames, status_or};
-ghost use Rattle.df_top.specs.Refusing.{PrintsError, PrintsFault};
-ghost use Rattle.df_top.specs.Step.{Answers};
-ghost use Rattle.df_top.specs.Turning.{BlamesIfEnds, Tells, printed_turn};
+ghost use Rattle.df_top.specs.Refusing.{PrintsFault, PrintsOpenError};
+ghost use Rattle.df_top.specs.Step.{AnswersCommand};
+ghost use Rattle.df_top.specs.Turning.{BlamesIfEnds, TellsAnswer, printed_turn};
 
 use crate::status::Status;
 use crate::turns::Turn;
@@ -38,7 +38,7 @@ pub fn ended(done: Result<(), Failed>, status: Status) -> Status
 
 /// Prints why a file isn't opened; a failing disk has no line.
 pub fn refuse_file<W: Sink>(sink: &mut W, error: &OpenError) -> Status
-    ensures prints { PrintsError error.now (W.written sink.old) (W.written sink.new) result }
+    ensures prints { PrintsOpenError error.now (W.written sink.old) (W.written sink.new) result }
     ensures sink { Blames Status.WriteFault (W.faults sink.old) (W.faults sink.new) result }
 {
     df_telling::refuse_file(
@@ -65,7 +65,7 @@ pub fn tell_fault<W: Sink>(sink: &mut W, fault: Fault) -> Status
 
 /// Prints what was heard of an answer: its line, or why the session ends with it.
 pub fn tell<W: Sink>(sink: &mut W, command: &Command, heard: Result<Answer, Fault>) -> Turn
-    ensures told { Tells (command_of command.now) heard (W.written sink.old) (W.written sink.new) result }
+    ensures told { TellsAnswer (command_of command.now) heard (W.written sink.old) (W.written sink.new) result }
     ensures sink { BlamesIfEnds Status.WriteFault (W.faults sink.old) (W.faults sink.new) result }
 {
     match heard {
@@ -83,7 +83,7 @@ pub fn serve<D: Disk, W: Sink>(
 ) -> Turn
     requires live { replica.old.live ≡ true }
     requires answer { HasAnswer (command_of command) }
-    ensures answers { Answers (command_of command.entry) replica.old replica.new (D.told disk.old) (D.told disk.new) (W.written sink.old) (W.written sink.new) result }
+    ensures answers { AnswersCommand (command_of command.entry) replica.old replica.new (D.told disk.old) (D.told disk.new) (W.written sink.old) (W.written sink.new) result }
     ensures disk { BlamesIfEnds Status.DiskFault (D.faults disk.old) (D.faults disk.new) result }
     ensures sink { BlamesIfEnds Status.WriteFault (W.faults sink.old) (W.faults sink.new) result }
 {

@@ -2,13 +2,13 @@
 ghost use Rattle.std.specs.Prelude.{◌≡◌, ◌<◌, ◌≤◌, ◌+◌, ◌^◌, length, true};
 ghost use Rattle.df_inspect.specs.Answers.{command_of as call_of};
 ghost use Rattle.df_lines.specs.Grammar.{body_length, said_with};
-ghost use Rattle.df_pace.specs.Beats.{behind_line};
-ghost use Rattle.df_top.specs.Lines.{command_of};
+ghost use Rattle.df_pace.specs.Beats.{beat_after_line};
+ghost use Rattle.df_top.specs.Lines.{command_of_line};
 ghost use Rattle.df_top.specs.Outside.{Blames};
-ghost use Rattle.df_top.specs.Pacing.{IsIdle, runs};
+ghost use Rattle.df_top.specs.Pacing.{IsIdleBeat, runs};
 ghost use Rattle.df_top.specs.Session.{Ended, state};
-ghost use Rattle.df_top.specs.Step.{Answers, RefusesLine, Turns};
-ghost use Rattle.df_top.specs.Turning.{BlamesIfEnds, IsReady, Leaves, OnGoing};
+ghost use Rattle.df_top.specs.Step.{AnswersCommand, RefusesLine, Turns};
+ghost use Rattle.df_top.specs.Turning.{BlamesIfEnds, IsReadySession, LeavesReader, OnGoing};
 
 use crate::background::work;
 use crate::reads::read;
@@ -45,7 +45,7 @@ fn refuse<W: Sink>(sink: &mut W, lines: u64) -> Status
 // What a line asks for, whose body is in the reader's buffer.
 fn asked(lines: &LineRoom, line: Line) -> Command<'_>
     requires { body_length line ≤ length lines.now.body }
-    ensures { call_of result ≡ command_of (said_with lines.now.body line) }
+    ensures { call_of result ≡ command_of_line (said_with lines.now.body line) }
 {
     match line {
         Line::Append {
@@ -92,8 +92,8 @@ fn asked(lines: &LineRoom, line: Line) -> Command<'_>
 fn execute<D: Disk, W: Sink>(disk: &mut D, sink: &mut W, session: &mut Session, line: Line) -> Turn
     requires live { session.old.replica.live ≡ true }
     requires size { body_length line ≤ length session.old.lines.body }
-    ensures answers { Answers (command_of (said_with session.old.lines.body line)) session.old.replica session.new.replica (D.told disk.old) (D.told disk.new) (W.written sink.old) (W.written sink.new) result }
-    ensures leaves { Leaves session.old session.new }
+    ensures answers { AnswersCommand (command_of_line (said_with session.old.lines.body line)) session.old.replica session.new.replica (D.told disk.old) (D.told disk.new) (W.written sink.old) (W.written sink.new) result }
+    ensures leaves { LeavesReader session.old session.new }
     ensures beat { session.new.beat ≡ session.old.beat }
     ensures disk { BlamesIfEnds Status.DiskFault (D.faults disk.old) (D.faults disk.new) result }
     ensures sink { BlamesIfEnds Status.WriteFault (W.faults sink.old) (W.faults sink.new) result }
@@ -112,7 +112,7 @@ fn execute<D: Disk, W: Sink>(disk: &mut D, sink: &mut W, session: &mut Session, 
 
 // Where the loop stands after a line.
 fn behind(session: &Session) -> Beat
-    ensures { result ≡ behind_line session.now.pace session.now.beat session.now.replica.head (runs session.now.replica) }
+    ensures { result ≡ beat_after_line session.now.pace session.now.beat session.now.replica.head (runs session.now.replica) }
 {
     let head = session.replica.summary().head;
     let running = session.replica.is_running();
@@ -129,12 +129,12 @@ fn serve_line<D: Disk, W: Sink>(
     requires live { session.old.replica.live ≡ true }
     requires room { session.old.count < 2 ^ 33 }
     requires size { body_length line ≤ length session.old.lines.body }
-    ensures answers { Answers (command_of (said_with session.old.lines.body line)) session.old.replica session.new.replica (D.told disk.old) (D.told disk.new) (W.written sink.old) (W.written sink.new) result }
+    ensures answers { AnswersCommand (command_of_line (said_with session.old.lines.body line)) session.old.replica session.new.replica (D.told disk.old) (D.told disk.new) (W.written sink.old) (W.written sink.new) result }
     ensures lines { session.new.lines ≡ session.old.lines }
     ensures live { OnGoing result (session.new.replica.live ≡ true) }
     ensures count { OnGoing result (session.new.count ≡ session.old.count + 1) }
     ensures pace { session.new.pace ≡ session.old.pace }
-    ensures beat { session.new.beat ≡ behind_line session.old.pace session.old.beat session.new.replica.head (runs session.new.replica) }
+    ensures beat { session.new.beat ≡ beat_after_line session.old.pace session.old.beat session.new.replica.head (runs session.new.replica) }
     ensures disk { BlamesIfEnds Status.DiskFault (D.faults disk.old) (D.faults disk.new) result }
     ensures sink { BlamesIfEnds Status.WriteFault (W.faults sink.old) (W.faults sink.new) result }
 {
@@ -151,12 +151,12 @@ fn take_line<D: Disk, S: Source, W: Sink>(
     sink: &mut W,
     session: &mut Session,
 ) -> Turn
-    requires idle { IsIdle session.old.beat session.old.replica }
-    requires ready { IsReady session.old (S.left source.old) }
+    requires idle { IsIdleBeat session.old.beat session.old.replica }
+    requires ready { IsReadySession session.old (S.left source.old) }
     ensures turns { Turns session.old.pace session.old.lines.reading.bound
         (state (record { told = D.told disk.old; left = S.left source.old; written = W.written sink.old }) session.old)
         (state (record { told = D.told disk.new; left = S.left source.new; written = W.written sink.new }) session.new) result }
-    ensures ready { OnGoing result (IsReady session.new (S.left source.new)) }
+    ensures ready { OnGoing result (IsReadySession session.new (S.left source.new)) }
     ensures bound { session.new.lines.reading.bound ≡ session.old.lines.reading.bound }
     ensures budget { OnGoing result (session.new.lines.reading.budget < session.old.lines.reading.budget) }
     ensures pace { session.new.pace ≡ session.old.pace }
@@ -179,8 +179,8 @@ pub fn serve_script<D: Disk, S: Source, W: Sink>(
     sink: &mut W,
     session: &mut Session,
 ) -> Status
-    requires ready { IsReady session.old (S.left source.old) }
-    requires idle { IsIdle session.old.beat session.old.replica }
+    requires ready { IsReadySession session.old (S.left source.old) }
+    requires idle { IsIdleBeat session.old.beat session.old.replica }
     ensures session { Ended session.old.pace session.old.lines.reading.bound
         (state (record { told = D.told disk.old; left = S.left source.old; written = W.written sink.old }) session.old)
         (state (record { told = D.told disk.new; left = S.left source.new; written = W.written sink.new }) session.new) result }

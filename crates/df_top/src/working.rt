@@ -4,7 +4,7 @@ ghost use Rattle.df_base.specs.Causes.{IsBlamed};
 ghost use Rattle.df_workload.specs.Asking.{asks};
 ghost use Rattle.df_workload.specs.Sound.{is_at_end, left};
 ghost use Rattle.df_workload.specs.declared.state.Point.{Point};
-ghost use Rattle.df_session.specs.Endings.{is_disk};
+ghost use Rattle.df_session.specs.Endings.{is_disk_fault};
 ghost use Rattle.df_top.specs.declared.mode.Mode.{Mode};
 ghost use Rattle.df_top.specs.Outside.{Blames, EndsWithFile, HasCauses, around, counts};
 ghost use Rattle.df_top.specs.Run.{ServesIn};
@@ -34,7 +34,7 @@ fn go_on<D: Disk>(disk: &mut D, run: &mut Running) -> Result<(), Fault>
     ensures comes { Comes run.old.generator run.old.replica (D.told disk.old) run.new.generator run.new.replica (D.told disk.new) result }
     ensures ready { OnOk result (CanGoOn run.new.generator run.new.replica) }
     ensures less { OnOk result (left run.new.generator < left run.old.generator) }
-    ensures disk { IsBlamed is_disk (D.faults disk.old) (D.faults disk.new) result }
+    ensures disk { IsBlamed is_disk_fault (D.faults disk.old) (D.faults disk.new) result }
 {
     let outcome = make_next(disk, &mut run.replica, &run.generator)?;
     run.generator.hear(outcome);
@@ -47,7 +47,7 @@ fn go_through<D: Disk>(disk: &mut D, run: &mut Running) -> Result<(), Fault>
     ensures comes { Comes run.old.generator run.old.replica (D.told disk.old) run.new.generator run.new.replica (D.told disk.new) result }
     ensures ready { OnOk result (CanGoOn run.new.generator run.new.replica) }
     ensures ending { OnOk result (run.new.generator.point ≡ Point.Ending) }
-    ensures disk { IsBlamed is_disk (D.faults disk.old) (D.faults disk.new) result }
+    ensures disk { IsBlamed is_disk_fault (D.faults disk.old) (D.faults disk.new) result }
 {
     while !run.generator.is_ending() {
         go_on(disk, run)?;
@@ -64,7 +64,7 @@ fn end_step<D: Disk>(disk: &mut D, run: &mut Running) -> Result<(), Fault>
     ensures ending { OnOk result (run.new.generator.point ≡ Point.Ending) }
     ensures less { OnOk result (steps_left run.new.generator run.new.replica < steps_left run.old.generator run.old.replica) }
     ensures ready { OnOk result (CanGoOn run.new.generator run.new.replica) }
-    ensures disk { IsBlamed is_disk (D.faults disk.old) (D.faults disk.new) result }
+    ensures disk { IsBlamed is_disk_fault (D.faults disk.old) (D.faults disk.new) result }
 {
     let outcome = make_call(disk, &mut run.replica, Command::Advance)?;
     run.generator.hear(outcome);
@@ -77,7 +77,7 @@ fn end_checkpoint<D: Disk>(disk: &mut D, run: &mut Running) -> Result<(), Fault>
     requires ending { run.old.generator.point ≡ Point.Ending }
     ensures comes { Comes run.old.generator run.old.replica (D.told disk.old) run.new.generator run.new.replica (D.told disk.new) result }
     ensures over { OnOk result (asks run.new.generator ≡ None) }
-    ensures disk { IsBlamed is_disk (D.faults disk.old) (D.faults disk.new) result }
+    ensures disk { IsBlamed is_disk_fault (D.faults disk.old) (D.faults disk.new) result }
 {
     while run.generator.is_running() {
         end_step(disk, run)?;
@@ -90,7 +90,7 @@ fn work<D: Disk>(disk: &mut D, run: &mut Running) -> Result<(), Fault>
     requires ready { CanGoOn run.old.generator run.old.replica }
     ensures comes { Comes run.old.generator run.old.replica (D.told disk.old) run.new.generator run.new.replica (D.told disk.new) result }
     ensures over { OnOk result (asks run.new.generator ≡ None) }
-    ensures disk { IsBlamed is_disk (D.faults disk.old) (D.faults disk.new) result }
+    ensures disk { IsBlamed is_disk_fault (D.faults disk.old) (D.faults disk.new) result }
 {
     go_through(disk, run)?;
     end_checkpoint(disk, run)

@@ -5,8 +5,8 @@ ghost use Rattle.df_model.specs.Commands.{Advance, Command as Asks};
 ghost use Rattle.df_inspect.specs.Answers.{command_of};
 ghost use Rattle.df_workload.specs.Asking.{asks};
 ghost use Rattle.df_session.specs.Calls.{HasAnswer};
-ghost use Rattle.df_session.specs.Endings.{is_disk};
-ghost use Rattle.df_top.specs.Works.{HearsOf, RunsOn, StepsOn};
+ghost use Rattle.df_session.specs.Endings.{is_disk_fault};
+ghost use Rattle.df_top.specs.Works.{HearsOf, StepsOn, StillRuns};
 
 use df_disk::Disk;
 use df_model::Command;
@@ -22,9 +22,9 @@ pub(crate) fn make_call<D: Disk>(
     requires live { replica.old.live ≡ true }
     requires answer { HasAnswer (command_of command) }
     ensures makes { HearsOf (command_of command.entry) replica.old replica.new (D.told disk.old) (D.told disk.new) result }
-    ensures runs { RunsOn (command_of command.entry) replica.old replica.new result }
+    ensures runs { StillRuns (command_of command.entry) replica.old replica.new result }
     ensures steps { command_of command.entry ≡ Advance → StepsOn replica.old replica.new result }
-    ensures disk { IsBlamed is_disk (D.faults disk.old) (D.faults disk.new) result }
+    ensures disk { IsBlamed is_disk_fault (D.faults disk.old) (D.faults disk.new) result }
 {
     match make(disk, replica, command) {
         Ok(answer) => Ok(outcome_in(&answer)),
@@ -41,8 +41,8 @@ pub(crate) fn make_next<D: Disk>(
     requires live { replica.old.live ≡ true }
     requires asks { asks generator.now ≡ None → ⊥ }
     ensures makes { (c : Asks) → asks generator.now ≡ Some c → HearsOf c replica.old replica.new (D.told disk.old) (D.told disk.new) result }
-    ensures runs { (c : Asks) → asks generator.now ≡ Some c → RunsOn c replica.old replica.new result }
-    ensures disk { IsBlamed is_disk (D.faults disk.old) (D.faults disk.new) result }
+    ensures runs { (c : Asks) → asks generator.now ≡ Some c → StillRuns c replica.old replica.new result }
+    ensures disk { IsBlamed is_disk_fault (D.faults disk.old) (D.faults disk.new) result }
 {
     match generator.asks() {
         Some(Asked::Append { client, request }) => {

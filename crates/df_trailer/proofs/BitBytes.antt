@@ -7,7 +7,7 @@ use Rattle.std.proofs.lemmas.Nat.Bits.{bit_at-suc, bit_at-zero}
 use Rattle.std.proofs.Math.Nat.{div-div-eq-div-mul, div-one}
 use Rattle.df_base.specs.Fields.{spelled}
 use Rattle.df_base.proofs.Laws.{bits_of_bytes}
-use Rattle.df_trailer.specs.Spelling.{is_referenced, number_of}
+use Rattle.df_trailer.specs.Spelling.{is_referenced, number_of_bits}
 
 abbrev pub bit_for : Option ℕ → ℕ
 bit_for (Some c) = 1
@@ -21,12 +21,12 @@ pub half : (b : Bool) (m : ℕ) → ((if b then 1 else 0) + 2 * m) / 2 ≡ m
 half true m = omega arith
 half false m = omega arith
 
-pub number_bit : (bs : List (Option ℕ)) (k : ℕ) → bit_at (number_of (map is_referenced bs)) k ≡ bit_for (get_or bs k None)
+pub number_bit : (bs : List (Option ℕ)) (k : ℕ) → bit_at (number_of_bits (map is_referenced bs)) k ≡ bit_for (get_or bs k None)
 number_bit [] k = bit_at-zero k
-number_bit (None ∷ bs) zero = first_bit false (number_of (map is_referenced bs))
-number_bit (Some c ∷ bs) zero = first_bit true (number_of (map is_referenced bs))
-number_bit (None ∷ bs) (suc k) = bit_at-suc _ k ∙ ap (λ (x : ℕ). bit_at x k) (half false (number_of (map is_referenced bs))) ∙ number_bit bs k
-number_bit (Some c ∷ bs) (suc k) = bit_at-suc _ k ∙ ap (λ (x : ℕ). bit_at x k) (half true (number_of (map is_referenced bs))) ∙ number_bit bs k
+number_bit (None ∷ bs) zero = first_bit false (number_of_bits (map is_referenced bs))
+number_bit (Some c ∷ bs) zero = first_bit true (number_of_bits (map is_referenced bs))
+number_bit (None ∷ bs) (suc k) = bit_at-suc _ k ∙ ap (λ (x : ℕ). bit_at x k) (half false (number_of_bits (map is_referenced bs))) ∙ number_bit bs k
+number_bit (Some c ∷ bs) (suc k) = bit_at-suc _ k ∙ ap (λ (x : ℕ). bit_at x k) (half true (number_of_bits (map is_referenced bs))) ∙ number_bit bs k
 
 -- bit k of the bytes from number q on
 pub bit_behind : (x q k : ℕ) → x / 256 ^ q / 2 ^ k % 2 ≡ bit_at x (8 * q + k)

@@ -8,7 +8,7 @@ use Rattle.df_theory.specs.Units.{Layout, Parts, Session}
 use Rattle.df_theory.specs.Shape.{Shape}
 use Rattle.df_model.specs.Codec.{IsCodec, IsLawful}
 use Rattle.df_trailer.specs.Laws.{HasLimits}
-use Rattle.df_trailer.specs.Spelling.{blocks_of, is_referenced, spell, trailer_pieces}
+use Rattle.df_trailer.specs.Spelling.{block_checksums, is_referenced, spell, trailer_pieces}
 use Rattle.df_trailer.specs.Text.{ones, parse_of}
 use Rattle.df_trailer.proofs.Blocks.{length_listed, so_checks}
 use Rattle.df_trailer.proofs.Sessions.{so_sessions}
@@ -18,7 +18,7 @@ use Rattle.df_trailer.proofs.Spelled.{lawful_stands, read_again, length_map}
 
 pub text_bytes : (l : Layout) (parts : Parts) → AreBytes parts.root → AreBytes (spell l parts)
 text_bytes l parts root =
-    let all = so_text (trailer_pieces l (length parts.root) (length parts.sessions)) parts (assumption (so_sessions parts.sessions)) (so_checks (blocks_of l parts)) in
+    let all = so_text (trailer_pieces l (length parts.root) (length parts.sessions)) parts (assumption (so_sessions parts.sessions)) (so_checks (block_checksums l parts)) in
     all.each
 
 few_ones : (bits : List Bool) → ones bits ≤ length bits
@@ -44,8 +44,8 @@ codec sh limits room is = record {
     size : (op : ℕ) (parts : Parts) → IsLawful sh.layout op parts → length (spell sh.layout parts) ≤ 4 + 1024 + 4 + 32 * sh.layout.clients + (sh.layout.blocks + 7) / 8 + 16 * sh.layout.blocks
     size op parts lawful =
         let st = lawful_stands sh.layout op parts limits lawful in
-        let few = few_ones (map is_referenced (blocks_of sh.layout parts)) in
-        let n = length_map (blocks_of sh.layout parts) in
+        let few = few_ones (map is_referenced (block_checksums sh.layout parts)) in
+        let n = length_map (block_checksums sh.layout parts) in
         let m = length_listed (λ place. parts.references (suc place)) sh.layout.blocks in
         omega (arith, st.size, st.root_size_is, st.count_is, lawful.root.0, lawful.sessions.few)
 

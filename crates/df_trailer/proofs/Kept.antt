@@ -9,7 +9,7 @@ use Rattle.df_theory.specs.Units.{Layout}
 use Rattle.df_model.specs.Refusals.{first_refusal}
 use Rattle.df_model.proofs.Laws.{all_pass}
 use Rattle.df_trailer.specs.declared.fault.Failing.{Failing}
-use Rattle.df_trailer.specs.Reading.{AreChecksKept, IsKept, failing_of, rest_tests}
+use Rattle.df_trailer.specs.Reading.{AreChecksKept, IsTextFront, failing_of, rest_tests}
 use Rattle.df_trailer.specs.Text.{bits, bits_at, bits_in, bits_of, head_end, head_tests, is_whole, ones, sessions_at, tests}
 use Rattle.df_trailer.proofs.Longer.{count_front, head_end_is, root_front, same_tests, whole_has}
 
@@ -105,7 +105,7 @@ tail_same l op h rest bs e room are =
           rw (size, start, sym room, t0, s, kept, sum, t2) refl
     ]
 
-pub fails_as_kept : (l : Layout) (op : ℕ) (text head bs : List ℕ) (behind : ℕ) → l.clients ≤ 64 → IsKept l text head bs behind → failing_of l op head bs behind ≡ first_refusal (tests l op text)
+pub fails_as_kept : (l : Layout) (op : ℕ) (text head bs : List ℕ) (behind : ℕ) → l.clients ≤ 64 → IsTextFront l text head bs behind → failing_of l op head bs behind ≡ first_refusal (tests l op text)
 fails_as_kept l op text head bs behind few k =
     let same = head_same l op head k.rest few k.whole in
     let left = append_first (head_tests l.clients op head) (kept_tests l.blocks (length head) bs behind) in
@@ -123,7 +123,7 @@ fails_as_kept l op text head bs behind few k =
 
 -- ---- nothing yet
 
-pub nothing_kept : (l : Layout) (head bs : List ℕ) → head ≡ [] → length bs ≡ (l.blocks + 7) / 8 → IsKept l [] head bs 0
+pub nothing_kept : (l : Layout) (head bs : List ℕ) → head ≡ [] → length bs ≡ (l.blocks + 7) / 8 → IsTextFront l [] head bs 0
 nothing_kept l head bs none room = record {
   rest = [];
   is = ap (λ (h : List ℕ). h ++ []) (sym none);
@@ -163,7 +163,7 @@ positive zero = inr refl
 positive (suc n) = inl (omega arith)
 
 pub added_is_kept : (l : Layout) (text head bs : List ℕ) (behind : ℕ) (piece : List ℕ) (n : ℕ) (head' bs' : List ℕ) (behind' : ℕ)
-    → IsKept l text head bs behind → IsAdded head bs behind piece n head' bs' behind' → IsKept l (text ++ piece) head' bs' behind'
+    → IsTextFront l text head bs behind → IsAdded head bs behind piece n head' bs' behind' → IsTextFront l (text ++ piece) head' bs' behind'
 added_is_kept l text head bs behind piece n head' bs' behind' k a = record {
   rest = k.rest ++ drop n piece;
   is = ap (λ (xs : List ℕ). xs ++ piece) k.is ∙ split_text head k.rest piece n (λ some. a.stays (k.whole some)) ∙ ap (λ (xs : List ℕ). xs ++ (k.rest ++ drop n piece)) (sym a.head_is);
@@ -198,7 +198,7 @@ at_rest : (text head rest : List ℕ) (m x : ℕ) → text ≡ head ++ rest → 
 at_rest text head rest m x is at = ap (λ (xs : List ℕ). slice_index xs m) is ∙ ap (λ (j : ℕ). slice_index (head ++ rest) j) at ∙ get_or-append-add head rest x 0
 
 pub checks_added : (l : Layout) (text head bs : List ℕ) (behind : ℕ) (piece : List ℕ) (n : ℕ) (head' bs' : List ℕ) (behind' : ℕ) (cs cs' : List ℕ)
-    → IsKept l text head bs behind → IsAdded head bs behind piece n head' bs' behind' → length cs' ≡ length cs
+    → IsTextFront l text head bs behind → IsAdded head bs behind piece n head' bs' behind' → length cs' ≡ length cs
     → ((i : ℕ) → i < length cs → length bs + i < behind → slice_index cs' i ≡ slice_index cs i)
     → ((i j : ℕ) → j < length piece - n → length bs + i ≡ behind + j → i < length cs → slice_index cs' i ≡ slice_index (drop n piece) j)
     → AreChecksKept text (length head + length bs) cs → AreChecksKept (text ++ piece) (length head' + length bs') cs'

@@ -12,7 +12,7 @@ use Rattle.df_trailer.specs.declared.fault.Failing.{Failing}
 use Rattle.df_trailer.specs.declared.reader.Reader.{Reader}
 use Rattle.df_trailer.specs.Reading.{HasRead, failing_in}
 use Rattle.df_trailer.specs.Rooms.{without_reply}
-use Rattle.df_trailer.specs.Sessions.{AreRead, IsRead}
+use Rattle.df_trailer.specs.Sessions.{AreReadSessions, IsReadSession}
 use Rattle.df_trailer.specs.Text.{count, fault, fault_in, parts_of, sessions_at}
 use Rattle.df_trailer.proofs.Fed.{fails_as_read}
 use Rattle.df_trailer.proofs.Read.{fine}
@@ -34,13 +34,13 @@ from_list xs k s at = pick (slice_get xs k) refl (sym (slice_get-map without_rep
         let yes : option_map without_reply (Some x) ≡ Some s = subst (λ (y : Option model.Session). option_map without_reply y ≡ Some s) there is in
         record { from = x; at = there; is = (let one : without_reply x ≡ s = cc in sym one) }
 
-rules_listed : (places op : ℕ) (xs : List model.Session) → length xs ≤ places → KeepRules op [] xs → AreRead places op (map without_reply xs)
+rules_listed : (places op : ℕ) (xs : List model.Session) → length xs ≤ places → KeepRules op [] xs → AreReadSessions places op (map without_reply xs)
 rules_listed places op xs few keep = record {
   few = subst (λ (n : ℕ). n ≤ places) (sym (length-map xs without_reply)) few;
   each = λ k s at.
       let f = from_list xs k s at in
       let rules = keep.each k f.from f.at in
-      subst (λ (t : table.Session). IsRead op t) (sym f.is) (record { client = rules.0; request = (rules.1, rules.2); op_is = (rules.3, rules.4); reply = refl });
+      subst (λ (t : table.Session). IsReadSession op t) (sym f.is) (record { client = rules.0; request = (rules.1, rules.2); op_is = (rules.3, rules.4); reply = refl });
   clients = λ j k s t one two same.
       let f = from_list xs j s one in
       let g = from_list xs k t two in
@@ -52,9 +52,9 @@ rules_listed places op xs few keep = record {
 }
 
 pub sessions_listed : (layout : file.Layout) (op : ℕ) (text : List ℕ) (r : Reader) (ss : List table.Session) → failing_in r ≡ None → HasRead layout op r text → ss ≡ map without_reply (parts_of (layout_of layout) text).sessions
-    → AreRead layout.clients op ss
+    → AreReadSessions layout.clients op ss
 sessions_listed layout op text r ss none read is =
     let clean : fault (layout_of layout) op text ≡ None = ap (λ (o : Option Failing). fault_in o) (sym (fails_as_read layout op text r read) ∙ none) in
     let f = fine (layout_of layout) op text clean in
-    subst (λ (l : List table.Session). AreRead layout.clients op l) (sym is)
+    subst (λ (l : List table.Session). AreReadSessions layout.clients op l) (sym is)
     (rules_listed layout.clients op (parts_of (layout_of layout) text).sessions (subst (λ (n : ℕ). n ≤ layout.clients) (sym (sessions.length_read (count text) (sessions_at text) text)) f.few) f.rules)

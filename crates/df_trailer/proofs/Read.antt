@@ -13,8 +13,8 @@ use Rattle.df_model.specs.Refusals.{first_refusal}
 use Rattle.df_model.proofs.Laws.{all_pass}
 use Rattle.df_trailer.specs.declared.fault.Failing.{Failing}
 use Rattle.df_trailer.specs.declared.fault.Fault.{Fault}
-use Rattle.df_trailer.specs.Spelling.{blocks_of, is_referenced, listed, number_of, spell, spell_checks, spell_sessions, trailer_pieces}
-use Rattle.df_trailer.specs.Text.{at_address, at_place, bits, bits_at, bits_of, checks_at, count, end_at, fault, fault_in, first_wrong, parse, parts_of, read_blocks, read_sessions, root_size, session, sessions_at, tests, unless, whole}
+use Rattle.df_trailer.specs.Spelling.{block_checksums, is_referenced, listed, number_of_bits, spell, spell_checks, spell_sessions, trailer_pieces}
+use Rattle.df_trailer.specs.Text.{at_place, bits, bits_at, bits_of, checks_at, count, end_at, fault, fault_in, first_wrong, known_at_address, parse, parts_of, read_blocks, read_sessions, root_size, session, sessions_at, tests, unless, whole}
 use Rattle.df_trailer.proofs.Bits.{length_bits, number_bits}
 use Rattle.df_trailer.proofs.Blocks as blocks
 use Rattle.df_trailer.proofs.Sessions as sessions
@@ -65,15 +65,15 @@ spelled_again l op text are f =
     let n_root : length parts.root ≡ root_size text = length-take-le (root_size text) (drop 4 text) (omega (arith, f.ends, length-drop 4 text)) in
     let n_sessions : length parts.sessions ≡ count text = sessions.length_read (count text) (sessions_at text) text in
     let n_blocks : length bs ≡ l.blocks = blocks.length_read set (checks_at l text) text ∙ length_bits l.blocks (bits l text) in
-    let blocks_are : blocks_of l parts ≡ bs = ap (λ (n : ℕ). listed (at_place bs) n) (sym n_blocks) ∙ blocks.listed_places bs in
-    let number : number_of (map is_referenced (blocks_of l parts)) ≡ bits l text =
-    ap (λ (all : List (Option ℕ)). number_of (map is_referenced all)) blocks_are ∙ ap number_of (blocks.bits_read set (checks_at l text) text) ∙ number_bits l.blocks (bits l text) f.bits_are in
+    let blocks_are : block_checksums l parts ≡ bs = ap (λ (n : ℕ). listed (at_place bs) n) (sym n_blocks) ∙ blocks.listed_places bs in
+    let number : number_of_bits (map is_referenced (block_checksums l parts)) ≡ bits l text =
+    ap (λ (all : List (Option ℕ)). number_of_bits (map is_referenced all)) blocks_are ∙ ap number_of_bits (blocks.bits_read set (checks_at l text) text) ∙ number_bits l.blocks (bits l text) f.bits_are in
     let spelled_sessions : take (32 * count text) (drop (sessions_at text) text) ≡ spell_sessions parts.sessions =
     ap (take (32 * count text)) (sessions.sessions_spelled (count text) (sessions_at text) text rest are (omega (arith, f.ends)) refl)
     ∙ take_at (spell_sessions parts.sessions) rest (32 * count text) (omega (arith, (sessions.so_sessions parts.sessions).size, n_sessions)) in
-    let checks : drop (checks_at l text) text ≡ spell_checks (blocks_of l parts) = sym (ap spell_checks blocks_are ∙ blocks.checks_spelled set (checks_at l text) text are (sym f.ends)) in
+    let checks : drop (checks_at l text) text ≡ spell_checks (block_checksums l parts) = sym (ap spell_checks blocks_are ∙ blocks.checks_spelled set (checks_at l text) text are (sym f.ends)) in
     let ends : 0 + total (trailer_pieces l (root_size text) (count text)) ≡ checks_at l text = omega arith in
-    sym (spelled_back (trailer_pieces l (root_size text) (count text)) 0 text (spell_checks (blocks_of l parts)) parts are (omega (arith, f.ends)) (assumption (sym n_root, sym n_sessions, sym number))
+    sym (spelled_back (trailer_pieces l (root_size text) (count text)) 0 text (spell_checks (block_checksums l parts)) parts are (omega (arith, f.ends)) (assumption (sym n_root, sym n_sessions, sym number))
     (ap (λ (n : ℕ). drop n text) ends ∙ checks))
 
 -- ---- the parts are lawful
@@ -117,7 +117,7 @@ parts_lawful l op text most are f = record {
     root_short : length (take (root_size text) (drop 4 text)) ≤ 1024
     root_short = let n = length-take-le (root_size text) (drop 4 text) (omega (arith, f.ends, length-drop 4 text)) in omega (arith, f.root)
 
-    inside : (a c : ℕ) → at_address (read_blocks (bits_of l.blocks (bits l text)) (checks_at l text) text) a ≡ Some c → InGrid l a × IsChecksum c
+    inside : (a c : ℕ) → known_at_address (read_blocks (bits_of l.blocks (bits l text)) (checks_at l text) text) a ≡ Some c → InGrid l a × IsChecksum c
     inside zero c is = absurd (cc)
     inside (suc k) c is =
         let b = block_is (bits_of l.blocks (bits l text)) (checks_at l text) text are k c is in

@@ -8,8 +8,8 @@ use Rattle.df_base.specs.Fields.{field_at}
 use Rattle.df_base.proofs.Laws.{field_moved, suc_minus, over_one}
 use Rattle.df_theory.specs.Units.{Layout}
 use Rattle.df_model.specs.Refusals.{first_refusal}
-use Rattle.df_trailer.specs.Reading.{AreChecksKept, IsKept}
-use Rattle.df_trailer.specs.Text.{at_address, at_place, fault, read_blocks, bits, bits_at, bits_in, bits_of, checks_at, end_at, head_tests, ones, tests}
+use Rattle.df_trailer.specs.Reading.{AreChecksKept, IsTextFront}
+use Rattle.df_trailer.specs.Text.{known_at_address, at_place, fault, read_blocks, bits, bits_at, bits_in, bits_of, checks_at, end_at, head_tests, ones, tests}
 use Rattle.df_trailer.proofs.Kept.{append_first, bits_at_front, bits_kept, head_ends, head_same, first_none}
 use Rattle.df_trailer.proofs.OneBit.{ones_more}
 use Rattle.df_trailer.proofs.Read.{fine, no_fault}
@@ -67,7 +67,7 @@ few_ones (suc n) x = more (x % 2 == 1) (few_ones n (x / 2))
     more false g = omega arith
 
 -- in a text in which nothing fails, a block's checksum is where the reader kept it
-pub reference_kept : (l : Layout) (op : ℕ) (text head bs cs : List ℕ) (behind place : ℕ) → l.clients ≤ 64 → IsKept l text head bs behind → length cs ≡ 16 * l.blocks
+pub reference_kept : (l : Layout) (op : ℕ) (text head bs cs : List ℕ) (behind place : ℕ) → l.clients ≤ 64 → IsTextFront l text head bs behind → length cs ≡ 16 * l.blocks
     → AreChecksKept text (length head + length bs) cs → first_refusal (tests l op text) ≡ None → length text ≡ end_at l text → place < l.blocks
     → reference_of bs cs place ≡ at_place (read_blocks (bits_of l.blocks (bits l text)) (checks_at l text) text) place
 reference_kept l op text head bs cs behind place few k room kept none ends within =
@@ -102,13 +102,13 @@ reference_kept l op text head bs cs behind place few k room kept none ends withi
     group : (a b j : ℕ) → a + (b + j) ≡ (a + b) + j
     group a b j = omega arith
 
-address_at : (bs : List (Option ℕ)) (a : ℕ) → 1 ≤ a → at_place bs (a - 1) ≡ at_address bs a
+address_at : (bs : List (Option ℕ)) (a : ℕ) → 1 ≤ a → at_place bs (a - 1) ≡ known_at_address bs a
 address_at bs zero h = absurd (omega arith)
 address_at bs (suc k) h = ap (λ (j : ℕ). at_place bs j) (suc_minus k)
 
-pub reference_at : (l : Layout) (op : ℕ) (text head bs cs : List ℕ) (behind address : ℕ) → l.clients ≤ 64 → IsKept l text head bs behind → length cs ≡ 16 * l.blocks
+pub reference_at : (l : Layout) (op : ℕ) (text head bs cs : List ℕ) (behind address : ℕ) → l.clients ≤ 64 → IsTextFront l text head bs behind → length cs ≡ 16 * l.blocks
     → AreChecksKept text (length head + length bs) cs → fault l op text ≡ None → 1 ≤ address → address ≤ l.blocks
-    → reference_of bs cs (address - 1) ≡ at_address (read_blocks (bits_of l.blocks (bits l text)) (checks_at l text) text) address
+    → reference_of bs cs (address - 1) ≡ known_at_address (read_blocks (bits_of l.blocks (bits l text)) (checks_at l text) text) address
 reference_at l op text head bs cs behind address few k room kept none some most =
     reference_kept l op text head bs cs behind (address - 1) few k room kept (no_fault (first_refusal (tests l op text)) none) (fine l op text none).ends (omega arith)
     ∙ address_at (read_blocks (bits_of l.blocks (bits l text)) (checks_at l text) text) address some

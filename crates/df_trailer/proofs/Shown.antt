@@ -8,9 +8,9 @@ use Rattle.df_base.specs.Fields.{spelled}
 use Rattle.df_base.proofs.Laws.{length-spelled}
 use Rattle.df_sessions.specs.declared.session.Session as table
 use Rattle.df_theory.specs.Units.{Session}
-use Rattle.df_trailer.specs.Rooms.{session_of}
+use Rattle.df_trailer.specs.Rooms.{trailer_session}
 use Rattle.df_trailer.specs.Spelling.{listed, spell_checks, spell_sessions}
-use Rattle.df_trailer.specs.Writing.{IsShown, captured_bits, captured_blocks, piece_of, sessions_of}
+use Rattle.df_trailer.specs.Writing.{IsPieceShown, captured_bits, captured_blocks, piece_of, sessions_of}
 use Rattle.df_trailer.proofs.BitBytes.{bit_for, number_bit, past_end}
 use Rattle.df_trailer.proofs.Sessions.{so_sessions}
 use Rattle.df_trailer.proofs.Blocks.{length_listed}
@@ -19,7 +19,7 @@ use Rattle.df_trailer.proofs.Words.{at_listed}
 pub shown_more : (text item room new : List ℕ) (from at : ℕ) → length text ≡ at → length new ≡ length room
     → ((k : ℕ) → from + k < at → slice_index new k ≡ slice_index room k)
     → ((k j : ℕ) → j < length item → from + k ≡ at + j → k < length room → slice_index new k ≡ slice_index item j)
-    → IsShown text from room → IsShown (text ++ item) from new
+    → IsPieceShown text from room → IsPieceShown (text ++ item) from new
 shown_more text item room new from at size same before here were i inside within =
     let all = length-append text item in
     elim (cases_lt (from + i) at) [
@@ -30,11 +30,11 @@ shown_more text item room new from at size same before here were i inside within
           here i j (omega arith) (omega arith) (omega arith) ∙ sym (get_or-append-add text item j 0) ∙ ap (λ (m : ℕ). slice_index (text ++ item) m) there
     ]
 
-pub shown_nothing : (from : ℕ) (room : List ℕ) → IsShown [] from room
+pub shown_nothing : (from : ℕ) (room : List ℕ) → IsPieceShown [] from room
 shown_nothing from room i inside within = absurd (omega arith)
 
-pub shown_all : (from : ℕ) (room a b : List ℕ) → a ≡ b → IsShown a from room → IsShown b from room
-shown_all from room a b same are = subst (λ (text : List ℕ). IsShown text from room) same are
+pub shown_all : (from : ℕ) (room a b : List ℕ) → a ≡ b → IsPieceShown a from room → IsPieceShown b from room
+shown_all from room a b same are = subst (λ (text : List ℕ). IsPieceShown text from room) same are
 
 -- ---- sessions
 
@@ -48,11 +48,11 @@ length_of (s ∷ ss) = ap suc (length_of ss)
 
 -- one session more
 pub sessions_more : (text : List ℕ) (ss : List table.Session) (i : ℕ) (d : table.Session) → i < length ss
-    → (text ++ spell_sessions (sessions_of (take i ss))) ++ spell_sessions (session_of (get_or ss i d) ∷ []) ≡ text ++ spell_sessions (sessions_of (take (i + 1) ss))
+    → (text ++ spell_sessions (sessions_of (take i ss))) ++ spell_sessions (trailer_session (get_or ss i d) ∷ []) ≡ text ++ spell_sessions (sessions_of (take (i + 1) ss))
 sessions_more text ss i d within =
-    let last : List Session = session_of (get_or ss i d) ∷ [] in
+    let last : List Session = trailer_session (get_or ss i d) ∷ [] in
     let front : List Session = sessions_of (take i ss) in
-    let more : sessions_of (take (i + 1) ss) ≡ front ++ last = ap (λ (a : List table.Session). sessions_of a) (take_more ss i d within) ∙ map-append session_of (take i ss) (get_or ss i d ∷ []) in
+    let more : sessions_of (take (i + 1) ss) ≡ front ++ last = ap (λ (a : List table.Session). sessions_of a) (take_more ss i d within) ∙ map-append trailer_session (take i ss) (get_or ss i d ∷ []) in
     append_assoc text (spell_sessions front) (spell_sessions last) ∙ sym (ap (λ (xs : List ℕ). text ++ xs) (ap (λ (a : List Session). spell_sessions a) more ∙ sessions_append front last))
 
 pub size_before : (text : List ℕ) (ss : List table.Session) (i start : ℕ) → length text ≡ start → i ≤ length ss → length (text ++ spell_sessions (sessions_of (take i ss))) ≡ start + 32 * i
@@ -102,7 +102,7 @@ captured_past f n k past = number_bit (captured_blocks f n) k ∙ ap (λ (o : Op
 
 -- ---- the window
 
-pub window_is : (text room : List ℕ) (from n : ℕ) → IsShown text from room → n ≡ min (length text - from) (length room) → take n room ≡ take (length room) (drop from text)
+pub window_is : (text room : List ℕ) (from n : ℕ) → IsPieceShown text from room → n ≡ min (length text - from) (length room) → take n room ≡ take (length room) (drop from text)
 window_is text room from n shown is =
     let d = length-drop from text in
     let a : length (take n room) ≡ n = length-take-le n room (omega arith) in

@@ -9,16 +9,16 @@ use Rattle.df_base.specs.Text.{Piece, text}
 use Rattle.df_base.proofs.Laws.{length-spelled, so_text}
 use Rattle.df_theory.specs.Trailer.{IsCount}
 use Rattle.df_theory.specs.Units.{Layout, Parts}
-use Rattle.df_trailer.specs.Spelling.{blocks_of, is_referenced, spell, spell_checks, text_size, trailer_pieces}
+use Rattle.df_trailer.specs.Spelling.{block_checksums, is_referenced, spell, spell_checks, text_size, trailer_pieces}
 use Rattle.df_trailer.specs.Text.{ones}
 use Rattle.df_trailer.proofs.Blocks.{so_checks}
 use Rattle.df_trailer.proofs.Sessions.{so_sessions}
 
-pub text_sized : (l : Layout) (parts : Parts) → length (spell l parts) ≡ text_size l (length parts.root) (length parts.sessions) (ones (map is_referenced (blocks_of l parts)))
+pub text_sized : (l : Layout) (parts : Parts) → length (spell l parts) ≡ text_size l (length parts.root) (length parts.sessions) (ones (map is_referenced (block_checksums l parts)))
 text_sized l parts =
     let pieces : List (Piece Parts) = drop 2 (trailer_pieces l 0 (length parts.sessions)) in
-    let rest : List ℕ = text pieces parts (spell_checks (blocks_of l parts)) in
-    let all = so_text pieces parts (assumption (so_sessions parts.sessions)) (so_checks (blocks_of l parts)) in
+    let rest : List ℕ = text pieces parts (spell_checks (block_checksums l parts)) in
+    let all = so_text pieces parts (assumption (so_sessions parts.sessions)) (so_checks (block_checksums l parts)) in
     omega (arith, all.size, length-append (spelled 4 (length parts.root)) (parts.root ++ rest), length-append parts.root rest, length-spelled 4 (length parts.root))
 
 pub count_is : (size room n : ℕ) → 0 < room → n ≡ div_ceil size room → IsCount room size n

@@ -8,17 +8,17 @@ use Rattle.df_base.specs.Fields.{spelled}
 use Rattle.df_base.proofs.Laws.{length-spelled, plus_zero}
 use Rattle.df_trailer.specs.Spelling.{is_referenced, spell_checks}
 use Rattle.df_trailer.specs.Text.{ones}
-use Rattle.df_trailer.specs.Writing.{IsShown, captured_blocks, referenced_among}
+use Rattle.df_trailer.specs.Writing.{IsPieceShown, captured_blocks, referenced_among}
 use Rattle.df_trailer.proofs.BitBytes.{spelled_more, spelled_none}
 use Rattle.df_trailer.proofs.Blocks.{length_listed, so_checks}
 use Rattle.df_trailer.proofs.Shown.{checks_more, shown_all}
 
 -- a text that ends before the window
-pub shown_before : (from : ℕ) (room text : List ℕ) → length text ≤ from → IsShown text from room
+pub shown_before : (from : ℕ) (room text : List ℕ) → length text ≤ from → IsPieceShown text from room
 shown_before from room text ends i inside within = absurd (omega arith)
 
 -- what stands after the window
-shown_behind : (from : ℕ) (room a b : List ℕ) → from + length room ≤ length a → IsShown a from room → IsShown (a ++ b) from room
+shown_behind : (from : ℕ) (room a b : List ℕ) → from + length room ≤ length a → IsPieceShown a from room → IsPieceShown (a ++ b) from room
 shown_behind from room a b full were i inside within = were i inside (omega arith) ∙ sym (get_or_append_left a b 0 (from + i) (omega arith))
 
 -- a text is the front of another one
@@ -30,7 +30,7 @@ pub front_short : (a b : List ℕ) → IsFront a b → length a ≤ length b
 front_short a b front = let n = ap (λ (xs : List ℕ). length xs) front.is in omega (arith, n, length-append a front.rest)
 
 -- where an item's front fills the window, the whole item is shown
-pub shown_whole : (from : ℕ) (room text a b : List ℕ) → IsFront a b → from + length room ≤ length (text ++ a) → IsShown (text ++ a) from room → IsShown (text ++ b) from room
+pub shown_whole : (from : ℕ) (room text a b : List ℕ) → IsFront a b → from + length room ≤ length (text ++ a) → IsPieceShown (text ++ a) from room → IsPieceShown (text ++ b) from room
 shown_whole from room text a b front full were =
     shown_all from room ((text ++ a) ++ front.rest) (text ++ b) (append_assoc text a front.rest ∙ ap (λ (xs : List ℕ). text ++ xs) (sym front.is)) (shown_behind from room (text ++ a) front.rest full were)
 
@@ -60,7 +60,7 @@ checks_front f n m h = subst (λ (k : ℕ). IsFront (spell_checks (captured_bloc
 
 -- the checksums are put from a place on that is the first, or whose checksum is at most at the window's begin
 pub checks_begun : (f : ℕ → Option ℕ) (from start n at : ℕ) (room text : List ℕ) → length text ≡ start → at ≡ start + length (spell_checks (captured_blocks f n)) → (0 < n → at ≤ from)
-    → IsShown text from room → IsShown (text ++ spell_checks (captured_blocks f n)) from room
+    → IsPieceShown text from room → IsPieceShown (text ++ spell_checks (captured_blocks f n)) from room
 checks_begun f from start zero at room text size is before were = shown_all from room text (text ++ []) (sym (append-nil text)) were
 checks_begun f from start (suc n) at room text size is before were =
     shown_before from room (text ++ spell_checks (captured_blocks f (suc n))) (omega (arith, length-append text (spell_checks (captured_blocks f (suc n))), before (omega arith)))
@@ -93,13 +93,13 @@ pub spelled_front : (x n m : ℕ) → n ≤ m → IsFront (spelled n x) (spelled
 spelled_front x n m h = subst (λ (k : ℕ). IsFront (spelled n x) (spelled k x)) (past n m h) (spelled_first x n (m - n))
 
 -- a number's bytes are put from the window's begin on
-pub bytes_begun : (from start x n : ℕ) (room text : List ℕ) → length text ≡ start → n ≡ from - start → IsShown text from room → IsShown (text ++ spelled n x) from room
+pub bytes_begun : (from start x n : ℕ) (room text : List ℕ) → length text ≡ start → n ≡ from - start → IsPieceShown text from room → IsPieceShown (text ++ spelled n x) from room
 bytes_begun from start x zero room text at first were = shown_all from room text (text ++ spelled 0 x) (sym (ap (λ (xs : List ℕ). text ++ xs) (spelled_none x) ∙ append-nil text)) were
 bytes_begun from start x (suc n) room text at first were = shown_before from room (text ++ spelled (suc n) x) (omega (arith, length-append text (spelled (suc n) x), length-spelled (suc n) x))
 
 -- and up to the window's end
 pub bytes_shown : (from start x n size : ℕ) (room text : List ℕ) → length text ≡ start → (n < size → from + length room ≤ start + n) → (size < n → start + size ≤ from)
-    → IsShown (text ++ spelled n x) from room → IsShown (text ++ spelled size x) from room
+    → IsPieceShown (text ++ spelled n x) from room → IsPieceShown (text ++ spelled size x) from room
 bytes_shown from start x n size room text at full early were = elim (cases_lt n size) [
   | inl less ↦ shown_whole from room text (spelled n x) (spelled size x) (spelled_front x n size (omega arith)) (omega (arith, length-append text (spelled n x), length-spelled n x, full less)) were
   | inr most ↦ elim (cases_lt size n) [

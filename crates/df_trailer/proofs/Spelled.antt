@@ -11,8 +11,8 @@ use Rattle.df_base.specs.Text.{Fit, AreRead, total}
 use Rattle.df_base.proofs.Laws.{bits_of_bytes, behind, read_back, no_some}
 use Rattle.df_theory.specs.Units.{Layout, Parts, Session}
 use Rattle.df_model.specs.Codec.{IsLawful, IsLawfulSession}
-use Rattle.df_trailer.specs.Spelling.{bits_size, blocks_of, is_referenced, number_of, spell, spell_checks, spell_sessions, trailer_pieces}
-use Rattle.df_trailer.specs.Text.{at_address, bits, bits_at, bits_of, checks_at, count, count_at, end_at, fault, first_wrong, ones, parse, parts_of, read_blocks, read_sessions, root_size, sessions_at, whole, wrong_place}
+use Rattle.df_trailer.specs.Spelling.{bits_size, block_checksums, is_referenced, number_of_bits, spell, spell_checks, spell_sessions, trailer_pieces}
+use Rattle.df_trailer.specs.Text.{bits, bits_at, bits_of, checks_at, count, count_at, end_at, fault, first_wrong, known_at_address, ones, parse, parts_of, read_blocks, read_sessions, root_size, sessions_at, whole, wrong_place}
 use Rattle.df_trailer.specs.Laws.{HasLimits}
 use Rattle.df_trailer.proofs.Bits.{bits_number, number_small}
 use Rattle.df_trailer.proofs.Blocks.{checks_listed, checks_read, length_listed, place_listed}
@@ -26,10 +26,10 @@ pub record Stands (l : Layout) (parts : Parts) (text : List ℕ) : Type 0 where
   pub root_is : take (root_size text) (drop 4 text) ≡ parts.root
   pub count_is : count text ≡ length parts.sessions
   pub sessions : read_sessions (length parts.sessions) (sessions_at text) text ≡ parts.sessions
-  pub bits_is : bits_of l.blocks (bits l text) ≡ map is_referenced (blocks_of l parts)
+  pub bits_is : bits_of l.blocks (bits l text) ≡ map is_referenced (block_checksums l parts)
   pub small : bits l text < 2 ^ l.blocks
-  pub blocks : read_blocks (map is_referenced (blocks_of l parts)) (checks_at l text) text ≡ blocks_of l parts
-  pub size : length text ≡ checks_at l text + 16 * ones (map is_referenced (blocks_of l parts))
+  pub blocks : read_blocks (map is_referenced (block_checksums l parts)) (checks_at l text) text ≡ block_checksums l parts
+  pub size : length text ≡ checks_at l text + 16 * ones (map is_referenced (block_checksums l parts))
 
 pub length_map : (bs : List (Option ℕ)) → length (map is_referenced bs) ≡ length bs
 length_map [] = refl
@@ -54,13 +54,13 @@ small_sessions (s ∷ ss) each =
 pub lawful_stands : (l : Layout) (op : ℕ) (parts : Parts) → HasLimits l → IsLawful l op parts → Stands l parts (spell l parts)
 lawful_stands l op parts limits lawful =
     let text : List ℕ = spell l parts in
-    let bs : List (Option ℕ) = blocks_of l parts in
+    let bs : List (Option ℕ) = block_checksums l parts in
     let set : List Bool = map is_referenced bs in
     let size : length set ≡ l.blocks = length_map bs ∙ length_listed (λ place. parts.references (suc place)) l.blocks in
-    let fits : number_of set < 2 ^ l.blocks = subst (λ (n : ℕ). number_of set < 2 ^ n) size (number_small set) in
+    let fits : number_of_bits set < 2 ^ l.blocks = subst (λ (n : ℕ). number_of_bits set < 2 ^ n) size (number_small set) in
     let short : length parts.root < 256 ^ 4 = omega (arith, lawful.root.0) in
     let few : length parts.sessions < 256 ^ 4 = omega (arith, lawful.sessions.few) in
-    let small : number_of set < 256 ^ bits_size l = omega (arith, fits, bits_fit l.blocks) in
+    let small : number_of_bits set < 256 ^ bits_size l = omega (arith, fits, bits_fit l.blocks) in
     let fit : Fit (trailer_pieces l (length parts.root) (length parts.sessions)) parts = assumption (so_sessions parts.sessions) in
     let here = read_back (trailer_pieces l (length parts.root) (length parts.sessions)) 0 text (spell_checks bs) parts fit refl in
     let rest = behind (trailer_pieces l (length parts.root) (length parts.sessions)) 0 text (spell_checks bs) parts fit refl in
@@ -77,7 +77,7 @@ lawful_stands l op parts limits lawful =
       root_is = read.1.0;
       count_is = many;
       sessions = sessions_read parts.sessions (sessions_at text) text later (small_sessions parts.sessions lawful.sessions.each) front;
-      bits_is = ap (λ (x : ℕ). bits_of l.blocks x) read.1.1.1.1.0 ∙ ap (λ (n : ℕ). bits_of n (number_of set)) (sym size) ∙ bits_number set;
+      bits_is = ap (λ (x : ℕ). bits_of l.blocks x) read.1.1.1.1.0 ∙ ap (λ (n : ℕ). bits_of n (number_of_bits set)) (sym size) ∙ bits_number set;
       small = omega (arith, read.1.1.1.1.0, fits);
       blocks = checks_read bs (checks_at l text) text (checks_listed (λ place. parts.references (suc place)) l.blocks (λ k c is. (lawful.references (suc k) c is).1)) (ap (λ (n : ℕ). drop n text) ends ∙ rest);
       size = omega (arith, text_sized l parts, root, many);
@@ -103,21 +103,21 @@ none_fails l op parts text short few keep st =
     rw (t0, t1, t2, t3, t4, t5, t6, t7, t8, t9) refl
 
 -- the parts of the text
-pub same_parts : (l : Layout) (parts : Parts) (text : List ℕ) → ((k : ℕ) → parts.references k ≡ at_address (blocks_of l parts) k)
+pub same_parts : (l : Layout) (parts : Parts) (text : List ℕ) → ((k : ℕ) → parts.references k ≡ known_at_address (block_checksums l parts) k)
     → Stands l parts text → parts_of l text ≡ parts
 same_parts l parts text at st =
     let sessions : read_sessions (count text) (sessions_at text) text ≡ parts.sessions = ap (λ (n : ℕ). read_sessions n (sessions_at text) text) st.count_is ∙ st.sessions in
-    let blocks : read_blocks (bits_of l.blocks (bits l text)) (checks_at l text) text ≡ blocks_of l parts =
+    let blocks : read_blocks (bits_of l.blocks (bits l text)) (checks_at l text) text ≡ block_checksums l parts =
     ap (λ (xs : List Bool). read_blocks xs (checks_at l text) text) st.bits_is ∙ st.blocks in
-    let references : at_address (read_blocks (bits_of l.blocks (bits l text)) (checks_at l text) text) ≡ parts.references =
-    ap (λ (xs : List (Option ℕ)). at_address xs) blocks ∙ sym (fun_ext at) in
+    let references : known_at_address (read_blocks (bits_of l.blocks (bits l text)) (checks_at l text) text) ≡ parts.references =
+    ap (λ (xs : List (Option ℕ)). known_at_address xs) blocks ∙ sym (fun_ext at) in
     λ i. record { root = st.root_is i; sessions = sessions i; references = references i }
 
 -- nothing is referenced outside of the grid
-listed_again : (l : Layout) (op : ℕ) (parts : Parts) → IsLawful l op parts → (k : ℕ) → parts.references k ≡ at_address (blocks_of l parts) k
+listed_again : (l : Layout) (op : ℕ) (parts : Parts) → IsLawful l op parts → (k : ℕ) → parts.references k ≡ known_at_address (block_checksums l parts) k
 listed_again l op parts lawful k = by_address k
   where
-    by_address : (k : ℕ) → parts.references k ≡ at_address (blocks_of l parts) k
+    by_address : (k : ℕ) → parts.references k ≡ known_at_address (block_checksums l parts) k
     by_address zero = no_some (parts.references 0) (λ c is. omega (arith, (lawful.references 0 c is).0.0))
     by_address (suc k) = sym (place_listed (λ place. parts.references (suc place)) l.blocks (λ j past. no_some _ (λ c is. omega (arith, past, (lawful.references (suc j) c is).0.1))) k)
 

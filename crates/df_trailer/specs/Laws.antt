@@ -4,7 +4,7 @@ use Rattle.df_base.specs.Fields.{AreBytes}
 use Rattle.df_theory.specs.Units.{Layout, Parts}
 use Rattle.df_theory.specs.Shape.{Shape}
 use Rattle.df_model.specs.Codec.{IsLawful, IsCodec}
-use Rattle.df_trailer.specs.Spelling.{blocks_of, is_referenced, spell, text_size}
+use Rattle.df_trailer.specs.Spelling.{block_checksums, is_referenced, spell, text_size}
 use Rattle.df_trailer.specs.Text.{fault, ones, parse, parse_of, refusal}
 use Rattle.df_trailer.specs.declared.fault.Fault.{Fault}
 
@@ -27,4 +27,4 @@ abbrev pub RefusalLaw : Type 0
 RefusalLaw = (l : Layout) (op : ℕ) (text more : List ℕ) (f : Fault) → refusal l op text ≡ Some f → (refusal l op (text ++ more) ≡ Some f) × (fault l op (text ++ more) ≡ Some f)
 
 abbrev pub SizeLaw : Type 0
-SizeLaw = (l : Layout) (parts : Parts) → length (spell l parts) ≡ text_size l (length parts.root) (length parts.sessions) (ones (map is_referenced (blocks_of l parts)))
+SizeLaw = (l : Layout) (parts : Parts) → length (spell l parts) ≡ text_size l (length parts.root) (length parts.sessions) (ones (map is_referenced (block_checksums l parts)))

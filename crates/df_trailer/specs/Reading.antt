@@ -15,7 +15,7 @@ use Rattle.df_trailer.specs.declared.fault.Cause.TheVariants.{Ends, Says}
 use Rattle.df_trailer.specs.declared.reader.Reader.{Reader}
 
 -- a text whose head is this, with these bits after it as far as so many bytes go
-pub record IsKept (l : Layout) (text head bits : List ℕ) (behind : ℕ) : Type 0 where
+pub record IsTextFront (l : Layout) (text head bits : List ℕ) (behind : ℕ) : Type 0 where
   pub rest : List ℕ
   pub is : text ≡ head ++ rest
   pub size : behind ≡ length rest
@@ -84,7 +84,7 @@ bytes_read r = length r.front.head.items + r.behind
 pub record HasRead (layout : file.Layout) (op : ℕ) (r : Reader) (text : List ℕ) : Type 0 where
   pub of_layout : r.layout ≡ layout
   pub of_op : r.op ≡ op
-  pub kept : IsKept (layout_of layout) text r.front.head.items (bits_room r) r.behind
+  pub kept : IsTextFront (layout_of layout) text r.front.head.items (bits_room r) r.behind
   pub checks : AreChecksKept text (length r.front.head.items + bits_size (layout_of layout)) (checks_room r)
 
 -- a reader took a piece after the head: its bytes stand in the rooms, as far as these go, and earlier ones stay

@@ -25,8 +25,8 @@ abbrev pub byte_in_checks : List (List ℕ) → ℕ → ℕ
 byte_in_checks checks place = slice_index (get_or checks (place / 16) []) (place % 16)
 
 -- a session of the table, as a trailer has it
-abbrev pub session_of : table.Session → model.Session
-session_of s = record { client = s.client; request = s.request; op = s.op }
+abbrev pub trailer_session : table.Session → model.Session
+trailer_session s = record { client = s.client; request = s.request; op = s.op }
 
 -- a session of a trailer, as the table has it while no reply is stored
 abbrev pub without_reply : model.Session → table.Session

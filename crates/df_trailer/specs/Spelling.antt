@@ -15,13 +15,13 @@ listed f zero = []
 listed f (suc n) = f 0 ∷ listed (λ k. f (suc k)) n
 
 -- what is known of each block, in order of address
-abbrev pub blocks_of : Layout → Parts → List (Option ℕ)
-blocks_of l parts = listed (λ place. parts.references (suc place)) l.blocks
+abbrev pub block_checksums : Layout → Parts → List (Option ℕ)
+block_checksums l parts = listed (λ place. parts.references (suc place)) l.blocks
 
 -- the number whose bits these are, the lowest first
-abbrev pub number_of : List Bool → ℕ
-number_of [] = 0
-number_of (b ∷ bs) = (if b then 1 else 0) + 2 * number_of bs
+abbrev pub number_of_bits : List Bool → ℕ
+number_of_bits [] = 0
+number_of_bits (b ∷ bs) = (if b then 1 else 0) + 2 * number_of_bits bs
 
 abbrev pub bits_size : Layout → ℕ
 bits_size l = (l.blocks + 7) / 8
@@ -48,12 +48,12 @@ trailer_pieces l root sessions =
     ∷ Bytes root (λ p. p.root)
     ∷ Number 4 (λ p. length p.sessions)
     ∷ Bytes (32 * sessions) (λ p. spell_sessions p.sessions)
-    ∷ Number (bits_size l) (λ p. number_of (map is_referenced (blocks_of l p)))
+    ∷ Number (bits_size l) (λ p. number_of_bits (map is_referenced (block_checksums l p)))
     ∷ []
 
 -- the text of a trailer
 abbrev pub spell : Layout → Parts → List ℕ
-spell l parts = text (trailer_pieces l (length parts.root) (length parts.sessions)) parts (spell_checks (blocks_of l parts))
+spell l parts = text (trailer_pieces l (length parts.root) (length parts.sessions)) parts (spell_checks (block_checksums l parts))
 
 -- how long the text is, of a root of so many bytes, so many sessions and so many referenced blocks
 abbrev pub text_size : Layout → (root sessions references : ℕ) → ℕ

@@ -88,15 +88,15 @@ at_place (b ∷ bs) zero = b
 at_place (b ∷ bs) (suc place) = at_place bs place
 
 -- addresses begin with 1
-abbrev pub at_address : List (Option ℕ) → ℕ → Option ℕ
-at_address bs zero = None
-at_address bs (suc place) = at_place bs place
+abbrev pub known_at_address : List (Option ℕ) → ℕ → Option ℕ
+known_at_address bs zero = None
+known_at_address bs (suc place) = at_place bs place
 
 abbrev pub parts_of : Layout → List ℕ → Parts
 parts_of l text = record {
   root = take (root_size text) (drop 4 text);
   sessions = read_sessions (count text) (sessions_at text) text;
-  references = at_address (read_blocks (bits_of l.blocks (bits l text)) (checks_at l text) text);
+  references = known_at_address (read_blocks (bits_of l.blocks (bits l text)) (checks_at l text) text);
 }
 
 -- ---- the first part that fails

@@ -2,16 +2,16 @@
 use Rattle.std.specs.Prelude.{◌≡◌, ℕ, suc, ◌+◌, ◌*◌, ◌<◌, List, length, take, drop, map, slice_index, Option}
 use Rattle.df_sessions.specs.declared.session.Session as table
 use Rattle.df_theory.specs.Units as model
-use Rattle.df_trailer.specs.Rooms.{session_of}
-use Rattle.df_trailer.specs.Spelling.{is_referenced, listed, number_of}
+use Rattle.df_trailer.specs.Rooms.{trailer_session}
+use Rattle.df_trailer.specs.Spelling.{is_referenced, listed, number_of_bits}
 use Rattle.df_trailer.specs.Text.{ones}
 
 -- what a text has from an offset on stands at the front of a room
-abbrev pub IsShown : List ℕ → ℕ → List ℕ → Type 0
-IsShown text from room = (i : ℕ) → i < length room → from + i < length text → slice_index room i ≡ slice_index text (from + i)
+abbrev pub IsPieceShown : List ℕ → ℕ → List ℕ → Type 0
+IsPieceShown text from room = (i : ℕ) → i < length room → from + i < length text → slice_index room i ≡ slice_index text (from + i)
 
 abbrev pub sessions_of : List table.Session → List model.Session
-sessions_of ss = map session_of ss
+sessions_of ss = map trailer_session ss
 
 -- the blocks that were captured, in order of address
 abbrev pub captured_blocks : (ℕ → Option ℕ) → ℕ → List (Option ℕ)
@@ -23,7 +23,7 @@ referenced_among captured n = ones (map is_referenced (captured_blocks captured 
 
 -- their bits as one number
 abbrev pub captured_bits : (ℕ → Option ℕ) → ℕ → ℕ
-captured_bits captured blocks = number_of (map is_referenced (captured_blocks captured blocks))
+captured_bits captured blocks = number_of_bits (map is_referenced (captured_blocks captured blocks))
 
 -- the parts of a checkpoint that captured this
 abbrev pub captured_parts : List ℕ → List table.Session → (ℕ → Option ℕ) → model.Parts

@@ -63,7 +63,7 @@ impl Reader {
     ghost use Rattle.df_trailer.specs.Reading.{failing_before_end};
     ghost use Rattle.df_trailer.specs.Rooms.{AreParts, number_in};
     ghost use Rattle.df_trailer.specs.Text.{fault, parts_of, refusal};
-    ghost use Rattle.df_trailer.specs.Sessions.{AreRead};
+    ghost use Rattle.df_trailer.specs.Sessions.{AreReadSessions};
     ghost use Rattle.df_trailer.specs.Reading.{HasBit, HasRead, IsRestTaken, bytes_read, failing_in, kept_at, referenced_below};
     ghost use Rattle.df_trailer.specs.Spelling.{is_referenced};
 
@@ -215,7 +215,7 @@ impl Reader {
         ensures bits { (layout : FileLayout) (op : ℕ) (text : List ℕ) → HasRead layout op self text → vec_len result.bits ≡ (layout.blocks + 63) / 64 }
         ensures checks { (layout : FileLayout) (op : ℕ) (text : List ℕ) → HasRead layout op self text → vec_len result.checks ≡ layout.blocks }
         ensures parts { (layout : FileLayout) (op : ℕ) (text : List ℕ) → HasRead layout op self text → AreParts (layout_of layout) result (parts_of (layout_of layout) text) }
-        ensures sessions { (layout : FileLayout) (op : ℕ) (text : List ℕ) → HasRead layout op self text → AreRead layout.clients op result.sessions.items }
+        ensures sessions { (layout : FileLayout) (op : ℕ) (text : List ℕ) → HasRead layout op self text → AreReadSessions layout.clients op result.sessions.items }
     {
         let Reader {
             layout,

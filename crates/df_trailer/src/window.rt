@@ -1,7 +1,7 @@
 // Items of a text, put one after the other into a room that shows a window of the text.
 ghost use Rattle.std.specs.Prelude.{◌≡◌, ◌+◌, ◌<◌, ◌^◌, ◌++◌, List, ℕ, length};
 ghost use Rattle.df_base.specs.Fields.{spelled};
-ghost use Rattle.df_trailer.specs.Writing.{IsShown};
+ghost use Rattle.df_trailer.specs.Writing.{IsPieceShown};
 
 use byteorder::{ByteOrder, LittleEndian};
 
@@ -10,7 +10,7 @@ pub(crate) fn put(room: &mut [u8], from: u64, at: u64, item: &[u8]) -> u64
     requires small { at + length item.now < 2 ^ 62 }
     requires window { from + length room.old < 2 ^ 62 }
     ensures next { result ≡ at + length item.now }
-    ensures shown { (text : List ℕ) → length text ≡ at → IsShown text from room.old → IsShown (text ++ item.now) from room.new }
+    ensures shown { (text : List ℕ) → length text ≡ at → IsPieceShown text from room.old → IsPieceShown (text ++ item.now) from room.new }
     ensures length { length room.new ≡ length room.old }
 {
     let end = at + item.len() as u64;
@@ -32,7 +32,7 @@ pub(crate) fn put_u32(room: &mut [u8], from: u64, at: u64, value: u32) -> u64
     requires small { at + 4 < 2 ^ 62 }
     requires window { from + length room.old < 2 ^ 62 }
     ensures next { result ≡ at + 4 }
-    ensures shown { (text : List ℕ) → length text ≡ at → IsShown text from room.old → IsShown (text ++ spelled 4 value) from room.new }
+    ensures shown { (text : List ℕ) → length text ≡ at → IsPieceShown text from room.old → IsPieceShown (text ++ spelled 4 value) from room.new }
     ensures length { length room.new ≡ length room.old }
 {
     let mut field = [0u8; 4];
@@ -46,7 +46,7 @@ pub(crate) fn put_u64(room: &mut [u8], from: u64, at: u64, value: u64) -> u64
     requires small { at + 8 < 2 ^ 62 }
     requires window { from + length room.old < 2 ^ 62 }
     ensures next { result ≡ at + 8 }
-    ensures shown { (text : List ℕ) → length text ≡ at → IsShown text from room.old → IsShown (text ++ spelled 8 value) from room.new }
+    ensures shown { (text : List ℕ) → length text ≡ at → IsPieceShown text from room.old → IsPieceShown (text ++ spelled 8 value) from room.new }
     ensures length { length room.new ≡ length room.old }
 {
     let mut field = [0u8; 8];
@@ -60,7 +60,7 @@ pub(crate) fn put_u128(room: &mut [u8], from: u64, at: u64, value: u128) -> u64
     requires small { at + 16 < 2 ^ 62 }
     requires window { from + length room.old < 2 ^ 62 }
     ensures next { result ≡ at + 16 }
-    ensures shown { (text : List ℕ) → length text ≡ at → IsShown text from room.old → IsShown (text ++ spelled 16 value) from room.new }
+    ensures shown { (text : List ℕ) → length text ≡ at → IsPieceShown text from room.old → IsPieceShown (text ++ spelled 16 value) from room.new }
     ensures length { length room.new ≡ length room.old }
 {
     let mut field = [0u8; 16];

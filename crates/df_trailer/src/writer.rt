@@ -3,9 +3,9 @@ ghost use Rattle.std.specs.Prelude.{◌≡◌, ◌+◌, ◌-◌, ◌*◌, ◌/�
 ghost use Rattle.std.specs.Int.{bit_at, byte_at};
 ghost use Rattle.df_base.specs.Fields.{spelled};
 ghost use Rattle.df_units.specs.Meaning.{layout_of};
-ghost use Rattle.df_trailer.specs.Rooms.{session_of};
+ghost use Rattle.df_trailer.specs.Rooms.{trailer_session};
 ghost use Rattle.df_trailer.specs.Spelling.{spell, spell_checks, spell_sessions};
-ghost use Rattle.df_trailer.specs.Writing.{IsShown, captured_bits, captured_blocks, captured_parts, piece_of, sessions_of};
+ghost use Rattle.df_trailer.specs.Writing.{IsPieceShown, captured_bits, captured_blocks, captured_parts, piece_of, sessions_of};
 
 use crate::CapturedBlocks;
 use crate::groups::begin_before;
@@ -19,7 +19,7 @@ fn put_root(room: &mut [u8], from: u64, root: &[u8]) -> u64
     requires small { length root.now ≤ 1024 }
     requires window { from + length room.old < 2 ^ 62 }
     ensures next { result ≡ 4 + length root.now }
-    ensures shown { IsShown ((([] ++ spelled 4 (length root.now))) ++ root.now) from room.new }
+    ensures shown { IsPieceShown ((([] ++ spelled 4 (length root.now))) ++ root.now) from room.new }
     ensures length { length room.new ≡ length room.old }
 {
     let at = put_u32(room, from, 0, root.len() as u32);
@@ -31,7 +31,7 @@ fn put_session(room: &mut [u8], from: u64, at: u64, session: &Session) -> u64
     requires small { at + 32 < 2 ^ 62 }
     requires window { from + length room.old < 2 ^ 62 }
     ensures next { result ≡ at + 32 }
-    ensures shown { (text : List ℕ) → length text ≡ at → IsShown text from room.old → IsShown (text ++ spell_sessions (session_of session.now ∷ [])) from room.new }
+    ensures shown { (text : List ℕ) → length text ≡ at → IsPieceShown text from room.old → IsPieceShown (text ++ spell_sessions (trailer_session session.now ∷ [])) from room.new }
     ensures length { length room.new ≡ length room.old }
 {
     let next = put_u128(room, from, at, session.client);
@@ -45,7 +45,7 @@ fn put_sessions(room: &mut [u8], from: u64, start: u64, sessions: &[Session]) ->
     requires small { start < 2 ^ 60 }
     requires window { from + length room.old < 2 ^ 62 }
     ensures next { result ≡ start + 32 * length sessions.now }
-    ensures shown { (text : List ℕ) → length text ≡ start → IsShown text from room.old → IsShown (text ++ spell_sessions (sessions_of sessions.now)) from room.new }
+    ensures shown { (text : List ℕ) → length text ≡ start → IsPieceShown text from room.old → IsPieceShown (text ++ spell_sessions (sessions_of sessions.now)) from room.new }
     ensures length { length room.new ≡ length room.old }
 {
     let mut at = start;
@@ -86,8 +86,8 @@ fn put_bits<G: CapturedBlocks>(room: &mut [u8], from: u64, start: u64, grid: &G,
     requires small { start < 2 ^ 60 }
     requires window { from + length room.old < 2 ^ 62 }
     ensures next { result ≡ start + (blocks + 7) / 8 }
-    ensures shown { (text : List ℕ) → length text ≡ start → IsShown text from room.old
-        → IsShown (text ++ spelled ((blocks + 7) / 8) (captured_bits (G.captured grid.now) blocks)) from room.new }
+    ensures shown { (text : List ℕ) → length text ≡ start → IsPieceShown text from room.old
+        → IsPieceShown (text ++ spelled ((blocks + 7) / 8) (captured_bits (G.captured grid.now) blocks)) from room.new }
     ensures length { length room.new ≡ length room.old }
 {
     let size = u64::from(blocks.div_ceil(8));
@@ -104,7 +104,7 @@ fn put_check<G: CapturedBlocks>(room: &mut [u8], from: u64, at: u64, grid: &G, a
     requires small { at + 16 < 2 ^ 62 }
     requires window { from + length room.old < 2 ^ 62 }
     ensures next { result ≡ at + length (spell_checks (G.captured grid.now address ∷ [])) }
-    ensures shown { (text : List ℕ) → length text ≡ at → IsShown text from room.old → IsShown (text ++ spell_checks (G.captured grid.now address ∷ [])) from room.new }
+    ensures shown { (text : List ℕ) → length text ≡ at → IsPieceShown text from room.old → IsPieceShown (text ++ spell_checks (G.captured grid.now address ∷ [])) from room.new }
     ensures length { length room.new ≡ length room.old }
 {
     match grid.captured(address) {
@@ -125,7 +125,7 @@ fn put_checks<G: CapturedBlocks>(
     requires small { start < 2 ^ 60 }
     requires window { from + length room.old < 2 ^ 62 }
     ensures left { min (result - from) (length room.new) ≡ min (start + length (spell_checks (captured_blocks (G.captured grid.now) blocks)) - from) (length room.new) }
-    ensures shown { (text : List ℕ) → length text ≡ start → IsShown text from room.old → IsShown (text ++ spell_checks (captured_blocks (G.captured grid.now) blocks)) from room.new }
+    ensures shown { (text : List ℕ) → length text ≡ start → IsPieceShown text from room.old → IsPieceShown (text ++ spell_checks (captured_blocks (G.captured grid.now) blocks)) from room.new }
     ensures length { length room.new ≡ length room.old }
 {
     let end = from + room.len() as u64;

@@ -15,7 +15,7 @@ use Rattle.df_format.specs.Message.{Message}
 use Rattle.df_format.specs.Own.{place_in}
 use Rattle.df_format.specs.Shown
 use Rattle.df_format.specs.Shown.{bytes_of, part_in, unit_in}
-use Rattle.df_format.specs.Copies.{Content, class_of_copy, content_at, content_of as content_of_copy, copy_at, copy_in, copy_or_class, if_here}
+use Rattle.df_format.specs.Copies.{Content, class_of_copy, content_at, content_in_copy as content_of_copy, copy_at, copy_in, copy_or_class, if_here}
 use Rattle.df_format.specs.Valid.{IsUnit}
 use Rattle.df_format.proofs.Laws.{read_shown, shown_belongs, shown_is_unit, header_count}
 use Rattle.df_theory.specs.Units

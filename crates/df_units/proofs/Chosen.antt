@@ -9,7 +9,7 @@ use Rattle.df_base.proofs.Laws.{AreBytes-take, AreBytes-drop, same_front}
 use Rattle.df_layout.specs.declared.layout.Layout.{Layout}
 use Rattle.df_format.specs.declared.superblock.SuperCopy.{SuperCopy}
 use Rattle.df_format.specs.Spelling.{IsCheck}
-use Rattle.df_format.specs.Copies.{Content, content_at, content_of as content_of_copy, copy_at, copy_in, if_here, super_fields_of}
+use Rattle.df_format.specs.Copies.{Content, content_at, content_in_copy as content_of_copy, copy_at, copy_in, if_here, super_fields_of}
 use Rattle.df_format.proofs.Laws.{are_checks, is_here, length-checks_at, read_as}
 use Rattle.df_quorum.specs.Quorum
 use Rattle.df_theory.specs.Units
@@ -17,7 +17,7 @@ use Rattle.df_theory.specs.Units.{CopyUnit}
 use Rattle.df_theory.specs.Copies
 use Rattle.df_units.specs.Meaning.{content_of, number_of, offset_list, or_nothing, rest_of}
 use Rattle.df_units.specs.Bytes.{copy_unit, unit_at}
-use Rattle.df_units.specs.Superblocks.{ChoiceIsChosen, ChosenIsChoice, HasChecks, ShownHasChecks, SplitIsSplit}
+use Rattle.df_units.specs.Superblocks.{ChoiceIsChosen, ChosenIsChoice, ContentHasChecks, ShownHasChecks, SplitIsSplit}
 use Rattle.df_units.proofs.Numbers.{one_number}
 use Rattle.df_units.proofs.Versions.{by_other, by_second, checks_same, named_or_nothing}
 
@@ -34,7 +34,7 @@ few None = omega arith
 few (Some n) = omega arith
 
 -- what version 2 names, or leaves empty in another version
-named_same : (c d : Content) → HasChecks c → HasChecks d → content_of c ≡ content_of d → (c.fields.head_checksum ≡ d.fields.head_checksum) × (c.fields.reply_checksums ≡ d.fields.reply_checksums) × (c.fields.first_nonzero ≡ d.fields.first_nonzero)
+named_same : (c d : Content) → ContentHasChecks c → ContentHasChecks d → content_of c ≡ content_of d → (c.fields.head_checksum ≡ d.fields.head_checksum) × (c.fields.reply_checksums ≡ d.fields.reply_checksums) × (c.fields.first_nonzero ≡ d.fields.first_nonzero)
 named_same c d one two same =
     let f = c.fields in
     let g = d.fields in
@@ -72,7 +72,7 @@ named_same c d one two same =
           )
     ]
 
-pub one_content : (c d : Content) → HasChecks c → HasChecks d → content_of c ≡ content_of d → c ≡ d
+pub one_content : (c d : Content) → ContentHasChecks c → ContentHasChecks d → content_of c ≡ content_of d → c ≡ d
 one_content c d one two same =
     let checksum = one_number c.checksum d.checksum one.checksum two.checksum (ap (λ (e : Units.Content). e.checksum) same) in
     let op_checksum = one_number c.fields.op_checksum d.fields.op_checksum one.op_checksum two.op_checksum (ap (λ (e : Units.Content). e.op_checksum) same) in
@@ -110,7 +110,7 @@ check_in bytes at sector fits = record {
   each = AreBytes-take 16 (drop at bytes) (AreBytes-drop at bytes sector.each);
 }
 
-read_checks : (bytes : List ℕ) → IsSector bytes → HasChecks (record { checksum = take 16 bytes; fields = super_fields_of bytes })
+read_checks : (bytes : List ℕ) → IsSector bytes → ContentHasChecks (record { checksum = take 16 bytes; fields = super_fields_of bytes })
 unfolding super_fields_of
 read_checks bytes sector = record { checksum = check_in bytes 0 sector (omega arith); op_checksum = check_in bytes 112 sector (omega arith); trailer_checksum = check_in bytes 128 sector (omega arith); head_checksum = check_in bytes 160 sector (omega arith); reply_checksums = record { size = length-checks_at 64 192 bytes; each = are_checks 64 192 bytes sector.each (omega (arith, sector.size)) } }
 
@@ -124,7 +124,7 @@ shown_checks image n c whole is =
     let parts = content_parts (if_here n (copy_in (image n))) c is in
     let here = is_here n (copy_in (image n)) parts.0 parts.1 in
     let read = read_as (image n) parts.0 here.0 in
-    subst HasChecks (ap (λ (copy : SuperCopy). let e : Content = record { checksum = copy.checksum; fields = copy.fields } in e) read.is ∙ parts.2) (read_checks (image n) (whole.sectors n))
+    subst ContentHasChecks (ap (λ (copy : SuperCopy). let e : Content = record { checksum = copy.checksum; fields = copy.fields } in e) read.is ∙ parts.2) (read_checks (image n) (whole.sectors n))
 
 -- ---- copies
 
@@ -134,20 +134,20 @@ copy_parts (Some c) d is = (c, refl, cc)
 
 module _ (layout : Layout) (cluster : ℕ) (image : Image) (whole : IsImage image) where
   -- two copies that agree in the theory agree
-  agree_back : (d : Units.Content) → Copies.Agree (unit_at layout cluster image) d → (c : Content) × (content_of c ≡ d) × Quorum.Agree (content_at image) c
+  agree_back : (d : Units.Content) → Copies.Agree (unit_at layout cluster image) d → (c : Content) × (content_of c ≡ d) × Quorum.CopiesAgree (content_at image) c
   agree_back d agreed =
       let one = copy_parts (content_at image agreed.first) d agreed.at_first in
       let two = copy_parts (content_at image agreed.second) d agreed.at_second in
       let same : two.0 ≡ one.0 = one_content two.0 one.0 (shown_checks image agreed.second two.0 whole two.1) (shown_checks image agreed.first one.0 whole one.1) (two.2 ∙ sym one.2) in
       (one.0, one.2, record { first = agreed.first; second = agreed.second; apart = agreed.apart; inside = agreed.inside; at_first = one.1; at_second = two.1 ∙ ap Some same })
 
-  agree_there : (c : Content) → Quorum.Agree (content_at image) c → Copies.Agree (unit_at layout cluster image) (content_of c)
+  agree_there : (c : Content) → Quorum.CopiesAgree (content_at image) c → Copies.Agree (unit_at layout cluster image) (content_of c)
   agree_there c agreed = record { first = agreed.first; second = agreed.second; apart = agreed.apart; inside = agreed.inside; at_first = ap copy_unit agreed.at_first; at_second = ap copy_unit agreed.at_second }
 
   rank_back : (c : Content) (d : Units.Content) → content_of c ≡ d → 18446744073709551616 * c.fields.sequence + c.fields.boot ≡ Copies.rank_of d
   rank_back c d same = ap Copies.rank_of same
 
-  chosen_there : (c : Content) → Quorum.IsChosen (content_at image) c → Copies.IsChosen (unit_at layout cluster image) (content_of c)
+  chosen_there : (c : Content) → Quorum.IsChosenContent (content_at image) c → Copies.IsChosen (unit_at layout cluster image) (content_of c)
   chosen_there c chosen = record {
     agreed = agree_there c chosen.agreed;
     greatest = λ d agreed.
@@ -162,7 +162,7 @@ module _ (layout : Layout) (cluster : ℕ) (image : Image) (whole : IsImage imag
         (found.0, found.1, ap copy_unit found.2);
   }
 
-  chosen_back : (d : Units.Content) → Copies.IsChosen (unit_at layout cluster image) d → (c : Content) × (content_of c ≡ d) × Quorum.IsChosen (content_at image) c
+  chosen_back : (d : Units.Content) → Copies.IsChosen (unit_at layout cluster image) d → (c : Content) × (content_of c ≡ d) × Quorum.IsChosenContent (content_at image) c
   chosen_back d chosen =
       let back = agree_back d chosen.agreed in (
         back.0,

@@ -10,7 +10,7 @@ use Rattle.df_layout.specs.declared.places.Zone.TheVariants.{WalHeaders, WalPrep
 use Rattle.df_format.specs.declared.kind.Kind.{Kind}
 use Rattle.df_format.specs.declared.kind.Kind.TheVariants.{Reserved, Prepare, Reply, Block, Trailer}
 use Rattle.df_format.specs.declared.superblock.SuperCopy.{SuperCopy}
-use Rattle.df_format.specs.Copies.{Content, class_of_copy, content_at, content_of, copy_at}
+use Rattle.df_format.specs.Copies.{Content, class_of_copy, content_at, content_in_copy, copy_at}
 use Rattle.df_format.specs.Message.{Message}
 use Rattle.df_format.specs.Own.{place_in}
 use Rattle.df_format.specs.Rules.{IsSealed}
@@ -24,20 +24,20 @@ use Rattle.df_theory.specs.Units
 use Rattle.df_theory.specs.Units.{AnyUnit, BlockPlace, BlockUnit, CopyPlace, CopyUnit, HeaderPlace, HeaderUnit, PreparePlace, PrepareUnit, ReplyPlace, ReplyUnit}
 use Rattle.df_units.specs.Meaning.{block_of, content_of as content_of_copy, header_of, message_of, number_of, place_of, unit_of}
 use Rattle.df_units.specs.Bytes.{copy_unit, message_unit}
-use Rattle.df_units.specs.Wanted.{ClassesTell, HasCheck, IsOfKind, IsTold, IsWanted, NoneIsWanted, UnitsAreTold}
+use Rattle.df_units.specs.Wanted.{ClassesTell, HasWantedCheck, IsOfKind, IsTold, IsWantedUnit, NoneIsWanted, UnitsAreTold}
 use Rattle.df_units.proofs.Numbers.{one_number, sealed_check}
 use Rattle.df_units.proofs.AtPlaces.{prepare_op, reserved_op}
 use Rattle.df_units.proofs.Told.{block_rules, trailer_rules}
 
 -- ---- classes
 
-copy_none : (o : Option SuperCopy) → copy_unit (content_of o) ≡ None → o ≡ None
+copy_none : (o : Option SuperCopy) → copy_unit (content_in_copy o) ≡ None → o ≡ None
 copy_none None is = refl
 copy_none (Some copy) is = absurd (cc)
 
 copy_told : (image : Image) (n : ℕ) → (class_of_copy n (image n) ≢ Stale) ↔ (copy_unit (content_at image n) ≡ None)
 copy_told image n = (
-  λ other. ap (λ (o : Option SuperCopy). copy_unit (content_of o)) (no_some (copy_at image n) (λ copy is. other (valid_is_stale image n copy is))),
+  λ other. ap (λ (o : Option SuperCopy). copy_unit (content_in_copy o)) (no_some (copy_at image n) (λ copy is. other (valid_is_stale image n copy is))),
   λ none stale.
       let found = stale_copy image n stale in
       let some : None ≡ Some found.0 = sym (copy_none (copy_at image n) none) ∙ found.1 in
@@ -120,20 +120,20 @@ no_op u op kind is differs = (λ wanted. differs (sym is ∙ wanted.kind), λ no
 no_answer : (u : Message) (client request op : ℕ) (kind : Kind) → u.header.kind ≡ kind → (kind ≡ Reply → ⊥) → Wanted.IsAnswer client request op u ↔ ⊥
 no_answer u client request op kind is differs = (λ wanted. differs (sym is ∙ wanted.kind), λ none. absurd none)
 
-prepare_wanted : (u : Message) (wanted : Wanted.Wanted) → HasCheck wanted → IsSealed u.header → u.header.kind ≡ Prepare → Wanted.IsWanted wanted u ↔ IsWanted wanted (PrepareUnit (message_of u))
+prepare_wanted : (u : Message) (wanted : Wanted.Wanted) → HasWantedCheck wanted → IsSealed u.header → u.header.kind ≡ Prepare → Wanted.IsWanted wanted u ↔ IsWantedUnit wanted (PrepareUnit (message_of u))
 prepare_wanted u Any fits is kind = (λ _. tt, λ _. tt)
 prepare_wanted u (Op op) fits is kind = (λ wanted. wanted.op, λ same. record { kind = kind; op = same })
 prepare_wanted u (Checksum checksum) fits is kind = check_told u checksum is fits
 prepare_wanted u (Answer client request op) fits is kind = no_answer u client request op Prepare kind (λ same. cc)
 
-reply_wanted : (u : Message) (wanted : Wanted.Wanted) → HasCheck wanted → IsSealed u.header → u.header.kind ≡ Reply → Wanted.IsWanted wanted u ↔ IsWanted wanted (ReplyUnit (message_of u))
+reply_wanted : (u : Message) (wanted : Wanted.Wanted) → HasWantedCheck wanted → IsSealed u.header → u.header.kind ≡ Reply → Wanted.IsWanted wanted u ↔ IsWantedUnit wanted (ReplyUnit (message_of u))
 reply_wanted u Any fits is kind = (λ _. tt, λ _. tt)
 reply_wanted u (Op op) fits is kind = no_op u op Reply kind (λ same. cc)
 reply_wanted u (Checksum checksum) fits is kind = check_told u checksum is fits
 reply_wanted u (Answer client request op) fits is kind =
     (λ wanted. (wanted.client, wanted.request, wanted.op), λ same. record { kind = kind; client = same.0; request = same.1; op = same.2 })
 
-header_wanted : (u : Message) (wanted : Wanted.Wanted) → HasCheck wanted → IsSealed u.header → IsInRing u → Wanted.IsWanted wanted u ↔ IsWanted wanted (HeaderUnit (header_of u.header))
+header_wanted : (u : Message) (wanted : Wanted.Wanted) → HasWantedCheck wanted → IsSealed u.header → IsInRing u → Wanted.IsWanted wanted u ↔ IsWantedUnit wanted (HeaderUnit (header_of u.header))
 header_wanted u Any fits is ring = (λ _. tt, λ _. tt)
 header_wanted u (Op op) fits is (inl reserved) =
     (λ wanted. absurd (let both : Reserved ≡ Prepare = sym reserved.0 ∙ wanted.kind in cc), λ same. absurd (omega (arith, reserved.1, same.0)))
@@ -142,7 +142,7 @@ header_wanted u (Checksum checksum) fits is ring = check_told u checksum is fits
 header_wanted u (Answer client request op) fits is (inl reserved) = no_answer u client request op Reserved reserved.0 (λ same. cc)
 header_wanted u (Answer client request op) fits is (inr prepare) = no_answer u client request op Prepare prepare.0 (λ same. cc)
 
-block_wanted : (u : Message) (wanted : Wanted.Wanted) → HasCheck wanted → IsSealed u.header → IsInGrid u → Wanted.IsWanted wanted u ↔ IsWanted wanted (BlockUnit (block_of u))
+block_wanted : (u : Message) (wanted : Wanted.Wanted) → HasWantedCheck wanted → IsSealed u.header → IsInGrid u → Wanted.IsWanted wanted u ↔ IsWantedUnit wanted (BlockUnit (block_of u))
 block_wanted u Any fits is grid = (λ _. tt, λ _. tt)
 block_wanted u (Op op) fits is (inl block) = no_op u op Block block.0 (λ same. cc)
 block_wanted u (Op op) fits is (inr trailer) = no_op u op Trailer trailer.0 (λ same. cc)
@@ -179,8 +179,8 @@ units_told layout cluster (BlockPlace a) kind wanted u x fits is means =
     let grid = in_grid layout cluster a u is in
     subst (λ (y : AnyUnit). IsTold kind wanted u y) (same_Some _ _ means) (record { of_kind = block_kind u kind grid; is_wanted = block_wanted u wanted fits is.sealed grid })
 
-module _ (layout : Layout) (cluster : ℕ) (image : Image) (place : Units.Place) (kind : Kind) (wanted : Wanted.Wanted) (whole : IsImage image) (fits : HasCheck wanted) (none : (u : Message) → Shown.unit_at layout cluster image (place_of place) ≡ Some u → u.header.kind ≡ kind → ¬ Wanted.IsWanted wanted u) where
-  none_by : (o : Option Message) (x : AnyUnit) → Shown.unit_at layout cluster image (place_of place) ≡ o → message_unit place o ≡ Some x → IsOfKind kind x → ¬ IsWanted wanted x
+module _ (layout : Layout) (cluster : ℕ) (image : Image) (place : Units.Place) (kind : Kind) (wanted : Wanted.Wanted) (whole : IsImage image) (fits : HasWantedCheck wanted) (none : (u : Message) → Shown.unit_at layout cluster image (place_of place) ≡ Some u → u.header.kind ≡ kind → ¬ Wanted.IsWanted wanted u) where
+  none_by : (o : Option Message) (x : AnyUnit) → Shown.unit_at layout cluster image (place_of place) ≡ o → message_unit place o ≡ Some x → IsOfKind kind x → ¬ IsWantedUnit wanted x
   none_by None x shown means of_kind is_wanted = absurd (cc)
   none_by (Some u) x shown means of_kind is_wanted =
       let told = units_told layout cluster place kind wanted u x fits (shown_is_unit layout cluster image (place_of place) u whole shown) means in

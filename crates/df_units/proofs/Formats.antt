@@ -26,7 +26,7 @@ use Rattle.df_units.specs.Meaning.{content_of}
 use Rattle.df_units.specs.Format.{format_of, shape_of}
 use Rattle.df_units.specs.Puts.{header_unit, put_copies}
 use Rattle.df_units.specs.Superblocks.{AreFieldsOf}
-use Rattle.df_units.specs.Making.{AreReserved, FormatOnDisk, NewIsMaking, first_view, format_events, header_puts, header_writes}
+use Rattle.df_units.specs.Making.{AreReservedSectors, FormatOnDisk, NewIsMaking, first_view, format_events, header_puts, header_writes}
 use Rattle.df_units.proofs.Numbers.{no_number}
 use Rattle.df_units.proofs.Usable.{second_usable_passes}
 use Rattle.df_units.proofs.Versions.{none_zero}
@@ -34,11 +34,11 @@ use Rattle.df_units.proofs.Local.{blank_empty, is_format}
 use Rattle.df_units.proofs.Told.{reserved_put}
 use Rattle.df_units.proofs.Writes.{copy_put, headers_put, some_header}
 
-pub headers_are_steps : (layout : Layout) (cluster sector : ℕ) (sectors : List (List Header)) → AreReserved layout cluster sector sectors → AreSteps (format_of layout cluster) (header_writes layout sector sectors) (all_puts (header_puts sector sectors))
+pub headers_are_steps : (layout : Layout) (cluster sector : ℕ) (sectors : List (List Header)) → AreReservedSectors layout cluster sector sectors → AreSteps (format_of layout cluster) (header_writes layout sector sectors) (all_puts (header_puts sector sectors))
 headers_are_steps layout cluster sector [] are = tt
 headers_are_steps layout cluster sector (headers ∷ rest) are = (headers_put layout cluster sector headers are.0, headers_are_steps layout cluster (sector + 1) rest are.2)
 
-pub all_reserved : (layout : Layout) (cluster sector : ℕ) (sectors : List (List Header)) → AreReserved layout cluster sector sectors → AllReserved (header_puts sector sectors)
+pub all_reserved : (layout : Layout) (cluster sector : ℕ) (sectors : List (List Header)) → AreReservedSectors layout cluster sector sectors → AllReserved (header_puts sector sectors)
 all_reserved layout cluster sector [] are = tt
 all_reserved layout cluster sector (headers ∷ rest) are = (reserved_put sector headers are.0.sixteen are.1, all_reserved layout cluster (sector + 1) rest are.2)
 
@@ -46,7 +46,7 @@ pub some_unit : (o : Option AnyUnit) → is_some o ≡ true → (y : AnyUnit) ×
 some_unit None is = absurd (cc)
 some_unit (Some y) is = (y, refl)
 
-pub reached : (layout : Layout) (cluster sector : ℕ) (sectors : List (List Header)) → AreReserved layout cluster sector sectors → (s : ℕ) → sector ≤ s / 16 → s / 16 < sector + length sectors → Reaches (header_puts sector sectors) (HeaderPlace s)
+pub reached : (layout : Layout) (cluster sector : ℕ) (sectors : List (List Header)) → AreReservedSectors layout cluster sector sectors → (s : ℕ) → sector ≤ s / 16 → s / 16 < sector + length sectors → Reaches (header_puts sector sectors) (HeaderPlace s)
 reached layout cluster sector [] are s from upto = absurd (omega arith)
 reached layout cluster sector (headers ∷ rest) are s from upto = elim (cases_eq (s / 16) sector) [
   | inl here ↦

@@ -12,7 +12,7 @@ use Rattle.df_layout.specs.Zones.{first_sector}
 use Rattle.df_format.specs.declared.superblock.SuperCopy.{SuperCopy}
 use Rattle.df_format.specs.Own.{has_index, place_in}
 use Rattle.df_format.specs.Shown
-use Rattle.df_format.specs.Copies.{content_at, content_of, copy_at, copy_in, if_here}
+use Rattle.df_format.specs.Copies.{content_at, content_in_copy, copy_at, copy_in, if_here}
 use Rattle.df_format.proofs.Laws.{blank_copy_none, blank_none, has-from, is_here, read_as, same_copy, same_shown, shown_belongs}
 use Rattle.df_theory.specs.Units
 use Rattle.df_theory.specs.Units.{BlockPlace, CopyPlace, HeaderPlace, PreparePlace, ReplyPlace}
@@ -34,7 +34,7 @@ copy_count layout n = refl
 copy_outside : (image : Image) (n : ℕ) → 4 ≤ n → content_at image n ≡ None
 unfolding copy_at
 copy_outside image n outside =
-    ap content_of (no_some (if_here n (copy_in (image n))) (λ copy is.
+    ap content_in_copy (no_some (if_here n (copy_in (image n))) (λ copy is.
     let here = is_here n (copy_in (image n)) copy is in
     let read = read_as (image n) copy here.0 in
     omega (arith, read.number, ap (λ (c : SuperCopy). c.number) read.is, here.1)))

@@ -19,7 +19,7 @@ use Rattle.df_theory.specs.UnitLog.{put_one}
 use Rattle.df_units.specs.Meaning.{header_of}
 use Rattle.df_units.specs.Bytes.{unit_at}
 use Rattle.df_units.specs.Puts.{AreHeaders, IsNextSector, header_unit, put_headers}
-use Rattle.df_units.specs.Sample.{OneOfSixteenIsNew, ReservedIsUnit, TableIsWritten, headers_of, reserved_header, reserved_image, sector_of, with_new}
+use Rattle.df_units.specs.Sample.{OneOfSixteenIsNew, ReservedIsUnit, SampleTableIsWritten, headers_of, reserved_header, reserved_image, sector_of, with_new}
 use Rattle.df_units.proofs.Writes.{headers_put, one_new}
 
 -- ---- headers of a table
@@ -46,7 +46,7 @@ is_of_table table sector i h is =
     let inside = inside_of table (16 * sector) 16 i h is in
     (inside, same_Some _ _ (sym (header_in table (16 * sector) 16 i inside) ∙ is))
 
-pub table_written : TableIsWritten
+pub table_written : SampleTableIsWritten
 table_written layout cluster sector table inside valid = record {
   sixteen = record {
     count = headers_count table (16 * sector) 16;

@@ -17,7 +17,7 @@ use Rattle.df_theory.specs.Trailer.{IsReference}
 use Rattle.df_theory.specs.View.{IsOfVersion, PassesTests}
 use Rattle.df_units.specs.Meaning.{answered_of, content_of, layout_of, number_of, offset_list, or_nothing, pin_checksum_of, pin_of, rest_of, unnamed_of}
 use Rattle.df_units.specs.Format.{shape_as, shape_of}
-use Rattle.df_units.specs.Superblocks.{AreFieldsOf, HasChecks, PassingIsUsable, UsablePasses}
+use Rattle.df_units.specs.Superblocks.{AreFieldsOf, ContentHasChecks, PassingIsUsable, UsablePasses}
 use Rattle.df_units.proofs.Numbers.{no_number, one_number}
 use Rattle.df_units.proofs.Versions.{are_zeros_of, by_other, by_second, named_zeros, none_zero, nothing, spare_zero, zeros_are}
 
@@ -149,7 +149,7 @@ no_rest f zeros =
 none_from : (checks : List (List ℕ)) → All IsCheck checks → ((k : ℕ) → k < length checks → slice_index (map number_of checks) k ≡ 0) → AreNone checks
 none_from checks each zeros k past inside = zero_number (get_or checks k past) (each k past inside) (sym (get_or-map number_of checks k past 0 inside) ∙ zeros k inside)
 
-module _ (c : Content) (checks : HasChecks c) where
+module _ (c : Content) (checks : ContentHasChecks c) where
   abbrev f : SuperFields
   f = c.fields
 

@@ -30,7 +30,7 @@ append_events layout slot bytes sector headers =
     Write (first_at layout (PreparePlace slot)) bytes ∷ Sync ∷ Write (first_at layout (HeaderPlace (16 * sector))) (headers_bytes headers) ∷ Sync ∷ []
 
 -- a tidy file leads to the next one: a stop at any moment leaves one of the two views, and where the referenced blocks stood, they do
-pub record LeadsOnDisk (f : Format) (sh : Shape) (before after : Log.Log) (v u : View) : Type 0 where
+pub record AppendLeadsOnDisk (f : Format) (sh : Shape) (before after : Log.Log) (v u : View) : Type 0 where
   pub moments : EachMoment before after (IsGoodDisk f sh v u)
   pub tidy : IsTidy sh (units_log f after) u
   pub whole : IsStanding (units_log f before) v → EachMoment before after (IsGoodWholeDisk f sh v u)
@@ -42,4 +42,4 @@ AppendOnDisk =
     (layout : Layout) (cluster : ℕ) (named : 0 < cluster) (parse : ℕ → List ℕ → Option Units.Parts) (log : Log.Log) (v : View) (u : Message) (bytes : List ℕ) (sector : ℕ) (headers : List Header)
     → IsLog log → IsTidy (shape_of layout cluster named parse) (units_log (format_of layout cluster) log) v → MayAppend (shape_of layout cluster named parse) v (message_of u ∷ [])
     → Brings layout cluster (place_in WalPrepares u.header.slot) u bytes → IsNextSector layout cluster (Log.now log) u.header sector headers
-    → LeadsOnDisk (format_of layout cluster) (shape_of layout cluster named parse) log (adds (append_events layout u.header.slot bytes sector headers) log) v (appended v (message_of u ∷ []))
+    → AppendLeadsOnDisk (format_of layout cluster) (shape_of layout cluster named parse) log (adds (append_events layout u.header.slot bytes sector headers) log) v (appended v (message_of u ∷ []))

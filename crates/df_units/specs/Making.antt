@@ -37,10 +37,10 @@ header_puts sector [] = []
 header_puts sector (headers ∷ rest) = put_headers sector headers ∷ header_puts (sector + 1) rest
 
 -- sectors of reserved headers
-abbrev pub AreReserved : Layout → ℕ → ℕ → List (List Header) → Type 0
-AreReserved layout cluster sector [] = Unit {0}
-AreReserved layout cluster sector (headers ∷ rest) =
-    AreHeaders layout cluster sector headers × ((i : ℕ) (h : Header) → slice_get headers i ≡ Some h → h.kind ≡ Reserved) × AreReserved layout cluster (sector + 1) rest
+abbrev pub AreReservedSectors : Layout → ℕ → ℕ → List (List Header) → Type 0
+AreReservedSectors layout cluster sector [] = Unit {0}
+AreReservedSectors layout cluster sector (headers ∷ rest) =
+    AreHeaders layout cluster sector headers × ((i : ℕ) (h : Header) → slice_get headers i ≡ Some h → h.kind ≡ Reserved) × AreReservedSectors layout cluster (sector + 1) rest
 
 -- the device calls of a making
 abbrev pub format_events : Layout → List (List Header) → SuperFields → List Event
@@ -68,6 +68,6 @@ pub record IsMadeOnDisk (f : Format) (sh : Shape) (before after : Log) (v : View
 abbrev pub FormatOnDisk : Type 0
 FormatOnDisk =
     (layout : Layout) (cluster : ℕ) (named : 0 < cluster) (parse : ℕ → List ℕ → Option Units.Parts) (sectors : List (List Header)) (log : Log)
-    → IsUsable (first_super layout cluster) → length sectors ≡ layout.slots / 16 → AreReserved layout cluster 0 sectors
+    → IsUsable (first_super layout cluster) → length sectors ≡ layout.slots / 16 → AreReservedSectors layout cluster 0 sectors
     → IsLog log → IsMaking (shape_of layout cluster named parse) (units_log (format_of layout cluster) log) (content_of (first_content layout cluster))
     → IsMadeOnDisk (format_of layout cluster) (shape_of layout cluster named parse) log (adds (format_events layout sectors (first_super layout cluster)) log) (first_view layout cluster)

@@ -26,8 +26,8 @@ abbrev pub sector_of : (ℕ → Header) → ℕ → List Header
 sector_of table sector = headers_of table (16 * sector) 16
 
 -- the table's headers are valid in their slots, so those of a sector may be written
-abbrev pub TableIsWritten : Type 0
-TableIsWritten =
+abbrev pub SampleTableIsWritten : Type 0
+SampleTableIsWritten =
     (layout : Layout) (cluster sector : ℕ) (table : ℕ → Header) → sector < layout.slots / 16
     → ((slot : ℕ) → slot < layout.slots → IsUnit layout cluster (place_in WalHeaders slot) (record { header = table slot; body = [] }))
     → AreHeaders layout cluster sector (sector_of table sector)

@@ -6,7 +6,7 @@ use Rattle.df_layout.specs.declared.places.Zone.TheVariants.{Superblock, WalHead
 use Rattle.df_layout.specs.Spans.{span_of}
 use Rattle.df_layout.specs.declared.damage.Class.{Class}
 use Rattle.df_format.specs.declared.superblock.SuperCopy.{SuperCopy}
-use Rattle.df_format.specs.Copies.{content_of, own_copy}
+use Rattle.df_format.specs.Copies.{content_in_copy, own_copy}
 use Rattle.df_format.specs.Own.{place_in}
 use Rattle.df_format.specs.Shown.{part_in, unit_in}
 use Rattle.df_theory.specs.Units
@@ -30,7 +30,7 @@ HeaderReadIsUnit =
 
 -- the copy that a sector was read as, or none
 abbrev pub read_copy : Result SuperCopy Class → Option AnyUnit
-read_copy (Ok copy) = copy_unit (content_of (Some copy))
+read_copy (Ok copy) = copy_unit (content_in_copy (Some copy))
 read_copy (Err class) = None
 
 -- the sector of a copy, as it is read

@@ -20,17 +20,17 @@ use Rattle.df_units.specs.Format.{shape_as}
 abbrev pub ChoiceIsChosen : Type 0
 ChoiceIsChosen =
     (layout : Layout) (cluster : ℕ) (image : Image) (c : Content) → IsImage image
-    → Quorum.IsChosen (content_at image) c → Copies.IsChosen (unit_at layout cluster image) (content_of c)
+    → Quorum.IsChosenContent (content_at image) c → Copies.IsChosen (unit_at layout cluster image) (content_of c)
 
 -- and each choice of the theory is one among the copies
 abbrev pub ChosenIsChoice : Type 0
 ChosenIsChoice =
     (layout : Layout) (cluster : ℕ) (image : Image) (d : Units.Content) → IsImage image → Copies.IsChosen (unit_at layout cluster image) d
-    → (c : Content) × (content_of c ≡ d) × Quorum.IsChosen (content_at image) c
+    → (c : Content) × (content_of c ≡ d) × Quorum.IsChosenContent (content_at image) c
 
 -- so no choice is none
 abbrev pub SplitIsSplit : Type 0
-SplitIsSplit = (layout : Layout) (cluster : ℕ) (image : Image) → IsImage image → Quorum.IsSplit (content_at image) ↔ Copies.IsSplit (unit_at layout cluster image)
+SplitIsSplit = (layout : Layout) (cluster : ℕ) (image : Image) → IsImage image → Quorum.CopiesAreSplit (content_at image) ↔ Copies.IsSplit (unit_at layout cluster image)
 
 -- the fields are those of a file of this layout and cluster
 pub record AreFieldsOf (layout : Layout) (cluster : ℕ) (f : SuperFields) : Type 0 where
@@ -48,7 +48,7 @@ UsablePasses =
     → PassesTests (shape_as c.fields.version layout cluster named parse) (content_of c) × IsReference (layout_of layout) (content_of c)
 
 -- each checksum of a content has sixteen bytes
-pub record HasChecks (c : Content) : Type 0 where
+pub record ContentHasChecks (c : Content) : Type 0 where
   pub checksum : IsCheck c.checksum
   pub op_checksum : IsCheck c.fields.op_checksum
   pub trailer_checksum : IsCheck c.fields.trailer_checksum
@@ -57,10 +57,10 @@ pub record HasChecks (c : Content) : Type 0 where
 
 -- as one that is shown has
 abbrev pub ShownHasChecks : Type 0
-ShownHasChecks = (image : Image) (n : ℕ) (c : Content) → IsImage image → content_at image n ≡ Some c → HasChecks c
+ShownHasChecks = (image : Image) (n : ℕ) (c : Content) → IsImage image → content_at image n ≡ Some c → ContentHasChecks c
 
 -- and one that passes the theory's tests for one of the two versions can be used
 abbrev pub PassingIsUsable : Type 0
 PassingIsUsable =
-    (version : ℕ) (layout : Layout) (cluster : ℕ) (named : 0 < cluster) (parse : ℕ → List ℕ → Option Units.Parts) (c : Content) → (version ≡ 1) ⊎ (version ≡ 2) → HasChecks c → PassesTests (shape_as version layout cluster named parse) (content_of c) → IsReference (layout_of layout) (content_of c)
+    (version : ℕ) (layout : Layout) (cluster : ℕ) (named : 0 < cluster) (parse : ℕ → List ℕ → Option Units.Parts) (c : Content) → (version ≡ 1) ⊎ (version ≡ 2) → ContentHasChecks c → PassesTests (shape_as version layout cluster named parse) (content_of c) → IsReference (layout_of layout) (content_of c)
     → AreFieldsOf layout cluster c.fields × IsSuper c.fields

@@ -57,31 +57,31 @@ HasAnswer client request op (ReplyUnit r) = (r.header.client ≡ client) × (r.h
 HasAnswer client request op x = ⊥
 
 -- the unit is the one that is wanted
-abbrev pub IsWanted : Wanted.Wanted → AnyUnit → Type 0
-IsWanted Any x = ⊤
-IsWanted (Op op) x = HasOp op x
-IsWanted (Checksum checksum) x = checksum_of x ≡ number_of checksum
-IsWanted (Answer client request op) x = HasAnswer client request op x
+abbrev pub IsWantedUnit : Wanted.Wanted → AnyUnit → Type 0
+IsWantedUnit Any x = ⊤
+IsWantedUnit (Op op) x = HasOp op x
+IsWantedUnit (Checksum checksum) x = checksum_of x ≡ number_of checksum
+IsWantedUnit (Answer client request op) x = HasAnswer client request op x
 
 -- a checksum that is wanted has sixteen bytes
-abbrev pub HasCheck : Wanted.Wanted → Type 0
-HasCheck (Checksum checksum) = IsCheck checksum
-HasCheck wanted = ⊤
+abbrev pub HasWantedCheck : Wanted.Wanted → Type 0
+HasWantedCheck (Checksum checksum) = IsCheck checksum
+HasWantedCheck wanted = ⊤
 
 -- a unit that is valid at a place is of a kind, and is wanted, exactly where the theory says so of it
 pub record IsTold (kind : Kind) (wanted : Wanted.Wanted) (u : Message) (x : AnyUnit) : Type 0 where
   pub of_kind : (u.header.kind ≡ kind) ↔ IsOfKind kind x
-  pub is_wanted : Wanted.IsWanted wanted u ↔ IsWanted wanted x
+  pub is_wanted : Wanted.IsWanted wanted u ↔ IsWantedUnit wanted x
 
 -- and so it is at each place
 abbrev pub UnitsAreTold : Type 0
 UnitsAreTold =
-    (layout : Layout) (cluster : ℕ) (place : Units.Place) (kind : Kind) (wanted : Wanted.Wanted) (u : Message) (x : AnyUnit) → HasCheck wanted → IsUnit layout cluster (place_of place) u
+    (layout : Layout) (cluster : ℕ) (place : Units.Place) (kind : Kind) (wanted : Wanted.Wanted) (u : Message) (x : AnyUnit) → HasWantedCheck wanted → IsUnit layout cluster (place_of place) u
     → unit_of place u ≡ Some x → IsTold kind wanted u x
 
 -- so where no unit that is valid at a place is the one wanted, the theory sees none there
 abbrev pub NoneIsWanted : Type 0
 NoneIsWanted =
-    (layout : Layout) (cluster : ℕ) (image : Image) (place : Units.Place) (kind : Kind) (wanted : Wanted.Wanted) → IsImage image → HasCheck wanted
+    (layout : Layout) (cluster : ℕ) (image : Image) (place : Units.Place) (kind : Kind) (wanted : Wanted.Wanted) → IsImage image → HasWantedCheck wanted
     → ((u : Message) → Shown.unit_at layout cluster image (place_of place) ≡ Some u → u.header.kind ≡ kind → ¬ Wanted.IsWanted wanted u)
-    → (x : AnyUnit) → unit_at layout cluster image place ≡ Some x → IsOfKind kind x → ¬ IsWanted wanted x
+    → (x : AnyUnit) → unit_at layout cluster image place ≡ Some x → IsOfKind kind x → ¬ IsWantedUnit wanted x

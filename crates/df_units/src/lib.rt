@@ -1,6 +1,6 @@
-//! What the bytes of a data file are in the words of the theory (`df_theory`): its units, place by place, which units each kind of
-//! write puts, and what a call has at its moments whose events are steps of the theory. What is built above is to speak of places
-//! alone; what the program runs on today still speaks of sectors.
+//! Joins the bytes of a data file to the theory (`df_theory`), for every layout and cluster: which unit each place shows, which units
+//! each kind of write puts, and that a call whose events are steps of the theory has at each moment what those steps have. Laws alone:
+//! no code runs here, and what is built above speaks of places.
 #![tactic(auto)]
 
 mod append;

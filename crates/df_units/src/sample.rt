@@ -1,9 +1,9 @@
 // A header sector with one new header, as a sample of what writes put: laws, each the clause of a function that does nothing.
-ghost use Rattle.df_units.specs.Sample.{OneOfSixteenIsNew, ReservedIsUnit, TableIsWritten};
+ghost use Rattle.df_units.specs.Sample.{OneOfSixteenIsNew, ReservedIsUnit, SampleTableIsWritten};
 
 /// Headers that are valid in their slots may be written, sixteen at a time; so may reserved headers.
 pub fn tables_are_written()
-    ensures table { TableIsWritten }
+    ensures table { SampleTableIsWritten }
     ensures reserved { ReservedIsUnit }
 {}
 

@@ -14,7 +14,7 @@ use Rattle.df_format.specs.declared.header.Header.{Header}
 use Rattle.df_format.specs.declared.superblock.SuperFields.{SuperFields}
 use Rattle.df_format.proofs.Laws.{uncovered_below, slot_from}
 use Rattle.df_headers.specs.Ring.{sector_writes}
-use Rattle.df_quorum.specs.Quorum.{IsChosen}
+use Rattle.df_quorum.specs.Quorum.{IsChosenContent}
 use Rattle.df_superblock.specs.Events.{repair_events}
 use Rattle.df_superblock.proofs.Laws.{Spares, copy_put, member_spared, other_written, seen_apart, written_shows}
 use Rattle.df_damage.proofs.Laws.{added_is_told, super_as}
@@ -86,7 +86,7 @@ module _ (s : Survey) (t : Told) (four : length s.chosen.members ≡ 4) (usable 
   ]
 
   -- so the choice has them
-  chosen_says : (c : Content) → IsChosen (content_at behind) c → c.fields ≡ s.state.fields
+  chosen_says : (c : Content) → IsChosenContent (content_at behind) c → c.fields ≡ s.state.fields
   chosen_says c chosen =
       let there = each_says chosen.agreed.first (omega (arith, chosen.agreed.apart, chosen.agreed.inside)) in
       let same : there.0 ≡ c = (let both : Some there.0 ≡ Some c = sym there.1 ∙ chosen.agreed.at_first in cc) in
@@ -97,7 +97,7 @@ above_told : (s : Survey) (t : Told) → length s.chosen.members ≡ 4 → IsUsa
 above_told s t four usable one plan = λ whole c chosen.
     let asked = super_as s.state.file.version s.state.fields plan.super.usable in
     let none : s.state.fields.boot ≡ 0 = elim asked.1.version [ inl first ↦ first.boot | inr second ↦ absurd (omega (arith, second.version, asked.0, one)) ] in
-    let says = chosen_says s t four usable plan c (subst (λ (i : Image). IsChosen (content_at i) c) (shown_after (restoring_events s) t) chosen) in
+    let says = chosen_says s t four usable plan c (subst (λ (i : Image). IsChosenContent (content_at i) c) (shown_after (restoring_events s) t) chosen) in
     omega (arith, none, ap (λ (f : SuperFields). f.boot) says, ap (λ (f : SuperFields). f.sequence) says)
 
 pub is_above : (s : Survey) (old new : Option Told) → length s.chosen.members ≡ 4 → IsUsable s.state.fields → s.state.file.version ≡ 1 → ((t : Told) → old ≡ Some t → IsPlannedOf s t) → new ≡ after_all (restoring_events s) old → IsAbove new (base_fields s.state)

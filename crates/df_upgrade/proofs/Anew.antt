@@ -1,4 +1,4 @@
--- What an upgrade does after its survey keeps the bare view in a log that is begun anew, whatever the copies showed, and leaves a file of version 2.
+-- What an upgrade does after its survey keeps the bare view in a log that is restarted, whatever the copies showed, and leaves a file of version 2.
 use Rattle.std.proofs.Common.{◌≡◌, ◌⊎◌, inl, inr, ℕ, ◌||◌, false, List, [], ◌∷◌, length, slice_index, Option, Some, None, ◌∙◌, ap, subst, arith, refl, sym}
 use Rattle.std.specs.Prelude.{Ok}
 use Rattle.df_base.specs.Log as Log
@@ -36,7 +36,7 @@ use Rattle.df_superblock.specs.Steps.{repaired}
 use Rattle.df_superblock.proofs.Laws.{ends_equal}
 use Rattle.df_model.specs.Result.{AgreeReads}
 use Rattle.df_model.proofs.Laws.{boot_may_law}
-use Rattle.df_damage.specs.Anew.{IsStill, begun, told_after}
+use Rattle.df_damage.specs.Anew.{IsStill, restarted, told_after}
 use Rattle.df_damage.specs.Below.{DataFile, Represents, shape, spelling}
 use Rattle.df_damage.specs.Plan.{AreDistinct, headers_in}
 use Rattle.df_damage.proofs.Laws.{added_is_told}
@@ -46,7 +46,7 @@ use Rattle.df_opening.specs.Raising.{IsPlannedOf}
 use Rattle.df_opening.specs.Survey.{Survey}
 use Rattle.df_opening.proofs.Laws.{IsPlannedIn, clean_beyond, codec_of, content_is, planned_in, put_nothing, raising_aside, unit_after}
 use Rattle.df_upgrade.specs.Base.{base_fields}
-use Rattle.df_upgrade.specs.Upgrading.{EndsUpgraded, Leaves, StaysBare, UpgradesAnew, restoring_events, second, upgraded, upgrading_events, upgrading_steps}
+use Rattle.df_upgrade.specs.Upgrading.{EndsUpgraded, IsLeftByUpgrade, UpgradeStaysBare, UpgradesAnew, restoring_events, second, upgraded, upgrading_events, upgrading_steps}
 use Rattle.df_upgrade.proofs.Records.{base_content}
 
 -- ---- what steps leave alone
@@ -71,7 +71,7 @@ clean_of sh image v holds n c there =
     subst (AgreesCopy v n) (sym same) agrees.2
 
 module _ (view : View) (s : Survey) (base : Told) (four : length s.chosen.members ≡ 4) (one : s.state.file.version ≡ 1) (usable : IsUsable (base_fields s.state))
-    (plan : IsPlannedOf s (begun base)) (whole : IsImage base.shown) (found : IsFound (shape s.state.file) (unit_at s.state.file.layout s.state.file.cluster base.shown) view)
+    (plan : IsPlannedOf s (restarted base)) (whole : IsImage base.shown) (found : IsFound (shape s.state.file) (unit_at s.state.file.layout s.state.file.cluster base.shown) view)
     (distinct : AreDistinct (unit_at s.state.file.layout s.state.file.cluster base.shown)) (stands : Represents s.state (first_state s.state.file base view)) (steps : AreSteps (format s.state.file) (upgrading_events s) (upgrading_steps s)) where
   abbrev file : DataFile
   file = s.state.file
@@ -98,7 +98,7 @@ module _ (view : View) (s : Survey) (base : Told) (four : length s.chosen.member
   image = unit_at file.layout file.cluster base.shown
 
   own_content : c ≡ content_of (content_with s.state.fields)
-  own_content = content_is file view s.state.headers s.mends s.state.fields s.chosen.members (begun base) four plan whole found distinct
+  own_content = content_is file view s.state.headers s.mends s.state.fields s.chosen.members (restarted base) four plan whole found distinct
 
   first : c.version ≡ 1
   first = found.checkpoint.tests.version ∙ one
@@ -110,7 +110,7 @@ module _ (view : View) (s : Survey) (base : Told) (four : length s.chosen.member
   places = of_places file.layout file.cluster file.named (parse_of (layout_of file.layout)) base.shown whole
 
   planned : IsPlannedIn sh image view (headers_in s.state.headers) headers copies
-  planned = planned_in file view s.state.headers s.mends s.state.fields s.chosen.members (begun base) four plan whole found distinct
+  planned = planned_in file view s.state.headers s.mends s.state.fields s.chosen.members (restarted base) four plan whole found distinct
 
   -- ---- the content
 
@@ -133,22 +133,22 @@ module _ (view : View) (s : Survey) (base : Told) (four : length s.chosen.member
   abbrev ss : List Step
   ss = upgrading_steps s
 
-  law : AtEach (λ log. EachLeft log (λ left. HasBare sh 2 left view d)) (upgrades.begun image) ss × IsSameBare (as_version 2 view) (booted view d)
-      × EndsRaised (of_version 2 sh) (after_steps ss (upgrades.begun image)) (booted view d) × (c.version ≡ 1) × (d.version ≡ 2) × (d.boot ≡ 1)
+  law : AtEach (λ log. EachLeft log (λ left. HasBare sh 2 left view d)) (upgrades.restarted_at image) ss × IsSameBare (as_version 2 view) (booted view d)
+      × EndsRaised (of_version 2 sh) (after_steps ss (upgrades.restarted_at image)) (booted view d) × (c.version ≡ 1) × (d.version ≡ 2) × (d.boot ≡ 1)
   law = upgrade_law sh image view (headers_in s.state.headers) headers copies d (put_copies (base_fields s.state)) one may
 
   -- ---- its moments
 
   abbrev end : Told
-  end = told_after (upgrading_events s) (begun base)
+  end = told_after (upgrading_events s) (restarted base)
 
-  added : end.log ≡ adds (upgrading_events s) (begun base).log
-  added = all_added (upgrading_events s) (begun base) end (sym (added_is_told (upgrading_events s) (begun base)))
+  added : end.log ≡ adds (upgrading_events s) (restarted base).log
+  added = all_added (upgrading_events s) (restarted base) end (sym (added_is_told (upgrading_events s) (restarted base)))
 
   -- what each image left has by the steps, it has by the device calls
-  module _ (P : UnitLog → Type 0) (Q : Log.Log → Type 0) (implies : (l : Log.Log) → Log.IsLog l → P (units_log (format file) l) → Q l) (each : AtEach P (upgrades.begun image) ss) where
-    at_moments : EachMoment (begun base).log end.log Q
-    at_moments = subst (λ (l : Log.Log). EachMoment (begun base).log l Q) (sym added) (moments (format file) P Q implies (upgrading_events s) ss (begun base).log (record { start = whole; events = tt }) steps each)
+  module _ (P : UnitLog → Type 0) (Q : Log.Log → Type 0) (implies : (l : Log.Log) → Log.IsLog l → P (units_log (format file) l) → Q l) (each : AtEach P (upgrades.restarted_at image) ss) where
+    at_moments : EachMoment (restarted base).log end.log Q
+    at_moments = subst (λ (l : Log.Log). EachMoment (restarted base).log l Q) (sym added) (moments (format file) P Q implies (upgrading_events s) ss (restarted base).log (record { start = whole; events = tt }) steps each)
 
   left_by : (l : Log.Log) (m : Image) → Log.IsLeft l m → units.IsLeftBy (units_log (format file) l) (unit_at file.layout file.cluster m)
   left_by l m gone = firm_units (format file) (is_format file.layout file.cluster) l m gone.kept
@@ -157,21 +157,21 @@ module _ (view : View) (s : Survey) (base : Told) (four : length s.chosen.member
   abbrev OfLeft : (Units.Units → Type 0) → Log.Log → Type 0
   OfLeft R l = (m : Image) → Log.IsLeft l m → NoChanceOf (format file) l m → R (unit_at file.layout file.cluster m)
 
-  have_bare : EachMoment (begun base).log end.log (OfLeft (λ left. HasBare sh 2 left view d))
+  have_bare : EachMoment (restarted base).log end.log (OfLeft (λ left. HasBare sh 2 left view d))
   have_bare = at_moments (λ log. EachLeft log (λ left. HasBare sh 2 left view d)) (OfLeft (λ left. HasBare sh 2 left view d)) (λ l is each m gone chance. each (unit_at file.layout file.cluster m) (left_by l m gone) chance) law.0
 
-  hold : IsClean image view → EachMoment (begun base).log end.log (OfLeft (λ left. Holds sh left view ⊎ IsRaised (of_version 2 sh) left (booted view d)))
+  hold : IsClean image view → EachMoment (restarted base).log end.log (OfLeft (λ left. Holds sh left view ⊎ IsRaised (of_version 2 sh) left (booted view d)))
   hold clean =
       at_moments (λ log. EachLeft log (λ left. Holds sh left view ⊎ IsRaised (of_version 2 sh) left (booted view d))) (OfLeft (λ left. Holds sh left view ⊎ IsRaised (of_version 2 sh) left (booted view d)))
       (λ l is each m gone chance. each (unit_at file.layout file.cluster m) (left_by l m gone) chance)
       (raise_anew_law sh 2 image view (headers_in s.state.headers) headers copies d (put_copies (base_fields s.state)) may clean)
 
-  same_at : (place : Place) → unit_after ss place None ≡ None → EachMoment (begun base).log end.log (λ l. (m : Image) → Log.IsLeft l m → unit_at file.layout file.cluster m place ≡ image place)
+  same_at : (place : Place) → unit_after ss place None ≡ None → EachMoment (restarted base).log end.log (λ l. (m : Image) → Log.IsLeft l m → unit_at file.layout file.cluster m place ≡ image place)
   same_at place aside =
       at_moments (IsFirm place (image place)) (λ l. (m : Image) → Log.IsLeft l m → unit_at file.layout file.cluster m place ≡ image place) (λ l is firm m gone. left_by l m gone place firm.0 ∙ firm.1)
-      (stays_firm place (image place) ss (upgrades.begun image) aside (refl, refl))
+      (stays_firm place (image place) ss (upgrades.restarted_at image) aside (refl, refl))
 
-  same_reads : EachMoment (begun base).log end.log (λ l. (m : Image) → Log.IsLeft l m → AgreeReads (unit_at file.layout file.cluster m) image)
+  same_reads : EachMoment (restarted base).log end.log (λ l. (m : Image) → Log.IsLeft l m → AgreeReads (unit_at file.layout file.cluster m) image)
   same_reads l moment m gone = record {
     prepare = λ k. same_at (PreparePlace k) (raising_aside (PreparePlace k) file.layout s.state.headers s.mends s.state.fields s.chosen.members (base_fields s.state) (λ n. refl) (λ n g. refl) None) l moment m gone;
     reply = λ k. same_at (ReplyPlace k) (raising_aside (ReplyPlace k) file.layout s.state.headers s.mends s.state.fields s.chosen.members (base_fields s.state) (λ n. refl) (λ n g. refl) None) l moment m gone;
@@ -185,10 +185,10 @@ module _ (view : View) (s : Survey) (base : Told) (four : length s.chosen.member
   nor_both : (u : Units.Units) → Holds sh u view → IsFound later u (booted view d) → ⊥
   nor_both u old new = let same : c ≡ d = one_chosen_law u c d old.chosen new.chosen in omega (arith, ap (λ (x : Content). x.version) same, law.3, law.4)
 
-  moments_bare : EachMoment (begun base).log end.log (StaysBare file view (base_fields s.state))
+  moments_bare : EachMoment (restarted base).log end.log (UpgradeStaysBare file view (base_fields s.state))
   moments_bare l moment = record {
     left =
-        subst (λ (start : Image). (m : Image) → Log.IsLeft l m → NoChanceOf (format file) l m → Leaves file view view start m ⊎ Leaves (second file) view (upgraded view (base_fields s.state)) start m) (sym moment.since.2)
+        subst (λ (start : Image). (m : Image) → Log.IsLeft l m → NoChanceOf (format file) l m → IsLeftByUpgrade file view view start m ⊎ IsLeftByUpgrade (second file) view (upgraded view (base_fields s.state)) start m) (sym moment.since.2)
         (λ m gone chance. elim (have_bare l moment m gone chance) [
           | inl old ↦ inl (record {
             found = old;
@@ -206,12 +206,12 @@ module _ (view : View) (s : Survey) (base : Told) (four : length s.chosen.member
   -- ---- its end
 
   abbrev mid : Told
-  mid = told_after (restoring_events s) (begun base)
+  mid = told_after (restoring_events s) (restarted base)
 
   update : Some end ≡ after_all (update_events (base_fields s.state)) (Some mid)
   update =
-      sym (added_is_told (upgrading_events s) (begun base)) ∙ after_append (restoring_events s) (update_events (base_fields s.state)) (Some (begun base))
-      ∙ ap (after_all (update_events (base_fields s.state))) (added_is_told (restoring_events s) (begun base))
+      sym (added_is_told (upgrading_events s) (restarted base)) ∙ after_append (restoring_events s) (update_events (base_fields s.state)) (Some (restarted base))
+      ∙ ap (after_all (update_events (base_fields s.state))) (added_is_told (restoring_events s) (restarted base))
 
   still : IsStill end.log
   still = subst IsStill (sym (all_added (update_events (base_fields s.state)) mid end update)) (λ sector. refl)
@@ -220,12 +220,12 @@ module _ (view : View) (s : Survey) (base : Told) (four : length s.chosen.member
   equal = ends_equal {T = Unit {0}} {E = Unit {0}} (base_fields s.state) (Some mid) (Some end) (Ok tt) usable update
 
   -- what is there is what the steps leave
-  image_is : unit_at file.layout file.cluster (Log.now end.log) ≡ now (after_steps ss (upgrades.begun image))
+  image_is : unit_at file.layout file.cluster (Log.now end.log) ≡ now (after_steps ss (upgrades.restarted_at image))
   image_is =
       sym (now_units (format file) end.log.start end.log.events)
-      ∙ ap (λ (l : UnitLog). now l) (call_ends (format file) (upgrading_events s) ss (begun base) end (record { start = whole; events = tt }) steps (sym (added_is_told (upgrading_events s) (begun base))))
+      ∙ ap (λ (l : UnitLog). now l) (call_ends (format file) (upgrading_events s) ss (restarted base) end (record { start = whole; events = tt }) steps (sym (added_is_told (upgrading_events s) (restarted base))))
 
-  begins : BeginsRaised (of_version 2 sh) (now (after_steps ss (upgrades.begun image))) (booted view d)
+  begins : BeginsRaised (of_version 2 sh) (now (after_steps ss (upgrades.restarted_at image))) (booted view d)
   begins = (raise_ends_law sh 2 image view (headers_in s.state.headers) headers copies d (put_copies (base_fields s.state)) may).1 (clean_beyond file base.shown view)
 
   ends : EndsUpgraded file view (base_fields s.state) end.log
@@ -236,8 +236,8 @@ module _ (view : View) (s : Survey) (base : Told) (four : length s.chosen.member
     boot = refl;
     whole = subst (λ (u : Units.Units). IsWhole later u (booted view d)) (sym image_is) law.2.whole;
     found = subst (λ (u : Units.Units). IsFound later u (booted view d)) (sym image_is) law.2.found;
-    clean = subst (λ (u : Units.Units). IsClean u (booted view d)) (sym image_is) (clean_of later (now (after_steps ss (upgrades.begun image))) (booted view d) begins.raised.holds);
+    clean = subst (λ (u : Units.Units). IsClean u (booted view d)) (sym image_is) (clean_of later (now (after_steps ss (upgrades.restarted_at image))) (booted view d) begins.raised.holds);
   }
 
-  pub upgrades_anew : UpgradesAnew view s.state (upgrading_events s) (begun base)
+  pub upgrades_anew : UpgradesAnew view s.state (upgrading_events s) (restarted base)
   upgrades_anew = record { moments = moments_bare; bare = law.1; ends = ends }

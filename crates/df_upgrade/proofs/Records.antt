@@ -6,7 +6,7 @@ use Rattle.df_format.specs.Spelling.{no_checksum}
 use Rattle.df_format.specs.SuperRules.{IsFirstSuper, IsUsable, fault_of}
 use Rattle.df_format.specs.declared.superblock.SuperFields.{SuperFields}
 use Rattle.df_format.proofs.Laws.{faults}
-use Rattle.df_sessions.specs.Table.{IsTable}
+use Rattle.df_sessions.specs.Table.{IsSessionTable}
 use Rattle.df_theory.specs.Shape.{Shape}
 use Rattle.df_theory.specs.Units.{Content, Parts, Units}
 use Rattle.df_theory.specs.Upgrades.{as_version}
@@ -21,7 +21,7 @@ use Rattle.df_damage.specs.Surveying.{state_found}
 use Rattle.df_damage.specs.Types.{Surveyed}
 use Rattle.df_damage.proofs.Laws.{found_awaits, found_ends, found_staging, numbers_as, recorded_content, recorded_is_super}
 use Rattle.df_upgrade.specs.Base.{base_fields}
-use Rattle.df_upgrade.specs.Old.{IsOld}
+use Rattle.df_upgrade.specs.Old.{IsOldSurvey}
 use Rattle.df_upgrade.specs.Upgrading.{second}
 
 -- ---- it passes its tests
@@ -30,7 +30,7 @@ use Rattle.df_upgrade.specs.Upgrading.{second}
 abbrev in_second : State → State
 in_second s = record s { file = second s.file; fields = record s.fields { version = 2; head_checksum = s.fields.op_checksum }; root = [] }
 
-module _ (y : Surveyed) (old : IsOld y) (usable : IsUsable y.scanned.copies.found.content) (table : IsTable y.scanned.sessions) where
+module _ (y : Surveyed) (old : IsOldSurvey y) (usable : IsUsable y.scanned.copies.found.content) (table : IsSessionTable y.scanned.sessions) where
   abbrev f : SuperFields
   f = y.scanned.copies.found.content
 

@@ -2,9 +2,9 @@
 use Rattle.std.specs.Prelude.{◌<◌, Option, Some, None}
 use Rattle.df_base.specs.Image.{IsImage}
 use Rattle.df_disk.specs.Told.{Told}
-use Rattle.df_format.specs.Copies.{Content, content_at, content_with, rank_of}
+use Rattle.df_format.specs.Copies.{Content, content_at, content_with, rank_of_copy}
 use Rattle.df_format.specs.declared.superblock.SuperFields.{SuperFields}
-use Rattle.df_quorum.specs.Quorum.{IsChosen}
+use Rattle.df_quorum.specs.Quorum.{IsChosenContent}
 use Rattle.df_damage.specs.Below.{State, recorded}
 
 -- of the same checkpoint, with its sequence; of version 2 and of the first boot; and it records the state as it was found: the head and that prepare's checksum, the replies, and the checksum of each that is stored
@@ -14,4 +14,4 @@ base_fields s = recorded s (record s.fields { version = 2; boot = 1 })
 -- where the disk tells what it shows, the content that its copies choose is below this one, by sequence and then by boot
 abbrev pub IsAbove : Option Told → SuperFields → Type 0
 IsAbove None f = Unit {0}
-IsAbove (Some t) f = IsImage t.shown → (c : Content) → IsChosen (content_at t.shown) c → rank_of c < rank_of (content_with f)
+IsAbove (Some t) f = IsImage t.shown → (c : Content) → IsChosenContent (content_at t.shown) c → rank_of_copy c < rank_of_copy (content_with f)

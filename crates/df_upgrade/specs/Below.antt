@@ -14,7 +14,7 @@ pub use Rattle.df_base.specs.Log.{Sync}
 pub use Rattle.df_disk.specs.Told.{Told, after}
 pub use Rattle.df_opening.specs.Opened.{ToldBy}
 pub use Rattle.df_theory.specs.View.{View}
-pub use Rattle.df_damage.specs.Anew.{MayBegin, begun}
+pub use Rattle.df_damage.specs.Anew.{MayRestart, restarted}
 pub use Rattle.df_model.specs.Faults.{is_mend_fault, is_open_fault}
 pub use Rattle.df_units.specs.Bytes.{unit_at}
 pub use Rattle.df_superblock.specs.Events.{update_events}

@@ -11,7 +11,7 @@ use Rattle.df_damage.specs.Surveying.{IsPlannedFor, IsWellFound}
 use Rattle.df_damage.specs.Types as found
 
 -- it makes sense by itself, its mending is planned, its superblock is that of the choice, and it is of version 1
-pub record IsOld (s : found.Surveyed) : Type 0 where
+pub record IsOldSurvey (s : found.Surveyed) : Type 0 where
   pub found : IsWellFound s
   pub planned : IsPlannedFor s
   pub chosen : s.scanned.copies.found.content ≡ s.scanned.copies.found.chosen.content

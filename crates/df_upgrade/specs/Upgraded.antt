@@ -11,7 +11,7 @@ use Rattle.df_theory.specs.Upgrades.{as_version}
 use Rattle.df_theory.specs.View.{View}
 use Rattle.df_units.specs.Bytes.{unit_at}
 use Rattle.df_model.specs.declared.errors.OpenError.{OpenError}
-use Rattle.df_damage.specs.Anew.{begun, told_after}
+use Rattle.df_damage.specs.Anew.{restarted, told_after}
 use Rattle.df_damage.specs.Below.{State, shape}
 use Rattle.df_damage.specs.Plan.{AreDistinct}
 use Rattle.df_damage.specs.Surveying.{TellsSurveyAs}
@@ -19,7 +19,7 @@ use Rattle.df_damage.specs.Surveys.{IsOpenedAs}
 use Rattle.df_opening.specs.Opened.{AreRaisingTo, BeginsRaisingTo, Mends}
 use Rattle.df_upgrade.specs.Base.{base_fields}
 use Rattle.df_upgrade.specs.Old.{TellsHurtOld}
-use Rattle.df_upgrade.specs.Upgrading.{StaysBare, UpgradesAnew, upgraded}
+use Rattle.df_upgrade.specs.Upgrading.{UpgradeStaysBare, UpgradesAnew, upgraded}
 use Rattle.df_upgrade.specs.declared.upgraded.Upgraded.{Upgraded}
 
 -- the sequence of the file, or the refusal
@@ -55,7 +55,7 @@ pub record UpgradesAll (layout : Layout) (t : Told) (sequence : ℕ) (later : Op
   pub kept : sequence ≡ found.fields.sequence
   pub writes : Mends found.file (Some (did Sync t)) later
   pub own : IsImage t.shown → AreUpgrading t found writes.events
-  pub anew : (view : View) → IsImage t.shown → IsFound (shape found.file) (unit_at found.file.layout found.file.cluster t.shown) view → AreDistinct (unit_at found.file.layout found.file.cluster t.shown) → UpgradesAnew view found writes.events (begun t)
+  pub anew : (view : View) → IsImage t.shown → IsFound (shape found.file) (unit_at found.file.layout found.file.cluster t.shown) view → AreDistinct (unit_at found.file.layout found.file.cluster t.shown) → UpgradesAnew view found writes.events (restarted t)
 
 -- the file was found, and the disk failed within its upgrade: at each moment whatever a stop leaves has the bare view
 pub record UpgradesPartly (layout : Layout) (t : Told) (later : Option Told) : Type 0 where
@@ -64,7 +64,7 @@ pub record UpgradesPartly (layout : Layout) (t : Told) (later : Option Told) : T
   pub writes : Mends found.file (Some (did Sync t)) later
   pub own : IsImage t.shown → BeginsUpgrading t found later
   pub anew : (view : View) → IsImage t.shown → IsFound (shape found.file) (unit_at found.file.layout found.file.cluster t.shown) view → AreDistinct (unit_at found.file.layout found.file.cluster t.shown)
-      → EachMoment (begun t).log (told_after writes.events (begun t)).log (StaysBare found.file view (base_fields found)) × IsSameBare (as_version 2 view) (upgraded view (base_fields found))
+      → EachMoment (restarted t).log (told_after writes.events (restarted t)).log (UpgradeStaysBare found.file view (base_fields found)) × IsSameBare (as_version 2 view) (upgraded view (base_fields found))
 
 -- it failed in the barrier, which added a sync or nothing, or in a read after it; or within the upgrade
 abbrev pub StopsUpgrading : Layout → Told → Option Told → Type 0

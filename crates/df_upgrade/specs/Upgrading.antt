@@ -1,4 +1,4 @@
--- What an upgrade does after its survey, and what it leaves at each moment of that and at its end: of a log that is begun anew at the barrier, whatever the copies showed there.
+-- What an upgrade does after its survey, and what it leaves at each moment of that and at its end: of a log that is restarted at the barrier, whatever the copies showed there.
 use Rattle.std.specs.Prelude.{◌≡◌, ◌⊎◌, List}
 use Rattle.df_base.specs.Image.{Image}
 use Rattle.df_base.specs.Log.{Event, IsLeft, Log, now}
@@ -51,14 +51,14 @@ abbrev pub upgraded : View → SuperFields → View
 upgraded v d = booted v (content_of (content_with d))
 
 -- the image has the view, and shows at each prepare's slot, reply's slot and block what its log began with; and where it began with a clean start, the next log may begin here
-pub record Leaves (file : DataFile) (old view : View) (start image : Image) : Type 0 where
+pub record IsLeftByUpgrade (file : DataFile) (old view : View) (start image : Image) : Type 0 where
   pub found : IsFound (shape file) (unit_at file.layout file.cluster image) view
   pub reads : AgreeReads (unit_at file.layout file.cluster image) (unit_at file.layout file.cluster start)
   pub clean : IsClean (unit_at file.layout file.cluster start) old → IsClean (unit_at file.layout file.cluster image) view
 
 -- at this moment each image that a stop may leave, none of whose units came about by chance, has the view as it was found, read by version 1, or with this superblock, read by version 2: the bare view is one
-pub record StaysBare (file : DataFile) (view : View) (d : SuperFields) (log : Log) : Type 0 where
-  pub left : (image : Image) → IsLeft log image → NoChanceOf (format file) log image → Leaves file view view log.start image ⊎ Leaves (second file) view (upgraded view d) log.start image
+pub record UpgradeStaysBare (file : DataFile) (view : View) (d : SuperFields) (log : Log) : Type 0 where
+  pub left : (image : Image) → IsLeft log image → NoChanceOf (format file) log image → IsLeftByUpgrade file view view log.start image ⊎ IsLeftByUpgrade (second file) view (upgraded view d) log.start image
 
 -- at its end nothing is loose, the four copies are equal, of version 2 and of the first boot, nothing is left to mend, and an open finds the view, where the next log may begin
 pub record EndsUpgraded (file : DataFile) (view : View) (d : SuperFields) (log : Log) : Type 0 where
@@ -70,8 +70,8 @@ pub record EndsUpgraded (file : DataFile) (view : View) (d : SuperFields) (log :
   pub found : IsFound (shape (second file)) (unit_at file.layout file.cluster (now log)) (upgraded view d)
   pub clean : IsClean (unit_at file.layout file.cluster (now log)) (upgraded view d)
 
--- Over a base that is begun anew, whatever its copies showed: at each moment of these events each image that is left has the bare view, and at their end the file is of version 2 with it.
+-- Over a base that is restarted, whatever its copies showed: at each moment of these events each image that is left has the bare view, and at their end the file is of version 2 with it.
 pub record UpgradesAnew (view : View) (found : State) (events : List Event) (base : Told) : Type 0 where
-  pub moments : EachMoment base.log (told_after events base).log (StaysBare found.file view (base_fields found))
+  pub moments : EachMoment base.log (told_after events base).log (UpgradeStaysBare found.file view (base_fields found))
   pub bare : IsSameBare (as_version 2 view) (upgraded view (base_fields found))
   pub ends : EndsUpgraded found.file view (base_fields found) (told_after events base).log

@@ -3,7 +3,7 @@ ghost use Rattle.std.specs.Prelude.{◌≡◌, None};
 ghost use Rattle.df_damage.specs.Surveying.{state_found};
 ghost use Rattle.df_upgrade.specs.Base.{base_fields};
 ghost use Rattle.df_upgrade.specs.Below.{IsUsable, fault_of};
-ghost use Rattle.df_upgrade.specs.Old.{IsOld};
+ghost use Rattle.df_upgrade.specs.Old.{IsOldSurvey};
 
 use df_damage::Surveyed;
 use df_format::{SuperFields, test_fields};
@@ -11,7 +11,7 @@ use df_rooms::stored_checks;
 
 // What the superblock says that an upgrade writes of a file of version 1 that was surveyed. It obeys the rules.
 fn fields_of(found: &Surveyed) -> SuperFields
-    requires old { IsOld found.now }
+    requires old { IsOldSurvey found.now }
     ensures fields { result ≡ base_fields (state_found found.now) }
     ensures rules { fault_of result ≡ None }
 {
@@ -31,7 +31,7 @@ fn fields_of(found: &Surveyed) -> SuperFields
 
 // That superblock.
 pub(crate) fn base_of(found: &Surveyed) -> SuperFields
-    requires old { IsOld found.now }
+    requires old { IsOldSurvey found.now }
     ensures fields { result ≡ base_fields (state_found found.now) }
     ensures usable { IsUsable result }
 {

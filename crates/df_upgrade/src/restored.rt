@@ -1,6 +1,6 @@
 // What is listed of a surveyed file of version 1 is written again, as an open mends a file, and nothing else.
 ghost use Rattle.std.specs.Prelude.{◌≡◌, IfOk, IfErr, length};
-ghost use Rattle.df_opening.specs.Held.{AreRoomsOf};
+ghost use Rattle.df_opening.specs.Held.{AreLogRoomsOf};
 ghost use Rattle.df_upgrade.specs.Below.{Adds, AreSteps, HasCause, IsUsable, format, mending_events, mending_steps};
 ghost use Rattle.df_upgrade.specs.Upgrading.{restoring_events, restoring_steps};
 
@@ -22,7 +22,7 @@ fn restore_rooms<D: Disk>(
     found: &Found,
     rooms: &mut LogRooms,
 ) -> Result<(), Failed>
-    requires rooms { AreRoomsOf file.now.layout file.now.cluster rooms.old }
+    requires rooms { AreLogRoomsOf file.now.layout file.now.cluster rooms.old }
     requires content { found.now.content ≡ found.now.chosen.content }
     ensures events { Adds (mending_events file.now.layout rooms.old.headers rooms.old.mends.items found.now.content found.now.chosen.members) (D.told disk.old) (D.told disk.new) result }
     ensures steps { AreSteps (format file.now) (mending_events file.now.layout rooms.old.headers rooms.old.mends.items found.now.content found.now.chosen.members)

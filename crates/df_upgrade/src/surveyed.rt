@@ -26,13 +26,13 @@ pub struct Surveyed {
 impl Model for Surveyed {
     ghost use Rattle.df_opening.specs.Survey.{Survey};
     ghost use Rattle.df_opening.specs.Surveying.{survey_found};
-    ghost use Rattle.df_upgrade.specs.Old.{IsOld};
+    ghost use Rattle.df_upgrade.specs.Old.{IsOldSurvey};
 
     ghost Value = { Survey };
 
     ghost view = { λ s. survey_found s.found };
 
-    ghost invariant = { λ s. IsOld s.found };
+    ghost invariant = { λ s. IsOldSurvey s.found };
 }
 
 impl Surveyed {

@@ -7,7 +7,7 @@ use Rattle.std.proofs.lemmas.Str.Parse.{digit_from_value, digit_at}
 use Rattle.std.proofs.lemmas.Fmt.{decimal_is_IsNumeral, decimal_injective}
 use Rattle.df_layout.specs.declared.layout.Layout.{Layout}
 use Rattle.df_layout.specs.declared.fields.Field.{Field}
-use Rattle.df_layout.specs.Limits.{AreWithin}
+use Rattle.df_layout.specs.Limits.{AreWithinLimits}
 use Rattle.df_words.specs.Names.{numbers_of}
 
 are_digits : (n : ℕ) → n < 2 ^ 32 → AllDigits 10 (decimal n)
@@ -182,7 +182,7 @@ are_five text a b c d e l five same =
     rw (a_is, b_is, c_is, d_is, five.last, same.slots, same.message_size, same.clients, same.block_size, same.blocks) refl
 
 -- a layout's numbers are within their limits
-pub within : (l : Layout) (a b c d e : ℕ) → Same l a b c d e → AreWithin a b c d e
+pub within : (l : Layout) (a b c d e : ℕ) → Same l a b c d e → AreWithinLimits a b c d e
 within l a b c d e same = rw (same.slots, same.message_size, same.clients, same.block_size, same.blocks) (record {
   slots_within = l.slots_within;
   message_size_within = l.message_size_within;
@@ -202,7 +202,7 @@ made text a b c d e (Err f) o five is slots message_size clients block_size bloc
 
 -- where none is made there is none
 pub unmade : (text : List ℕ) (a b c d e : ℕ) (r : Result Layout Field) (o : Option Layout) → Five text a b c d e → o ≡ result_ok r
-    → IsOk r ↔ AreWithin a b c d e → IfNone o ((l : Layout) → text ≡ numbers_of l → ⊥)
+    → IsOk r ↔ AreWithinLimits a b c d e → IfNone o ((l : Layout) → text ≡ numbers_of l → ⊥)
 unmade text a b c d e (Ok l) o five is decides = rw is tt
 unmade text a b c d e (Err f) o five is decides =
     rw is (λ l spelled. absurd (let clash : false ≡ true = decides.1 (within l a b c d e (one_five text a b c d e l five spelled)) in cc))

@@ -2,7 +2,7 @@
 use Rattle.std.proofs.Common.{◌≡◌, ℕ, ◌+◌, ◌%◌, ◌==◌, Bool, true, false, nat_lt, if◌then◌else◌, List, length, Option, Some, None, refl, ◌∙◌, subst}
 use Rattle.df_model.specs.Commands.{Advance, Begin, Command}
 use Rattle.df_workload.specs.Asking.{asks_at, number_body}
-use Rattle.df_workload.specs.Hearing.{appended, begun, released, replied, runs_after, stepped, told_at, wrote}
+use Rattle.df_workload.specs.Hearing.{append_heard, begin_heard, block_heard, release_heard, reply_heard, runs_after, stepped, told_at}
 use Rattle.df_workload.specs.Rounds.{after_reply, at, first_op, is_replied_to, to_append, to_begin, to_block, to_next, to_release, to_replies, to_step, with_draw}
 use Rattle.df_workload.specs.declared.outcome.Outcome.{Outcome}
 use Rattle.df_workload.specs.declared.outcome.Outcome.TheVariants.{Refused}
@@ -40,7 +40,7 @@ reply_same op s = either (nat_lt op s.round) (at (Replying (op + 1)) s) (to_step
 -- ---- an answer
 
 -- neither an append, a reply, a block nor a release
-others_same : (o : Outcome) (s : State) → ((appended o s).running ≡ s.running) × ((replied o s).running ≡ s.running) × ((wrote o s).running ≡ s.running) × ((released o s).running ≡ s.running)
+others_same : (o : Outcome) (s : State) → ((append_heard o s).running ≡ s.running) × ((reply_heard o s).running ≡ s.running) × ((block_heard o s).running ≡ s.running) × ((release_heard o s).running ≡ s.running)
 others_same Refused s = (refl, refl, refl, refl)
 others_same o s = (refl, refl, refl, refl)
 
@@ -48,7 +48,7 @@ stepped_so : (o : Outcome) (s : State) → (stepped o s).running ≡ runs_after 
 stepped_so Refused s = refl
 stepped_so o s = refl
 
-begun_so : (root : List ℕ) (o : Outcome) (s : State) → (begun o s).running ≡ runs_after (Begin root) o s.running
+begun_so : (root : List ℕ) (o : Outcome) (s : State) → (begin_heard o s).running ≡ runs_after (Begin root) o s.running
 begun_so root Refused s = refl
 begun_so root o s = refl
 
@@ -60,10 +60,10 @@ asks_end true c is = cc
 asks_end false c is = absurd (cc)
 
 pub runs_so : (p : Point) (o : Outcome) (s : State) (c : Command) → asks_at p s ≡ Some c → (told_at p o s).running ≡ runs_after c o s.running
-runs_so Appending o s c is = subst (λ (d : Command). (told_at Appending o s).running ≡ runs_after d o s.running) (some_is _ c is) (replies_same (appended o s) ∙ (others_same o s).0)
-runs_so (Replying op) o s c is = subst (λ (d : Command). (told_at (Replying op) o s).running ≡ runs_after d o s.running) (some_is _ c is) (reply_same op (replied o s) ∙ (others_same o s).1)
+runs_so Appending o s c is = subst (λ (d : Command). (told_at Appending o s).running ≡ runs_after d o s.running) (some_is _ c is) (replies_same (append_heard o s) ∙ (others_same o s).0)
+runs_so (Replying op) o s c is = subst (λ (d : Command). (told_at (Replying op) o s).running ≡ runs_after d o s.running) (some_is _ c is) (reply_same op (reply_heard o s) ∙ (others_same o s).1)
 runs_so Stepping o s c is = subst (λ (d : Command). (told_at Stepping o s).running ≡ runs_after d o s.running) (some_is _ c is) (block_same (stepped o s) ∙ stepped_so o s)
-runs_so Writing o s c is = subst (λ (d : Command). (told_at Writing o s).running ≡ runs_after d o s.running) (some_is _ c is) (release_same (wrote o s) ∙ (others_same o s).2)
-runs_so Releasing o s c is = subst (λ (d : Command). (told_at Releasing o s).running ≡ runs_after d o s.running) (some_is _ c is) (begin_same (released o s) ∙ (others_same o s).3)
-runs_so Beginning o s c is = subst (λ (d : Command). (told_at Beginning o s).running ≡ runs_after d o s.running) (some_is _ c is) (next_same (begun o s) ∙ begun_so (number_body s.round) o s)
+runs_so Writing o s c is = subst (λ (d : Command). (told_at Writing o s).running ≡ runs_after d o s.running) (some_is _ c is) (release_same (block_heard o s) ∙ (others_same o s).2)
+runs_so Releasing o s c is = subst (λ (d : Command). (told_at Releasing o s).running ≡ runs_after d o s.running) (some_is _ c is) (begin_same (release_heard o s) ∙ (others_same o s).3)
+runs_so Beginning o s c is = subst (λ (d : Command). (told_at Beginning o s).running ≡ runs_after d o s.running) (some_is _ c is) (next_same (begin_heard o s) ∙ begun_so (number_body s.round) o s)
 runs_so Ending o s c is = subst (λ (d : Command). (told_at Ending o s).running ≡ runs_after d o s.running) (asks_end s.running c is) (stepped_so o s)

@@ -14,14 +14,14 @@ abbrev pub number_body : ℕ → List ℕ
 number_body n = spelled 8 n
 
 -- the client of a round and its request: the clients take turns
-abbrev pub client_of : State → ℕ
-client_of s = (s.round - 1) % s.clients + 1
+abbrev pub client_of_round : State → ℕ
+client_of_round s = (s.round - 1) % s.clients + 1
 
-abbrev pub request_of : State → ℕ
-request_of s = (s.round - 1) / s.clients + 1
+abbrev pub request_of_round : State → ℕ
+request_of_round s = (s.round - 1) / s.clients + 1
 
 abbrev pub asks_at : Point → State → Option Command
-asks_at Appending s = Some (Append (client_of s) (request_of s) (drawn_body s.number))
+asks_at Appending s = Some (Append (client_of_round s) (request_of_round s) (drawn_body s.number))
 asks_at (Replying op) s = Some (Reply op (number_body op))
 asks_at Stepping s = Some Advance
 asks_at Writing s = Some (WriteBlock 1 (drawn_body s.number))
@@ -34,10 +34,10 @@ abbrev pub asks : State → Option Command
 asks s = asks_at s.point s
 
 -- what is asked for, without its body, as a command
-abbrev pub command_of : State → Asked → Command
-command_of s (asked.Append client request) = Append client request (drawn_body s.number)
-command_of s (asked.Reply op) = Reply op (number_body op)
-command_of s asked.Step = Advance
-command_of s asked.Block = WriteBlock 1 (drawn_body s.number)
-command_of s (asked.Release address) = Release address
-command_of s (asked.Begin root) = Begin (number_body root)
+abbrev pub command_asked : State → Asked → Command
+command_asked s (asked.Append client request) = Append client request (drawn_body s.number)
+command_asked s (asked.Reply op) = Reply op (number_body op)
+command_asked s asked.Step = Advance
+command_asked s asked.Block = WriteBlock 1 (drawn_body s.number)
+command_asked s (asked.Release address) = Release address
+command_asked s (asked.Begin root) = Begin (number_body root)

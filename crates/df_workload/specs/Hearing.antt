@@ -58,13 +58,13 @@ outcome_in answer = Accepted
 abbrev pub refused : State → State
 refused s = record s { counts = record s.counts { refused = s.counts.refused + 1 } }
 
-abbrev pub appended : Outcome → State → State
-appended Refused s = refused s
-appended outcome s = record s { counts = record s.counts { appended = s.counts.appended + 1; bytes = s.counts.bytes + body_length s.number } }
+abbrev pub append_heard : Outcome → State → State
+append_heard Refused s = refused s
+append_heard outcome s = record s { counts = record s.counts { appended = s.counts.appended + 1; bytes = s.counts.bytes + body_length s.number } }
 
-abbrev pub replied : Outcome → State → State
-replied Refused s = refused s
-replied outcome s = record s { counts = record s.counts { replied = s.counts.replied + 1 } }
+abbrev pub reply_heard : Outcome → State → State
+reply_heard Refused s = refused s
+reply_heard outcome s = record s { counts = record s.counts { replied = s.counts.replied + 1 } }
 
 -- Done unsets the flag of a running checkpoint
 abbrev pub stepped : Outcome → State → State
@@ -73,33 +73,33 @@ stepped Finished s = record s { running = false; counts = record s.counts { chec
 stepped outcome s = s
 
 -- the address of a block that is written goes last into the list
-abbrev pub wrote : Outcome → State → State
-wrote Refused s = refused s
-wrote (Wrote address) s = record s { held = s.held ++ address ∷ []; counts = record s.counts { wrote = s.counts.wrote + 1 } }
-wrote outcome s = s
+abbrev pub block_heard : Outcome → State → State
+block_heard Refused s = refused s
+block_heard (Wrote address) s = record s { held = s.held ++ address ∷ []; counts = record s.counts { wrote = s.counts.wrote + 1 } }
+block_heard outcome s = s
 
 -- the first address is taken out
 abbrev pub without_first : State → State
 without_first s = record s { held = drop 1 s.held }
 
-abbrev pub released : Outcome → State → State
-released Refused s = refused (without_first s)
-released outcome s = record (without_first s) { counts = record s.counts { released = s.counts.released + 1 } }
+abbrev pub release_heard : Outcome → State → State
+release_heard Refused s = refused (without_first s)
+release_heard outcome s = record (without_first s) { counts = record s.counts { released = s.counts.released + 1 } }
 
 -- a begin that is accepted sets the flag
-abbrev pub begun : Outcome → State → State
-begun Refused s = refused s
-begun outcome s = record s { running = true }
+abbrev pub begin_heard : Outcome → State → State
+begin_heard Refused s = refused s
+begin_heard outcome s = record s { running = true }
 
 -- ---- and where it goes on
 
 abbrev pub told_at : Point → Outcome → State → State
-told_at Appending outcome s = to_replies (appended outcome s)
-told_at (Replying op) outcome s = after_reply op (replied outcome s)
+told_at Appending outcome s = to_replies (append_heard outcome s)
+told_at (Replying op) outcome s = after_reply op (reply_heard outcome s)
 told_at Stepping outcome s = to_block (stepped outcome s)
-told_at Writing outcome s = to_release (wrote outcome s)
-told_at Releasing outcome s = to_begin (released outcome s)
-told_at Beginning outcome s = to_next (begun outcome s)
+told_at Writing outcome s = to_release (block_heard outcome s)
+told_at Releasing outcome s = to_begin (release_heard outcome s)
+told_at Beginning outcome s = to_next (begin_heard outcome s)
 told_at Ending outcome s = stepped outcome s
 
 abbrev pub told : Outcome → State → State

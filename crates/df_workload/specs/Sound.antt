@@ -27,21 +27,21 @@ is_at_end Ending = true
 is_at_end point = false
 
 -- how many commands were counted
-abbrev pub counted : Counts → ℕ
-counted c = c.appended + c.replied + c.wrote + c.released + c.checkpoints + c.refused
+abbrev pub counted_commands : Counts → ℕ
+counted_commands c = c.appended + c.replied + c.wrote + c.released + c.checkpoints + c.refused
 
 abbrev pub flag : Bool → ℕ
 flag running = cond running 1 0
 
 -- what holds where at most so many commands of a round are to come
-pub record IsWithin (to_come : ℕ) (s : State) : Type 0 where
+pub record IsWithinRound (to_come : ℕ) (s : State) : Type 0 where
   pub number : s.number < 2 ^ 31
   pub some : 1 ≤ s.clients
   pub four : s.clients ≤ 4
   pub million : s.count ≤ 1000000
   pub first : 1 ≤ s.round
   pub last : s.round ≤ s.count
-  pub counted : counted s.counts + flag s.running + 12 * (s.count - s.round) + to_come ≤ 12 * s.count
+  pub counted : counted_commands s.counts + flag s.running + 12 * (s.count - s.round) + to_come ≤ 12 * s.count
   pub bytes : s.counts.bytes ≤ 2047 * s.counts.appended
 
 -- what a point has beside
@@ -51,8 +51,8 @@ HasPoint (Replying op) s = (op ≤ s.round) × (length s.held ≤ 8)
 HasPoint Ending s = (s.round ≡ s.count) × (length s.held ≤ 8)
 HasPoint point s = length s.held ≤ 8
 
-pub record IsSound (s : State) : Type 0 where
-  pub within : IsWithin (left_at s.round s.point) s
+pub record IsSoundState (s : State) : Type 0 where
+  pub within : IsWithinRound (left_at s.round s.point) s
   pub point : HasPoint s.point s
 
 -- what a state may be told: at the end there is an answer only while a checkpoint runs, whose step is not refused

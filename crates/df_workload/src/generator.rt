@@ -1,6 +1,6 @@
 // The generator: the state of a run, and the room for the body that was drawn last.
 ghost use Rattle.std.specs.Prelude.{◌≡◌, ◌≤◌, ◌<◌, false, IfSome, IfNone, Some, None};
-ghost use Rattle.df_workload.specs.Asking.{asks, command_of};
+ghost use Rattle.df_workload.specs.Asking.{asks, command_asked};
 ghost use Rattle.df_workload.specs.Draw.{drawn_body};
 ghost use Rattle.df_workload.specs.Hearing.{told};
 ghost use Rattle.df_workload.specs.Rounds.{start};
@@ -25,11 +25,11 @@ impl Model for Generator {
     ghost Value = { State };
 
     ghost use Rattle.df_workload.specs.Draw.{body_length, drawn_body};
-    ghost use Rattle.df_workload.specs.Sound.{IsSound};
+    ghost use Rattle.df_workload.specs.Sound.{IsSoundState};
 
     ghost view = { λ g. g.state };
 
-    ghost invariant = { λ g. IsSound g.state × (take (body_length g.state.number) g.room ≡ drawn_body g.state.number) };
+    ghost invariant = { λ g. IsSoundState g.state × (take (body_length g.state.number) g.room ≡ drawn_body g.state.number) };
 }
 
 impl Generator {
@@ -48,7 +48,7 @@ impl Generator {
 
     /// The command that is asked for next: None where all rounds are over and no checkpoint runs.
     pub fn asks(&self) -> Option<Asked>
-        ensures some { IfSome result (λ a. asks self.now ≡ Some (command_of self.now a)) }
+        ensures some { IfSome result (λ a. asks self.now ≡ Some (command_asked self.now a)) }
         ensures none { IfNone result (asks self.now ≡ None) }
     {
         match self.state.point {

@@ -1,7 +1,7 @@
 // What an answer makes of a generated run.
 ghost use Rattle.std.specs.Prelude.{◌≡◌, ◌≤◌, ◌<◌, ◌+◌, ◌^◌, length};
-ghost use Rattle.df_workload.specs.Hearing.{appended, begun, refused, released, replied, stepped, told, wrote};
-ghost use Rattle.df_workload.specs.Sound.{IsSound, MayBeTold, counted};
+ghost use Rattle.df_workload.specs.Hearing.{append_heard, begin_heard, block_heard, refused, release_heard, reply_heard, stepped, told};
+ghost use Rattle.df_workload.specs.Sound.{IsSoundState, MayBeTold, counted_commands};
 
 use crate::draw::body_length;
 use crate::{Outcome, Point, State};
@@ -15,9 +15,9 @@ impl State {
     }
 
     fn appended(&mut self, outcome: Outcome)
-        requires counted { counted self.old.counts < 2 ^ 32 }
+        requires counted { counted_commands self.old.counts < 2 ^ 32 }
         requires bytes { self.old.counts.bytes < 2 ^ 48 }
-        ensures { self.new ≡ appended outcome self.old }
+        ensures { self.new ≡ append_heard outcome self.old }
     {
         if outcome == Outcome::Refused {
             self.refuse();
@@ -28,8 +28,8 @@ impl State {
     }
 
     fn replied(&mut self, outcome: Outcome)
-        requires { counted self.old.counts < 2 ^ 32 }
-        ensures { self.new ≡ replied outcome self.old }
+        requires { counted_commands self.old.counts < 2 ^ 32 }
+        ensures { self.new ≡ reply_heard outcome self.old }
     {
         if outcome == Outcome::Refused {
             self.refuse();
@@ -39,7 +39,7 @@ impl State {
     }
 
     fn stepped(&mut self, outcome: Outcome)
-        requires { counted self.old.counts < 2 ^ 32 }
+        requires { counted_commands self.old.counts < 2 ^ 32 }
         ensures { self.new ≡ stepped outcome self.old }
     {
         match outcome {
@@ -53,9 +53,9 @@ impl State {
     }
 
     fn wrote(&mut self, outcome: Outcome)
-        requires counted { counted self.old.counts < 2 ^ 32 }
+        requires counted { counted_commands self.old.counts < 2 ^ 32 }
         requires held { length self.old.held ≤ 8 }
-        ensures { self.new ≡ wrote outcome self.old }
+        ensures { self.new ≡ block_heard outcome self.old }
     {
         match outcome {
             Outcome::Refused => self.refuse(),
@@ -68,9 +68,9 @@ impl State {
     }
 
     fn released(&mut self, outcome: Outcome)
-        requires counted { counted self.old.counts < 2 ^ 32 }
+        requires counted { counted_commands self.old.counts < 2 ^ 32 }
         requires held { 0 < length self.old.held }
-        ensures { self.new ≡ released outcome self.old }
+        ensures { self.new ≡ release_heard outcome self.old }
     {
         self.held.take_first();
         if outcome == Outcome::Refused {
@@ -81,8 +81,8 @@ impl State {
     }
 
     fn begun(&mut self, outcome: Outcome)
-        requires { counted self.old.counts < 2 ^ 32 }
-        ensures { self.new ≡ begun outcome self.old }
+        requires { counted_commands self.old.counts < 2 ^ 32 }
+        ensures { self.new ≡ begin_heard outcome self.old }
     {
         if outcome == Outcome::Refused {
             self.refuse();
@@ -93,7 +93,7 @@ impl State {
 
     /// Counts an answer and goes on.
     pub(crate) fn hear(&mut self, outcome: Outcome)
-        requires sound { IsSound self.old }
+        requires sound { IsSoundState self.old }
         requires may { MayBeTold self.old.point outcome self.old }
         ensures { self.new ≡ told outcome self.old }
     {

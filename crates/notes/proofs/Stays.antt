@@ -9,7 +9,7 @@ use Rattle.df_replica.specs.Replying.{next_reply}
 use Rattle.df_replica.specs.Session.{Act, IsServed}
 use Rattle.df_replica.proofs.Laws.{answered_is_there, nothing_is_served, one_more_is_served}
 use Rattle.notes.specs.Keeping.{AreKept, Begun, Kept, Moment}
-use Rattle.notes.specs.Staying.{AreThere, note_in, notes_in}
+use Rattle.notes.specs.Staying.{AreNotesThere, note_in, notes_in}
 
 -- the notes of acts after others
 notes_on : (acts more : List Act) → notes_in (acts ++ more) ≡ notes_in acts ++ notes_in more
@@ -40,7 +40,7 @@ served m n notes live (Kept before note mid last kept is) =
           (one_more_is_served m.replica mid.replica is.between m.told mid.told is.mid s.acts s.answers s.events append (as_append (Ok is.receipt)) s.served appending) replying;
     }
 
-pub stays : (m n : Moment) (notes : List (List ℕ)) → m.replica.live ≡ true → AreKept m notes n → AreThere notes m n
+pub stays : (m n : Moment) (notes : List (List ℕ)) → m.replica.live ≡ true → AreKept m notes n → AreNotesThere notes m n
 stays m n notes live kept =
     let s = served m n notes live kept in
     record {

@@ -7,7 +7,7 @@ use Rattle.std.specs.Result.{IsErr, IsErrAnd}
 use Rattle.df_disk.specs.Told.{Told}
 use Rattle.df_model.specs.declared.answers.Receipt.{Receipt}
 use Rattle.df_replica.specs.Below.{State}
-use Rattle.notes.specs.Keeping.{AppendsNote, AreKept, Fails, InReply, IsKept, Kept, KeepsNote, KeepsNotes, Moment, StoresReply}
+use Rattle.notes.specs.Keeping.{AppendsNote, AreKept, NoteFails, InReply, IsNoteKept, Kept, KeepsNote, KeepsNotes, Moment, StoresReply}
 use Rattle.notes.specs.declared.ended.Ended.{Ended}
 
 -- an error that is handed on
@@ -22,12 +22,12 @@ pub in_reply : (note : List ℕ) (m n : Moment) (receipt : Receipt) (between : S
 in_reply note m n receipt between mid ended r is appended stores same = subst (λ (q : Result (Unit {0}) Ended). KeepsNote note m n q) (sym is) (InReply receipt between mid appended stores same)
 
 module _ {A : Type 0} (f : A → List ℕ) (xs : List A) (i : ℕ) (m : Moment) where
-  pub goes_on : (d : A) (note : List ℕ) (mid n : Moment) → note ≡ f (get_or xs i d) → i < length xs → AreKept m (map f (take i xs)) mid → IsKept note mid n → AreKept m (map f (take (i + 1) xs)) n
+  pub goes_on : (d : A) (note : List ℕ) (mid n : Moment) → note ≡ f (get_or xs i d) → i < length xs → AreKept m (map f (take i xs)) mid → IsNoteKept note mid n → AreKept m (map f (take (i + 1) xs)) n
   goes_on d note mid n same within kept is =
       subst (λ (l : List (List ℕ)). AreKept m l n) (sym (ap (map f) (take_more xs i d within) ∙ map-append f (take i xs) (get_or xs i d ∷ [])))
-      (Kept (map f (take i xs)) (f (get_or xs i d)) mid n kept (subst (λ (x : List ℕ). IsKept x mid n) same is))
+      (Kept (map f (take i xs)) (f (get_or xs i d)) mid n kept (subst (λ (x : List ℕ). IsNoteKept x mid n) same is))
 
-  pub stops : (d : A) (note : List ℕ) (last n : Moment) (ended : Ended) (r : Result (Unit {0}) Ended) → r ≡ Err ended → note ≡ f (get_or xs i d) → i < length xs → AreKept m (map f (take i xs)) last → Fails note last n ended → KeepsNotes (map f xs) m n r
+  pub stops : (d : A) (note : List ℕ) (last n : Moment) (ended : Ended) (r : Result (Unit {0}) Ended) → r ≡ Err ended → note ≡ f (get_or xs i d) → i < length xs → AreKept m (map f (take i xs)) last → NoteFails note last n ended → KeepsNotes (map f xs) m n r
   stops d note last n ended r is same within kept fails =
       subst (λ (q : Result (Unit {0}) Ended). KeepsNotes (map f xs) m n q) (sym is) (record {
         kept = map f (take i xs);
@@ -35,7 +35,7 @@ module _ {A : Type 0} (f : A → List ℕ) (xs : List A) (i : ℕ) (m : Moment) 
         are = ap (map f) (split_at xs i d within) ∙ map-append f (take i xs) (get_or xs i d ∷ drop (suc i) xs);
         last = last;
         calls = kept;
-        ends = subst (λ (x : List ℕ). Fails x last n ended) same fails;
+        ends = subst (λ (x : List ℕ). NoteFails x last n ended) same fails;
       })
 
   pub ends : (n : Moment) → length xs ≤ i → AreKept m (map f (take i xs)) n → KeepsNotes (map f xs) m n (Ok tt)

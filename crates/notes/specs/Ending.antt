@@ -4,12 +4,12 @@ use Rattle.notes.specs.declared.ended.Ended.{Ended}
 use Rattle.notes.specs.declared.ended.Ended.TheVariants.{Refused, DiskFault, ReadFault, WriteFault, Memory}
 
 -- the status of the exit
-abbrev pub number_of : (ended : Ended) → ℕ
-number_of Refused = 4
-number_of DiskFault = 5
-number_of ReadFault = 6
-number_of WriteFault = 7
-number_of Memory = 8
+abbrev pub notes_exit_number : (ended : Ended) → ℕ
+notes_exit_number Refused = 4
+notes_exit_number DiskFault = 5
+notes_exit_number ReadFault = 6
+notes_exit_number WriteFault = 7
+notes_exit_number Memory = 8
 
 -- by a call that answered an error: the disk failed in it, or it is refused
 abbrev pub ended_by : Bool → Ended
@@ -17,9 +17,9 @@ ended_by true = DiskFault
 ended_by false = Refused
 
 -- the disk is to blame
-abbrev pub is_disk : Ended → Bool
-is_disk DiskFault = true
-is_disk e = false
+abbrev pub is_disk_at_fault : Ended → Bool
+is_disk_at_fault DiskFault = true
+is_disk_at_fault e = false
 
 -- the sink is to blame
 abbrev pub is_sink : Ended → Bool

@@ -40,7 +40,7 @@ StoresReply op s t old new (Err ended) = (e : ReplyError) × Serves (Reply op []
 -- ---- one note
 
 -- it was appended, the reply to its op was stored, and then the line of its op was printed
-pub record IsKept (note : List ℕ) (m n : Moment) : Type 0 where
+pub record IsNoteKept (note : List ℕ) (m n : Moment) : Type 0 where
   pub receipt : Receipt
   pub between : State
   pub mid : Option Told
@@ -49,28 +49,28 @@ pub record IsKept (note : List ℕ) (m n : Moment) : Type 0 where
   pub printed : Appends m.written n.written (op_line receipt.op)
 
 -- where it isn't, nothing is printed while it isn't durable
-pub data Fails (note : List ℕ) (m n : Moment) (ended : Ended) : Type 0 where
-  InAppend : AppendsNote note m.replica n.replica m.told n.told (Err ended) → n.written ≡ m.written → Fails note m n ended
+pub data NoteFails (note : List ℕ) (m n : Moment) (ended : Ended) : Type 0 where
+  InAppend : AppendsNote note m.replica n.replica m.told n.told (Err ended) → n.written ≡ m.written → NoteFails note m n ended
   InReply : (receipt : Receipt) (between : State) (mid : Option Told) → AppendsNote note m.replica between m.told mid (Ok receipt) → StoresReply receipt.op between n.replica mid n.told (Err ended)
-      → n.written ≡ m.written → Fails note m n ended
+      → n.written ≡ m.written → NoteFails note m n ended
   InLine : (receipt : Receipt) (between : State) (mid : Option Told) → AppendsNote note m.replica between m.told mid (Ok receipt) → StoresReply receipt.op between n.replica mid n.told (Ok tt)
-      → AppendsPart m.written n.written (op_line receipt.op) → ended ≡ WriteFault → Fails note m n ended
+      → AppendsPart m.written n.written (op_line receipt.op) → ended ≡ WriteFault → NoteFails note m n ended
 
 abbrev pub KeepsNote : List ℕ → (m n : Moment) → Result (Unit {0}) Ended → Type 0
-KeepsNote note m n (Ok done) = IsKept note m n
-KeepsNote note m n (Err ended) = Fails note m n ended
+KeepsNote note m n (Ok done) = IsNoteKept note m n
+KeepsNote note m n (Err ended) = NoteFails note m n ended
 
 -- ---- all of them
 
 -- from one moment to another these notes were kept, one after the other
 pub data AreKept (m : Moment) : List (List ℕ) → Moment → Type 0 where
   Begun : AreKept m [] m
-  Kept : (notes : List (List ℕ)) (note : List ℕ) (mid n : Moment) → AreKept m notes mid → IsKept note mid n → AreKept m (notes ++ note ∷ []) n
+  Kept : (notes : List (List ℕ)) (note : List ℕ) (mid n : Moment) → AreKept m notes mid → IsNoteKept note mid n → AreKept m (notes ++ note ∷ []) n
 
 -- there is no further note, or the next one isn't kept
 abbrev pub Ends : (rest : List (List ℕ)) → (m n : Moment) → Result (Unit {0}) Ended → Type 0
 Ends [] m n (Ok done) = n ≡ m
-Ends (note ∷ rest) m n (Err ended) = Fails note m n ended
+Ends (note ∷ rest) m n (Err ended) = NoteFails note m n ended
 Ends rest m n result = ⊥
 
 -- the notes that are kept are the first ones, in order; where the call is Ok, all of them

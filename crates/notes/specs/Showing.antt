@@ -8,16 +8,16 @@ use Rattle.df_replica.specs.Below.{State}
 use Rattle.df_replica.specs.Reading.{IsReadPrepare}
 
 -- the prepare of this op was read, and its body printed as a line
-pub record IsShown (op : ℕ) (s : State) (told : Option Told) (old new : Option (List ℕ)) : Type 0 where
+pub record IsNoteShown (op : ℕ) (s : State) (told : Option Told) (old new : Option (List ℕ)) : Type 0 where
   pub message : Message
   pub read : IsReadPrepare op s told (Ok message)
   pub printed : Appends old new (line_of message.body)
 
 -- so were so many, in order of op, from the first one after the checkpoint on
-pub data AreShown (s : State) (told : Option Told) (old : Option (List ℕ)) : (count : ℕ) → Option (List ℕ) → Type 0 where
-  Begun : AreShown s told old 0 old
-  Shown : (count op : ℕ) (mid new : Option (List ℕ)) → AreShown s told old count mid → op ≡ s.fields.op + count + 1 → IsShown op s told mid new → AreShown s told old (count + 1) new
+pub data AreNotesShown (s : State) (told : Option Told) (old : Option (List ℕ)) : (count : ℕ) → Option (List ℕ) → Type 0 where
+  Begun : AreNotesShown s told old 0 old
+  Shown : (count op : ℕ) (mid new : Option (List ℕ)) → AreNotesShown s told old count mid → op ≡ s.fields.op + count + 1 → IsNoteShown op s told mid new → AreNotesShown s told old (count + 1) new
 
 -- all up to the head
 abbrev pub ShowsAll : (s : State) → Option Told → (old new : Option (List ℕ)) → Type 0
-ShowsAll s told old new = AreShown s told old (s.head - s.fields.op) new
+ShowsAll s told old new = AreNotesShown s told old (s.head - s.fields.op) new

@@ -20,7 +20,7 @@ notes_in [] = []
 notes_in (a ∷ acts) = note_in a.command ++ notes_in acts
 
 -- by each log by which the file was kept at first, whatever a stop leaves now, under no chance, has the state after the appends of all these notes
-pub record AreThere (notes : List (List ℕ)) (m n : Moment) : Type 0 where
+pub record AreNotesThere (notes : List (List ℕ)) (m n : Moment) : Type 0 where
   pub acts : List Act
   pub events : List Event
   pub are : notes_in acts ≡ notes
@@ -28,4 +28,4 @@ pub record AreThere (notes : List (List ℕ)) (m n : Moment) : Type 0 where
   pub left : (g : Grade) (w : Work) (base : Option Told) → Keeps g m.replica w base → LeavesView m.replica.file g (work_after m.replica.file w acts) (after_all events base)
 
 abbrev pub KeptNotesStay : Type 0
-KeptNotesStay = (m n : Moment) (notes : List (List ℕ)) → m.replica.live ≡ true → AreKept m notes n → AreThere notes m n
+KeptNotesStay = (m n : Moment) (notes : List (List ℕ)) → m.replica.live ≡ true → AreKept m notes n → AreNotesThere notes m n

@@ -1,6 +1,6 @@
 // Why the program ends before it is done.
 ghost use Rattle.std.specs.Prelude.{◌≡◌};
-ghost use Rattle.notes.specs.Ending.{ended_by, number_of};
+ghost use Rattle.notes.specs.Ending.{ended_by, notes_exit_number};
 
 use df_base::BlamesDisk;
 
@@ -22,7 +22,7 @@ pub enum Ended {
 impl Ended {
     /// The exit status of the program.
     pub fn number(self) -> u8
-        ensures { result ≡ number_of self }
+        ensures { result ≡ notes_exit_number self }
     {
         match self {
             Ended::Refused => 4,

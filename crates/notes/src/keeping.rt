@@ -2,7 +2,7 @@
 ghost use Rattle.std.specs.Prelude.{◌≡◌, true, map, string_bytes, OnOk};
 ghost use Rattle.df_base.specs.Causes.{HasCause, IsBlamed};
 ghost use Rattle.df_inspect.specs.Prints.{Prints};
-ghost use Rattle.notes.specs.Ending.{is_disk, is_sink};
+ghost use Rattle.notes.specs.Ending.{is_disk_at_fault, is_sink};
 ghost use Rattle.notes.specs.Keeping.{AppendsNote, KeepsNote, KeepsNotes, StoresReply, op_line};
 
 use crate::ended::{Ended, why_ended};
@@ -28,7 +28,7 @@ fn append_note<D: Disk>(disk: &mut D, replica: &mut Replica, note: &[u8]) -> Res
     requires live { replica.old.live ≡ true }
     ensures appends { AppendsNote note.now replica.old replica.new (D.told disk.old) (D.told disk.new) result }
     ensures live { OnOk result (replica.new.live ≡ true) }
-    ensures disk { IsBlamed is_disk (D.faults disk.old) (D.faults disk.new) result }
+    ensures disk { IsBlamed is_disk_at_fault (D.faults disk.old) (D.faults disk.new) result }
 {
     let request = next_request(replica);
     match replica.append(disk, CLIENT, request, note) {
@@ -42,7 +42,7 @@ pub(crate) fn reply_to<D: Disk>(disk: &mut D, replica: &mut Replica, op: u64) ->
     requires live { replica.old.live ≡ true }
     ensures stores { StoresReply op replica.old replica.new (D.told disk.old) (D.told disk.new) result }
     ensures live { OnOk result (replica.new.live ≡ true) }
-    ensures disk { IsBlamed is_disk (D.faults disk.old) (D.faults disk.new) result }
+    ensures disk { IsBlamed is_disk_at_fault (D.faults disk.old) (D.faults disk.new) result }
 {
     match replica.reply(disk, op, &[]) {
         Ok(_) => Ok(()),
@@ -75,7 +75,7 @@ fn keep_note<D: Disk, W: Sink>(
         (record { replica = replica.old; told = D.told disk.old; written = W.written sink.old })
         (record { replica = replica.new; told = D.told disk.new; written = W.written sink.new }) result }
     ensures live { OnOk result (replica.new.live ≡ true) }
-    ensures disk { IsBlamed is_disk (D.faults disk.old) (D.faults disk.new) result }
+    ensures disk { IsBlamed is_disk_at_fault (D.faults disk.old) (D.faults disk.new) result }
     ensures sink { IsBlamed is_sink (W.faults sink.old) (W.faults sink.new) result }
 {
     let receipt = append_note(disk, replica, note)?;
@@ -99,7 +99,7 @@ pub fn keep<D: Disk, W: Sink>(
         (record { replica = replica.old; told = D.told disk.old; written = W.written sink.old })
         (record { replica = replica.new; told = D.told disk.new; written = W.written sink.new }) result }
     ensures live { OnOk result (replica.new.live ≡ true) }
-    ensures disk { IsBlamed is_disk (D.faults disk.old) (D.faults disk.new) result }
+    ensures disk { IsBlamed is_disk_at_fault (D.faults disk.old) (D.faults disk.new) result }
     ensures sink { IsBlamed is_sink (W.faults sink.old) (W.faults sink.new) result }
 {
     for note in notes {

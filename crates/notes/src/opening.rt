@@ -1,7 +1,7 @@
 // The file of the notes: it is opened, and made where the disk is blank.
 ghost use Rattle.std.specs.Prelude.{◌≡◌, true, IfOk, OnOk};
 ghost use Rattle.df_base.specs.Causes.{IsBlamed};
-ghost use Rattle.notes.specs.Ending.{is_disk};
+ghost use Rattle.notes.specs.Ending.{is_disk_at_fault};
 ghost use Rattle.notes.specs.Opening.{IsOpen};
 
 use crate::ended::{Ended, why_ended};
@@ -18,7 +18,7 @@ const CLUSTER: u128 = 1;
 fn make_notes<D: Disk>(disk: &mut D, rooms: Rooms) -> Result<Replica, Ended>
     ensures live { IfOk result (λ replica. replica.live ≡ true) }
     ensures open { IfOk result (λ replica. IsOpen replica (D.told disk.new)) }
-    ensures disk { IsBlamed is_disk (D.faults disk.old) (D.faults disk.new) result }
+    ensures disk { IsBlamed is_disk_at_fault (D.faults disk.old) (D.faults disk.new) result }
 {
     let mut rooms = rooms;
     if let Err(error) = format(disk, &mut rooms, CLUSTER) {
@@ -34,7 +34,7 @@ fn make_notes<D: Disk>(disk: &mut D, rooms: Rooms) -> Result<Replica, Ended>
 pub fn open_notes<D: Disk>(alloc: Global, disk: &mut D) -> Result<Replica, Ended>
     ensures live { IfOk result (λ replica. replica.live ≡ true) }
     ensures open { IfOk result (λ replica. IsOpen replica (D.told disk.new)) }
-    ensures disk { IsBlamed is_disk (D.faults disk.old) (D.faults disk.new) result }
+    ensures disk { IsBlamed is_disk_at_fault (D.faults disk.old) (D.faults disk.new) result }
 {
     let Ok(rooms) = Rooms::reserve(alloc, &Layout::small()) else {
         return Err(Ended::Memory);
@@ -51,7 +51,7 @@ pub fn open_notes<D: Disk>(alloc: Global, disk: &mut D) -> Result<Replica, Ended
 pub fn catch_up<D: Disk>(disk: &mut D, replica: &mut Replica) -> Result<(), Ended>
     requires live { replica.old.live ≡ true }
     ensures live { OnOk result (replica.new.live ≡ true) }
-    ensures disk { IsBlamed is_disk (D.faults disk.old) (D.faults disk.new) result }
+    ensures disk { IsBlamed is_disk_at_fault (D.faults disk.old) (D.faults disk.new) result }
 {
     let summary = replica.summary();
     if summary.replies < summary.head {

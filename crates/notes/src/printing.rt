@@ -3,8 +3,8 @@ ghost use Rattle.std.specs.Prelude.{◌≡◌, true, OnOk};
 ghost use Rattle.df_base.specs.Causes.{HasCause, IsBlamed};
 ghost use Rattle.df_base.specs.Streams.{Appends};
 ghost use Rattle.df_script_model.specs.Texts.{line_of};
-ghost use Rattle.notes.specs.Ending.{is_disk, is_sink};
-ghost use Rattle.notes.specs.Showing.{IsShown, ShowsAll};
+ghost use Rattle.notes.specs.Ending.{is_disk_at_fault, is_sink};
+ghost use Rattle.notes.specs.Showing.{IsNoteShown, ShowsAll};
 
 use crate::ended::{Ended, why_ended};
 use df_base::{Failed, Sink};
@@ -29,10 +29,10 @@ fn print_note<D: Disk, W: Sink>(
     op: u64,
 ) -> Result<(), Ended>
     requires live { replica.old.live ≡ true }
-    ensures shown { OnOk result (IsShown op replica.old (D.told disk.old) (W.written sink.old) (W.written sink.new)) }
+    ensures shown { OnOk result (IsNoteShown op replica.old (D.told disk.old) (W.written sink.old) (W.written sink.new)) }
     ensures kept { OnOk result (replica.new ≡ replica.old) }
     ensures same { D.told disk.new ≡ D.told disk.old }
-    ensures disk { IsBlamed is_disk (D.faults disk.old) (D.faults disk.new) result }
+    ensures disk { IsBlamed is_disk_at_fault (D.faults disk.old) (D.faults disk.new) result }
     ensures sink { IsBlamed is_sink (W.faults sink.old) (W.faults sink.new) result }
 {
     match replica.read_prepare(disk, op) {
@@ -53,7 +53,7 @@ pub fn print_notes<D: Disk, W: Sink>(
     requires live { replica.old.live ≡ true }
     ensures shown { OnOk result (ShowsAll replica.old (D.told disk.old) (W.written sink.old) (W.written sink.new)) }
     ensures same { D.told disk.new ≡ D.told disk.old }
-    ensures disk { IsBlamed is_disk (D.faults disk.old) (D.faults disk.new) result }
+    ensures disk { IsBlamed is_disk_at_fault (D.faults disk.old) (D.faults disk.new) result }
     ensures sink { IsBlamed is_sink (W.faults sink.old) (W.faults sink.new) result }
 {
     let summary = replica.summary();

@@ -1,7 +1,7 @@
 -- A link that is read goes after the others, unless it is refused.
 use Rattle.std.proofs.Common.{◌∙◌, List, sym, ap, subst}
 use Rattle.df_checkpoint.specs.declared.links.Link.{Link}
-use Rattle.df_checkpoint.specs.Chain.{AreApart, is_among}
+use Rattle.df_checkpoint.specs.Chain.{AreDistinctLinks, is_among}
 use Rattle.df_checkpoint.proofs.Walked.{apart_more, step_again, step_more, step_refused}
 use Rattle.df_checkpoint.proofs.backwards.take_link.Goals as goal
 
@@ -18,5 +18,5 @@ returns-clause-step g c = step_more c.args.grid.now (g.D.Disk.told c.args.disk.n
 
 pub returns-clause-apart : goal.returns-clause-apart
 returns-clause-apart g c =
-    subst (λ (refs : List Link). AreApart c.args.grid.now refs) (sym c.push.ensures.items) (apart_more c.args.grid.now c.args.blocks.now.items c.args.at c.requires.apart c.requires.inside
+    subst (λ (refs : List Link). AreDistinctLinks c.args.grid.now refs) (sym c.push.ensures.items) (apart_more c.args.grid.now c.args.blocks.now.items c.args.at c.requires.apart c.requires.inside
     (ap (λ (refs : List Link). is_among c.args.at.address refs) (sym c.deref.ensures.0) ∙ sym c.is_among.ensures ∙ c.if-is_among.false))

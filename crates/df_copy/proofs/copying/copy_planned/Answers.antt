@@ -8,9 +8,9 @@ use Rattle.df_model.specs.declared.answers.Summary.{Summary}
 use Rattle.df_opening.specs.Below.{State, memory}
 use Rattle.df_copy.specs.declared.ending.Ending.{Ending}
 use Rattle.df_copy.specs.declared.ending.Ending.TheVariants.{Source, Target}
-use Rattle.df_copy.specs.Acts.{Beside, IsCopied, IsReady, Leaves, beside}
+use Rattle.df_copy.specs.Acts.{Beside, IsCopied, IsReadySource, LeavesSource, beside}
 use Rattle.df_copy.specs.Copying.{BeginsTarget}
-use Rattle.df_copy.specs.Planning.{IsPlan}
+use Rattle.df_copy.specs.Planning.{IsCopyPlan}
 use Rattle.df_copy.specs.Statuses.{is_target}
 use Rattle.df_copy.specs.Tests.{needed}
 use Rattle.df_copy.proofs.Blamed.{leaves_then, on_ok, unblamed}
@@ -48,16 +48,16 @@ returns-in-Err-clause-leaves g c =
     }
 
 pub copy_units-requires-clause-ready : goal.copy_units-requires-clause-ready
-copy_units-requires-clause-ready g c = subst (λ (l : Layout). IsReady l c.args.replica.now) (sym c.in-Ok.ensures.grid.layout_is) c.requires.ready
+copy_units-requires-clause-ready g c = subst (λ (l : Layout). IsReadySource l c.args.replica.now) (sym c.in-Ok.ensures.grid.layout_is) c.requires.ready
 
 pub finish-requires-clause-ready : goal.finish-requires-clause-ready
 finish-requires-clause-ready g c =
-    later (λ (l : Layout) (q : State). IsReady l q) c.args.target.now.layout c.copy_units.new.target.layout c.args.replica.now c.copy_units.new.replica (c.in-Ok-copy_units.ensures.layout ∙ c.in-Ok.ensures.grid.layout_is) c.in-Ok-copy_units.ensures.leaves.kept
+    later (λ (l : Layout) (q : State). IsReadySource l q) c.args.target.now.layout c.copy_units.new.target.layout c.args.replica.now c.copy_units.new.replica (c.in-Ok-copy_units.ensures.layout ∙ c.in-Ok.ensures.grid.layout_is) c.in-Ok-copy_units.ensures.leaves.kept
     c.requires.ready
 
 pub finish-requires-clause-plan : goal.finish-requires-clause-plan
 finish-requires-clause-plan g c =
-    later (λ (l : Layout) (q : State). IsPlan l q c.args.plan) c.args.target.now.layout c.copy_units.new.target.layout c.args.replica.now c.copy_units.new.replica (c.in-Ok-copy_units.ensures.layout ∙ c.in-Ok.ensures.grid.layout_is) c.in-Ok-copy_units.ensures.leaves.kept
+    later (λ (l : Layout) (q : State). IsCopyPlan l q c.args.plan) c.args.target.now.layout c.copy_units.new.target.layout c.args.replica.now c.copy_units.new.replica (c.in-Ok-copy_units.ensures.layout ∙ c.in-Ok.ensures.grid.layout_is) c.in-Ok-copy_units.ensures.leaves.kept
     c.requires.plan
 
 pub finish-requires-clause-room : goal.finish-requires-clause-room
@@ -90,12 +90,12 @@ returns-in-Err-copy_units-clause-copies g c = λ apart.
 -- ---- what is left
 
 -- the ring leaves the source as it was, and what is left after it is left by all
-ring_leaves : (s : State) (told : Option Told) (faults before begun : ℕ) (now : Beside) (r : Result (Unit {0}) Ending) → begun ≡ before → Leaves (beside s told faults begun) now r → Leaves (beside s told faults before) now r
+ring_leaves : (s : State) (told : Option Told) (faults before begun : ℕ) (now : Beside) (r : Result (Unit {0}) Ending) → begun ≡ before → LeavesSource (beside s told faults begun) now r → LeavesSource (beside s told faults before) now r
 ring_leaves s told faults before begun now r same leaves =
     leaves_then {a = beside s told faults before} {b = beside s told faults begun} {c = now} {x = tt {0}} {r = r} (record { kept = refl; same = refl; blames_source = refl; blames_target = same }) leaves
 
 -- and so does what comes last
-last_leaves : (s : State) (told : Option Told) (faults before now : ℕ) (r : Result (Unit {0}) Ending) → IsBlamed is_target before now r → IfErr r (λ ending. ending ≡ Target) → Leaves (beside s told faults before) (beside s told faults now) r
+last_leaves : (s : State) (told : Option Told) (faults before now : ℕ) (r : Result (Unit {0}) Ending) → IsBlamed is_target before now r → IfErr r (λ ending. ending ≡ Target) → LeavesSource (beside s told faults before) (beside s told faults now) r
 last_leaves s told faults before now r blamed target = record {
   kept = on_ok r refl;
   same = refl;

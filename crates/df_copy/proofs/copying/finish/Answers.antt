@@ -12,7 +12,7 @@ use Rattle.df_layout.specs.declared.layout.Layout.{Layout}
 use Rattle.df_opening.specs.Below.{State, memory}
 use Rattle.df_copy.specs.declared.ending.Ending.{Ending}
 use Rattle.df_copy.specs.declared.target.Target.{Target}
-use Rattle.df_copy.specs.Acts.{IsWritten}
+use Rattle.df_copy.specs.Acts.{IsTrailerWritten}
 use Rattle.df_copy.specs.Targets.{superblock_events, superblock_of, trailer_of}
 use Rattle.df_copy.specs.Tests.{references}
 use Rattle.df_copy.specs.Trailers.{AddsTrailer}
@@ -20,13 +20,13 @@ use Rattle.df_copy.specs.Units.{all_events, moved_from}
 use Rattle.df_copy.proofs.copying.finish.Goals as goal
 
 -- what the superblock says, over the layout of the target as it was
-says : (layout l : Layout) (s : State) (rs bs : List Message) (n : Target) (f : SuperFields) → l ≡ layout → ((rs bs : List Message) → IsWritten l s rs bs n → length bs ≡ length (references (memory s)) → f ≡ superblock_of l s rs bs)
-    → IsWritten layout s rs bs n → length bs ≡ length (references (memory s)) → f ≡ superblock_of layout s rs bs
-says layout l s rs bs n f same is = subst (λ (x : Layout). (rs bs : List Message) → IsWritten x s rs bs n → length bs ≡ length (references (memory s)) → f ≡ superblock_of x s rs bs) same is rs bs
+says : (layout l : Layout) (s : State) (rs bs : List Message) (n : Target) (f : SuperFields) → l ≡ layout → ((rs bs : List Message) → IsTrailerWritten l s rs bs n → length bs ≡ length (references (memory s)) → f ≡ superblock_of l s rs bs)
+    → IsTrailerWritten layout s rs bs n → length bs ≡ length (references (memory s)) → f ≡ superblock_of layout s rs bs
+says layout l s rs bs n f same is = subst (λ (x : Layout). (rs bs : List Message) → IsTrailerWritten x s rs bs n → length bs ≡ length (references (memory s)) → f ≡ superblock_of x s rs bs) same is rs bs
 
 -- however it is written after the trailer
 ends : {T E : Type 0} (s : State) (rs bs : List Message) (t n : Target) (f : SuperFields) (old mid new : Option Told) (x : Unit {0}) (r : Result T E) → n.layout ≡ t.layout → AddsTrailer s rs bs t n old mid (Ok x)
-    → ((rs bs : List Message) → IsWritten n.layout s rs bs n → length bs ≡ length (references (memory s)) → f ≡ superblock_of n.layout s rs bs) → length bs ≡ length (references (memory s)) → Adds (Sync ∷ update_events f) mid new r
+    → ((rs bs : List Message) → IsTrailerWritten n.layout s rs bs n → length bs ≡ length (references (memory s)) → f ≡ superblock_of n.layout s rs bs) → length bs ≡ length (references (memory s)) → Adds (Sync ∷ update_events f) mid new r
     → Adds (all_events (made_events t.layout) (trailer_of t.layout s (moved_from 1 bs)) ++ superblock_events t.layout s rs bs) old new r
 ends {T = T} {E = E} s rs bs t n f old mid new x r layouts trailer is all adds =
     adds_then (all_events (made_events t.layout) (trailer_of t.layout s (moved_from 1 bs))) (superblock_events t.layout s rs bs) old mid new r trailer.events

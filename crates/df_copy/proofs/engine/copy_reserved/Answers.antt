@@ -2,7 +2,7 @@
 use Rattle.std.proofs.Common.{ℕ, inr, Option, refl, subst, sym}
 use Rattle.df_disk.specs.Told.{Told}
 use Rattle.df_opening.specs.Below.{State}
-use Rattle.df_telling.specs.Two.{HasCauses, around, counts}
+use Rattle.df_telling.specs.Two.{HasCausesOfTwo, around, counts}
 use Rattle.df_telling.proofs.Laws.{unopened_causes}
 use Rattle.df_copy.specs.declared.status.Status.TheVariants as ends
 use Rattle.df_copy.specs.Run.{CopiesFile}
@@ -19,7 +19,7 @@ returns-in-Ok-clause-does g c = λ t told whole.
 
 pub returns-in-Ok-clause-causes : goal.returns-in-Ok-clause-causes
 returns-in-Ok-clause-causes g c =
-    subst (λ (n : ℕ). HasCauses ends.DiskFault ends.WriteFault (counts n (g.B.Disk.faults c.args.to.now) (g.W.Sink.faults c.args.sink.now))
+    subst (λ (n : ℕ). HasCausesOfTwo ends.DiskFault ends.WriteFault (counts n (g.B.Disk.faults c.args.to.now) (g.W.Sink.faults c.args.sink.now))
     (counts (g.A.Disk.faults c.copy_opened.new.from) (g.B.Disk.faults c.copy_opened.new.to) (g.W.Sink.faults c.copy_opened.new.sink)) c.copy_opened.result) (c.in-Ok.ensures {u = tt}).cause c.copy_opened.ensures.causes
 
 -- ---- it isn't

@@ -3,7 +3,7 @@ use Rattle.std.proofs.Common.{◌∙◌, ◌<◌, length, refl, sym, ap, subst, 
 use Rattle.df_layout.specs.declared.layout.Layout.{Layout}
 use Rattle.df_model.specs.declared.answers.Summary.{Summary}
 use Rattle.df_opening.specs.Below.{State}
-use Rattle.df_copy.specs.Acts.{IsReady, SetsCheck}
+use Rattle.df_copy.specs.Acts.{IsReadySource, SetsCheck}
 use Rattle.df_copy.proofs.Blamed.{leaves_then}
 use Rattle.df_copy.proofs.Named.{named_by, named_more, named_none}
 use Rattle.df_copy.proofs.Replying.{replying_all, replying_ends, replying_more, replying_none}
@@ -21,7 +21,7 @@ loop-place-init g c = record {
 pub copy_reply-requires-clause-ready : goal.copy_reply-requires-clause-ready
 copy_reply-requires-clause-ready g c =
     let i = c.loop-place.invariant in
-    subst (λ (l : Layout). IsReady l c.loop-place.replica) (sym i.grid.layout_is) (subst (λ (s : State). IsReady c.args.target.now.layout s) (sym i.leaves.kept) c.requires.ready)
+    subst (λ (l : Layout). IsReadySource l c.loop-place.replica) (sym i.grid.layout_is) (subst (λ (s : State). IsReadySource c.args.target.now.layout s) (sym i.leaves.kept) c.requires.ready)
 
 pub loop-place-preserved : goal.loop-place-preserved
 loop-place-preserved g c =

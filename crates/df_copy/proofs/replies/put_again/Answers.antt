@@ -10,7 +10,7 @@ use Rattle.df_format.specs.Message.{Message, sectors_end, sectors_of}
 use Rattle.df_format.specs.Own.{place_in}
 use Rattle.df_format.specs.Valid.{IsUnit}
 use Rattle.df_buffers.specs.Sounds.{Holding}
-use Rattle.df_places.specs.Shelves.{HoldsMade, IsMade}
+use Rattle.df_places.specs.Shelves.{HoldsMade, IsUnitMade}
 use Rattle.df_places.specs.Units.{put_events}
 use Rattle.df_copy.specs.Acts.{MayPutReply}
 use Rattle.df_copy.specs.Units.{reply_events}
@@ -20,7 +20,7 @@ holds_some : (layout : Layout) (h : Header) (body : List ℕ) (held : Option Hol
 holds_some layout h body (Some held) made = refl
 holds_some layout h body None made = absurd made
 
-module _ (layout room : Layout) (h : Header) (body : List ℕ) (may : MayPutReply layout h body) (held : Holding) (made : IsMade room h body held) where
+module _ (layout room : Layout) (h : Header) (body : List ℕ) (may : MayPutReply layout h body) (held : Holding) (made : IsUnitMade room h body held) where
   abbrev unit : Message
   unit = record { header = h; body = body }
 

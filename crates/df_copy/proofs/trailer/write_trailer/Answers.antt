@@ -5,7 +5,7 @@ use Rattle.df_disk.specs.Adds.{AddsPart, after_all}
 use Rattle.df_format.specs.declared.superblock.SuperFields.{SuperFields}
 use Rattle.df_format.specs.Message.{Message}
 use Rattle.df_model.specs.Blocks.{blocks_captured}
-use Rattle.df_grid.specs.Grid.{GridState, free_of, with_blocks}
+use Rattle.df_grid.specs.Grid.{GridState, free_addresses, with_blocks}
 use Rattle.df_opening.specs.Below.{memory}
 use Rattle.df_copy.specs.Tests.{trailer_blocks, trailer_size}
 use Rattle.df_copy.specs.Targets.{begun_grid}
@@ -19,7 +19,7 @@ capture-requires-clause-free g c =
     let t = c.args.target.now in
     let begun = c.requires.begun in
     let enough = enough_free t.layout c.args.replica.now begun.1 begun.3 c.requires.room in
-    let grid = ap (λ (h : GridState). length (free_of h)) c.set_boot.ensures ∙ ap (λ (h : GridState). length (free_of h)) begun.2.grid in
+    let grid = ap (λ (h : GridState). length (free_addresses h)) c.set_boot.ensures ∙ ap (λ (h : GridState). length (free_addresses h)) begun.2.grid in
     omega (arith, enough, grid, c.requires.plan.blocks)
 
 pub write_pieces-requires-clause-begun : goal.write_pieces-requires-clause-begun
@@ -29,7 +29,7 @@ write_pieces-requires-clause-begun g c =
     let us : List Message = moved_from 1 c.requires.begun.1 in
     let boot = c.fields.result.now.boot in
     let whole : c.capture.new.self ≡ begun_grid t.grid boot c.args.plan.blocks =
-    c.capture.ensures ∙ ap (λ (h : GridState). with_blocks h (blocks_captured h.blocks (take c.args.plan.blocks (free_of h)))) c.set_boot.ensures in
+    c.capture.ensures ∙ ap (λ (h : GridState). with_blocks h (blocks_captured h.blocks (take c.args.plan.blocks (free_addresses h)))) c.set_boot.ensures in
     let few = c.chains_have_room.ensures t.layout (trailer_size t.layout (memory s)) (trailer_blocks t.layout (memory s)) (size_to t.layout s c.fields.ensures.state.root c.requires.fits c.requires.room) (trailer_count t.layout s) in
     record {
       left =
@@ -50,7 +50,7 @@ returns-in-Ok-clause-trailer g c = λ rs bs is.
     let took = c.capture_of-capture.ensures in
     let begun = c.capture.new.self in
     let old = g.B.Disk.told c.args.to.now in
-    let whole : begun ≡ begun_grid t.grid boot n = c.capture.ensures ∙ ap (λ (h : GridState). with_blocks h (blocks_captured h.blocks (take n (free_of h)))) c.set_boot.ensures in
+    let whole : begun ≡ begun_grid t.grid boot n = c.capture.ensures ∙ ap (λ (h : GridState). with_blocks h (blocks_captured h.blocks (take n (free_addresses h)))) c.set_boot.ensures in
     let booted = ap (λ (f : SuperFields). f.boot) c.fields.ensures.value in
     let ok = c.in-Ok.ensures {u = tt} in
     let first = c.requires.begun in
@@ -72,7 +72,7 @@ returns-in-Err-clause-trailer g c = λ rs bs is.
     let boot = c.fields.result.now.boot in
     let took = c.capture_of-capture.ensures in
     let begun = c.capture.new.self in
-    let whole : begun ≡ begun_grid t.grid boot n = c.capture.ensures ∙ ap (λ (h : GridState). with_blocks h (blocks_captured h.blocks (take n (free_of h)))) c.set_boot.ensures in
+    let whole : begun ≡ begun_grid t.grid boot n = c.capture.ensures ∙ ap (λ (h : GridState). with_blocks h (blocks_captured h.blocks (take n (free_addresses h)))) c.set_boot.ensures in
     record {
       events = subst (λ (es : List Event). AddsPart es (g.B.Disk.told c.args.to.now) (g.B.Disk.told c.write_pieces.new.to))
           (own_events t.layout s (moved_from 1 bs) t.grid begun c.capture_of-capture.result boot n whole is.grid (ap (λ (f : SuperFields). f.boot) c.fields.ensures.value) c.requires.plan.blocks took.sequence took.root took.sessions) (c.in-Err.ensures {u = tt}).events;

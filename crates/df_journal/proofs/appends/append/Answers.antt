@@ -3,7 +3,7 @@ use Rattle.std.proofs.Common.{◌/◌, ◌∷◌, [], ap, subst, sym}
 use Rattle.df_layout.specs.declared.layout.Layout.{Layout}
 use Rattle.df_disk.proofs.Laws.{adds_part, adds_failed}
 use Rattle.df_format.specs.declared.header.Header.{Header}
-use Rattle.df_headers.specs.Ring.{IsTable}
+use Rattle.df_headers.specs.Ring.{IsHeaderTable}
 use Rattle.df_journal.specs.Append.{journal_events}
 use Rattle.df_journal.proofs.Moments.{append_steps, ends_of, moments_of, sector_of_ring}
 use Rattle.df_journal.proofs.RingWrites.{both_add, put_fails}
@@ -12,7 +12,7 @@ use Rattle.df_journal.proofs.appends.append.Goals as goal
 pub settle-requires-clause-table : goal.settle-requires-clause-table
 settle-requires-clause-table g c =
     let cluster = c.args.unit.now.unit.header.cluster in
-    (cluster, subst (λ (l : Layout). IsTable l cluster c.put.new.table) (sym c.requires.room) c.put.ensures.valid)
+    (cluster, subst (λ (l : Layout). IsHeaderTable l cluster c.put.new.table) (sym c.requires.room) c.put.ensures.valid)
 
 pub settle-requires-clause-sectors : goal.settle-requires-clause-sectors
 settle-requires-clause-sectors g c = sector_of_ring c.args.layout.now c.args.room.now.layout c.args.unit.now.unit c.header.result.now c.requires.room c.header.ensures.header c.put.ensures.own

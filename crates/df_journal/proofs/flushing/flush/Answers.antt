@@ -2,7 +2,7 @@
 use Rattle.std.proofs.Common.{subst, sym}
 use Rattle.df_disk.proofs.Laws.{adds_part, adds_failed}
 use Rattle.df_layout.specs.declared.layout.Layout.{Layout}
-use Rattle.df_headers.specs.Ring.{IsTable}
+use Rattle.df_headers.specs.Ring.{IsHeaderTable}
 use Rattle.df_journal.specs.Flush.{flush_events, sectors_between}
 use Rattle.df_journal.proofs.GroupMoments.{between_of_ring, flush_are_steps, group_ends, group_moments}
 use Rattle.df_journal.proofs.GroupWrites.{flush_adds, puts_fail}
@@ -23,7 +23,7 @@ returns-in_err-put_all-clause-moments g c = λ cluster before after put first la
 pub settle_between-requires-clause-table : goal.settle_between-requires-clause-table
 settle_between-requires-clause-table g c =
     let cluster = c.requires.may.0 in
-    (cluster, subst (λ (l : Layout). IsTable l cluster c.put_all.new.table) (sym c.requires.room) (c.put_all.ensures.valid cluster c.requires.may.1))
+    (cluster, subst (λ (l : Layout). IsHeaderTable l cluster c.put_all.new.table) (sym c.requires.room) (c.put_all.ensures.valid cluster c.requires.may.1))
 
 pub settle_between-requires-clause-sectors : goal.settle_between-requires-clause-sectors
 settle_between-requires-clause-sectors g c =

@@ -1,7 +1,7 @@
 -- All puts from the start are those from this prepare on, after what was told, and so are the headers after the table.
 use Rattle.std.proofs.Common.{◌≡◌, ◌≤◌, ◌-◌, ℕ, length, drop}
-use Rattle.df_headers.specs.Ring.{IsTable}
-use Rattle.df_journal.specs.Flush.{MayPut, group_puts, units_of, with_headers}
+use Rattle.df_headers.specs.Ring.{IsHeaderTable}
+use Rattle.df_journal.specs.Flush.{MayPutGroup, group_puts, held_prepares, with_headers}
 use Rattle.df_journal.proofs.RingWrites.{LeadsAs}
 use Rattle.df_journal.proofs.flushing.put_all.Given as goal
 
@@ -9,8 +9,8 @@ abbrev pub invariant-loop-i : goal.invariant-loop-i
 invariant-loop-i g l = record {
   within : l.i ≤ length l.group;
   leads : LeadsAs (group_puts l.layout l.group) (group_puts l.layout (drop l.i l.group)) (g.D.Disk.told l.initial.disk) (g.D.Disk.told l.disk);
-  table : with_headers (units_of (drop l.i l.group)) l.table ≡ with_headers (units_of l.group) l.initial.table;
-  valid : (cluster : ℕ) → MayPut l.layout cluster l.group l.initial.table → IsTable l.layout cluster l.table;
+  table : with_headers (held_prepares (drop l.i l.group)) l.table ≡ with_headers (held_prepares l.group) l.initial.table;
+  valid : (cluster : ℕ) → MayPutGroup l.layout cluster l.group l.initial.table → IsHeaderTable l.layout cluster l.table;
   faults : g.D.Disk.faults l.disk ≡ g.D.Disk.faults l.initial.disk;
 }
 

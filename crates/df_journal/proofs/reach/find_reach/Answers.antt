@@ -8,7 +8,7 @@ use Rattle.df_journal.specs.Scan.{Scan}
 use Rattle.df_journal.specs.declared.table.Start.{Start}
 use Rattle.df_group.specs.declared.groups.Tail.{Tail}
 use Rattle.df_group.specs.declared.groups.Position.{Position}
-use Rattle.df_journal.specs.Tail.{AreNumbered, AreUnstored, GoesOn, IsNext, position_of, tail_to}
+use Rattle.df_journal.specs.Tail.{AreNumbered, AreUnstored, IsNext, TailWalkGoesOn, position_of, tail_to}
 use Rattle.df_group.proofs.Laws.{either_kept, end_at}
 use Rattle.df_journal.proofs.Walks.{EndsThere, IsTakenWalk, shape_walk, still_numbered, still_unstored, taken_begins, taken_on, walk_reaches, walk_stops}
 use Rattle.df_journal.proofs.reach.find_reach.Goals as goal
@@ -87,7 +87,7 @@ loop-at-smaller c =
 pub returns-in-None-clause-reach : goal.returns-in-None-clause-reach
 returns-in-None-clause-reach c = λ sh image b tells starts known.
     let start : c.found.inside.start ≡ c.args.found.now.start = ap (λ (s : Scan). s.start) c.found.view_is in
-    let ends : GoesOn c.args.layout.now c.args.found.now.start c.args.found.now.slots c.loop-at.at c.loop-at.ahead.sessions None = subst (λ (s : Start). GoesOn c.args.layout.now s c.args.found.now.slots c.loop-at.at c.loop-at.ahead.sessions None) start c.in-None.ensures.next in
+    let ends : TailWalkGoesOn c.args.layout.now c.args.found.now.start c.args.found.now.slots c.loop-at.at c.loop-at.ahead.sessions None = subst (λ (s : Start). TailWalkGoesOn c.args.layout.now s c.args.found.now.slots c.loop-at.at c.loop-at.ahead.sessions None) start c.in-None.ensures.next in
     let walk = shape_walk sh image b c.args.layout.now c.loop-at.tail c.loop-at.sessions.sessions c.loop-at.at c.loop-at.ahead.sessions starts.slots_are starts.clients_are (c.loop-at.invariant.walk sh image b tells starts) in
     let none : EndsThere c.args.layout.now c.args.found.now.start c.args.found.now.slots c.loop-at.at c.loop-at.ahead.sessions = λ h room next. ends h next in
     record {

@@ -5,7 +5,7 @@ use Rattle.df_disk.specs.Told.{Told}
 use Rattle.df_buffers.specs.declared.slots.SlotSeen.{SlotSeen}
 use Rattle.df_journal.specs.Scan.{Scan}
 use Rattle.df_journal.specs.Shows.{IsSlot}
-use Rattle.df_journal.specs.Scanned.{AreSeen, HoldsSector, IsSeen}
+use Rattle.df_journal.specs.Scanned.{AreSeen, HoldsSector, IsSlotSeen}
 use Rattle.df_journal.specs.declared.table.Start.{Start}
 use Rattle.df_journal.proofs.Scans.{held_still, seen_all, seen_more}
 use Rattle.df_journal.proofs.reads.scan_all.Goals as goal
@@ -30,7 +30,7 @@ loop-slot-preserved g c =
       held = λ some. held_still layout c.loop-slot.slot told c.hold_sector.new.sector.bytes some holds;
       seen = seen_more layout c.args.found.now.start.cluster told c.loop-slot.slot c.loop-slot.found.slots c.set.new.self.slots seen
           (omega (arith, c.loop-slot.invariant.size, c.loop-slot-test.true)) (ap (λ (scan : Scan). scan.slots) put)
-          (subst (λ (t : Option Told). IsSeen layout c.args.found.now.start.cluster t c.loop-slot.slot seen) before (subst (λ (n : ℕ). IsSeen layout n (g.D.Disk.told c.hold_sector.new.disk) c.loop-slot.slot seen) own c.in_ok-seen.ensures.seen)) (subst (λ (n : ℕ). IsSlot layout n c.loop-slot.slot seen) own c.in_ok-seen.ensures.valid) c.loop-slot.invariant.seen;
+          (subst (λ (t : Option Told). IsSlotSeen layout c.args.found.now.start.cluster t c.loop-slot.slot seen) before (subst (λ (n : ℕ). IsSlotSeen layout n (g.D.Disk.told c.hold_sector.new.disk) c.loop-slot.slot seen) own c.in_ok-seen.ensures.seen)) (subst (λ (n : ℕ). IsSlot layout n c.loop-slot.slot seen) own c.in_ok-seen.ensures.valid) c.loop-slot.invariant.seen;
     }
 
 pub returns-clause-scanned : goal.returns-clause-scanned

@@ -4,7 +4,7 @@ use Rattle.std.proofs.lemmas.List.{length-map}
 use Rattle.df_format.specs.declared.superblock.SuperFields.{SuperFields}
 use Rattle.df_opening.specs.Below.{shape}
 use Rattle.df_units.specs.Meaning.{number_of}
-use Rattle.df_mirror.specs.Walks.{IsInside, content_of}
+use Rattle.df_mirror.specs.Walks.{IsInsideGrid, content_of_superblock}
 use Rattle.df_mirror.proofs.Chains.{walk_ends}
 use Rattle.df_mirror.proofs.Turns.{begins, comes_to, goes_on, stops}
 use Rattle.df_mirror.proofs.chain.mend_chain.Goals as goal
@@ -16,7 +16,7 @@ loop-done-init g c =
       walked = begins c.requires.room (λ x t is. record { chain = []; addresses = ap (map (λ r. r.address)) c.new.ensures; arrives = (ap (λ (f : SuperFields). f.trailer_address) named, ap (λ (f : SuperFields). number_of f.trailer_checksum) named); links = tt });
       few = c.count_of-count.ensures.few;
       size = ap length c.new.ensures;
-      inside = λ some. subst (λ (f : SuperFields). IsInside c.args.base.now f.trailer_address) (sym named) (c.count_of-count.ensures.inside some);
+      inside = λ some. subst (λ (f : SuperFields). IsInsideGrid c.args.base.now f.trailer_address) (sym named) (c.count_of-count.ensures.inside some);
       counted = c.count_of-count.ensures.count;
     }
 
@@ -43,5 +43,5 @@ returns-clause-mends g c = λ t o tell.
     let b = c.args.base.now in
     let i = c.loop-done.invariant in
     let walk = c.loop-done.walk in
-    comes_to i.walked (λ x image walked. walk_ends (shape b.file) image (content_of b) c.count_of-count.result walked.chain walk.at.address (number_of walk.at.checksum) i.counted walked.arrives walked.links
+    comes_to i.walked (λ x image walked. walk_ends (shape b.file) image (content_of_superblock b) c.count_of-count.result walked.chain walk.at.address (number_of walk.at.checksum) i.counted walked.arrives walked.links
     (sym (length-map walked.chain (λ x. x.0)) ∙ sym (ap length walked.addresses) ∙ length-map walk.read.items (λ r. r.address) ∙ omega (arith, i.size, c.loop-done-test.false, i.few, c.loop-done.auto))) tt t o tell tt

@@ -3,7 +3,7 @@ use Rattle.std.proofs.Common.{◌∙◌, ℕ, inl, inr, Option, Ok, ap, refl, su
 use Rattle.df_base.specs.Log.{Sync}
 use Rattle.df_disk.specs.Told.{Told, after, did}
 use Rattle.df_damage.specs.Found.{TellsFoundAs}
-use Rattle.df_telling.specs.Two.{HasCauses, around, counts}
+use Rattle.df_telling.specs.Two.{HasCausesOfTwo, around, counts}
 use Rattle.df_telling.proofs.Laws.{unopened_causes}
 use Rattle.df_mirror.specs.declared.status.Status.TheVariants as ends
 use Rattle.df_mirror.proofs.Ended.{has_file, mirrored_then, not_found, nothing_causes, refusal_otherwise, version_found}
@@ -24,7 +24,7 @@ returns-in-Some-clause-runs g c = λ t o tell.
 
 pub returns-in-Some-clause-causes : goal.returns-in-Some-clause-causes
 returns-in-Some-clause-causes g c =
-    subst (λ (n : ℕ). HasCauses ends.DiskFault ends.WriteFault (counts n (g.B.Disk.faults c.args.second.now) (g.W.Sink.faults c.args.sink.now))
+    subst (λ (n : ℕ). HasCausesOfTwo ends.DiskFault ends.WriteFault (counts n (g.B.Disk.faults c.args.second.now) (g.W.Sink.faults c.args.sink.now))
     (counts (g.A.Disk.faults c.mend_file.new.first) (g.B.Disk.faults c.mend_file.new.second) (g.W.Sink.faults c.mend_file.new.sink)) c.mend_file.result) c.in-Ok-survey_superblock.ensures.cause c.mend_file.ensures.causes
 
 pub returns-in-Some-clause-memory : goal.returns-in-Some-clause-memory

@@ -5,7 +5,7 @@ use Rattle.df_opening.specs.Below.{shape}
 use Rattle.df_mirror.specs.Known.{AllShown}
 use Rattle.df_mirror.specs.Mends.{AreInOrder}
 use Rattle.df_mirror.specs.Outside.{around}
-use Rattle.df_mirror.specs.Walks.{Mended, content_of}
+use Rattle.df_mirror.specs.Walks.{Mended, content_of_superblock}
 use Rattle.df_mirror.proofs.Logs.{all_mended, from_kind, refused_here, walk_then}
 use Rattle.df_mirror.proofs.Turns.{ends_so}
 use Rattle.df_mirror.proofs.mending.mend_all.Goals as goal
@@ -40,6 +40,6 @@ returns-in-Ok-mend_log-clause-mends g c = λ t o tell.
     let old = around (g.A.Disk.told c.args.first.now) (g.B.Disk.told c.args.second.now) (g.W.Sink.written c.args.sink.now) in
     let new = around (g.A.Disk.told c.mend_log.new.first) (g.B.Disk.told c.mend_log.new.second) (g.W.Sink.written c.mend_log.new.sink) in
     let sum : c.in-Ok.mended + (c.in-Ok-mend_blocks.mended + c.in-Ok-mend_log.mended) ≡ c.in-Ok.mended + c.in-Ok-mend_blocks.mended + c.in-Ok-mend_log.mended = omega arith in
-    subst (λ (n : ℕ). Mended b AreInOrder t o old new (Ok n) (λ image. AllShown (shape b.file) image (content_of b))) sum
+    subst (λ (n : ℕ). Mended b AreInOrder t o old new (Ok n) (λ image. AllShown (shape b.file) image (content_of_superblock b))) sum
     (all_mended read.found.grid read.found.sessions.sessions tell (c.in-Ok.ensures.mends t o tell) c.in-Ok.ensures.same read.ensures.same read.ensures.reads (λ m. blocks.mends read.found.sessions.sessions m o) blocks.same (Ok c.in-Ok-mend_log.mended)
     (λ m. c.in-Ok-mend_log.ensures.mends m o))

@@ -4,7 +4,7 @@ use Rattle.df_format.specs.declared.superblock.SuperFields.{SuperFields}
 use Rattle.df_buffers.specs.declared.identity.Identity.{Identity}
 use Rattle.df_buffers.specs.Rooms.{Room}
 use Rattle.df_units.specs.Meaning.{number_of}
-use Rattle.df_mirror.specs.Walks.{NamesFrom, units_of}
+use Rattle.df_mirror.specs.Walks.{NamesPreparesFrom, superblock_units}
 use Rattle.df_mirror.proofs.Named.{names_all, names_head, prepare_failed, prepare_mended}
 use Rattle.df_mirror.proofs.Turns.{begins, comes_to, goes_on, stops}
 use Rattle.df_mirror.proofs.prepares.mend_prepares.Goals as goal
@@ -16,7 +16,7 @@ loop-op-init g c =
     record {
       low = subst (λ (f : SuperFields). f.op ≤ f.head) fields c.fields-fields.ensures.usable.rules.head.0;
       high = omega arith;
-      walked = begins c.requires.room (λ x t is. subst (λ (f : SuperFields). NamesFrom b (units_of b t.shown) f.head (number_of f.head_checksum)) fields (names_head b (units_of b t.shown)));
+      walked = begins c.requires.room (λ x t is. subst (λ (f : SuperFields). NamesPreparesFrom b (superblock_units b t.shown) f.head (number_of f.head_checksum)) fields (names_head b (superblock_units b t.shown)));
     }
 
 pub mend_unit-requires-clause-layout : goal.mend_unit-requires-clause-layout

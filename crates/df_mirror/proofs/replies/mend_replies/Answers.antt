@@ -1,12 +1,12 @@
 -- Each turn mends the reply at the next place, if it is known.
 use Rattle.std.proofs.Common.{ℕ, arith, subst}
-use Rattle.df_mirror.specs.Walks.{ShowsReplies, units_of}
+use Rattle.df_mirror.specs.Walks.{ShowsKnownReplies, superblock_units}
 use Rattle.df_mirror.proofs.AtHead.{all_replies, none_yet}
 use Rattle.df_mirror.proofs.Turns.{begins, comes_to, goes_on, stops}
 use Rattle.df_mirror.proofs.replies.mend_replies.Goals as goal
 
 pub loop-place-init : goal.loop-place-init
-loop-place-init g c = begins c.requires.room (λ x t head. none_yet c.args.base.now (units_of c.args.base.now t.shown) c.args.slots.now c.args.sessions.now head)
+loop-place-init g c = begins c.requires.room (λ x t head. none_yet c.args.base.now (superblock_units c.args.base.now t.shown) c.args.slots.now c.args.sessions.now head)
 
 pub mend_reply-requires-clause-place : goal.mend_reply-requires-clause-place
 mend_reply-requires-clause-place g c =
@@ -26,7 +26,7 @@ returns-clause-mends g c =
     let slots = c.args.slots.now in
     let table = c.args.sessions.now in
     comes_to c.loop-place.invariant
-    (λ x image shows. all_replies b image slots table (subst (λ (n : ℕ). ShowsReplies b image slots table n) (omega (arith, c.loop-place-test, c.loop-place.auto, c.len-place-end.ensures.value)) shows)) tt
+    (λ x image shows. all_replies b image slots table (subst (λ (n : ℕ). ShowsKnownReplies b image slots table n) (omega (arith, c.loop-place-test, c.loop-place.auto, c.len-place-end.ensures.value)) shows)) tt
 
 pub returns-clause-few : goal.returns-clause-few
 returns-clause-few g c = omega (arith, c.loop-place.invariant.few, c.loop-place.auto, c.len-place-end.ensures.value, c.len-place-end.ensures.table.within, c.len-place-end.ensures.table.most)

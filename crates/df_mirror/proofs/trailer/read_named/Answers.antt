@@ -3,7 +3,7 @@ use Rattle.std.proofs.Common.{ℕ, refl, sym, ◌∙◌, ap, subst}
 use Rattle.std.specs.Prelude.{Ok, Err}
 use Rattle.df_layout.specs.declared.layout.Layout.{Layout}
 use Rattle.df_units.specs.Meaning.{layout_of}
-use Rattle.df_trailer.specs.Sessions.{AreRead}
+use Rattle.df_trailer.specs.Sessions.{AreReadSessions}
 use Rattle.df_grid.specs.Grid.{GridState}
 use Rattle.df_checkpoint.proofs.Laws.{complete_gives}
 use Rattle.df_opening.specs.Below.{shape}
@@ -31,4 +31,4 @@ returns-clause-reads g c = λ t told whole.
 pub returns-in-Ok-clause-each : goal.returns-in-Ok-clause-each
 returns-in-Ok-clause-each g c =
     let b = c.args.base.now in
-    complete_gives (λ (l : Layout) (op : ℕ). AreRead l.clients op c.into_parts.result.sessions.items) c.args.grid.now b.content.op c.read_chain.new.reader b.file.layout c.in-Ok.ensures.complete (ap (λ (x : GridState). x.layout) c.requires.grid) c.into_parts.ensures.sessions
+    complete_gives (λ (l : Layout) (op : ℕ). AreReadSessions l.clients op c.into_parts.result.sessions.items) c.args.grid.now b.content.op c.read_chain.new.reader b.file.layout c.in-Ok.ensures.complete (ap (λ (x : GridState). x.layout) c.requires.grid) c.into_parts.ensures.sessions

@@ -8,7 +8,7 @@ use Rattle.df_mirror.specs.declared.ending.Ending.{Ending}
 use Rattle.df_mirror.specs.Trailers.{empty_grid}
 use Rattle.df_sessions.specs.declared.session.Session.{Session}
 use Rattle.df_checkpoint.proofs.Laws.{pending_of}
-use Rattle.df_mirror.specs.Walks.{HasText, ReadsText, units_of}
+use Rattle.df_mirror.specs.Walks.{HasTrailerText, ReadsChainText, superblock_units}
 use Rattle.df_mirror.proofs.Trailers.{grid_is, no_text, text_refused, text_untracked}
 use Rattle.df_mirror.proofs.trailer.read_trailer.Goals as goal
 
@@ -16,7 +16,7 @@ pub returns-then-fields-eq0-clause-reads : goal.returns-then-fields-eq0-clause-r
 returns-then-fields-eq0-clause-reads g c = λ t told whole shown.
     let b = c.args.base.now in
     let none : b.content.trailer_address ≡ 0 = subst (λ (x : SuperFields). x.trailer_address ≡ 0) c.fields-fields.ensures.value c.if-fields-eq0.true in
-    subst (λ (x : GridState). HasText b (units_of b t.shown) x c.new-sessions.result.sessions) (sym (grid_is b c.into_grid-grid.result c.args.grid.layout c.into_grid-grid.ensures c.requires.grid)) (subst (λ (l : List Session). HasText b (units_of b t.shown) (empty_grid b) l) (sym c.new-sessions.ensures.empty) (no_text b (units_of b t.shown) c.fields-fields.ensures.usable.rules none))
+    subst (λ (x : GridState). HasTrailerText b (superblock_units b t.shown) x c.new-sessions.result.sessions) (sym (grid_is b c.into_grid-grid.result c.args.grid.layout c.into_grid-grid.ensures c.requires.grid)) (subst (λ (l : List Session). HasTrailerText b (superblock_units b t.shown) (empty_grid b) l) (sym c.new-sessions.ensures.empty) (no_text b (superblock_units b t.shown) c.fields-fields.ensures.usable.rules none))
 
 pub over-requires-clause-named : goal.over-requires-clause-named
 over-requires-clause-named g c = λ k s at zero. omega (arith, (c.in-Ok.ensures.each.each k s at).client, zero)
@@ -24,13 +24,13 @@ over-requires-clause-named g c = λ k s at zero. omega (arith, (c.in-Ok.ensures.
 pub returns-in-None-clause-reads : goal.returns-in-None-clause-reads
 returns-in-None-clause-reads g c = λ t told whole shown.
     let b = c.args.base.now in
-    subst (λ (x : Table). HasText b (units_of b t.shown) c.read_named.new.grid x.sessions) (sym c.over.ensures) (c.in-Ok.ensures.reads t told whole)
+    subst (λ (x : Table). HasTrailerText b (superblock_units b t.shown) c.read_named.new.grid x.sessions) (sym c.over.ensures) (c.in-Ok.ensures.reads t told whole)
 
 pub returns-in-Some-clause-reads : goal.returns-in-Some-clause-reads
 returns-in-Some-clause-reads g c = λ t told whole shown.
     let b = c.args.base.now in
     let pending = pending_of c.deref.result.now c.in-Ok.sessions.items c.fields-fields.result.now b.content (Some c.in-Some.op) c.deref.ensures.0 c.fields-fields.ensures.value c.in-Some.ensures in
-    subst (λ (e : Ending). ReadsText b t.shown (Err e)) (sym c.is_pending.ensures) (text_untracked b t.shown c.read_named.new.grid c.in-Ok.sessions.items c.in-Some.op (subst (λ (x : SuperFields). x.trailer_address ≢ 0) c.fields-fields.ensures.value c.if-fields-eq0.false) (c.in-Ok.ensures.reads t told whole) pending)
+    subst (λ (e : Ending). ReadsChainText b t.shown (Err e)) (sym c.is_pending.ensures) (text_untracked b t.shown c.read_named.new.grid c.in-Ok.sessions.items c.in-Some.op (subst (λ (x : SuperFields). x.trailer_address ≢ 0) c.fields-fields.ensures.value c.if-fields-eq0.false) (c.in-Ok.ensures.reads t told whole) pending)
 
 pub returns-in-Err-clause-reads : goal.returns-in-Err-clause-reads
 returns-in-Err-clause-reads g c = λ t told whole shown.

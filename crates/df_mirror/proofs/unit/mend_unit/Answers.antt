@@ -6,7 +6,7 @@ use Rattle.df_buffers.specs.Rooms.{Room}
 use Rattle.df_buffers.specs.Sounds.{Holding}
 use Rattle.df_mirror.specs.declared.ending.Ending.{Ending}
 use Rattle.df_mirror.specs.Mends.{AreAt}
-use Rattle.df_mirror.specs.Taking.{LacksIt, Loads, ShowsIt, WritesUnit}
+use Rattle.df_mirror.specs.Taking.{LacksIt, LoadsUnit, ShowsIt, WritesUnit}
 use Rattle.df_mirror.proofs.Loaded.{lacks_unit, shows_unit}
 use Rattle.df_mirror.proofs.Joined.{none_came, none_failed}
 use Rattle.df_mirror.proofs.Taken.{taken, told_from, written_is_shown}
@@ -15,7 +15,7 @@ use Rattle.df_mirror.proofs.unit.mend_unit.Goals as goal
 pub returns-in-Ok-Ok-clause-shown : goal.returns-in-Ok-Ok-clause-shown
 returns-in-Ok-Ok-clause-shown g c = λ file at check t n for old new whole.
     let i = c.args.identity.now in
-    let shows = subst (λ (r : Result Holding (Room × Class)). Loads g.K.UnitKind.KIND i (g.A.Disk.told c.args.first.now) r) c.in-Ok-Ok.field-0-is c.in-Ok-Ok.ensures.loads in
+    let shows = subst (λ (r : Result Holding (Room × Class)). LoadsUnit g.K.UnitKind.KIND i (g.A.Disk.told c.args.first.now) r) c.in-Ok-Ok.field-0-is c.in-Ok-Ok.ensures.loads in
     shows_unit file g.K.UnitKind.KIND at check i for n.shown c.in-Ok-Ok.unit.unit (subst (λ (o : Option Told). ShowsIt i o c.in-Ok-Ok.unit.unit) (sym c.load.ensures.same ∙ new) shows.2) shows.1
 
 pub returns-in-Ok-Ok-clause-mends : goal.returns-in-Ok-Ok-clause-mends
@@ -33,7 +33,7 @@ pub returns-in-Ok-clause-mends : goal.returns-in-Ok-clause-mends
 returns-in-Ok-clause-mends g c = λ file content at check t o for tell due.
     let i = c.args.identity.now in
     let kind = g.K.UnitKind.KIND in
-    let lacks = subst (λ (r : Result Holding (Room × Class)). Loads kind i (g.A.Disk.told c.args.first.now) r) c.in-Ok-Err.field-0-is c.in-Ok-Err.ensures.loads in
+    let lacks = subst (λ (r : Result Holding (Room × Class)). LoadsUnit kind i (g.A.Disk.told c.args.first.now) r) c.in-Ok-Err.field-0-is c.in-Ok-Err.ensures.loads in
     let lacking = subst (λ (told : Option Told). LacksIt kind i told c.in-Ok-Err.class) tell.first lacks.1 in
     let ok : Result Holding Ending = Ok c.in-Ok.unit in
     taken file content kind at check i for t o due (lacks_unit file kind at check i for t.shown tell.whole lacking.0) c.in-Ok-Err.class _ _ ok tell.other lacking
@@ -43,7 +43,7 @@ pub returns-in-Err-take_unit-clause-mends : goal.returns-in-Err-take_unit-clause
 returns-in-Err-take_unit-clause-mends g c = λ file content at check t o for tell due.
     let i = c.args.identity.now in
     let kind = g.K.UnitKind.KIND in
-    let lacks = subst (λ (r : Result Holding (Room × Class)). Loads kind i (g.A.Disk.told c.args.first.now) r) c.in-Ok-Err.field-0-is c.in-Ok-Err.ensures.loads in
+    let lacks = subst (λ (r : Result Holding (Room × Class)). LoadsUnit kind i (g.A.Disk.told c.args.first.now) r) c.in-Ok-Err.field-0-is c.in-Ok-Err.ensures.loads in
     let lacking = subst (λ (told : Option Told). LacksIt kind i told c.in-Ok-Err.class) tell.first lacks.1 in
     let err : Result Holding Ending = Err c.in-Err-take_unit.ending in
     taken file content kind at check i for t o due (lacks_unit file kind at check i for t.shown tell.whole lacking.0) c.in-Ok-Err.class _ _ err tell.other lacking

@@ -6,7 +6,7 @@ use Rattle.df_base.specs.Image.{Image}
 use Rattle.df_base.specs.Log.{Event, Sync, add}
 use Rattle.df_disk.specs.Adds.{AddsPart, after_all}
 use Rattle.df_disk.specs.Told.{Told, after, did}
-use Rattle.df_damage.specs.Anew.{begun}
+use Rattle.df_damage.specs.Anew.{restarted}
 use Rattle.df_damage.specs.Histories.{IsLivedDisk}
 use Rattle.df_damage.proofs.Laws.{begun_goes_on, found_was_since}
 use Rattle.df_layout.specs.declared.layout.Layout.{Layout}
@@ -100,15 +100,15 @@ returns-in-Ok-mend_file-clause-opened g c = λ t is.
           let by = c.in-Ok-mend_file.ensures.over (did Sync base) grade view planned on (stands_over c.args.rooms.layout t base s.state same view may c.in-Ok.ensures.kept answer) in
           record { moments = by.moments; bare = by.bare; mended = by.raised; kept_for = by.kept_for; settled = open_settles s base _ c.in-Ok-mend_file.ensures.steps };
       anew = λ grade view whole found distinct shown.
-          let anew = planned_same s.state.file s.state.headers s.mends s.state.fields s.chosen.members (did Sync t) (begun t) refl plan in
+          let anew = planned_same s.state.file s.state.headers s.mends s.state.fields s.chosen.members (did Sync t) (restarted t) refl plan in
           let by = c.in-Ok-mend_file.ensures.anew t grade view anew whole found distinct shown (stands_anew c.args.rooms.layout t s.state view c.in-Ok.ensures.kept answer whole found) in
           record { moments = by.moments; bare = by.bare; kept_for = by.kept_for; begins = by.begins };
       lived = λ log logs may.
           let is : IsOpenedAs 2 s.state.file.layout t.shown s.state = subst (λ (l : Layout). IsOpenedAs 2 l t.shown s.state) (sym c.in-Ok.ensures.kept) (answer may.whole) in
           let finds = found_was_since s.state.file log logs t.shown s.state may is in
           let opens = begun_may_open s.state.file finds.found t may.version finds.begins in
-          let planned = planned_same s.state.file s.state.headers s.mends s.state.fields s.chosen.members (did Sync t) (did Sync (begun t)) refl plan in
-          let by = c.in-Ok-mend_file.ensures.over (did Sync (begun t)) Firm finds.found planned (barrier_rests Firm s.state.file finds.found (begun t) opens tt) (stands_over c.args.rooms.layout t (begun t) s.state refl finds.found opens c.in-Ok.ensures.kept answer) in
+          let planned = planned_same s.state.file s.state.headers s.mends s.state.fields s.chosen.members (did Sync t) (did Sync (restarted t)) refl plan in
+          let by = c.in-Ok-mend_file.ensures.over (did Sync (restarted t)) Firm finds.found planned (barrier_rests Firm s.state.file finds.found (restarted t) opens tt) (stands_over c.args.rooms.layout t (restarted t) s.state refl finds.found opens c.in-Ok.ensures.kept answer) in
           by.lived (add Sync log) logs (begun_goes_on s.state.file finds.found log logs t.shown may finds.is_found).synced;
     } in
     subst (λ (r : State). MendsAll t r (g.D.Disk.told c.mend_file.new.disk)) (sym c.in-Ok-mend_file.ensures.state) all
@@ -143,14 +143,14 @@ returns-in-Err-mend_file-clause-stopped g c = λ t is whole fault.
           let by = c.in-Err-mend_file.ensures.over (did Sync base) grade view planned on (stands_over c.args.rooms.layout t base s.state same view may c.in-Ok.ensures.kept answer) in
           (front_moments es (did Sync base) part.part part.again (IsGoodFor grade (format s.state.file) (shape s.state.file) view (kept (begun_state s.state.file base view (boot_fields s.state)))) by.moments, by.bare);
       anew = λ grade view image found distinct shown.
-          let anew = planned_same s.state.file s.state.headers s.mends s.state.fields s.chosen.members (did Sync t) (begun t) refl plan in
+          let anew = planned_same s.state.file s.state.headers s.mends s.state.fields s.chosen.members (did Sync t) (restarted t) refl plan in
           let by = c.in-Err-mend_file.ensures.anew t grade view anew image found distinct shown (stands_anew c.args.rooms.layout t s.state view c.in-Ok.ensures.kept answer image found) in
-          front_moments es (begun t) part.part part.again (StaysFound grade s.state.file view (boot_fields s.state)) by.moments;
+          front_moments es (restarted t) part.part part.again (StaysFound grade s.state.file view (boot_fields s.state)) by.moments;
       lived = λ log logs may.
           let is : IsOpenedAs 2 s.state.file.layout t.shown s.state = subst (λ (l : Layout). IsOpenedAs 2 l t.shown s.state) (sym c.in-Ok.ensures.kept) (answer whole) in
           let finds = found_was_since s.state.file log logs t.shown s.state may is in
           let opens = begun_may_open s.state.file finds.found t may.version finds.begins in
-          let planned = planned_same s.state.file s.state.headers s.mends s.state.fields s.chosen.members (did Sync t) (did Sync (begun t)) refl plan in
-          let by = c.in-Err-mend_file.ensures.over (did Sync (begun t)) Firm finds.found planned (barrier_rests Firm s.state.file finds.found (begun t) opens tt) (stands_over c.args.rooms.layout t (begun t) s.state refl finds.found opens c.in-Ok.ensures.kept answer) in
-          front_moments es (did Sync (begun t)) part.part part.again (IsLivedDisk s.state.file (add Sync log ∷ logs)) (by.lived (add Sync log) logs (begun_goes_on s.state.file finds.found log logs t.shown may finds.is_found).synced).moments;
+          let planned = planned_same s.state.file s.state.headers s.mends s.state.fields s.chosen.members (did Sync t) (did Sync (restarted t)) refl plan in
+          let by = c.in-Err-mend_file.ensures.over (did Sync (restarted t)) Firm finds.found planned (barrier_rests Firm s.state.file finds.found (restarted t) opens tt) (stands_over c.args.rooms.layout t (restarted t) s.state refl finds.found opens c.in-Ok.ensures.kept answer) in
+          front_moments es (did Sync (restarted t)) part.part part.again (IsLivedDisk s.state.file (add Sync log ∷ logs)) (by.lived (add Sync log) logs (begun_goes_on s.state.file finds.found log logs t.shown may finds.is_found).synced).moments;
     }))

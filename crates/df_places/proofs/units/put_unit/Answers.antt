@@ -3,7 +3,7 @@ use Rattle.std.proofs.Common.{ap, subst}
 use Rattle.df_layout.specs.declared.layout.Layout.{Layout}
 use Rattle.df_layout.specs.declared.places.Span.{Span}
 use Rattle.df_format.proofs.Laws.{valid_belongs}
-use Rattle.df_buffers.specs.Sounds.{AreWhole}
+use Rattle.df_buffers.specs.Sounds.{AreWholeSectors}
 use Rattle.df_places.proofs.Rooms.{are_sectors}
 use Rattle.df_places.proofs.Steps.{put_is_steps, write_brings}
 use Rattle.df_places.proofs.units.put_unit.Goals as goal
@@ -13,7 +13,7 @@ sectors_of-requires g c = (valid_belongs c.args.layout.now c.args.unit.now.unit.
 
 pub write-requires : goal.write-requires
 write-requires g c =
-    let whole : AreWhole g.K.RoomKind.ZONE c.args.layout.now c.sectors.result.now = subst (λ (l : Layout). AreWhole g.K.RoomKind.ZONE l c.sectors.result.now) c.requires.layout c.sectors.ensures.whole in
+    let whole : AreWholeSectors g.K.RoomKind.ZONE c.args.layout.now c.sectors.result.now = subst (λ (l : Layout). AreWholeSectors g.K.RoomKind.ZONE l c.sectors.result.now) c.requires.layout c.sectors.ensures.whole in
     are_sectors c.args.layout.now c.args.place g.K.RoomKind.ZONE c.sectors_of.result.first _ (valid_belongs c.args.layout.now c.args.unit.now.unit.header.cluster c.args.place c.args.unit.now.unit c.requires.own).has c.requires.zone
     (ap (λ (s : Span). s.first) c.sectors_of.ensures) whole.some whole.whole whole.fits
 

@@ -4,7 +4,7 @@ use Rattle.std.specs.Prelude.{Err, vec_len}
 use Rattle.df_layout.specs.declared.layout.Layout.{Layout}
 use Rattle.df_format.specs.declared.superblock.SuperFields.{SuperFields}
 use Rattle.df_units.specs.Meaning.{layout_of}
-use Rattle.df_trailer.specs.Sessions.{AreRead}
+use Rattle.df_trailer.specs.Sessions.{AreReadSessions}
 use Rattle.df_grid.specs.Grid.{GridState}
 use Rattle.df_model.specs.declared.errors.OpenError.{OpenError}
 use Rattle.df_sessions.specs.Table.{Table}
@@ -28,8 +28,8 @@ pub table_of-sessions-requires : goal.table_of-sessions-requires
 table_of-sessions-requires g c =
     let file = c.args.file.now in
     let items = c.into_parts-parts.result.sessions.items in
-    subst (λ (x : SuperFields). AreRead file.layout.clients x.op items) (sym c.fields.ensures.value)
-    (complete_gives (λ (l : Layout) (op : ℕ). AreRead l.clients op items) c.args.grid.now c.args.content.now.op c.read_chain.new.reader file.layout c.in-Ok.ensures.complete (ap (λ (x : GridState). x.layout) c.requires.rooms.grid_is) c.into_parts-parts.ensures.sessions)
+    subst (λ (x : SuperFields). AreReadSessions file.layout.clients x.op items) (sym c.fields.ensures.value)
+    (complete_gives (λ (l : Layout) (op : ℕ). AreReadSessions l.clients op items) c.args.grid.now c.args.content.now.op c.read_chain.new.reader file.layout c.in-Ok.ensures.complete (ap (λ (x : GridState). x.layout) c.requires.rooms.grid_is) c.into_parts-parts.ensures.sessions)
 
 pub returns-in-Ok-clause-reads : goal.returns-in-Ok-clause-reads
 returns-in-Ok-clause-reads g c =
@@ -44,8 +44,8 @@ returns-in-Ok-clause-reads g c =
       tells = subst (λ (t : Table). TellsText file told f (record { root = parts.root.items; sessions = t.sessions; blocks = c.read_chain.new.grid.blocks })) table
           (told_text file told f c.read_chain.new.grid c.args.grid.now c.read_chain.new.reader parts layout cluster (c.in-Ok.ensures.grid.layout ∙ layout)
           (c.in-Ok.ensures.answer (shape file) (ap layout_of (sym layout)) refl) c.into_parts-parts.ensures.parts);
-      sessions = subst (λ (t : Table). AreRead file.layout.clients f.op t.sessions) table
-          (complete_gives (λ (l : Layout) (op : ℕ). AreRead l.clients op parts.sessions.items) c.args.grid.now f.op c.read_chain.new.reader file.layout c.in-Ok.ensures.complete layout c.into_parts-parts.ensures.sessions);
+      sessions = subst (λ (t : Table). AreReadSessions file.layout.clients f.op t.sessions) table
+          (complete_gives (λ (l : Layout) (op : ℕ). AreReadSessions l.clients op parts.sessions.items) c.args.grid.now f.op c.read_chain.new.reader file.layout c.in-Ok.ensures.complete layout c.into_parts-parts.ensures.sessions);
       places = ap (λ (t : Table). t.max) c.table_of-sessions.ensures;
     }
 

@@ -3,7 +3,7 @@ use Rattle.std.proofs.Common.{◌-◌, ◌≡◌, ◌∙◌, sym, ap, subst, len
 use Rattle.df_grid.specs.Grid.{GridState}
 use Rattle.df_grid.specs.Table.{IsIdle}
 use Rattle.df_journal.specs.Scan.{Scan}
-use Rattle.df_journal.specs.Shows.{IsTable as AreSlots}
+use Rattle.df_journal.specs.Shows.{IsSeenTable as AreSlots}
 use Rattle.df_recovery.proofs.Waits.{waiting_count}
 use Rattle.df_recovery.proofs.surveying.with_plan.Goals as goal
 

@@ -1,7 +1,7 @@
 -- What is written is the prepare that was made in the room.
 use Rattle.std.proofs.Common.{◌∙◌, ap, subst, sym}
 use Rattle.df_format.specs.Message.{Message}
-use Rattle.df_headers.specs.Ring.{IsTable}
+use Rattle.df_headers.specs.Ring.{IsHeaderTable}
 use Rattle.df_journal.specs.Below.{IsInOwnSlot}
 use Rattle.df_replica.proofs.MadeUnits.{is_made}
 use Rattle.df_replica.proofs.append.append_in.Goals as goal
@@ -15,7 +15,7 @@ pub append-requires-clause-table : goal.append-requires-clause-table
 append-requires-clause-table g c =
     let rooms = c.args.rooms.now in
     let is = is_made rooms.prepare.layout c.args.header c.args.body.now _ c.unit-unit.result.now c.unit-unit.ensures c.make.ensures.made in
-    subst (λ (u : Message). IsTable c.args.file.now.layout u.header.cluster rooms.headers) (sym is.unit) c.requires.rooms.table
+    subst (λ (u : Message). IsHeaderTable c.args.file.now.layout u.header.cluster rooms.headers) (sym is.unit) c.requires.rooms.table
 
 pub returns-in-Ok-clause-made : goal.returns-in-Ok-clause-made
 returns-in-Ok-clause-made g c =

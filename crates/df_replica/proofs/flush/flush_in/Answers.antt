@@ -4,16 +4,16 @@ use Rattle.df_base.specs.Log.{Event}
 use Rattle.df_disk.specs.Adds.{Adds}
 use Rattle.df_buffers.specs.Sounds.{Holding}
 use Rattle.df_format.specs.declared.header.Header.{Header}
-use Rattle.df_headers.specs.Ring.{IsTable}
+use Rattle.df_headers.specs.Ring.{IsHeaderTable}
 use Rattle.df_layout.specs.declared.layout.Layout.{Layout}
 use Rattle.df_journal.specs.Append.{settle_events}
-use Rattle.df_journal.specs.Flush.{MayPut, sectors_of, units_of, with_headers}
+use Rattle.df_journal.specs.Flush.{MayPutGroup, held_prepares, sectors_of, with_headers}
 use Rattle.df_opening.specs.Below.{DataFile}
 use Rattle.df_replica.specs.Flushing.{AreMadeFor}
 use Rattle.df_replica.proofs.FlushUnits.{puts_same}
 use Rattle.df_replica.proofs.flush.flush_in.Goals as goal
 
-may_put : (file : DataFile) (helds : List Holding) (table : List Header) → AreMadeFor file helds → IsTable file.layout file.cluster table → MayPut file.layout file.cluster helds table
+may_put : (file : DataFile) (helds : List Holding) (table : List Header) → AreMadeFor file helds → IsHeaderTable file.layout file.cluster table → MayPutGroup file.layout file.cluster helds table
 may_put file helds table made is = record { table_is = is; each = λ i held at. ((made i held at).layout_is, (made i held at).cluster) }
 
 pub flush-requires-clause-may : goal.flush-requires-clause-may
@@ -25,7 +25,7 @@ invariant_of-rooms-clause-headers_fit g c =
 
 pub returns-clause-events : goal.returns-clause-events
 returns-clause-events g c =
-    let us = units_of c.args.group.now in
+    let us = held_prepares c.args.group.now in
     subst (λ (es : List Event). Adds es (g.D.Disk.told c.args.disk.now) (g.D.Disk.told c.flush.new.disk) c.flush.result)
     (ap (λ (es : List Event). es ++ settle_events c.args.file.now.layout (with_headers us c.args.rooms.now.headers) (sectors_of us)) (puts_same c.args.file.now c.args.group.now c.requires.made)) c.flush.ensures.events
 

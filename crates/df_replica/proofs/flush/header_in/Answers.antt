@@ -5,7 +5,7 @@ use Rattle.df_format.specs.declared.kind.Kind.TheVariants.{Prepare as AsPrepare}
 use Rattle.df_format.specs.Making.{for_body}
 use Rattle.df_format.specs.Rules.{ObeysRules}
 use Rattle.df_format.proofs.Laws.{given_obeys, of_second}
-use Rattle.df_replica.specs.Flushing.{header_in, request_of}
+use Rattle.df_replica.specs.Flushing.{header_in, request_made}
 use Rattle.df_replica.proofs.flush.header_in.Goals as goal
 use Rattle.df_replica.proofs.AppendTests.{small_slot}
 
@@ -16,7 +16,7 @@ pub returns-clause-rules : goal.returns-clause-rules
 returns-clause-rules c = λ body fits.
     let g = c.args.group.now in
     let may = c.requires.may in
-    let h : Header = header_in g c.args.op c.args.parent (request_of c.args.client c.args.request []) in
+    let h : Header = header_in g c.args.op c.args.parent (request_made c.args.client c.args.request []) in
     subst (λ (x : Header). ObeysRules (for_body x body)) (sym (returns-clause-value c))
     (given_obeys g.file.cluster (g.file.named, may.group.cluster) h body AsPrepare
     (of_second AsPrepare h refl may.group.boot (record { begins = (omega (arith, may.group.mark), may.from); ends = (c.requires.last, omega (arith, may.group.few, may.from)) })) (

@@ -8,12 +8,12 @@ use Rattle.df_format.specs.Message.{Message}
 use Rattle.df_format.specs.Own.{own_place}
 use Rattle.df_format.specs.Spelling.{IsCheck}
 use Rattle.df_layout.specs.declared.layout.Layout.{Layout}
-use Rattle.df_journal.specs.Flush.{units_of}
+use Rattle.df_journal.specs.Flush.{held_prepares}
 use Rattle.df_model.specs.Work.{Request}
 use Rattle.df_opening.specs.Below.{Staged, first_of}
 use Rattle.df_replica.specs.declared.flush.Group.{Group}
-use Rattle.df_replica.specs.Appending.{unit_of}
-use Rattle.df_replica.specs.Flushing.{AreMadeFor, IsMadeFor, MaySeal, header_in, request_of, units_in}
+use Rattle.df_replica.specs.Appending.{unit_made}
+use Rattle.df_replica.specs.Flushing.{AreMadeFor, IsMadeFor, MaySeal, group_prepares, header_in, request_made}
 use Rattle.df_replica.proofs.FlushUnits.{first_there, length_later, seal_on, units_turn}
 use Rattle.df_replica.proofs.StageTests.{get_pushed}
 use Rattle.df_replica.proofs.flush.seal_all.Goals as goal
@@ -24,8 +24,8 @@ none_left [] none = refl
 none_left (r ∷ rs) none = absurd (omega (arith, none))
 
 -- the header is that of the first request
-header_of_first : (g : Group) (op : ℕ) (parent : List ℕ) (client request : ℕ) (r : Request) (h : Header) → client ≡ r.client → request ≡ r.request → h ≡ header_in g op parent (request_of client request []) → h ≡ header_in g op parent r
-header_of_first g op parent client request r h named asked is = is ∙ (λ i. header_in g op parent (request_of (named i) (asked i) r.body))
+header_of_first : (g : Group) (op : ℕ) (parent : List ℕ) (client request : ℕ) (r : Request) (h : Header) → client ≡ r.client → request ≡ r.request → h ≡ header_in g op parent (request_made client request []) → h ≡ header_in g op parent r
+header_of_first g op parent client request r h named asked is = is ∙ (λ i. header_in g op parent (request_made (named i) (asked i) r.body))
 
 pub loop-before-init : goal.loop-before-init
 loop-before-init c =
@@ -33,7 +33,7 @@ loop-before-init c =
     record {
       layout = ap (λ (s : Staged). s.layout) same ∙ c.requires.layout;
       may = subst (λ (s : Staged). MaySeal c.args.group.now c.args.group.now.first c.args.parent s.requests) (sym same) c.requires.may;
-      units = ap (λ (s : Staged). units_of s.sealed ++ units_in c.args.group.now c.args.group.now.first c.args.parent c.loosen.new.self.requests) same;
+      units = ap (λ (s : Staged). held_prepares s.sealed ++ group_prepares c.args.group.now c.args.group.now.first c.args.parent c.loosen.new.self.requests) same;
       made = subst (λ (s : Staged). AreMadeFor c.args.group.now.file s.sealed) (sym same) (λ i held at. absurd (cc));
     }
 
@@ -79,16 +79,16 @@ loop-before-preserved c =
     let check = c.seal_first-before.result in
     let header = header_of_first g c.loop-before.op c.loop-before.before c.request-client.result.0 c.request-client.result.1 r c.header_in.result told.0 told.1 c.header_in.ensures.value in
     let held = seal.sealed.held in
-    let made : held.unit ≡ unit_of (header_in g c.loop-before.op c.loop-before.before r) r.body = seal.sealed.unit ∙ ap (λ (h : Header). unit_of h r.body) header in
-    let sum : check ≡ (unit_of (header_in g c.loop-before.op c.loop-before.before r) r.body).header.checksum = seal.sum ∙ ap (λ (h : Header). (unit_of h r.body).header.checksum) header in
+    let made : held.unit ≡ unit_made (header_in g c.loop-before.op c.loop-before.before r) r.body = seal.sealed.unit ∙ ap (λ (h : Header). unit_made h r.body) header in
+    let sum : check ≡ (unit_made (header_in g c.loop-before.op c.loop-before.before r) r.body).header.checksum = seal.sum ∙ ap (λ (h : Header). (unit_made h r.body).header.checksum) header in
     let is : IsCheck check = subst IsCheck (sym seal.sum) (record { size = length-check_of _; each = AreBytes-check_of _ }) in
-    let whole = units_in g g.first c.args.parent c.loosen.new.self.requests in
+    let whole = group_prepares g g.first c.args.parent c.loosen.new.self.requests in
     record {
       layout = seal.layout ∙ inv.layout;
       may = subst (λ (xs : List Request). MaySeal g (c.loop-before.op + 1) check xs) (sym seal.requests) (seal_on g c.loop-before.op c.loop-before.before check rs some is inv.may);
       units =
-          subst (λ (xs : List Request). units_of c.seal_first-before.new.self.sealed ++ units_in g (c.loop-before.op + 1) check xs ≡ whole) (sym seal.requests)
-          (subst (λ (hs : List Holding). units_of hs ++ units_in g (c.loop-before.op + 1) check (drop 1 rs) ≡ whole) (sym seal.sealed.last)
+          subst (λ (xs : List Request). held_prepares c.seal_first-before.new.self.sealed ++ group_prepares g (c.loop-before.op + 1) check xs ≡ whole) (sym seal.requests)
+          (subst (λ (hs : List Holding). held_prepares hs ++ group_prepares g (c.loop-before.op + 1) check (drop 1 rs) ≡ whole) (sym seal.sealed.last)
           (units_turn g c.loop-before.op c.loop-before.before check rs c.loop-before.staging.sealed held whole some made sum inv.units));
       made = subst (AreMadeFor g.file) (sym seal.sealed.last)
           (get_pushed (IsMadeFor g.file) c.loop-before.staging.sealed held inv.made (record { layout_is = seal.sealed.layout ∙ inv.layout; cluster = ap (λ (u : Message). u.header.cluster) made; sectors = seal.sealed.sectors }));
@@ -105,5 +105,5 @@ returns-clause-units c =
     let g = c.args.group.now in
     let helds = c.loop-before.staging.sealed in
     let none : c.loop-before.staging.requests ≡ [] = none_left c.loop-before.staging.requests (omega (arith, c.loop-before-test.false, c.len.ensures.count)) in
-    sym (append-nil (units_of helds)) ∙ ap (λ (rs : List Request). units_of helds ++ units_in g c.loop-before.op c.loop-before.before rs) (sym none) ∙ c.loop-before.invariant.units
-    ∙ ap (λ (s : Staged). units_in g g.first c.args.parent s.requests) c.loosen.ensures
+    sym (append-nil (held_prepares helds)) ∙ ap (λ (rs : List Request). held_prepares helds ++ group_prepares g c.loop-before.op c.loop-before.before rs) (sym none) ∙ c.loop-before.invariant.units
+    ∙ ap (λ (s : Staged). group_prepares g g.first c.args.parent s.requests) c.loosen.ensures

@@ -5,7 +5,7 @@ use Rattle.df_layout.specs.declared.places.Place.{Place}
 use Rattle.df_format.specs.declared.kind.Kind.TheVariants.{Reply}
 use Rattle.df_format.specs.Spelling.{IsCheck}
 use Rattle.df_places.specs.Shelves.{HoldsFound, IsRead}
-use Rattle.df_replica.specs.Lookups.{Tells, reply_shown}
+use Rattle.df_replica.specs.Lookups.{TellsShown, reply_shown}
 use Rattle.df_replica.proofs.LookupFinds.{if_tells}
 use Rattle.df_replica.proofs.ReadFinds.{wanted_at}
 use Rattle.df_replica.proofs.lookup.load_known.Goals as goal
@@ -19,4 +19,4 @@ returns-clause-tells g c =
     let r = c.load.result in
     let holds = subst (λ (p : Place). IfOk r (λ wrong. HoldsFound Reply (wanted_at file.layout file.cluster p check) wrong held)) c.reply_place.ensures c.load.ensures.holds in
     let read = subst (λ (p : Place). IfOk r (λ wrong. IsRead Reply (wanted_at file.layout file.cluster p check) told wrong held)) c.reply_place.ensures c.load.ensures.read in
-    subst (λ (k : List ℕ). IfOk r (λ wrong. Tells told (reply_shown file c.args.place (Some k)) wrong held)) c.as_check-check.ensures.value (if_tells file c.args.place check (subst IsCheck (sym c.as_check-check.ensures.value) c.as_check-check.ensures.check) told r held holds read)
+    subst (λ (k : List ℕ). IfOk r (λ wrong. TellsShown told (reply_shown file c.args.place (Some k)) wrong held)) c.as_check-check.ensures.value (if_tells file c.args.place check (subst IsCheck (sym c.as_check-check.ensures.value) c.as_check-check.ensures.check) told r held holds read)

@@ -1,7 +1,7 @@
 -- What is written is the reply that was made in the room.
 use Rattle.std.proofs.Common.{◌∙◌, ap, subst}
 use Rattle.df_format.specs.Message.{Message}
-use Rattle.df_replies.specs.Slots.{IsInOwnSlot}
+use Rattle.df_replies.specs.Slots.{IsInReplySlot}
 use Rattle.df_replica.proofs.MadeUnits.{is_made}
 use Rattle.df_replica.proofs.reply.reply_in.Goals as goal
 
@@ -11,9 +11,9 @@ write_reply-requires g c = record { layout = (is_made c.args.room.now.layout c.a
 pub returns-in-Ok-clause-made : goal.returns-in-Ok-clause-made
 returns-in-Ok-clause-made g c =
     let is = is_made c.args.room.now.layout c.args.header c.args.body.now _ c.unit-unit.result.now c.unit-unit.ensures c.make.ensures.made in
-    record { header = c.header-made.ensures.header ∙ ap (λ (u : Message). u.header) is.unit; own = subst (IsInOwnSlot c.args.file.now.layout) is.unit c.write_reply.ensures.own }
+    record { header = c.header-made.ensures.header ∙ ap (λ (u : Message). u.header) is.unit; own = subst (IsInReplySlot c.args.file.now.layout) is.unit c.write_reply.ensures.own }
 
 pub returns-in-Err-clause-made : goal.returns-in-Err-clause-made
 returns-in-Err-clause-made g c =
     let is = is_made c.args.room.now.layout c.args.header c.args.body.now _ c.unit-unit.result.now c.unit-unit.ensures c.make.ensures.made in
-    record { header = tt; own = subst (IsInOwnSlot c.args.file.now.layout) is.unit c.write_reply.ensures.own }
+    record { header = tt; own = subst (IsInReplySlot c.args.file.now.layout) is.unit c.write_reply.ensures.own }

@@ -1,6 +1,6 @@
 -- The slots before this one are in the list.
 use Rattle.std.proofs.Common.{◌≡◌, ◌-◌, ◌≤◌, length}
-use Rattle.df_replies.specs.Shown.{AreSeen}
+use Rattle.df_replies.specs.Shown.{AreSeenReplies}
 use Rattle.df_replies.proofs.scans.scan_replies.Given as goal
 
 abbrev pub invariant-loop-place : goal.invariant-loop-place
@@ -10,7 +10,7 @@ invariant-loop-place g l = record {
   shelf : l.shelf.layout ≡ l.layout;
   same : g.D.Disk.told l.disk ≡ g.D.Disk.told l.initial.disk;
   faults : g.D.Disk.faults l.disk ≡ g.D.Disk.faults l.initial.disk;
-  seen : AreSeen l.layout l.cluster (g.D.Disk.told l.initial.disk) l.place l.replies;
+  seen : AreSeenReplies l.layout l.cluster (g.D.Disk.told l.initial.disk) l.place l.replies;
 }
 
 abbrev pub decreases-loop-place : goal.decreases-loop-place

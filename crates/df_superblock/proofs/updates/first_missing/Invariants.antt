@@ -1,6 +1,6 @@
 use Rattle.std.proofs.Common.{◌<◌, ◌≤◌, ℕ}
-use Rattle.df_superblock.specs.Calls.{IsRead}
+use Rattle.df_superblock.specs.Calls.{IsCopyRead}
 use Rattle.df_superblock.proofs.updates.first_missing.Given as goal
 
 abbrev pub invariant-loop-number : goal.invariant-loop-number
-invariant-loop-number l = (n : ℕ) → l.from ≤ n → n < l.number → IsRead l.slots l.content n
+invariant-loop-number l = (n : ℕ) → l.from ≤ n → n < l.number → IsCopyRead l.slots l.content n

@@ -3,7 +3,7 @@ use Rattle.std.proofs.Common.{subst, sym, Bool, [], ◌∷◌, Err}
 use Rattle.df_base.specs.Causes.{Blamed}
 use Rattle.df_model.specs.Commands.{Advance}
 use Rattle.df_table.specs.declared.ending.Ending.{Ending}
-use Rattle.df_table.specs.Calls.{Comes, Stepped}
+use Rattle.df_table.specs.Calls.{CheckpointStepped, Comes}
 use Rattle.df_table.specs.Statuses.{is_disk}
 use Rattle.df_table.specs.Turns.{IsOfCall}
 use Rattle.df_table.proofs.Called.{blamed_so, fault_ends, step_comes}
@@ -15,7 +15,7 @@ returns-in-Ok g c =
     let comes = step_comes c.args.replica.now c.make.new.replica (g.D.Disk.told c.args.disk.now) (g.D.Disk.told c.make.new.disk) c.requires.runs c.in-Ok.answer c.in-Ok.ensures.makes in
     record {
       makes = comes.comes;
-      state = subst (λ (done : Bool). Stepped done c.args.replica.now c.make.new.replica) (sym c.is_done.ensures) comes.state;
+      state = subst (λ (done : Bool). CheckpointStepped done c.args.replica.now c.make.new.replica) (sym c.is_done.ensures) comes.state;
       live = c.in-Ok.ensures.live;
       ends = tt;
       disk = c.in-Ok.ensures.disk;

@@ -3,13 +3,13 @@ use Rattle.std.proofs.Common.{[], subst, sym, ap}
 use Rattle.std.specs.Prelude.{OnOk}
 use Rattle.df_session.specs.Beginning.{captured}
 use Rattle.df_session.specs.Below.{State as Replica}
-use Rattle.df_table.specs.Calls.{IsRunning}
+use Rattle.df_table.specs.Calls.{IsCheckpointing}
 use Rattle.df_table.specs.Ready.{IsFinished}
 use Rattle.df_table.proofs.Finished.{concluded}
 use Rattle.df_table.proofs.checkpointing.conclude.Goals as goal
 
 pub finish-requires : goal.finish-requires
-finish-requires g c = record { live = c.in-Ok.ensures.live; runs = subst (λ (r : Replica). IsRunning r) (sym c.in-Ok.ensures.state) tt }
+finish-requires g c = record { live = c.in-Ok.ensures.live; runs = subst (λ (r : Replica). IsCheckpointing r) (sym c.in-Ok.ensures.state) tt }
 
 pub returns-in-Ok-clause-makes : goal.returns-in-Ok-clause-makes
 returns-in-Ok-clause-makes g c = λ may.

@@ -3,7 +3,7 @@ use Rattle.std.proofs.Common.{◌≡◌, ℕ, true, length}
 use Rattle.std.specs.Prelude.{replicate, Some}
 use Rattle.df_model.specs.Commands.{Advance}
 use Rattle.df_session.specs.Below.{RunningState}
-use Rattle.df_table.specs.Calls.{IsRunning}
+use Rattle.df_table.specs.Calls.{IsCheckpointing}
 use Rattle.df_table.specs.Turns.{MakeAll}
 use Rattle.df_table.proofs.Steps.{IsUnder}
 use Rattle.df_table.proofs.checkpointing.finish.Given as goal
@@ -12,7 +12,7 @@ abbrev pub invariant-loop-done : goal.invariant-loop-done
 invariant-loop-done g l = record {
   makes : (n : ℕ) × MakeAll (replicate n Advance) l.fn.replica l.replica (g.D.Disk.told l.fn.disk) (g.D.Disk.told l.disk);
   live : l.replica.live ≡ true;
-  runs : IsRunning l.replica;
+  runs : IsCheckpointing l.replica;
   under : (r : RunningState) → l.fn.replica.running ≡ Some r → IsUnder r l.fn.replica l.replica;
   disk_faults : g.D.Disk.faults l.disk ≡ g.D.Disk.faults l.fn.disk;
 }

@@ -6,7 +6,7 @@ use Rattle.df_disk.specs.Told.{Told}
 use Rattle.df_layout.specs.declared.layout.Layout.{Layout}
 use Rattle.df_session.specs.Below.{TellsLayout}
 use Rattle.df_table.specs.Outside.{Outside}
-use Rattle.df_table.specs.Run.{Does}
+use Rattle.df_table.specs.Run.{DoesTable}
 use Rattle.df_table.proofs.engine.run_file.Goals as goal
 
 pub returns-in-Ok-reserve-clause-runs : goal.returns-in-Ok-reserve-clause-runs
@@ -15,9 +15,9 @@ returns-in-Ok-reserve-clause-runs g c = λ t told whole.
     let new : Outside = record { told = g.D.Disk.told c.serve_table.new.disk; left = g.S.Source.left c.serve_table.new.source; written = g.W.Sink.written c.serve_table.new.sink } in
     let left = g.S.Source.left c.args.source.now in
     let written = g.W.Sink.written c.args.sink.now in
-    let does : (u : Told) → g.D.Disk.told c.args.disk.now ≡ Some u → IsImage u.shown → Does layout u (record { told = g.D.Disk.told c.args.disk.now; left = left; written = written }) new c.serve_table.result =
-    subst (λ (o : Option Told). (u : Told) → o ≡ Some u → IsImage u.shown → Does layout u (record { told = o; left = left; written = written }) new c.serve_table.result) c.probe.ensures.same
-    (subst (λ (l : Layout). (u : Told) → g.D.Disk.told c.probe.new.disk ≡ Some u → IsImage u.shown → Does l u (record { told = g.D.Disk.told c.probe.new.disk; left = left; written = written }) new c.serve_table.result) c.in-Ok-reserve.ensures.rooms c.serve_table.ensures.serves) in
+    let does : (u : Told) → g.D.Disk.told c.args.disk.now ≡ Some u → IsImage u.shown → DoesTable layout u (record { told = g.D.Disk.told c.args.disk.now; left = left; written = written }) new c.serve_table.result =
+    subst (λ (o : Option Told). (u : Told) → o ≡ Some u → IsImage u.shown → DoesTable layout u (record { told = o; left = left; written = written }) new c.serve_table.result) c.probe.ensures.same
+    (subst (λ (l : Layout). (u : Told) → g.D.Disk.told c.probe.new.disk ≡ Some u → IsImage u.shown → DoesTable l u (record { told = g.D.Disk.told c.probe.new.disk; left = left; written = written }) new c.serve_table.result) c.in-Ok-reserve.ensures.rooms c.serve_table.ensures.serves) in
     inr (inr (record {
       layout = layout;
       shown = subst (λ (o : Option Told). TellsLayout o (Ok layout)) told c.in-Ok-probe.ensures.answer;

@@ -9,7 +9,7 @@ use Rattle.df_session.specs.Below.{State as Replica, memory}
 use Rattle.df_session.specs.Reading.{shown_of}
 use Rattle.df_table.specs.declared.ending.Ending.{Ending}
 use Rattle.df_table.specs.Calls.{Comes}
-use Rattle.df_table.specs.Opening.{AreTaken, FindsOf, NoneIsOther, OtherClient, place_at}
+use Rattle.df_table.specs.Opening.{AreTakenBlocks, FindsOf, NoneIsOther, OtherClient, place_at}
 use Rattle.df_table.specs.Policy.{block_reads, opening, prepare_reads, replies}
 use Rattle.df_table.specs.Ready.{HasCaughtUp, IsBegun}
 use Rattle.df_table.proofs.Begun.{ready_found}
@@ -52,7 +52,7 @@ returns-in-Ok-clause-finds g c = λ w begun t is.
     let own = subst (λ (n : ℕ). NoneIsOther (memory s) n) (sym (length-map s.table.sessions session_of)) c.in-None.ensures.none in
     let taken = c.in-Ok.ensures.takes w begun own c.requires.empty t is in
     let finds = c.follow.ensures.finds w (subst (λ (r : Replica). IsBegun c.args.layout.now w r) (sym kept) begun) t (c.in-Ok.ensures.same ∙ is)
-    (subst (λ (r : Replica). AreTaken c.args.layout.now (shown_of r.file t.shown) (memory r) [] c.in-Ok.table) (sym kept) taken) in
+    (subst (λ (r : Replica). AreTakenBlocks c.args.layout.now (shown_of r.file t.shown) (memory r) [] c.in-Ok.table) (sym kept) taken) in
     subst (λ (r : Replica). FindsOf c.args.layout.now (shown_of r.file t.shown) (memory r) c.follow.result) kept finds
 
 pub returns-in-Ok-clause-ready : goal.returns-in-Ok-clause-ready

@@ -4,7 +4,7 @@ use Rattle.std.proofs.lemmas.Bool.{false≢true}
 use borrow.Author.Count.{below_more}
 use Rattle.df_model.specs.declared.answers.Summary.{Summary}
 use Rattle.df_session.specs.Below.{memory}
-use Rattle.df_table.specs.Opening.{IsOther, NoneIsOther}
+use Rattle.df_table.specs.Opening.{IsOtherClient, NoneIsOther}
 use Rattle.df_table.proofs.opening.other_client.Goals as goal
 
 pub loop-place-init : goal.loop-place-init
@@ -12,7 +12,7 @@ loop-place-init c = λ k less other. absurd (omega (arith, less))
 
 pub loop-place-preserved : goal.loop-place-preserved
 loop-place-preserved c =
-    below_more (λ (k : ℕ). IsOther (memory c.args.replica.now) k → ⊥) c.loop-place.place c.loop-place.invariant (λ other. false≢true (sym c.if-is_other.false ∙ c.is_other.ensures.1 other))
+    below_more (λ (k : ℕ). IsOtherClient (memory c.args.replica.now) k → ⊥) c.loop-place.place c.loop-place.invariant (λ other. false≢true (sym c.if-is_other.false ∙ c.is_other.ensures.1 other))
 
 pub returns-then-is_other-clause-found : goal.returns-then-is_other-clause-found
 returns-then-is_other-clause-found c = (c.is_other.ensures.0 c.if-is_other.true, c.loop-place.invariant)

@@ -9,7 +9,7 @@ use Rattle.df_session.specs.Reading.{shown_of}
 use Rattle.df_session.specs.Stopping.{left_by}
 use Rattle.df_table.specs.declared.ending.Ending.{Ending}
 use Rattle.df_table.specs.Calls.{Comes}
-use Rattle.df_table.specs.Opening.{GivesRows, LacksRows, ReadsBlock, block_ending}
+use Rattle.df_table.specs.Opening.{GivesRows, LacksRows, ReadsTableBlock, block_ending}
 use Rattle.df_table.specs.Statuses.{is_disk}
 use Rattle.df_table.proofs.BlockTaken.{block_comes, block_found_here, block_refused, block_unfound, live_there, read_blamed}
 use Rattle.df_table.proofs.BodyTaken.{body_blamed}
@@ -55,7 +55,7 @@ returns-in-Err-clause-makes g c =
 pub returns-in-Err-clause-reads : goal.returns-in-Err-clause-reads
 returns-in-Err-clause-reads g c = λ told is.
     let known = live_there c.args.address c.args.replica.now (g.D.Disk.told c.args.disk.now) c.in-Err.error c.requires.known c.in-Err.ensures.exact in
-    subst (λ (e : Ending). ReadsBlock (shown_of c.args.replica.now.file told.shown) (memory c.args.replica.now) c.args.address c.args.before c.args.most c.args.table (Err e)) (sym c.unread_block.ensures)
+    subst (λ (e : Ending). ReadsTableBlock (shown_of c.args.replica.now.file told.shown) (memory c.args.replica.now) c.args.address c.args.before c.args.most c.args.table (Err e)) (sym c.unread_block.ensures)
     (block_unfound c.args.address c.args.replica.now (g.D.Disk.told c.args.disk.now) told is c.args.before c.args.most c.args.table c.in-Err.error known c.in-Err.ensures.exact)
 
 pub returns-in-Err-clause-disk : goal.returns-in-Err-clause-disk

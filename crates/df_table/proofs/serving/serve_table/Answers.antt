@@ -9,7 +9,7 @@ use Rattle.df_session.specs.Reading.{shown_of}
 use Rattle.df_session.proofs.Laws.{opened_agrees, agree_self}
 use Rattle.df_table.specs.declared.status.Status.TheVariants as status
 use Rattle.df_table.specs.Outside.{Blames, Outside}
-use Rattle.df_table.specs.Run.{Does}
+use Rattle.df_table.specs.Run.{DoesTable}
 use Rattle.df_table.specs.Table.{empty_table}
 use Rattle.df_table.proofs.Refused.{not_found, refused_causes, refused_never}
 use Rattle.df_table.proofs.Served.{begun, does}
@@ -41,7 +41,7 @@ returns-in-Ok-clause-serves g c = λ t told whole.
     let over = c.in-Ok.ensures.opened t told in
     let agrees = opened_agrees s t mended over (shown_of s.file t.shown) whole (agree_self s.file.layout (shown_of s.file t.shown)) in
     let opens = c.serve_opened.ensures.serves _ (begun layout t s mended whole c.in-Ok.ensures.live (sym of) over) agrees.first agrees.told in
-    subst (λ (l : Layout). Does l t old new c.serve_opened.result) (of ∙ c.in-Ok.ensures.kept)
+    subst (λ (l : Layout). DoesTable l t old new c.serve_opened.result) (of ∙ c.in-Ok.ensures.kept)
     (does layout t s mended whole c.in-Ok.ensures.live (sym of) over agrees.first agrees.agrees before old new c.serve_opened.result refl refl refl opens)
 
 pub returns-in-Ok-clause-causes : goal.returns-in-Ok-clause-causes

@@ -4,7 +4,7 @@ use Rattle.std.specs.Prelude.{codes}
 use Rattle.df_base.specs.declared.Failed.{Failed}
 use Rattle.df_rows.specs.declared.command.Command.TheVariants as commands
 use Rattle.df_script_model.specs.Texts.{line_of, numbered}
-use Rattle.df_table.specs.Serving.{BlamesIfEnds}
+use Rattle.df_table.specs.Serving.{StepBlamesIfEnds}
 use Rattle.df_table.specs.declared.status.Status.TheVariants.{DiskFault, WriteFault}
 use Rattle.df_table.specs.declared.turns.Turn.{Turn as Step}
 use Rattle.df_table.proofs.Behind.{done_executes, ended_executes}
@@ -37,8 +37,8 @@ returns-in-Ok-clause-executes g c =
 
 pub returns-in-Ok-clause-sink : goal.returns-in-Ok-clause-sink
 returns-in-Ok-clause-sink g c =
-    subst (λ (u : Step). BlamesIfEnds WriteFault (g.W.Sink.faults c.args.sink.now) (g.W.Sink.faults c.print_answer.new.sink) u) (sym c.printed.ensures) (printed_sink Failed c.print_answer.result (g.W.Sink.faults c.args.sink.now) (g.W.Sink.faults c.print_answer.new.sink) c.print_answer.ensures.cause)
+    subst (λ (u : Step). StepBlamesIfEnds WriteFault (g.W.Sink.faults c.args.sink.now) (g.W.Sink.faults c.print_answer.new.sink) u) (sym c.printed.ensures) (printed_sink Failed c.print_answer.result (g.W.Sink.faults c.args.sink.now) (g.W.Sink.faults c.print_answer.new.sink) c.print_answer.ensures.cause)
 
 pub returns-in-Ok-clause-disk : goal.returns-in-Ok-clause-disk
 returns-in-Ok-clause-disk g c =
-    subst (λ (u : Step). BlamesIfEnds DiskFault (g.D.Disk.faults c.args.disk.now) (g.D.Disk.faults c.change.new.disk) u) (sym c.printed.ensures) (printed_disk Failed c.print_answer.result (g.D.Disk.faults c.args.disk.now) (g.D.Disk.faults c.change.new.disk) c.in-Ok.ensures.disk)
+    subst (λ (u : Step). StepBlamesIfEnds DiskFault (g.D.Disk.faults c.args.disk.now) (g.D.Disk.faults c.change.new.disk) u) (sym c.printed.ensures) (printed_disk Failed c.print_answer.result (g.D.Disk.faults c.args.disk.now) (g.D.Disk.faults c.change.new.disk) c.in-Ok.ensures.disk)

@@ -4,7 +4,7 @@ use Rattle.df_base.specs.declared.Failed.{Failed}
 use Rattle.df_rows.specs.Answers.{refusal_of}
 use Rattle.df_rows.specs.Grammar.{said_with}
 use Rattle.df_rows.specs.Lines.{line_in}
-use Rattle.df_table.specs.Serving.{BlamesIfEnds}
+use Rattle.df_table.specs.Serving.{StepBlamesIfEnds}
 use Rattle.df_table.specs.declared.status.Status.TheVariants.{DiskFault, WriteFault}
 use Rattle.df_table.specs.declared.turns.Turn.{Turn as Step}
 use Rattle.df_table.proofs.Behind.{told_executes}
@@ -25,10 +25,10 @@ returns-in-Some-clause-executes g c =
 
 pub returns-in-Some-clause-disk : goal.returns-in-Some-clause-disk
 returns-in-Some-clause-disk g c =
-    subst (λ (u : Step). BlamesIfEnds DiskFault (g.D.Disk.faults c.args.disk.now) (g.D.Disk.faults c.args.disk.now) u) (sym c.printed.ensures)
+    subst (λ (u : Step). StepBlamesIfEnds DiskFault (g.D.Disk.faults c.args.disk.now) (g.D.Disk.faults c.args.disk.now) u) (sym c.printed.ensures)
     (printed_disk Failed c.print_answer.result (g.D.Disk.faults c.args.disk.now) (g.D.Disk.faults c.args.disk.now) refl)
 
 pub returns-in-Some-clause-sink : goal.returns-in-Some-clause-sink
 returns-in-Some-clause-sink g c =
-    subst (λ (u : Step). BlamesIfEnds WriteFault (g.W.Sink.faults c.args.sink.now) (g.W.Sink.faults c.print_answer.new.sink) u) (sym c.printed.ensures)
+    subst (λ (u : Step). StepBlamesIfEnds WriteFault (g.W.Sink.faults c.args.sink.now) (g.W.Sink.faults c.print_answer.new.sink) u) (sym c.printed.ensures)
     (printed_sink Failed c.print_answer.result (g.W.Sink.faults c.args.sink.now) (g.W.Sink.faults c.print_answer.new.sink) c.print_answer.ensures.cause)

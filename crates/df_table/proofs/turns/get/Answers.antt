@@ -2,7 +2,7 @@
 use Rattle.std.proofs.Common.{◌≡◌, ℕ, List, Some, sym, subst}
 use Rattle.std.specs.FinMap as map
 use Rattle.df_base.specs.declared.Failed.{Failed}
-use Rattle.df_table.specs.Serving.{BlamesIfEnds, Tells}
+use Rattle.df_table.specs.Serving.{StepBlamesIfEnds, TellsLine}
 use Rattle.df_table.specs.declared.status.Status.TheVariants.{WriteFault}
 use Rattle.df_table.specs.declared.turns.Turn.{Turn as Step}
 use Rattle.df_table.proofs.Blamed.{printed_sink}
@@ -14,12 +14,12 @@ returns-in-Some-clause-tells g c = λ n.
     let there : map.get c.args.session.now.table.rows c.args.key ≡ Some c.in-Some.value.now = sym (rw c.in-Some.is at c.get.ensures) in
     let old = g.W.Sink.written c.args.sink.now in
     let new = g.W.Sink.written c.print_answer.new.sink in
-    subst (λ (text : List ℕ). Tells text old new c.printed.result) (found_text c.args.session.now.table n c.args.key c.in-Some.value.now there)
+    subst (λ (text : List ℕ). TellsLine text old new c.printed.result) (found_text c.args.session.now.table n c.args.key c.in-Some.value.now there)
     (turn_tells _ old new Failed c.print_answer.result c.printed.result c.print_answer.ensures.prints c.printed.ensures)
 
 pub returns-in-Some-clause-sink : goal.returns-in-Some-clause-sink
 returns-in-Some-clause-sink g c =
-    subst (λ (u : Step). BlamesIfEnds WriteFault (g.W.Sink.faults c.args.sink.now) (g.W.Sink.faults c.print_answer.new.sink) u) (sym c.printed.ensures)
+    subst (λ (u : Step). StepBlamesIfEnds WriteFault (g.W.Sink.faults c.args.sink.now) (g.W.Sink.faults c.print_answer.new.sink) u) (sym c.printed.ensures)
     (printed_sink Failed c.print_answer.result (g.W.Sink.faults c.args.sink.now) (g.W.Sink.faults c.print_answer.new.sink) c.print_answer.ensures.cause)
 
 pub returns-in-None-clause-tells : goal.returns-in-None-clause-tells

@@ -3,7 +3,7 @@ use Rattle.std.proofs.Common.{◌≡◌, ◌≤◌, length, None, refl, sym, sub
 use Rattle.df_rows.specs.declared.line.Line.{Line}
 use Rattle.df_rows.specs.Answers.{refusal_of}
 use Rattle.df_rows.specs.Grammar.{Count, Get, said_with, value_length}
-use Rattle.df_table.specs.Serving.{Executes}
+use Rattle.df_table.specs.Serving.{ExecutesLine}
 use Rattle.df_table.proofs.Behind.{told_executes}
 use Rattle.df_table.proofs.Blamed.{tells_disk}
 use Rattle.df_table.proofs.Executed.{fine_text, get_has, get_none}
@@ -25,12 +25,12 @@ get-requires g c = get_has c.args.session.now.table c.in-Get.key (subst (λ (l :
 pub returns-in-Put-clause-executes : goal.returns-in-Put-clause-executes
 returns-in-Put-clause-executes g c =
     let s = c.args.session.now in
-    subst (λ (l : Line). Executes s.layout (said_with s.lines.body l) s c.put.new.session (g.D.Disk.told c.args.disk.now) (g.D.Disk.told c.put.new.disk) (g.W.Sink.written c.args.sink.now) (g.W.Sink.written c.put.new.sink) c.put.result) (sym c.in-Put.is) c.put.ensures.executes
+    subst (λ (l : Line). ExecutesLine s.layout (said_with s.lines.body l) s c.put.new.session (g.D.Disk.told c.args.disk.now) (g.D.Disk.told c.put.new.disk) (g.W.Sink.written c.args.sink.now) (g.W.Sink.written c.put.new.sink) c.put.result) (sym c.in-Put.is) c.put.ensures.executes
 
 pub returns-in-Drop-clause-executes : goal.returns-in-Drop-clause-executes
 returns-in-Drop-clause-executes g c =
     let s = c.args.session.now in
-    subst (λ (l : Line). Executes s.layout (said_with s.lines.body l) s c.drop_key.new.session (g.D.Disk.told c.args.disk.now) (g.D.Disk.told c.drop_key.new.disk) (g.W.Sink.written c.args.sink.now) (g.W.Sink.written c.drop_key.new.sink) c.drop_key.result)
+    subst (λ (l : Line). ExecutesLine s.layout (said_with s.lines.body l) s c.drop_key.new.session (g.D.Disk.told c.args.disk.now) (g.D.Disk.told c.drop_key.new.disk) (g.W.Sink.written c.args.sink.now) (g.W.Sink.written c.drop_key.new.sink) c.drop_key.result)
     (sym c.in-Drop.is) c.drop_key.ensures.executes
 
 pub returns-in-Get-clause-executes : goal.returns-in-Get-clause-executes
@@ -38,7 +38,7 @@ returns-in-Get-clause-executes g c =
     let s = c.args.session.now in
     let told = g.D.Disk.told c.args.disk.now in
     let fine = subst (λ (l : Line). refusal_of s.table l ≡ None) c.in-Get.is c.requires.fine in
-    subst (λ (l : Line). Executes s.layout (said_with s.lines.body l) s s told told (g.W.Sink.written c.args.sink.now) (g.W.Sink.written c.get.new.sink) c.get.result) (sym c.in-Get.is)
+    subst (λ (l : Line). ExecutesLine s.layout (said_with s.lines.body l) s s told told (g.W.Sink.written c.args.sink.now) (g.W.Sink.written c.get.new.sink) c.get.result) (sym c.in-Get.is)
     (told_executes s.layout (Get c.in-Get.key) s told (g.W.Sink.written c.args.sink.now) (g.W.Sink.written c.get.new.sink) _ c.get.result (get_none s.table c.in-Get.key) (fine_text s.table s.replica.head (Get c.in-Get.key) fine)
     (c.get.ensures.tells s.replica.head) c.requires.serving.1.live)
 
@@ -49,7 +49,7 @@ pub returns-in-Count-clause-executes : goal.returns-in-Count-clause-executes
 returns-in-Count-clause-executes g c =
     let s = c.args.session.now in
     let told = g.D.Disk.told c.args.disk.now in
-    subst (λ (l : Line). Executes s.layout (said_with s.lines.body l) s s told told (g.W.Sink.written c.args.sink.now) (g.W.Sink.written c.count.new.sink) c.count.result) (sym c.in-Count.is)
+    subst (λ (l : Line). ExecutesLine s.layout (said_with s.lines.body l) s s told told (g.W.Sink.written c.args.sink.now) (g.W.Sink.written c.count.new.sink) c.count.result) (sym c.in-Count.is)
     (told_executes s.layout Count s told (g.W.Sink.written c.args.sink.now) (g.W.Sink.written c.count.new.sink) _ c.count.result refl refl (c.count.ensures.tells s.replica.head) c.requires.serving.1.live)
 
 pub returns-in-Count-clause-disk : goal.returns-in-Count-clause-disk

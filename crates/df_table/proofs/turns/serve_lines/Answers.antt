@@ -4,7 +4,7 @@ use Rattle.df_layout.specs.declared.layout.Layout.{Layout}
 use Rattle.df_table.specs.Ready.{IsSteady}
 use Rattle.df_table.specs.declared.status.Status.{Status}
 use Rattle.df_table.specs.declared.turns.Turn.TheVariants.{Ends}
-use Rattle.df_table.specs.Serving.{EndsIn, EndsTurn, GoesOn, IsServing, State, state}
+use Rattle.df_table.specs.Serving.{EndsTurn, IsServing, ServingEndsIn, ServingGoesOn, ServingState, state}
 use Rattle.df_table.proofs.Turned.{ended_all, goes_none, goes_on_more}
 use Rattle.df_table.proofs.turns.serve_lines.Goals as goal
 
@@ -27,13 +27,13 @@ loop-status-preserved g c =
     let now = c.loop-status in
     let layout = c.args.session.now.layout in
     let at = now.invariant.layout in
-    let old : State = state (record { told = g.D.Disk.told c.args.disk.now; left = g.S.Source.left c.args.source.now; written = g.W.Sink.written c.args.sink.now }) c.args.session.now in
-    let mid : State = state (record { told = g.D.Disk.told now.disk; left = g.S.Source.left now.source; written = g.W.Sink.written now.sink }) now.session in
-    let new : State = state (record { told = g.D.Disk.told c.take_turn.new.disk; left = g.S.Source.left c.take_turn.new.source; written = g.W.Sink.written c.take_turn.new.sink }) c.take_turn.new.session in
+    let old : ServingState = state (record { told = g.D.Disk.told c.args.disk.now; left = g.S.Source.left c.args.source.now; written = g.W.Sink.written c.args.sink.now }) c.args.session.now in
+    let mid : ServingState = state (record { told = g.D.Disk.told now.disk; left = g.S.Source.left now.source; written = g.W.Sink.written now.sink }) now.session in
+    let new : ServingState = state (record { told = g.D.Disk.told c.take_turn.new.disk; left = g.S.Source.left c.take_turn.new.source; written = g.W.Sink.written c.take_turn.new.sink }) c.take_turn.new.session in
     record {
       goes = λ steady.
           let here = subst (λ (k : Layout). IsSteady k now.session.replica now.session.table) (sym at) (now.invariant.steady steady) in
-          goes_on_more layout old mid new (now.invariant.goes steady) (subst (λ (k : Layout). GoesOn k mid new) at (c.in-GoesOn.ensures.turns here));
+          goes_on_more layout old mid new (now.invariant.goes steady) (subst (λ (k : Layout). ServingGoesOn k mid new) at (c.in-GoesOn.ensures.turns here));
       steady = λ steady.
           let here = subst (λ (k : Layout). IsSteady k now.session.replica now.session.table) (sym at) (now.invariant.steady steady) in
           subst (λ (k : Layout). IsSteady k c.take_turn.new.session.replica c.take_turn.new.session.table) at (c.in-GoesOn.ensures.steady here);
@@ -47,13 +47,13 @@ loop-status-preserved g c =
 pub returns-in-Ends-clause-session : goal.returns-in-Ends-clause-session
 returns-in-Ends-clause-session g c = λ steady.
     let now = c.loop-status in
-    let old : State = state (record { told = g.D.Disk.told c.args.disk.now; left = g.S.Source.left c.args.source.now; written = g.W.Sink.written c.args.sink.now }) c.args.session.now in
+    let old : ServingState = state (record { told = g.D.Disk.told c.args.disk.now; left = g.S.Source.left c.args.source.now; written = g.W.Sink.written c.args.sink.now }) c.args.session.now in
     let at = now.invariant.layout in
-    let new : State = state (record { told = g.D.Disk.told c.take_turn.new.disk; left = g.S.Source.left c.take_turn.new.source; written = g.W.Sink.written c.take_turn.new.sink }) c.take_turn.new.session in
+    let new : ServingState = state (record { told = g.D.Disk.told c.take_turn.new.disk; left = g.S.Source.left c.take_turn.new.source; written = g.W.Sink.written c.take_turn.new.sink }) c.take_turn.new.session in
     let layout = c.args.session.now.layout in
-    let mid : State = state (record { told = g.D.Disk.told now.disk; left = g.S.Source.left now.source; written = g.W.Sink.written now.sink }) now.session in
+    let mid : ServingState = state (record { told = g.D.Disk.told now.disk; left = g.S.Source.left now.source; written = g.W.Sink.written now.sink }) now.session in
     let here = subst (λ (k : Layout). IsSteady k now.session.replica now.session.table) (sym at) (now.invariant.steady steady) in
-    ended_all layout old mid new c.in-Ends.status (now.invariant.goes steady) (subst (λ (k : Layout). EndsIn k mid new c.in-Ends.status) at (c.in-Ends.ensures.turns here))
+    ended_all layout old mid new c.in-Ends.status (now.invariant.goes steady) (subst (λ (k : Layout). ServingEndsIn k mid new c.in-Ends.status) at (c.in-Ends.ensures.turns here))
 
 pub returns-in-Ends-clause-memory : goal.returns-in-Ends-clause-memory
 returns-in-Ends-clause-memory g c = λ is. subst (λ (s : Status). EndsTurn (Ends s)) is c.in-Ends.ensures.never

@@ -1,12 +1,12 @@
 -- The lines so far were executed, and nothing has failed.
 use Rattle.std.proofs.Common.{◌≡◌}
 use Rattle.df_table.specs.Ready.{IsSteady}
-use Rattle.df_table.specs.Serving.{GoesOn, IsServing, state}
+use Rattle.df_table.specs.Serving.{IsServing, ServingGoesOn, state}
 use Rattle.df_table.proofs.turns.serve_lines.Given as goal
 
 abbrev pub invariant-loop-status : goal.invariant-loop-status
 invariant-loop-status g l = record {
-  goes : IsSteady l.fn.session.layout l.fn.session.replica l.fn.session.table → GoesOn l.fn.session.layout (state (record { told = g.D.Disk.told l.fn.disk; left = g.S.Source.left l.fn.source; written = g.W.Sink.written l.fn.sink }) l.fn.session)
+  goes : IsSteady l.fn.session.layout l.fn.session.replica l.fn.session.table → ServingGoesOn l.fn.session.layout (state (record { told = g.D.Disk.told l.fn.disk; left = g.S.Source.left l.fn.source; written = g.W.Sink.written l.fn.sink }) l.fn.session)
       (state (record { told = g.D.Disk.told l.disk; left = g.S.Source.left l.source; written = g.W.Sink.written l.sink }) l.session);
   steady : IsSteady l.fn.session.layout l.fn.session.replica l.fn.session.table → IsSteady l.fn.session.layout l.session.replica l.session.table;
   layout : l.session.layout ≡ l.fn.session.layout;

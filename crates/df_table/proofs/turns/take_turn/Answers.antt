@@ -1,6 +1,6 @@
 -- Each arm is one way in which a line ends or goes on.
 use Rattle.std.proofs.Common.{◌≡◌, ◌<◌, ◌+◌, ℕ, ap, arith, refl, sym, subst}
-use Rattle.df_lines.specs.Room.{Room}
+use Rattle.df_lines.specs.Room.{ReaderParts}
 use Rattle.df_lines.specs.Reads.{GivesNext, Spends}
 use Rattle.df_lines.specs.declared.next.Next.TheVariants as nexts
 use Rattle.df_rows.specs.Grammar.{table_lines}
@@ -72,7 +72,7 @@ returns-in-Ok-Line-clause-layout g c = on_going c.execute-turn.result (c.execute
 pub returns-in-Ok-Line-clause-budget : goal.returns-in-Ok-Line-clause-budget
 returns-in-Ok-Line-clause-budget g c =
     let spends : Spends table_lines c.args.session.now.lines c.next.new.self (nexts.Line c.in-Ok-Line.line) = subst (Spends table_lines c.args.session.now.lines c.next.new.self) c.in-Ok-Line.field-0-is c.in-Ok-Line.ensures.spends in
-    on_going c.execute-turn.result (c.execute-turn.new.session.lines.reading.budget < c.args.session.now.lines.reading.budget) (subst (λ (r : Room). r.reading.budget < c.args.session.now.lines.reading.budget) (sym c.execute-turn.ensures.executes.leaves.lines) spends.0)
+    on_going c.execute-turn.result (c.execute-turn.new.session.lines.reading.budget < c.args.session.now.lines.reading.budget) (subst (λ (r : ReaderParts). r.reading.budget < c.args.session.now.lines.reading.budget) (sym c.execute-turn.ensures.executes.leaves.lines) spends.0)
 
 pub returns-in-Ok-Line-clause-source : goal.returns-in-Ok-Line-clause-source
 returns-in-Ok-Line-clause-source g c =

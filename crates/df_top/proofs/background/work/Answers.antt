@@ -1,15 +1,15 @@
 -- Each turn goes on with one piece more, or ends the session.
 use Rattle.std.proofs.Common.{◌∙◌, refl, subst}
 use Rattle.df_pace.specs.declared.pace.Pace.{Pace}
-use Rattle.df_top.specs.Session.{State, state}
-use Rattle.df_top.specs.Step.{EndsIn, GoesOn}
+use Rattle.df_top.specs.Session.{SessionState, state}
+use Rattle.df_top.specs.Step.{EndsIn, SessionGoesOn}
 use Rattle.df_top.proofs.Passed.{leaves_on}
 use Rattle.df_top.proofs.Progress.{on_ends, on_more, on_none}
 use Rattle.df_top.proofs.background.work.Goals as goal
 
 pub loop-piece-init : goal.loop-piece-init
 loop-piece-init g c = record {
-  turns = λ left bound. let here : State = state (record { told = g.D.Disk.told c.args.disk.now; left = left; written = g.W.Sink.written c.args.sink.now }) c.args.session.now in on_none c.args.session.now.pace bound here here refl;
+  turns = λ left bound. let here : SessionState = state (record { told = g.D.Disk.told c.args.disk.now; left = left; written = g.W.Sink.written c.args.sink.now }) c.args.session.now in on_none c.args.session.now.pace bound here here refl;
   leaves = record { lines = refl; count = refl; pace = refl };
   live = c.requires.live;
   disk_faults = refl;
@@ -21,10 +21,10 @@ loop-piece-preserved g c =
     let now = c.loop-piece in
     record {
       turns = λ left bound.
-          let old : State = state (record { told = g.D.Disk.told c.args.disk.now; left = left; written = g.W.Sink.written c.args.sink.now }) c.args.session.now in
-          let mid : State = state (record { told = g.D.Disk.told now.disk; left = left; written = g.W.Sink.written now.sink }) now.session in
-          let new : State = state (record { told = g.D.Disk.told c.do_next.new.disk; left = left; written = g.W.Sink.written c.do_next.new.sink }) c.do_next.new.session in
-          on_more c.args.session.now.pace bound old mid new (now.invariant.turns left bound) (subst (λ (p : Pace). GoesOn p bound mid new) now.invariant.leaves.pace (c.in-GoesOn.ensures.turns left bound));
+          let old : SessionState = state (record { told = g.D.Disk.told c.args.disk.now; left = left; written = g.W.Sink.written c.args.sink.now }) c.args.session.now in
+          let mid : SessionState = state (record { told = g.D.Disk.told now.disk; left = left; written = g.W.Sink.written now.sink }) now.session in
+          let new : SessionState = state (record { told = g.D.Disk.told c.do_next.new.disk; left = left; written = g.W.Sink.written c.do_next.new.sink }) c.do_next.new.session in
+          on_more c.args.session.now.pace bound old mid new (now.invariant.turns left bound) (subst (λ (p : Pace). SessionGoesOn p bound mid new) now.invariant.leaves.pace (c.in-GoesOn.ensures.turns left bound));
       leaves = leaves_on now.invariant.leaves c.do_next.ensures.leaves;
       live = c.in-GoesOn.ensures.live;
       disk_faults = c.in-GoesOn.ensures.disk ∙ now.invariant.disk_faults;
@@ -34,9 +34,9 @@ loop-piece-preserved g c =
 pub returns-in-Ends-clause-turns : goal.returns-in-Ends-clause-turns
 returns-in-Ends-clause-turns g c = λ left bound.
     let now = c.loop-piece in
-    let old : State = state (record { told = g.D.Disk.told c.args.disk.now; left = left; written = g.W.Sink.written c.args.sink.now }) c.args.session.now in
-    let mid : State = state (record { told = g.D.Disk.told now.disk; left = left; written = g.W.Sink.written now.sink }) now.session in
-    let new : State = state (record { told = g.D.Disk.told c.do_next.new.disk; left = left; written = g.W.Sink.written c.do_next.new.sink }) c.do_next.new.session in
+    let old : SessionState = state (record { told = g.D.Disk.told c.args.disk.now; left = left; written = g.W.Sink.written c.args.sink.now }) c.args.session.now in
+    let mid : SessionState = state (record { told = g.D.Disk.told now.disk; left = left; written = g.W.Sink.written now.sink }) now.session in
+    let new : SessionState = state (record { told = g.D.Disk.told c.do_next.new.disk; left = left; written = g.W.Sink.written c.do_next.new.sink }) c.do_next.new.session in
     on_ends c.args.session.now.pace bound old mid new c.in-Ends.status (now.invariant.turns left bound) (subst (λ (p : Pace). EndsIn p bound mid new c.in-Ends.status) now.invariant.leaves.pace (c.in-Ends.ensures.turns left bound))
 
 pub returns-in-Ends-clause-leaves : goal.returns-in-Ends-clause-leaves

@@ -2,15 +2,15 @@
 use Rattle.std.proofs.Common.{◌≡◌, true, List, ℕ, Option}
 use Rattle.df_pace.specs.Beats.{pieces_left}
 use Rattle.df_top.specs.Session.{state}
-use Rattle.df_top.specs.Step.{GoesOn}
-use Rattle.df_top.specs.Turning.{Leaves}
+use Rattle.df_top.specs.Step.{SessionGoesOn}
+use Rattle.df_top.specs.Turning.{LeavesReader}
 use Rattle.df_top.proofs.background.work.Given as goal
 
 abbrev pub invariant-loop-piece : goal.invariant-loop-piece
 invariant-loop-piece g l = record {
-  turns : (left : Option (List ℕ)) (bound : ℕ) → GoesOn l.fn.session.pace bound (state (record { told = g.D.Disk.told l.fn.disk; left = left; written = g.W.Sink.written l.fn.sink }) l.fn.session)
+  turns : (left : Option (List ℕ)) (bound : ℕ) → SessionGoesOn l.fn.session.pace bound (state (record { told = g.D.Disk.told l.fn.disk; left = left; written = g.W.Sink.written l.fn.sink }) l.fn.session)
       (state (record { told = g.D.Disk.told l.disk; left = left; written = g.W.Sink.written l.sink }) l.session);
-  leaves : Leaves l.fn.session l.session;
+  leaves : LeavesReader l.fn.session l.session;
   live : l.session.replica.live ≡ true;
   disk_faults : g.D.Disk.faults l.disk ≡ g.D.Disk.faults l.fn.disk;
   sink_faults : g.W.Sink.faults l.sink ≡ g.W.Sink.faults l.fn.sink;

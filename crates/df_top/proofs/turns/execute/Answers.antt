@@ -4,13 +4,13 @@ use Rattle.df_disk.specs.Told.{Told}
 use Rattle.df_inspect.specs.Answers.{command_of}
 use Rattle.df_model.specs.Commands.{Command}
 use Rattle.df_session.specs.Below.{State as Replica}
-use Rattle.df_top.specs.Step.{Answers}
+use Rattle.df_top.specs.Step.{AnswersCommand}
 use Rattle.df_top.specs.declared.turns.Turn.{Turn}
 use Rattle.df_top.proofs.turns.execute.Goals as goal
 
 -- what answers the command that is asked for answers the line
-served : (line asked : Command) (s t : Replica) (old new : Option Told) (written took : Option (List ℕ)) (turn : Turn) → asked ≡ line → Answers asked s t old new written took turn → Answers line s t old new written took turn
-served line asked s t old new written took turn is did = subst (λ (c : Command). Answers c s t old new written took turn) is did
+served : (line asked : Command) (s t : Replica) (old new : Option Told) (written took : Option (List ℕ)) (turn : Turn) → asked ≡ line → AnswersCommand asked s t old new written took turn → AnswersCommand line s t old new written took turn
+served line asked s t old new written took turn is did = subst (λ (c : Command). AnswersCommand c s t old new written took turn) is did
 
 pub returns-in-Scrub-clause-answers : goal.returns-in-Scrub-clause-answers
 returns-in-Scrub-clause-answers g c = served _ _ _ _ _ _ _ _ _ (sym (ap command_of c.in-Scrub.is) ∙ c.asked-command.ensures) c.scrub.ensures.answers

@@ -2,9 +2,9 @@
 use Rattle.std.proofs.Common.{[], ◌++◌, refl, ◌∙◌, ap, subst, ℕ}
 use Rattle.df_pace.specs.declared.pace.Pace.{Pace}
 use Rattle.df_top.specs.Outside.{Outside, around}
-use Rattle.df_top.specs.Session.{State, state}
-use Rattle.df_top.specs.Step.{EndsIn, GoesOn}
-use Rattle.df_lines.specs.Room.{Room}
+use Rattle.df_top.specs.Session.{SessionState, state}
+use Rattle.df_top.specs.Step.{EndsIn, SessionGoesOn}
+use Rattle.df_lines.specs.Room.{ReaderParts}
 use Rattle.df_top.proofs.Passed.{worked_ready}
 use Rattle.df_top.proofs.Progress.{executed_none, on_ends, on_more}
 use Rattle.df_top.proofs.turns.serve_script.Goals as goal
@@ -27,18 +27,18 @@ pub loop-status-preserved : goal.loop-status-preserved
 loop-status-preserved g c =
     let now = c.loop-status in
     let bound = c.args.session.now.lines.reading.bound in
-    let before : State = state (around (g.D.Disk.told now.disk) (g.S.Source.left now.source) (g.W.Sink.written now.sink)) now.session in
-    let taken : State = state (around (g.D.Disk.told c.take_line.new.disk) (g.S.Source.left c.take_line.new.source) (g.W.Sink.written c.take_line.new.sink)) c.take_line.new.session in
-    let after : State = state (around (g.D.Disk.told c.work.new.disk) (g.S.Source.left c.take_line.new.source) (g.W.Sink.written c.work.new.sink)) c.work.new.session in
-    let line = subst (λ (p : Pace). GoesOn p bound before taken) now.invariant.pace (subst (λ (n : ℕ). GoesOn now.session.pace n before taken) now.invariant.bound c.in-GoesOn.ensures.turns) in
-    let work = subst (λ (p : Pace). GoesOn p bound taken after) (c.take_line.ensures.pace ∙ now.invariant.pace) (c.in-GoesOn-work.ensures.turns (g.S.Source.left c.take_line.new.source) bound) in
+    let before : SessionState = state (around (g.D.Disk.told now.disk) (g.S.Source.left now.source) (g.W.Sink.written now.sink)) now.session in
+    let taken : SessionState = state (around (g.D.Disk.told c.take_line.new.disk) (g.S.Source.left c.take_line.new.source) (g.W.Sink.written c.take_line.new.sink)) c.take_line.new.session in
+    let after : SessionState = state (around (g.D.Disk.told c.work.new.disk) (g.S.Source.left c.take_line.new.source) (g.W.Sink.written c.work.new.sink)) c.work.new.session in
+    let line = subst (λ (p : Pace). SessionGoesOn p bound before taken) now.invariant.pace (subst (λ (n : ℕ). SessionGoesOn now.session.pace n before taken) now.invariant.bound c.in-GoesOn.ensures.turns) in
+    let work = subst (λ (p : Pace). SessionGoesOn p bound taken after) (c.take_line.ensures.pace ∙ now.invariant.pace) (c.in-GoesOn-work.ensures.turns (g.S.Source.left c.take_line.new.source) bound) in
     let done = now.invariant.so_far in
     let more = on_more c.args.session.now.pace bound before taken after line work _ done.0 done.1 in
     record {
       so_far = (done.0 ++ more.0, more.1);
       ready = worked_ready c.in-GoesOn.ensures.ready c.work.ensures.leaves c.in-GoesOn-work.ensures.live;
       idle = c.in-GoesOn-work.ensures.idle;
-      bound = ap (λ (r : Room). r.reading.bound) c.work.ensures.leaves.lines ∙ c.take_line.ensures.bound ∙ now.invariant.bound;
+      bound = ap (λ (r : ReaderParts). r.reading.bound) c.work.ensures.leaves.lines ∙ c.take_line.ensures.bound ∙ now.invariant.bound;
       pace = c.work.ensures.leaves.pace ∙ c.take_line.ensures.pace ∙ now.invariant.pace;
       disk_faults = c.in-GoesOn-work.ensures.disk ∙ c.in-GoesOn.ensures.disk ∙ now.invariant.disk_faults;
       source_faults = c.in-GoesOn.ensures.source ∙ now.invariant.source_faults;
@@ -48,8 +48,8 @@ loop-status-preserved g c =
 pub returns-in-Ends-clause-session : goal.returns-in-Ends-clause-session
 returns-in-Ends-clause-session g c =
     let now = c.loop-status in
-    let before : State = state (around (g.D.Disk.told now.disk) (g.S.Source.left now.source) (g.W.Sink.written now.sink)) now.session in
-    let after : State = state (around (g.D.Disk.told c.take_line.new.disk) (g.S.Source.left c.take_line.new.source) (g.W.Sink.written c.take_line.new.sink)) c.take_line.new.session in
+    let before : SessionState = state (around (g.D.Disk.told now.disk) (g.S.Source.left now.source) (g.W.Sink.written now.sink)) now.session in
+    let after : SessionState = state (around (g.D.Disk.told c.take_line.new.disk) (g.S.Source.left c.take_line.new.source) (g.W.Sink.written c.take_line.new.sink)) c.take_line.new.session in
     let done = now.invariant.so_far in
     subst (λ (p : Pace). EndsIn p c.args.session.now.lines.reading.bound before after c.in-Ends.status) now.invariant.pace (subst (λ (n : ℕ). EndsIn now.session.pace n before after c.in-Ends.status) now.invariant.bound c.in-Ends.ensures.turns) _ done.0 done.1
 
@@ -58,10 +58,10 @@ returns-in-Ends-work-clause-session g c =
     let now = c.loop-status in
     let bound = c.args.session.now.lines.reading.bound in
     let status = c.in-Ends-work.status in
-    let before : State = state (around (g.D.Disk.told now.disk) (g.S.Source.left now.source) (g.W.Sink.written now.sink)) now.session in
-    let taken : State = state (around (g.D.Disk.told c.take_line.new.disk) (g.S.Source.left c.take_line.new.source) (g.W.Sink.written c.take_line.new.sink)) c.take_line.new.session in
-    let after : State = state (around (g.D.Disk.told c.work.new.disk) (g.S.Source.left c.take_line.new.source) (g.W.Sink.written c.work.new.sink)) c.work.new.session in
-    let line = subst (λ (p : Pace). GoesOn p bound before taken) now.invariant.pace (subst (λ (n : ℕ). GoesOn now.session.pace n before taken) now.invariant.bound c.in-GoesOn.ensures.turns) in
+    let before : SessionState = state (around (g.D.Disk.told now.disk) (g.S.Source.left now.source) (g.W.Sink.written now.sink)) now.session in
+    let taken : SessionState = state (around (g.D.Disk.told c.take_line.new.disk) (g.S.Source.left c.take_line.new.source) (g.W.Sink.written c.take_line.new.sink)) c.take_line.new.session in
+    let after : SessionState = state (around (g.D.Disk.told c.work.new.disk) (g.S.Source.left c.take_line.new.source) (g.W.Sink.written c.work.new.sink)) c.work.new.session in
+    let line = subst (λ (p : Pace). SessionGoesOn p bound before taken) now.invariant.pace (subst (λ (n : ℕ). SessionGoesOn now.session.pace n before taken) now.invariant.bound c.in-GoesOn.ensures.turns) in
     let work = subst (λ (p : Pace). EndsIn p bound taken after status) (c.take_line.ensures.pace ∙ now.invariant.pace) (c.in-Ends-work.ensures.turns (g.S.Source.left c.take_line.new.source) bound) in
     let done = now.invariant.so_far in
     on_ends c.args.session.now.pace bound before taken after status line work _ done.0 done.1

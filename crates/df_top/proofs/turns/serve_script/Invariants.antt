@@ -1,9 +1,9 @@
 -- The lines so far were executed, with the work after each, and nothing has failed.
 use Rattle.std.proofs.Common.{◌≡◌, List}
 use Rattle.df_top.specs.Lines.{Turned}
-use Rattle.df_top.specs.Pacing.{IsIdle}
+use Rattle.df_top.specs.Pacing.{IsIdleBeat}
 use Rattle.df_top.specs.Session.{Executed, state}
-use Rattle.df_top.specs.Turning.{IsReady}
+use Rattle.df_top.specs.Turning.{IsReadySession}
 use Rattle.df_top.proofs.turns.serve_script.Given as goal
 
 abbrev pub invariant-loop-status : goal.invariant-loop-status
@@ -11,8 +11,8 @@ invariant-loop-status g l = record {
   so_far : (turns : List Turned) × Executed l.fn.session.pace l.fn.session.lines.reading.bound
       (state (record { told = g.D.Disk.told l.initial.disk; left = g.S.Source.left l.initial.source; written = g.W.Sink.written l.initial.sink }) l.initial.session)
       (state (record { told = g.D.Disk.told l.disk; left = g.S.Source.left l.source; written = g.W.Sink.written l.sink }) l.session) turns;
-  ready : IsReady l.session (g.S.Source.left l.source);
-  idle : IsIdle l.session.beat l.session.replica;
+  ready : IsReadySession l.session (g.S.Source.left l.source);
+  idle : IsIdleBeat l.session.beat l.session.replica;
   bound : l.session.lines.reading.bound ≡ l.fn.session.lines.reading.bound;
   pace : l.session.pace ≡ l.fn.session.pace;
   disk_faults : g.D.Disk.faults l.disk ≡ g.D.Disk.faults l.initial.disk;

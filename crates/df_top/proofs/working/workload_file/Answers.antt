@@ -7,7 +7,7 @@ use Rattle.df_session.specs.Below.{State}
 use Rattle.df_workload.specs.Rounds.{start}
 use Rattle.df_workload.specs.declared.state.State.{State as Run}
 use Rattle.df_top.specs.Outside.{Outside}
-use Rattle.df_session.specs.Endings.{is_disk}
+use Rattle.df_session.specs.Endings.{is_disk_fault}
 use Rattle.df_top.specs.Works.{Comes}
 use Rattle.df_top.specs.declared.mode.Mode.TheVariants.{Workload}
 use Rattle.df_top.proofs.Causes.{refused_causes, refused_never}
@@ -46,7 +46,7 @@ returns-clause-works g c = λ left t told whole.
 pub returns-in-Ok-clause-causes : goal.returns-in-Ok-clause-causes
 returns-in-Ok-clause-causes g c = λ source.
     run_causes c.work-worked.new.run.generator c.work-worked.new.run.replica c.work-worked.result (g.D.Disk.faults c.args.disk.now) (g.D.Disk.faults c.work-worked.new.disk) source (g.W.Sink.faults c.args.sink.now) (g.W.Sink.faults c.tell.new.sink) (g.W.Sink.written c.args.sink.now) (g.W.Sink.written c.tell.new.sink)
-    c.tell.result c.tell.ensures.prints (subst (λ (n : ℕ). IsBlamed is_disk n (g.D.Disk.faults c.work-worked.new.disk) c.work-worked.result) c.in-Ok.ensures.cause c.work-worked.ensures.disk) c.tell.ensures.sink
+    c.tell.result c.tell.ensures.prints (subst (λ (n : ℕ). IsBlamed is_disk_fault n (g.D.Disk.faults c.work-worked.new.disk) c.work-worked.result) c.in-Ok.ensures.cause c.work-worked.ensures.disk) c.tell.ensures.sink
 
 pub returns-clause-causes : goal.returns-clause-causes
 returns-clause-causes g c = λ source.

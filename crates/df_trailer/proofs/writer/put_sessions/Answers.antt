@@ -1,7 +1,7 @@
 use Rattle.std.proofs.Common.{◌≡◌, ◌++◌, ℕ, List, [], ◌∷◌, get_or, arith, length, take, sym, ap, ◌∙◌, None}
 use Rattle.std.proofs.lemmas.List.{take_all}
 use Rattle.df_sessions.specs.declared.session.Session.{Session}
-use Rattle.df_trailer.specs.Rooms.{session_of}
+use Rattle.df_trailer.specs.Rooms.{trailer_session}
 use Rattle.df_trailer.specs.Spelling.{spell_sessions}
 use Rattle.df_trailer.specs.Writing.{sessions_of}
 use Rattle.df_trailer.proofs.Shown.{sessions_more, shown_all, size_before}
@@ -17,7 +17,7 @@ loop-session-preserved c = (
       let d : Session = record { client = 0; request = 0; op = 0; reply = None } in
       let done : List ℕ = text ++ spell_sessions (sessions_of (take i ss)) in
       let n : length done ≡ c.loop-session.at = size_before text ss i c.args.start size (omega arith) ∙ sym c.loop-session.invariant.0 in
-      shown_all c.args.from c.put_session-at.new.room (done ++ spell_sessions (session_of (get_or ss i d) ∷ [])) _ (sessions_more text ss i d (omega arith))
+      shown_all c.args.from c.put_session-at.new.room (done ++ spell_sessions (trailer_session (get_or ss i d) ∷ [])) _ (sessions_more text ss i d (omega arith))
       (c.put_session-at.ensures.shown done n (c.loop-session.invariant.2 text size were)),
 )
 

@@ -4,7 +4,7 @@ use Rattle.df_base.specs.Fields.{spelled}
 use Rattle.df_base.proofs.Laws.{length-spelled}
 use Rattle.df_units.specs.Meaning.{layout_of}
 use Rattle.df_trailer.specs.Spelling.{spell, spell_checks, spell_sessions}
-use Rattle.df_trailer.specs.Writing.{IsShown, captured_bits, captured_blocks, captured_parts, sessions_of}
+use Rattle.df_trailer.specs.Writing.{IsPieceShown, captured_bits, captured_blocks, captured_parts, sessions_of}
 use Rattle.df_trailer.proofs.Sessions.{so_sessions}
 use Rattle.df_trailer.proofs.Shown.{length_of, same_text, window_is}
 use Rattle.df_trailer.proofs.writer.put_window.Goals as goal
@@ -28,7 +28,7 @@ returns-clause-shown g c =
     let n2 : length t2 ≡ c.put_u32-at.result = omega (arith, n1, length-append t1 (spelled 4 n), length-spelled 4 n, c.put_u32-at.ensures.next) in
     let n3 : length t3 ≡ c.put_sessions-at.result = omega (arith, n2, length-append t2 ss, (so_sessions (sessions_of c.args.sessions.now)).size, length_of c.args.sessions.now, c.put_sessions-at.ensures.next) in
     let n4 : length t4 ≡ c.put_bits-at.result = omega (arith, n3, length-append t3 (spelled q x), length-spelled q x, c.put_bits-at.ensures.next) in
-    let shown : IsShown t5 c.args.from c.put_checks-end.new.room =
+    let shown : IsPieceShown t5 c.args.from c.put_checks-end.new.room =
     c.put_checks-end.ensures.shown t4 n4 (c.put_bits-at.ensures.shown t3 n3 (c.put_sessions-at.ensures.shown t2 n2 (c.put_u32-at.ensures.shown t1 n1 c.put_root-at.ensures.shown))) in
     let same : t5 ≡ spell (layout_of c.args.layout.now) (captured_parts root c.args.sessions.now f) =
     same_text (spelled 4 (length root)) root (spelled 4 n) ss (spelled q x) cs

@@ -9,13 +9,13 @@ use Rattle.df_format.specs.declared.superblock.SuperFields.{SuperFields}
 use Rattle.df_units.proofs.Laws.{steps_within}
 use Rattle.df_model.specs.Faults.{is_mend_fault, is_open_fault}
 use Rattle.df_model.specs.declared.errors.OpenError.{OpenError}
-use Rattle.df_damage.specs.Anew.{begun}
+use Rattle.df_damage.specs.Anew.{restarted}
 use Rattle.df_damage.specs.Surveying.{TellsSurveyAs}
 use Rattle.df_opening.specs.Keeping.{format}
 use Rattle.df_opening.specs.Survey.{Survey}
 use Rattle.df_opening.proofs.Laws.{blamed_open, fault_adds, front_moments, front_spares, mend_stops, no_refusal, own_raising, planned_same, raising_spares, refused_tells}
 use Rattle.df_upgrade.specs.Base.{base_fields}
-use Rattle.df_upgrade.specs.Upgrading.{StaysBare, upgrading_events, upgrading_steps}
+use Rattle.df_upgrade.specs.Upgrading.{UpgradeStaysBare, upgrading_events, upgrading_steps}
 use Rattle.df_upgrade.proofs.Asked.{hurt_old, stands_old}
 use Rattle.df_upgrade.proofs.upgraded.upgrade_file.Goals as goal
 
@@ -53,7 +53,7 @@ returns-in-Ok-upgrade_surveyed-clause-upgraded g c = λ t is.
       };
       own = own_raising 1 (base_fields s.state) c.args.rooms.layout (g.D.Disk.told c.args.disk.now) t s is c.in-Ok.ensures.kept c.in-Ok.ensures.answer c.in-Ok.ensures.mends;
       anew = λ view whole found distinct.
-          c.in-Ok-upgrade_surveyed.ensures.anew t view (planned_same s.state.file s.state.headers s.mends s.state.fields s.chosen.members (did Sync t) (begun t) refl plan) whole found distinct (stands_old c.args.rooms.layout t s.state view c.in-Ok.ensures.kept answer whole found);
+          c.in-Ok-upgrade_surveyed.ensures.anew t view (planned_same s.state.file s.state.headers s.mends s.state.fields s.chosen.members (did Sync t) (restarted t) refl plan) whole found distinct (stands_old c.args.rooms.layout t s.state view c.in-Ok.ensures.kept answer whole found);
     }
 
 pub returns-in-Err-upgrade_surveyed-clause-answer : goal.returns-in-Err-upgrade_surveyed-clause-answer
@@ -95,7 +95,7 @@ returns-in-Err-upgrade_surveyed-clause-stopped g c = λ t is whole fault.
         part = subst (λ (o : Option Told). AddsPart es o (g.D.Disk.told c.upgrade_surveyed.new.disk)) synced adds;
       };
       anew = λ view image found distinct.
-          let by = c.in-Err-upgrade_surveyed.ensures.anew t view (planned_same s.state.file s.state.headers s.mends s.state.fields s.chosen.members (did Sync t) (begun t) refl plan) image found distinct
+          let by = c.in-Err-upgrade_surveyed.ensures.anew t view (planned_same s.state.file s.state.headers s.mends s.state.fields s.chosen.members (did Sync t) (restarted t) refl plan) image found distinct
           (stands_old c.args.rooms.layout t s.state view c.in-Ok.ensures.kept answer image found) in
-          (front_moments es (begun t) part.part part.again (StaysBare s.state.file view (base_fields s.state)) by.moments, by.bare);
+          (front_moments es (restarted t) part.part part.again (UpgradeStaysBare s.state.file view (base_fields s.state)) by.moments, by.bare);
     }))

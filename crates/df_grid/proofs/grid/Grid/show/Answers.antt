@@ -5,7 +5,7 @@ use Rattle.df_format.specs.declared.kind.Kind.TheVariants.{Block}
 use Rattle.df_model.specs.Blocks.{sum_at}
 use Rattle.df_units.specs.Meaning.{block_of, number_of}
 use Rattle.df_trailer.specs.Rooms.{number_in}
-use Rattle.df_grid.specs.Grid.{GridState, IsKnownUnit}
+use Rattle.df_grid.specs.Grid.{GridState, IsKnownBlock}
 use Rattle.df_grid.specs.Reads.{ReadsBlock}
 use Rattle.df_grid.proofs.Reading.{shows_block, shows_other_block, shows_valid}
 use Rattle.df_grid.proofs.grid.Grid.show.Goals as goal
@@ -42,7 +42,7 @@ returns-in-None g c =
         block = subst (λ (v : GridState). ReadsBlock v.layout v.cluster (g.D.Disk.told c.args.disk.now) c.args.address (sum_at c.args.address v.blocks.live) (Ok (block_of c.unit.result.now.unit))) c.self.view_is
             (shows_block s.layout s.cluster c.args.address c.in-Some.checksum c.known_at-identity.ensures.check (g.D.Disk.told c.args.disk.now) c.known_at-identity.result c.known_at-identity.ensures.identity c.in_ok-class.field-0 c.load.new.self.held (sum_at c.args.address s.table.blocks.live) c.unit.result.now c.in-None.is c.unit.ensures c.in_ok-class.ensures.holds c.in_ok-class.ensures.read sum);
         class = tt;
-        valid = subst (λ (v : GridState). IsKnownUnit Block v.layout v.cluster c.args.address (sum_at c.args.address v.blocks.live) c.unit.result.now.unit) c.self.view_is
+        valid = subst (λ (v : GridState). IsKnownBlock Block v.layout v.cluster c.args.address (sum_at c.args.address v.blocks.live) c.unit.result.now.unit) c.self.view_is
             (shows_valid s.layout s.cluster c.args.address c.in-Some.checksum c.known_at-identity.ensures.check (g.D.Disk.told c.args.disk.now) c.known_at-identity.result c.known_at-identity.ensures.identity c.in_ok-class.field-0 c.load.new.self.held Block (sum_at c.args.address s.table.blocks.live) c.unit.result.now c.in-None.is c.unit.ensures c.in_ok-class.ensures.holds sum);
         same = c.load.ensures.same;
         cause = record { later = c.in_ok-class.ensures.cause.later; failed = tt; same = c.in_ok-class.ensures.cause.same };

@@ -3,7 +3,7 @@ use Rattle.std.proofs.Common.{◌≡◌, List, [], length, take, map, ap, subst,
 use Rattle.std.proofs.lemmas.List.{length-map}
 use Rattle.df_model.specs.Blocks.{blocks_captured}
 use Rattle.df_grid.specs.declared.entry.Entry.{Entry}
-use Rattle.df_grid.specs.Table.{AreCounts, IsTable, TableState, blocks_in, capturing, is_captured, open_from, picked, unheld}
+use Rattle.df_grid.specs.Table.{AreCounts, IsGridTable, TableState, blocks_in, capturing, is_captured, open_from, picked, unheld}
 use Rattle.df_grid.proofs.Held.{unheld_open}
 use Rattle.df_grid.proofs.Free.{open_count}
 use Rattle.df_grid.proofs.Captures.{captured_blocks, captured_kept, no_pairs}
@@ -23,7 +23,7 @@ invariant_of-self c = let s = c.self.inside in
     let written = no_pairs s.entries s.written.items (ap (λ (v : TableState). v.blocks.written) c.self.view_is ∙ c.requires.idle.written) in
     let left : s.left.items ≡ [] = ap (λ (v : TableState). v.blocks.left) c.self.view_is ∙ c.requires.idle.left in
     let captured : picked is_captured 1 s.entries ≡ [] = ap (λ (v : TableState). v.blocks.captured) c.self.view_is ∙ c.requires.idle.captured in
-    let idle : IsTable s.entries s.free [] [] s.chain.items = subst (λ l. IsTable s.entries s.free [] l s.chain.items) left (subst (λ l. IsTable s.entries s.free l s.left.items s.chain.items) written c.self.invariant.0) in
+    let idle : IsGridTable s.entries s.free [] [] s.chain.items = subst (λ l. IsGridTable s.entries s.free [] l s.chain.items) left (subst (λ l. IsGridTable s.entries s.free l s.left.items s.chain.items) written c.self.invariant.0) in
     let counts = subst (λ (l : List Entry). AreCounts l (length l) c.count_captured-self-inside.result.items) c.capture_all.ensures c.count_captured-self-inside.ensures in
     rw (c.capture_all.ensures, written) (
       captured_kept s.entries s.free s.chain.items idle captured c.args.blocks c.requires.few c.take_least-self-inside.new.free c.take_least-self-inside.result.items c.take_least-self-inside.ensures,
@@ -35,7 +35,7 @@ returns c = let s = c.self.inside in
     let written = no_pairs s.entries s.written.items (ap (λ (v : TableState). v.blocks.written) c.self.view_is ∙ c.requires.idle.written) in
     let left : s.left.items ≡ [] = ap (λ (v : TableState). v.blocks.left) c.self.view_is ∙ c.requires.idle.left in
     let captured : picked is_captured 1 s.entries ≡ [] = ap (λ (v : TableState). v.blocks.captured) c.self.view_is ∙ c.requires.idle.captured in
-    let idle : IsTable s.entries s.free [] [] s.chain.items = subst (λ l. IsTable s.entries s.free [] l s.chain.items) left (subst (λ l. IsTable s.entries s.free l s.left.items s.chain.items) written c.self.invariant.0) in
+    let idle : IsGridTable s.entries s.free [] [] s.chain.items = subst (λ l. IsGridTable s.entries s.free [] l s.chain.items) left (subst (λ l. IsGridTable s.entries s.free l s.left.items s.chain.items) written c.self.invariant.0) in
     let free = unheld_open s.entries s.free [] [] s.chain.items idle in
     rw (← c.self.view_is, c.capture_all.ensures, written, left, free)
     (viewed s.entries (map capturing s.entries) [] c.take_least-self-inside.result.items s.chain.items (blocks_captured (blocks_in s.entries [] [] s.chain.items) (take c.args.blocks (open_from 1 s.free)))

@@ -7,7 +7,7 @@ use Rattle.df_format.specs.Making.{for_body}
 use Rattle.df_format.specs.Own.{own_place}
 use Rattle.df_format.specs.Rules.{ObeysRules}
 use Rattle.df_format.specs.Spelling.{IsCheck}
-use Rattle.df_sessions.specs.Table.{IsTable}
+use Rattle.df_sessions.specs.Table.{IsSessionTable}
 use Rattle.df_opening.specs.Below.{IsState, State, state_in}
 use Rattle.df_replica.specs.Replying.{first_check, reply_given}
 use Rattle.df_replica.proofs.ReplyGiven.{given_own, given_rules, header_is, place_small}
@@ -36,7 +36,7 @@ pub returns-clause-rules : goal.returns-clause-rules
 returns-clause-rules c =
     let value = returns-clause-value c in
     let is = subst IsState c.self.view_is c.self.invariant.state in
-    let table = subst IsTable (ap (λ (s : State). s.table) c.self.view_is) c.place_of_op-place.ensures.table in
+    let table = subst IsSessionTable (ap (λ (s : State). s.table) c.self.view_is) c.place_of_op-place.ensures.table in
     let parent = subst IsCheck c.first_waiting-parent.ensures.value c.first_waiting-parent.ensures.check in
     let small = subst (λ (n : ℕ). n < 2 ^ 128) (ap (λ (h : Header). h.client) value) c.client_of-client.ensures.small in
     subst (λ (h : Header). ObeysRules (for_body h c.args.body.now)) (sym value) (given_rules c.args.self.now is table c.requires.waits c.args.body.now c.requires parent small)
@@ -44,5 +44,5 @@ returns-clause-rules c =
 pub returns-clause-own : goal.returns-clause-own
 returns-clause-own c =
     let is = subst IsState c.self.view_is c.self.invariant.state in
-    let table = subst IsTable (ap (λ (s : State). s.table) c.self.view_is) c.place_of_op-place.ensures.table in
+    let table = subst IsSessionTable (ap (λ (s : State). s.table) c.self.view_is) c.place_of_op-place.ensures.table in
     subst (λ (h : Header). IsSome (own_place c.args.self.now.file.layout ClientReplies h)) (sym (returns-clause-value c)) (given_own c.args.self.now is table c.requires.waits)

@@ -2,7 +2,7 @@
 use Rattle.std.proofs.Common.{◌≡◌, ℕ, ◌∙◌, ap, subst}
 use Rattle.std.specs.Prelude.{option_map}
 use Rattle.df_sessions.specs.Requests.{session_of}
-use Rattle.df_model.specs.Refusals.{counted, session_of_client}
+use Rattle.df_model.specs.Refusals.{counted_staged, session_of_client}
 use Rattle.df_opening.specs.Below.{State, memory, state_in}
 use Rattle.df_replica.specs.Flushing.{sessions_staged}
 use Rattle.df_replica.proofs.StageTests.{all_staged}
@@ -15,5 +15,5 @@ pub returns-clause-why : goal.returns-clause-why
 returns-clause-why c = λ body size.
     let s : State = state_in c.self.inside.parts in
     let last = subst (λ (n : ℕ). session_of_client c.args.client (sessions_staged s.table.sessions s.staged s.head n) ≡ option_map session_of c.session_staged-last.result) c.len.ensures.count c.session_staged-last.ensures.session in
-    c.request_refusal.ensures (counted (memory c.args.self.now)) body c.staged_counters.ensures
-    (subst (λ (t : State). session_of_client c.args.client (counted (memory t)).sessions ≡ option_map session_of c.session_staged-last.result) c.self.view_is (ap (session_of_client c.args.client) (all_staged s) ∙ last)) size
+    c.request_refusal.ensures (counted_staged (memory c.args.self.now)) body c.staged_counters.ensures
+    (subst (λ (t : State). session_of_client c.args.client (counted_staged (memory t)).sessions ≡ option_map session_of c.session_staged-last.result) c.self.view_is (ap (session_of_client c.args.client) (all_staged s) ∙ last)) size

@@ -1,7 +1,7 @@
 -- The counters of what is in memory, as if what is staged were appended.
 use Rattle.std.proofs.Common.{◌≡◌, List, length, sym, ◌∙◌, ap, subst, arith}
 use Rattle.df_theory.specs.Units.{Session}
-use Rattle.df_model.specs.Refusals.{counted}
+use Rattle.df_model.specs.Refusals.{counted_staged}
 use Rattle.df_opening.specs.Below.{State, memory, state_in}
 use Rattle.df_replica.proofs.StageTests.{all_staged}
 use Rattle.df_replica.proofs.replica.Replica.staged_counters.Goals as goal
@@ -17,7 +17,7 @@ returns c =
       head = omega (arith, told.head, c.len.ensures.count, ap (λ (s : State). length s.staged) c.self.view_is);
       replies = told.replies;
       sessions =
-          subst (λ (s : State). length (counted (memory s)).sessions ≡ c.places_staged.result) c.self.view_is
+          subst (λ (s : State). length (counted_staged (memory s)).sessions ≡ c.places_staged.result) c.self.view_is
           (ap (λ (ss : List Session). length ss) (all_staged (state_in c.self.inside.parts)) ∙ sym c.places_staged.ensures);
       places = told.places;
       slots = told.slots;

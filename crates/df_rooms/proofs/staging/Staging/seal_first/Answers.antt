@@ -4,14 +4,14 @@ use Rattle.df_format.specs.Making.{for_body}
 use Rattle.df_format.specs.Message.{Message, sectors_end}
 use Rattle.df_format.specs.Spelling.{sealed}
 use Rattle.df_model.specs.Work.{Request}
-use Rattle.df_rooms.specs.Stagings.{Staged, first_of}
+use Rattle.df_rooms.specs.Stagings.{Staged, first_request}
 use Rattle.df_rooms.proofs.Stagings.{first_body, first_fit}
 use Rattle.df_rooms.proofs.staging.Staging.seal_first.Goals as goal
 
 pub returns-clause-sealed : goal.returns-clause-sealed
 returns-clause-sealed c =
     let some = subst (λ (rs : List Request). 0 < length rs) (sym (ap (λ (s : Staged). s.requests) c.self.view_is)) c.requires.some in
-    let body : c.remove-held.result.room.body ≡ (first_of c.args.self.now.requests).body = first_body c.self.inside.staged.items c.remove-held.result some c.remove-held.ensures.value ∙ ap (λ (s : Staged). (first_of s.requests).body) c.self.view_is in
+    let body : c.remove-held.result.room.body ≡ (first_request c.args.self.now.requests).body = first_body c.self.inside.staged.items c.remove-held.result some c.remove-held.ensures.value ∙ ap (λ (s : Staged). (first_request s.requests).body) c.self.view_is in
     record {
       held = c.seal-unit.result;
       layout = c.seal-unit.ensures.layout ∙ first_fit c.self.inside.layout c.self.inside.staged.items c.remove-held.result some c.remove-held.ensures.value c.self.invariant.held_fit ∙ ap (λ (s : Staged). s.layout) c.self.view_is;

@@ -3,7 +3,7 @@ use Rattle.std.proofs.Common.{◌≡◌, ℕ, ◌+◌, ◌-◌, ◌*◌, List, [
 use Rattle.std.proofs.lemmas.Bool.{false≢true}
 use Rattle.std.proofs.lemmas.List.{drop_all, length-drop, length-take}
 use Rattle.df_rows.specs.Tables.{Table}
-use Rattle.df_rows.specs.Blocks.{Takes}
+use Rattle.df_rows.specs.Blocks.{TableTakes}
 use Rattle.df_rows.proofs.Taken.{Carries, carries_more, refused_first, row_cut, taken_none, whole_rows}
 use Rattle.df_rows.proofs.table.ObjectTable.with_block.Goals as goal
 
@@ -18,7 +18,7 @@ returns-then-not-take_row-clause-none c =
     let size : length row ≡ 64 = omega (arith, length-take (64 * (c.loop-k.k + 1) - 64 * c.loop-k.k) rest, length-drop (64 * c.loop-k.k) c.args.body.now, c.loop-k-test.true) in
     c.loop-k.invariant.none (λ more takes.
     refused_first c.loop-k.self row (drop (64 * (c.loop-k.k + 1)) c.args.body.now) more size c.if-not-take_row.ensures.refused
-    (subst (λ (l : List ℕ). Takes c.loop-k.self l more) (row_cut c.args.body.now c.loop-k.k) takes))
+    (subst (λ (l : List ℕ). TableTakes c.loop-k.self l more) (row_cut c.args.body.now c.loop-k.k) takes))
 
 pub loop-k-preserved : goal.loop-k-preserved
 loop-k-preserved c =
@@ -33,4 +33,4 @@ pub returns-clause-taken : goal.returns-clause-taken
 returns-clause-taken c =
     let nothing : drop (64 * c.loop-k.k) c.args.body.now ≡ [] =
     drop_all (64 * c.loop-k.k) c.args.body.now (omega (arith, c.is_multiple_of.ensures.0 c.if-not-is_multiple_of.false, c.loop-k-test.false)) in
-    c.loop-k.invariant.whole [] (subst (λ (l : List ℕ). Takes c.loop-k.self l []) (sym nothing) (taken_none c.loop-k.self))
+    c.loop-k.invariant.whole [] (subst (λ (l : List ℕ). TableTakes c.loop-k.self l []) (sym nothing) (taken_none c.loop-k.self))

@@ -1,6 +1,6 @@
 -- The run stays sound, and its room has the body that was drawn last.
 use Rattle.std.proofs.Common.{◌≡◌, ◌<◌, false, subst, sym}
-use Rattle.df_workload.specs.Sound.{IsSound, MayBeTold, is_at_end, left}
+use Rattle.df_workload.specs.Sound.{IsSoundState, MayBeTold, is_at_end, left}
 use Rattle.df_workload.specs.declared.state.State.{State}
 use Rattle.df_workload.proofs.Nearing.{heard_on, some_left}
 use Rattle.df_workload.proofs.generator.Generator.hear.Goals as goal
@@ -9,7 +9,7 @@ pub invariant_of-self : goal.invariant_of-self
 invariant_of-self c =
     let o = c.args.outcome in
     let may = subst (λ (s : State). MayBeTold s.point o s) (sym c.self.view_is) c.requires in
-    (subst IsSound (sym c.hear.ensures) (heard_on o c.self.inside.state c.self.invariant.0 may).sound, c.fill.ensures)
+    (subst IsSoundState (sym c.hear.ensures) (heard_on o c.self.inside.state c.self.invariant.0 may).sound, c.fill.ensures)
 
 pub returns-clause-less : goal.returns-clause-less
 returns-clause-less c =
