@@ -175,4 +175,4 @@ next_spare es taken written more chain a i old is there at = is.spare a i old th
 
 -- and is one of the table's
 pub next_inside : (es : List Entry) (taken : List Bool) (written more chain : List ℕ) (a : ℕ) → IsGridTable es taken written (a ∷ more) chain → HasEntry es a
-next_inside es taken written more chain a is = is.inside a (or_right (is_in a written) (or_left (a == a) (is_in a more) (eq-eqb a a refl)))
+next_inside es taken written more chain a is = is.inside a (or_right (is_in a written) _ (or_left (a == a) (is_in a more) (eq-eqb a a refl)))
