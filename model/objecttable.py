@@ -14,6 +14,7 @@ sys.path.insert(0, os.path.dirname(os.path.abspath(__file__)))
 
 from device import DISK, READ, End, File, fill_streams, tell
 from tries import objects
+from tries.script import Outcome
 
 
 def script() -> bytes:
@@ -34,7 +35,11 @@ def act(words: list) -> int:
     file = File(path)
     file.opened()
     data = whole(file)
-    ran = objects.run(data, script() if not objects.recovery.found(data).refusal else b"")
+    return carry_out(file, objects.run(data, script() if not objects.recovery.found(data).refusal else b""))
+
+
+def carry_out(file: File, ran: Outcome) -> int:
+    """Does the events of a run, and gives its status."""
     for event in ran.events:
         if event.kind == "write":
             file.write(event.at, event.data)

@@ -154,10 +154,8 @@ def bodies_of(rows: dict, layout: Layout) -> list:
 class Session:
     """A script over the table of an opened file: its events, and the map after each that changes it."""
 
-    def __init__(self, data: bytes, opened: recovery.Found):
-        self.machine = Machine(opened, Image(data))
-        self.events = opens(opened, self.machine)
-        self.rows = found(self.machine)
+    def __init__(self, machine: Machine, events: list, rows: Union[dict, str]):
+        self.machine, self.events, self.rows = machine, events, rows
         # The map of the opening and that after each put or drop, with the numbers of events from which it may be found after
         # a stop, and from which it is durable.
         self.spans = [(dict(self.rows), 0, 0)] if isinstance(self.rows, dict) else []
@@ -216,7 +214,13 @@ def run(data: Optional[bytes], text: bytes) -> Ran:
     opened = recovery.found(data)
     if opened.refusal:
         return Ran(data, REFUSED, ([] if opened.early else [SYNC]) + [answer(f"refused {opened.refusal}")])
-    session = Session(data, opened)
+    machine = Machine(opened, Image(data))
+    events = opens(opened, machine)
+    return execute(data, Session(machine, events, found(machine)), text)
+
+
+def execute(data: bytes, session: Session, text: bytes) -> Ran:
+    """A script over the table of an opened file, or the refusal of one that has none."""
     if isinstance(session.rows, str):
         return Ran(data, REFUSED, session.events + [answer(f"refused {session.rows}")], (), session.machine)
     session.catch_up()

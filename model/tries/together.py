@@ -1,0 +1,189 @@
+"""One file under all five programs: runs of each, ended at any moment, against the plain history of the file."""
+
+import signal
+from typing import NamedTuple, Optional
+
+import reader
+
+from . import form, lives, noting, objects, plain, script, stops, words, workload
+from .binary import Binary, expect, has_strace, require
+from .common import Try, same_bytes
+from .form import GRID, SECTOR, Place
+from .grid import Event, answer
+from .plain import Plain, State
+
+NAMES = ("datafile", "objecttable", "filecopy", "filemirror", "notes")
+# So many earlier files of a life are kept, of which damage may bring sectors back.
+EARLIER = 24
+
+
+class Life:
+    """A file as the disk shows it and as it was written, what it has, each state that it had since the last open that raised its boot, some of the
+    files that it was, and the copies that were taken of it."""
+
+    def __init__(self, programs: dict, kind: str, data: bytes, state: State):
+        self.programs, self.kind = programs, kind
+        self.begins(data, state)
+
+    def begins(self, data: bytes, state: State) -> None:
+        """The file is another one from here on: a copy, or one that was upgraded."""
+        self.home, self.data, self.good, self.state = state.home, data, data, state
+        self.since, self.earlier, self.copies = [state], [data], [data]
+        # Whether the last run came as far as its boot, so that nothing of an earlier one can come back.
+        self.raised = True
+
+    def is_hurt(self, image: bytes, place: Place) -> bool:
+        """Whether a place doesn't show all that was written there."""
+        return any(form.sector(image, at) != form.sector(self.good, at) for at in plain.sectors_of(self.home.layout, place))
+
+    def hurt(self, place: Place) -> bool:
+        return self.is_hurt(self.data, place)
+
+    def takes(self, t: Try, data: bytes, events: list, state: State) -> None:
+        """The file after these events. What was hurt and isn't written stays hurt, of the blocks that the state has; all else counts as it is shown."""
+        written = {(event.at + at) // SECTOR for event in events if event.kind == "write" for at in range(0, len(event.data), SECTOR)}
+        kept = [at for address, _ in state.blocks for at in plain.sectors_of(self.home.layout, Place(GRID, address)) if at not in written]
+        old = [Event("write", SECTOR * at, form.sector(self.good, at)) for at in kept if SECTOR * at < len(self.good)]
+        self.earlier = (self.earlier + lives.settled(t, self.data, events) + [data])[-EARLIER:]
+        self.data, self.good, self.state = data, script.state(data, [one for one in old if any(one.data)]), state
+
+
+class Told(NamedTuple):
+    """A run as the plain history has it: the states and the answers in order, and the status."""
+
+    events: list
+    status: int
+
+    def states(self) -> list:
+        return [event.data for event in self.events if event.kind == "state"]
+
+    def after(self, answers: int) -> list:
+        """The states that a stop after so many answers may leave: it keeps each answered line, and of the next one what was begun."""
+        listed, seen = [], 0
+        for event in self.events:
+            if event.kind == "answer":
+                seen += 1
+                if seen > answers:
+                    break
+            else:
+                listed = [event.data] if seen < answers else listed + [event.data]
+        return listed
+
+
+def outcome(name: str, data: Optional[bytes], listed: list, text: bytes):
+    """What the model has of a run over one file."""
+    if name == "datafile":
+        return words.command(data, listed, text)
+    return objects.command(data, listed, text) if name == "objecttable" else noting.run(data, text)
+
+
+def told_of(state: State, name: str, listed: list, text: bytes) -> Told:
+    """What the plain history has of it."""
+    first, now = [Event("state", data=state)], Plain(state)
+    if name == "objecttable":
+        ran = objects.execute(b"", objects.Session(now, first, plain.rows_of(state)), text)
+        return Told(ran.events, ran.status)
+    if name == "notes":
+        fits = state.home.layout == form.SMALL
+        events, status = noting.keep(now, text) if fits else ([], script.REFUSED)
+        return Told(first + events, status)
+    if listed[0] in ("run", "paced"):
+        ran = script.execute(b"", first, now, text, tuple(map(int, listed[1:])) or (0, 0, 0))
+        return Told(ran.events, ran.status)
+    if listed[0] == "workload":
+        lines = workload.counted(now, int(listed[1]), int(listed[2]), first, [])
+    elif listed[0] == "scrub":
+        lines = [f"tour {len(now.known())}"]
+    else:
+        lines = {"recover": state.summary(), "inspect": state.report()}.get(listed[0], ["refused"])
+    return Told(first + [answer(line) for line in lines], script.REFUSED if lines == ["refused"] else script.DONE)
+
+
+def says(life: Life, what: str, wanted: Told, text: bytes, status: int) -> None:
+    """What was printed is what the plain history has; of a block whose place is hurt it may be said that it isn't shown."""
+    told, got = [event.data.decode("latin-1")[:-1] for event in wanted.events if event.kind == "answer"], text.decode("latin-1").split("\n")[:-1]
+    hurt = [line.split() for line in got if line.startswith(("failing", "refused Damaged Grid"))]
+    for one in hurt:
+        require(f"{what}: {' '.join(one)}: this place is hurt", life.hurt(Place(GRID, int(one[1 if one[0] == "failing" else 3]))))
+    if what.split()[0] == "objecttable" and hurt:
+        return
+    got = [line for line in got if not line.startswith(("failing", "mend ", "findings "))]
+    require(f"{what}: {len(told)} lines are printed, but there are {len(got)}", len(told) == len(got))
+    for one, two in zip(told, got):
+        require(f"{what}: `{one}` is printed, but not `{two}`", is_said(life, one, two))
+    require(f"{what}: the status is {wanted.status}, but not {status}", status == wanted.status or status == script.FOUND and wanted.status == script.DONE)
+
+
+def is_said(life: Life, told: str, got: str) -> bool:
+    """Whether a line is the one that the plain history has. Why a line is refused is the model's."""
+    if told == got:
+        return True
+    one, two = told.split(), got.split()
+    if one[:1] == ["checked"]:
+        return one[:2] == two[:2] and life.hurt(Place(GRID, int(one[1])))
+    if one[:1] in (["tour"], ["recent"], ["refused"]):
+        return two[: len(one)] == one
+    return one[:1] == ["block"] and two[:3] == ["refused", "Damaged", "Grid"] and one[1] == two[3]
+
+
+def went(t: Try, life: Life, what: str, events: list, image: bytes, wanted: Told, answers: Optional[int]) -> None:
+    """The file that a run left, at its end or ended after so many answers: it has a state that the plain history has then."""
+    boot = plain.read(life.data)[1]
+    try:
+        found, now = plain.read(image)
+    except reader.Refused as why:
+        require(f"{what}: the file opens, but it is refused {why}", False)
+    states = wanted.states()
+    listed = states[-1:] if answers is None else wanted.after(answers)
+    life.takes(t, image, events, found)
+    fits = [one for one in listed if plain.is_read_as(one, found, life.hurt)]
+    require(f"{what}: the file has head {found.head()}, {found.replies} replies and sequence {found.sequence}, and should have one of "
+            f"{[(one.head(), one.replies, one.sequence) for one in listed]}; or else what it has differs", bool(fits))
+    life.state = fits[-1]
+    if answers is not None:
+        t.counts["stops that kept the answered ones" if fits[-1] == listed[0] else "stops that kept more"] += 1
+    had = states[: 1 + max(at for at, one in enumerate(states) if one == life.state)]
+    life.since = list(dict.fromkeys(had if now > boot else life.since + had))
+    life.raised = now > boot or life.raised and not any(event.kind == "write" for event in events)
+
+
+def ended(t: Try, life: Life, name: str, listed: list, text: bytes, wanted) -> tuple:
+    """A run that is ended at a moment: with how many of its events, and the file that the disk then has. Sometimes the program itself is killed."""
+    upto = stops.moment(t, wanted.events)
+    binary: Binary = life.programs[name]
+    event = wanted.events[upto] if upto < len(wanted.events) else None
+    if has_strace() and event and event.kind in ("write", "sync") and t.random.random() < 0.25:
+        call = {"write": "pwrite64", "sync": "fdatasync"}[event.kind]
+        number = sum(one.kind == event.kind for one in wanted.events[: upto + 1])
+        binary.put(life.data)
+        got, _ = binary.trace(text, [f"{call}:signal=SIGKILL:when={number}"], words=listed)
+        expect(f"{name} killed at {call} {number}: status", -signal.SIGKILL, got.status)
+        expect(f"{name} killed at {call} {number}: text", script.answers(wanted.events[:upto]), got.text)
+        same_bytes(f"{name} killed at {call} {number}", script.state(life.data, wanted.events[:upto]), binary.get())
+        t.counts["programs that were killed"] += 1
+    return upto, stops.stop(t, life.data, wanted.events, upto)
+
+
+def run(t: Try, life: Life, name: str, listed: list, text: bytes = b"", stopped: float = 0.35) -> None:
+    """A run of a program of one file."""
+    what = " ".join([name, *listed])
+    wanted, told = outcome(name, life.data, listed, text), told_of(life.state, name, listed, text)
+    if wanted.events and t.random.random() < stopped:
+        upto, image = ended(t, life, name, listed, text, wanted)
+        answers = sum(event.kind == "answer" for event in wanted.events[:upto])
+        t.counts[f"runs of {name} that were ended"] += 1
+        went(t, life, f"{what}, ended after {upto} events", wanted.events[:upto], image, told, answers)
+        return
+    binary: Binary = life.programs[name]
+    binary.put(life.data)
+    got = binary.run(text, listed)
+    expect(f"{what}: text", wanted.text, got.text)
+    expect(f"{what}: status", wanted.status, got.status)
+    same_bytes(what, wanted.data, binary.get())
+    says(life, what, told, got.text, got.status)
+    t.counts[f"runs of {' '.join([name, *listed[:1]]) if name == 'datafile' else name}, status {got.status}"] += 1
+    if name == "objecttable" and got.text.startswith((b"refused", b"count 0")):
+        t.counts[f"tables: {' '.join(got.text.decode().split()[:3])}"] += 1
+    # Of a block of rows that isn't shown the plain history knows nothing: nothing is put then.
+    whole = Told(told.events[:1], got.status) if name == "objecttable" and got.text.startswith(b"refused Damaged") else told
+    went(t, life, what, wanted.events, binary.get(), whole, None)
