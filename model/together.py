@@ -2,10 +2,10 @@
 
     python3 model/together.py FOLDER [--seconds N] [--seed N] [--first N]
 
-FOLDER has the programs as `crates` does once they are built (NAME/out/NAME), or by their names alone; for `model` they are those in Python. Each try is the
-life of a file: made by `datafile` or by `notes`, or of version 1 and upgraded. Runs of the programs follow one another, ended at random moments, with what
-wasn't synced kept, lost or torn, and sectors hurt between them. Prints what was tried, or the first disagreement and the command that tries it again.
-See docs/evidence/MODEL-TRIES.md.
+FOLDER has the programs as `crates` does once they are built (NAME/out/NAME), or by their names alone; for `model` they are those in Python. Each try
+is the life of a file: made by `datafile` or by `notes`, or of version 1 and upgraded. Runs of the programs follow one another, ended at random moments,
+with what wasn't synced kept, lost or torn, and sectors hurt between them. Prints what was tried, or the first disagreement and the command that tries it
+again. See docs/evidence/MODEL-TRIES.md.
 """
 
 import sys
@@ -104,6 +104,7 @@ def upgraded(t: Try, programs: dict, kind: str, home: Home) -> Life:
             data = stops.stop(t, data, wanted.events, stops.moment(t, wanted.events))
             require("an upgrade that is ended keeps what the file has", either(data) == state)
             t.counts["upgrades that were ended"] += 1
+            t.counts["stops"] += 1
             continue
         binary.put(data)
         got = binary.run(b"", ["upgrade"])
@@ -220,7 +221,8 @@ def main() -> int:
     for name, count in sorted(counts.items()):
         print(f"{count:8} {name}")
     runs = sum(binary.runs for binary in programs.values())
-    print(f"{number - given.first} tries, {runs} runs of the programs, no disagreement, seed {seed}")
+    told = f"{counts['stops']} stops, {counts['damages']} times damage"
+    print(f"{number - given.first} tries, {runs} runs of the programs, {told}, no disagreement, seed {seed}")
     return 0
 
 

@@ -1,4 +1,4 @@
-"""The plain history of a file: what its lines came to, as docs/SCRIPT.md tells it, without a byte of the file; and the same, read of a file by `reader.py`.
+"""The plain history of a file: what its lines came to, as docs/SCRIPT.md tells it, without a byte of the file; and the same as `reader.py` reads it.
 
 A `Plain` stands in the place of a `Machine`, so that whatever drives that (scripts, paces, workloads, tables, notes) drives this. In place of what is
 written its events have the states, one for each thing that is kept.
@@ -189,7 +189,8 @@ class Plain:
     def known(self) -> set:
         """The addresses that have something, but for a trailer's that isn't written yet."""
         run = self.running
-        return {*self.live, *dict(self.state.blocks), *self.state.trailer, *(dict(run.blocks) if run else ()), *(run.trailer[: run.written] if run else ())}
+        captured = {*dict(run.blocks), *run.trailer[: run.written]} if run else set()
+        return captured | {*self.live, *dict(self.state.blocks), *self.state.trailer}
 
     def free(self) -> list:
         held = self.known() | set(self.running.trailer if self.running else ())

@@ -31,6 +31,8 @@ class Life:
         self.since, self.earlier, self.copies = [state], [data], [data]
         # Whether the last run came as far as its boot, so that nothing of an earlier one can come back.
         self.raised = True
+        # What the answered puts and drops made, as long as nothing but the table appends.
+        self.rows = plain.rows_of(state)
 
     def is_hurt(self, image: bytes, place: Place) -> bool:
         """Whether a place doesn't show all that was written there."""
@@ -40,7 +42,7 @@ class Life:
         return self.is_hurt(self.data, place)
 
     def takes(self, t: Try, data: bytes, events: list, state: State) -> None:
-        """The file after these events. What was hurt and isn't written stays hurt, of the blocks that the state has; all else counts as it is shown."""
+        """The file after these events. Of the blocks that the state has, what was hurt and isn't written stays hurt; all else counts as it is shown."""
         written = {(event.at + at) // SECTOR for event in events if event.kind == "write" for at in range(0, len(event.data), SECTOR)}
         kept = [at for address, _ in state.blocks for at in plain.sectors_of(self.home.layout, Place(GRID, address)) if at not in written]
         old = [Event("write", SECTOR * at, form.sector(self.good, at)) for at in kept if SECTOR * at < len(self.good)]
@@ -101,7 +103,8 @@ def told_of(state: State, name: str, listed: list, text: bytes) -> Told:
 
 def says(life: Life, what: str, wanted: Told, text: bytes, status: int) -> None:
     """What was printed is what the plain history has; of a block whose place is hurt it may be said that it isn't shown."""
-    told, got = [event.data.decode("latin-1")[:-1] for event in wanted.events if event.kind == "answer"], text.decode("latin-1").split("\n")[:-1]
+    # A note may hold any byte, in a file to which others wrote.
+    told, got = (one.decode("latin-1").split("\n")[:-1] for one in (script.answers(wanted.events), text))
     hurt = [line.split() for line in got if line.startswith(("failing", "refused Damaged Grid"))]
     for one in hurt:
         require(f"{what}: {' '.join(one)}: this place is hurt", life.hurt(Place(GRID, int(one[1 if one[0] == "failing" else 3]))))
@@ -111,7 +114,8 @@ def says(life: Life, what: str, wanted: Told, text: bytes, status: int) -> None:
     require(f"{what}: {len(told)} lines are printed, but there are {len(got)}", len(told) == len(got))
     for one, two in zip(told, got):
         require(f"{what}: `{one}` is printed, but not `{two}`", is_said(life, one, two))
-    require(f"{what}: the status is {wanted.status}, but not {status}", status == wanted.status or status == script.FOUND and wanted.status == script.DONE)
+    found = status == script.FOUND and wanted.status == script.DONE
+    require(f"{what}: the status is {wanted.status}, but not {status}", found or status == wanted.status)
 
 
 def is_said(life: Life, told: str, got: str) -> bool:
@@ -141,6 +145,7 @@ def went(t: Try, life: Life, what: str, events: list, image: bytes, wanted: Told
             f"{[(one.head(), one.replies, one.sequence) for one in listed]}; or else what it has differs", bool(fits))
     life.state = fits[-1]
     if answers is not None:
+        t.counts["stops"] += 1
         t.counts["stops that kept the answered ones" if fits[-1] == listed[0] else "stops that kept more"] += 1
     had = states[: 1 + max(at for at, one in enumerate(states) if one == life.state)]
     life.since = list(dict.fromkeys(had if now > boot else life.since + had))
@@ -164,15 +169,40 @@ def ended(t: Try, life: Life, name: str, listed: list, text: bytes, wanted) -> t
     return upto, stops.stop(t, life.data, wanted.events, upto)
 
 
+def folded(life: Life, text: bytes, told: Told) -> list:
+    """The map after each line of a table's script, by its answers; without any where the file is no table's."""
+    if not isinstance(life.rows, dict):
+        return []
+    maps, answers = [life.rows], [event.data for event in told.events if event.kind == "answer"]
+    for (line, _), one in zip(script.lines(text), answers):
+        rows = dict(maps[-1])
+        if one.startswith((b"put ", b"dropped ")):
+            objects.apply(rows, objects.parse(line, life.home.layout))
+        maps.append(rows)
+    return maps
+
+
+def keeps_table(life: Life, what: str, maps: list, answers: Optional[int]) -> None:
+    """The file is a table with just the rows of the answered lines, or of one more. What is no call but a read leaves it as it is."""
+    rows = plain.rows_of(life.state)
+    if maps:
+        fits = maps[-1:] if answers is None else maps[answers : answers + 2]
+        require(f"{what}: the table has the rows of {'all' if answers is None else answers} answered lines, or of one more", rows in fits)
+    life.rows = rows
+
+
 def run(t: Try, life: Life, name: str, listed: list, text: bytes = b"", stopped: float = 0.35) -> None:
     """A run of a program of one file."""
     what = " ".join([name, *listed])
+    # Of what isn't the table, the words that only read leave the table as it is; what others do to it the plain history tells.
+    reads = listed[:1] in (["recover"], ["inspect"], ["scrub"])
     wanted, told = outcome(name, life.data, listed, text), told_of(life.state, name, listed, text)
     if wanted.events and t.random.random() < stopped:
         upto, image = ended(t, life, name, listed, text, wanted)
         answers = sum(event.kind == "answer" for event in wanted.events[:upto])
         t.counts[f"runs of {name} that were ended"] += 1
         went(t, life, f"{what}, ended after {upto} events", wanted.events[:upto], image, told, answers)
+        keeps_table(life, what, [life.rows] if reads else folded(life, text, told) if name == "objecttable" else [], answers)
         return
     binary: Binary = life.programs[name]
     binary.put(life.data)
@@ -187,3 +217,4 @@ def run(t: Try, life: Life, name: str, listed: list, text: bytes = b"", stopped:
     # Of a block of rows that isn't shown the plain history knows nothing: nothing is put then.
     whole = Told(told.events[:1], got.status) if name == "objecttable" and got.text.startswith(b"refused Damaged") else told
     went(t, life, what, wanted.events, binary.get(), whole, None)
+    keeps_table(life, what, [life.rows] if reads else folded(life, text, whole) if name == "objecttable" else [], None)

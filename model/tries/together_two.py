@@ -32,7 +32,8 @@ def copy(t: Try, life: Life) -> None:
     if t.random.random() < 0.3:
         upto = stops.moment(t, wanted.source)
         t.counts["runs of filecopy that were ended"] += 1
-        went(t, life, f"{what}, ended after {upto} events of the source", wanted.source[:upto], stops.stop(t, life.data, wanted.source, upto), told, 0)
+        left = stops.stop(t, life.data, wanted.source, upto)
+        went(t, life, f"{what}, ended after {upto} events of the source", wanted.source[:upto], left, told, 0)
         return
     got, source, target = paired(life, "filecopy", life.data, None, [layout.word()])
     expect(f"{what}: text", wanted.text, got.text)
@@ -79,6 +80,7 @@ def begun(t: Try, what: str, moved: State, events: list) -> None:
     """A copy that is ended is no file yet, or all of it."""
     upto = stops.moment(t, events)
     image = stops.stop(t, b"", events, upto)
+    t.counts["stops"] += 1
     try:
         require(f"{what}: after {upto} events the target is whole", plain.read(image)[0] == moved)
         t.counts["copies that were ended, and there"] += 1
@@ -103,7 +105,7 @@ def swapped(t: Try, life: Life) -> tuple:
 
 
 def found_in(t: Try, life: Life, what: str, image: bytes, sectors: set):
-    """The state that the file is found to have, one that it had since the last open that raised its boot; or why it is refused, naming what is hurt."""
+    """The state that is found, one that the file had since the last open that raised its boot; or why it is refused, naming what is hurt."""
     try:
         found, _ = plain.read(image)
     except reader.Refused as why:
@@ -163,13 +165,17 @@ def strike(t: Try, life: Life) -> None:
 
 def known_sectors(life: Life) -> set:
     """The sectors of the units that are known."""
-    places = [(life.home.layout.at(place) // SECTOR, len(form.whole_sectors(unit.encode())) // SECTOR) for place, unit in filemirrors.known(life.good)]
-    return {at for first, count in places for at in range(first, first + count)}
+    found = set()
+    for place, unit in filemirrors.known(life.good):
+        first = life.home.layout.at(place) // SECTOR
+        found |= set(range(first, first + len(form.whole_sectors(unit.encode())) // SECTOR))
+    return found
 
 
 def accept(t: Try, life: Life, image: bytes, found: State) -> None:
     """The file goes on as the disk shows it."""
     life.takes(t, image, [], found)
+    life.rows = plain.rows_of(found)
 
 
 # ---- filemirror
@@ -183,6 +189,7 @@ def mirror(t: Try, life: Life, image: bytes) -> bytes:
         wanted = filemirrors.command(image, other, [])
         image = stops.stop(t, image, wanted.events, stops.moment(t, wanted.events))
         t.counts["runs of filemirror that were ended"] += 1
+        t.counts["stops"] += 1
     wanted = filemirrors.command(image, other, [])
     got, one, two = paired(life, "filemirror", image, other, [])
     what = "filemirror"
@@ -207,7 +214,7 @@ def mends(t: Try, life: Life, image: bytes, other: bytes, after: bytes, got) -> 
             break
         expected.append(f"mended {place}")
         expect(f"filemirror: {place}", unit, units.shown(after, life.home, place))
-    told = [line for line in lines if "ClientReplies" not in line and line.split()[1].isalpha()]
+    told = [line for line in lines if line.split()[-2 if line.startswith("mended") else 2] in (form.GRID, WAL_PREPARES)]
     expect("what filemirror mends", expected, told)
     if lines[-1].split()[0] == "mended":
         require("each block and each prepare that is known is there", all(units.shown(after, life.home, place) == unit for place, unit in known))
