@@ -154,7 +154,6 @@ def act(t: Try, life: Life) -> None:
     """One run."""
     kinds = KINDS[life.kind]
     kind = t.random.choices(list(kinds), list(kinds.values()))[0]
-    m = generate.machine_of(life.data)
     if kind in ("recover", "inspect", "scrub"):
         run(t, life, "datafile", [kind])
     elif kind == "mirror":
@@ -162,8 +161,10 @@ def act(t: Try, life: Life) -> None:
     elif kind == "copy":
         copy(t, life)
     elif kind == "reads":
-        run(t, life, "datafile", ["run"], generate.text_of(t.random, reads_of(m, 40) + [b"scrub"] * t.random.choice((0, 3, 9))))
+        listed = reads_of(generate.machine_of(life.data), 40) + [b"scrub"] * t.random.choice((0, 3, 9))
+        run(t, life, "datafile", ["run"], generate.text_of(t.random, listed))
     elif kind == "run":
+        m = generate.machine_of(life.data)
         listed = reads_of(m, 3) + generate.script_of(t.random, m, t.random.choice((0, 1, 3, 8, 20)), 0.05, t.random.choice((1, None)))
         run(t, life, "datafile", ["run"], generate.text_of(t.random, listed))
     elif kind == "rest":

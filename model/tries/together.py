@@ -29,8 +29,8 @@ class Life:
         """The file is another one from here on: a copy, or one that was upgraded."""
         self.home, self.data, self.good, self.state = state.home, data, data, state
         self.since, self.earlier, self.copies = [state], [data], [data]
-        # Whether the last run came as far as its boot, so that nothing of an earlier one can come back.
-        self.raised = True
+        # Its boot, and whether the last run came as far as raising it, so that nothing of an earlier one can come back.
+        self.boot, self.raised = plain.read(data)[1], True
         # What the answered puts and drops made, as long as nothing but the table appends.
         self.rows = plain.rows_of(state)
 
@@ -132,7 +132,6 @@ def is_said(life: Life, told: str, got: str) -> bool:
 
 def went(t: Try, life: Life, what: str, events: list, image: bytes, wanted: Told, answers: Optional[int]) -> None:
     """The file that a run left, at its end or ended after so many answers: it has a state that the plain history has then."""
-    boot = plain.read(life.data)[1]
     try:
         found, now = plain.read(image)
     except reader.Refused as why:
@@ -148,8 +147,9 @@ def went(t: Try, life: Life, what: str, events: list, image: bytes, wanted: Told
         t.counts["stops"] += 1
         t.counts["stops that kept the answered ones" if fits[-1] == listed[0] else "stops that kept more"] += 1
     had = states[: 1 + max(at for at, one in enumerate(states) if one == life.state)]
-    life.since = list(dict.fromkeys(had if now > boot else life.since + had))
-    life.raised = now > boot or life.raised and not any(event.kind == "write" for event in events)
+    life.since = list(dict.fromkeys(had if now > life.boot else life.since + had))
+    life.raised = now > life.boot or life.raised and not any(event.kind == "write" for event in events)
+    life.boot = now
 
 
 def ended(t: Try, life: Life, name: str, listed: list, text: bytes, wanted) -> tuple:
@@ -202,7 +202,7 @@ def run(t: Try, life: Life, name: str, listed: list, text: bytes = b"", stopped:
         answers = sum(event.kind == "answer" for event in wanted.events[:upto])
         t.counts[f"runs of {name} that were ended"] += 1
         went(t, life, f"{what}, ended after {upto} events", wanted.events[:upto], image, told, answers)
-        keeps_table(life, what, [life.rows] if reads else folded(life, text, told) if name == "objecttable" else [], answers)
+        keeps_table(life, what, [life.rows] if reads else folded(life, text, told) if name == "objecttable" else [], None if reads else answers)
         return
     binary: Binary = life.programs[name]
     binary.put(life.data)
