@@ -40,6 +40,15 @@ def sectors_of(home: Home, known: list) -> list:
     return found
 
 
+def bare(home: Home, data: bytes, known: list) -> bytes:
+    """The file without what a stop, or damage, left after these units in their last sectors: no read shows it, and a mending puts zeros there."""
+    for place, unit in known:
+        end = home.layout.at(place) + len(unit.encode())
+        past = -(-end // SECTOR) * SECTOR
+        data = form.part(data, 0, end) + bytes(past - end) + data[past:]
+    return data
+
+
 def struck(t: Try, data: bytes, earlier: list, sectors: list) -> bytes:
     """The file with some of these sectors hurt."""
     for at in t.random.sample(sectors, min(len(sectors), t.random.choice((1, 1, 2, 3, len(sectors))))):
@@ -102,8 +111,9 @@ def whole(t: Try) -> None:
     image, data, past = mendable(t)
     ran = same(t, "a file beside its copy", image, data, [])
     require("each known unit comes back", ran.status in (script.DONE, script.FOUND))
-    front = SECTOR * COPIES
-    same_bytes("what isn't the superblock", data[front:].rstrip(b"\0"), ran.data[front:].rstrip(b"\0"))
+    front, known = SECTOR * COPIES, filemirrors.known(data)
+    before, after = (bare(past.home, one, known)[front:].rstrip(b"\0") for one in (data, ran.data))
+    same_bytes("what isn't the superblock, but for what stands after a unit", before, after)
     require("and so the state", recovery.view_of(ran.data) == recovery.view_of(data))
     require("a second run mends nothing", filemirrors.run(ran.data, b"").text == b"mended 0\n")
 
