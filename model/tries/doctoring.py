@@ -11,7 +11,7 @@ from doctor_case import examine
 from doctor_next import is_named
 from doctor_picture import picture
 
-from . import filemirrors, form, generate, hurt, objects, reading, recovery, reporting, rows, script
+from . import filemirrors, form, generate, hurt, objects, reading, recovery, reporting, rows, script, stops, units
 from .binary import expect, require
 from .common import Try
 from .forge import put
@@ -181,6 +181,37 @@ def rolled_back(t: Try) -> None:
     t.counts["older copies: " + ("told" if case.later or case.refusal else "opened")] += 1
 
 
+def headers_in(data: bytes, home: form.Home) -> int:
+    """How many headers of the file's units stand in its zones, reserved ones aside."""
+    layout = home.layout
+    firsts = ((form.WAL_HEADERS, 0, layout.slots), (form.WAL_PREPARES, 0, layout.slots), (form.CLIENT_REPLIES, 0, layout.clients), (form.GRID, 1, layout.blocks + 1))
+    places = (Place(zone, index) for zone, first, end in firsts for index in range(first, end))
+    headers = (units.decode(form.part(data, layout.at(place), form.HEADER)) for place in places)
+    return sum(bool(one) and one["kind"] != units.RESERVED and one["cluster"] == form.number(home.cluster) for one in headers)
+
+
+def strange(t: Try) -> None:
+    """A file whose four copies are those of another file of its layout: the doctor names the file's own cluster, with how many of its units stand in it,
+    and advises against `filemirror`; of a file that is whole it says nothing of this."""
+    past = hurt.history(t)
+    home = past.home
+    t.binary.put(past.data)
+    expect("units of another file in a whole one", (), asked(t)[2].strange)
+    other = script.fresh(form.Home(home.layout, home.cluster % (2**128 - 1) + 1))
+    if t.random.random() < 0.5:
+        other = script.run(other, stops.script_for(t, other)).data
+    image = other[: SECTOR * form.COPIES] + past.data[SECTOR * form.COPIES :]
+    t.binary.put(image)
+    lines, _, case = asked(t)
+    count = headers_in(image, home)
+    expect("why an open refuses it", recovery.found(image).refusal or "", case.refusal)
+    expect("the cluster that most units are of", (home.cluster, count) if count else (), case.strange)
+    if count:
+        require("a superblock of another file is called so", any("It is another file's" in line for line in lines))
+        require("and what to do is not filemirror", any("no `filemirror`" in line for line in lines))
+    t.counts["another file's copies: " + ("refused" if case.refusal else "opened") + (", and told" if count else ", with no unit beside them")] += 1
+
+
 def doctor_paths(t: Try) -> None:
     """Paths that are no file: the doctor names the status that the program answers."""
     loop = os.path.join(t.binary.folder, "ring")
@@ -200,4 +231,5 @@ def doctor_paths(t: Try) -> None:
 
 KINDS = {
     "doctor": (doctor, 6), "taken_back": (taken_back, 3), "doctor_paths": (doctor_paths, 1), "advised": (advised, 3), "rolled_back": (rolled_back, 2),
+    "strange": (strange, 2),
 } if knows("reports") else {}
