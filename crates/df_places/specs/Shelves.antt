@@ -78,11 +78,11 @@ HoldsMade layout header body (Some held) = IsUnitMade layout header body held
 -- ---- what is blanked in it
 
 -- the unit is the same, and there are zeros after it
-pub record IsBlanked (old new : Holding) : Type 0 where
-  pub layout_is : new.layout ≡ old.layout
+pub record IsBlanked (layout : Layout) (old new : Holding) : Type 0 where
+  pub layout_is : new.layout ≡ layout
   pub unit_is : new.unit ≡ old.unit
   pub tidy : IsTidy new
 
-abbrev pub HoldsBlanked : (old new : Option Holding) → Type 0
-HoldsBlanked (Some old) (Some new) = IsBlanked old new
-HoldsBlanked old new = ⊥
+abbrev pub HoldsBlanked : Layout → (old new : Option Holding) → Type 0
+HoldsBlanked layout (Some old) (Some new) = IsBlanked layout old new
+HoldsBlanked layout old new = ⊥

@@ -180,7 +180,7 @@ impl<K: UnitKind> Shelf<K> {
     pub fn blank_rest(&mut self)
         requires { IsSome self.old.held }
         ensures layout { self.new.layout ≡ self.old.layout }
-        ensures blanked { HoldsBlanked self.old.held self.new.held }
+        ensures blanked { HoldsBlanked self.old.layout self.old.held self.new.held }
     {
         match self.held.take() {
             Some(unit) => self.held = Some(unit.blank_rest()),

@@ -32,6 +32,8 @@ use Rattle.df_theory.specs.View.{View}
 use Rattle.df_units.specs.Bytes.{unit_at}
 use Rattle.df_units.specs.Superblocks.{AreFieldsOf}
 use Rattle.df_rooms.specs.State.{AreAsked, State}
+use Rattle.df_rooms.specs.declared.file.DataFile.{DataFile}
+use Rattle.df_rooms.specs.declared.log_rooms.LogRooms.{LogRooms}
 use Rattle.df_recovery.specs.Found.{IsChoiceOf, TellsFoundAs}
 use Rattle.df_recovery.specs.Plan.{AreDistinctUnits, ArePlanned, IsScanOf, OthersAreShown, class_of_slot, decision_at, header_by, headers_in, mend_list, needs_header, slot_mends}
 use Rattle.df_recovery.specs.Scanning.{AreCopies, IsFileOf}
@@ -39,6 +41,7 @@ use Rattle.df_journal.specs.Starting.{start_of}
 use Rattle.df_recovery.specs.Surveys.{SurveysAs}
 use Rattle.df_recovery.specs.declared.finding.Traces.{Traces}
 use Rattle.df_recovery.specs.declared.scanned.Scanned.{Scanned}
+use Rattle.df_recovery.specs.declared.scanning.Copies.{Copies}
 use Rattle.df_recovery.specs.declared.surveying.Surveyed.{Surveyed}
 
 -- ---- what was read makes sense by itself, whatever the disk tells
@@ -165,11 +168,15 @@ pub record ArePlannedFrom (layout : Layout) (cluster : ℕ) (scan : Scan) (top :
   pub others : (sh : Shape) (image : Units) (v : View) → IsScanOf layout sh image v scan top → AreDistinctUnits image → OthersAreShown layout scan.start top image (headers_in table)
   pub list : (image : Units) → TellsRings layout image scan → mends ≡ mend_list layout scan top image copies members
 
--- those of a surveyed file are, each slot has the header that its decision says, and of each of the four copies it is said whether it is a member
-pub record IsPlannedFor (s : Surveyed) : Type 0 where
-  pub plan : ArePlannedFrom s.scanned.file.layout s.scanned.file.cluster s.scanned.rooms.log.slots s.traces.tail.op s.scanned.copies.slots s.scanned.copies.found.chosen.members s.scanned.rooms.log.headers s.scanned.rooms.log.mends.items
-  pub each : ArePlanned s.scanned.file.cluster s.scanned.rooms.log.slots s.traces.tail.op s.scanned.file.layout.slots s.scanned.rooms.log.headers
-  pub four : length s.scanned.copies.found.chosen.members ≡ 4
+-- those of the rooms are, each slot has the header that its decision says, and of each of the four copies it is said whether it is a member
+pub record HavePlan (file : DataFile) (copies : Copies) (top : ℕ) (rooms : LogRooms) : Type 0 where
+  pub plan : ArePlannedFrom file.layout file.cluster rooms.slots top copies.slots copies.found.chosen.members rooms.headers rooms.mends.items
+  pub each : ArePlanned file.cluster rooms.slots top file.layout.slots rooms.headers
+  pub four : length copies.found.chosen.members ≡ 4
+
+-- those of a surveyed file are, with the head that was found
+abbrev pub IsPlannedFor : Surveyed → Type 0
+IsPlannedFor s = HavePlan s.scanned.file s.scanned.copies s.traces.tail.op s.scanned.rooms.log
 
 -- a copy with the class of what its place shows: a sound copy of its own place is a stale one
 abbrev pub copy_mend_at : Image → ℕ → Mend

@@ -1,14 +1,13 @@
 // The survey of a file of either version: what it shows is read, its state is found, and what is to be mended is listed. Nothing is
 // written.
-ghost use Rattle.std.specs.Prelude.{◌≡◌, ◌≤◌, ◌+◌, length, IfOk, IfErr};
+ghost use Rattle.std.specs.Prelude.{◌≡◌, ◌≤◌, ◌+◌, IfOk, IfErr};
 ghost use Rattle.df_journal.specs.Shows.{IsSeenTable as AreSlots};
 ghost use Rattle.df_recovery.specs.Below.{IsBlamed, Told, is_open_fault};
 ghost use Rattle.df_recovery.specs.Checkpoints.{AreOfCheckpoint};
 ghost use Rattle.df_recovery.specs.Finding.{IsDamage, IsOfFile, read_of};
 ghost use Rattle.df_recovery.specs.Found.{Syncs};
-ghost use Rattle.df_recovery.specs.Plan.{ArePlanned};
 ghost use Rattle.df_recovery.specs.Scanning.{base_scanned, without_rooms};
-ghost use Rattle.df_recovery.specs.Surveying.{AreAfter, ArePlannedFrom, EndsBehind, IsLawfulScan, IsPlannedFor, IsReadOf, IsWellFound, KeepsRead, KeepsScannedFile, TellsPlannedMends, TellsSurveyAs, found_or_refused};
+ghost use Rattle.df_recovery.specs.Surveying.{AreAfter, EndsBehind, HavePlan, IsLawfulScan, IsPlannedFor, IsReadOf, IsWellFound, KeepsRead, KeepsScannedFile, TellsPlannedMends, TellsSurveyAs, found_or_refused};
 ghost use Rattle.df_recovery.specs.Surveys.{SurveysAs};
 ghost use Rattle.df_recovery.specs.Waiting.{waiting_in};
 
@@ -38,9 +37,7 @@ fn plan_log(file: &DataFile, copies: &Copies, head: u64, rooms: &mut LogRooms)
     requires layout { rooms.old.layout ≡ file.now.layout }
     requires cluster { rooms.old.slots.start.cluster ≡ file.now.cluster }
     requires slots { AreSlots file.now.layout file.now.cluster rooms.old.slots.slots }
-    ensures planned { ArePlannedFrom file.now.layout file.now.cluster rooms.new.slots head copies.now.slots copies.now.found.chosen.members rooms.new.headers rooms.new.mends.items }
-    ensures each { ArePlanned file.now.cluster rooms.new.slots head file.now.layout.slots rooms.new.headers }
-    ensures four { length copies.now.found.chosen.members ≡ 4 }
+    ensures planned { HavePlan file.now copies.now head rooms.new }
     ensures layout { rooms.new.layout ≡ file.now.layout }
     ensures slots { rooms.new.slots ≡ rooms.old.slots }
     ensures replies { rooms.new.replies ≡ rooms.old.replies }
@@ -64,9 +61,7 @@ fn plan_rooms(file: &DataFile, copies: &Copies, head: u64, rooms: &mut FileRooms
     requires layout { rooms.old.layout ≡ file.now.layout }
     requires cluster { rooms.old.log.slots.start.cluster ≡ file.now.cluster }
     requires slots { AreSlots file.now.layout file.now.cluster rooms.old.log.slots.slots }
-    ensures planned { ArePlannedFrom file.now.layout file.now.cluster rooms.new.log.slots head copies.now.slots copies.now.found.chosen.members rooms.new.log.headers rooms.new.log.mends.items }
-    ensures each { ArePlanned file.now.cluster rooms.new.log.slots head file.now.layout.slots rooms.new.log.headers }
-    ensures four { length copies.now.found.chosen.members ≡ 4 }
+    ensures planned { HavePlan file.now copies.now head rooms.new.log }
     ensures layout { rooms.new.layout ≡ rooms.old.layout }
     ensures slots { rooms.new.log.slots ≡ rooms.old.log.slots }
     ensures grid { rooms.new.grid ≡ rooms.old.grid }

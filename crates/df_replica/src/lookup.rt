@@ -14,7 +14,6 @@ ghost use Rattle.df_replica.specs.contracts.replica.Replica.{the_row};
 ghost use Rattle.df_replica.specs.Stopping.{left_by};
 
 use crate::replica::end_calls;
-use crate::reply::as_check;
 use crate::{DataFile, Replica};
 use df_base::{Check, Failed};
 use df_buffers::{Identity, Reply, Sound};

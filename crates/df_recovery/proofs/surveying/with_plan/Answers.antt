@@ -28,4 +28,4 @@ returns-clause-found c =
     }
 
 pub returns-clause-planned : goal.returns-clause-planned
-returns-clause-planned c = record { plan = c.plan_rooms.ensures.planned; each = c.plan_rooms.ensures.each; four = c.plan_rooms.ensures.four }
+returns-clause-planned c = c.plan_rooms.ensures.planned
