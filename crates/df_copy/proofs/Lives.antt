@@ -12,7 +12,7 @@ use Rattle.df_trailer.specs.Text.{parse_of}
 use Rattle.df_units.specs.Bytes.{unit_at}
 use Rattle.df_units.specs.Meaning.{layout_of}
 use Rattle.df_units.proofs.Laws.{of_places}
-use Rattle.df_opening.specs.Below.{AreDistinct, DataFile, shape}
+use Rattle.df_opening.specs.Below.{AreDistinctUnits, DataFile, shape}
 use Rattle.df_copy.specs.Lives.{MayGoOn, ShownCopyBegins}
 use Rattle.df_copy.specs.Views.{ShowsCopy, file_in}
 
@@ -40,7 +40,7 @@ module _ (layout : Layout) (file : DataFile) (source : Image) (v : View) (target
     counted = copy.older.counted;
   }
 
-  pub goes_on : AreDistinct image → MayGoOn (file_in layout file) u target
+  pub goes_on : AreDistinctUnits image → MayGoOn (file_in layout file) u target
   goes_on distinct = record {
     version = copy.version;
     begins = record { whole = copy.image; found = copy.found; clean = copy.clean; distinct = distinct };

@@ -7,7 +7,7 @@ use Rattle.df_theory.specs.View.{View}
 use Rattle.df_history.specs.OpenLaws.{BeginsHistory}
 use Rattle.df_units.specs.Bytes.{unit_at}
 use Rattle.df_damage.specs.Anew.{MayRestart}
-use Rattle.df_opening.specs.Below.{AreDistinct, DataFile, shape}
+use Rattle.df_opening.specs.Below.{AreDistinctUnits, DataFile, shape}
 use Rattle.df_copy.specs.Views.{ShowsCopy, file_in}
 
 -- The image may be taken as that of a file: it is of version 2, a log may be restarted there, and each block that is referenced is shown. And a history begins there: all that it shows, blocks aside, is of earlier boots than its
@@ -20,4 +20,4 @@ pub record MayGoOn (file : DataFile) (view : View) (image : Image) : Type 0 wher
 
 -- so may one that shows a copy, where no two of its units have one checksum
 abbrev pub ShownCopyBegins : Type 0
-ShownCopyBegins = (layout : Layout) (file : DataFile) (source : Image) (v : View) (target : Image) (shows : ShowsCopy layout file source v target) → AreDistinct (unit_at layout file.cluster target) → MayGoOn (file_in layout file) shows.view target
+ShownCopyBegins = (layout : Layout) (file : DataFile) (source : Image) (v : View) (target : Image) (shows : ShowsCopy layout file source v target) → AreDistinctUnits (unit_at layout file.cluster target) → MayGoOn (file_in layout file) shows.view target

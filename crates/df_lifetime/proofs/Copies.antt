@@ -8,7 +8,7 @@ use Rattle.df_disk.specs.Told.{Told}
 use Rattle.df_layout.specs.declared.layout.Layout.{Layout}
 use Rattle.df_theory.specs.View.{View}
 use Rattle.df_units.specs.Bytes.{unit_at}
-use Rattle.df_replica.specs.Below.{AreDistinct, DataFile, restarted, told_after}
+use Rattle.df_replica.specs.Below.{AreDistinctUnits, DataFile, restarted, told_after}
 use Rattle.df_replica.proofs.Laws.{added_is_told}
 use Rattle.df_copy.specs.Lives.{MayGoOn}
 use Rattle.df_copy.specs.Views.{HoldsCopy, ShowsCopy, file_in}
@@ -21,7 +21,7 @@ use Rattle.df_lifetime.proofs.Along.{after_along, moment_along}
 use Rattle.df_lifetime.proofs.Openings.{distinct_left}
 
 -- what shows the copy may be taken
-is_copied : (layout : Layout) (file : DataFile) (source : Image) (v : View) (image : Image) → ShowsCopy layout file source v image → AreDistinct (unit_at layout file.cluster image) → IsCopiedImage layout file source v image
+is_copied : (layout : Layout) (file : DataFile) (source : Image) (v : View) (image : Image) → ShowsCopy layout file source v image → AreDistinctUnits (unit_at layout file.cluster image) → IsCopiedImage layout file source v image
 is_copied layout file source v image shows distinct =
     let may : MayGoOn (file_in layout file) shows.view image = copied_begins layout file source v image shows distinct in
     record { first = shows.view; copy = shows.copy; may = record { version = may.version; begins = may.begins; stands = may.stands }; begins = may.history }

@@ -21,7 +21,7 @@ use Rattle.df_units.specs.Meaning.{content_of}
 use Rattle.df_model.specs.Commands.{Answer}
 use Rattle.df_model.specs.Sense.{IsWork}
 use Rattle.df_model.specs.Work.{Work}
-use Rattle.df_replica.specs.Below.{AreDistinct, DataFile, IsOpened, shape, spelling, told_after}
+use Rattle.df_replica.specs.Below.{AreDistinctUnits, DataFile, IsOpened, shape, spelling, told_after}
 use Rattle.df_replica.specs.HeldBlocks.{AreInputs}
 use Rattle.df_replica.specs.Opened.{HistoryBegins}
 use Rattle.df_replica.specs.Serving.{Firm, Grade, StandsFor, Whole, format}
@@ -53,7 +53,7 @@ module _ (g : Grade) (file : DataFile) (view : View) (t : Told) (layout : Layout
 
   pub anew : KeepsAnew g t found.replica view found.mending.events c
   anew =
-      calls.anew g view found_there (subst (λ (f : DataFile). AreDistinct (unit_at f.layout f.cluster t.shown)) (sym one) shows.distinct)
+      calls.anew g view found_there (subst (λ (f : DataFile). AreDistinctUnits (unit_at f.layout f.cluster t.shown)) (sym one) shows.distinct)
       (subst (λ (f : DataFile). StandsFor g (unit_at f.layout f.cluster t.shown) view) (sym one) shows.stands)
 
   -- said of the file
@@ -207,7 +207,7 @@ stands_booted Firm image view d stands = tt
 stands_booted Whole image view d stands = stands
 
 -- no two units that came about by no chance have one checksum
-pub distinct_left : (file : DataFile) (log : Log) (image : Image) → NoChanceOf (format file) log image → AreDistinct (unit_at file.layout file.cluster image)
+pub distinct_left : (file : DataFile) (log : Log) (image : Image) → NoChanceOf (format file) log image → AreDistinctUnits (unit_at file.layout file.cluster image)
 distinct_left file log image chance place other x y one two =
     let units : UnitLog = units_log (format file) log in
     chance.distinct place other x y (pool_pools units.start units.events place x (chance.pooled place x one)) (pool_pools units.start units.events other y (chance.pooled other y two))

@@ -17,7 +17,7 @@ use Rattle.df_theory.specs.Upgrades.{as_version}
 use Rattle.df_theory.specs.View.{View}
 use Rattle.df_units.specs.Bytes.{unit_at}
 use Rattle.df_model.specs.Result.{AgreeReads}
-use Rattle.df_replica.specs.Below.{AreDistinct, DataFile, State as Replica, restarted, shape, told_after}
+use Rattle.df_replica.specs.Below.{AreDistinctUnits, DataFile, State as Replica, restarted, shape, told_after}
 use Rattle.df_replica.specs.Leaving.{SparesReads, image_after}
 use Rattle.df_replica.specs.Serving.{format}
 use Rattle.df_replica.proofs.Laws.{added_is_told, honest_stays, shown_after}
@@ -75,7 +75,7 @@ module _ (t : Told) (s : Replica) (view : View) (old : IsOld s.file view t.shown
     clean_there : IsClean (unit_at s.file.layout s.file.cluster n.shown) (upgraded view (base_fields s))
     clean_there = subst (λ (image : Image). IsClean (unit_at s.file.layout s.file.cluster image) (upgraded view (base_fields s))) shows_now anew.ends.clean
 
-    pub ends_upgraded : AreDistinct (unit_at s.file.layout s.file.cluster n.shown) → IsUpgraded s.file view n.shown
+    pub ends_upgraded : AreDistinctUnits (unit_at s.file.layout s.file.cluster n.shown) → IsUpgraded s.file view n.shown
     ends_upgraded distinct = record {
       first = upgraded view (base_fields s);
       bare = anew.bare;
@@ -150,7 +150,7 @@ module _ (file : DataFile) (view : View) (t n : Told) (status : Status) (old : I
     | inr (inr own) ↦ own_done done own
   ]
 
-  pub done_upgraded : status ≡ Done → AreDistinct (unit_at file.layout file.cluster n.shown) → IsUpgraded file view n.shown
+  pub done_upgraded : status ≡ Done → AreDistinctUnits (unit_at file.layout file.cluster n.shown) → IsUpgraded file view n.shown
   done_upgraded done distinct =
       let there = all_done done in
       let all = there.2 in
@@ -159,7 +159,7 @@ module _ (file : DataFile) (view : View) (t n : Told) (status : Status) (old : I
       let own : IsOld s.file view t.shown = at_file file view t s one old in
       subst (λ (f : DataFile). IsUpgraded f view n.shown) one
       (ends_upgraded t s view own (own_rooms there.0 t s (all.opened old.whole)) all.writes.events n (told_is all.writes.events all.writes.told) (all.anew view own.whole own.found own.distinct) all.writes.spares
-      (subst (λ (f : DataFile). AreDistinct (unit_at f.layout f.cluster n.shown)) (sym one) distinct))
+      (subst (λ (f : DataFile). AreDistinctUnits (unit_at f.layout f.cluster n.shown)) (sym one) distinct))
 
   -- ---- after a stop
 

@@ -13,7 +13,7 @@ use Rattle.df_theory.specs.View.{View}
 use Rattle.df_history.specs.OpenLaws.{BeginsHistory}
 use Rattle.df_units.specs.Bytes.{unit_at}
 use Rattle.df_units.specs.Meaning.{layout_of}
-use Rattle.df_replica.specs.Below.{AreDistinct, DataFile, restarted, shape}
+use Rattle.df_replica.specs.Below.{AreDistinctUnits, DataFile, restarted, shape}
 use Rattle.df_replica.specs.Serving.{format}
 use Rattle.df_telling.specs.Two.{Outside}
 use Rattle.df_copy.specs.Run.{CopiesFile, source_view}
@@ -57,7 +57,7 @@ CopiedBegins =
 -- a copy that was made on a target on which nothing had been written leaves that, where the target's disk is honest and no two units have one checksum
 abbrev pub MadeIsCopied : Type 0
 MadeIsCopied =
-    (layout : Layout) (t read o n : Told) (run : CopyRun layout t read o n) → run.copies.result ≡ Ok tt → IsEmptyImage (now o.log) → IsHonest n → AreDistinct (unit_at layout (file_of run).cluster n.shown)
+    (layout : Layout) (t read o n : Told) (run : CopyRun layout t read o n) → run.copies.result ≡ Ok tt → IsEmptyImage (now o.log) → IsHonest n → AreDistinctUnits (unit_at layout (file_of run).cluster n.shown)
     → IsCopiedImage layout (file_of run) read.shown (view_of run) n.shown
 
 -- And whatever it came to, a stop at any moment leaves that, or an image in which no two copies of the superblock agree; the second no more once an image is durable in which two do, as it is after the sync of the second copy.

@@ -16,7 +16,7 @@ use Rattle.df_units.specs.Making.{first_view}
 use Rattle.df_model.specs.Commands.{Answer}
 use Rattle.df_model.specs.Views.{KeepsView}
 use Rattle.df_model.specs.Work.{kept}
-use Rattle.df_replica.specs.Below.{AreDistinct, DataFile, restarted, shape, told_after}
+use Rattle.df_replica.specs.Below.{AreDistinctUnits, DataFile, restarted, shape, told_after}
 use Rattle.df_replica.specs.Following.{MayOpen}
 use Rattle.df_replica.specs.HeldBlocks.{AreInputs}
 use Rattle.df_replica.specs.Making.{MayMakeOn, file_of}
@@ -201,7 +201,7 @@ pub record ShowsFile (g : Grade) (file : DataFile) (view : View) (image : Image)
   pub version : file.version ≡ 2
   pub whole : IsImage image
   pub found : IsFound (shape file) (unit_at file.layout file.cluster image) view
-  pub distinct : AreDistinct (unit_at file.layout file.cluster image)
+  pub distinct : AreDistinctUnits (unit_at file.layout file.cluster image)
   pub stands : StandsFor g (unit_at file.layout file.cluster image) view
 
 -- What the log tells that was begun at the end of an open: after all calls that were made then, or at a moment of them before which this many were answered.

@@ -12,7 +12,7 @@ use Rattle.df_theory.specs.Upgrades.{as_version}
 use Rattle.df_theory.specs.View.{View}
 use Rattle.df_history.specs.OpenLaws.{BeginsHistory}
 use Rattle.df_units.specs.Bytes.{unit_at}
-use Rattle.df_replica.specs.Below.{AreDistinct, DataFile, restarted, shape}
+use Rattle.df_replica.specs.Below.{AreDistinctUnits, DataFile, restarted, shape}
 use Rattle.df_replica.specs.Serving.{format}
 use Rattle.df_upgrade.specs.Upgrading.{second}
 use Rattle.df_top.specs.declared.status.Status.{Status}
@@ -25,7 +25,7 @@ pub record IsOld (file : DataFile) (view : View) (image : Image) : Type 0 where
   pub whole : IsImage image
   pub found : IsFound (shape file) (unit_at file.layout file.cluster image) view
   pub stands : Stands (unit_at file.layout file.cluster image) view
-  pub distinct : AreDistinct (unit_at file.layout file.cluster image)
+  pub distinct : AreDistinctUnits (unit_at file.layout file.cluster image)
 
 -- the file is of version 2, and may be taken so: its view is the one that the old file had, but for the boot; and a history begins there, since all units are of earlier boots
 pub record IsUpgraded (file : DataFile) (view : View) (image : Image) : Type 0 where
@@ -40,7 +40,7 @@ UpgradedBegins = (file : DataFile) (view : View) (t : Told) (new : IsUpgraded fi
 
 -- an upgrade that ends Done leaves that, whatever the copies of the old file showed
 abbrev pub DoneIsUpgraded : Type 0
-DoneIsUpgraded = (file : DataFile) (view : View) (t n : Told) → IsOld file view t.shown → UpgradeWord t n Done → AreDistinct (unit_at file.layout file.cluster n.shown) → IsUpgraded file view n.shown
+DoneIsUpgraded = (file : DataFile) (view : View) (t n : Told) → IsOld file view t.shown → UpgradeWord t n Done → AreDistinctUnits (unit_at file.layout file.cluster n.shown) → IsUpgraded file view n.shown
 
 -- and whatever it came to, from a clean start a stop at any moment from its barrier on leaves that, or the old file, from which it may be run again: so it may be stopped any number of times
 abbrev pub StoppedIsUpgraded : Type 0

@@ -38,7 +38,7 @@ use Rattle.df_superblock.specs.Steps.{repaired}
 use Rattle.df_journal.specs.declared.table.Start.{Start}
 use Rattle.df_damage.specs.Below.{DataFile, shape}
 use Rattle.df_opening.specs.Mending.{IsPlanned, PlannedMayMend, RestsOnDisk, lies_in, needs_sector, sector_put, sector_puts, sectors_of, sectors_to}
-use Rattle.df_damage.specs.Plan.{AreDistinct, IsScanOf, copy_mends, header_or_none, headers_in, if_wanted, needs_header, shown_class, slot_mend, slot_mends}
+use Rattle.df_damage.specs.Plan.{AreDistinctUnits, IsScanOf, copy_mends, header_or_none, headers_in, if_wanted, needs_header, shown_class, slot_mend, slot_mends}
 use Rattle.df_opening.specs.Keeping.{Grade, format}
 use Rattle.df_opening.proofs.Followed.{in_pools}
 use Rattle.df_opening.proofs.MendEvents.{sectors_more}
@@ -144,7 +144,7 @@ pub record IsPlannedIn (sh : Shape) (image : Units.Units) (v : View) (table : �
   pub each_copy : (k : ℕ) → k < 4 → (image (CopyPlace k) ≡ Some (CopyUnit v.checkpoint.content)) ⊎ IsNumber k copies
 
 module _ (file : DataFile) (v : View) (table : List Header) (mends : List Mend) (f : SuperFields) (members : List Bool) (t : Told) (four : length members ≡ 4) (plan : IsPlanned file table mends f members t)
-    (whole : IsImage t.shown) (found : IsFound (shape file) (unit_at file.layout file.cluster t.shown) v) (distinct : AreDistinct (unit_at file.layout file.cluster t.shown)) where
+    (whole : IsImage t.shown) (found : IsFound (shape file) (unit_at file.layout file.cluster t.shown) v) (distinct : AreDistinctUnits (unit_at file.layout file.cluster t.shown)) where
   abbrev image : Units.Units
   image = unit_at file.layout file.cluster t.shown
 
@@ -232,7 +232,7 @@ module _ (g : Grade) (file : DataFile) (v : View) (t : Told) (on : RestsOnDisk g
   pub rest_found : IsFound (shape file) (unit_at file.layout file.cluster t.shown) v
   rest_found = subst (λ (u : Units.Units). IsFound (shape file) u v) (sym image_is) ((found_law (shape file) (now (units_log (format file) t.log)) v).0 on.rests.holds)
 
-  pub rest_distinct : AreDistinct (unit_at file.layout file.cluster t.shown)
+  pub rest_distinct : AreDistinctUnits (unit_at file.layout file.cluster t.shown)
   rest_distinct place other x y one two =
       let shown = ap (unit_at file.layout file.cluster) shown_is in
       let log = units_log (format file) t.log in

@@ -44,7 +44,7 @@ use Rattle.df_model.specs.Work.{Work, raised}
 use Rattle.df_model.proofs.Laws.{found_law as sense_found, raised_kept_law, raised_law}
 use Rattle.df_damage.specs.Anew.{restarted, told_after}
 use Rattle.df_damage.specs.Below.{DataFile, IsState, Represents, boot_fields, memory, shape, spelling}
-use Rattle.df_damage.specs.Plan.{AreDistinct, header_or_none, headers_in}
+use Rattle.df_damage.specs.Plan.{AreDistinctUnits, header_or_none, headers_in}
 use Rattle.df_damage.proofs.Laws.{added_is_told, begun_is_honest, honest_stays}
 use Rattle.df_opening.specs.Keeping.{Firm, Grade, KeptFor, StandsFor, Whole, format}
 use Rattle.df_opening.specs.Mending.{StaysFound, begun_state, first_state, raised_state, sector_puts, sectors_of}
@@ -81,7 +81,7 @@ same_unit c d is = cc
 
 module _ (g : Grade) (view : View) (s : Survey) (base : Told) (four : length s.chosen.members ≡ 4) (version : s.state.file.version ≡ 2) (is : IsState s.state) (unspent : s.state.fields.boot < 2 ^ 62)
     (plan : IsPlannedOf s (restarted base)) (whole : IsImage base.shown) (found : IsFound (shape s.state.file) (unit_at s.state.file.layout s.state.file.cluster base.shown) view)
-    (distinct : AreDistinct (unit_at s.state.file.layout s.state.file.cluster base.shown)) (referenced : StandsFor g (unit_at s.state.file.layout s.state.file.cluster base.shown) view)
+    (distinct : AreDistinctUnits (unit_at s.state.file.layout s.state.file.cluster base.shown)) (referenced : StandsFor g (unit_at s.state.file.layout s.state.file.cluster base.shown) view)
     (stands : Represents s.state (first_state s.state.file base view)) (steps : AreSteps (format s.state.file) (opening_events s) (opening_steps s)) where
   abbrev file : DataFile
   file = s.state.file

@@ -1,8 +1,8 @@
 -- What the contracts here and above cite of the crates below this one, by name.
 pub use Rattle.df_disk.specs.Adds.{Adds}
 pub use Rattle.df_disk.specs.Told.{after}
-pub use Rattle.df_damage.specs.Below.{AreAsked, AreFound, AreStaging, AreWhole, DataFile, FitsGrid, HasCause, IsBlamed, IsCourse, IsLevel, IsMachineStep, IsMachines, IsRequest, IsRunning, IsSealedOf, IsState, IsStep, IsVerdict, ListsFailing, MayRecord, Parts, Represents, RunningCheckpoint, RunningState, ScrubState, Staged, Stages, State, Told, View, after_step, asker_of, asks_of, boot_fields, captured_text, course_in, course_of, failing_among, failing_in, fault_of, first_of, grid_with, is_open_fault, left_in, memory, prepare_sum, recorded, reply_sum, running_of, running_state, sessions_of, shape, spelling, state_in, stored_sum, sum_of, summary_of, verdict_in, with_check}
-pub use Rattle.df_damage.specs.Plan.{AreDistinct, if_wanted, needs_header, slot_mends}
+pub use Rattle.df_damage.specs.Below.{AreAsked, AreFound, AreStaging, AreWhole, DataFile, FitsGrid, HasCause, IsBlamed, IsCourse, IsLevel, IsMachineStep, IsMachines, IsRequest, IsRunningCheckpoint, IsSealedOf, IsState, IsStep, IsVerdict, ListsFailing, MayRecord, Parts, Represents, RunningCheckpoint, RunningState, ScrubState, Staged, Stages, State, Told, View, after_scrub_step, asker_of, asks_of, boot_fields, captured_text, course_in, course_of, failing_among, failing_in, fault_of, first_request, grid_with, is_open_fault, left_in, memory, prepare_sum, recorded, reply_sum, running_of, running_state, sessions_of, shape, spelling, state_in, stored_sum, sum_of_header, summary_of, verdict_in, with_check}
+pub use Rattle.df_damage.specs.Plan.{AreDistinctUnits, if_wanted, needs_header, slot_mends}
 pub use Rattle.df_damage.specs.Checkpoints.{AreOfCheckpoint}
 pub use Rattle.df_theory.specs.Device.{AreSteps}
 pub use Rattle.df_damage.specs.Anew.{restarted, told_after}

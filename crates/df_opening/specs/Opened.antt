@@ -28,7 +28,7 @@ use Rattle.df_model.specs.declared.errors.MendError.TheVariants as mend
 use Rattle.df_model.specs.declared.errors.OpenError.{OpenError}
 use Rattle.df_model.specs.declared.errors.OpenError.TheVariants as opens
 use Rattle.df_damage.specs.Below.{DataFile, State, boot_fields, shape}
-use Rattle.df_damage.specs.Plan.{AreDistinct}
+use Rattle.df_damage.specs.Plan.{AreDistinctUnits}
 use Rattle.df_damage.specs.Surveys.{IsOpenedAs}
 use Rattle.df_opening.specs.Following.{MayOpen}
 use Rattle.df_opening.specs.Sparing.{AreSettled, SparesReads, image_after}
@@ -110,7 +110,7 @@ pub record MendsAll (t : Told) (s : State) (later : Option Told) : Type 0 where
   pub copies : IsImage t.shown → (n : ℕ) → n < 4 → unit_at s.file.layout s.file.cluster (image_after mending.events t.shown) (CopyPlace n) ≡ Some (CopyUnit (content_of (content_with s.fields)))
   pub over : (g : Grade) (view : View) (base : Told) → base.shown ≡ t.shown → MayOpen s.file view base → StandsFor g (unit_at s.file.layout s.file.cluster t.shown) view
       → OpensOver g view s base (told_after mending.events (did Sync base))
-  pub anew : (g : Grade) (view : View) → IsImage t.shown → IsFound (shape s.file) (unit_at s.file.layout s.file.cluster t.shown) view → AreDistinct (unit_at s.file.layout s.file.cluster t.shown)
+  pub anew : (g : Grade) (view : View) → IsImage t.shown → IsFound (shape s.file) (unit_at s.file.layout s.file.cluster t.shown) view → AreDistinctUnits (unit_at s.file.layout s.file.cluster t.shown)
       → StandsFor g (unit_at s.file.layout s.file.cluster t.shown) view → OpensAnew g view s t (told_after mending.events (restarted t))
   pub lived : (log : Log) (logs : List Log) → MayReopen s.file log logs t.shown → LivesOn s.file (add Sync log) logs (did Sync (restarted t)).log (told_after mending.events (did Sync (restarted t))).log
 
@@ -123,7 +123,7 @@ pub record MendsPartly (layout : Layout) (t : Told) (later : Option Told) : Type
   pub moments : (g : Grade) (view : View) (base : Told) → base.shown ≡ t.shown → MayOpen found.file view base → StandsFor g (unit_at found.file.layout found.file.cluster t.shown) view
       → EachMoment (did Sync base).log (told_after mending.events (did Sync base)).log (IsGoodFor g (format found.file) (shape found.file) view (kept (begun_state found.file base view (boot_fields found))))
       × IsSameBare view (kept (begun_state found.file base view (boot_fields found)))
-  pub anew : (g : Grade) (view : View) → IsImage t.shown → IsFound (shape found.file) (unit_at found.file.layout found.file.cluster t.shown) view → AreDistinct (unit_at found.file.layout found.file.cluster t.shown)
+  pub anew : (g : Grade) (view : View) → IsImage t.shown → IsFound (shape found.file) (unit_at found.file.layout found.file.cluster t.shown) view → AreDistinctUnits (unit_at found.file.layout found.file.cluster t.shown)
       → StandsFor g (unit_at found.file.layout found.file.cluster t.shown) view → EachMoment (restarted t).log (told_after mending.events (restarted t)).log (StaysFound g found.file view (boot_fields found))
   pub lived : (log : Log) (logs : List Log) → MayReopen found.file log logs t.shown → EachMoment (did Sync (restarted t)).log (told_after mending.events (did Sync (restarted t))).log (IsLivedDisk found.file (add Sync log ∷ logs))
 

@@ -3,7 +3,7 @@ ghost use Rattle.std.specs.Prelude.{◌≡◌, ◌<◌, ◌^◌, length, IfErr, 
 ghost use Rattle.df_format.specs.SuperRules.{fault_of};
 ghost use Rattle.df_theory.specs.Found.{IsFound};
 ghost use Rattle.df_units.specs.Bytes.{unit_at};
-ghost use Rattle.df_damage.specs.Plan.{AreDistinct};
+ghost use Rattle.df_damage.specs.Plan.{AreDistinctUnits};
 ghost use Rattle.df_opening.specs.Below.{HasCause, IsBlamed, IsImage, Told, Adds, AreSteps, Represents, View, restarted, is_mend_fault, shape, update_events, without_rooms};
 ghost use Rattle.df_opening.specs.Held.{AreAsBefore, AreLogRoomsOf};
 ghost use Rattle.df_opening.specs.Keeping.{Grade, StandsFor, format};
@@ -138,7 +138,7 @@ pub fn mend_file<D: Disk>(disk: &mut D, surveyed: SurveyedFile) -> Result<Parts,
     ensures unharmed { IsUnharmed (D.told disk.new) (without_rooms result) }
     ensures over { (base : Told) (g : Grade) (view : View) → IsPlannedOf (survey_in surveyed) base → RestsOnDisk g surveyed.parts.file view base
         → Represents (state_in surveyed.parts) (first_state surveyed.parts.file base view) → RaisesOver g view (survey_in surveyed) base }
-    ensures anew { (base : Told) (g : Grade) (view : View) → IsPlannedOf (survey_in surveyed) (restarted base) → IsImage base.shown → IsFound (shape surveyed.parts.file) (unit_at surveyed.parts.file.layout surveyed.parts.file.cluster base.shown) view → AreDistinct (unit_at surveyed.parts.file.layout surveyed.parts.file.cluster base.shown)
+    ensures anew { (base : Told) (g : Grade) (view : View) → IsPlannedOf (survey_in surveyed) (restarted base) → IsImage base.shown → IsFound (shape surveyed.parts.file) (unit_at surveyed.parts.file.layout surveyed.parts.file.cluster base.shown) view → AreDistinctUnits (unit_at surveyed.parts.file.layout surveyed.parts.file.cluster base.shown)
         → StandsFor g (unit_at surveyed.parts.file.layout surveyed.parts.file.cluster base.shown) view → Represents (state_in surveyed.parts) (first_state surveyed.parts.file base view) → RaisesAnew g view (survey_in surveyed) (restarted base) }
     ensures cause { IsBlamed is_mend_fault (D.faults disk.old) (D.faults disk.new) (without_rooms result) }
 {

@@ -16,7 +16,7 @@ use Rattle.df_theory.specs.Units as theory
 use Rattle.df_units.specs.Meaning.{header_of, message_of, number_of}
 use Rattle.df_model.specs.Memory.{Memory}
 use Rattle.df_model.specs.Changing.{appended_in, unstored}
-use Rattle.df_opening.specs.Below.{IsState, State, memory, prepare_sum, stored_sum, sum_of}
+use Rattle.df_opening.specs.Below.{IsState, State, memory, prepare_sum, stored_sum, sum_of_header}
 use Rattle.df_replica.specs.Appending.{next_unit, with_prepare_appended}
 
 -- ---- the sessions
@@ -39,17 +39,17 @@ stored_table client request op (s ∷ ss) = elim (cases_Bool (has_client client 
 
 -- the sum that a table shows for an op
 abbrev pub sum_at : ℕ → List Header → ℕ → ℕ
-sum_at slots hs op = sum_of (slice_get hs (op % slots))
+sum_at slots hs op = sum_of_header (slice_get hs (op % slots))
 
 pub sums_on : (slots base : ℕ) (hs : List Header) (h : Header) (a n e : ℕ) → a + n ≡ e → base < a → e ≤ base + slots → e % slots < length hs
     → map (sum_at slots (slice_set hs (e % slots) h)) (range_with_len a (suc n)) ≡ map (sum_at slots hs) (range_with_len a n) ++ number_of h.checksum ∷ []
 sums_on slots base hs h a zero e at above room inside =
     ap (λ (k : ℕ). sum_at slots (slice_set hs (e % slots) h) k ∷ []) (let same : a ≡ e = omega arith in same)
-    ∙ ap (λ (o : Option Header). sum_of o ∷ []) (get_set hs (e % slots) h inside)
+    ∙ ap (λ (o : Option Header). sum_of_header o ∷ []) (get_set hs (e % slots) h inside)
 sums_on slots base hs h a (suc n) e at above room inside =
     let apart : (a % slots) ≢ (e % slots) = λ same. (
     let one : a ≡ e = one_op slots base (e % slots) a e (record { above = above; within = omega arith; slot_is = same }) (record { above = omega arith; within = room; slot_is = refl }) in omega arith) in
-    ap (λ (o : Option Header). sum_of o ∷ map (sum_at slots (slice_set hs (e % slots) h)) (range_with_len (a + 1) (suc n))) (get_set_other hs (e % slots) (a % slots) h apart)
+    ap (λ (o : Option Header). sum_of_header o ∷ map (sum_at slots (slice_set hs (e % slots) h)) (range_with_len (a + 1) (suc n))) (get_set_other hs (e % slots) (a % slots) h apart)
     ∙ ap (λ (l : List ℕ). sum_at slots hs a ∷ l) (sums_on slots base hs h (a + 1) n e (omega arith) (omega arith) room inside)
 
 -- ---- the whole

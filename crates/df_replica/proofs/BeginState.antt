@@ -5,7 +5,7 @@ use Rattle.df_sessions.specs.Table.{IsSessionTable}
 use Rattle.df_theory.specs.Trailer.{IsCount}
 use Rattle.df_model.specs.Blocks.{Blocks}
 use Rattle.df_model.specs.Memory.{free_of}
-use Rattle.df_opening.specs.Below.{RunningState, IsCourse, IsLevel, IsRunning, IsState, State, memory}
+use Rattle.df_opening.specs.Below.{RunningState, IsCourse, IsLevel, IsRunningCheckpoint, IsState, State, memory}
 use Rattle.df_replica.specs.declared.begin.Plan.{Plan}
 use Rattle.df_replica.specs.Beginning.{MayBeginCheckpoint, captured, needed, with_checkpoint_begun}
 
@@ -20,7 +20,7 @@ module _ (s : State) (root : List ℕ) (plan : Plan) (is : IsState s) (table : I
   taken : length (take (needed s root) (free_of (memory s))) ≡ needed s root
   taken = length-take (needed s root) (free_of (memory s)) ∙ (let all = may.free in omega (arith, all))
 
-  pub is_running : IsRunning s.file s.fields s.head b (captured s root)
+  pub is_running : IsRunningCheckpoint s.file s.fields s.head b (captured s root)
   is_running = record {
     begun = record { op_from = is.order; op_to = omega arith; sequence = (refl, omega (arith, may.unspent)) };
     contents = record { parent = is.parent; first = is.first; root = may.short; sessions = omega (arith, table.within, is.places) };

@@ -22,7 +22,7 @@ use Rattle.df_model.specs.Memory.{Course, block_room}
 use Rattle.df_model.specs.Supply.{puts_of}
 use Rattle.df_model.specs.Work.{Work}
 use Rattle.df_model.specs.declared.answers.Progress.TheVariants.{Working}
-use Rattle.df_opening.specs.Below.{RunningState, IsCourse, IsRunning, IsState, Represents, State, course_in, course_of, memory, shape, spelling}
+use Rattle.df_opening.specs.Below.{RunningState, IsCourse, IsRunningCheckpoint, IsState, Represents, State, course_in, course_of, memory, shape, spelling}
 use Rattle.df_replica.specs.Answering.{Serves}
 use Rattle.df_replica.specs.Serving.{Grade, IsCall, IsKept, format, next}
 use Rattle.df_replica.specs.Stepping.{OfRunning, advanced, block_events, block_sum, block_to_write, made_by, made_for, trailer_unit}
@@ -34,7 +34,7 @@ use Rattle.df_replica.proofs.StepAnswers.{does_step, fault_call, makes_step, nex
 use Rattle.df_replica.proofs.StepMemory.{block_memory, step_memory}
 use Rattle.df_replica.proofs.WritesOn.{StandsIn, steps_stand}
 
-module _ (s : State) (r : RunningState) (a : ℕ) (more : List ℕ) (given : Given) (is : IsRunning s.file s.fields s.head s.blocks r) (booted : s.boot ≡ s.fields.boot) (running : s.running ≡ Some r) (left : s.blocks.left ≡ a ∷ more)
+module _ (s : State) (r : RunningState) (a : ℕ) (more : List ℕ) (given : Given) (is : IsRunningCheckpoint s.file s.fields s.head s.blocks r) (booted : s.boot ≡ s.fields.boot) (running : s.running ≡ Some r) (left : s.blocks.left ≡ a ∷ more)
     (unit : block_of (trailer_unit s r) ≡ block_to_write s r (block_sum s r)) (steps : AreSteps (format_of s.file.layout s.file.cluster) (block_events s r) (block_steps (trailer_unit s r)))
     (sum : given ≡ ForAdvance (made_by s s.running ∷ [])) where
   abbrev given_steps : List Step

@@ -13,7 +13,7 @@ use Rattle.df_units.specs.Meaning.{layout_of, number_of}
 use Rattle.df_units.proofs.Laws.{whole_check}
 use Rattle.df_grid.specs.Table.{last_trailer_block}
 use Rattle.df_grid.specs.Writes.{first_address, first_sum}
-use Rattle.df_opening.specs.Below.{IsLevel, IsRunning, IsState, MayRecord, RunningState, State}
+use Rattle.df_opening.specs.Below.{IsLevel, IsRunningCheckpoint, IsState, MayRecord, RunningState, State}
 use Rattle.df_opening.proofs.Laws.{recorded_is_super, second_as, staging_on}
 use Rattle.df_replica.specs.Stepping.{captured_fields, finished, next_fields}
 
@@ -34,7 +34,7 @@ last_is b address checksum done is whole =
 
 -- ---- what the superblock says
 
-module _ (s : State) (r : RunningState) (is : IsState s) (table : IsSessionTable s.table) (super : IsSuper s.fields) (runs : IsRunning s.file s.fields s.head s.blocks r) (level : IsLevel s.head s.head_checksum (Some r))
+module _ (s : State) (r : RunningState) (is : IsState s) (table : IsSessionTable s.table) (super : IsSuper s.fields) (runs : IsRunningCheckpoint s.file s.fields s.head s.blocks r) (level : IsLevel s.head s.head_checksum (Some r))
     (some : 1 ≤ first_address s.blocks.written) (inside : first_address s.blocks.written ≤ s.file.layout.blocks) where
   abbrev f : SuperFields
   f = captured_fields s.fields r (first_address s.blocks.written) (spelled 16 (first_sum s.blocks.written))
@@ -67,7 +67,7 @@ module _ (s : State) (r : RunningState) (is : IsState s) (table : IsSessionTable
 
 -- ---- the state in which the checkpoint is the durable one
 
-pub finished_sense : (s : State) (r : RunningState) → IsState s → IsRunning s.file s.fields s.head s.blocks r → IsLevel s.head s.head_checksum (Some r) → IsUsable (next_fields s r) → IsState (finished s r)
+pub finished_sense : (s : State) (r : RunningState) → IsState s → IsRunningCheckpoint s.file s.fields s.head s.blocks r → IsLevel s.head s.head_checksum (Some r) → IsUsable (next_fields s r) → IsState (finished s r)
 finished_sense s r is runs level usable = record {
   in_file = record {
     cluster = is.cluster;

@@ -10,7 +10,7 @@ use Rattle.df_units.specs.Bytes.{first_at}
 use Rattle.df_journal.specs.Flush.{AreOwn, group_puts, held_prepares}
 use Rattle.df_model.specs.Work.{Request}
 use Rattle.df_journal.proofs.Laws.{length_of_units}
-use Rattle.df_opening.specs.Below.{DataFile, IsState, State, first_of}
+use Rattle.df_opening.specs.Below.{DataFile, IsState, State, first_request}
 use Rattle.df_opening.proofs.Laws.{boot_made}
 use Rattle.df_replica.specs.declared.flush.Group.{Group}
 use Rattle.df_replica.specs.Appending.{unit_made}
@@ -18,12 +18,12 @@ use Rattle.df_replica.specs.Flushing.{AreHeld, AreMadeFor, MaySeal, flush_units,
 
 -- ---- the first of them
 
-pub first_there : (rs : List Request) → 0 < length rs → slice_get rs 0 ≡ Some (first_of rs)
+pub first_there : (rs : List Request) → 0 < length rs → slice_get rs 0 ≡ Some (first_request rs)
 first_there [] some = absurd (omega (arith, some))
 first_there (r ∷ rs) some = refl
 
 pub units_first : (g : Group) (op : ℕ) (parent : List ℕ) (rs : List Request) → 0 < length rs
-    → group_prepares g op parent rs ≡ unit_made (header_in g op parent (first_of rs)) (first_of rs).body ∷ group_prepares g (op + 1) (unit_made (header_in g op parent (first_of rs)) (first_of rs).body).header.checksum (drop 1 rs)
+    → group_prepares g op parent rs ≡ unit_made (header_in g op parent (first_request rs)) (first_request rs).body ∷ group_prepares g (op + 1) (unit_made (header_in g op parent (first_request rs)) (first_request rs).body).header.checksum (drop 1 rs)
 units_first g op parent [] some = absurd (omega (arith, some))
 units_first g op parent (r ∷ rs) some = refl
 
@@ -52,10 +52,10 @@ units_pushed [] held = refl
 units_pushed (x ∷ helds) held = ap (λ (us : List Message). x.unit ∷ us) (units_pushed helds held)
 
 -- those that are made, with those that are to come, are the whole
-pub units_turn : (g : Group) (op : ℕ) (parent check : List ℕ) (rs : List Request) (helds : List Holding) (held : Holding) (all : List Message) → 0 < length rs → held.unit ≡ unit_made (header_in g op parent (first_of rs)) (first_of rs).body
-    → check ≡ (unit_made (header_in g op parent (first_of rs)) (first_of rs).body).header.checksum → held_prepares helds ++ group_prepares g op parent rs ≡ all → held_prepares (helds ++ held ∷ []) ++ group_prepares g (op + 1) check (drop 1 rs) ≡ all
+pub units_turn : (g : Group) (op : ℕ) (parent check : List ℕ) (rs : List Request) (helds : List Holding) (held : Holding) (all : List Message) → 0 < length rs → held.unit ≡ unit_made (header_in g op parent (first_request rs)) (first_request rs).body
+    → check ≡ (unit_made (header_in g op parent (first_request rs)) (first_request rs).body).header.checksum → held_prepares helds ++ group_prepares g op parent rs ≡ all → held_prepares (helds ++ held ∷ []) ++ group_prepares g (op + 1) check (drop 1 rs) ≡ all
 units_turn g op parent check rs helds held all some made sum before =
-    let u = unit_made (header_in g op parent (first_of rs)) (first_of rs).body in
+    let u = unit_made (header_in g op parent (first_request rs)) (first_request rs).body in
     let rest = group_prepares g (op + 1) u.header.checksum (drop 1 rs) in
     ap (λ (c : List ℕ). held_prepares (helds ++ held ∷ []) ++ group_prepares g (op + 1) c (drop 1 rs)) sum
     ∙ ap (λ (us : List Message). us ++ rest) (units_pushed helds held)

@@ -30,7 +30,7 @@ use Rattle.df_model.specs.Work.{Work}
 use Rattle.df_model.specs.declared.answers.Progress.TheVariants.{Done}
 use Rattle.df_model.specs.declared.errors.StepError.{StepError}
 use Rattle.df_model.specs.declared.errors.StepError.TheVariants as step
-use Rattle.df_opening.specs.Below.{RunningState, IsCourse, IsRunning, IsState, Represents, State, course_of, memory, shape, spelling}
+use Rattle.df_opening.specs.Below.{RunningState, IsCourse, IsRunningCheckpoint, IsState, Represents, State, course_of, memory, shape, spelling}
 use Rattle.df_replica.specs.Answering.{Serves, answer_of, is_step_unanswered}
 use Rattle.df_replica.specs.Serving.{Grade, IsCall, IsKept, format, next}
 use Rattle.df_replica.specs.Stepping.{IsMadeSuperblock, OfRunning, captured_fields, finished, last_events, made_by, made_for, next_fields}
@@ -43,7 +43,7 @@ use Rattle.df_replica.proofs.StepAnswers.{does_step, fault_call, makes_step, nex
 use Rattle.df_replica.proofs.StepMemory.{last_memory, step_memory}
 use Rattle.df_replica.proofs.WritesOn.{StandsIn}
 
-module _ (s : State) (r : RunningState) (given : Given) (is : IsState s) (course : IsRunning s.file s.fields s.head s.blocks r) (running : s.running ≡ Some r) (left : s.blocks.left ≡ [])
+module _ (s : State) (r : RunningState) (given : Given) (is : IsState s) (course : IsRunningCheckpoint s.file s.fields s.head s.blocks r) (running : s.running ≡ Some r) (left : s.blocks.left ≡ [])
     (number : number_of (spelled 16 (first_sum s.blocks.written)) ≡ first_sum s.blocks.written) (steps : AreStepsOfCopies (update_events (next_fields s r)) (update_steps (put_copies (next_fields s r))))
     (sum : given ≡ ForAdvance (made_by s s.running ∷ [])) where
   abbrev f : SuperFields

@@ -33,7 +33,7 @@ use Rattle.df_model.specs.Refusals.{first_refusal, prepare_refusals}
 use Rattle.df_model.specs.Supply.{class_or, given_if, is_sum, prepare_at, prepare_given}
 use Rattle.df_model.proofs.Laws.{all_pass}
 use Rattle.df_places.specs.Shelves.{IsFoundUnit, IsOf, IsRead}
-use Rattle.df_opening.specs.Below.{DataFile, State, memory, prepare_sum, sum_of}
+use Rattle.df_opening.specs.Below.{DataFile, State, memory, prepare_sum, sum_of_header}
 use Rattle.df_replica.specs.Reading.{IsFoundBy, IsKnownUnit, check_in, prepare_wanted, shown_of}
 
 -- ---- the message that an image shows
@@ -93,7 +93,7 @@ is_kept b n op is = (grind (arith, nat_tests), grind (arith, nat_tests))
 pub kept_op : (s : State) (op : ℕ) → first_refusal (prepare_refusals (memory s) op) ≡ None → (s.fields.op < op) × (op ≤ s.head)
 kept_op s op none = is_kept s.fields.op s.head op (all_pass (prepare_refusals (memory s) op) none).0
 
-sum_is : (o : Option Header) → IsCheck (check_in o) → sum_of o ≡ number_of (check_in o)
+sum_is : (o : Option Header) → IsCheck (check_in o) → sum_of_header o ≡ number_of (check_in o)
 sum_is None fits = absurd (omega (arith, fits.size))
 sum_is (Some h) fits = refl
 

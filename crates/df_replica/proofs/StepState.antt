@@ -4,7 +4,7 @@ use Rattle.df_format.specs.declared.superblock.SuperFields.{SuperFields}
 use Rattle.df_model.specs.Blocks.{Blocks}
 use Rattle.df_grid.specs.Grid.{GridState}
 use Rattle.df_grid.specs.Table.{next_written, written_of}
-use Rattle.df_opening.specs.Below.{RunningCheckpoint, DataFile, running_state, running_of, RunningState, IsCourse, IsLevel, IsRunning, State, grid_with}
+use Rattle.df_opening.specs.Below.{RunningCheckpoint, DataFile, running_state, running_of, RunningState, IsCourse, IsLevel, IsRunningCheckpoint, State, grid_with}
 use Rattle.df_replica.specs.Stepping.{OfRunning}
 
 -- the checkpoint that runs is the one that was taken
@@ -13,7 +13,7 @@ of_running P s x o running at of same is =
     subst (λ (y : State). OfRunning y.running (P y)) same
     (subst (λ (q : Option RunningState). OfRunning q (P s)) (sym (of ∙ ap running_of at)) is)
 
-pub taken_runs : (file : DataFile) (f : SuperFields) (head : ℕ) (b : Blocks) (o : Option RunningCheckpoint) (running : RunningCheckpoint) → o ≡ Some running → IsCourse file f head b (running_of o) → IsRunning file f head b (running_state running)
+pub taken_runs : (file : DataFile) (f : SuperFields) (head : ℕ) (b : Blocks) (o : Option RunningCheckpoint) (running : RunningCheckpoint) → o ≡ Some running → IsCourse file f head b (running_of o) → IsRunningCheckpoint file f head b (running_state running)
 taken_runs file f head b o running at is = subst (λ (q : Option RunningCheckpoint). IsCourse file f head b (running_of q)) at is
 
 -- what it captured goes with the head
@@ -25,10 +25,10 @@ pub grid_is : (file : DataFile) (grid : GridState) → grid.layout ≡ file.layo
 grid_is file grid layout cluster = λ i. record { layout = layout i; cluster = cluster i; boot = grid.boot; blocks = grid.blocks }
 
 -- a trailer block more
-pub running_on : (file : DataFile) (f : SuperFields) (head : ℕ) (b : Blocks) (r : RunningState) (sum : ℕ) → IsRunning file f head b r → (b.left ≡ [] → ⊥) → IsRunning file f head (next_written b sum) (record r { written = r.written + 1 })
+pub running_on : (file : DataFile) (f : SuperFields) (head : ℕ) (b : Blocks) (r : RunningState) (sum : ℕ) → IsRunningCheckpoint file f head b r → (b.left ≡ [] → ⊥) → IsRunningCheckpoint file f head (next_written b sum) (record r { written = r.written + 1 })
 running_on file f head b r sum is some = go b.left refl
   where
-    go : (l : List ℕ) → b.left ≡ l → IsRunning file f head (written_of b sum l) (record r { written = r.written + 1 })
+    go : (l : List ℕ) → b.left ≡ l → IsRunningCheckpoint file f head (written_of b sum l) (record r { written = r.written + 1 })
     go [] none = absurd (some none)
     go (a ∷ more) left = record {
       begun = is.begun;

@@ -20,4 +20,4 @@ pub use Rattle.df_grid.specs.Writes.{first_sum, version_in}
 pub use Rattle.df_journal.specs.Append.{with_header}
 pub use Rattle.df_journal.specs.Below.{EachMoment}
 pub use Rattle.df_checkpoint.specs.Below.{block_steps, made_events, with_blocks}
-pub use Rattle.df_opening.specs.Below.{IsStep, Represents, course_in, IsVerdict, ListsFailing, ScrubState, after_step, failing_among, failing_in, left_in, verdict_in, with_check, running_state, RunningState, IsState, grid_with, memory, reply_sum, spelling, stored_sum, DataFile, FindsHad, FindsSince, HasLived, HasRaised, HasTwoCopies, HasEqualCopies, IsBlamed, IsHurtFile, IsLayoutShown, IsLivedDisk, IsNeedless, IsNotRefused, IsOpened, IsUnformatted, LivesOn, MayBeHurt, MayBeOfDamage, MayReopen, OpensAsLeft, Refuses, RefusesHurt, State, Surveys, Syncs, TellsHurt, TellsLayout, TellsLived, Told, View, WasHadSince, restarted, fault_of, if_wanted, is_open_fault, needs_header, sessions_of, shape, slot_mends, start_of, told_after, units_logs, without_rooms, boot_fields, is_mend_fault, AreDistinct}
+pub use Rattle.df_opening.specs.Below.{IsStep, Represents, course_in, IsVerdict, ListsFailing, ScrubState, after_scrub_step, failing_among, failing_in, left_in, verdict_in, with_check, running_state, RunningState, IsState, grid_with, memory, reply_sum, spelling, stored_sum, DataFile, FindsHad, FindsSince, HasLived, HasRaised, HasTwoCopies, HasEqualCopies, IsBlamed, IsHurtFile, IsLayoutShown, IsLivedDisk, IsNeedless, IsNotRefused, IsOpened, IsUnformatted, LivesOn, MayBeHurt, MayBeOfDamage, MayReopen, OpensAsLeft, Refuses, RefusesHurt, State, Surveys, Syncs, TellsHurt, TellsLayout, TellsLived, Told, View, WasHadSince, restarted, fault_of, if_wanted, is_open_fault, needs_header, sessions_of, shape, slot_mends, start_of, told_after, units_logs, without_rooms, boot_fields, is_mend_fault, AreDistinctUnits}

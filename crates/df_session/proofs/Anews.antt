@@ -15,7 +15,7 @@ use Rattle.df_units.specs.Bytes.{unit_at}
 use Rattle.df_model.specs.Laws.{IsKeptBy}
 use Rattle.df_model.specs.Work.{Work, kept}
 use Rattle.df_result.specs.Begun.{begun_work}
-use Rattle.df_result.specs.Below.{AreDistinct, State as Replica, begun, shape, spelling, told_after}
+use Rattle.df_result.specs.Below.{AreDistinctUnits, State as Replica, restarted, shape, spelling, told_after}
 use Rattle.df_result.specs.Opened.{HistoryBegins, MendsAll}
 use Rattle.df_result.specs.Serving.{Firm, Grade, IsKept, KeptFor, StandsFor, Whole, format}
 use Rattle.df_result.specs.Session.{Act, Exchange}
@@ -47,14 +47,14 @@ kept_synced g s w t k = record {
 }
 
 -- what is kept where a log is begun goes on from its barrier
-opened_begun : (g : Grade) (s : Replica) (w : Work) (n : Told) → IsKept g s w (begun n).log → OpenedOver g s (kept w) w (begun n) (did Sync (begun n))
+opened_begun : (g : Grade) (s : Replica) (w : Work) (n : Told) → IsKept g s w (restarted n).log → OpenedOver g s (kept w) w (restarted n) (did Sync (restarted n))
 opened_begun g s w n k =
-    let synced : IsKept g s w (did Sync (begun n)).log = kept_synced g s w (begun n) k in
+    let synced : IsKept g s w (did Sync (restarted n)).log = kept_synced g s w (restarted n) k in
     record {
       honest = record { shows = λ sector. refl };
-      grew = extends_self (did Sync (begun n)).log;
+      grew = extends_self (did Sync (restarted n)).log;
       kept_for = synced;
-      moments = good_now g s w (did Sync (begun n)) synced;
+      moments = good_now g s w (did Sync (restarted n)) synced;
       bare = keeps_self (kept w);
       settled = record { firm = λ a sector durable here. refl };
     }
@@ -62,22 +62,22 @@ opened_begun g s w n k =
 -- ---- the calls
 
 pub calls_keep_anew : (t : Told) (s : Replica) (mended : Option Told) (found : MendsAll t s mended) (to : Replica) (new : Option Told) (xs : List Exchange) (failed : Option Act) (calls : EndsCalls s to mended new xs failed)
-    → IsImage t.shown → s.live ≡ true → (g : Grade) (view : View) → IsFound (shape s.file) (unit_at s.file.layout s.file.cluster t.shown) view → AreDistinct (unit_at s.file.layout s.file.cluster t.shown)
+    → IsImage t.shown → s.live ≡ true → (g : Grade) (view : View) → IsFound (shape s.file) (unit_at s.file.layout s.file.cluster t.shown) view → AreDistinctUnits (unit_at s.file.layout s.file.cluster t.shown)
     → StandsFor g (unit_at s.file.layout s.file.cluster t.shown) view → KeepsAnew g t s view found.mending.events (made_on s mended to new xs failed calls)
 calls_keep_anew t s mended found to new xs failed calls whole live g view is distinct stands =
     let es = found.mending.events in
     let n : Told = told_after es (did Sync t) in
     let w : Work = begun_work s.file t.shown view in
     let anew = found.anew g view whole is distinct stands in
-    let same : (told_after es (begun t)).shown ≡ n.shown = same_goes_on es (did Sync t) (begun t) refl in
-    let started : IsKept g s w (begun (told_after es (begun t))).log = subst (λ (x : Work). IsKept g s x (begun (told_after es (begun t))).log) (begun_is_work t s mended found view whole is) anew.kept_for in
-    let there : IsKept g s w (begun n).log = subst (λ (m : Image). IsKept g s w (record { start = m; events = [] })) same started in
-    let by : OpenedOver g s (kept w) w (begun n) (did Sync (begun n)) = opened_begun g s w n there in
+    let same : (told_after es (restarted t)).shown ≡ n.shown = same_goes_on es (did Sync t) (restarted t) refl in
+    let started : IsKept g s w (restarted (told_after es (restarted t))).log = subst (λ (x : Work). IsKept g s x (restarted (told_after es (restarted t))).log) (begun_is_work t s mended found view whole is) anew.kept_for in
+    let there : IsKept g s w (restarted n).log = subst (λ (m : Image). IsKept g s w (record { start = m; events = [] })) same started in
+    let by : OpenedOver g s (kept w) w (restarted n) (did Sync (restarted n)) = opened_begun g s w n there in
     record {
       opening = anew.moments;
       bare = anew.bare;
       kept = there;
       begins = subst (HistoryBegins s.file) same anew.begins;
-      keeps = keeps_over g s (kept w) w (begun n) (did Sync (begun n)) live by to mended new xs failed calls;
-      acknowledged = keeps_answered s.file g w (Some (did Sync (begun n))) (made_on s mended to new xs failed calls) refl live by.kept_for;
+      keeps = keeps_over g s (kept w) w (restarted n) (did Sync (restarted n)) live by to mended new xs failed calls;
+      acknowledged = keeps_answered s.file g w (Some (did Sync (restarted n))) (made_on s mended to new xs failed calls) refl live by.kept_for;
     }

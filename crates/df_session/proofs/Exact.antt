@@ -31,13 +31,13 @@ use Rattle.df_model.specs.declared.errors.ReplyError.TheVariants as reply
 use Rattle.df_model.specs.declared.errors.StepError.{StepError}
 use Rattle.df_model.specs.declared.errors.StepError.TheVariants as step
 use Rattle.df_result.specs.Answering.{Serves, begin_answer, release_answer, stage_answer}
-use Rattle.df_result.specs.Appending.{IsAppend, append_events, next_unit}
+use Rattle.df_result.specs.Appending.{IsAppendCall, append_events, next_unit}
 use Rattle.df_result.specs.Beginning.{IsBegin}
 use Rattle.df_result.specs.Below.{RunningState, State as Replica, memory}
 use Rattle.df_result.specs.Blocks.{IsRelease, IsWriteBlock, block_events, next_block}
 use Rattle.df_result.specs.Flushing.{IsFlush, IsStage, flush_events, flush_units, sums_of}
-use Rattle.df_result.specs.Replying.{IsReply, next_reply, reply_events}
-use Rattle.df_result.specs.Stepping.{IsStep, OfRunning, Tells, block_events as piece_events, events_for, last_events, made_by, step_events}
+use Rattle.df_result.specs.Replying.{IsReplyCall, next_reply, reply_events}
+use Rattle.df_result.specs.Stepping.{IsStepCall, OfRunning, TellsImage, block_events as piece_events, events_for, last_events, made_by, step_events}
 use Rattle.df_units.specs.Meaning.{number_of}
 use Rattle.df_model.specs.Faults.{is_append_fault, is_block_fault, is_flush_fault, is_reply_fault, is_step_fault}
 use Rattle.df_session.specs.Calls.{IsExact, LendsNothing, blames, is_fault, machine_answer}
@@ -48,7 +48,7 @@ use Rattle.df_session.proofs.Joins.{adds_none, made}
 
 -- ---- a running checkpoint
 
-untold : (told : Option Told) → (Tells told → ⊥) → told ≡ None
+untold : (told : Option Told) → (TellsImage told → ⊥) → told ≡ None
 untold None hides = refl
 untold (Some t) hides = absurd (hides tt)
 
@@ -107,7 +107,7 @@ module _ (s t : Replica) (old new : Option Told) where
     append_refused : (e : AppendError) → (no_append ≡ Some e) × (t ≡ s) × (new ≡ old) → (new ≡ after_all (unless_refused no_append [] appends) old) × (t.running ≡ s.running)
     append_refused e is = (none_own appends old new no_append e is.0 is.2, stays is.1)
 
-    pub append_moves : (r : Result Receipt AppendError) → IsAppend client request body s t old new r → Moves (Append client request body) s t old new (answers.Append r)
+    pub append_moves : (r : Result Receipt AppendError) → IsAppendCall client request body s t old new r → Moves (Append client request body) s t old new (answers.Append r)
     append_moves (Ok x) is = (all_own appends old new no_append is.0 is.3, ap (λ (r : Replica). r.running) is.2)
     append_moves (Err append.DiskFault) is = (part_own appends old new no_append is.0 is.2, ap (λ (r : Replica). r.running) is.1)
     append_moves (Err append.ClientZero) is = append_refused append.ClientZero is
@@ -142,7 +142,7 @@ module _ (s t : Replica) (old new : Option Told) where
     reply_refused : (e : ReplyError) → (no_reply ≡ Some e) × (t ≡ s) × (new ≡ old) → (new ≡ after_all (unless_refused no_reply [] replies) old) × (t.running ≡ s.running)
     reply_refused e is = (none_own replies old new no_reply e is.0 is.2, stays is.1)
 
-    pub reply_moves : (r : Result (List ℕ) ReplyError) → IsReply op body s t old new r → Moves (Reply op body) s t old new (answers.Reply r)
+    pub reply_moves : (r : Result (List ℕ) ReplyError) → IsReplyCall op body s t old new r → Moves (Reply op body) s t old new (answers.Reply r)
     reply_moves (Ok x) is = (all_own replies old new no_reply is.0 is.3, ap (λ (r : Replica). r.running) is.2)
     reply_moves (Err reply.DiskFault) is = (part_own replies old new no_reply is.0 is.2, ap (λ (r : Replica). r.running) is.1)
     reply_moves (Err (reply.NothingPending a)) is = reply_refused (reply.NothingPending a) is
@@ -166,7 +166,7 @@ module _ (s t : Replica) (old new : Option Told) where
     write_moves (Err (block.BodyTooLong a)) is = write_refused (block.BodyTooLong a) is
     write_moves (Err (block.GridFull a)) is = write_refused (block.GridFull a) is
 
-  step_own : (r : Result Progress StepError) → IsStep s t old new r → AddsOwn Advance s old new (machine_answer (answers.Advance r))
+  step_own : (r : Result Progress StepError) → IsStepCall s t old new r → AddsOwn Advance s old new (machine_answer (answers.Advance r))
   step_own (Ok (Working left)) is = all_steps s old new s.running (on_running s.running (λ r i. block_step s old new r s.blocks.left i.0 i.3) is)
   step_own (Ok (Done sequence)) is = all_steps s old new s.running (on_running s.running (λ r i. last_step s old new r s.blocks.left i.0 i.3) is)
   step_own (Err step.NotRunning) is = subst (λ (o : Option RunningState). new ≡ after_all (running_events s o) old) (sym is.0) is.2
@@ -190,7 +190,7 @@ cause_of is_fault before now (Ok x) is = is
 cause_of is_fault before now (Err e) is = is
 
 module _ (s t : Replica) (old new : Option Told) (before now : ℕ) where
-  pub append_called : (client request : ℕ) (body : List ℕ) (r : Result Receipt AppendError) → IsAppend client request body s t old new r → Serves (Append client request body) s t old new (machine_answer (answers.Append r)) → IsBlamed is_append_fault before now r
+  pub append_called : (client request : ℕ) (body : List ℕ) (r : Result Receipt AppendError) → IsAppendCall client request body s t old new r → Serves (Append client request body) s t old new (machine_answer (answers.Append r)) → IsBlamed is_append_fault before now r
       → Called (Append client request body) s t old new before now (answers.Append r)
   append_called client request body r is serves blamed = record {
     exact = (r, refl, is);
@@ -207,7 +207,7 @@ module _ (s t : Replica) (old new : Option Told) (before now : ℕ) where
     cause = cause_of is_flush_fault before now r blamed;
   }
 
-  pub reply_called : (op : ℕ) (body : List ℕ) (r : Result (List ℕ) ReplyError) → IsReply op body s t old new r → Serves (Reply op body) s t old new (machine_answer (answers.Reply r)) → IsBlamed is_reply_fault before now r
+  pub reply_called : (op : ℕ) (body : List ℕ) (r : Result (List ℕ) ReplyError) → IsReplyCall op body s t old new r → Serves (Reply op body) s t old new (machine_answer (answers.Reply r)) → IsBlamed is_reply_fault before now r
       → Called (Reply op body) s t old new before now (answers.Reply r)
   reply_called op body r is serves blamed = record {
     exact = (r, refl, is);
@@ -227,7 +227,7 @@ module _ (s t : Replica) (old new : Option Told) (before now : ℕ) where
     cause = cause_of is_block_fault before now r blamed;
   }
 
-  pub step_called : (r : Result Progress StepError) → IsStep s t old new r → Serves Advance s t old new (machine_answer (answers.Advance r)) → IsBlamed is_step_fault before now r → Called Advance s t old new before now (answers.Advance r)
+  pub step_called : (r : Result Progress StepError) → IsStepCall s t old new r → Serves Advance s t old new (machine_answer (answers.Advance r)) → IsBlamed is_step_fault before now r → Called Advance s t old new before now (answers.Advance r)
   step_called r is serves blamed = record {
     exact = (r, refl, is);
     makes =
@@ -275,7 +275,7 @@ module _ (s t : Replica) (old new : Option Told) (answer : Answer) where
   pub exact_damaged : (command : Command) → IsExact command s t old new answer → (place : Place) (class : Class) → answer ≡ answers.Advance (Err (step.Damaged place class)) → IsDamagedStep command new place class
   exact_damaged Advance is place class damaged =
       let answered : is.0 ≡ Err (step.Damaged place class) = cc (is.1, damaged) in
-      let stopped = subst (λ (r : Result Progress StepError). IsStep s t old new r) answered is.2 in
+      let stopped = subst (λ (r : Result Progress StepError). IsStepCall s t old new r) answered is.2 in
       record {
         step = refl;
         copy = never s.running (on_running s.running (λ r i. ap (λ (p : Place). p.zone) i.4.verdict.place_is) stopped);

@@ -8,7 +8,7 @@ use Rattle.df_theory.specs.View.{View}
 use Rattle.df_units.specs.Bytes.{unit_at}
 use Rattle.df_model.specs.Work.{Work}
 use Rattle.df_result.specs.Begun.{begun_work}
-use Rattle.df_result.specs.Below.{DataFile, State as Replica, begun, shape, told_after}
+use Rattle.df_result.specs.Below.{DataFile, State as Replica, restarted, shape, told_after}
 use Rattle.df_result.specs.Following.{MayOpen}
 use Rattle.df_result.specs.Opened.{MendsAll, begun_state}
 use Rattle.df_result.specs.Serving.{Firm, Grade, Keeps, StandsFor}
@@ -57,8 +57,8 @@ calls_keep t s mended found to new xs failed calls whole live = record {
   lived = λ log logs may.
       calls_lived t s mended found whole (events_to s to mended new xs failed calls)
       (λ view opens.
-      safe_each s.file Firm (begun_work s.file t.shown view) (begun t) xs failed found.mending.events (events_to s to mended new xs failed calls)
-      (keeps_over Firm s view (begun_work s.file t.shown view) (begun t) (told_after found.mending.events (did Sync (begun t))) live (opened_here t s mended found whole Firm view (begun t) refl opens tt)
+      safe_each s.file Firm (begun_work s.file t.shown view) (restarted t) xs failed found.mending.events (events_to s to mended new xs failed calls)
+      (keeps_over Firm s view (begun_work s.file t.shown view) (restarted t) (told_after found.mending.events (did Sync (restarted t))) live (opened_here t s mended found whole Firm view (restarted t) refl opens tt)
       to mended new xs failed calls)) log logs may;
   spares = λ view is. spares_blocks (begun_work s.file t.shown view) (made_on s mended to new xs failed calls) live (begun_here t s mended found view whole is);
 }

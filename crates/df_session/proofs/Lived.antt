@@ -9,7 +9,7 @@ use Rattle.df_disk.specs.Told.{Told, did}
 use Rattle.df_theory.specs.Device.{IsSafeDisk}
 use Rattle.df_theory.specs.View.{View}
 use Rattle.df_model.specs.Work.{Work}
-use Rattle.df_result.specs.Below.{DataFile, FindsSince, IsLivedDisk, IsOpened, MayReopen, State as Replica, begun, shape, told_after}
+use Rattle.df_result.specs.Below.{DataFile, FindsSince, IsLivedDisk, IsOpened, MayReopen, State as Replica, restarted, shape, told_after}
 use Rattle.df_result.specs.Following.{MayOpen}
 use Rattle.df_result.specs.Opened.{MendsAll}
 use Rattle.df_result.specs.Serving.{Grade, format}
@@ -29,11 +29,11 @@ safe_each file g w base xs failed mending added keeps =
 
 -- from the barrier of the open on the history is lived with the log that is restarted there
 pub calls_lived : (t : Told) (s : Replica) (mended : Option Told) (found : MendsAll t s mended) → IsImage t.shown → (events : List Event)
-    → ((view : View) → MayOpen s.file view (begun t) → IsSafeEach s.file (begun t) (told_after events (told_after found.mending.events (did Sync (begun t)))))
+    → ((view : View) → MayOpen s.file view (restarted t) → IsSafeEach s.file (restarted t) (told_after events (told_after found.mending.events (did Sync (restarted t)))))
     → (log : Log) (logs : List Log) → MayReopen s.file log logs t.shown
-    → EachMoment (did Sync (begun t)).log (told_after events (told_after found.mending.events (did Sync (begun t)))).log (IsLivedDisk s.file (add Sync log ∷ logs))
+    → EachMoment (did Sync (restarted t)).log (told_after events (told_after found.mending.events (did Sync (restarted t)))).log (IsLivedDisk s.file (add Sync log ∷ logs))
 calls_lived t s mended found whole events safe log logs may =
-    let entry : Told = did Sync (begun t) in
+    let entry : Told = did Sync (restarted t) in
     let mid : Told = told_after found.mending.events entry in
     let exit : Told = told_after events mid in
     let file_is : s.file ≡ found.found.file = ap (λ (r : Replica). r.file) found.raised in

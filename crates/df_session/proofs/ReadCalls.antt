@@ -6,7 +6,7 @@ use Rattle.df_layout.specs.declared.damage.Class.{Class}
 use Rattle.df_layout.specs.declared.damage.Class.TheVariants.{Blank}
 use Rattle.df_theory.specs.Units.{Block, Message}
 use Rattle.df_model.specs.Commands.{Answer, Command, ForReadBlock, ForReadPrepare, ForReadReply, Given, ReadBlock, ReadPrepare, ReadReply}
-use Rattle.df_result.specs.Answering.{Gives, GivesBlock, ServesBlockRead, ServesRead}
+use Rattle.df_result.specs.Answering.{GivesBlock, GivesFound, ServesBlockRead, ServesRead}
 use Rattle.df_result.specs.Below.{State as Replica}
 use Rattle.df_result.specs.BlockReads.{block_found}
 use Rattle.df_result.specs.Reading.{message_at}
@@ -42,10 +42,10 @@ reads command form shown Gives s t None new is same None answer serves = made_wi
 
 module _ (s t : Replica) (old new : Option Told) (same : new ≡ old) where
   pub reads_prepare : (op : ℕ) (found : Option (Result Message Class)) (answer : Option Answer) → ServesRead (ReadPrepare op) s t old found answer → Makes (ReadPrepare op) s t old new answer
-  reads_prepare op = reads (ReadPrepare op) ForReadPrepare (message_at s (ReadPrepare op)) Gives s t old new (record { told = λ t found. ((refl, refl), tt); found = λ unit. ((refl, tt), refl); nothing = ((refl, tt), tt); quiet = refl }) same
+  reads_prepare op = reads (ReadPrepare op) ForReadPrepare (message_at s (ReadPrepare op)) GivesFound s t old new (record { told = λ t found. ((refl, refl), tt); found = λ unit. ((refl, tt), refl); nothing = ((refl, tt), tt); quiet = refl }) same
 
   pub reads_reply : (client : ℕ) (found : Option (Result Message Class)) (answer : Option Answer) → ServesRead (ReadReply client) s t old found answer → Makes (ReadReply client) s t old new answer
-  reads_reply client = reads (ReadReply client) ForReadReply (message_at s (ReadReply client)) Gives s t old new (record { told = λ t found. ((refl, refl), tt); found = λ unit. ((refl, tt), refl); nothing = ((refl, tt), tt); quiet = refl }) same
+  reads_reply client = reads (ReadReply client) ForReadReply (message_at s (ReadReply client)) GivesFound s t old new (record { told = λ t found. ((refl, refl), tt); found = λ unit. ((refl, tt), refl); nothing = ((refl, tt), tt); quiet = refl }) same
 
   pub reads_block : (address : ℕ) (found : Option (Result Block Class)) (answer : Option Answer) → ServesBlockRead (ReadBlock address) s t old found answer → Makes (ReadBlock address) s t old new answer
   reads_block address = reads (ReadBlock address) ForReadBlock (block_found s address) GivesBlock s t old new (record { told = λ t found. ((refl, refl), tt); found = λ unit. ((refl, tt), refl); nothing = ((refl, tt), tt); quiet = refl }) same

@@ -8,7 +8,7 @@ use Rattle.df_theory.specs.Next.{IsSameBare, booted}
 use Rattle.df_theory.specs.View.{View}
 use Rattle.df_units.specs.Meaning.{content_of}
 use Rattle.df_result.specs.Begun.{begun_work}
-use Rattle.df_result.specs.Below.{State as Replica, begun, told_after}
+use Rattle.df_result.specs.Below.{State as Replica, restarted, told_after}
 use Rattle.df_result.specs.Opened.{HistoryBegins, StaysFound}
 use Rattle.df_result.specs.Serving.{Grade, IsKept}
 use Rattle.df_session.specs.Acknowledging.{KeepsAnswered}
@@ -17,13 +17,13 @@ use Rattle.df_session.specs.Links.{CallsMade, events_made}
 
 -- the log that is restarted at the end of an open, by what the disk shows there: the last sync of the open is its barrier
 abbrev pub begun_after : List Event → Told → Told
-begun_after mending t = begun (told_after mending (did Sync t))
+begun_after mending t = restarted (told_after mending (did Sync t))
 
 -- An open answered, and these calls were made. By the log begun at its end the file is kept there, and all that is answered is there from its answer on, after a stop at any moment and at the
 -- end; all units are of earlier boots there, so a history of damage may begin. By the log begun at its barrier, a stop at any moment within the open leaves the view that was found, with the boot of before or the next
 -- one. So it is whatever the copies showed, as far as nothing more is hurt, and the next open starts over.
 pub record KeepsAnew (g : Grade) (t : Told) (s : Replica) (view : View) (mending : List Event) (c : CallsMade) : Type 0 where
-  pub opening : EachMoment (begun t).log (told_after mending (begun t)).log (StaysFound g s.file view s.fields)
+  pub opening : EachMoment (restarted t).log (told_after mending (restarted t)).log (StaysFound g s.file view s.fields)
   pub bare : IsSameBare view (booted view (content_of (content_with s.fields)))
   pub kept : IsKept g s (begun_work s.file t.shown view) (begun_after mending t).log
   pub begins : HistoryBegins s.file (begun_after mending t).shown

@@ -16,13 +16,13 @@ use Rattle.df_model.specs.declared.errors.ReplyError.{ReplyError}
 use Rattle.df_model.specs.declared.errors.StepError.{StepError}
 use Rattle.df_model.specs.Faults.{is_append_fault, is_block_fault, is_flush_fault, is_lookup_fault, is_prepare_fault, is_read_fault, is_reply_fault, is_step_fault}
 use Rattle.df_result.specs.Answering.{answer_of, as_append, as_flush, as_reply, as_write_block, begin_answer, is_step_unanswered, release_answer, stage_answer}
-use Rattle.df_result.specs.Appending.{IsAppend}
+use Rattle.df_result.specs.Appending.{IsAppendCall}
 use Rattle.df_result.specs.Beginning.{IsBegin}
 use Rattle.df_result.specs.Below.{State as Replica}
 use Rattle.df_result.specs.Blocks.{IsRelease, IsWriteBlock}
 use Rattle.df_result.specs.Flushing.{IsFlush, IsStage}
-use Rattle.df_result.specs.Replying.{IsReply}
-use Rattle.df_result.specs.Stepping.{IsStep}
+use Rattle.df_result.specs.Replying.{IsReplyCall}
+use Rattle.df_result.specs.Stepping.{IsStepCall}
 
 -- an answer tells all of it: a read lends its unit and the ring its findings, and a check has none that tells of a failing disk
 abbrev pub HasAnswer : Command → Type 0
@@ -60,14 +60,14 @@ LendsNothing answer = Unit {0}
 
 -- the answer is that of the call, which is exact
 abbrev pub IsExact : Command → (s t : Replica) → (old new : Option Told) → Answer → Type 0
-IsExact (Append client request body) s t old new answer = (r : Result Receipt AppendError) × (answer ≡ answers.Append r) × IsAppend client request body s t old new r
+IsExact (Append client request body) s t old new answer = (r : Result Receipt AppendError) × (answer ≡ answers.Append r) × IsAppendCall client request body s t old new r
 IsExact (Stage client request body) s t old new answer = (r : Result ℕ AppendError) × (answer ≡ answers.Stage r) × IsStage client request body s t r × (new ≡ old)
 IsExact Flush s t old new answer = (r : Result ℕ FlushError) × (answer ≡ answers.Flush r) × IsFlush s t old new r
-IsExact (Reply op body) s t old new answer = (r : Result (List ℕ) ReplyError) × (answer ≡ answers.Reply r) × IsReply op body s t old new r
+IsExact (Reply op body) s t old new answer = (r : Result (List ℕ) ReplyError) × (answer ≡ answers.Reply r) × IsReplyCall op body s t old new r
 IsExact (WriteBlock kind body) s t old new answer = (r : Result Reference BlockError) × (answer ≡ answers.WriteBlock r) × IsWriteBlock kind body s t old new r
 IsExact (Release address) s t old new answer = (r : Result (Unit {0}) NotLive) × (answer ≡ answers.Release r) × IsRelease address s t r × (new ≡ old)
 IsExact (Begin root) s t old new answer = (r : Result ℕ BeginError) × (answer ≡ answers.Begin r) × IsBegin root s t r × (new ≡ old)
-IsExact Advance s t old new answer = (r : Result Progress StepError) × (answer ≡ answers.Advance r) × IsStep s t old new r
+IsExact Advance s t old new answer = (r : Result Progress StepError) × (answer ≡ answers.Advance r) × IsStepCall s t old new r
 IsExact command s t old new answer = ⊥
 
 -- the machine's answer: none where the disk failed, or where a step found the superblock damaged that it wrote; a unit that was read is no part of an answer, nor is what the ring holds

@@ -9,7 +9,7 @@ use Rattle.df_theory.specs.Found.{IsFound}
 use Rattle.df_theory.specs.View.{View}
 use Rattle.df_units.specs.Bytes.{unit_at}
 use Rattle.df_model.specs.Supply.{Shown}
-use Rattle.df_result.specs.Below.{AreDistinct, IsLivedDisk, MayReopen, State as Replica, begun, shape, told_after}
+use Rattle.df_result.specs.Below.{AreDistinctUnits, IsLivedDisk, MayReopen, State as Replica, restarted, shape, told_after}
 use Rattle.df_result.specs.Following.{MayOpen}
 use Rattle.df_result.specs.Begun.{begun_work}
 use Rattle.df_result.specs.Opened.{AreRaising, Mends, MendsAll, raised_state}
@@ -41,10 +41,10 @@ pub record CallsKeep (t : Told) (s : Replica) (mended : Option Told) (mending : 
       → KeepsFile s.file g (begun_work s.file t.shown view) base c.exchanges c.failed (over mending.events (events_made c) base)
   pub acknowledged : (g : Grade) (view : View) (base : Told) → base.shown ≡ t.shown → MayOpen s.file view base → StandsFor g (unit_at s.file.layout s.file.cluster t.shown) view
       → KeepsAnswered s.file g (begun_work s.file t.shown view) (over mending.events [] base) c
-  pub anew : (g : Grade) (view : View) → IsFound (shape s.file) (unit_at s.file.layout s.file.cluster t.shown) view → AreDistinct (unit_at s.file.layout s.file.cluster t.shown)
+  pub anew : (g : Grade) (view : View) → IsFound (shape s.file) (unit_at s.file.layout s.file.cluster t.shown) view → AreDistinctUnits (unit_at s.file.layout s.file.cluster t.shown)
       → StandsFor g (unit_at s.file.layout s.file.cluster t.shown) view → KeepsAnew g t s view mending.events c
   pub lived : (log : Log) (logs : List Log) → MayReopen s.file log logs t.shown
-      → EachMoment (did Sync (begun t)).log (told_after (events_made c) (told_after mending.events (did Sync (begun t)))).log (IsLivedDisk s.file (add Sync log ∷ logs))
+      → EachMoment (did Sync (restarted t)).log (told_after (events_made c) (told_after mending.events (did Sync (restarted t)))).log (IsLivedDisk s.file (add Sync log ∷ logs))
   pub spares : (view : View) → IsFound (shape s.file) (unit_at s.file.layout s.file.cluster t.shown) view → SparesBlocks s.file (begun_work s.file t.shown view) c
 
 -- these calls, made on what an open found and mended

@@ -19,7 +19,7 @@ use Rattle.df_model.specs.Supply.{Shown}
 use Rattle.df_model.specs.Work.{Work}
 use Rattle.df_model.proofs.Laws.{pass_all}
 use Rattle.df_sessions.proofs.Laws.{reply_unnoted}
-use Rattle.df_result.specs.Replying.{replied}
+use Rattle.df_result.specs.Replying.{with_stored_reply}
 use Rattle.df_rows.specs.Limits.{blocks_of_table}
 use Rattle.df_rows.specs.Tables.{Table}
 use Rattle.df_session.specs.Below.{DataFile, State as Replica, memory, shape, spelling}
@@ -71,7 +71,7 @@ pub record HasReplied (b : ℕ) (s t : Replica) : Type 0 where
 pub replied_none : (s : Replica) → HasReplied s.replies s s
 replied_none s = record { head = refl; replies = refl; staged = refl; file = refl; blocks = refl; running = refl; sessions = refl }
 
-pub replied_more : (b : ℕ) (s t u : Replica) (h : Header) → HasReplied b s t → u ≡ replied t h → HasReplied (b + 1) s u
+pub replied_more : (b : ℕ) (s t u : Replica) (h : Header) → HasReplied b s t → u ≡ with_stored_reply t h → HasReplied (b + 1) s u
 replied_more b s t u h is behind = subst (λ (r : Replica). HasReplied (b + 1) s r) (sym behind) (record {
   head = is.head;
   replies = ap (λ (n : ℕ). n + 1) is.replies;

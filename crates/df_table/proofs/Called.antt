@@ -26,8 +26,8 @@ use Rattle.df_model.specs.declared.errors.ReplyError.TheVariants as reply
 use Rattle.df_model.specs.declared.errors.StepError.{StepError}
 use Rattle.df_model.specs.declared.errors.StepError.TheVariants as step
 use Rattle.df_session.specs.Answering.{as_append, as_reply, as_write_block}
-use Rattle.df_result.specs.Appending.{IsAppend, appended, next_unit}
-use Rattle.df_session.specs.Beginning.{IsBegin, begin_refusal, begun}
+use Rattle.df_result.specs.Appending.{IsAppendCall, next_unit, with_prepare_appended}
+use Rattle.df_session.specs.Beginning.{IsBegin, begin_refusal, with_checkpoint_begun}
 use Rattle.df_session.specs.Below.{State as Replica, RunningState, memory}
 use Rattle.df_session.specs.Blocks.{IsRelease, IsWriteBlock, next_block, released, written}
 use Rattle.df_session.specs.Calls.{machine_answer}
@@ -35,8 +35,8 @@ use Rattle.df_session.specs.Endings.{EndsBy, GivesAnswer, is_disk_fault as by_fa
 use Rattle.df_session.specs.Links.{Makes}
 use Rattle.df_session.specs.declared.hearing.Fault.{Fault}
 use Rattle.df_session.specs.declared.hearing.Fault.TheVariants as faults
-use Rattle.df_result.specs.Replying.{IsReply, next_reply, replied}
-use Rattle.df_session.specs.Stepping.{IsStep, OfRunning}
+use Rattle.df_result.specs.Replying.{IsReplyCall, next_reply, with_stored_reply}
+use Rattle.df_session.specs.Stepping.{IsStepCall, OfRunning}
 use Rattle.df_session.proofs.Laws.{on_running}
 use Rattle.df_table.specs.Calls.{CheckpointStepped, Comes, IsCheckpointing, MayAppendCommand, MayBegin, accepted_or, done_of, op_of}
 use Rattle.df_table.specs.declared.ending.Ending.TheVariants.{Disk, OpsSpent, SequenceSpent}
@@ -95,7 +95,7 @@ module _ (s t : Replica) (old new : Option Told) where
   -- by what is taken of the answer
   pub record Replies (op : ℕ) (a : Answer) : Type 0 where
     pub comes : first_refusal (reply_refusals (memory s) op []) ≡ None → Comes (Reply op [] ∷ []) s t old new (accepted_or a OpsSpent)
-    pub state : OnOk (accepted_or a OpsSpent) (t ≡ replied s (next_reply s []).header)
+    pub state : OnOk (accepted_or a OpsSpent) (t ≡ with_stored_reply s (next_reply s []).header)
     pub fails : first_refusal (reply_refusals (memory s) op []) ≡ None → IfErr (accepted_or a OpsSpent) (λ e. e ≡ Disk)
     pub blames : (before now : ℕ) → now ≡ before → IsBlamed is_disk before now (accepted_or a OpsSpent)
     pub ends : IfErr (accepted_or a OpsSpent) (IsOfCall new)
@@ -104,7 +104,7 @@ module _ (s t : Replica) (old new : Option Told) where
     reply_refused : (e : ReplyError) → first_refusal (reply_refusals (memory s) op []) ≡ Some e → Replies op (answers.Reply (Err e))
     reply_refused e is = record { comes = λ may. absurd (none-some e (sym may ∙ is)); state = tt; fails = λ may. absurd (none-some e (sym may ∙ is)); blames = λ before now same. same; ends = tt }
 
-    reply_answered : (r : Result (List ℕ) ReplyError) → IsReply op [] s t old new r → (x : Answered) → Makes (Reply op []) s t old new (Some x) → machine_answer (answers.Reply r) ≡ Some x → Replies op (answers.Reply r)
+    reply_answered : (r : Result (List ℕ) ReplyError) → IsReplyCall op [] s t old new r → (x : Answered) → Makes (Reply op []) s t old new (Some x) → machine_answer (answers.Reply r) ≡ Some x → Replies op (answers.Reply r)
     reply_answered (Ok check) is x makes told = record { comes = λ may. one_made (Reply op []) s t old new x makes (accepted_by (as_reply (Ok check)) x told tt); state = is.2; fails = λ may. tt; blames = λ before now same. same; ends = tt }
     reply_answered (Err reply.DiskFault) is x makes told = absurd (none-some x told)
     reply_answered (Err (reply.NothingPending a)) is x makes told = reply_refused (reply.NothingPending a) is.0
@@ -145,7 +145,7 @@ module _ (s t : Replica) (old new : Option Told) where
 
   pub record Begins (a : Answer) : Type 0 where
     pub comes : MayBegin s → Comes (Begin [] ∷ []) s t old new (accepted_or a SequenceSpent)
-    pub state : OnOk (accepted_or a SequenceSpent) (t ≡ begun s [])
+    pub state : OnOk (accepted_or a SequenceSpent) (t ≡ with_checkpoint_begun s [])
     pub blames : (before now : ℕ) → now ≡ before → IsBlamed is_disk before now (accepted_or a SequenceSpent)
     pub ends : IfErr (accepted_or a SequenceSpent) (IsOfCall new)
 
@@ -186,7 +186,7 @@ module _ (s t : Replica) (old new : Option Told) where
 
   pub record Appends (request : ℕ) (body : List ℕ) (a : Answer) : Type 0 where
     pub comes : MayAppendCommand s request body → Comes (Append the_client request body ∷ []) s t old new (op_of a)
-    pub state : OnOk (op_of a) (t ≡ appended s (next_unit s the_client request body))
+    pub state : OnOk (op_of a) (t ≡ with_prepare_appended s (next_unit s the_client request body))
     pub op : IfOk (op_of a) (λ op. op ≡ s.head + 1)
     pub blames : (before now : ℕ) → now ≡ before → IsBlamed is_disk before now (op_of a)
     pub ends : IfErr (op_of a) (IsOfCall new)
@@ -204,7 +204,7 @@ module _ (s t : Replica) (old new : Option Told) where
       ends = tt;
     }
 
-    append_answered : (r : Result Receipt AppendError) → IsAppend the_client request body s t old new r → (x : Answered) → Makes (Append the_client request body) s t old new (Some x) → machine_answer (answers.Append r) ≡ Some x → Appends request body (answers.Append r)
+    append_answered : (r : Result Receipt AppendError) → IsAppendCall the_client request body s t old new r → (x : Answered) → Makes (Append the_client request body) s t old new (Some x) → machine_answer (answers.Append r) ≡ Some x → Appends request body (answers.Append r)
     append_answered (Ok receipt) is x makes told = record {
       comes = λ may. one_made (Append the_client request body) s t old new x makes (accepted_by (as_append (Ok receipt)) x told tt);
       state = is.2;
@@ -242,7 +242,7 @@ module _ (s t : Replica) (old new : Option Told) where
     pub state : CheckpointStepped (done_of a) s t
 
   module _ (runs : IsCheckpointing s) where
-    step_answered : (r : Result Progress StepError) → IsStep s t old new r → (x : Answered) → Makes Advance s t old new (Some x) → machine_answer (answers.Advance r) ≡ Some x → Steps (answers.Advance r)
+    step_answered : (r : Result Progress StepError) → IsStepCall s t old new r → (x : Answered) → Makes Advance s t old new (Some x) → machine_answer (answers.Advance r) ≡ Some x → Steps (answers.Advance r)
     step_answered (Ok (progress.Working left)) is x makes told = record {
       comes = one_made Advance s t old new x makes (accepted_by (ToAdvance (Ok (progress.Working left))) x told tt);
       state = on_running s.running (λ r i. (i.0, i.2)) is;

@@ -17,7 +17,7 @@ use Rattle.df_rows.specs.declared.command.Command.{Command}
 use Rattle.df_rows.specs.declared.command.Command.TheVariants.{Drop, Put}
 use Rattle.df_rows.specs.Commands.{IsCommand, body_of}
 use Rattle.df_session.specs.Below.{State as Replica, memory}
-use Rattle.df_result.specs.Appending.{appended, next_unit}
+use Rattle.df_result.specs.Appending.{next_unit, with_prepare_appended}
 use Rattle.df_session.specs.Beginning.{needed}
 use Rattle.df_table.specs.Calls.{MayAppendCommand, MayBegin}
 use Rattle.df_table.specs.Policy.{is_full, the_client}
@@ -99,9 +99,9 @@ module _ (layout : Layout) (s : Replica) (ready : IsReadyReplica layout s) where
       (but_last (take 8 asks) (((memory s).head == 2 ^ 62) || nat_lt (2 ^ 62) (next_request o)) append.OpsSpent (tests body room short))
 
   -- the reply to it isn't refused
-  pub may_reply : (request : ℕ) (body : List ℕ) (op : ℕ) → op ≡ s.head + 1 → first_refusal (reply_refusals (memory (appended s (next_unit s the_client request body))) op []) ≡ None
+  pub may_reply : (request : ℕ) (body : List ℕ) (op : ℕ) → op ≡ s.head + 1 → first_refusal (reply_refusals (memory (with_prepare_appended s (next_unit s the_client request body))) op []) ≡ None
   may_reply request body op is =
-      pass_all (reply_refusals (memory (appended s (next_unit s the_client request body))) op []) (
+      pass_all (reply_refusals (memory (with_prepare_appended s (next_unit s the_client request body))) op []) (
         ne_eqb s.replies (s.head + 1) (λ same. omega (arith, same, ready.own.answered)),
         (ap not (eq-eqb op (s.replies + 1) (omega (arith, is, ready.own.answered))), (le-ltb _ _ (omega arith), tt)),
       )
@@ -136,5 +136,5 @@ may_store layout s ready room c fits n body number spells =
     (subst (λ (bytes : List ℕ). MayAppendCommand s (next_request (session_of_client the_client (memory s).sessions)) bytes) (sym spells) (may_append layout s ready (body_of c) room (short_body c fits)))
 
 -- and the reply to it
-pub may_answer : (layout : Layout) (s t : Replica) → IsReadyReplica layout s → (n : ℕ) (body : List ℕ) (op : ℕ) → op ≡ s.head + 1 → t ≡ appended s (next_unit s the_client n body) → first_refusal (reply_refusals (memory t) op []) ≡ None
+pub may_answer : (layout : Layout) (s t : Replica) → IsReadyReplica layout s → (n : ℕ) (body : List ℕ) (op : ℕ) → op ≡ s.head + 1 → t ≡ with_prepare_appended s (next_unit s the_client n body) → first_refusal (reply_refusals (memory t) op []) ≡ None
 may_answer layout s t ready n body op next behind = subst (λ (v : Replica). first_refusal (reply_refusals (memory v) op []) ≡ None) (sym behind) (may_reply layout s ready n body op next)

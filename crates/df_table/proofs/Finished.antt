@@ -12,7 +12,7 @@ use Rattle.df_model.specs.Memory.{Memory, course, course_of, free_of}
 use Rattle.df_model.specs.Work.{Running, Work}
 use Rattle.df_rows.specs.Commands.{Map}
 use Rattle.df_rows.specs.Limits.{blocks_of_table}
-use Rattle.df_session.specs.Beginning.{begun, captured, needed}
+use Rattle.df_session.specs.Beginning.{captured, needed, with_checkpoint_begun}
 use Rattle.df_session.specs.Below.{DataFile, RunningState, State as Replica, memory, shape, spelling}
 use Rattle.df_session.specs.Serving.{Firm, Keeps}
 use Rattle.df_table.specs.declared.ending.Ending.{Ending}
@@ -100,7 +100,7 @@ module _ (layout : Layout) (s t : Replica) (e : IsEmptied layout s t) (n : ℕ) 
 
     -- ---- after the checkpoint
 
-    pub room_there : (v : Replica) → IsFinished (captured u []) (begun u []) v → v.live ≡ true → (w : Work) → Keeps Firm v w None → HasRingRoom layout s v
+    pub room_there : (v : Replica) → IsFinished (captured u []) (with_checkpoint_begun u []) v → v.live ≡ true → (w : Work) → Keeps Firm v w None → HasRingRoom layout s v
     room_there v done live w keeps = record {
       ready = record {
         live = live;
@@ -125,7 +125,7 @@ module _ (layout : Layout) (s t : Replica) (e : IsEmptied layout s t) (n : ℕ) 
     }
 
     -- where all was accepted
-    pub room_made : {T : Type 0} (v : Replica) (old mid new : Option Told) (rows : Map) (r : Result T Ending) → MakeAll (writes layout rows) t u old mid → Concludes u v mid new r → OnOk r (IsFinished (captured u []) (begun u []) v) → OnOk r (v.live ≡ true) → OnOk r (HasRingRoom layout s v)
+    pub room_made : {T : Type 0} (v : Replica) (old mid new : Option Told) (rows : Map) (r : Result T Ending) → MakeAll (writes layout rows) t u old mid → Concludes u v mid new r → OnOk r (IsFinished (captured u []) (with_checkpoint_begun u []) v) → OnOk r (v.live ≡ true) → OnOk r (HasRingRoom layout s v)
     room_made v old mid new rows (Ok x) made concludes done live =
         let there = makes_keep (writes layout rows) t u old mid made e.work e.stands in
         let after = makes_keep (Begin [] ∷ replicate concludes.0 Advance) u v mid new concludes.1 there.0 there.1 in

@@ -14,7 +14,7 @@ use Rattle.df_units.specs.Making.{first_view}
 use Rattle.df_units.proofs.Laws.{is_format}
 use Rattle.df_model.specs.declared.errors.FormatError.{FormatError}
 use Rattle.df_session.specs.Below.{DataFile, shape}
-use Rattle.df_session.specs.Making.{Formats, MayMakeOn, file_of, making_events}
+use Rattle.df_session.specs.Making.{FormatsFile, MayMakeOn, file_of, making_events}
 use Rattle.df_session.specs.Serving.{format}
 use Rattle.df_table.specs.Lives.{EveryTableGoesOn, NextRunServesIt, TableChapter, TableLife}
 use Rattle.df_table.specs.Lives.Life.{Begun, Ended, Made, Ran, Stopped}
@@ -64,10 +64,10 @@ module _ (layout : Layout) (cluster : ℕ) (t n : Told) (makable : MayMakeOn lay
     had = refl;
   }
 
-  safe_each : (result : Result (Unit {0}) FormatError) → Formats layout cluster (Some t) (Some n) result → EachMoment t.log n.log (IsSafeDisk (format file) (shape file))
+  safe_each : (result : Result (Unit {0}) FormatError) → FormatsFile layout cluster (Some t) (Some n) result → EachMoment t.log n.log (IsSafeDisk (format file) (shape file))
   safe_each result formats = (formats.makes t n refl refl makable).moments
 
-  made : IsHonest t → Formats {T = Unit {0}} layout cluster (Some t) (Some n) (Ok tt) → InOrder file [] n
+  made : IsHonest t → FormatsFile {T = Unit {0}} layout cluster (Some t) (Some n) (Ok tt) → InOrder file [] n
   made honest formats =
       let grew = goes (making_events layout cluster) t n formats.events in
       let makes = formats.makes t n refl refl makable in

@@ -10,8 +10,8 @@ use Rattle.df_sessions.specs.Table.{requested, with_reply_stored, with_request}
 use Rattle.df_theory.specs.Units.{Session}
 use Rattle.df_model.specs.Commands.{Answer, Command}
 use Rattle.df_model.specs.Work.{Work}
-use Rattle.df_result.specs.Appending.{appended, next_unit}
-use Rattle.df_result.specs.Replying.{replied}
+use Rattle.df_result.specs.Appending.{next_unit, with_prepare_appended}
+use Rattle.df_result.specs.Replying.{with_stored_reply}
 use Rattle.df_session.specs.Below.{State as Replica}
 use Rattle.df_session.specs.Links.{AreCalls}
 use Rattle.df_session.specs.Serving.{Firm, Keeps, next}
@@ -68,7 +68,7 @@ reply_own (suc place) check (x ∷ ss) own = (own.0, reply_own place check ss ow
 
 module _ (layout : Layout) (s : Replica) (ready : IsReadyReplica layout s) (request : ℕ) (body : List ℕ) (h : Header) where
   abbrev behind : Replica
-  behind = replied (appended s (next_unit s the_client request body)) h
+  behind = with_stored_reply (with_prepare_appended s (next_unit s the_client request body)) h
 
   ready_behind : (u : Work) → Keeps Firm behind u None → IsReadyReplica layout behind
   ready_behind u keeps = record {
@@ -85,8 +85,8 @@ module _ (layout : Layout) (s : Replica) (ready : IsReadyReplica layout s) (requ
     space = record { live = ready.space.live; few = ready.space.few; chain = ready.space.chain };
   }
 
-  pub ready_stored : (v t : Replica) (old new : Option Told) (commands : List Command) → v ≡ appended s (next_unit s the_client request body) → t ≡ replied v h → MakeAll commands s t old new → IsReadyReplica layout t
+  pub ready_stored : (v t : Replica) (old new : Option Told) (commands : List Command) → v ≡ with_prepare_appended s (next_unit s the_client request body) → t ≡ with_stored_reply v h → MakeAll commands s t old new → IsReadyReplica layout t
   ready_stored v t old new commands one two made =
-      let is : t ≡ behind = two ∙ ap (λ (r : Replica). replied r h) one in
+      let is : t ≡ behind = two ∙ ap (λ (r : Replica). with_stored_reply r h) one in
       let keeps = makes_keep commands s t old new made ready.work ready.stands in
       subst (λ (r : Replica). IsReadyReplica layout r) (sym is) (ready_behind keeps.0 (subst (λ (r : Replica). Keeps Firm r keeps.0 None) is keeps.1))

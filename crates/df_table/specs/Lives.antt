@@ -20,7 +20,7 @@ use Rattle.df_session.specs.Below.{DataFile, shape}
 use Rattle.df_session.specs.Following.{MayOpen}
 use Rattle.df_session.specs.Found.{FoundFile}
 use Rattle.df_session.specs.Links.{CallsMade}
-use Rattle.df_session.specs.Making.{Formats, MayMakeOn, file_of}
+use Rattle.df_session.specs.Making.{FormatsFile, MayMakeOn, file_of}
 use Rattle.df_session.specs.Serving.{format}
 use Rattle.df_table.specs.declared.ending.Ending.TheVariants.{Disk}
 use Rattle.df_table.specs.declared.status.Status.{Status}
@@ -86,9 +86,9 @@ KeepsIn extent t n run chapter = KeepsBy extent t run.old run.new run.status (ru
 -- The life of a file so far: what the disk tells, and what was kept of each run, the newest first.
 pub data TableLife : DataFile → Told → List TableChapter → Type 0 where
   -- it was made, on an honest disk on which a file may be made, as on one that was never written
-  Made : (layout : Layout) (cluster : ℕ) (t n : Told) (makable : MayMakeOn layout cluster t) → IsHonest t → Formats {T = Unit {0}} layout cluster (Some t) (Some n) (Ok tt) → TableLife (file_of layout cluster makable.named) n []
+  Made : (layout : Layout) (cluster : ℕ) (t n : Told) (makable : MayMakeOn layout cluster t) → IsHonest t → FormatsFile {T = Unit {0}} layout cluster (Some t) (Some n) (Ok tt) → TableLife (file_of layout cluster makable.named) n []
   -- or its making was cut off at a moment, and a stop left its first view all the same
-  Begun : (layout : Layout) (cluster : ℕ) (t n m : Told) (result : Result (Unit {0}) FormatError) (changes : List (ℕ × List ℕ)) (makable : MayMakeOn layout cluster t) → Formats layout cluster (Some t) (Some n) result
+  Begun : (layout : Layout) (cluster : ℕ) (t n m : Told) (result : Result (Unit {0}) FormatError) (changes : List (ℕ × List ℕ)) (makable : MayMakeOn layout cluster t) → FormatsFile layout cluster (Some t) (Some n) result
       → IsMoment t.log n.log m.log → IsHonest m → AreLoose m.log.events changes → NoChanceOf (format_of layout cluster) m.log (changed changes (now m.log))
       → Held (shape (file_of layout cluster makable.named)) ((format_of layout cluster).unit_at (changed changes (now m.log))) (first_view layout cluster) → TableLife (file_of layout cluster makable.named) (did (Stop changes) m) []
   -- then the program was run to its end, whatever its status; what was shown as it began did not come about by chance

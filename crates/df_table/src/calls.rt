@@ -5,11 +5,11 @@ ghost use Rattle.df_model.specs.Blocks.{sum_at};
 ghost use Rattle.df_model.specs.Commands.{Advance, Append, Begin, Release, Reply, WriteBlock};
 ghost use Rattle.df_model.specs.Refusals.{block_refusals, first_refusal, reply_refusals};
 ghost use Rattle.df_model.specs.Work.{is_known};
-ghost use Rattle.df_result.specs.Appending.{appended, next_unit};
-ghost use Rattle.df_session.specs.Beginning.{begun};
+ghost use Rattle.df_result.specs.Appending.{next_unit, with_prepare_appended};
+ghost use Rattle.df_session.specs.Beginning.{with_checkpoint_begun};
 ghost use Rattle.df_session.specs.Below.{memory};
 ghost use Rattle.df_session.specs.Blocks.{next_block, released, written};
-ghost use Rattle.df_result.specs.Replying.{next_reply, replied};
+ghost use Rattle.df_result.specs.Replying.{next_reply, with_stored_reply};
 ghost use Rattle.df_table.specs.Calls.{CheckpointStepped, Comes, IsCheckpointing, MayAppendCommand, MayBegin, accepted_or, done_of, op_of};
 ghost use Rattle.df_table.specs.Policy.{the_client};
 ghost use Rattle.df_table.specs.Statuses.{is_disk};
@@ -42,7 +42,7 @@ pub(crate) fn append<D: Disk>(
 ) -> Result<u64, Ending>
     requires live { replica.old.live ≡ true }
     ensures makes { MayAppendCommand replica.old request body.now → Comes (Append the_client request body.now ∷ []) replica.old replica.new (D.told disk.old) (D.told disk.new) result }
-    ensures state { OnOk result (replica.new ≡ appended replica.old (next_unit replica.old the_client request body.now)) }
+    ensures state { OnOk result (replica.new ≡ with_prepare_appended replica.old (next_unit replica.old the_client request body.now)) }
     ensures op { IfOk result (λ op. op ≡ replica.old.head + 1) }
     ensures live { OnOk result (replica.new.live ≡ true) }
     ensures ends { IfErr result (IsOfCall (D.told disk.new)) }
@@ -73,7 +73,7 @@ fn accepted_or(answer: &Answer, otherwise: Ending) -> Result<(), Ending>
 pub(crate) fn reply<D: Disk>(disk: &mut D, replica: &mut Replica, op: u64) -> Result<(), Ending>
     requires live { replica.old.live ≡ true }
     ensures makes { first_refusal (reply_refusals (memory replica.old) op []) ≡ None → Comes (Reply op [] ∷ []) replica.old replica.new (D.told disk.old) (D.told disk.new) result }
-    ensures state { OnOk result (replica.new ≡ replied replica.old (next_reply replica.old []).header) }
+    ensures state { OnOk result (replica.new ≡ with_stored_reply replica.old (next_reply replica.old []).header) }
     ensures fails { first_refusal (reply_refusals (memory replica.old) op []) ≡ None → IfErr result (λ ending. ending ≡ Ending.Disk) }
     ensures live { OnOk result (replica.new.live ≡ true) }
     ensures ends { IfErr result (IsOfCall (D.told disk.new)) }
@@ -124,7 +124,7 @@ pub(crate) fn write<D: Disk>(disk: &mut D, replica: &mut Replica, body: &[u8]) -
 pub(crate) fn begin<D: Disk>(disk: &mut D, replica: &mut Replica) -> Result<(), Ending>
     requires live { replica.old.live ≡ true }
     ensures makes { MayBegin replica.old → Comes (Begin [] ∷ []) replica.old replica.new (D.told disk.old) (D.told disk.new) result }
-    ensures state { OnOk result (replica.new ≡ begun replica.old []) }
+    ensures state { OnOk result (replica.new ≡ with_checkpoint_begun replica.old []) }
     ensures live { OnOk result (replica.new.live ≡ true) }
     ensures ends { IfErr result (IsOfCall (D.told disk.new)) }
     ensures disk { IsBlamed is_disk (D.faults disk.old) (D.faults disk.new) result }

@@ -5,7 +5,7 @@ ghost use Rattle.df_base.specs.Causes.{IsBlamed};
 ghost use Rattle.df_layout.specs.declared.layout.Layout.{Layout as Shape};
 ghost use Rattle.df_model.specs.Commands.{WriteBlock};
 ghost use Rattle.df_rows.specs.Limits as limits;
-ghost use Rattle.df_session.specs.Beginning.{begun, captured};
+ghost use Rattle.df_session.specs.Beginning.{captured, with_checkpoint_begun};
 ghost use Rattle.df_session.specs.Below.{RunningState, State as Standing, memory};
 ghost use Rattle.df_session.specs.Blocks.{released};
 ghost use Rattle.df_table.specs.Calls.{Advances, Checkpoints, Comes, Concludes, Fills, IsCheckpointing, MayBegin};
@@ -142,7 +142,7 @@ fn finish<D: Disk>(disk: &mut D, replica: &mut Replica) -> Result<(), Ending>
 fn conclude<D: Disk>(disk: &mut D, replica: &mut Replica) -> Result<(), Ending>
     requires live { replica.old.live ≡ true }
     ensures makes { MayBegin replica.old → Concludes replica.old replica.new (D.told disk.old) (D.told disk.new) result }
-    ensures finished { OnOk result (IsFinished (captured replica.old []) (begun replica.old []) replica.new) }
+    ensures finished { OnOk result (IsFinished (captured replica.old []) (with_checkpoint_begun replica.old []) replica.new) }
     ensures live { OnOk result (replica.new.live ≡ true) }
     ensures ends { IfErr result (IsOfCall (D.told disk.new)) }
     ensures disk { IsBlamed is_disk (D.faults disk.old) (D.faults disk.new) result }

@@ -11,7 +11,7 @@ use Rattle.df_model.specs.declared.answers.Scrubbed.TheVariants.{Checked, TourEn
 use Rattle.df_model.specs.declared.answers.Verdict.{Verdict}
 use Rattle.df_model.specs.declared.answers.Verdict.TheVariants.{Sound, Failing}
 use Rattle.df_model.proofs.Laws.{Rise, above, entries_rise, is_next}
-use Rattle.df_session.specs.Below.{IsStep, IsVerdict, ScrubState, after_step, left_in, with_check, failing_among, State as Replica, grid_with, memory}
+use Rattle.df_session.specs.Below.{IsStep, IsVerdict, ScrubState, after_scrub_step, left_in, with_check, failing_among, State as Replica, grid_with, memory}
 
 -- ---- the referenced blocks stand in order of address
 
@@ -60,7 +60,7 @@ pub check_fails : (s : ScrubState) (a : ℕ) (v : Verdict) → (with_check s a v
 check_fails s a Sound = omega arith
 check_fails s a (Failing class) = omega arith
 
-was_checked : (r : Replica) (told : Option Told) (s t : ScrubState) (a : ℕ) (v : Verdict) (xs : List (ℕ × ℕ)) → left_of r s ≡ xs → IsVerdictOf r told xs v → after_step s v xs ≡ (t, Checked a v) → IsChecked r told s t a v
+was_checked : (r : Replica) (told : Option Told) (s t : ScrubState) (a : ℕ) (v : Verdict) (xs : List (ℕ × ℕ)) → left_of r s ≡ xs → IsVerdictOf r told xs v → after_scrub_step s v xs ≡ (t, Checked a v) → IsChecked r told s t a v
 was_checked r told s t a v [] left verdict goes = absurd (let answer : TourEnd s.tour.checked s.tour.failing ≡ Checked a v = ap (λ (p : ScrubState × Scrubbed). p.1) goes in cc)
 was_checked r told s t a v (x ∷ more) left verdict goes =
     let after : with_check s x.0 v ≡ t = ap (λ (p : ScrubState × Scrubbed). p.0) goes in
@@ -85,7 +85,7 @@ pub record IsEnded (r : Replica) (s : ScrubState) (checked failing : ℕ) : Type
   pub counts : checked ≡ s.tour.checked
   pub fails : failing ≡ s.tour.failing
 
-was_ended : (r : Replica) (s t : ScrubState) (v : Verdict) (n f : ℕ) (xs : List (ℕ × ℕ)) → left_of r s ≡ xs → after_step s v xs ≡ (t, TourEnd n f) → IsEnded r s n f
+was_ended : (r : Replica) (s t : ScrubState) (v : Verdict) (n f : ℕ) (xs : List (ℕ × ℕ)) → left_of r s ≡ xs → after_scrub_step s v xs ≡ (t, TourEnd n f) → IsEnded r s n f
 was_ended r s t v n f [] left goes =
     let answer : TourEnd s.tour.checked s.tour.failing ≡ TourEnd n f = ap (λ (p : ScrubState × Scrubbed). p.1) goes in
     record { left = left; counts = cc; fails = cc }

@@ -7,7 +7,7 @@ use Rattle.df_layout.specs.declared.layout.Layout.{Layout}
 use Rattle.df_model.specs.declared.errors.FormatError.{FormatError}
 use Rattle.df_model.specs.declared.errors.FormatError.TheVariants as formats
 use Rattle.df_session.specs.Formatting.{AddsFormat}
-use Rattle.df_session.specs.Making.{Makes, MayMakeOn, making_events}
+use Rattle.df_session.specs.Making.{MakingLeaves, MayMakeOn, making_events}
 use Rattle.df_session.specs.Opened.{ToldBy}
 use Rattle.df_top.specs.Formats.{MakesOn}
 use Rattle.df_top.specs.Refusing.{PrintsFormatError}
@@ -26,7 +26,7 @@ on_ok : (T P : Type 0) (r : Result T FormatError) (x : T) → r ≡ Ok x → OnO
 on_ok T P r x is has = subst (λ (q : Result T FormatError). OnOk q P) is has
 
 module _ (layout : Layout) (cluster : ℕ) (before : Told) (may : MayMakeOn layout cluster before) (told new : Option Told) (status : Status) (is : told ≡ Some before) (honest : IsHonest before) where
-  pub makes_on : {T : Type 0} (r : Result T FormatError) → AddsFormat (making_events layout cluster) told new r → ((n : Told) → new ≡ Some n → Makes layout cluster before may n r) → (status ≡ Done → (x : T) × (r ≡ Ok x)) → MakesOn layout cluster before may new status
+  pub makes_on : {T : Type 0} (r : Result T FormatError) → AddsFormat (making_events layout cluster) told new r → ((n : Told) → new ≡ Some n → MakingLeaves layout cluster before may n r) → (status ≡ Done → (x : T) × (r ≡ Ok x)) → MakesOn layout cluster before may new status
   makes_on {T} r events makes done =
       let by : ToldBy (Some before) new = subst (λ (o : Option Told). ToldBy o new) is (format_told (making_events layout cluster) told new r events) in
       let goes = goes_told before new by in

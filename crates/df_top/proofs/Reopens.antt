@@ -13,7 +13,7 @@ use Rattle.df_theory.specs.View.{View}
 use Rattle.df_model.specs.Commands.{Answer}
 use Rattle.df_model.specs.Work.{Work}
 use Rattle.df_session.specs.Begun.{begun_work}
-use Rattle.df_session.specs.Below.{DataFile, FindsSince, IsLivedDisk, MayReopen, begun, shape, told_after}
+use Rattle.df_session.specs.Below.{DataFile, FindsSince, IsLivedDisk, MayReopen, restarted, shape, told_after}
 use Rattle.df_session.specs.Keeping.{KeepsFile, over}
 use Rattle.df_session.specs.Serving.{Firm, format, next}
 use Rattle.df_session.specs.Session.{Act, HoldsSome, IsMidway}
@@ -80,8 +80,8 @@ module _ (file : DataFile) (log : Log) (logs : List Log) (t : Told) (may : MayRe
         events = found.mending.events ++ events_made c;
         told = adds ∙ ap (after_all (events_made c)) found.mending.told ∙ sym (after_append found.mending.events (events_made c) (Some (did Sync t)));
         moments =
-            subst (λ (n : Told). EachMoment (did Sync (begun t)).log n.log (IsLivedFile of (add Sync log ∷ logs))) (sym (told_append found.mending.events (events_made c) (did Sync (begun t))))
-            (session_lives of (add Sync log ∷ logs) (begun_work of t.shown has.found) (begun t) c.acts c.answers c.failed found.mending.events (events_made c) (keeps.keeps Firm has.found (begun t) refl opens tt) (keeps.lived log logs here));
+            subst (λ (n : Told). EachMoment (did Sync (restarted t)).log n.log (IsLivedFile of (add Sync log ∷ logs))) (sym (told_append found.mending.events (events_made c) (did Sync (restarted t))))
+            (session_lives of (add Sync log ∷ logs) (begun_work of t.shown has.found) (restarted t) c.acts c.answers c.failed found.mending.events (events_made c) (keeps.keeps Firm has.found (restarted t) refl opens tt) (keeps.lived log logs here));
       })
 
   -- so does an open that was stopped by the disk
@@ -93,7 +93,7 @@ module _ (file : DataFile) (log : Log) (logs : List Log) (t : Told) (may : MayRe
       let first = found_was_since file log logs t.shown partly.found may partly.opened in
       let here : MayReopen of log logs t.shown = subst (λ (f : DataFile). MayReopen f log logs t.shown) (sym first.of) may in
       let has : FindsSince of log logs t.shown partly.found = subst (λ (f : DataFile). FindsSince f log logs t.shown partly.found) (sym first.of) first in
-      let good = partly.moments Firm has.found (begun t) refl (begun_may_open of has.found t here.version has.begins) tt in
+      let good = partly.moments Firm has.found (restarted t) refl (begun_may_open of has.found t here.version has.begins) tt in
       inr (subst (λ (f : DataFile). LivesThrough f log logs t later) first.of (record {
         events = partly.mending.events;
         told = partly.mending.told;

@@ -16,7 +16,7 @@ use Rattle.df_session.specs.Beginning.{IsBegin}
 use Rattle.df_session.specs.Below.{RunningState, State as Replica}
 use Rattle.df_session.specs.Blocks.{IsRelease}
 use Rattle.df_session.specs.Flushing.{IsStage}
-use Rattle.df_session.specs.Stepping.{IsStep, OfRunning, advanced, finished}
+use Rattle.df_session.specs.Stepping.{IsStepCall, OfRunning, advanced, finished}
 use Rattle.df_workload.specs.Hearing.{outcome_in}
 use Rattle.df_workload.specs.declared.outcome.Outcome.{Outcome}
 use Rattle.df_session.specs.Calls.{IsExact, machine_answer}
@@ -88,14 +88,14 @@ none_left s t None is = absurd is
 none_left s t (Some r) is = ap (λ (u : Replica). u.blocks.left) is
 
 module _ (s t : Replica) (old new : Option Told) where
-  step_on : (r : Result Progress StepError) → IsStep s t old new r → (x : Answered) → machine_answer (answers.Advance r) ≡ Some x → StillRuns Advance s t (Ok (outcome_in (answers.Advance r)))
+  step_on : (r : Result Progress StepError) → IsStepCall s t old new r → (x : Answered) → machine_answer (answers.Advance r) ≡ Some x → StillRuns Advance s t (Ok (outcome_in (answers.Advance r)))
   step_on (Ok (Working left)) is x said = λ flag had set. runs_on s t s.running (on_running s.running (λ r i. i.2) is)
   step_on (Ok (Done sequence)) is x said = λ flag had set. absurd (cc)
   step_on (Err step.NotRunning) is x said = stays s t (same_running s t is.1)
   step_on (Err (step.Damaged place class)) is x said = absurd (none-some x said)
   step_on (Err step.DiskFault) is x said = absurd (none-some x said)
 
-  step_steps : (r : Result Progress StepError) → IsStep s t old new r → (x : Answered) → machine_answer (answers.Advance r) ≡ Some x → StepsOn s t (Ok (outcome_in (answers.Advance r)))
+  step_steps : (r : Result Progress StepError) → IsStepCall s t old new r → (x : Answered) → machine_answer (answers.Advance r) ≡ Some x → StepsOn s t (Ok (outcome_in (answers.Advance r)))
   step_steps (Ok (Working left)) is x said = fewer s t s.running (on_running s.running (λ r i. (i.0, i.2)) is)
   step_steps (Ok (Done sequence)) is x said = none_left s t s.running (on_running s.running (λ r i. i.2) is)
   step_steps (Err step.NotRunning) is x said = not_running s is.0

@@ -6,7 +6,7 @@ use Rattle.df_layout.specs.declared.layout.Layout.{Layout}
 use Rattle.df_theory.specs.View.{View, boot_of}
 use Rattle.df_model.specs.Work.{Work}
 use Rattle.df_session.specs.Begun.{begun_work}
-use Rattle.df_session.specs.Below.{DataFile, FindsHad, IsNeedless, RefusesHurt, IsAtRest, MayBeHurt, HasTwoCopies, IsHurtFile, MayBeOfDamage}
+use Rattle.df_session.specs.Below.{DataFile, FindsHad, IsNeedless, RefusesHurt, HasEqualCopies, MayBeHurt, HasTwoCopies, IsHurtFile, MayBeOfDamage}
 use Rattle.df_session.specs.Found.{FoundFile}
 use Rattle.df_session.specs.Owning.{ReadsOwn}
 use Rattle.df_top.specs.Acknowledging.{run_calls, script_calls}
@@ -52,7 +52,7 @@ pub record RefusesCopiesAs (version : ℕ) (file : DataFile) (view : View) (t : 
   pub refuses : RefusesSuperblockAs version t old new status
   pub damage : MayBeOfDamage refuses.error
   pub hurt : IsHurtFile file.layout t
-  pub stood : IsAtRest file t.log → HasTwoCopies t → ⊥
+  pub stood : HasEqualCopies file t.log → HasTwoCopies t → ⊥
   pub needed : IsNeedless file t → ⊥
 
 abbrev pub RefusesCopies : DataFile → View → Told → Outside → Outside → Status → Type 0

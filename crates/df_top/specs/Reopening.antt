@@ -10,7 +10,7 @@ use Rattle.df_layout.specs.declared.layout.Layout.{Layout}
 use Rattle.df_theory.specs.Device.{IsSafeDisk, NoChanceOf}
 use Rattle.df_theory.specs.Holds.{Held}
 use Rattle.df_theory.specs.View.{View}
-use Rattle.df_session.specs.Below.{DataFile, FindsSince, IsLivedDisk, MayReopen, begun, shape, told_after}
+use Rattle.df_session.specs.Below.{DataFile, FindsSince, IsLivedDisk, MayReopen, restarted, shape, told_after}
 use Rattle.df_session.specs.Serving.{format}
 use Rattle.df_top.specs.Outside.{Outside}
 use Rattle.df_top.specs.Run.{ComesTo, DidNothing, Does, RefusesSuperblock}
@@ -29,7 +29,7 @@ pub record IsLivedFile (file : DataFile) (logs : List Log) (log : Log) : Type 0 
 pub record LivesThrough (file : DataFile) (log : Log) (logs : List Log) (t : Told) (later : Option Told) : Type 0 where
   pub events : List Event
   pub told : later ≡ after_all events (Some (did Sync t))
-  pub moments : EachMoment (did Sync (begun t)).log (told_after events (did Sync (begun t))).log (IsLivedFile file (add Sync log ∷ logs))
+  pub moments : EachMoment (did Sync (restarted t)).log (told_after events (did Sync (restarted t))).log (IsLivedFile file (add Sync log ∷ logs))
 
 -- or nothing but the sync of a barrier was added, and the history is as it was
 abbrev pub StaysLived : DataFile → Log → List Log → Told → Option Told → Type 0

@@ -38,7 +38,7 @@ use Rattle.df_model.specs.Result.{AgreeReads}
 use Rattle.df_model.proofs.Laws.{boot_may_law}
 use Rattle.df_damage.specs.Anew.{IsStill, restarted, told_after}
 use Rattle.df_damage.specs.Below.{DataFile, Represents, shape, spelling}
-use Rattle.df_damage.specs.Plan.{AreDistinct, headers_in}
+use Rattle.df_damage.specs.Plan.{AreDistinctUnits, headers_in}
 use Rattle.df_damage.proofs.Laws.{added_is_told}
 use Rattle.df_opening.specs.Keeping.{format}
 use Rattle.df_opening.specs.Mending.{first_state, sector_puts, sectors_of}
@@ -72,7 +72,7 @@ clean_of sh image v holds n c there =
 
 module _ (view : View) (s : Survey) (base : Told) (four : length s.chosen.members ≡ 4) (one : s.state.file.version ≡ 1) (usable : IsUsable (base_fields s.state))
     (plan : IsPlannedOf s (restarted base)) (whole : IsImage base.shown) (found : IsFound (shape s.state.file) (unit_at s.state.file.layout s.state.file.cluster base.shown) view)
-    (distinct : AreDistinct (unit_at s.state.file.layout s.state.file.cluster base.shown)) (stands : Represents s.state (first_state s.state.file base view)) (steps : AreSteps (format s.state.file) (upgrading_events s) (upgrading_steps s)) where
+    (distinct : AreDistinctUnits (unit_at s.state.file.layout s.state.file.cluster base.shown)) (stands : Represents s.state (first_state s.state.file base view)) (steps : AreSteps (format s.state.file) (upgrading_events s) (upgrading_steps s)) where
   abbrev file : DataFile
   file = s.state.file
 

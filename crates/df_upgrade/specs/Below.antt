@@ -5,7 +5,7 @@ pub use Rattle.df_theory.specs.Device.{AreSteps}
 pub use Rattle.df_base.specs.Causes.{HasCause, IsBlamed}
 pub use Rattle.df_opening.specs.Keeping.{format}
 pub use Rattle.df_opening.specs.Mending.{AddsRaising, IsReadBack, IsUnharmed, first_state, mending_events, mending_steps}
-pub use Rattle.df_damage.specs.Plan.{AreDistinct}
+pub use Rattle.df_damage.specs.Plan.{AreDistinctUnits}
 pub use Rattle.df_theory.specs.Found.{IsFound}
 pub use Rattle.df_base.specs.Image.{IsImage}
 pub use Rattle.df_opening.specs.Raising.{IsPlannedOf}

@@ -13,7 +13,7 @@ use Rattle.df_units.specs.Bytes.{unit_at}
 use Rattle.df_model.specs.declared.errors.OpenError.{OpenError}
 use Rattle.df_damage.specs.Anew.{restarted, told_after}
 use Rattle.df_damage.specs.Below.{State, shape}
-use Rattle.df_damage.specs.Plan.{AreDistinct}
+use Rattle.df_damage.specs.Plan.{AreDistinctUnits}
 use Rattle.df_damage.specs.Surveying.{TellsSurveyAs}
 use Rattle.df_damage.specs.Surveys.{IsOpenedAs}
 use Rattle.df_opening.specs.Opened.{AreRaisingTo, BeginsRaisingTo, Mends}
@@ -55,7 +55,7 @@ pub record UpgradesAll (layout : Layout) (t : Told) (sequence : ℕ) (later : Op
   pub kept : sequence ≡ found.fields.sequence
   pub writes : Mends found.file (Some (did Sync t)) later
   pub own : IsImage t.shown → AreUpgrading t found writes.events
-  pub anew : (view : View) → IsImage t.shown → IsFound (shape found.file) (unit_at found.file.layout found.file.cluster t.shown) view → AreDistinct (unit_at found.file.layout found.file.cluster t.shown) → UpgradesAnew view found writes.events (restarted t)
+  pub anew : (view : View) → IsImage t.shown → IsFound (shape found.file) (unit_at found.file.layout found.file.cluster t.shown) view → AreDistinctUnits (unit_at found.file.layout found.file.cluster t.shown) → UpgradesAnew view found writes.events (restarted t)
 
 -- the file was found, and the disk failed within its upgrade: at each moment whatever a stop leaves has the bare view
 pub record UpgradesPartly (layout : Layout) (t : Told) (later : Option Told) : Type 0 where
@@ -63,7 +63,7 @@ pub record UpgradesPartly (layout : Layout) (t : Told) (later : Option Told) : T
   pub opened : IsOpenedAs 1 layout t.shown found
   pub writes : Mends found.file (Some (did Sync t)) later
   pub own : IsImage t.shown → BeginsUpgrading t found later
-  pub anew : (view : View) → IsImage t.shown → IsFound (shape found.file) (unit_at found.file.layout found.file.cluster t.shown) view → AreDistinct (unit_at found.file.layout found.file.cluster t.shown)
+  pub anew : (view : View) → IsImage t.shown → IsFound (shape found.file) (unit_at found.file.layout found.file.cluster t.shown) view → AreDistinctUnits (unit_at found.file.layout found.file.cluster t.shown)
       → EachMoment (restarted t).log (told_after writes.events (restarted t)).log (UpgradeStaysBare found.file view (base_fields found)) × IsSameBare (as_version 2 view) (upgraded view (base_fields found))
 
 -- it failed in the barrier, which added a sync or nothing, or in a read after it; or within the upgrade

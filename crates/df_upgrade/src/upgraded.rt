@@ -1,7 +1,7 @@
 // A file of version 1 becomes one of version 2: it is surveyed, mended, and gets its superblock.
 ghost use Rattle.std.specs.Prelude.{◌≡◌, IfOk, IfErr, None, Some};
 ghost use Rattle.df_upgrade.specs.Base.{IsAbove, base_fields};
-ghost use Rattle.df_upgrade.specs.Below.{AddsRaising, AreDistinct, AreSteps, IsBlamed, IsFound, IsImage, IsPlannedOf, IsReadBack, IsUnharmed, Represents, Sync, Told, ToldBy, View, after, fault_of, first_state, format, is_mend_fault, is_open_fault, restarted, shape, unit_at, update_events, without_rooms};
+ghost use Rattle.df_upgrade.specs.Below.{AddsRaising, AreDistinctUnits, AreSteps, IsBlamed, IsFound, IsImage, IsPlannedOf, IsReadBack, IsUnharmed, Represents, Sync, Told, ToldBy, View, after, fault_of, first_state, format, is_mend_fault, is_open_fault, restarted, shape, unit_at, update_events, without_rooms};
 ghost use Rattle.df_upgrade.specs.Upgraded.{StopsUpgrading, TellsHurtUpgraded, TellsUpgraded, UpgradesAll, sequence_of};
 ghost use Rattle.df_upgrade.specs.Upgrading.{UpgradesAnew, upgrading_events, upgrading_steps};
 
@@ -65,7 +65,7 @@ pub fn upgrade_surveyed<D: Disk>(
     ensures read_back { IsReadBack (base_fields surveyed.state) (D.told disk.new) (without_rooms result) }
     ensures unharmed { IsUnharmed (D.told disk.new) (without_rooms result) }
     ensures anew { (base : Told) (view : View) → IsPlannedOf surveyed (restarted base) → IsImage base.shown → IsFound (shape surveyed.state.file) (unit_at surveyed.state.file.layout surveyed.state.file.cluster base.shown) view
-        → AreDistinct (unit_at surveyed.state.file.layout surveyed.state.file.cluster base.shown) → Represents surveyed.state (first_state surveyed.state.file base view) → UpgradesAnew view surveyed.state (upgrading_events surveyed) (restarted base) }
+        → AreDistinctUnits (unit_at surveyed.state.file.layout surveyed.state.file.cluster base.shown) → Represents surveyed.state (first_state surveyed.state.file base view) → UpgradesAnew view surveyed.state (upgrading_events surveyed) (restarted base) }
     ensures cause { IsBlamed is_mend_fault (D.faults disk.old) (D.faults disk.new) (without_rooms result) }
 {
     let base = surveyed.base();

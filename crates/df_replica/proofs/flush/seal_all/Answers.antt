@@ -10,7 +10,7 @@ use Rattle.df_format.specs.Spelling.{IsCheck}
 use Rattle.df_layout.specs.declared.layout.Layout.{Layout}
 use Rattle.df_journal.specs.Flush.{held_prepares}
 use Rattle.df_model.specs.Work.{Request}
-use Rattle.df_opening.specs.Below.{Staged, first_of}
+use Rattle.df_opening.specs.Below.{Staged, first_request}
 use Rattle.df_replica.specs.declared.flush.Group.{Group}
 use Rattle.df_replica.specs.Appending.{unit_made}
 use Rattle.df_replica.specs.Flushing.{AreMadeFor, IsMadeFor, MaySeal, group_prepares, header_in, request_made}
@@ -47,22 +47,22 @@ pub header_in-requires-clause-client : goal.header_in-requires-clause-client
 header_in-requires-clause-client c =
     let rs = c.loop-before.staging.requests in
     let at = first_there rs (omega (arith, c.loop-before-test.true, c.len.ensures.count)) in
-    let told = c.request-client.ensures (first_of rs) at in
-    omega (arith, told.0, (c.loop-before.invariant.may.each 0 (first_of rs) at).client.0)
+    let told = c.request-client.ensures (first_request rs) at in
+    omega (arith, told.0, (c.loop-before.invariant.may.each 0 (first_request rs) at).client.0)
 
 pub header_in-requires-clause-request : goal.header_in-requires-clause-request
 header_in-requires-clause-request c =
     let rs = c.loop-before.staging.requests in
     let at = first_there rs (omega (arith, c.loop-before-test.true, c.len.ensures.count)) in
-    let told = c.request-client.ensures (first_of rs) at in
-    let is = (c.loop-before.invariant.may.each 0 (first_of rs) at).request in
+    let told = c.request-client.ensures (first_request rs) at in
+    let is = (c.loop-before.invariant.may.each 0 (first_request rs) at).request in
     (omega (arith, told.1, is.0), omega (arith, told.1, is.1))
 
 pub seal_first-before-requires-clause-rules : goal.seal_first-before-requires-clause-rules
 seal_first-before-requires-clause-rules c =
     let rs = c.loop-before.staging.requests in
     let at = first_there rs (omega (arith, c.loop-before-test.true, c.len.ensures.count)) in
-    c.header_in.ensures.rules (first_of rs).body (c.loop-before.invariant.may.each 0 (first_of rs) at).fits
+    c.header_in.ensures.rules (first_request rs).body (c.loop-before.invariant.may.each 0 (first_request rs) at).fits
 
 pub seal_first-before-requires-clause-own : goal.seal_first-before-requires-clause-own
 seal_first-before-requires-clause-own c = subst (λ (l : Layout). IsSome (own_place l WalPrepares c.header_in.result)) (sym c.loop-before.invariant.layout) c.header_in.ensures.own
@@ -71,7 +71,7 @@ pub loop-before-preserved : goal.loop-before-preserved
 loop-before-preserved c =
     let rs = c.loop-before.staging.requests in
     let g = c.args.group.now in
-    let r : Request = first_of rs in
+    let r : Request = first_request rs in
     let inv = c.loop-before.invariant in
     let some : 0 < length rs = omega (arith, c.loop-before-test.true, c.len.ensures.count) in
     let told = c.request-client.ensures r (first_there rs some) in

@@ -3,7 +3,7 @@ use Rattle.std.proofs.Common.{subst, sym, ℕ, ◌+◌, [], ◌∷◌, Err, Resu
 use Rattle.std.specs.Prelude.{IfErr, IfOk, OnOk}
 use Rattle.df_base.specs.Causes.{Blamed, IsBlamed}
 use Rattle.df_model.specs.Commands.{Append}
-use Rattle.df_result.specs.Appending.{appended, next_unit}
+use Rattle.df_result.specs.Appending.{next_unit, with_prepare_appended}
 use Rattle.df_table.specs.declared.ending.Ending.{Ending}
 use Rattle.df_table.specs.Calls.{Comes}
 use Rattle.df_table.specs.Statuses.{is_disk}
@@ -19,7 +19,7 @@ returns-in-Ok g c =
     let comes = append_comes c.args.replica.now c.make.new.replica (g.D.Disk.told c.args.disk.now) (g.D.Disk.told c.make.new.disk) c.args.request c.args.body.now c.in-Ok.answer c.in-Ok.ensures.makes in
     record {
       makes = λ may. subst (λ (r : Result ℕ Ending). Comes (Append the_client c.args.request c.args.body.now ∷ []) c.args.replica.now c.make.new.replica (g.D.Disk.told c.args.disk.now) (g.D.Disk.told c.make.new.disk) r) (sym c.op_in.ensures) (comes.comes may);
-      state = subst (λ (r : Result ℕ Ending). OnOk r (c.make.new.replica ≡ appended c.args.replica.now (next_unit c.args.replica.now the_client c.args.request c.args.body.now))) (sym c.op_in.ensures) comes.state;
+      state = subst (λ (r : Result ℕ Ending). OnOk r (c.make.new.replica ≡ with_prepare_appended c.args.replica.now (next_unit c.args.replica.now the_client c.args.request c.args.body.now))) (sym c.op_in.ensures) comes.state;
       op = subst (λ (r : Result ℕ Ending). IfOk r (λ op. op ≡ c.args.replica.now.head + 1)) (sym c.op_in.ensures) comes.op;
       live = on_ok c.op_in.result c.in-Ok.ensures.live;
       ends = subst (λ (r : Result ℕ Ending). IfErr r (IsOfCall (g.D.Disk.told c.make.new.disk))) (sym c.op_in.ensures) comes.ends;

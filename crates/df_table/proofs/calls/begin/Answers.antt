@@ -3,7 +3,7 @@ use Rattle.std.proofs.Common.{subst, sym, [], ◌∷◌, Err, Result}
 use Rattle.std.specs.Prelude.{IfErr, OnOk}
 use Rattle.df_base.specs.Causes.{Blamed, IsBlamed}
 use Rattle.df_model.specs.Commands.{Begin}
-use Rattle.df_session.specs.Beginning.{begun}
+use Rattle.df_session.specs.Beginning.{with_checkpoint_begun}
 use Rattle.df_table.specs.declared.ending.Ending.{Ending}
 use Rattle.df_table.specs.Calls.{Comes}
 use Rattle.df_table.specs.Statuses.{is_disk}
@@ -18,7 +18,7 @@ returns-in-Ok g c =
     let comes = begin_comes c.args.replica.now c.make.new.replica (g.D.Disk.told c.args.disk.now) (g.D.Disk.told c.make.new.disk) c.in-Ok.answer c.in-Ok.ensures.makes in
     record {
       makes = λ may. subst (λ (r : Result (Unit {0}) Ending). Comes (Begin [] ∷ []) c.args.replica.now c.make.new.replica (g.D.Disk.told c.args.disk.now) (g.D.Disk.told c.make.new.disk) r) (sym c.accepted_or.ensures) (comes.comes may);
-      state = subst (λ (r : Result (Unit {0}) Ending). OnOk r (c.make.new.replica ≡ begun c.args.replica.now [])) (sym c.accepted_or.ensures) comes.state;
+      state = subst (λ (r : Result (Unit {0}) Ending). OnOk r (c.make.new.replica ≡ with_checkpoint_begun c.args.replica.now [])) (sym c.accepted_or.ensures) comes.state;
       live = on_ok c.accepted_or.result c.in-Ok.ensures.live;
       ends = subst (λ (r : Result (Unit {0}) Ending). IfErr r (IsOfCall (g.D.Disk.told c.make.new.disk))) (sym c.accepted_or.ensures) comes.ends;
       disk = subst (λ (r : Result (Unit {0}) Ending). IsBlamed is_disk (g.D.Disk.faults c.args.disk.now) (g.D.Disk.faults c.make.new.disk) r) (sym c.accepted_or.ensures) (comes.blames (g.D.Disk.faults c.args.disk.now) (g.D.Disk.faults c.make.new.disk) c.in-Ok.ensures.disk);

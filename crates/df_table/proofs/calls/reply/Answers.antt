@@ -3,7 +3,7 @@ use Rattle.std.proofs.Common.{◌≡◌, ◌∙◌, subst, sym, [], ◌∷◌, E
 use Rattle.std.specs.Prelude.{IfErr, OnOk}
 use Rattle.df_base.specs.Causes.{Blamed, IsBlamed}
 use Rattle.df_model.specs.Commands.{Reply}
-use Rattle.df_result.specs.Replying.{next_reply, replied}
+use Rattle.df_result.specs.Replying.{next_reply, with_stored_reply}
 use Rattle.df_table.specs.declared.ending.Ending.{Ending}
 use Rattle.df_table.specs.declared.ending.Ending.TheVariants.{Disk}
 use Rattle.df_table.specs.Calls.{Comes}
@@ -18,7 +18,7 @@ returns-in-Ok g c =
     let comes = reply_comes c.args.replica.now c.make.new.replica (g.D.Disk.told c.args.disk.now) (g.D.Disk.told c.make.new.disk) c.args.op c.in-Ok.answer c.in-Ok.ensures.makes in
     record {
       makes = λ may. subst (λ (r : Result (Unit {0}) Ending). Comes (Reply c.args.op [] ∷ []) c.args.replica.now c.make.new.replica (g.D.Disk.told c.args.disk.now) (g.D.Disk.told c.make.new.disk) r) (sym c.accepted_or.ensures) (comes.comes may);
-      state = subst (λ (r : Result (Unit {0}) Ending). OnOk r (c.make.new.replica ≡ replied c.args.replica.now (next_reply c.args.replica.now []).header)) (sym c.accepted_or.ensures) comes.state;
+      state = subst (λ (r : Result (Unit {0}) Ending). OnOk r (c.make.new.replica ≡ with_stored_reply c.args.replica.now (next_reply c.args.replica.now []).header)) (sym c.accepted_or.ensures) comes.state;
       fails = λ may. subst (λ (r : Result (Unit {0}) Ending). IfErr r (λ e. e ≡ Disk)) (sym c.accepted_or.ensures) (comes.fails may);
       live = on_ok c.accepted_or.result c.in-Ok.ensures.live;
       ends = subst (λ (r : Result (Unit {0}) Ending). IfErr r (IsOfCall (g.D.Disk.told c.make.new.disk))) (sym c.accepted_or.ensures) comes.ends;

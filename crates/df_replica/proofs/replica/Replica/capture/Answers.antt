@@ -6,7 +6,7 @@ use Rattle.df_sessions.specs.declared.session.Session.{Session}
 use Rattle.df_model.specs.Blocks.{Blocks, blocks_captured, free_in}
 use Rattle.df_units.specs.Meaning.{layout_of}
 use Rattle.df_grid.specs.Grid.{GridState}
-use Rattle.df_opening.specs.Below.{FitsGrid, IsRunning, IsState, State, state_in}
+use Rattle.df_opening.specs.Below.{FitsGrid, IsRunningCheckpoint, IsState, State, state_in}
 use Rattle.df_replica.specs.Beginning.{MayBeginCheckpoint, captured, with_checkpoint_begun}
 use Rattle.df_replica.proofs.BeginState.{is_running, with_course}
 use Rattle.df_replica.proofs.replica.Replica.capture.Goals as goal
@@ -23,12 +23,12 @@ invariant_of-self c =
     ∙ ap (λ (l : Layout). blocks_captured s.blocks (take plan.blocks (free_in (layout_of l) s.blocks))) (sym c.self.invariant.grid_fits)
     ∙ ap (λ (g : GridState). g.blocks) (sym c.capture.ensures) in
     let one = is_running s root plan old c.sessions_in.ensures.table may in
-    let two = subst (λ (n : ℕ). IsRunning s.file s.fields s.head (with_checkpoint_begun s root).blocks (record (captured s root) { size = n })) (sym may.planned.size) one in
-    let three = subst (λ (n : ℕ). IsRunning s.file s.fields s.head (with_checkpoint_begun s root).blocks (record (captured s root) { size = plan.size; blocks = n })) (sym may.planned.blocks) two in
-    let four = subst (λ (r : List ℕ). IsRunning s.file s.fields s.head (with_checkpoint_begun s root).blocks (record (captured s root) { root = r; size = plan.size; blocks = plan.blocks })) (sym c.root_of.ensures) three in
-    let five = subst (λ (ss : List Session). IsRunning s.file s.fields s.head (with_checkpoint_begun s root).blocks (record (captured s root) { root = c.root_of.result.items; sessions = ss; size = plan.size; blocks = plan.blocks })) (sym c.sessions_in.ensures.items) four in
-    let six = subst (λ (f : SuperFields). IsRunning s.file s.fields s.head (with_checkpoint_begun s root).blocks (record (captured s root) { root = c.root_of.result.items; sessions = c.sessions_in.result.items; sequence = f.sequence + 1; size = plan.size; blocks = plan.blocks })) (sym c.fields.ensures.value) five in
-    let course = subst (λ (b : Blocks). IsRunning s.file s.fields s.head b (record (captured s root) { root = c.root_of.result.items; sessions = c.sessions_in.result.items; sequence = c.fields.result.now.sequence + 1; size = plan.size; blocks = plan.blocks })) blocks six in
+    let two = subst (λ (n : ℕ). IsRunningCheckpoint s.file s.fields s.head (with_checkpoint_begun s root).blocks (record (captured s root) { size = n })) (sym may.planned.size) one in
+    let three = subst (λ (n : ℕ). IsRunningCheckpoint s.file s.fields s.head (with_checkpoint_begun s root).blocks (record (captured s root) { size = plan.size; blocks = n })) (sym may.planned.blocks) two in
+    let four = subst (λ (r : List ℕ). IsRunningCheckpoint s.file s.fields s.head (with_checkpoint_begun s root).blocks (record (captured s root) { root = r; size = plan.size; blocks = plan.blocks })) (sym c.root_of.ensures) three in
+    let five = subst (λ (ss : List Session). IsRunningCheckpoint s.file s.fields s.head (with_checkpoint_begun s root).blocks (record (captured s root) { root = c.root_of.result.items; sessions = ss; size = plan.size; blocks = plan.blocks })) (sym c.sessions_in.ensures.items) four in
+    let six = subst (λ (f : SuperFields). IsRunningCheckpoint s.file s.fields s.head (with_checkpoint_begun s root).blocks (record (captured s root) { root = c.root_of.result.items; sessions = c.sessions_in.result.items; sequence = f.sequence + 1; size = plan.size; blocks = plan.blocks })) (sym c.fields.ensures.value) five in
+    let course = subst (λ (b : Blocks). IsRunningCheckpoint s.file s.fields s.head b (record (captured s root) { root = c.root_of.result.items; sessions = c.sessions_in.result.items; sequence = c.fields.result.now.sequence + 1; size = plan.size; blocks = plan.blocks })) blocks six in
     record {
       state = subst (λ (n : ℕ). IsState (record s { blocks = c.capture.new.self.blocks; running = Some (record (captured s root) { root = c.root_of.result.items; sessions = c.sessions_in.result.items; sequence = c.fields.result.now.sequence + 1; size = plan.size; blocks = plan.blocks }); boot = n }))
           (ap (λ (g : GridState). g.boot) (sym c.capture.ensures))

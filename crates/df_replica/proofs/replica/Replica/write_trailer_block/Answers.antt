@@ -10,7 +10,7 @@ use Rattle.df_grid.specs.Writes.{block_steps, made_events}
 use Rattle.df_units.specs.Format.{format_of}
 use Rattle.df_units.specs.Meaning.{number_of}
 use Rattle.df_model.specs.Blocks.{Blocks}
-use Rattle.df_opening.specs.Below.{FitsGrid, IsRunning, IsState, Parts, RunningCheckpoint, State, running_state, state_in}
+use Rattle.df_opening.specs.Below.{FitsGrid, IsRunningCheckpoint, IsState, Parts, RunningCheckpoint, State, running_state, state_in}
 use Rattle.df_replica.specs.Stepping.{MayAdvance, OfRunning, advanced, block_events, trailer_unit}
 use Rattle.df_replica.proofs.BeginState.{with_course}
 use Rattle.df_replica.proofs.StepState.{grid_is, of_running, running_on, taken_level, taken_runs}
@@ -25,9 +25,9 @@ invariant_of-self g c =
     let grid = c.write_piece-done.new.grid in
     let sum = number_of (unit_in i.grid r.capture r.written).header.checksum in
     let written = c.in-Ok.ensures.written in
-    let runs : IsRunning i.file i.content i.head i.grid.blocks (running_state r) = taken_runs i.file i.content i.head i.grid.blocks i.running r (sym c.in-Some.ensures.value) c.self.invariant.state.course in
+    let runs : IsRunningCheckpoint i.file i.content i.head i.grid.blocks (running_state r) = taken_runs i.file i.content i.head i.grid.blocks i.running r (sym c.in-Some.ensures.value) c.self.invariant.state.course in
     let on = running_on i.file i.content i.head i.grid.blocks (running_state r) sum runs may.some in
-    let course = subst (λ (b : Blocks). IsRunning i.file i.content i.head b (record (running_state r) { written = r.written + 1 })) (ap (λ (x : GridState). x.blocks) (sym written)) on in
+    let course = subst (λ (b : Blocks). IsRunningCheckpoint i.file i.content i.head b (record (running_state r) { written = r.written + 1 })) (ap (λ (x : GridState). x.blocks) (sym written)) on in
     record {
       state = subst (λ (n : ℕ). IsState (record s { blocks = grid.blocks; running = Some (record (running_state r) { written = r.written + 1 }); boot = n })) (ap (λ (x : GridState). x.boot) (sym written))
           (with_course s grid.blocks (Some (record (running_state r) { written = r.written + 1 })) c.self.invariant.state course (taken_level i.head i.head_checksum i.running r (sym c.in-Some.ensures.value) c.self.invariant.state.captured));

@@ -10,7 +10,7 @@ use Rattle.df_opening.specs.Mending.{AddsRaising, IsReadBack, RestsOnDisk, first
 use Rattle.df_opening.specs.Raising.{IsPlannedOf, RaisesAnew, RaisesOver, opening_events}
 use Rattle.df_opening.specs.Survey.{Survey}
 use Rattle.df_opening.proofs.Laws.{adds_error, read_error, unharmed_error, unharmed_ok}
-use Rattle.df_replica.specs.Below.{AreDistinct, Represents, Told, View, boot_fields, restarted, shape}
+use Rattle.df_replica.specs.Below.{AreDistinctUnits, Represents, Told, View, boot_fields, restarted, shape}
 use Rattle.df_replica.proofs.surveyed.Surveyed.mend.Goals as goal
 
 abbrev Over : Survey → Type 0
@@ -18,7 +18,7 @@ Over v = (base : Told) (grade : Grade) (view : View) → IsPlannedOf v base → 
 
 abbrev Anew : Survey → Type 0
 Anew v = (base : Told) (grade : Grade) (view : View) → IsPlannedOf v (restarted base) → IsImage base.shown → IsFound (shape v.state.file) (unit_at v.state.file.layout v.state.file.cluster base.shown) view
-    → AreDistinct (unit_at v.state.file.layout v.state.file.cluster base.shown) → StandsFor grade (unit_at v.state.file.layout v.state.file.cluster base.shown) view
+    → AreDistinctUnits (unit_at v.state.file.layout v.state.file.cluster base.shown) → StandsFor grade (unit_at v.state.file.layout v.state.file.cluster base.shown) view
     → Represents v.state (first_state v.state.file base view) → RaisesAnew grade view v (restarted base)
 
 pub returns-in-Ok-clause-over : goal.returns-in-Ok-clause-over
