@@ -10,6 +10,7 @@ use Rattle.std.specs.FinMap.Entries.{below_all}
 use Rattle.std.proofs.lemmas.Bool.{cases_eq, eq-eqb, ne_eqb}
 use Rattle.std.proofs.lemmas.List.{drop-drop, take-append-drop}
 use Rattle.std.proofs.lemmas.List.Elements.{All-cons, All-head, All-nil, All-tail}
+use Rattle.df_base.proofs.Laws.{same_front}
 use Rattle.df_rows.specs.Rows.{Entry, IsEntry, row_of, rows_of}
 use Rattle.df_rows.specs.Commands.{Map}
 use Rattle.df_rows.specs.Sorted.{KeysRise, key_at}
@@ -18,7 +19,7 @@ use Rattle.df_rows.specs.Blocks.{TableTakes, TakesAll, chunks_of}
 use Rattle.df_rows.specs.Laws.{BlocksAreTable, OneTable}
 use Rattle.df_rows.proofs.Entries.{length-row_of, row_split}
 use Rattle.df_rows.proofs.Found.{find_looks, look, look_none}
-use Rattle.df_rows.proofs.Viewed.{get_inserted, same_maps}
+use Rattle.df_rows.proofs.Viewed.{get_inserted, rise_tail, same_maps}
 use Rattle.df_rows.proofs.Chunked.{joined, joined_chunks}
 
 -- ---- the bytes of rows
@@ -81,9 +82,6 @@ chunks_taken (c ∷ chunks) t new are fresh is = (
 )
 
 -- ---- rows whose keys rise
-
-pub rise_tail : (e : Entry) (es : List Entry) → KeysRise (e ∷ es) → KeysRise es
-rise_tail e es rise i j lt inside = rise (suc i) (suc j) (omega arith) (omega arith)
 
 -- the first key is none of the others
 first_apart : (e : Entry) (es : List Entry) → KeysRise (e ∷ es) → (j : ℕ) → j < length es → key_at es j ≢ e.0
@@ -212,7 +210,7 @@ pub refused_first : (t : Table) (bytes rest : List ℕ) (es : List Entry) → le
 refused_first t bytes rest [] size refused takes = omega (arith, ap length takes.whole, length-append bytes rest)
 refused_first t bytes rest (e ∷ es) size refused takes =
     let is = All-head IsEntry e es takes.fit in
-    let parts = Rattle.df_rows.proofs.Entries.same_front bytes (row_of e) rest (rows_of es) (size ∙ sym (length-row_of e is)) takes.whole in
+    let parts = same_front bytes (row_of e) rest (rows_of es) (size ∙ sym (length-row_of e is)) takes.whole in
     refused e is parts.0 takes.new.0
 
 pub refused_rest : (t : Table) (e : Entry) (bytes rest : List ℕ) (es : List Entry) → IsEntry e → bytes ≡ row_of e → ((more : List Entry) → TableTakes (with_row e t) rest more → ⊥) → TableTakes t (bytes ++ rest) es → ⊥

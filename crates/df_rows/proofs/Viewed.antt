@@ -1,5 +1,5 @@
 -- A list of rows as a map.
-use Rattle.std.proofs.Common.{◌≡◌, ℕ, ◌<◌, eqb, cond, Bool, true, false, List, [], ◌∷◌, length, Option, Some, None, refl, sym, ap, ◌∙◌, arith}
+use Rattle.std.proofs.Common.{◌≡◌, ℕ, suc, ◌<◌, eqb, cond, Bool, true, false, List, [], ◌∷◌, length, Option, Some, None, refl, sym, ap, ◌∙◌, arith}
 use Rattle.std.specs.Ordering.{nat_cmp}
 use Rattle.std.specs.Cmp.{nat_cmp_total}
 use Rattle.std.specs.FinMap as map
@@ -11,7 +11,6 @@ use Rattle.df_rows.specs.Commands.{Map}
 use Rattle.df_rows.specs.Sorted.{KeysRise}
 use Rattle.df_rows.proofs.Found.{find_looks, look, tied}
 use Rattle.df_rows.proofs.Edited.{Drops, Puts}
-use Rattle.df_rows.proofs.Taken.{rise_tail}
 
 -- the map of these rows
 abbrev pub map_of : List Entry → Map
@@ -58,6 +57,9 @@ put_first e [] rise = refl
 put_first e (f ∷ es) rise =
     let below : e.0 < f.0 = rise 0 1 (omega arith) (omega arith) in
     rw (lt-ltb e.0 f.0 below) refl
+
+pub rise_tail : (e : Entry) (es : List Entry) → KeysRise (e ∷ es) → KeysRise es
+rise_tail e es rise i j lt inside = rise (suc i) (suc j) (omega arith) (omega arith)
 
 pub entries_of : (es : List Entry) → KeysRise es → map.entries (map_of es) ≡ es
 entries_of [] rise = no_entries
