@@ -53,6 +53,6 @@ module _ (version : ℕ) (y : Surveyed) (layout : Layout) (plan : IsPlannedFor y
       subst (IsPlannedOn (survey_found y)) same (shown_planned u read answer)
 
 -- the list is what is to be mended
-pub told_mends : (layout : Layout) (told : Option Told) (y : Surveyed) → recovered.TellsMends layout told y → TellsMends layout told (survey_found y)
+pub told_mends : (layout : Layout) (told : Option Told) (y : Surveyed) → recovered.TellsPlannedMends layout told y → TellsMends layout told (survey_found y)
 told_mends layout None y is = tt
 told_mends layout (Some t) y is = λ image. let may = is image in record { choice = may.choice; four = may.four; table = may.table; mends = may.mends }

@@ -17,7 +17,7 @@ use Rattle.df_session.specs.Below.{DataFile, shape}
 use Rattle.df_session.specs.Making.{FormatsFile, MayMakeOn, file_of, making_events}
 use Rattle.df_session.specs.Serving.{format}
 use Rattle.df_table.specs.Lives.{EveryTableGoesOn, NextRunServesIt, TableChapter, TableLife}
-use Rattle.df_table.specs.Lives.Life.{Begun, Ended, Made, Ran, Stopped}
+use Rattle.df_table.specs.Lives.TableLife.{Begun, Ended, Made, Ran, Stopped}
 use Rattle.df_table.specs.Table.{empty_table}
 use Rattle.df_table.proofs.Coming.{Has, InOrder, goes, goes_on, run_comes}
 use Rattle.df_table.proofs.OneFile.{found_of}
