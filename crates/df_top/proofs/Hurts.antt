@@ -12,7 +12,7 @@ use Rattle.df_session.specs.Begun.{begun_work}
 use Rattle.df_session.specs.Below.{FindsHad, IsNeedless, RefusesHurt, MayBeHurt, OpensAsLeft, DataFile, State as Replica, shape, spelling}
 use Rattle.df_session.specs.Lending.{GivesOwn}
 use Rattle.df_session.specs.Serving.{Firm, Keeps, next}
-use Rattle.df_session.specs.Session.{Act}
+use Rattle.df_session.specs.Session.{Act, Exchange}
 use Rattle.df_session.specs.WrittenFor.{IsWrittenFor, IsWrittenIn}
 use Rattle.df_session.proofs.Laws.{call_is_own, call_is_the_one, file_there, opened_is_written_for, answer_is_of_hurt, headers_may_be_hurt, probe_is_of_hurt, two_copies_are_enough}
 use Rattle.df_theory.specs.Found.{IsFound}
@@ -25,7 +25,7 @@ use Rattle.df_top.specs.Hurting.{ComesOfHurt, RefusesCopies, RunsOverHurt, Serve
 use Rattle.df_top.specs.Opening.{RefusesFile}
 use Rattle.df_top.specs.Outside.{Outside}
 use Rattle.df_top.specs.Run.{ComesTo, Does, RefusesSuperblock, Runs, ServesIn, ServesOwn, Works}
-use Rattle.df_session.specs.Links.{AreCalls, Calls, EndsCalls}
+use Rattle.df_session.specs.Links.{AreCalls, Calls, EndsCalls, More}
 use Rattle.df_top.specs.declared.mode.Mode.{Mode}
 use Rattle.df_top.specs.declared.mode.Mode.TheVariants.{Format, Run, Recover, Inspect, Scrub, Workload, Upgrade, Paced}
 use Rattle.df_top.specs.declared.status.Status.{Status}
@@ -37,21 +37,20 @@ gives a s u w None new x call keeps written = tt
 gives a s u w (Some t) new x call keeps written = λ chance.
     (call_is_the_one a.given a.command s u w t new x call.call keeps chance, call_is_own a.given a.command s u w t new x call.call keeps written chance)
 
-all_give : (w : Work) (s t : Replica) (old new : Option Told) (acts : List Act) (answers : List Answer) → Keeps Firm s w None → IsWrittenIn s.file old w → (are : AreCalls s old acts answers t new) → GiveOwn s old w acts answers t new are
-all_give w s t old new [] answers keeps written are = tt
-all_give w s t old new (a ∷ acts) [] keeps written are = tt
-all_give w s t old new (a ∷ acts) (x ∷ answers) keeps written are =
-    let call = are.2.call in
-    let later : Work = (next s.file w a.given a.command).0 in
-    let on : IsWrittenIn are.0.file are.1 later = subst (λ (file : DataFile). IsWrittenIn file are.1 later) (sym call.file) (call.written w keeps written) in (
-      gives a s are.0 w old are.1 x are.2 keeps written,
-      all_give later are.0 t are.1 new acts answers (call.answers Firm w keeps).1 on are.3,
+all_give : (w : Work) (s t : Replica) (old new : Option Told) (xs : List Exchange) → Keeps Firm s w None → IsWrittenIn s.file old w → (are : AreCalls s old xs t new) → GiveOwn s old w xs are
+all_give w s t old new [] keeps written are = tt
+all_give w s t old new (x ∷ xs) keeps written (More u mid made rest) =
+    let call = made.call in
+    let later : Work = (next s.file w x.act.given x.act.command).0 in
+    let on : IsWrittenIn u.file mid later = subst (λ (file : DataFile). IsWrittenIn file mid later) (sym call.file) (call.written w keeps written) in (
+      gives x.act s u w old mid x.answer made keeps written,
+      all_give later u t mid new xs (call.answers Firm w keeps).1 on rest,
     )
 
-ends_give : (w : Work) (s t : Replica) (old new : Option Told) (acts : List Act) (answers : List Answer) (failed : Option Act) → Keeps Firm s w None → IsWrittenIn s.file old w → (ends : EndsCalls s t old new acts answers failed)
-    → AllGiveOwn s t old new w acts answers failed ends
-ends_give w s t old new acts answers None keeps written ends = all_give w s t old new acts answers keeps written ends
-ends_give w s t old new acts answers (Some a) keeps written ends = all_give w s ends.0 old ends.1 acts answers keeps written ends.2
+ends_give : (w : Work) (s t : Replica) (old new : Option Told) (xs : List Exchange) (failed : Option Act) → Keeps Firm s w None → IsWrittenIn s.file old w → (ends : EndsCalls s t old new xs failed)
+    → AllGiveOwn s t old new w xs failed ends
+ends_give w s t old new xs None keeps written ends = all_give w s t old new xs keeps written ends
+ends_give w s t old new xs (Some a) keeps written ends = all_give w s ends.0 old ends.1 xs keeps written ends.2
 
 -- ---- a word
 
@@ -82,8 +81,8 @@ module _ (file : DataFile) (view : View) (t : Told) (may : MayBeHurt file view t
         subst (λ (o : Option Told). IsWrittenIn found.replica.file o w) (sym goes.1) (subst (λ (x : DataFile). IsWrittenFor x goes.0.log w) (sym there) own)
 
     -- the reads of calls on what was found
-    reads_own : (to : Replica) (now : Option Told) (acts : List Act) (xs : List Answer) (failed : Option Act) → (calls : EndsCalls found.replica to found.mended now acts xs failed) → AllGiveOwn found.replica to found.mended now w acts xs failed calls
-    reads_own to now acts xs failed calls = ends_give w found.replica to found.mended now acts xs failed stands written calls
+    reads_own : (to : Replica) (now : Option Told) (xs : List Exchange) (failed : Option Act) → (calls : EndsCalls found.replica to found.mended now xs failed) → AllGiveOwn found.replica to found.mended now w xs failed calls
+    reads_own to now xs failed calls = ends_give w found.replica to found.mended now xs failed stands written calls
 
   module _ (old new : Outside) (status : Status) where
     refuses : (r : RefusesFile file.layout t old new status) → RefusesHurt file view t r.error
@@ -95,16 +94,16 @@ module _ (file : DataFile) (view : View) (t : Told) (may : MayBeHurt file view t
     word_reads Upgrade found works finds = absurd works
     word_reads Run found serves finds =
         let c = script_calls serves.session in
-        reads_own found finds serves.calls.stands c.to c.new c.acts c.answers c.failed c.calls
+        reads_own found finds serves.calls.stands c.to c.new c.exchanges c.failed c.calls
     word_reads (Paced pace) found serves finds =
         let c = script_calls serves.session in
-        reads_own found finds serves.calls.stands c.to c.new c.acts c.answers c.failed c.calls
+        reads_own found finds serves.calls.stands c.to c.new c.exchanges c.failed c.calls
     word_reads Recover found works finds = tt
     word_reads Inspect found works finds = tt
     word_reads Scrub found works finds = tt
     word_reads (Workload seed count) found works finds =
         let c = run_calls works.worked in
-        reads_own found finds works.calls.stands c.to c.new c.acts c.answers c.failed c.calls
+        reads_own found finds works.calls.stands c.to c.new c.exchanges c.failed c.calls
 
     comes_of_hurt : (mode : Mode) (comes : ComesTo mode file.layout t old new status) → ComesOfHurt file view t file.layout mode old new status comes
     comes_of_hurt mode (inl r) = refuses r

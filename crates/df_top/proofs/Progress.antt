@@ -18,7 +18,7 @@ use Rattle.df_session.specs.Below.{State as Replica}
 use Rattle.df_session.specs.Session.{Act}
 use Rattle.df_top.specs.Lines.{Asker, ByLine, ByLoop, Turned, all_said, all_text, command_of_line, said_by, told_by}
 use Rattle.df_session.specs.Links.{Calls, Makes}
-use Rattle.df_top.specs.Pacing.{AreTurns, EndTurns, IsIdleBeat, IsNextCommand, beat_after, runs}
+use Rattle.df_top.specs.Pacing.{AreTurns, EndTurns, IsIdleBeat, IsNextCommand, NextTurn, NoTurns, beat_after, runs}
 use Rattle.df_top.specs.Session.{Ended, EndsText, EndsWith, Executed, HoldsLine, IsDamagedLine, SessionState}
 use Rattle.df_top.specs.Step.{EndsDamaged, EndsIn, IsAnsweredCall, SessionGoesOn, TakesNextLine}
 use Rattle.df_top.specs.declared.status.Status.{Status}
@@ -33,7 +33,7 @@ executed_none pace bound origin = record {
   text = λ text is. (text, is, (refl, refl));
   written = Appends-nil origin.outside.written;
   lines = omega arith;
-  calls = (refl, refl, refl);
+  calls = NoTurns;
 }
 
 -- a call takes the line that asks for it, or no line
@@ -65,14 +65,14 @@ text_on pace bound origin old turns (ByLoop p) left budget so_far takes text is 
 module _ (pace : Pace) (bound : ℕ) (old new : SessionState) (asker : Asker) (takes : TakesFor bound old asker new.text new.budget) (act : Act) (next : IsNextCommand old.beat old.replica asker act.command) (x : Answer)
     (calls : Calls act old.replica new.replica old.outside.told new.outside.told (Some x)) (origin : SessionState) (turns : List Turned) (so_far : Executed pace bound origin old turns) where
   abbrev one : Turned
-  one = record { asker = asker; act = act; answer = x }
+  one = record { asker = asker; exchange = record { act = act; answer = x } }
 
   abbrev beat_then : Beat
   beat_then = beat_after pace old.beat asker new.replica x
 
   all_turns : AreTurns pace origin.beat origin.replica origin.outside.told (turns ++ one ∷ []) beat_then new.replica new.outside.told
   all_turns =
-      turns_join pace origin.beat old.beat beat_then origin.replica old.replica new.replica origin.outside.told old.outside.told new.outside.told turns (one ∷ []) so_far.calls (new.replica, new.outside.told, next, calls, (refl, refl, refl))
+      turns_join pace origin.beat old.beat beat_then origin.replica old.replica new.replica origin.outside.told old.outside.told new.outside.told turns (one ∷ []) so_far.calls (NextTurn new.replica new.outside.told next calls NoTurns)
 
   said_is : all_said (turns ++ one ∷ []) ≡ all_said turns ++ said_by asker
   said_is = said_more turns (one ∷ []) ∙ ap (λ (l : List Said). all_said turns ++ l) (append-nil (said_by asker))

@@ -16,7 +16,7 @@ use Rattle.df_session.specs.Begun.{begun_work}
 use Rattle.df_session.specs.Below.{DataFile, FindsSince, IsLivedDisk, MayReopen, restarted, shape, told_after}
 use Rattle.df_session.specs.Keeping.{KeepsFile, over}
 use Rattle.df_session.specs.Serving.{Firm, format, next}
-use Rattle.df_session.specs.Session.{Act, HoldsSome, IsMidway}
+use Rattle.df_session.specs.Session.{Act, Exchange, HoldsSome, IsMidway, acts_in}
 use Rattle.df_session.specs.Found.{FoundFile, no_calls}
 use Rattle.df_session.specs.Laws.{CallsKeep}
 use Rattle.df_session.specs.Links.{CallsMade, events_made, list_of}
@@ -43,16 +43,16 @@ either_view : (file : DataFile) (image : Image) (v u : View) → Held (shape fil
 either_view file image v u (inl held) = (v, held)
 either_view file image v u (inr held) = (u, held)
 
-session_lives : (file : DataFile) (logs : List Log) (w : Work) (base : Told) (acts : List Act) (answers : List Answer) (failed : Option Act) (mending added : List Event)
-    → KeepsFile file Firm w base acts answers failed (over mending added base) → EachMoment (did Sync base).log (told_after added (told_after mending (did Sync base))).log (IsLivedDisk file logs)
+session_lives : (file : DataFile) (logs : List Log) (w : Work) (base : Told) (xs : List Exchange) (failed : Option Act) (mending added : List Event)
+    → KeepsFile file Firm w base xs failed (over mending added base) → EachMoment (did Sync base).log (told_after added (told_after mending (did Sync base))).log (IsLivedDisk file logs)
     → EachMoment (did Sync base).log (told_after added (told_after mending (did Sync base))).log (IsLivedFile file logs)
-session_lives file logs w base acts answers failed mending added keeps lived = λ l moment.
+session_lives file logs w base xs failed mending added keeps lived = λ l moment.
     let exit : Told = told_after added (told_after mending (did Sync base)) in
-    let each : EachMoment (did Sync base).log exit.log (IsMidway file Firm w (acts ++ list_of failed)) =
-    subst (λ (n : Told). EachMoment (did Sync base).log n.log (IsMidway file Firm w (acts ++ list_of failed))) (sym (same_Some exit keeps.after keeps.is)) keeps.moments in
+    let each : EachMoment (did Sync base).log exit.log (IsMidway file Firm w (acts_in xs ++ list_of failed)) =
+    subst (λ (n : Told). EachMoment (did Sync base).log n.log (IsMidway file Firm w (acts_in xs ++ list_of failed))) (sym (same_Some exit keeps.after keeps.is)) keeps.moments in
     record {
       safe = (each l moment).safe;
-      left = λ image gone chance. some_view file w (acts ++ list_of failed) image ((each l moment).left image gone chance);
+      left = λ image gone chance. some_view file w (acts_in xs ++ list_of failed) image ((each l moment).left image gone chance);
       lived = lived l moment;
     }
 
@@ -81,7 +81,7 @@ module _ (file : DataFile) (log : Log) (logs : List Log) (t : Told) (may : MayRe
         told = adds ∙ ap (after_all (events_made c)) found.mending.told ∙ sym (after_append found.mending.events (events_made c) (Some (did Sync t)));
         moments =
             subst (λ (n : Told). EachMoment (did Sync (restarted t)).log n.log (IsLivedFile of (add Sync log ∷ logs))) (sym (told_append found.mending.events (events_made c) (did Sync (restarted t))))
-            (session_lives of (add Sync log ∷ logs) (begun_work of t.shown has.found) (restarted t) c.acts c.answers c.failed found.mending.events (events_made c) (keeps.keeps Firm has.found (restarted t) refl opens tt) (keeps.lived log logs here));
+            (session_lives of (add Sync log ∷ logs) (begun_work of t.shown has.found) (restarted t) c.exchanges c.failed found.mending.events (events_made c) (keeps.keeps Firm has.found (restarted t) refl opens tt) (keeps.lived log logs here));
       })
 
   -- so does an open that was stopped by the disk

@@ -23,13 +23,12 @@ use Rattle.df_session.specs.Reading.{shown_of}
 use Rattle.df_session.specs.Serving.{Firm, IsCall, Keeps}
 use Rattle.df_session.specs.Below.{AgreeShown, IsResult, codec}
 use Rattle.df_script_model.specs.Script.{answer_text}
-use Rattle.df_session.specs.Links.{command_in}
 use Rattle.df_session.specs.Resulting.{AnswersResult}
 use Rattle.df_session.proofs.Laws.{one_more_is_result, opened_agrees, opened_answers}
-use Rattle.df_session.specs.Session.{Act}
-use Rattle.df_top.specs.Lines.{Asker, ByLine, ByLoop, Failing, Turned, all_acts, all_answers, all_said, all_text, command_of_line}
+use Rattle.df_session.specs.Session.{Act, acts_in, command_in}
+use Rattle.df_top.specs.Lines.{Asker, ByLine, ByLoop, Failing, Turned, all_said, all_text, command_of_line, exchanges_in}
 use Rattle.df_top.specs.Outside.{IsThrough}
-use Rattle.df_top.specs.Pacing.{AreTurns, EndTurns, IsIdleBeat, IsNextCommand, all_calls, beat_after, runs}
+use Rattle.df_top.specs.Pacing.{AreTurns, EndTurns, IsIdleBeat, IsNextCommand, NextTurn, NoTurns, all_calls, beat_after, runs}
 use Rattle.df_top.specs.Resulting.{IsResultOf, joined}
 use Rattle.df_top.specs.declared.status.Status.{Status}
 use Rattle.df_top.specs.declared.status.Status.TheVariants.{WriteFault}
@@ -52,7 +51,7 @@ module _ (pace : Pace) (file : DataFile) where
   record Over (d : Due) (x : Stand) (turns : List Turned) (idle : Type 0) : Type 0 where
     pub text : all_text turns ≡ joined (paced sh cd pace (from d x) (lines_in turns))
     pub rest : List Command
-    pub commands : rest_due sh cd d x ++ all_commands sh cd pace (from d x) (lines_in turns) ≡ map command_in (all_acts turns) ++ rest
+    pub commands : rest_due sh cd d x ++ all_commands sh cd pace (from d x) (lines_in turns) ≡ map command_in (acts_in (exchanges_in turns)) ++ rest
     pub whole : idle → rest ≡ []
 
   -- ---- what the replica has is the machine's
@@ -84,14 +83,14 @@ module _ (pace : Pace) (file : DataFile) where
   module _ (d e : Due) (x : Stand) (act : Act) (answer : Answer) (turns : List Turned) (idle : Type 0) (none : rest_due sh cd d x ≡ []) where
     line_over : (c : Command) → act.command ≡ c → answer ≡ answer_at sh cd x c → e ≡ due_at pace (by_script sh cd x c).appended (runs_at sh cd (by_script sh cd x c)) → (more : Over e (by_script sh cd x c) turns idle)
         → (answer_text c answer ++ all_text turns ≡ joined (paced sh cd pace (from d x) (c ∷ lines_in turns)))
-        × (rest_due sh cd d x ++ all_commands sh cd pace (from d x) (c ∷ lines_in turns) ≡ act.command ∷ (map command_in (all_acts turns) ++ more.rest))
+        × (rest_due sh cd d x ++ all_commands sh cd pace (from d x) (c ∷ lines_in turns) ≡ act.command ∷ (map command_in (acts_in (exchanges_in turns)) ++ more.rest))
     line_over c is said due more =
         let z : Stand = by_script sh cd x c in
         let rest : rest_due sh cd e z ≡ commands_due sh cd pace z = ap (λ (d : Due). rest_due sh cd d z) due ∙ sym (whole_due sh cd pace z) in
         let later_is : from e z ≡ passed sh cd pace x c = ap (λ (cs : List Command). all_by_loop sh cd z cs) rest in
         let here : from d x ≡ x = ap (λ (cs : List Command). all_by_loop sh cd x cs) none in
         let text : all_text turns ≡ joined (paced sh cd pace (passed sh cd pace x c) (lines_in turns)) = more.text ∙ ap (λ (u : Stand). joined (paced sh cd pace u (lines_in turns))) later_is in
-        let commands : commands_due sh cd pace z ++ all_commands sh cd pace (passed sh cd pace x c) (lines_in turns) ≡ map command_in (all_acts turns) ++ more.rest =
+        let commands : commands_due sh cd pace z ++ all_commands sh cd pace (passed sh cd pace x c) (lines_in turns) ≡ map command_in (acts_in (exchanges_in turns)) ++ more.rest =
         sym (λ i. rest i ++ all_commands sh cd pace (later_is i) (lines_in turns)) ∙ more.commands in (
           (λ i. answer_text c (said i) ++ text i) ∙ sym (ap (λ (u : Stand). joined (paced sh cd pace u (c ∷ lines_in turns))) here),
           (λ i. none i ++ all_commands sh cd pace (here i) (c ∷ lines_in turns)) ∙ (λ i. sym is i ∷ commands i),
@@ -100,7 +99,7 @@ module _ (pace : Pace) (file : DataFile) where
   -- a piece's, which was next
   piece_over : (d : Due) (p : Piece) (x : Stand) (act : Act) (turns : List Turned) (idle : Type 0) → let c = piece_command p x.work.view.checkpoint.parts.root in
       next_piece d (runs_at sh cd x) ≡ Some p → act.command ≡ c → (more : Over (without p d) (by_loop sh cd x c) turns idle)
-      → (all_text turns ≡ joined (paced sh cd pace (from d x) (lines_in turns))) × (rest_due sh cd d x ++ all_commands sh cd pace (from d x) (lines_in turns) ≡ act.command ∷ (map command_in (all_acts turns) ++ more.rest))
+      → (all_text turns ≡ joined (paced sh cd pace (from d x) (lines_in turns))) × (rest_due sh cd d x ++ all_commands sh cd pace (from d x) (lines_in turns) ≡ act.command ∷ (map command_in (acts_in (exchanges_in turns)) ++ more.rest))
   piece_over d p x act turns idle due is more =
       let c : Command = piece_command p x.work.view.checkpoint.parts.root in
       let left : rest_due sh cd d x ≡ c ∷ rest_due sh cd (without p d) (by_loop sh cd x c) = piece_due sh cd d x p due in
@@ -120,7 +119,7 @@ module _ (pace : Pace) (file : DataFile) where
   Later e v n turns idle = (z : Stand) → Keeps Firm v z.work None → AgreeShown file.layout (shown_of file n.shown) z.shown → IsHeadCounted z e.since → Over e.due z turns idle
 
   module _ (act : Act) (answer : Answer) (turns : List Turned) (s v : Replica) (b : Beat) (x : Stand) (idle : Type 0) (n : Told) (here : Stands s x) (counted : IsHeadCounted x b.since) (result : IsResult file x.shown x.work act.command answer v n) where
-    call_over : (asker : Asker) → IsNextCommand b s asker act.command → Later (beat_after pace b asker v answer) v n turns idle → Over b.due x (record { asker = asker; act = act; answer = answer } ∷ turns) idle
+    call_over : (asker : Asker) → IsNextCommand b s asker act.command → Later (beat_after pace b asker v answer) v n turns idle → Over b.due x (record { asker = asker; exchange = record { act = act; answer = answer } } ∷ turns) idle
     call_over (ByLine said) next later =
         let c : Command = command_of_line said in
         let is : IsResult file x.shown x.work c answer v n = subst (λ (d : Command). IsResult file x.shown x.work d answer v n) next.0 result in
@@ -154,14 +153,12 @@ module _ (pace : Pace) (file : DataFile) where
 
   turns_over : (turns : List Turned) (s u : Replica) (old new : Option Told) (b c : Beat) (t : Told) (x : Stand) → s.file ≡ file → old ≡ Some t → AreTurns pace b s old turns c u new → Keeps Firm s x.work None → IsImage t.shown
       → AgreeShown file.layout (shown_of file t.shown) x.shown → IsHeadCounted x b.since → Over b.due x turns (IsIdleBeat c u)
-  turns_over [] s u old new b c t x of told are k whole agree counted =
-      over_none b.due x (IsIdleBeat c u)
-      (λ idle. ap (λ (r : Bool). next_piece b.due r) (sym (runs_is s x (stands s x of k))) ∙ subst (λ (e : Beat). next_piece e.due (runs s) ≡ None) are.2 (subst (λ (r : Replica). next_piece c.due (runs r) ≡ None) are.0 idle))
-  turns_over (y ∷ turns) s u old new b c t x of told are k whole agree counted =
-      let v = are.0 in
-      let one = one_more y.act y.answer s v old are.1 t x of told are.3.call k whole agree in
-      call_over y.act y.answer turns s v b x (IsIdleBeat c u) one.0 (stands s x of k) counted one.2 y.asker are.2
-      (λ z keeps shown count. turns_over turns v u are.1 new (beat_after pace b y.asker v y.answer) c one.0 z one.2.file_is one.1 are.4 keeps one.2.whole shown count)
+  turns_over [] s u old new b c t x of told NoTurns k whole agree counted =
+      over_none b.due x (IsIdleBeat b s) (λ idle. ap (λ (r : Bool). next_piece b.due r) (sym (runs_is s x (stands s x of k))) ∙ idle)
+  turns_over (y ∷ turns) s u old new b c t x of told (NextTurn v mid next call rest) k whole agree counted =
+      let one = one_more y.exchange.act y.exchange.answer s v old mid t x of told call.call k whole agree in
+      call_over y.exchange.act y.exchange.answer turns s v b x (IsIdleBeat c u) one.0 (stands s x of k) counted one.2 y.asker next
+      (λ z keeps shown count. turns_over turns v u mid new (beat_after pace b y.asker v y.exchange.answer) c one.0 z one.2.file_is one.1 rest keeps one.2.whole shown count)
 
 -- ---- a session that was opened
 
@@ -185,7 +182,7 @@ module _ (pace : Pace) (s : Replica) (t : Told) (mended : Option Told) (over : M
       turns_over pace s.file turns s u mended mid b c here.first x refl here.told are k here.whole here.agrees counted
 
   -- its calls are the result
-  result_is : (turns : List Turned) (status : Status) (idle : Type 0) → AnswersResult s.file shown w (all_acts turns) (all_answers turns) → Over pace s.file b.due x turns idle → (IsThrough status → idle) → IsResultOf pace s.file shown w turns status
+  result_is : (turns : List Turned) (status : Status) (idle : Type 0) → AnswersResult s.file shown w (exchanges_in turns) → Over pace s.file b.due x turns idle → (IsThrough status → idle) → IsResultOf pace s.file shown w turns status
   result_is turns status idle answers is through =
       let here : all_by_loop (shape s.file) (codec s.file) x (rest_due (shape s.file) (codec s.file) b.due x) ≡ x = ap (λ (cs : List Command). all_by_loop (shape s.file) (codec s.file) x cs) none in
       let says : List Command = map command_of_line (all_said turns) in
@@ -199,8 +196,8 @@ module _ (pace : Pace) (s : Replica) (t : Told) (mended : Option Told) (over : M
 
   pub opened_prints : (turns : List Turned) (failing : Option Failing) (status : Status) → (IsThrough status → (failing ≡ None) × (status ≡ WriteFault → ⊥)) → EndTurns pace b s mended turns failing status last new → IsResultOf pace s.file shown w turns status
   opened_prints turns None status through ends =
-      result_is turns status (IsIdleBeat ends.0 last) (opened_answers s t mended over whole w k last new None shown agree (all_acts turns) (all_answers turns) (all_calls pace b s mended turns None status last new ends)) (over_all turns ends.0 last new ends.1)
+      result_is turns status (IsIdleBeat ends.0 last) (opened_answers s t mended over whole w k last new None shown agree (exchanges_in turns) (all_calls pace b s mended turns None status last new ends)) (over_all turns ends.0 last new ends.1)
       (λ yes. ends.2 (through yes).1)
   opened_prints turns (Some f) status through ends =
-      result_is turns status (IsIdleBeat ends.0 ends.1) (opened_answers s t mended over whole w k last new (Some f.act) shown agree (all_acts turns) (all_answers turns) (all_calls pace b s mended turns (Some f) status last new ends))
+      result_is turns status (IsIdleBeat ends.0 ends.1) (opened_answers s t mended over whole w k last new (Some f.act) shown agree (exchanges_in turns) (all_calls pace b s mended turns (Some f) status last new ends))
       (over_all turns ends.0 ends.1 ends.2 ends.3) (λ yes. absurd (let no = (through yes).0 in cc))

@@ -1,10 +1,11 @@
 -- A generated run over a replica: its calls are joined, and what they leave of a file.
 use Rattle.std.proofs.Common.{◌≡◌, ◌<◌, ◌+◌, ℕ, Bool, true, List, [], ◌∷◌, ◌++◌, length, map, Option, Some, None, refl, sym, ◌∙◌, ap, subst, Result, Ok, Err, IsErr, IsErrAnd, inl, inr, arith}
 use Rattle.std.specs.Prelude.{OnOk}
+use Rattle.std.proofs.lemmas.List.{map-append}
 use Rattle.std.proofs.lemmas.Result.{err_from_is_err_and}
 use Rattle.df_disk.specs.Told.{Told}
-use Rattle.df_model.specs.Commands.{Advance, Command}
-use Rattle.df_session.specs.Session.{Act}
+use Rattle.df_model.specs.Commands.{Advance, Answer, Command}
+use Rattle.df_session.specs.Session.{Exchange, acts_in, answer_in, answers_in, command_in}
 use Rattle.df_script_model.specs.Texts.{damaged_text}
 use Rattle.df_session.specs.Below.{State as Replica}
 use Rattle.df_workload.specs.Asking.{asks, command_asked}
@@ -17,7 +18,7 @@ use Rattle.df_workload.specs.declared.outcome.Outcome.TheVariants.{Refused, Acce
 use Rattle.df_workload.specs.declared.state.State.{State as Run}
 use Rattle.df_workload.proofs.Laws.{follows_more, runs_so}
 use Rattle.df_session.specs.Endings.{EndsBy}
-use Rattle.df_session.specs.Links.{command_in}
+use Rattle.df_session.specs.Links.{More, NoCalls}
 use Rattle.df_session.specs.declared.hearing.Fault.{Fault}
 use Rattle.df_session.specs.declared.hearing.Fault.TheVariants.{Disk, Damaged}
 use Rattle.df_top.specs.Works.{Comes, Fails, HearsOf, IsRunning, PrintsRun, StepsOn, StillRuns, Worked, Works, WritesReport, steps_left}
@@ -27,22 +28,23 @@ use Rattle.df_top.proofs.Answered.{damaged_line}
 
 -- ---- joined
 
-map_append : (xs ys : List Act) → map command_in (xs ++ ys) ≡ map command_in xs ++ map command_in ys
-map_append [] ys = refl
-map_append (x ∷ xs) ys = ap (λ (l : List Command). command_in x ∷ l) (map_append xs ys)
+-- the commands of both
+asked_by_both : (xs ys : List Exchange) → map command_in (acts_in (xs ++ ys)) ≡ map command_in (acts_in xs) ++ map command_in (acts_in ys)
+asked_by_both [] ys = refl
+asked_by_both (x ∷ xs) ys = ap (λ (l : List Command). x.act.command ∷ l) (asked_by_both xs ys)
 
 pub works_none : (run : Run) (s : Replica) (told : Option Told) → Works run s told run s told
-works_none run s told = record { acts = []; answers = []; calls = (refl, refl); follows = refl }
+works_none run s told = record { exchanges = []; calls = NoCalls; follows = refl }
 
 module _ (begun : Run) (s : Replica) (old : Option Told) (mid : Run) (u : Replica) (between : Option Told) (run : Run) (t : Replica) (new : Option Told) (one : Works begun s old mid u between) where
   pub works_more : Works mid u between run t new → Works begun s old run t new
   works_more two = record {
-    acts = one.acts ++ two.acts;
-    answers = one.answers ++ two.answers;
-    calls = calls_join s u t old between new one.acts two.acts one.answers two.answers one.calls two.calls;
+    exchanges = one.exchanges ++ two.exchanges;
+    calls = calls_join s u t old between new one.exchanges two.exchanges one.calls two.calls;
     follows =
-        subst (λ (l : List Command). Follows begun l (one.answers ++ two.answers) run) (sym (map_append one.acts two.acts))
-        (follows_more begun mid run (map command_in one.acts) (map command_in two.acts) one.answers two.answers one.follows two.follows);
+        subst (λ (l : List Command). Follows begun l (answers_in (one.exchanges ++ two.exchanges)) run) (sym (asked_by_both one.exchanges two.exchanges))
+        (subst (λ (l : List Answer). Follows begun (map command_in (acts_in one.exchanges) ++ map command_in (acts_in two.exchanges)) l run) (sym (map-append answer_in one.exchanges two.exchanges))
+        (follows_more begun mid run (map command_in (acts_in one.exchanges)) (map command_in (acts_in two.exchanges)) (answers_in one.exchanges) (answers_in two.exchanges) one.follows two.follows));
   }
 
 module _ (begun : Run) (s : Replica) (old : Option Told) (mid : Run) (u : Replica) (between : Option Told) (run : Run) (t : Replica) (new : Option Told) (one : Works begun s old mid u between) where
@@ -66,9 +68,8 @@ module _ (begun : Run) (s : Replica) (old : Option Told) (mid : Run) (u : Replic
 module _ (run : Run) (s t : Replica) (old new : Option Told) (command : Command) (is : asks run ≡ Some command) where
   pub made_works : (o : Outcome) → HearsOf command s t old new (Ok o) → Works run s old (told o run) t new
   made_works o made = record {
-    acts = made.1.act ∷ [];
-    answers = made.0 ∷ [];
-    calls = (t, new, made.1.calls, (refl, refl));
+    exchanges = record { act = made.1.act; answer = made.0 } ∷ [];
+    calls = More t new made.1.calls NoCalls;
     follows = (is ∙ ap (λ (c : Command). Option.Some c) (sym made.1.is), ap (λ (o : Outcome). told o run) made.2);
   }
 
@@ -115,12 +116,11 @@ pub record EndsRun (begun : Run) (s : Replica) (old : Option Told) (run : Run) (
 
 module _ (begun : Run) (s : Replica) (old : Option Told) (run : Run) (t : Replica) (new : Option Told) where
   abbrev whole : Works begun s old run t new → asks run ≡ None → Worked begun s old run t new
-  whole works over = record { acts = works.acts; answers = works.answers; failed = None; calls = works.calls; follows = works.follows; asked = over }
+  whole works over = record { exchanges = works.exchanges; failed = None; calls = works.calls; follows = works.follows; asked = over }
 
   abbrev cut : {fault : Fault} → Fails begun s old run t new fault → Worked begun s old run t new
   cut f = record {
-    acts = f.works.acts;
-    answers = f.works.answers;
+    exchanges = f.works.exchanges;
     failed = Some f.act;
     calls = (f.replica, f.told, f.works.calls, f.call);
     follows = f.works.follows;

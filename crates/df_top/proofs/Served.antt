@@ -30,7 +30,7 @@ use Rattle.df_top.specs.Mode.{Executes}
 use Rattle.df_top.specs.Run.{ComesTo, Does, ServesScript, start}
 use Rattle.df_session.specs.Session.{Act}
 use Rattle.df_lines.proofs.Laws.{unread_none}
-use Rattle.df_top.specs.Lines.{Failing, Turned, act_of, all_acts, all_answers}
+use Rattle.df_top.specs.Lines.{Failing, Turned, act_of, exchanges_in}
 use Rattle.df_top.specs.Session.{Ended, EndsWith, SessionState, state}
 use Rattle.df_top.specs.declared.mode.Mode.{Mode}
 use Rattle.df_top.specs.declared.mode.Mode.TheVariants.{Run, Paced}
@@ -108,7 +108,7 @@ module _ (pace : Pace) (layout : Layout) (t : Told) (old new : Outside) (status 
   tells_on : (u : Told) × (last.outside.told ≡ Some u)
   tells_on =
       let goes = goes_told (did Sync t) mended synced in
-      let by_calls = ends_told s last.replica mended last.outside.told (all_acts ended.turns) (all_answers ended.turns) (act_of ended.failing) made.calls in
+      let by_calls = ends_told s last.replica mended last.outside.told (exchanges_in ended.turns) (act_of ended.failing) made.calls in
       let more = goes_told goes.0 last.outside.told (subst (λ (o : Option Told). ToldBy o last.outside.told) goes.1 by_calls) in
       (more.0, more.1)
 
@@ -119,7 +119,7 @@ module _ (pace : Pace) (layout : Layout) (t : Told) (old new : Outside) (status 
       (subst (λ (x : Status). EndsWith origin.lines origin.outside last.outside ended.turns (act_of ended.failing) ended.cut x) is ended.written)
 
   calls : CallsKeep t found.replica found.mended found.mending (script_calls ended)
-  calls = calls_keep t s mended over last.replica last.outside.told (all_acts ended.turns) (all_answers ended.turns) (act_of ended.failing) made.calls whole live
+  calls = calls_keep t s mended over last.replica last.outside.told (exchanges_in ended.turns) (act_of ended.failing) made.calls whole live
 
   abbrev origin : SessionState
   origin = start mended old s

@@ -15,9 +15,9 @@ use Rattle.df_session.specs.Formatting.{AddsFormat, RefusesCluster}
 use Rattle.df_session.specs.Making.{making_events, making_steps}
 use Rattle.df_session.specs.Opened.{Mends, StopsOpening}
 use Rattle.df_session.specs.Serving.{IsCall}
-use Rattle.df_session.specs.Session.{Act}
+use Rattle.df_session.specs.Session.{Act, Exchange}
 use Rattle.df_session.specs.Found.{FoundFile}
-use Rattle.df_session.specs.Links.{AreCalls, EndsCalls}
+use Rattle.df_session.specs.Links.{AreCalls, EndsCalls, More, NoCalls}
 use Rattle.df_session.proofs.Laws.{layout_there}
 use Rattle.df_top.specs.Acknowledging.{run_calls, script_calls}
 use Rattle.df_top.specs.Opening.{StopsBefore}
@@ -35,19 +35,17 @@ module _ (file : DataFile) where
   call_within a s t old new answer same call = record { events = call.events; told = call.told; within = subst (λ (f : DataFile). AreWithin f.layout call.events) same call.within }
 
   -- those of a list, each answered, and the file is the same after them
-  calls_within : (s : Replica) (old : Option Told) (acts : List Act) (answers : List Answer) (t : Replica) (new : Option Told) → s.file ≡ file → AreCalls s old acts answers t new → AddsWithin file.layout old new × (t.file ≡ file)
-  calls_within s old [] [] t new same calls = (none_within file.layout old new calls.1, ap (λ (r : Replica). r.file) calls.0 ∙ same)
-  calls_within s old [] (x ∷ answers) t new same calls = absurd calls
-  calls_within s old (a ∷ acts) [] t new same calls = absurd calls
-  calls_within s old (a ∷ acts) (x ∷ answers) t new same calls =
-      let call = calls.2.call in
-      let rest = calls_within calls.0 calls.1 acts answers t new (call.file ∙ same) calls.3 in
-      (then_within file.layout old calls.1 new (call_within a s calls.0 old calls.1 (Some x) same call) rest.0, rest.1)
+  calls_within : (s : Replica) (old : Option Told) (xs : List Exchange) (t : Replica) (new : Option Told) → s.file ≡ file → AreCalls s old xs t new → AddsWithin file.layout old new × (t.file ≡ file)
+  calls_within s old [] t new same NoCalls = (none_within file.layout old old refl, same)
+  calls_within s old (x ∷ xs) t new same (More u mid made later) =
+      let call = made.call in
+      let rest = calls_within u mid xs t new (call.file ∙ same) later in
+      (then_within file.layout old mid new (call_within x.act s u old mid (Some x.answer) same call) rest.0, rest.1)
 
-  ends_within : (s t : Replica) (old new : Option Told) (acts : List Act) (answers : List Answer) (failed : Option Act) → s.file ≡ file → EndsCalls s t old new acts answers failed → AddsWithin file.layout old new
-  ends_within s t old new acts answers None same calls = (calls_within s old acts answers t new same calls).0
-  ends_within s t old new acts answers (Some a) same calls =
-      let before = calls_within s old acts answers calls.0 calls.1 same calls.2 in
+  ends_within : (s t : Replica) (old new : Option Told) (xs : List Exchange) (failed : Option Act) → s.file ≡ file → EndsCalls s t old new xs failed → AddsWithin file.layout old new
+  ends_within s t old new xs None same calls = (calls_within s old xs t new same calls).0
+  ends_within s t old new xs (Some a) same calls =
+      let before = calls_within s old xs calls.0 calls.1 same calls.2 in
       then_within file.layout old calls.1 new before.0 (call_within a calls.0 t calls.1 new None before.1 calls.3.call)
 
 -- ---- a word on a file
@@ -88,9 +86,9 @@ module _ (layout : Layout) (t : Told) where
   found_within found new same = mends_within found.replica.file new (layout_there layout t found) (subst (λ (o : Option Told). Mends found.replica.file (Some (did Sync t)) o) (sym same) found.mending)
 
   -- and calls are made on it
-  calls_within_found : (found : FoundFile layout t) (to : Replica) (new : Option Told) (acts : List Act) (answers : List Answer) (failed : Option Act) → EndsCalls found.replica to found.mended new acts answers failed → AddsWithin layout (Some t) new
-  calls_within_found found to new acts answers failed calls =
-      session_within found.replica.file found.mended new (layout_there layout t found) found.mending (ends_within found.replica.file found.replica to found.mended new acts answers failed refl calls)
+  calls_within_found : (found : FoundFile layout t) (to : Replica) (new : Option Told) (xs : List Exchange) (failed : Option Act) → EndsCalls found.replica to found.mended new xs failed → AddsWithin layout (Some t) new
+  calls_within_found found to new xs failed calls =
+      session_within found.replica.file found.mended new (layout_there layout t found) found.mending (ends_within found.replica.file found.replica to found.mended new xs failed refl calls)
 
 module _ (layout : Layout) (t : Told) (old new : Outside) (status : Status) where
   works_within : (mode : Mode) (found : FoundFile layout t) → Works mode layout t found old new status → AddsWithin layout (Some t) new.told
@@ -98,16 +96,16 @@ module _ (layout : Layout) (t : Told) (old new : Outside) (status : Status) wher
   works_within Upgrade found works = absurd works
   works_within Run found serves =
       let c = script_calls serves.session in
-      subst (λ (o : Outside). AddsWithin layout (Some t) o.told) serves.last_is (calls_within_found layout t found c.to c.new c.acts c.answers c.failed c.calls)
+      subst (λ (o : Outside). AddsWithin layout (Some t) o.told) serves.last_is (calls_within_found layout t found c.to c.new c.exchanges c.failed c.calls)
   works_within (Paced pace) found serves =
       let c = script_calls serves.session in
-      subst (λ (o : Outside). AddsWithin layout (Some t) o.told) serves.last_is (calls_within_found layout t found c.to c.new c.acts c.answers c.failed c.calls)
+      subst (λ (o : Outside). AddsWithin layout (Some t) o.told) serves.last_is (calls_within_found layout t found c.to c.new c.exchanges c.failed c.calls)
   works_within Recover found recovers = found_within layout t found new.told recovers.told
   works_within Inspect found inspects = barrier_within layout t new.told inspects.barrier
   works_within Scrub found scrubs = found_within layout t found new.told (scrubs.told ∙ sym scrubs.is_mended)
   works_within (Workload seed count) found works =
       let c = run_calls works.worked in
-      calls_within_found layout t found c.to c.new c.acts c.answers c.failed c.calls
+      calls_within_found layout t found c.to c.new c.exchanges c.failed c.calls
 
   comes_within : (mode : Mode) → ComesTo mode layout t old new status → AddsWithin layout (Some t) new.told
   comes_within mode (inl refuses) = barrier_within layout t new.told refuses.barrier

@@ -92,7 +92,7 @@ module _ (seed count : ℕ) (layout : Layout) (t : Told) (old new : Outside) (st
   tells_on : (u : Told) × (new.told ≡ Some u)
   tells_on =
       let goes = goes_told (did Sync t) mended synced in
-      let by_calls = ends_told s last mended new.told ended.worked.acts ended.worked.answers ended.worked.failed ended.worked.calls in
+      let by_calls = ends_told s last mended new.told ended.worked.exchanges ended.worked.failed ended.worked.calls in
       let more = goes_told goes.0 new.told (subst (λ (o : Option Told). ToldBy o new.told) goes.1 by_calls) in
       (more.0, more.1)
 
@@ -102,7 +102,7 @@ module _ (seed count : ℕ) (layout : Layout) (t : Told) (old new : Outside) (st
       (subst (λ (x : Status). WritesReport run last new.told ended.worked.failed old.written new.written x) is ended.writes)
 
   calls : CallsKeep t found.replica found.mended found.mending (run_calls ended.worked)
-  calls = calls_keep t s mended over last new.told ended.worked.acts ended.worked.answers ended.worked.failed ended.worked.calls image live
+  calls = calls_keep t s mended over last new.told ended.worked.exchanges ended.worked.failed ended.worked.calls image live
 
   pub works_through : (found : FoundFile layout t) × WorksThrough seed count layout t found old new status
   works_through = (found, record { unread = unread; run = run; last = last; worked = ended.worked; written = ended.writes; calls = calls; undamaged = undamaged })

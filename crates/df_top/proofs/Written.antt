@@ -8,13 +8,13 @@ use Rattle.df_pace.specs.declared.beat.Beat.{Beat}
 use Rattle.df_pace.specs.declared.pace.Pace.{Pace}
 use Rattle.df_session.specs.Below.{State as Replica}
 use Rattle.df_top.specs.Lines.{Turned, all_said, all_text, said_by, told_by}
-use Rattle.df_top.specs.Pacing.{AreTurns, beat_after}
+use Rattle.df_top.specs.Pacing.{AreTurns, NextTurn, NoTurns, beat_after}
 
 -- ---- calls more
 
 pub text_more : (turns more : List Turned) → all_text (turns ++ more) ≡ all_text turns ++ all_text more
 text_more [] more = refl
-text_more (u ∷ turns) more = ap (λ (l : List ℕ). told_by u.asker u.answer ++ l) (text_more turns more) ∙ sym (append_assoc (told_by u.asker u.answer) (all_text turns) (all_text more))
+text_more (u ∷ turns) more = ap (λ (l : List ℕ). told_by u.asker u.exchange.answer ++ l) (text_more turns more) ∙ sym (append_assoc (told_by u.asker u.exchange.answer) (all_text turns) (all_text more))
 
 pub said_more : (turns more : List Turned) → all_said (turns ++ more) ≡ all_said turns ++ all_said more
 said_more [] more = refl
@@ -22,10 +22,9 @@ said_more (u ∷ turns) more = ap (λ (l : List Said). said_by u.asker ++ l) (sa
 
 -- what was made goes on
 pub turns_join : (pace : Pace) (b c d : Beat) (s t u : Replica) (old mid new : Option Told) (turns more : List Turned) → AreTurns pace b s old turns c t mid → AreTurns pace c t mid more d u new → AreTurns pace b s old (turns ++ more) d u new
-turns_join pace b c d s t u old mid new [] more are rest =
-    subst (λ (e : Beat). AreTurns pace e s old more d u new) are.2 (subst (λ (o : Option Told). AreTurns pace c s o more d u new) are.1 (subst (λ (r : Replica). AreTurns pace c r mid more d u new) are.0 rest))
-turns_join pace b c d s t u old mid new (x ∷ turns) more are rest =
-    (are.0, are.1, are.2, are.3, turns_join pace (beat_after pace b x.asker are.0 x.answer) c d are.0 t u are.1 mid new turns more are.4 rest)
+turns_join pace b c d s t u old mid new [] more NoTurns rest = rest
+turns_join pace b c d s t u old mid new (x ∷ turns) more (NextTurn v between is call others) rest =
+    NextTurn v between is call (turns_join pace (beat_after pace b x.asker v x.exchange.answer) c d v t u between mid new turns more others rest)
 
 -- ---- one line more
 

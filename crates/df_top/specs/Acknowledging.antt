@@ -5,7 +5,7 @@ use Rattle.df_pace.specs.declared.pace.Pace.{Pace}
 use Rattle.df_session.specs.Below.{State as Replica}
 use Rattle.df_session.specs.Links.{CallsMade}
 use Rattle.df_workload.specs.declared.state.State.{State as Run}
-use Rattle.df_top.specs.Lines.{act_of, all_acts, all_answers}
+use Rattle.df_top.specs.Lines.{act_of, exchanges_in}
 use Rattle.df_top.specs.Pacing.{all_calls}
 use Rattle.df_top.specs.Session.{Ended, SessionState}
 use Rattle.df_top.specs.Works.{Worked}
@@ -18,12 +18,11 @@ script_calls {pace = pace} {origin = origin} {now = now} {status = status} ended
   to = now.replica;
   old = origin.outside.told;
   new = now.outside.told;
-  acts = all_acts ended.turns;
-  answers = all_answers ended.turns;
+  exchanges = exchanges_in ended.turns;
   failed = act_of ended.failing;
   calls = all_calls pace origin.beat origin.replica origin.outside.told ended.turns ended.failing status now.replica now.outside.told ended.calls;
 }
 
 -- those of a generated run
 abbrev pub run_calls : {begun : Run} {s : Replica} {old : Option Told} {run : Run} {t : Replica} {new : Option Told} → Worked begun s old run t new → CallsMade
-run_calls {s = s} {old = old} {t = t} {new = new} worked = record { from = s; to = t; old = old; new = new; acts = worked.acts; answers = worked.answers; failed = worked.failed; calls = worked.calls }
+run_calls {s = s} {old = old} {t = t} {new = new} worked = record { from = s; to = t; old = old; new = new; exchanges = worked.exchanges; failed = worked.failed; calls = worked.calls }

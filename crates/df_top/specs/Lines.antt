@@ -1,11 +1,11 @@
 -- The call that a line of a script asks for, the calls of a session, and what their answers print.
-use Rattle.std.specs.Prelude.{◌+◌, ℕ, Bool, true, false, List, [], ◌∷◌, ◌++◌, length, Option, Some, None}
+use Rattle.std.specs.Prelude.{◌+◌, ℕ, Bool, true, false, List, [], ◌∷◌, ◌++◌, length, map, Option, Some, None}
 use Rattle.df_inspect.specs.Opening.{script_text}
 use Rattle.df_lines.specs.Grammar.{Said}
 use Rattle.df_lines.specs.Grammar as lines
 use Rattle.df_model.specs.Commands.{Advance, Answer, Append, Begin, Command, Flush, ReadBlock, ReadPrepare, ReadReply, Recent, Release, Reply, Scrub, Stage, WriteBlock}
 use Rattle.df_pace.specs.declared.beat.Piece.{Piece}
-use Rattle.df_session.specs.Session.{Act}
+use Rattle.df_session.specs.Session.{Act, Exchange}
 use Rattle.df_script_model.specs.Script.{answer_text}
 
 -- the call that a line asks for
@@ -31,11 +31,10 @@ pub data Asker : Type 0 where
   ByLine : Said → Asker
   ByLoop : Piece → Asker
 
--- a call with its answer, and who asked for it
+-- a call that was answered, and who asked for it
 pub record Turned : Type 0 where
   pub asker : Asker
-  pub act : Act
-  pub answer : Answer
+  pub exchange : Exchange
 
 -- and one that was not answered
 pub record Failing : Type 0 where
@@ -46,14 +45,12 @@ abbrev pub act_of : Option Failing → Option Act
 act_of None = None
 act_of (Some f) = Some f.act
 
--- all calls and answers, in order
-abbrev pub all_acts : List Turned → List Act
-all_acts [] = []
-all_acts (t ∷ turns) = t.act ∷ all_acts turns
+abbrev pub exchange_of : Turned → Exchange
+exchange_of t = t.exchange
 
-abbrev pub all_answers : List Turned → List Answer
-all_answers [] = []
-all_answers (t ∷ turns) = t.answer ∷ all_answers turns
+-- all calls with their answers, in order
+abbrev pub exchanges_in : List Turned → List Exchange
+exchanges_in turns = map exchange_of turns
 
 -- ---- the lines among them
 
@@ -79,7 +76,7 @@ told_by (ByLoop piece) answer = []
 -- the lines that the answers print
 abbrev pub all_text : List Turned → List ℕ
 all_text [] = []
-all_text (t ∷ turns) = told_by t.asker t.answer ++ all_text turns
+all_text (t ∷ turns) = told_by t.asker t.exchange.answer ++ all_text turns
 
 -- and the line that refuses the next one, where the script is cut there, n lines before the first of them
 abbrev pub printed : (n : ℕ) → List Turned → (cut : Bool) → List ℕ

@@ -6,8 +6,8 @@ use Rattle.df_pace.specs.Beats.{beat_after_line, beat_after_piece, command_of_pi
 use Rattle.df_pace.specs.declared.beat.Beat.{Beat}
 use Rattle.df_pace.specs.declared.pace.Pace.{Pace}
 use Rattle.df_session.specs.Below.{State as Replica, is_running, memory}
-use Rattle.df_session.specs.Links.{AreCalls, Calls, EndsCalls}
-use Rattle.df_top.specs.Lines.{Asker, ByLine, ByLoop, Failing, Turned, act_of, all_acts, all_answers, command_of_line}
+use Rattle.df_session.specs.Links.{AreCalls, Calls, EndsCalls, More, NoCalls}
+use Rattle.df_top.specs.Lines.{Asker, ByLine, ByLoop, Failing, Turned, act_of, command_of_line, exchanges_in}
 use Rattle.df_top.specs.declared.status.Status.{Status}
 use Rattle.df_top.specs.declared.status.Status.TheVariants.{WriteFault}
 
@@ -33,20 +33,20 @@ beat_after pace b (ByLoop p) t x = beat_after_piece p (is_begun x) b t.head
 -- ---- calls in turn
 
 -- from one state to another these calls were made, one after the other, each was next, and each was answered
-abbrev pub AreTurns : Pace → (b : Beat) → (s : Replica) → (old : Option Told) → List Turned → (c : Beat) → (t : Replica) → (new : Option Told) → Type 0
-AreTurns pace b s old [] c t new = (t ≡ s) × (new ≡ old) × (c ≡ b)
-AreTurns pace b s old (x ∷ turns) c t new =
-    (u : Replica) × (mid : Option Told) × IsNextCommand b s x.asker x.act.command × Calls x.act s u old mid (Some x.answer) × AreTurns pace (beat_after pace b x.asker u x.answer) u mid turns c t new
+pub data AreTurns (pace : Pace) : (b : Beat) (s : Replica) (old : Option Told) (turns : List Turned) (c : Beat) (t : Replica) (new : Option Told) → Type 0 where
+  NoTurns : {b : Beat} {s : Replica} {old : Option Told} → AreTurns pace b s old [] b s old
+  NextTurn : {x : Turned} {xs : List Turned} {b c : Beat} {s t : Replica} {old new : Option Told} (u : Replica) (mid : Option Told) → IsNextCommand b s x.asker x.exchange.act.command → Calls x.exchange.act s u old mid (Some x.exchange.answer)
+      → AreTurns pace (beat_after pace b x.asker u x.exchange.answer) u mid xs c t new → AreTurns pace b s old (x ∷ xs) c t new
 
-abbrev pub calls_in : (pace : Pace) → (b : Beat) → (s : Replica) → (old : Option Told) → (turns : List Turned) → (c : Beat) → (t : Replica) → (new : Option Told) → AreTurns pace b s old turns c t new → AreCalls s old (all_acts turns) (all_answers turns) t new
-calls_in pace b s old [] c t new are = (are.0, are.1)
-calls_in pace b s old (x ∷ turns) c t new are = (are.0, are.1, are.3, calls_in pace (beat_after pace b x.asker are.0 x.answer) are.0 are.1 turns c t new are.4)
+abbrev pub calls_in : {pace : Pace} {b : Beat} {s : Replica} {old : Option Told} {turns : List Turned} {c : Beat} {t : Replica} {new : Option Told} → AreTurns pace b s old turns c t new → AreCalls s old (exchanges_in turns) t new
+calls_in NoTurns = NoCalls
+calls_in (NextTurn u mid is call rest) = More u mid call (calls_in rest)
 
 -- They were; and the next one was not answered, if there is one. Else all of the work that is due was done, where the sink didn't fail with an answer's line.
 abbrev pub EndTurns : Pace → (b : Beat) → (s : Replica) → (old : Option Told) → List Turned → Option Failing → Status → (t : Replica) → (new : Option Told) → Type 0
 EndTurns pace b s old turns None status t new = (c : Beat) × AreTurns pace b s old turns c t new × ((status ≡ WriteFault → ⊥) → IsIdleBeat c t)
 EndTurns pace b s old turns (Some f) status t new = (c : Beat) × (u : Replica) × (mid : Option Told) × AreTurns pace b s old turns c u mid × IsNextCommand c u f.asker f.act.command × Calls f.act u t mid new None
 
-abbrev pub all_calls : (pace : Pace) → (b : Beat) → (s : Replica) → (old : Option Told) → (turns : List Turned) → (failing : Option Failing) → (status : Status) → (t : Replica) → (new : Option Told) → EndTurns pace b s old turns failing status t new → EndsCalls s t old new (all_acts turns) (all_answers turns) (act_of failing)
-all_calls pace b s old turns None status t new ends = calls_in pace b s old turns ends.0 t new ends.1
-all_calls pace b s old turns (Some f) status t new ends = (ends.1, ends.2, calls_in pace b s old turns ends.0 ends.1 ends.2 ends.3, ends.5)
+abbrev pub all_calls : (pace : Pace) → (b : Beat) → (s : Replica) → (old : Option Told) → (turns : List Turned) → (failing : Option Failing) → (status : Status) → (t : Replica) → (new : Option Told) → EndTurns pace b s old turns failing status t new → EndsCalls s t old new (exchanges_in turns) (act_of failing)
+all_calls pace b s old turns None status t new ends = calls_in ends.1
+all_calls pace b s old turns (Some f) status t new ends = (ends.1, ends.2, calls_in ends.3, ends.5)

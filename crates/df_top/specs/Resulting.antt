@@ -14,9 +14,9 @@ use Rattle.df_pace.specs.Beats.{idle}
 use Rattle.df_pace.specs.Loop.{all_commands, paced, start}
 use Rattle.df_pace.specs.declared.pace.Pace.{Pace}
 use Rattle.df_script_model.specs.Script.{printed}
-use Rattle.df_session.specs.Links.{command_in}
+use Rattle.df_session.specs.Session.{acts_in, command_in}
 use Rattle.df_session.specs.Resulting.{AnswersResult}
-use Rattle.df_top.specs.Lines.{Turned, all_acts, all_answers, all_said, all_text, command_of_line}
+use Rattle.df_top.specs.Lines.{Turned, all_said, all_text, command_of_line, exchanges_in}
 use Rattle.df_top.specs.Outside.{IsThrough}
 use Rattle.df_top.specs.declared.status.Status.{Status}
 
@@ -43,8 +43,8 @@ commands_over pace file shown w says = all_commands (shape file) (codec file) pa
 
 -- So it is of these calls: they answer and print what the machine does, and they are the first of all commands that their lines come to; all of them where nothing failed.
 pub record IsResultOf (pace : Pace) (file : DataFile) (shown : Shown) (w : Work) (turns : List Turned) (status : Status) : Type 0 where
-  pub answers : AnswersResult file shown w (all_acts turns) (all_answers turns)
+  pub answers : AnswersResult file shown w (exchanges_in turns)
   pub text : all_text turns ≡ text_over pace file shown w (all_said turns)
   pub rest : List Command
-  pub commands : commands_over pace file shown w (all_said turns) ≡ map command_in (all_acts turns) ++ rest
+  pub commands : commands_over pace file shown w (all_said turns) ≡ map command_in (acts_in (exchanges_in turns)) ++ rest
   pub whole : IsThrough status → rest ≡ []

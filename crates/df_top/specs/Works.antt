@@ -5,7 +5,7 @@ use Rattle.df_disk.specs.Told.{Told}
 use Rattle.df_inspect.specs.Reports.{workload_text}
 use Rattle.df_inspect.specs.declared.counts.Workload.{Workload}
 use Rattle.df_model.specs.Commands.{Answer as Answered, Command}
-use Rattle.df_session.specs.Session.{Act}
+use Rattle.df_session.specs.Session.{Act, Exchange, acts_in, answers_in, command_in}
 use Rattle.df_session.specs.Stepping.{OfRunning}
 use Rattle.df_session.specs.Below.{State as Replica}
 use Rattle.df_workload.specs.Asking.{asks}
@@ -16,7 +16,7 @@ use Rattle.df_workload.specs.declared.outcome.Outcome.{Outcome}
 use Rattle.df_workload.specs.declared.outcome.Outcome.TheVariants.{Refused, Accepted, Wrote, Finished}
 use Rattle.df_workload.specs.declared.state.State.{State as Run}
 use Rattle.df_session.specs.Endings.{EndsBy}
-use Rattle.df_session.specs.Links.{AreCalls, Calls, EndsCalls, Makes, command_in}
+use Rattle.df_session.specs.Links.{AreCalls, Calls, EndsCalls, Makes}
 use Rattle.df_session.specs.declared.hearing.Fault.{Fault}
 use Rattle.df_top.specs.Outside.{PrintsLine}
 use Rattle.df_top.specs.Refusing.{PrintsFault}
@@ -57,10 +57,9 @@ StepsOn s t (Err e) = Unit {0}
 
 -- from one state of the run to another its commands were made, one after the other, and each was answered
 pub record Works (begun : Run) (s : Replica) (old : Option Told) (run : Run) (t : Replica) (new : Option Told) : Type 0 where
-  pub acts : List Act
-  pub answers : List Answered
-  pub calls : AreCalls s old acts answers t new
-  pub follows : Follows begun (map command_in acts) answers run
+  pub exchanges : List Exchange
+  pub calls : AreCalls s old exchanges t new
+  pub follows : Follows begun (map command_in (acts_in exchanges)) (answers_in exchanges) run
 
 -- they were, and the next one has no answer, which ends the run
 pub record Fails (begun : Run) (s : Replica) (old : Option Told) (run : Run) (t : Replica) (new : Option Told) (fault : Fault) : Type 0 where
@@ -85,11 +84,10 @@ asked_by (Some a) = Some a.command
 
 -- its commands were made, each was answered, and then the next one was not, or none is asked for
 pub record Worked (begun : Run) (s : Replica) (old : Option Told) (run : Run) (t : Replica) (new : Option Told) : Type 0 where
-  pub acts : List Act
-  pub answers : List Answered
+  pub exchanges : List Exchange
   pub failed : Option Act
-  pub calls : EndsCalls s t old new acts answers failed
-  pub follows : Follows begun (map command_in acts) answers run
+  pub calls : EndsCalls s t old new exchanges failed
+  pub follows : Follows begun (map command_in (acts_in exchanges)) (answers_in exchanges) run
   pub asked : asks run ≡ asked_by failed
 
 -- what was counted, with these numbers of the file at the end: the head, how many replies, and the sequence
