@@ -12,10 +12,10 @@ use Rattle.df_opening.specs.Below.{TellsLayout}
 use Rattle.df_opening.specs.Opened.{StopsOpening}
 use Rattle.df_opening.specs.Surveying.{TellsSurvey}
 use Rattle.df_opening.proofs.Laws.{superblock_refused}
-use Rattle.df_telling.specs.Telling.{Blames, PrintsError, Writes}
-use Rattle.df_telling.specs.Two.{Faults, HasCausesOfTwo, Outside}
-use Rattle.df_telling.proofs.Laws.{first_causes, open_fault, printed_causes, refusal_ends, second_causes, text_ends}
-use Rattle.df_words.specs.Names.{NamesLayout, OneLayout}
+use Rattle.df_program.specs.Telling.{Blames, PrintsError, Writes}
+use Rattle.df_program.specs.Two.{Faults, HasCausesOfTwo, Outside}
+use Rattle.df_program.proofs.Laws.{first_causes, open_fault, printed_causes, refusal_ends, second_causes, text_ends}
+use Rattle.df_program.specs.Names.{NamesLayout, OneLayout}
 use Rattle.df_copy.specs.declared.ending.Ending.{Ending}
 use Rattle.df_copy.specs.declared.ending.Ending.TheVariants.{BlockTooLong, Damaged, NotAtRest, NotBlank, ReplyTooLong, Source, Target, TooFewBlocks, TooFewClients}
 use Rattle.df_copy.specs.declared.status.Status.{Status}

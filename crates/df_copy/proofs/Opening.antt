@@ -37,7 +37,7 @@ use Rattle.df_opening.proofs.Laws.{added_is_told, clean_beyond, shown_after, now
 use Rattle.df_replica.specs.Reading.{shown_of}
 use Rattle.df_copy.specs.declared.ending.Ending.{Ending}
 use Rattle.df_copy.specs.declared.ending.Ending.TheVariants.{BlockTooLong, Damaged, NotAtRest, NotBlank, ReplyTooLong, Source, Target, TooFewBlocks, TooFewClients}
-use Rattle.df_telling.specs.Two.{around}
+use Rattle.df_program.specs.Two.{around}
 use Rattle.df_copy.specs.declared.status.Status.{Status}
 use Rattle.df_copy.specs.Copying.{Copied, CopiesInto, IsAll, WritesCopy}
 use Rattle.df_copy.specs.Run.{CopiesFile, PrintsCopy, SparesCopies}

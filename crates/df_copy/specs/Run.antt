@@ -16,9 +16,9 @@ use Rattle.df_theory.specs.View.{View}
 use Rattle.df_units.specs.Bytes.{unit_at}
 use Rattle.df_opening.specs.Below.{IsLayoutShown, Refuses, State, Surveys, shape}
 use Rattle.df_opening.specs.Opened.{MendsAll, StopsOpening, begun_state}
-use Rattle.df_words.specs.Names.{NamesLayout}
-use Rattle.df_telling.specs.Telling.{Writes}
-use Rattle.df_telling.specs.Two.{Outside, TouchesNeither}
+use Rattle.df_program.specs.Names.{NamesLayout}
+use Rattle.df_program.specs.Telling.{Writes}
+use Rattle.df_program.specs.Two.{Outside, TouchesNeither}
 use Rattle.df_copy.specs.declared.ending.Ending.{Ending}
 use Rattle.df_copy.specs.declared.ending.Ending.TheVariants.{Source, Target}
 use Rattle.df_copy.specs.declared.status.Status.{Status}

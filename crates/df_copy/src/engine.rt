@@ -4,8 +4,8 @@ ghost use Rattle.df_base.specs.Image.{IsImage};
 ghost use Rattle.df_disk.specs.Told.{Told};
 ghost use Rattle.df_layout.specs.declared.layout.Layout.{Layout as Shape};
 ghost use Rattle.df_opening.specs.Opened.{MendsAll};
-ghost use Rattle.df_telling.specs.Telling.{Writes};
-ghost use Rattle.df_telling.specs.Two.{HasCausesOfTwo, around, counts};
+ghost use Rattle.df_program.specs.Telling.{Writes};
+ghost use Rattle.df_program.specs.Two.{HasCausesOfTwo, around, counts};
 ghost use Rattle.df_copy.specs.Run.{CopiesFile, DoesCopy, MeansLayout, MeansNoLayout, RunsCopy};
 ghost use Rattle.df_copy.specs.Statuses.{EndsWithFiles};
 ghost use Rattle.df_copy.specs.Texts.{copy_usage};
@@ -14,14 +14,13 @@ use crate::copying::copy_into;
 use crate::status::Status;
 use crate::target::Target;
 pub use crate::telling::USAGE;
-use crate::telling::{refuse_source, tell_copied, tell_ending};
+use crate::telling::{tell_copied, tell_ending};
 use df_base::{OutOfMemory, Sink};
 use df_buffers::ProbeRoom;
 use df_disk::Disk;
 use df_layout::Layout;
+use df_program::{a_name_is_of_one_layout, end_with, layout_named, refuse_file};
 use df_replica::{Replica, Rooms, probe};
-use df_telling::end_with;
-use df_words::{a_name_is_of_one_layout, layout_named};
 use std::alloc::Global;
 
 // The layout that the words name: they are one word, and it is a layout's name.
@@ -90,7 +89,7 @@ fn copy_reserved<A: Disk, B: Disk, W: Sink>(
     let Reserved { source, target } = reserved;
     match Replica::open(from, source) {
         Ok(replica) => copy_opened(from, to, sink, replica, target),
-        Err((_, error)) => refuse_source(sink, &error),
+        Err((_, error)) => refuse_file(sink, &error),
     }
 }
 
@@ -115,7 +114,7 @@ fn copy_file<A: Disk, B: Disk, W: Sink>(
             Ok(reserved) => copy_reserved(reserved, from, to, sink),
             Err(_) => Status::Memory,
         },
-        Err(error) => refuse_source(sink, &error),
+        Err(error) => refuse_file(sink, &error),
     }
 }
 
@@ -145,6 +144,6 @@ pub fn copy<A: Disk, B: Disk, W: Sink>(
     a_name_is_of_one_layout();
     match layout_in(words) {
         Some(layout) => copy_file(alloc, &layout, from, to, sink),
-        None => end_with(sink, USAGE, Status::Words, Status::WriteFault),
+        None => end_with(sink, USAGE, Status::Words),
     }
 }

@@ -1,4 +1,5 @@
 // How a copy ends.
+use df_program::Ends;
 
 /// How a copy ended. `number` is the status of the program's exit, as of `datafile`.
 #[derive(Clone, Copy, Debug, PartialEq, Eq)]
@@ -17,14 +18,27 @@ pub enum Status {
     Memory = 8,
 }
 
-impl Status {
-    ghost use Rattle.std.specs.Prelude.{◌≡◌};
-    ghost use Rattle.df_copy.specs.Statuses.{copy_exit_number};
+impl Ends for Status {
+    ghost use Rattle.df_copy.specs.Statuses.{are_numbered, copy_exit_number};
+    ghost use Rattle.df_copy.specs.declared.status.Status.TheVariants as ends;
 
-    /// The exit status of the program.
-    pub fn number(self) -> u8
-        ensures { result ≡ copy_exit_number self }
-    {
+    ghost number = { copy_exit_number };
+
+    ghost REFUSED = { ends.Refused };
+
+    ghost DISK_FAULT = { ends.DiskFault };
+
+    ghost WRITE_FAULT = { ends.WriteFault };
+
+    const REFUSED: Status = Status::Refused;
+
+    const DISK_FAULT: Status = Status::DiskFault;
+
+    const WRITE_FAULT: Status = Status::WriteFault;
+
+    fn number(self) -> u8 {
         self as u8
     }
+
+    ghost are_numbered = { are_numbered };
 }

@@ -3,7 +3,7 @@ ghost use Rattle.std.specs.Prelude.{◌≡◌, ◌≤◌, false, length, true};
 ghost use Rattle.df_base.specs.Causes.{HasCause};
 ghost use Rattle.df_inspect.specs.Prints.{Prints};
 ghost use Rattle.df_layout.specs.Zones.{file_sectors};
-ghost use Rattle.df_telling.specs.Telling.{Blames, PrintsError, Writes};
+ghost use Rattle.df_program.specs.Telling.{Blames, Writes};
 ghost use Rattle.df_copy.specs.Statuses.{is_fault};
 ghost use Rattle.df_copy.specs.Texts.{copied_text, ending_text, two_numbers};
 
@@ -13,8 +13,7 @@ use arrayvec::ArrayVec;
 use df_base::{Failed, Sink};
 use df_inspect::{Line, number_line, put, put_number, write_line};
 use df_layout::Layout;
-use df_replica::OpenError;
-use df_telling::{end_line, print_damaged, refuse_file};
+use df_program::{end_line, ended, print_damaged};
 
 /// The line that says which words have a meaning.
 pub const USAGE: &[u8] = b"usage: filecopy FROM TO LAYOUT\n";
@@ -25,16 +24,7 @@ pub(crate) fn tell_copied<W: Sink>(sink: &mut W, layout: &Layout) -> Status
     ensures sink { Blames Status.WriteFault (W.faults sink.old) (W.faults sink.new) result }
 {
     let line = number_line("copied", u128::from(layout.sectors()));
-    end_line(sink, &line, Status::Done, Status::WriteFault)
-}
-
-/// Prints why the source isn't opened; a failing disk has no line.
-pub(crate) fn refuse_source<W: Sink>(sink: &mut W, error: &OpenError) -> Status
-    ensures prints { PrintsError Status.Refused Status.DiskFault Status.WriteFault error.now (W.written sink.old) (W.written sink.new) result }
-    ensures sink { Blames Status.WriteFault (W.faults sink.old) (W.faults sink.new) result }
-{
-    let refused = Status::Refused;
-    refuse_file(sink, error, refused, Status::DiskFault, Status::WriteFault)
+    end_line(sink, &line, Status::Done)
 }
 
 // Words and a number, a word and a number.
@@ -129,8 +119,5 @@ pub(crate) fn tell_ending<W: Sink>(sink: &mut W, ending: Ending) -> Status
     if is_fault(ending) {
         return Status::DiskFault;
     }
-    match print_ending(sink, ending) {
-        Ok(()) => Status::Refused,
-        Err(_) => Status::WriteFault,
-    }
+    ended(print_ending(sink, ending), Status::Refused)
 }

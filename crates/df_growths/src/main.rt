@@ -6,6 +6,7 @@ mod outcome;
 mod runs;
 mod worked;
 
+use df_program::Ends;
 use outcome::{Outcome, carry_out};
 use std::env;
 use std::io::{self, Write};

@@ -15,7 +15,7 @@ use Rattle.df_units.specs.Bytes.{unit_at}
 use Rattle.df_units.specs.Meaning.{layout_of}
 use Rattle.df_replica.specs.Below.{AreDistinctUnits, DataFile, restarted, shape}
 use Rattle.df_replica.specs.Serving.{format}
-use Rattle.df_telling.specs.Two.{Outside}
+use Rattle.df_program.specs.Two.{Outside}
 use Rattle.df_copy.specs.Run.{CopiesFile, source_view}
 use Rattle.df_copy.specs.Stops.{AreSplit}
 use Rattle.df_copy.specs.Views.{IsCopyOf, IsEmptyImage, file_in}

@@ -15,9 +15,9 @@ use Rattle.df_format.specs.declared.superblock.SuperFault.TheVariants.{Version a
 use Rattle.df_opening.proofs.Laws.{superblock_refused}
 use Rattle.df_damage.specs.Found.{Syncs, TellsFoundAs}
 use Rattle.df_damage.specs.Opening.{HasSuperAs}
-use Rattle.df_telling.specs.Telling.{Blames, PrintsError}
-use Rattle.df_telling.specs.Two.{Faults, HasCausesOfTwo, Outside, counts}
-use Rattle.df_telling.proofs.Laws.{first_causes, its_blame, neither_causes, no_blame, open_fault, printed_causes, refusal_ends, second_causes, text_ends, unopened_causes}
+use Rattle.df_program.specs.Telling.{Blames, PrintsError}
+use Rattle.df_program.specs.Two.{Faults, HasCausesOfTwo, Outside, counts}
+use Rattle.df_program.proofs.Laws.{first_causes, its_blame, neither_causes, no_blame, open_fault, printed_causes, refusal_ends, second_causes, text_ends, unopened_causes}
 use Rattle.df_mirror.specs.declared.ending.Ending.{Ending}
 use Rattle.df_mirror.specs.declared.ending.Ending.TheVariants.{First, Neither, Second, Sink, Unopened}
 use Rattle.df_mirror.specs.declared.status.Status.{Status}

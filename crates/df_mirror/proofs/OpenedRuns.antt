@@ -8,7 +8,7 @@ use Rattle.df_format.specs.Copies.{content_with}
 use Rattle.df_theory.specs.Copies.{IsChosen}
 use Rattle.df_units.proofs.Laws.{choice_chosen}
 use Rattle.df_damage.proofs.Laws.{super_is_written_as}
-use Rattle.df_telling.proofs.Laws.{refusal_ends, text_ends}
+use Rattle.df_program.proofs.Laws.{refusal_ends, text_ends}
 use Rattle.df_mirror.specs.declared.ending.Ending.{Ending}
 use Rattle.df_mirror.specs.declared.ending.Ending.TheVariants.{First, Neither, Second, Sink, Unopened}
 use Rattle.df_mirror.specs.declared.status.Status.{Status}

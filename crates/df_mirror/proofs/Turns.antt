@@ -9,7 +9,7 @@ use Rattle.df_buffers.specs.declared.identity.Identity.{Identity}
 use Rattle.df_buffers.specs.Sounds.{Holding}
 use Rattle.df_theory.specs.Units.{Place, Units}
 use Rattle.df_units.specs.Meaning.{number_of}
-use Rattle.df_telling.specs.Two.{Faults}
+use Rattle.df_program.specs.Two.{Faults}
 use Rattle.df_opening.specs.Below.{shape}
 use Rattle.df_mirror.specs.declared.ending.Ending.{Ending}
 use Rattle.df_mirror.specs.declared.ending.Ending.TheVariants.{First}

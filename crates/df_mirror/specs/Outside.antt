@@ -5,9 +5,9 @@ use Rattle.df_disk.specs.Told.{Told}
 use Rattle.std.specs.Prelude.{Some}
 use Rattle.df_mirror.specs.declared.status.Status.{Status}
 use Rattle.df_mirror.specs.declared.status.Status.TheVariants.{Done, Found}
-pub use Rattle.df_telling.specs.Telling.{Blames, PrintsError, Writes}
-pub use Rattle.df_telling.specs.Two.{Faults, HasCausesOfTwo, Outside, around, counts}
-use Rattle.df_telling.specs.Two.{Outside}
+pub use Rattle.df_program.specs.Telling.{Blames, PrintsError, Writes}
+pub use Rattle.df_program.specs.Two.{Faults, HasCausesOfTwo, Outside, around, counts}
+use Rattle.df_program.specs.Two.{Outside}
 
 -- both files tell what they show, in whole sectors
 pub record Tell (t o : Told) (outside : Outside) : Type 0 where

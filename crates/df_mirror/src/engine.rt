@@ -1,7 +1,8 @@
 // The program: it has no words, and takes its memory once the first file's layout is known.
-ghost use Rattle.std.specs.Prelude.{◌≡◌, ◌≢◌, [], map, string_bytes, Err, IfNone, IfOk, IfSome};
-ghost use Rattle.df_disk.specs.Told.{Told};
-ghost use Rattle.df_mirror.specs.Outside.{Blames, HasCausesOfTwo, PrintsError, Tell, Writes, around, counts};
+ghost use Rattle.std.specs.Prelude.{◌≡◌, ◌⊎◌, ◌≢◌, [], map, string_bytes, Err, IfNone, IfOk, IfSome};
+ghost use Rattle.df_base.specs.Log.{Sync};
+ghost use Rattle.df_disk.specs.Told.{Told, after};
+ghost use Rattle.df_mirror.specs.Outside.{Blames, HasCausesOfTwo, Tell, Writes, around, counts};
 ghost use Rattle.df_mirror.specs.Run.{IsUndone, Mirrored, RunsMirror, TellsEnd};
 ghost use Rattle.df_mirror.specs.Texts.{mirror_usage};
 
@@ -16,7 +17,7 @@ use df_disk::Disk;
 use df_format::Super;
 use df_layout::Layout;
 use df_opening::{DataFile, OpenError, Rooms, survey_superblock};
-use df_telling::{end_with, refuse_file};
+use df_program::{end_with, refuse_file};
 use std::alloc::Global;
 
 // The file of a superblock, and no file where that isn't of version 2.
@@ -55,20 +56,6 @@ fn reserve(alloc: Global, layout: &Layout) -> Result<Reserved, OutOfMemory>
     })
 }
 
-// Says why the first file isn't mended.
-fn refuse<W: Sink>(sink: &mut W, error: &OpenError) -> Status
-    ensures prints { PrintsError Status.Refused Status.DiskFault Status.WriteFault error.now (W.written sink.old) (W.written sink.new) result }
-    ensures sink { Blames Status.WriteFault (W.faults sink.old) (W.faults sink.new) result }
-{
-    refuse_file(
-        sink,
-        error,
-        Status::Refused,
-        Status::DiskFault,
-        Status::WriteFault,
-    )
-}
-
 // Says how a mending ended.
 fn tell<W: Sink>(sink: &mut W, mended: Result<u64, Ending>) -> Status
     ensures tells { TellsEnd mended (W.written sink.old) (W.written sink.new) result }
@@ -78,7 +65,7 @@ fn tell<W: Sink>(sink: &mut W, mended: Result<u64, Ending>) -> Status
     match mended {
         Ok(count) => tell_count(sink, count),
         Err(Ending::Neither { place, class }) => tell_neither(sink, place, class),
-        Err(Ending::Unopened { error }) => refuse(sink, &error),
+        Err(Ending::Unopened { error }) => refuse_file(sink, &error),
         Err(Ending::First | Ending::Second) => Status::DiskFault,
         Err(Ending::Sink) => Status::WriteFault,
     }
@@ -130,7 +117,7 @@ fn mend_first<A: Disk, B: Disk, W: Sink>(
             // A survey for version 2 finds no other one.
             None => Status::Refused,
         },
-        Err(error) => refuse(sink, &error),
+        Err(error) => refuse_file(sink, &error),
     }
 }
 
@@ -161,6 +148,6 @@ pub fn mirror<A: Disk, B: Disk, W: Sink>(
 {
     match words {
         [] => mend_first(alloc, first, second, sink),
-        _ => end_with(sink, USAGE, Status::Words, Status::WriteFault),
+        _ => end_with(sink, USAGE, Status::Words),
     }
 }

@@ -1,40 +1,46 @@
 // How a mending ends.
+use df_program::Ends;
 
 /// How a run ended. `number` is the status of the program's exit, as of `datafile`.
 #[derive(Clone, Copy, Debug, PartialEq, Eq)]
 pub enum Status {
     /// Each known unit was shown: nothing was written.
-    Done,
+    Done = 0,
     /// What wasn't shown was taken from the second file, and each known unit is shown now.
-    Found,
+    Found = 1,
     /// The words have no meaning.
-    Words,
+    Words = 2,
     /// The first file's superblock or trailer can't be used, or neither file shows a known unit.
-    Refused,
+    Refused = 4,
     /// One of the two disks failed.
-    DiskFault,
+    DiskFault = 5,
     /// The sink failed, whatever else happened.
-    WriteFault,
+    WriteFault = 7,
     /// Want of memory, before anything was written.
-    Memory,
+    Memory = 8,
 }
 
-impl Status {
-    ghost use Rattle.std.specs.Prelude.{◌≡◌};
-    ghost use Rattle.df_mirror.specs.Statuses.{mirror_exit_number};
+impl Ends for Status {
+    ghost use Rattle.df_mirror.specs.Statuses.{are_numbered, mirror_exit_number};
+    ghost use Rattle.df_mirror.specs.declared.status.Status.TheVariants as ends;
 
-    /// The exit status of the program.
-    pub fn number(self) -> u8
-        ensures { result ≡ mirror_exit_number self }
-    {
-        match self {
-            Status::Done => 0,
-            Status::Found => 1,
-            Status::Words => 2,
-            Status::Refused => 4,
-            Status::DiskFault => 5,
-            Status::WriteFault => 7,
-            Status::Memory => 8,
-        }
+    ghost number = { mirror_exit_number };
+
+    ghost REFUSED = { ends.Refused };
+
+    ghost DISK_FAULT = { ends.DiskFault };
+
+    ghost WRITE_FAULT = { ends.WriteFault };
+
+    const REFUSED: Status = Status::Refused;
+
+    const DISK_FAULT: Status = Status::DiskFault;
+
+    const WRITE_FAULT: Status = Status::WriteFault;
+
+    fn number(self) -> u8 {
+        self as u8
     }
+
+    ghost are_numbered = { are_numbered };
 }

@@ -10,7 +10,7 @@ use arrayvec::ArrayVec;
 use df_base::{Failed, Sink};
 use df_inspect::{Line, number_line, put, put_class, put_place, write_line};
 use df_layout::{Class, Place};
-use df_telling::end_line;
+use df_program::end_line;
 
 /// The line that says which words have a meaning.
 pub const USAGE: &[u8] = b"usage: filemirror FIRST SECOND\n";
@@ -38,7 +38,7 @@ pub(crate) fn tell_count<W: Sink>(sink: &mut W, count: u64) -> Status
         Status::Found
     };
     let line = number_line("mended", u128::from(count));
-    end_line(sink, &line, given, Status::WriteFault)
+    end_line(sink, &line, given)
 }
 
 // The line on a unit that neither file shows.
@@ -60,5 +60,5 @@ pub(crate) fn tell_neither<W: Sink>(sink: &mut W, place: Place, class: Class) ->
     ensures sink { Blames Status.WriteFault (W.faults sink.old) (W.faults sink.new) result }
 {
     let line = neither_line(place, class);
-    end_line(sink, &line, Status::Refused, Status::WriteFault)
+    end_line(sink, &line, Status::Refused)
 }

@@ -20,15 +20,15 @@ use Rattle.df_rows.specs.declared.command.Command.TheVariants as commands
 use Rattle.df_table.specs.declared.ending.Ending.{Ending}
 use Rattle.df_table.specs.declared.session.Session.{Session}
 use Rattle.df_table.specs.declared.status.Status.{Status}
-use Rattle.df_table.specs.declared.turns.Turn.{Turn as Step}
-use Rattle.df_table.specs.declared.turns.Turn.TheVariants.{Ends, GoesOn as Goes}
+use Rattle.df_table.specs.Outside.{Step}
+use Rattle.df_program.specs.declared.turn.Turn.TheVariants.{Ends, GoesOn as Goes}
 use Rattle.df_session.specs.Below.{State as Replica}
 use Rattle.df_table.specs.Calls.{IsChanged}
 use Rattle.df_table.specs.Outside.{WritesTableText}
 use Rattle.df_table.specs.Ready.{IsReadyReplica, IsSteady, LeavesScript}
-use Rattle.df_table.specs.Serving.{ExecutesLine, IsServing, OnGoing, TellsLine, printed_turn}
+use Rattle.df_table.specs.Serving.{ExecutesLine, IsServing, OnGoing, TellsLine}
 use Rattle.df_table.specs.Statuses.{ending_text, status_of}
-use Rattle.df_table.proofs.Blamed.{on_going, printed_line, tells_line, told_line}
+use Rattle.df_table.proofs.Blamed.{on_going, tells_line, told_line}
 use Rattle.df_table.proofs.Executed.{changed_answers, changed_ends, get_none, put_may, told_answers}
 
 -- ---- rows
@@ -120,19 +120,19 @@ module _ (layout : Layout) (s : Session) (left more : Option (List ℕ)) (servin
 -- a line with a command was executed
 module _ (layout : Layout) (said : Said) (c : Command) (old new : Session) (told later : Option Told) (written took : Option (List ℕ)) (asks : accepted old.table said ≡ c ∷ []) (fits : IsCommand c) (leaves : LeavesScript old new) where
   -- it was done, and its answer printed, or the sink failed
-  pub done_executes : (op : ℕ) (E : Type 0) (r : Result (Unit {0}) E) (text : List ℕ) (turn : Step) → (IsReadyReplica layout old.replica → map.len old.table.rows ≤ most_rows layout → IsChanged layout old.table.rows c old.replica new.replica told later (Ok op))
-      → new.table ≡ with_command c old.table → new.replica.live ≡ true → (op ≡ old.replica.head + 1 → line_of_turn old.table old.replica.head said ≡ text) → Prints text written took r → turn ≡ printed_turn r → ExecutesLine layout said old new told later written took turn
-  done_executes op E r text turn changed table live text_is prints is =
+  pub done_executes : (op : ℕ) (text : List ℕ) (turn : Step) → (IsReadyReplica layout old.replica → map.len old.table.rows ≤ most_rows layout → IsChanged layout old.table.rows c old.replica new.replica told later (Ok op))
+      → new.table ≡ with_command c old.table → new.replica.live ≡ true → (op ≡ old.replica.head + 1 → line_of_turn old.table old.replica.head said ≡ text) → TellsLine text written took turn → ExecutesLine layout said old new told later written took turn
+  done_executes op text turn changed table live text_is tells =
       let behind_is : new.table ≡ table_after old.table said = table ∙ sym (ap (λ (cs : List Command). with_commands cs old.table) asks) in
       record {
         answers = λ steady.
             let done = changed steady.ready steady.few in
-            changed_answers layout said c old.replica new.replica told later old.table new.table written took asks fits op E r text turn (text_is done.op) done.makes table done.head prints is;
+            changed_answers layout said c old.replica new.replica told later old.table new.table written took asks fits op text turn (text_is done.op) done.makes table done.head tells;
         steady = λ steady. on_going turn (IsSteady layout new.replica new.table) (steady_behind layout old.replica new.replica old.table new.table said steady (changed steady.ready steady.few).ready behind_is);
         live = on_going turn (new.replica.live ≡ true) live;
         behind_is = on_going turn (new.table ≡ table_after old.table said) behind_is;
         leaves = leaves;
-        ends = printed_line E r turn is;
+        ends = tells_line text written took turn tells;
       }
 
   -- something ended the session within it

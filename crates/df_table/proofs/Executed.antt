@@ -26,12 +26,12 @@ use Rattle.df_session.specs.Below.{State as Replica, memory}
 use Rattle.df_table.specs.declared.ending.Ending.{Ending}
 use Rattle.df_table.specs.declared.status.Status.{Status}
 use Rattle.df_table.specs.declared.status.Status.TheVariants.{DiskFault, Done, Memory, ReadFault, Refused, Script, Words, WriteFault}
-use Rattle.df_table.specs.declared.turns.Turn.{Turn as Step}
-use Rattle.df_table.specs.declared.turns.Turn.TheVariants.{Ends, GoesOn as Goes}
+use Rattle.df_table.specs.Outside.{Step}
+use Rattle.df_program.specs.declared.turn.Turn.TheVariants.{Ends, GoesOn as Goes}
 use Rattle.df_table.specs.Outside.{WritesTableText}
 use Rattle.df_table.specs.Calls.{Changes}
 use Rattle.df_table.specs.Policy.{line_commands}
-use Rattle.df_table.specs.Serving.{AnswersLine, IsExecuted, TellsLine, printed_turn}
+use Rattle.df_table.specs.Serving.{AnswersLine, IsExecuted, TellsLine}
 use Rattle.df_table.specs.Statuses.{ending_text, status_of}
 use Rattle.df_table.specs.Turns.{AreFit, EndIn, IsAccepted, IsOfCall, MakeAll}
 
@@ -121,31 +121,18 @@ get_none table key = none_asked table (refusal_of table (lines.Get key))
 
 -- ---- what is printed
 
-pub printed_tells : (text : List ℕ) (written took : Option (List ℕ)) (E : Type 0) (r : Result (Unit {0}) E) → Prints text written took r → TellsLine text written took (printed_turn r)
-printed_tells text written took E (Ok done) prints = prints.whole
-printed_tells text written took E (Err e) prints = prints.part
-
 pub from_tells : (layout : Layout) (said : Said) (s t : Replica) (old new : Option Told) (table later : Table) (written took : Option (List ℕ)) (text : List ℕ) (turn : Step) → IsExecuted layout said s t old new table later → line_of_turn table s.head said ≡ text → TellsLine text written took turn
     → AnswersLine layout said s t old new table later written took turn
 from_tells layout said s t old new table later written took text Goes e is tells = (e, subst (Appends written took) (sym is) tells)
-from_tells layout said s t old new table later written took text (Ends WriteFault) e is tells = inl (e, refl, subst (AppendsPart written took) (sym is) tells)
-from_tells layout said s t old new table later written took text (Ends Done) e is tells = absurd tells
-from_tells layout said s t old new table later written took text (Ends Words) e is tells = absurd tells
-from_tells layout said s t old new table later written took text (Ends Script) e is tells = absurd tells
-from_tells layout said s t old new table later written took text (Ends Refused) e is tells = absurd tells
-from_tells layout said s t old new table later written took text (Ends DiskFault) e is tells = absurd tells
-from_tells layout said s t old new table later written took text (Ends ReadFault) e is tells = absurd tells
-from_tells layout said s t old new table later written took text (Ends Memory) e is tells = absurd tells
+from_tells layout said s t old new table later written took text (Ends status) e is tells = inl (e, tells.0, subst (AppendsPart written took) (sym is) tells.1)
 
 -- ---- a put or a drop to its end
 
 module _ (layout : Layout) (said : Said) (c : Command) (s t : Replica) (old new : Option Told) (table later : Table) (written took : Option (List ℕ)) (asks_is : accepted table said ≡ c ∷ []) (fits : IsCommand c) where
   -- it was done and printed, or the sink failed
-  pub changed_answers : {T : Type 0} (x : T) (E : Type 0) (r : Result (Unit {0}) E) (text : List ℕ) (turn : Step) → line_of_turn table s.head said ≡ text → Changes layout table.rows c s t old new (Ok x) → later ≡ with_command c table → t.head ≡ s.head + 1 → Prints text written took r → turn ≡ printed_turn r
-      → AnswersLine layout said s t old new table later written took turn
-  changed_answers x E r text turn text_is makes changed head prints is =
-      subst (λ (u : Step). AnswersLine layout said s t old new table later written took u) (sym is)
-      (from_tells layout said s t old new table later written took text (printed_turn r) (executed layout said c s t old new table later asks_is fits makes.0 makes.1 changed head) text_is (printed_tells text written took E r prints))
+  pub changed_answers : {T : Type 0} (x : T) (text : List ℕ) (turn : Step) → line_of_turn table s.head said ≡ text → Changes layout table.rows c s t old new (Ok x) → later ≡ with_command c table → t.head ≡ s.head + 1 → TellsLine text written took turn → AnswersLine layout said s t old new table later written took turn
+  changed_answers x text turn text_is makes changed head tells =
+      from_tells layout said s t old new table later written took text turn (executed layout said c s t old new table later asks_is fits makes.0 makes.1 changed head) text_is tells
 
   -- or something ended the session within it
   pub changed_ends : (T : Type 0) (ending : Ending) (ends : Status) → Changes {T = T} layout table.rows c s t old new (Err ending) → WritesTableText (ending_text ending) (status_of ending) written took ends → IsOfCall new ending → AnswersLine layout said s t old new table later written took (Ends ends)
@@ -155,10 +142,6 @@ module _ (layout : Layout) (said : Said) (c : Command) (s t : Replica) (old new 
 module _ (layout : Layout) (said : Said) (s : Replica) (told : Option Told) (table : Table) (written took : Option (List ℕ)) (none : accepted table said ≡ []) where
   pub told_answers : (text : List ℕ) (turn : Step) → line_of_turn table s.head said ≡ text → TellsLine text written took turn → AnswersLine layout said s s told told table table written took turn
   told_answers text turn text_is tells = from_tells layout said s s told told table table written took text turn (nothing_done layout said s told table none) text_is tells
-
--- what is printed as a turn
-pub turn_tells : (text : List ℕ) (written took : Option (List ℕ)) (E : Type 0) (r : Result (Unit {0}) E) (turn : Step) → Prints text written took r → turn ≡ printed_turn r → TellsLine text written took turn
-turn_tells text written took E r turn prints is = subst (TellsLine text written took) (sym is) (printed_tells text written took E r prints)
 
 -- the text of a line that isn't refused, and of one that is
 pub fine_text : (t : Table) (n : ℕ) (said : Said) → refusal_of t (line_in said) ≡ None → line_of_turn t n said ≡ done_text t n said

@@ -10,16 +10,16 @@ use Rattle.df_model.specs.declared.errors.OpenError.TheVariants as opens
 use Rattle.df_model.specs.Faults.{is_open_fault}
 use Rattle.df_session.specs.Opened.{StopsOpening}
 use Rattle.df_session.specs.Surveying.{TellsSurvey}
-use Rattle.df_telling.proofs.Laws.{open_causes, open_fault, refusal_ends}
+use Rattle.df_program.proofs.Laws.{open_causes, open_fault, refusal_ends}
 use Rattle.df_table.specs.declared.status.Status.{Status}
 use Rattle.df_table.specs.declared.status.Status.TheVariants.{DiskFault, Memory, ReadFault, Refused, Words, WriteFault}
-use Rattle.df_table.specs.Outside.{Blames, HasTableCauses, Outside, PrintsTableError, counts}
+use Rattle.df_table.specs.Outside.{Blames, EndsWithFile, HasTableCauses, Outside, PrintsTableError, counts}
 use Rattle.df_table.specs.Run.{DoesTable, FailsToFindTable, RefusesTableFile}
 
 -- ---- how it ends, and what it blames
 
 -- neither by want of memory nor by other words
-pub refused_never : (e : OpenError) (old new : Option (List ℕ)) (status : Status) → PrintsTableError e old new status → (status ≡ Memory → ⊥) × (status ≡ Words → ⊥)
+pub refused_never : (e : OpenError) (old new : Option (List ℕ)) (status : Status) → PrintsTableError e old new status → EndsWithFile status
 refused_never e old new status prints = (
   refusal_ends Refused DiskFault WriteFault Memory e old new status prints (λ no. cc) (λ no. cc) (λ no. cc),
   refusal_ends Refused DiskFault WriteFault Words e old new status prints (λ no. cc) (λ no. cc) (λ no. cc),

@@ -16,7 +16,7 @@ use Rattle.df_session.specs.Following.{MayOpen}
 use Rattle.df_session.specs.Found.{FoundFile}
 use Rattle.df_session.specs.Links.{events_made}
 use Rattle.df_session.proofs.Laws.{added_is_told, safe_is_not_refused}
-use Rattle.df_telling.proofs.Laws.{nothing_failed}
+use Rattle.df_program.proofs.Laws.{nothing_failed}
 use Rattle.df_table.specs.declared.ending.Ending.{Ending}
 use Rattle.df_table.specs.declared.ending.Ending.TheVariants.{Damaged, Disk, NotTable, OpsSpent, SequenceSpent}
 use Rattle.df_table.specs.declared.status.Status.{Status}

@@ -15,8 +15,8 @@ use Rattle.df_table.specs.declared.ending.Ending.TheVariants.{Disk, Damaged, Not
 use Rattle.df_table.specs.declared.session.Session.{Session}
 use Rattle.df_table.specs.declared.status.Status.{Status}
 use Rattle.df_table.specs.declared.status.Status.TheVariants as status
-use Rattle.df_table.specs.declared.turns.Turn.{Turn as Step}
-use Rattle.df_table.specs.declared.turns.Turn.TheVariants.{Ends, GoesOn as Goes}
+use Rattle.df_table.specs.Outside.{Step}
+use Rattle.df_program.specs.declared.turn.Turn.TheVariants.{Ends, GoesOn as Goes}
 use Rattle.df_table.specs.Outside.{Outside, WritesTableText}
 use Rattle.df_table.specs.Serving.{AnswersLine, ServingEndsIn, TableTurns, state}
 use Rattle.df_table.specs.Session.{EndsTableText, HoldsTableLine}

@@ -1,5 +1,5 @@
 -- How far a session over a script has come, and what its functions say of it.
-use Rattle.std.specs.Prelude.{◌≡◌, ◌⊎◌, ◌≤◌, ◌+◌, ◌*◌, ◌^◌, ℕ, Bool, true, IsTrue, List, ◌++◌, length, map, vec_len, All, Option, Some, Result, Ok, Err}
+use Rattle.std.specs.Prelude.{◌≡◌, ◌⊎◌, ◌≤◌, ◌+◌, ◌*◌, ◌^◌, ℕ, Bool, true, IsTrue, List, ◌++◌, length, map, vec_len, All, Option, Some}
 use Rattle.df_base.specs.Streams.{Appends, AppendsPart}
 use Rattle.df_disk.specs.Told.{Told}
 use Rattle.df_layout.specs.declared.layout.Layout.{Layout}
@@ -17,10 +17,12 @@ use Rattle.df_session.specs.Session.{Act}
 use Rattle.df_table.specs.declared.ending.Ending.{Ending}
 use Rattle.df_table.specs.declared.session.Session.{Session}
 use Rattle.df_table.specs.declared.status.Status.{Status}
-use Rattle.df_table.specs.declared.status.Status.TheVariants.{DiskFault, Memory, Refused, Words, WriteFault}
-use Rattle.df_table.specs.declared.turns.Turn.{Turn as Step}
-use Rattle.df_table.specs.declared.turns.Turn.TheVariants.{Ends, GoesOn as Goes}
-use Rattle.df_table.specs.Outside.{Blames, Outside, WritesTableText}
+use Rattle.df_table.specs.declared.status.Status.TheVariants.{DiskFault, Refused, WriteFault}
+use Rattle.df_table.specs.Outside.{Step}
+use Rattle.df_program.specs.declared.turn.Turn.TheVariants.{Ends, GoesOn as Goes}
+use Rattle.df_program.specs.Turns.{IsPrinted, OnGoing}
+pub use Rattle.df_program.specs.Turns.{BlamesIfEnds, OnGoing}
+use Rattle.df_table.specs.Outside.{EndsWithFile, Outside, WritesTableText}
 use Rattle.df_table.specs.Ready.{IsSteady, LeavesScript}
 use Rattle.df_table.specs.Session.{EndsTableText, Halt, HaltsIn, ServingEndsWith, closing, said_in}
 use Rattle.df_table.specs.Statuses.{ending_text, status_of}
@@ -92,24 +94,15 @@ AnswersLine layout said s t old new table later written took (Ends status) =
     ⊎ ((ending : Ending) × (steps : ℕ) × EndIn (commands_of layout s table steps said) s t old new ending × WritesTableText (ending_text ending) (status_of ending) written took status × AreFit (change_of table said)
     × IsOfCall new ending)
 
--- where the session goes on
-abbrev pub OnGoing : Step → Type 0 → Type 0
-OnGoing Goes P = P
-OnGoing (Ends status) P = Unit {0}
-
 -- a line ends a session as one of these alone
 abbrev pub EndsLine : Step → Type 0
 EndsLine Goes = Unit {0}
-EndsLine (Ends Refused) = Unit {0}
-EndsLine (Ends DiskFault) = Unit {0}
-EndsLine (Ends WriteFault) = Unit {0}
-EndsLine (Ends status) = ⊥
+EndsLine (Ends status) = (status ≡ Refused) ⊎ (status ≡ DiskFault) ⊎ (status ≡ WriteFault)
 
 -- no turn ends it for want of memory, or for other words
 abbrev pub EndsTurn : Step → Type 0
-EndsTurn (Ends Memory) = ⊥
-EndsTurn (Ends Words) = ⊥
-EndsTurn turn = Unit {0}
+EndsTurn Goes = Unit {0}
+EndsTurn (Ends status) = EndsWithFile status
 
 -- It was executed by a session: where replica and table were as they have to be, it was answered so, and they are so again. Where the session goes on, the table is the one after the line.
 pub record ExecutesLine (layout : Layout) (said : Said) (old new : Session) (told later : Option Told) (written took : Option (List ℕ)) (turn : Step) : Type 0 where
@@ -122,13 +115,7 @@ pub record ExecutesLine (layout : Layout) (said : Said) (old new : Session) (tol
 
 -- a text is printed, or a front of it where the sink failed
 abbrev pub TellsLine : List ℕ → (old new : Option (List ℕ)) → Step → Type 0
-TellsLine text old new Goes = Appends old new text
-TellsLine text old new (Ends WriteFault) = AppendsPart old new text
-TellsLine text old new (Ends status) = ⊥
-
-abbrev pub printed_turn : {T E : Type 0} → Result T E → Step
-printed_turn (Ok x) = Goes
-printed_turn (Err e) = Ends WriteFault
+TellsLine text old new turn = IsPrinted WriteFault text old new turn
 
 -- ---- turns
 
@@ -141,8 +128,3 @@ ServingEndsIn layout old new status = (origin : ServingState) (turns : List Tabl
 abbrev pub TableTurns : Layout → (old new : ServingState) → Step → Type 0
 TableTurns layout old new Goes = ServingGoesOn layout old new
 TableTurns layout old new (Ends status) = ServingEndsIn layout old new status
-
--- a turn that goes on has raised no count
-abbrev pub StepBlamesIfEnds : Status → (before now : ℕ) → Step → Type 0
-StepBlamesIfEnds fault before now Goes = now ≡ before
-StepBlamesIfEnds fault before now (Ends status) = Blames fault before now status

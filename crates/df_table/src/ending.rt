@@ -9,9 +9,9 @@ use crate::status::Status;
 use df_base::{Failed, Sink};
 use df_inspect::{text_line, write_line};
 use df_layout::{Class, Place};
+use df_program::print_damaged;
 use df_rows::print_not_table;
 use df_session::Fault;
-use df_telling::print_damaged;
 
 /// Why a session ends.
 #[derive(Clone, Copy, Debug, PartialEq, Eq)]

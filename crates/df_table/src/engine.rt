@@ -2,7 +2,7 @@
 ghost use Rattle.std.specs.Prelude.{◌≡◌, ◌↔◌, ◌*◌, ◌≤◌, codes, map, string_bytes, vec_len, IfOk, IsTrue};
 ghost use Rattle.df_lines.specs.Room.{IsFresh, line_bound};
 ghost use Rattle.df_rows.specs.Limits as limits;
-ghost use Rattle.df_table.specs.Outside.{Blames, HasTableCauses, WritesTableText, around, counts};
+ghost use Rattle.df_table.specs.Outside.{HasTableCauses, WritesTableText, around, counts};
 ghost use Rattle.df_table.specs.Run.{IsTableWord, PrintsNothing, RunsTable, table_usage};
 ghost use Rattle.df_table.specs.Table.{empty_table};
 
@@ -13,9 +13,9 @@ use df_buffers::ProbeRoom;
 use df_disk::Disk;
 use df_layout::Layout;
 use df_lines::LineRoom;
+use df_program::{end_with, refuse_file};
 use df_rows::{ObjectTable, ROW, rows_in_block};
 use df_session::{Rooms, probe};
-use df_telling::{end_with, refuse_file};
 use std::alloc::Global;
 
 /// The line that says which words have a meaning.
@@ -36,14 +36,6 @@ fn is_word(word: &str) -> bool
     ensures { IsTrue result ↔ (word.now ≡ codes "table") }
 {
     word == "table"
-}
-
-// Prints the word that has a meaning.
-fn print_usage<W: Sink>(sink: &mut W) -> Status
-    ensures usage { WritesTableText table_usage Status.Words (W.written sink.old) (W.written sink.new) result }
-    ensures sink { Blames Status.WriteFault (W.faults sink.old) (W.faults sink.new) result }
-{
-    end_with(sink, USAGE, Status::Words, Status::WriteFault)
 }
 
 // Takes all the memory of a session over a file of a layout.
@@ -75,9 +67,7 @@ fn run_file<D: Disk, S: Source, W: Sink>(
 ) -> Status
     ensures runs { RunsTable (around (D.told disk.old) (S.left source.old) (W.written sink.old)) (around (D.told disk.new) (S.left source.new) (W.written sink.new)) result }
     ensures causes { HasTableCauses (counts (D.faults disk.old) (S.faults source.old) (W.faults sink.old)) (counts (D.faults disk.new) (S.faults source.new) (W.faults sink.new)) result }
-    ensures memory { result ≡ Status.Memory → PrintsNothing
-        (record { told = D.told disk.old; left = S.left source.old; written = W.written sink.old })
-        (record { told = D.told disk.new; left = S.left source.new; written = W.written sink.new }) }
+    ensures memory { result ≡ Status.Memory → PrintsNothing (around (D.told disk.old) (S.left source.old) (W.written sink.old)) (around (D.told disk.new) (S.left source.new) (W.written sink.new)) }
     ensures unwritten { result ≡ Status.Memory → D.told disk.new ≡ D.told disk.old }
     ensures words { result ≡ Status.Words → ⊥ }
 {
@@ -89,13 +79,7 @@ fn run_file<D: Disk, S: Source, W: Sink>(
             Ok(reserved) => serve_table(reserved, source, sink, disk),
             Err(_) => Status::Memory,
         },
-        Err(error) => refuse_file(
-            sink,
-            &error,
-            Status::Refused,
-            Status::DiskFault,
-            Status::WriteFault,
-        ),
+        Err(error) => refuse_file(sink, &error),
     }
 }
 
@@ -118,23 +102,17 @@ pub fn run_table<D: Disk, S: Source, W: Sink>(
     // The file is refused as any open of it refuses it, or since it is no table's, by the first place that shows it. Else the script is executed: what is written is the text of
     // a map, from the table on that the file has, and from the barrier on whatever a stop leaves has that table after the first puts and drops, all that were answered by then
     // and perhaps some after them.
-    ensures runs { IsTableWord (map string_bytes words.now) → RunsTable
-        (record { told = D.told disk.old; left = S.left source.old; written = W.written sink.old })
-        (record { told = D.told disk.new; left = S.left source.new; written = W.written sink.new }) result }
+    ensures runs { IsTableWord (map string_bytes words.now) → RunsTable (around (D.told disk.old) (S.left source.old) (W.written sink.old)) (around (D.told disk.new) (S.left source.new) (W.written sink.new)) result }
 
     // Want of memory comes before anything was read of the script or written. A call ends at its first fault: of the three counts one at most
     // rises, once, that of what the status blames.
-    ensures memory { result ≡ Status.Memory → PrintsNothing
-        (record { told = D.told disk.old; left = S.left source.old; written = W.written sink.old })
-        (record { told = D.told disk.new; left = S.left source.new; written = W.written sink.new }) }
+    ensures memory { result ≡ Status.Memory → PrintsNothing (around (D.told disk.old) (S.left source.old) (W.written sink.old)) (around (D.told disk.new) (S.left source.new) (W.written sink.new)) }
     ensures unwritten { result ≡ Status.Memory → D.told disk.new ≡ D.told disk.old }
-    ensures causes { HasTableCauses
-        (record { disk = D.faults disk.old; source = S.faults source.old; sink = W.faults sink.old })
-        (record { disk = D.faults disk.new; source = S.faults source.new; sink = W.faults sink.new }) result }
+    ensures causes { HasTableCauses (counts (D.faults disk.old) (S.faults source.old) (W.faults sink.old)) (counts (D.faults disk.new) (S.faults source.new) (W.faults sink.new)) result }
 {
     if is_table(words) {
         run_file(alloc, source, sink, disk)
     } else {
-        print_usage(sink)
+        end_with(sink, USAGE, Status::Words)
     }
 }

@@ -5,7 +5,7 @@ ghost use Rattle.df_disk.specs.Told.{Told};
 ghost use Rattle.df_lines.specs.Room.{IsFresh, line_bound};
 ghost use Rattle.df_model.specs.Work.{Work};
 ghost use Rattle.df_rows.specs.Limits as limits;
-ghost use Rattle.df_table.specs.Outside.{HasTableCauses, around, counts};
+ghost use Rattle.df_table.specs.Outside.{EndsWithFile, HasTableCauses, around, counts};
 ghost use Rattle.df_table.specs.Ready.{IsBegun};
 ghost use Rattle.df_table.specs.Run.{DoesTable};
 ghost use Rattle.df_table.specs.Session.{ServesOpened};
@@ -20,9 +20,9 @@ use df_base::{Sink, Source};
 use df_disk::Disk;
 use df_layout::Layout;
 use df_lines::LineRoom;
+use df_program::refuse_file;
 use df_rows::ObjectTable;
 use df_session::{Replica, Rooms};
-use df_telling::refuse_file;
 
 /// The memory of a session over a file.
 #[derive(Drop)]
@@ -59,8 +59,7 @@ fn serve_opened<D: Disk, S: Source, W: Sink>(
     requires lines { IsFresh (line_bound opening.layout) opening.lines }
     requires table { opening.table ≡ empty_table opening.layout }
     requires block { 64 * limits.rows_in_block opening.layout ≤ vec_len opening.block }
-    ensures memory { result ≡ Status.Memory → ⊥ }
-    ensures words { result ≡ Status.Words → ⊥ }
+    ensures ends { EndsWithFile result }
     ensures serves { (w : Work) → IsBegun opening.layout w replica → (t : Told) → D.told disk.old ≡ Some t → ServesOpened opening.layout replica t (around (D.told disk.old) (S.left source.old) (W.written sink.old)) (around (D.told disk.new) (S.left source.new) (W.written sink.new)) result }
     ensures causes { HasTableCauses (counts (D.faults disk.old) (S.faults source.old) (W.faults sink.old)) (counts (D.faults disk.new) (S.faults source.new) (W.faults sink.new)) result }
 {
@@ -99,8 +98,7 @@ pub(crate) fn serve_table<D: Disk, S: Source, W: Sink>(
     requires block { 64 * limits.rows_in_block reserved.rooms.layout ≤ vec_len reserved.block }
     ensures serves { (t : Told) → D.told disk.old ≡ Some t → IsImage t.shown → DoesTable reserved.rooms.layout t (around (D.told disk.old) (S.left source.old) (W.written sink.old)) (around (D.told disk.new) (S.left source.new) (W.written sink.new)) result }
     ensures causes { HasTableCauses (counts (D.faults disk.old) (S.faults source.old) (W.faults sink.old)) (counts (D.faults disk.new) (S.faults source.new) (W.faults sink.new)) result }
-    ensures memory { result ≡ Status.Memory → ⊥ }
-    ensures words { result ≡ Status.Words → ⊥ }
+    ensures ends { EndsWithFile result }
 {
     let Reserved {
         rooms,
@@ -119,12 +117,6 @@ pub(crate) fn serve_table<D: Disk, S: Source, W: Sink>(
             };
             serve_opened(disk, source, sink, replica, opening)
         }
-        Err((_, error)) => refuse_file(
-            sink,
-            &error,
-            Status::Refused,
-            Status::DiskFault,
-            Status::WriteFault,
-        ),
+        Err((_, error)) => refuse_file(sink, &error),
     }
 }

@@ -1,4 +1,5 @@
 // How a run ends.
+use df_program::Ends;
 
 /// How a run ended. `number` is the status of the program's exit, as of `datafile`.
 #[derive(Clone, Copy, Debug, PartialEq, Eq)]
@@ -22,14 +23,27 @@ pub enum Status {
     WriteFault = 7,
 }
 
-impl Status {
-    ghost use Rattle.std.specs.Prelude.{◌≡◌};
-    ghost use Rattle.df_table.specs.Statuses.{table_exit_number};
+impl Ends for Status {
+    ghost use Rattle.df_table.specs.Statuses.{are_numbered, table_exit_number};
+    ghost use Rattle.df_table.specs.declared.status.Status.TheVariants as ends;
 
-    /// The exit status of the program.
-    pub fn number(self) -> u8
-        ensures { result ≡ table_exit_number self }
-    {
+    ghost number = { table_exit_number };
+
+    ghost REFUSED = { ends.Refused };
+
+    ghost DISK_FAULT = { ends.DiskFault };
+
+    ghost WRITE_FAULT = { ends.WriteFault };
+
+    const REFUSED: Status = Status::Refused;
+
+    const DISK_FAULT: Status = Status::DiskFault;
+
+    const WRITE_FAULT: Status = Status::WriteFault;
+
+    fn number(self) -> u8 {
         self as u8
     }
+
+    ghost are_numbered = { are_numbered };
 }

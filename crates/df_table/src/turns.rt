@@ -1,53 +1,23 @@
 // The session over a script: one turn for each line, until there is none, one is refused, or something ends it.
 ghost use Rattle.std.specs.Prelude.{◌≡◌, ◌<◌, ◌≤◌, ◌+◌, ◌^◌, ℕ, List, Option, take, true, length, None};
 ghost use Rattle.std.specs.FinMap as map;
-ghost use Rattle.df_inspect.specs.Opening.{script_text};
 ghost use Rattle.df_rows.specs.Answers.{refusal_of};
 ghost use Rattle.df_rows.specs.Lines.{done_text};
 ghost use Rattle.df_rows.specs.declared.line.Line.TheVariants as lines;
 ghost use Rattle.df_rows.specs.Grammar.{Count, Drop, Get, Put, said_with, value_length};
-ghost use Rattle.df_table.specs.Outside.{Blames, WritesTableText, around};
+ghost use Rattle.df_table.specs.Outside.{Blames, EndsWithFile, around};
 ghost use Rattle.df_table.specs.Ready.{IsSteady};
-ghost use Rattle.df_table.specs.Serving.{EndsTurn, ExecutesLine, IsServing, OnGoing, ServingEnded, StepBlamesIfEnds, TableTurns, TellsLine, printed_turn, state};
+ghost use Rattle.df_table.specs.Serving.{BlamesIfEnds, EndsTurn, ExecutesLine, IsServing, OnGoing, ServingEnded, TableTurns, TellsLine, state};
 
 use crate::appending::change;
 use crate::ending::tell_ending;
 use crate::session::Session;
 use crate::status::Status;
-use df_base::{Failed, Sink, Source};
+use df_base::{Sink, Source};
 use df_disk::Disk;
-use df_inspect::print_script;
 use df_lines::Next;
+use df_program::{Turn, printed, refuse_line};
 use df_rows::{Answer, Command, Line, Refusal, Row, print_answer};
-
-/// What became of a session by one turn.
-#[derive(Clone, Copy, Debug, PartialEq, Eq)]
-pub enum Turn {
-    GoesOn,
-    Ends(Status),
-}
-
-// Goes on where the answer was printed.
-fn printed(done: Result<(), Failed>) -> Turn
-    ensures { result ≡ printed_turn done }
-{
-    match done {
-        Ok(()) => Turn::GoesOn,
-        Err(_) => Turn::Ends(Status::WriteFault),
-    }
-}
-
-// Writes the line that refuses the next line of a script, of which `lines` were executed.
-fn refuse<W: Sink>(sink: &mut W, lines: u64) -> Status
-    requires { lines < 2 ^ 63 }
-    ensures line { WritesTableText (script_text (lines + 1)) Status.Script (W.written sink.old) (W.written sink.new) result }
-    ensures sink { Blames Status.WriteFault (W.faults sink.old) (W.faults sink.new) result }
-{
-    match print_script(sink, lines + 1) {
-        Ok(()) => Status::Script,
-        Err(_) => Status::WriteFault,
-    }
-}
 
 // Puts the value that stands in the reader's buffer under a key.
 fn put<D: Disk, W: Sink>(
@@ -56,13 +26,13 @@ fn put<D: Disk, W: Sink>(
     session: &mut Session,
     key: u128,
     size: u64,
-) -> Turn
+) -> Turn<Status>
     requires serving { (at_end : Option (List ℕ)) × IsServing session.old.layout session.old at_end }
     requires size { size ≤ length session.old.lines.body }
     requires fine { refusal_of session.old.table (lines.Put key size) ≡ None }
     ensures executes { ExecutesLine session.old.layout (Put key (take size session.old.lines.body)) session.old session.new (D.told disk.old) (D.told disk.new) (W.written sink.old) (W.written sink.new) result }
-    ensures disk { StepBlamesIfEnds Status.DiskFault (D.faults disk.old) (D.faults disk.new) result }
-    ensures sink { StepBlamesIfEnds Status.WriteFault (W.faults sink.old) (W.faults sink.new) result }
+    ensures disk { BlamesIfEnds Status.DiskFault (D.faults disk.old) (D.faults disk.new) result }
+    ensures sink { BlamesIfEnds Status.WriteFault (W.faults sink.old) (W.faults sink.new) result }
 {
     let row = Row::new(key, session.lines.body(size));
     match change(disk, session, Command::Put(row)) {
@@ -72,12 +42,17 @@ fn put<D: Disk, W: Sink>(
 }
 
 // Drops a key and its value.
-fn drop_key<D: Disk, W: Sink>(disk: &mut D, sink: &mut W, session: &mut Session, key: u128) -> Turn
+fn drop_key<D: Disk, W: Sink>(
+    disk: &mut D,
+    sink: &mut W,
+    session: &mut Session,
+    key: u128,
+) -> Turn<Status>
     requires serving { (at_end : Option (List ℕ)) × IsServing session.old.layout session.old at_end }
     requires fine { refusal_of session.old.table (lines.Drop key) ≡ None }
     ensures executes { ExecutesLine session.old.layout (Drop key) session.old session.new (D.told disk.old) (D.told disk.new) (W.written sink.old) (W.written sink.new) result }
-    ensures disk { StepBlamesIfEnds Status.DiskFault (D.faults disk.old) (D.faults disk.new) result }
-    ensures sink { StepBlamesIfEnds Status.WriteFault (W.faults sink.old) (W.faults sink.new) result }
+    ensures disk { BlamesIfEnds Status.DiskFault (D.faults disk.old) (D.faults disk.new) result }
+    ensures sink { BlamesIfEnds Status.WriteFault (W.faults sink.old) (W.faults sink.new) result }
 {
     match change(disk, session, Command::Drop(key)) {
         Ok(op) => printed(print_answer(sink, &Answer::Dropped { op })),
@@ -86,10 +61,10 @@ fn drop_key<D: Disk, W: Sink>(disk: &mut D, sink: &mut W, session: &mut Session,
 }
 
 // Prints the value of a key that the table has.
-fn get<W: Sink>(sink: &mut W, session: &Session, key: u128) -> Turn
+fn get<W: Sink>(sink: &mut W, session: &Session, key: u128) -> Turn<Status>
     requires { map.contains_key session.now.table.rows key ≡ true }
     ensures tells { (n : ℕ) → TellsLine (done_text session.now.table n (Get key)) (W.written sink.old) (W.written sink.new) result }
-    ensures sink { StepBlamesIfEnds Status.WriteFault (W.faults sink.old) (W.faults sink.new) result }
+    ensures sink { BlamesIfEnds Status.WriteFault (W.faults sink.old) (W.faults sink.new) result }
 {
     match session.table.get(key) {
         Some(value) => printed(print_answer(sink, &Answer::Found { key, value })),
@@ -98,22 +73,27 @@ fn get<W: Sink>(sink: &mut W, session: &Session, key: u128) -> Turn
 }
 
 // Prints how many rows there are.
-fn count<W: Sink>(sink: &mut W, session: &Session) -> Turn
+fn count<W: Sink>(sink: &mut W, session: &Session) -> Turn<Status>
     ensures tells { (n : ℕ) → TellsLine (done_text session.now.table n Count) (W.written sink.old) (W.written sink.new) result }
-    ensures sink { StepBlamesIfEnds Status.WriteFault (W.faults sink.old) (W.faults sink.new) result }
+    ensures sink { BlamesIfEnds Status.WriteFault (W.faults sink.old) (W.faults sink.new) result }
 {
     let rows = session.table.len();
     printed(print_answer(sink, &Answer::Counted { rows }))
 }
 
 // Does what a line says that isn't refused, and prints what it is answered.
-fn perform<D: Disk, W: Sink>(disk: &mut D, sink: &mut W, session: &mut Session, line: Line) -> Turn
+fn perform<D: Disk, W: Sink>(
+    disk: &mut D,
+    sink: &mut W,
+    session: &mut Session,
+    line: Line,
+) -> Turn<Status>
     requires serving { (at_end : Option (List ℕ)) × IsServing session.old.layout session.old at_end }
     requires size { value_length line ≤ length session.old.lines.body }
     requires fine { refusal_of session.old.table line ≡ None }
     ensures executes { ExecutesLine session.old.layout (said_with session.old.lines.body line) session.old session.new (D.told disk.old) (D.told disk.new) (W.written sink.old) (W.written sink.new) result }
-    ensures disk { StepBlamesIfEnds Status.DiskFault (D.faults disk.old) (D.faults disk.new) result }
-    ensures sink { StepBlamesIfEnds Status.WriteFault (W.faults sink.old) (W.faults sink.new) result }
+    ensures disk { BlamesIfEnds Status.DiskFault (D.faults disk.old) (D.faults disk.new) result }
+    ensures sink { BlamesIfEnds Status.WriteFault (W.faults sink.old) (W.faults sink.new) result }
 {
     match line {
         Line::Put { key, length } => put(disk, sink, session, key, length),
@@ -124,12 +104,17 @@ fn perform<D: Disk, W: Sink>(disk: &mut D, sink: &mut W, session: &mut Session, 
 }
 
 // Executes a line, whose value is in the reader's buffer, and prints what it is answered.
-fn execute<D: Disk, W: Sink>(disk: &mut D, sink: &mut W, session: &mut Session, line: Line) -> Turn
+fn execute<D: Disk, W: Sink>(
+    disk: &mut D,
+    sink: &mut W,
+    session: &mut Session,
+    line: Line,
+) -> Turn<Status>
     requires serving { (at_end : Option (List ℕ)) × IsServing session.old.layout session.old at_end }
     requires size { value_length line ≤ length session.old.lines.body }
     ensures executes { ExecutesLine session.old.layout (said_with session.old.lines.body line) session.old session.new (D.told disk.old) (D.told disk.new) (W.written sink.old) (W.written sink.new) result }
-    ensures disk { StepBlamesIfEnds Status.DiskFault (D.faults disk.old) (D.faults disk.new) result }
-    ensures sink { StepBlamesIfEnds Status.WriteFault (W.faults sink.old) (W.faults sink.new) result }
+    ensures disk { BlamesIfEnds Status.DiskFault (D.faults disk.old) (D.faults disk.new) result }
+    ensures sink { BlamesIfEnds Status.WriteFault (W.faults sink.old) (W.faults sink.new) result }
 {
     match session.table.refusal(&line) {
         Some(refusal) => printed(print_answer(sink, &Answer::Refused(refusal))),
@@ -143,19 +128,19 @@ fn take_turn<D: Disk, S: Source, W: Sink>(
     source: &mut S,
     sink: &mut W,
     session: &mut Session,
-) -> Turn
+) -> Turn<Status>
     requires serving { IsServing session.old.layout session.old (S.left source.old) }
     ensures turns { IsSteady session.old.layout session.old.replica session.old.table → TableTurns session.old.layout
-        (state (record { told = D.told disk.old; left = S.left source.old; written = W.written sink.old }) session.old)
-        (state (record { told = D.told disk.new; left = S.left source.new; written = W.written sink.new }) session.new) result }
+        (state (around (D.told disk.old) (S.left source.old) (W.written sink.old)) session.old)
+        (state (around (D.told disk.new) (S.left source.new) (W.written sink.new)) session.new) result }
     ensures steady { IsSteady session.old.layout session.old.replica session.old.table → OnGoing result (IsSteady session.old.layout session.new.replica session.new.table) }
     ensures serving { OnGoing result (IsServing session.old.layout session.new (S.left source.new)) }
     ensures layout { OnGoing result (session.new.layout ≡ session.old.layout) }
     ensures never { EndsTurn result }
     ensures budget { OnGoing result (session.new.lines.reading.budget < session.old.lines.reading.budget) }
-    ensures disk { StepBlamesIfEnds Status.DiskFault (D.faults disk.old) (D.faults disk.new) result }
-    ensures source { StepBlamesIfEnds Status.ReadFault (S.faults source.old) (S.faults source.new) result }
-    ensures sink { StepBlamesIfEnds Status.WriteFault (W.faults sink.old) (W.faults sink.new) result }
+    ensures disk { BlamesIfEnds Status.DiskFault (D.faults disk.old) (D.faults disk.new) result }
+    ensures source { BlamesIfEnds Status.ReadFault (S.faults source.old) (S.faults source.new) result }
+    ensures sink { BlamesIfEnds Status.WriteFault (W.faults sink.old) (W.faults sink.new) result }
 {
     match session.lines.next(source) {
         Ok(Next::Line(line)) => {
@@ -163,7 +148,7 @@ fn take_turn<D: Disk, S: Source, W: Sink>(
             session.count += 1;
             turn
         }
-        Ok(Next::Refused) => Turn::Ends(refuse(sink, session.count)),
+        Ok(Next::Refused) => Turn::Ends(refuse_line(sink, session.count, Status::Script)),
         Ok(Next::End) => Turn::Ends(Status::Done),
         Err(_) => Turn::Ends(Status::ReadFault),
     }
@@ -177,8 +162,7 @@ pub(crate) fn serve_lines<D: Disk, S: Source, W: Sink>(
     session: &mut Session,
 ) -> Status
     requires { IsServing session.old.layout session.old (S.left source.old) }
-    ensures memory { result ≡ Status.Memory → ⊥ }
-    ensures words { result ≡ Status.Words → ⊥ }
+    ensures ends { EndsWithFile result }
     ensures session { IsSteady session.old.layout session.old.replica session.old.table → ServingEnded session.old.layout
         (state (around (D.told disk.old) (S.left source.old) (W.written sink.old)) session.old) (state (around (D.told disk.new) (S.left source.new) (W.written sink.new)) session.new) result }
     ensures disk { Blames Status.DiskFault (D.faults disk.old) (D.faults disk.new) result }

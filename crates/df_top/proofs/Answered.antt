@@ -18,8 +18,8 @@ use Rattle.df_top.specs.Outside.{PrintsLine}
 use Rattle.df_top.specs.Step.{AnswersCommand}
 use Rattle.df_top.specs.Session.{IsDamagedLine}
 use Rattle.df_top.specs.Turning.{BlamesIfEnds, IsPrinted, TellsAnswer, printed_turn}
-use Rattle.df_top.specs.declared.turns.Turn.{Turn}
-use Rattle.df_top.specs.declared.turns.Turn.TheVariants.{GoesOn, Ends}
+use Rattle.df_top.specs.Outside.{Turn}
+use Rattle.df_program.specs.declared.turn.Turn.TheVariants.{GoesOn, Ends}
 use Rattle.df_top.specs.declared.status.Status.{Status}
 use Rattle.df_top.specs.declared.status.Status.TheVariants.{Refused, DiskFault, WriteFault}
 use Rattle.df_top.proofs.SameWords.{same_words}
@@ -28,10 +28,10 @@ use Rattle.df_top.proofs.SameWords.{same_words}
 
 pub prints_turn : {T E : Type 0} (text : List ℕ) (old new : Option (List ℕ)) (r : Result T E) → Prints text old new r → IsPrinted text old new (printed_turn r)
 prints_turn text old new (Ok x) prints = prints.whole
-prints_turn text old new (Err e) prints = prints.part
+prints_turn text old new (Err e) prints = (refl, prints.part)
 
 pub not_fault : (text : List ℕ) (old new : Option (List ℕ)) (turn : Turn) → IsPrinted text old new turn → turn ≡ Ends DiskFault → ⊥
-not_fault text old new turn printed is = subst (λ (u : Turn). IsPrinted text old new u) is printed
+not_fault text old new turn printed is = let no : DiskFault ≡ WriteFault = (subst (λ (u : Turn). IsPrinted text old new u) is printed).0 in cc
 
 -- ---- a call
 
@@ -39,8 +39,7 @@ module _ (command : Command) (s t : Replica) (old new : Option Told) (written to
   -- it was answered, and the answer was printed
   pub printed_is : (x : Answer) → Makes command s t old new (Some x) → (turn : Turn) → IsPrinted (answer_text command x) written took turn → AnswersCommand command s t old new written took turn
   printed_is x makes GoesOn printed = (x, makes, printed)
-  printed_is x makes (Ends WriteFault) printed = inl (x, makes, printed)
-  printed_is x makes turn printed = absurd printed
+  printed_is x makes (Ends status) printed = subst (λ (q : Status). AnswersCommand command s t old new written took (Ends q)) (sym printed.0) (inl (x, makes, printed.1))
 
   -- the disk failed in it
   pub failed_is : Makes command s t old new None → (turn : Turn) → (turn ≡ Ends DiskFault) × (took ≡ written) → AnswersCommand command s t old new written took turn

@@ -20,7 +20,7 @@ use Rattle.df_script_model.specs.Texts.{block_text}
 use Rattle.df_session.proofs.Laws.{reads_block}
 use Rattle.df_session.specs.Endings.{heard}
 use Rattle.df_top.specs.Turning.{IsPrinted, TellsAnswer, printed_turn}
-use Rattle.df_top.specs.declared.turns.Turn.{Turn}
+use Rattle.df_top.specs.Outside.{Turn}
 use Rattle.df_top.proofs.Answered.{Comes, comes_answered, comes_failed, prints_turn, told_fault}
 
 -- what was printed of a block's header and body is the block's text

@@ -3,7 +3,7 @@ use Rattle.std.proofs.Common.{◌≡◌, ℕ, Bool, List, [], ◌∷◌, Option,
 use Rattle.df_base.specs.Causes.{IsBlamed, Rose}
 use Rattle.df_model.specs.declared.errors.OpenError.{OpenError}
 use Rattle.df_model.specs.Faults.{is_open_fault}
-use Rattle.df_telling.proofs.Laws.{AreApart, fault_causes, open_causes, refusal_ends, text_causes, text_ends}
+use Rattle.df_program.proofs.Laws.{AreApart, fault_causes, open_causes, refusal_ends, text_causes, text_ends}
 use Rattle.df_top.specs.Outside.{Blames, HasCauses, Outside, PrintsLine, counts}
 use Rattle.df_top.specs.Refusing.{PrintsOpenError}
 use Rattle.df_layout.specs.declared.damage.Mend.{Mend}

@@ -1,5 +1,5 @@
 -- What one line does to a session: it goes on with the call that the line asks for, or ends.
-use Rattle.std.proofs.Common.{◌≡◌, ◌⊎◌, ◌<◌, inl, inr, true, ℕ, ◌+◌, List, ◌++◌, length, Option, Some, ◌∙◌, ap, subst}
+use Rattle.std.proofs.Common.{◌≡◌, ◌⊎◌, ◌<◌, inl, inr, true, ℕ, ◌+◌, List, ◌++◌, length, Option, Some, ◌∙◌, ap, subst, sym}
 use Rattle.df_lines.specs.declared.line.Line.{Line}
 use Rattle.df_lines.specs.Grammar.{Said, SaysLine, said_with}
 use Rattle.df_lines.specs.Reads.{RefusesNext, TakesLine}
@@ -18,8 +18,8 @@ use Rattle.df_top.specs.Session.{EndedIsEnd, HoldsLine, SessionState, state}
 use Rattle.df_top.specs.Step.{AnswersCommand, EndsIn, RefusesLine, TakesNextLine, Turns}
 use Rattle.df_top.specs.Turning.{OnGoing}
 use Rattle.df_top.specs.declared.session.Session.{Session}
-use Rattle.df_top.specs.declared.turns.Turn.{Turn}
-use Rattle.df_top.specs.declared.turns.Turn.TheVariants.{GoesOn, Ends}
+use Rattle.df_top.specs.Outside.{Turn}
+use Rattle.df_program.specs.declared.turn.Turn.TheVariants.{GoesOn, Ends}
 use Rattle.df_top.specs.declared.status.Status.{Status}
 use Rattle.df_top.specs.declared.status.Status.TheVariants.{Done, Found, Words, Script, Refused, DiskFault, ReadFault, WriteFault, Memory}
 use Rattle.df_top.proofs.Progress.{ends_answer, ends_damaged, ends_damaged_fault, ends_disk, ends_script, ends_script_fault, goes_on}
@@ -28,9 +28,8 @@ use Rattle.df_top.proofs.Progress.{ends_answer, ends_damaged, ends_damaged_fault
 pub ends_refused : (pace : Pace) (bound : ℕ) (old new : SessionState) → new.outside.told ≡ old.outside.told → new.replica ≡ old.replica → IsIdleBeat old.beat old.replica → ((rest : List ℕ) → old.text ≡ Some rest → IsRefused bound old.budget rest)
     → ((rest : List ℕ) → old.text ≡ Some rest → (remains : List ℕ) → new.outside.left ≡ Some remains → HoldsLine bound rest remains) → (status : Status)
     → RefusesLine old.lines old.outside.written new.outside.written status → EndsIn pace bound old new status
-ends_refused pace bound old new same one idle refused holds Script wrote = ends_script pace bound old new same one idle refused holds wrote
-ends_refused pace bound old new same one idle refused holds WriteFault wrote = ends_script_fault pace bound old new same one idle refused holds wrote
-ends_refused pace bound old new same one idle refused holds status wrote = absurd wrote
+ends_refused pace bound old new same one idle refused holds status (inl wrote) = subst (λ (s : Status). EndsIn pace bound old new s) (sym wrote.0) (ends_script pace bound old new same one idle refused holds wrote.1)
+ends_refused pace bound old new same one idle refused holds status (inr wrote) = subst (λ (s : Status). EndsIn pace bound old new s) (sym wrote.0) (ends_script_fault pace bound old new same one idle refused holds wrote.1)
 
 -- what the reader refuses is refused
 pub refused_next : (outside : Outside) (left : Option (List ℕ)) (old : Session) (room : ReaderParts) → EndedIsEnd old outside.left

@@ -14,7 +14,7 @@ use Rattle.df_top.specs.Refusing.{PrintsFormatError}
 use Rattle.df_top.specs.declared.status.Status.{Status}
 use Rattle.df_top.specs.declared.status.Status.TheVariants.{Done, Refused, WriteFault}
 use Rattle.df_session.proofs.Laws.{part_told}
-use Rattle.df_telling.proofs.Laws.{text_ends}
+use Rattle.df_program.proofs.Laws.{text_ends}
 
 format_told : {T : Type 0} (es : List Event) (old new : Option Told) (r : Result T FormatError) → AddsFormat es old new r → ToldBy old new
 format_told es old new (Ok x) is = (es, is)

@@ -6,8 +6,8 @@ use Rattle.df_lines.proofs.Laws.{one_number}
 use Rattle.df_pace.specs.declared.pace.Pace.{Pace}
 use Rattle.df_top.specs.declared.mode.Mode.{Mode}
 use Rattle.df_top.specs.declared.mode.Mode.TheVariants.{Format, Run, Recover, Inspect, Scrub, Workload, Upgrade, Paced}
-use Rattle.df_words.specs.Names.{NamesLayout}
-use Rattle.df_words.proofs.Laws.{one_layout}
+use Rattle.df_program.specs.Names.{NamesLayout}
+use Rattle.df_program.proofs.Laws.{one_layout}
 use Rattle.df_top.specs.Mode.{Means, OneMeaning, SpellsFormat, SpellsWorkload}
 
 -- three words are equal one by one

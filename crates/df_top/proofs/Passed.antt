@@ -32,8 +32,8 @@ use Rattle.df_top.specs.Session.{IsDamagedLine, SessionState}
 use Rattle.df_top.specs.Step.{Passes, Turns}
 use Rattle.df_top.specs.Turning.{BlamesIfEnds, DoesPiece, IsReadySession, LeavesReader, OnGoing, has_begun_in}
 use Rattle.df_top.specs.declared.session.Session.{Session}
-use Rattle.df_top.specs.declared.turns.Turn.{Turn}
-use Rattle.df_top.specs.declared.turns.Turn.TheVariants.{GoesOn, Ends}
+use Rattle.df_top.specs.Outside.{Turn}
+use Rattle.df_program.specs.declared.turn.Turn.TheVariants.{GoesOn, Ends}
 use Rattle.df_top.specs.declared.status.Status.{Status}
 use Rattle.df_top.specs.declared.status.Status.TheVariants.{Done, Found, Words, Script, Refused, DiskFault, ReadFault, WriteFault, Memory}
 use Rattle.df_top.proofs.Answered.{damaged_line, disk_rose, disk_same}

@@ -27,7 +27,7 @@ use Rattle.df_session.specs.Endings.{heard}
 use Rattle.df_session.specs.declared.hearing.Fault.{Fault}
 use Rattle.df_session.proofs.Laws.{reads_prepare, reads_reply}
 use Rattle.df_top.specs.Turning.{IsPrinted, TellsAnswer, printed_turn}
-use Rattle.df_top.specs.declared.turns.Turn.{Turn}
+use Rattle.df_top.specs.Outside.{Turn}
 use Rattle.df_top.proofs.Answered.{Comes, comes_answered, comes_failed, prints_turn, told_fault}
 
 -- what was printed of a unit's header and body is the unit's text

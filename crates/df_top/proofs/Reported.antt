@@ -25,7 +25,7 @@ use Rattle.df_session.specs.Surveying.{TellsMends, TellsSurvey}
 use Rattle.df_session.proofs.Laws.{added_is_told, shown_after}
 use Rattle.df_session.specs.Found.{FoundFile, no_calls}
 use Rattle.df_session.specs.Laws.{CallsKeep}
-use Rattle.df_telling.proofs.Laws.{open_fault}
+use Rattle.df_program.proofs.Laws.{open_fault}
 use Rattle.df_top.specs.Outside.{Outside, PrintsLine}
 use Rattle.df_top.specs.Refusing.{PrintsOpenError}
 use Rattle.df_top.specs.Reporting.{Inspects, Recovers, report_of, status_of}

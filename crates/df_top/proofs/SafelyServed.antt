@@ -16,7 +16,7 @@ use Rattle.df_session.specs.Following.{MayOpen}
 use Rattle.df_session.specs.Session.{Act}
 use Rattle.df_session.proofs.Laws.{safe_is_not_refused}
 use Rattle.df_session.specs.Found.{FoundFile}
-use Rattle.df_telling.proofs.Laws.{nothing_failed}
+use Rattle.df_program.proofs.Laws.{nothing_failed}
 use Rattle.df_top.specs.Completeness.{IsCarriedOut, IsWholeScript, SafeIsRun, SafeIsServed}
 use Rattle.df_top.specs.Opening.{RefusesFile}
 use Rattle.df_top.specs.Outside.{Faults, HasCauses, NoneFailed, Outside}

@@ -19,7 +19,7 @@ use Rattle.df_top.specs.Findings.{items_of}
 use Rattle.df_session.specs.Links.{Makes}
 use Rattle.df_top.specs.Step.{AnswersCommand}
 use Rattle.df_top.specs.Turning.{TellsAnswer, printed_turn}
-use Rattle.df_top.specs.declared.turns.Turn.{Turn}
+use Rattle.df_top.specs.Outside.{Turn}
 use Rattle.df_session.proofs.Laws.{adds_none, made}
 use Rattle.df_top.proofs.Answered.{Comes, comes_answered, printed_is, prints_turn}
 

@@ -21,7 +21,7 @@ use Rattle.df_session.specs.Found.{FoundFile}
 use Rattle.df_session.specs.Links.{CallsMade}
 use Rattle.df_session.specs.Laws.{CallsKeep}
 use Rattle.df_session.proofs.Laws.{begun_here, calls_keep, ends_told}
-use Rattle.df_telling.proofs.Laws.{open_fault}
+use Rattle.df_program.proofs.Laws.{open_fault}
 use Rattle.df_top.specs.Acknowledging.{script_calls}
 use Rattle.df_top.specs.Opening.{FailsToFind, RefusesFileAs, StopsBefore}
 use Rattle.df_top.specs.Outside.{IsThrough, Outside}

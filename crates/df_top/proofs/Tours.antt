@@ -19,10 +19,10 @@ use Rattle.df_top.specs.Scrubs.{PrintsTour, failing_blocks, tour_report, tour_st
 use Rattle.df_top.specs.Touring.{EndsTour, TakesStep, TellsStep, TellsTourFound}
 use Rattle.df_top.specs.declared.status.Status.{Status}
 use Rattle.df_top.specs.declared.status.Status.TheVariants.{DiskFault, Done, Found, WriteFault}
-use Rattle.df_top.specs.declared.turns.Turn.{Turn}
-use Rattle.df_top.specs.declared.turns.Turn.TheVariants.{Ends, GoesOn}
+use Rattle.df_top.specs.Outside.{Turn}
+use Rattle.df_program.specs.declared.turn.Turn.TheVariants.{Ends, GoesOn}
 use Rattle.df_top.specs.Turning.{BlamesIfEnds}
-use Rattle.df_telling.proofs.Laws.{no_blame}
+use Rattle.df_program.proofs.Laws.{no_blame}
 use Rattle.df_model.proofs.Laws.{above, all_above, put_first}
 use Rattle.df_top.proofs.Checks.{IsChecked, IsEnded, IsStepOf, check_counts, check_fails, checked, ended, failing_of, left_of, referenced, referenced_rise}
 

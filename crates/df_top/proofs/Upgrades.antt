@@ -20,7 +20,7 @@ use Rattle.df_units.proofs.Laws.{none_within}
 use Rattle.df_upgrade.specs.Below.{HasSuperAs, IsNotRefusedAs, MayBeHurtAs, RefusesAs, TellsSurveyAs, fault_as}
 use Rattle.df_upgrade.specs.Upgraded.{StopsUpgrading}
 use Rattle.df_upgrade.proofs.Laws.{answer_is_of_hurt_as, found_is_not_refused_as, headers_may_be_hurt_as, probe_is_of_hurt_as, super_as, two_copies_are_enough_as}
-use Rattle.df_telling.proofs.Laws.{open_fault}
+use Rattle.df_program.proofs.Laws.{open_fault}
 use Rattle.df_top.specs.Completeness.{OldIsUpgraded, SecondIsLeft}
 use Rattle.df_top.specs.Hurting.{RefusesCopiesAs}
 use Rattle.df_top.specs.Outside.{Faults, HasCauses, NoneFailed, Outside}

@@ -37,24 +37,11 @@ use Rattle.df_top.proofs.Served.{opened_file}
 
 -- ---- what is printed
 
-pub printed_line : {T E : Type 0} (text : List ℕ) (given : Status) (old new : Option (List ℕ)) (r : Result T E) → Prints text old new r → PrintsLine text given old new (status_or given r)
-printed_line text given old new (Ok x) prints = inl (refl, prints.whole)
-printed_line text given old new (Err e) prints = inr (refl, prints.part)
-
 -- the report of a run that came to its end
-pub prints_done : {T A E : Type 0} (run : Run) (t : Replica) (worked : Result T Fault) (x : T) (report : Workload) (old new : Option (List ℕ)) (r : Result A E) (status : Status) → worked ≡ Ok x → report ≡ workload_of run t
-    → Prints (workload_text report) old new r → status ≡ status_or Done r → PrintsRun run t worked old new status
-prints_done run t worked x report old new r status is same prints ended =
-    subst (λ (w : Result _ Fault). PrintsRun run t w old new status) (sym is)
-    (subst (λ (q : Status). PrintsLine (workload_text (workload_of run t)) Done old new q) (sym ended)
-    (subst (λ (w : Workload). PrintsLine (workload_text w) Done old new (status_or Done r)) same (printed_line (workload_text report) Done old new r prints)))
-
--- and the line of a step that is damaged
-pub prints_damaged : {A E : Type 0} (fault : Fault) (place : Place) (class : Class) (old new : Option (List ℕ)) (r : Result A E) (status : Status) → fault ≡ Damaged place class → Prints (damaged_text place class) old new r → status ≡ status_or Refused r
-    → PrintsFault fault old new status
-prints_damaged fault place class old new r status is prints ended =
-    subst (λ (q : Fault). PrintsFault q old new status) (sym is)
-    (subst (λ (q : Status). PrintsLine (damaged_text place class) Refused old new q) (sym ended) (printed_line (damaged_text place class) Refused old new r prints))
+pub prints_done : {T : Type 0} (run : Run) (t : Replica) (worked : Result T Fault) (x : T) (report : Workload) (old new : Option (List ℕ)) (status : Status) → worked ≡ Ok x → report ≡ workload_of run t
+    → PrintsLine (workload_text report) Done old new status → PrintsRun run t worked old new status
+prints_done run t worked x report old new status is same prints =
+    subst (λ (w : Result _ Fault). PrintsRun run t w old new status) (sym is) (subst (λ (w : Workload). PrintsLine (workload_text w) Done old new status) same prints)
 
 -- ---- causes
 

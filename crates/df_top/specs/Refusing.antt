@@ -7,7 +7,7 @@ use Rattle.df_model.specs.declared.errors.OpenError.{OpenError}
 use Rattle.df_script_model.specs.Texts.{damaged_text}
 use Rattle.df_session.specs.declared.hearing.Fault.{Fault}
 use Rattle.df_session.specs.declared.hearing.Fault.TheVariants.{Disk, Damaged}
-use Rattle.df_telling.specs.Telling as telling
+use Rattle.df_program.specs.Telling as telling
 use Rattle.df_top.specs.Outside.{PrintsLine}
 use Rattle.df_top.specs.declared.status.Status.{Status}
 use Rattle.df_top.specs.declared.status.Status.TheVariants.{DiskFault, Refused, WriteFault}

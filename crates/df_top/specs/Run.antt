@@ -1,7 +1,6 @@
 -- What the program promises of words that work on a file.
 use Rattle.std.specs.Prelude.{◌≡◌, ◌⊎◌, ◌^◌, ℕ, List, Option, Some}
 use Rattle.df_base.specs.Image.{IsImage}
-use Rattle.df_base.specs.Streams.{Appends, AppendsPart}
 use Rattle.df_disk.specs.Adds.{after_all}
 use Rattle.df_disk.specs.Told.{Told}
 use Rattle.df_layout.specs.declared.layout.Layout.{Layout}
@@ -24,7 +23,7 @@ use Rattle.df_upgrade.specs.Below.{RefusesAs}
 use Rattle.df_top.specs.Acknowledging.{script_calls}
 use Rattle.df_top.specs.Mode.{AsksForFile}
 use Rattle.df_top.specs.Opening.{FailsToFind, IsSilent, PrintsRefusal, RefusesFile}
-use Rattle.df_top.specs.Outside.{Outside}
+use Rattle.df_top.specs.Outside.{Outside, PrintsLine}
 use Rattle.df_top.specs.Reporting.{Inspects, Recovers}
 use Rattle.df_top.specs.Scrubs.{ScrubsFile}
 use Rattle.df_top.specs.Working.{WorksThrough}
@@ -38,7 +37,7 @@ use Rattle.df_top.specs.declared.status.Status.TheVariants.{DiskFault, Memory, R
 
 -- all that other words do: the usage line is printed, or a front of it where the sink fails
 abbrev pub PrintsUsage : Option (List ℕ) → Option (List ℕ) → Status → Type 0
-PrintsUsage old new status = ((status ≡ Words) × Appends old new usage) ⊎ ((status ≡ WriteFault) × AppendsPart old new usage)
+PrintsUsage old new status = PrintsLine usage Words old new status
 
 -- how many bytes a script may have
 abbrev pub script_budget : ℕ

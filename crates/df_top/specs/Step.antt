@@ -16,8 +16,8 @@ use Rattle.df_script_model.specs.Script.{answer_text}
 use Rattle.df_session.specs.Links.{Makes}
 use Rattle.df_top.specs.Lines.{Turned}
 use Rattle.df_top.specs.Session.{Ended, Executed, IsDamagedLine, SessionState}
-use Rattle.df_top.specs.declared.turns.Turn.{Turn}
-use Rattle.df_top.specs.declared.turns.Turn.TheVariants.{GoesOn as Goes, Ends as EndsBy}
+use Rattle.df_top.specs.Outside.{PrintsLine, Turn}
+use Rattle.df_program.specs.declared.turn.Turn.TheVariants.{GoesOn as Goes, Ends as EndsBy}
 use Rattle.df_top.specs.declared.status.Status.{Status}
 use Rattle.df_top.specs.declared.status.Status.TheVariants.{Script, Refused, DiskFault, WriteFault}
 
@@ -48,9 +48,7 @@ Passes p command s t old new written took b c (EndsBy status) = ⊥
 
 -- the line that refuses the next line was written, or a front of it where the sink failed
 abbrev pub RefusesLine : (n : ℕ) → (old new : Option (List ℕ)) → Status → Type 0
-RefusesLine n old new Script = Appends old new (script_text (n + 1))
-RefusesLine n old new WriteFault = AppendsPart old new (script_text (n + 1))
-RefusesLine n old new status = ⊥
+RefusesLine n old new status = PrintsLine (script_text (n + 1)) Script old new status
 
 -- the next line was taken, and says this
 abbrev pub TakesNextLine : (bound : ℕ) → SessionState → Said → Option (List ℕ) → ℕ → Type 0

@@ -13,8 +13,8 @@ use Rattle.df_session.specs.Scrubbing.{IsScrub}
 use Rattle.df_top.specs.Scrubs.{tour_status}
 use Rattle.df_top.specs.declared.status.Status.{Status}
 use Rattle.df_top.specs.declared.status.Status.TheVariants.{DiskFault, Done, Found, WriteFault}
-use Rattle.df_top.specs.declared.turns.Turn.{Turn}
-use Rattle.df_top.specs.declared.turns.Turn.TheVariants.{Ends, GoesOn}
+use Rattle.df_top.specs.Outside.{Turn}
+use Rattle.df_program.specs.declared.turn.Turn.TheVariants.{Ends, GoesOn}
 
 -- what a step prints: the block, where it fails, or how many there are
 abbrev pub step_text : Scrubbed → List ℕ

@@ -1,6 +1,5 @@
 -- What the functions that serve a script say of their session.
 use Rattle.std.specs.Prelude.{◌≡◌, ◌≤◌, ◌+◌, ◌^◌, ℕ, Bool, true, false, List, Option, Some, None, Result, Ok, Err}
-use Rattle.df_base.specs.Streams.{Appends, AppendsPart}
 use Rattle.df_inspect.specs.Answers.{line_of_answer}
 use Rattle.df_disk.specs.Told.{Told}
 use Rattle.df_model.specs.Commands.{Answer as Said, Command, ReadBlock, ReadPrepare, ReadReply}
@@ -11,35 +10,23 @@ use Rattle.df_session.specs.Below.{State as Replica}
 use Rattle.df_session.specs.Endings.{EndsBy}
 use Rattle.df_session.specs.Links.{Makes}
 use Rattle.df_session.specs.declared.hearing.Fault.{Fault}
-use Rattle.df_top.specs.Outside.{Blames}
+pub use Rattle.df_program.specs.Turns.{BlamesIfEnds, OnGoing}
+use Rattle.df_program.specs.Turns as turns
 use Rattle.df_top.specs.Refusing.{PrintsFault}
 use Rattle.df_top.specs.Session.{EndedIsEnd}
 use Rattle.df_top.specs.declared.session.Session.{Session}
 use Rattle.df_top.specs.declared.status.Status.{Status}
 use Rattle.df_top.specs.declared.status.Status.TheVariants.{WriteFault}
-use Rattle.df_top.specs.declared.turns.Turn.{Turn}
-use Rattle.df_top.specs.declared.turns.Turn.TheVariants.{GoesOn, Ends}
-
--- where the session goes on
-abbrev pub OnGoing : Turn → Type 0 → Type 0
-OnGoing GoesOn P = P
-OnGoing (Ends status) P = Unit {0}
-
--- a turn that goes on has raised no count
-abbrev pub BlamesIfEnds : Status → (before now : ℕ) → Turn → Type 0
-BlamesIfEnds fault before now GoesOn = now ≡ before
-BlamesIfEnds fault before now (Ends status) = Blames fault before now status
+use Rattle.df_top.specs.Outside.{Turn}
+use Rattle.df_program.specs.declared.turn.Turn.TheVariants.{GoesOn, Ends}
 
 -- what becomes of the session by the printing of an answer
 abbrev pub printed_turn : {T E : Type 0} → Result T E → Turn
-printed_turn (Ok x) = GoesOn
-printed_turn (Err e) = Ends WriteFault
+printed_turn result = turns.printed_turn WriteFault result
 
 -- a text is printed and the session goes on, or a front of it is there where the sink failed
 abbrev pub IsPrinted : List ℕ → (old new : Option (List ℕ)) → Turn → Type 0
-IsPrinted text old new GoesOn = Appends old new text
-IsPrinted text old new (Ends WriteFault) = AppendsPart old new text
-IsPrinted text old new (Ends status) = ⊥
+IsPrinted text old new turn = turns.IsPrinted WriteFault text old new turn
 
 -- how what was heard of an answer is told: it has its line, and the session goes on; or the session ends, by the line of a step that is damaged, or by none where the disk failed
 abbrev pub TellsAnswer : Command → Result Answer Fault → (old new : Option (List ℕ)) → Turn → Type 0

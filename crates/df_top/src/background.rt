@@ -14,13 +14,13 @@ ghost use Rattle.df_top.specs.Turning.{BlamesIfEnds, DoesPiece, LeavesReader, On
 use crate::session::Session;
 use crate::status::Status;
 use crate::telling::tell_fault;
-use crate::turns::Turn;
 use arrayvec::ArrayVec;
 use df_base::Sink;
 use df_disk::Disk;
 use df_layout::ROOT;
 use df_model::{Answer, Command};
 use df_pace::Piece;
+use df_program::Turn;
 use df_session::{Fault, Replica, make};
 
 // The durable root, in a list of its own: a call that changes the replica can't be lent what the replica has.
@@ -91,7 +91,7 @@ fn do_piece<D: Disk>(disk: &mut D, replica: &mut Replica, piece: Piece) -> Resul
 }
 
 // Does a piece: the session goes on, or ends with the call, by the line of a step that is damaged or by none.
-fn pass<D: Disk, W: Sink>(disk: &mut D, sink: &mut W, session: &mut Session, piece: Piece) -> Turn
+fn pass<D: Disk, W: Sink>(disk: &mut D, sink: &mut W, session: &mut Session, piece: Piece) -> Turn<Status>
     requires live { session.old.replica.live ≡ true }
     ensures passes { Passes piece (command_of_piece piece session.old.replica.root) session.old.replica session.new.replica (D.told disk.old) (D.told disk.new) (W.written sink.old) (W.written sink.new) session.old.beat session.new.beat result }
     ensures live { OnGoing result (session.new.replica.live ≡ true) }
@@ -116,7 +116,7 @@ fn do_next<D: Disk, W: Sink>(
     sink: &mut W,
     session: &mut Session,
     piece: Piece,
-) -> Turn
+) -> Turn<Status>
     requires live { session.old.replica.live ≡ true }
     requires next { next_piece session.old.beat.due (runs session.old.replica) ≡ Some piece }
     ensures turns { (left : Option (List ℕ)) (bound : ℕ) → Turns session.old.pace bound
@@ -140,7 +140,7 @@ fn next(session: &Session) -> Option<Piece>
 }
 
 /// Does all the work that is due after a line, piece by piece.
-pub fn work<D: Disk, W: Sink>(disk: &mut D, sink: &mut W, session: &mut Session) -> Turn
+pub fn work<D: Disk, W: Sink>(disk: &mut D, sink: &mut W, session: &mut Session) -> Turn<Status>
     requires live { session.old.replica.live ≡ true }
     ensures turns { (left : Option (List ℕ)) (bound : ℕ) → Turns session.old.pace bound
         (state (record { told = D.told disk.old; left = left; written = W.written sink.old }) session.old)

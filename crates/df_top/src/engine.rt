@@ -9,7 +9,7 @@ ghost use Rattle.df_top.specs.declared.mode.Mode.{Mode};
 ghost use Rattle.df_top.specs.Mode.{AsksForFile, AsksScript, IsRunnable, Means, MeansNothing, ReadsScript};
 ghost use Rattle.df_top.specs.Formats.{Formats, MakesFile};
 ghost use Rattle.df_top.specs.Hurting.{RunsOverHurt};
-ghost use Rattle.df_top.specs.Outside.{Blames, HasCauses, around, counts};
+ghost use Rattle.df_top.specs.Outside.{HasCauses, around, counts};
 ghost use Rattle.df_top.specs.Reopening.{RunsOverHistory};
 ghost use Rattle.df_top.specs.Run.{IsWithout, PrintsUsage, Runs};
 ghost use Rattle.df_top.specs.Upgrading.{RunsUpgrade, UpgradesOverHurt};
@@ -19,15 +19,14 @@ use crate::making::make_file;
 use crate::mode::{Mode, Task, mode_of, task_of};
 use crate::serving::carry_out;
 use crate::status::Status;
-use crate::telling::refuse_file;
 use crate::upgrading::upgrade_old;
 use df_base::{OutOfMemory, Sink, Source};
 use df_buffers::ProbeRoom;
 use df_disk::Disk;
 use df_layout::Layout;
 use df_lines::LineRoom;
+use df_program::{end_with, refuse_file};
 use df_session::{Rooms, probe};
-use df_telling::end_with;
 use std::alloc::Global;
 
 /// The line that says which words have a meaning.
@@ -79,14 +78,6 @@ fn run_file<D: Disk, S: Source, W: Sink>(
     }
 }
 
-// Prints the words that have a meaning.
-fn print_usage<W: Sink>(sink: &mut W) -> Status
-    ensures usage { PrintsUsage (W.written sink.old) (W.written sink.new) result }
-    ensures sink { Blames Status.WriteFault (W.faults sink.old) (W.faults sink.new) result }
-{
-    end_with(sink, USAGE, Status::Words, Status::WriteFault)
-}
-
 /// Does what the words say, over a disk, a source and a sink. All memory is taken before the first write to the disk or to the
 /// sink, but for the usage line and a refusal that come before any is taken.
 pub fn run<D: Disk, S: Source, W: Sink>(
@@ -113,16 +104,12 @@ pub fn run<D: Disk, S: Source, W: Sink>(
     // whose boot is raised, as each word does it but `inspect`, which prints the report of what it finds, and adds nothing but the sync of its barrier; `scrub` prints
     // the referenced blocks that fail; `workload` carries out a generated run as the machine does, keeps what was answered, and
     // prints what it did.
-    ensures runs { (mode : Mode) → AsksForFile mode → Means (map string_bytes words.now) mode → Runs mode
-        (record { told = D.told disk.old; left = S.left source.old; written = W.written sink.old })
-        (record { told = D.told disk.new; left = S.left source.new; written = W.written sink.new }) result }
+    ensures runs { (mode : Mode) → AsksForFile mode → Means (map string_bytes words.now) mode → Runs mode (around (D.told disk.old) (S.left source.old) (W.written sink.old)) (around (D.told disk.new) (S.left source.new) (W.written sink.new)) result }
     ensures inspects { Means (map string_bytes words.now) Mode.Inspect → AddsPart (Sync ∷ []) (D.told disk.old) (D.told disk.new) }
 
     // `upgrade` asks for version 1: it refuses a file by the first reason of the order of open, or makes it one of version 2 and prints its
     // sequence. At each moment whatever is left has the state that was found, by the version of its own superblock.
-    ensures upgrades { Means (map string_bytes words.now) Mode.Upgrade → RunsUpgrade
-        (record { told = D.told disk.old; left = S.left source.old; written = W.written sink.old })
-        (record { told = D.told disk.new; left = S.left source.new; written = W.written sink.new }) result }
+    ensures upgrades { Means (map string_bytes words.now) Mode.Upgrade → RunsUpgrade (around (D.told disk.old) (S.left source.old) (W.written sink.old)) (around (D.told disk.new) (S.left source.new) (W.written sink.new)) result }
 
     // Every write lies within the zones of the file: of the one that is made, or of the one whose superblock is shown.
     ensures made_within { (layout : Layout) (cluster : ℕ) → Means (map string_bytes words.now) (Mode.Format layout cluster) → AddsWithin layout (D.told disk.old) (D.told disk.new) }
@@ -131,28 +118,18 @@ pub fn run<D: Disk, S: Source, W: Sink>(
 
     // Where sectors of the file were damaged, lost or swapped before, they find a state that the file really had, or refuse it
     // because of a sector that is hurt; and a read of a script gives what is the state's own, as it was written.
-    ensures hurt { (mode : Mode) → AsksForFile mode → Means (map string_bytes words.now) mode → RunsOverHurt mode
-        (record { told = D.told disk.old; left = S.left source.old; written = W.written sink.old })
-        (record { told = D.told disk.new; left = S.left source.new; written = W.written sink.new }) result }
+    ensures hurt { (mode : Mode) → AsksForFile mode → Means (map string_bytes words.now) mode → RunsOverHurt mode (around (D.told disk.old) (S.left source.old) (W.written sink.old)) (around (D.told disk.new) (S.left source.new) (W.written sink.new)) result }
 
     // Where they were before other opens, too, while two superblock copies were spared before each, the state is one that the file had
     // since the last open that raised its boot; and from the barrier on the history stays such a one at each moment.
-    ensures lived { (mode : Mode) → AsksForFile mode → Means (map string_bytes words.now) mode → RunsOverHistory mode
-        (record { told = D.told disk.old; left = S.left source.old; written = W.written sink.old })
-        (record { told = D.told disk.new; left = S.left source.new; written = W.written sink.new }) result }
+    ensures lived { (mode : Mode) → AsksForFile mode → Means (map string_bytes words.now) mode → RunsOverHistory mode (around (D.told disk.old) (S.left source.old) (W.written sink.old)) (around (D.told disk.new) (S.left source.new) (W.written sink.new)) result }
 
-    ensures upgraded_hurt { Means (map string_bytes words.now) Mode.Upgrade → UpgradesOverHurt
-        (record { told = D.told disk.old; left = S.left source.old; written = W.written sink.old })
-        (record { told = D.told disk.new; left = S.left source.new; written = W.written sink.new }) result }
+    ensures upgraded_hurt { Means (map string_bytes words.now) Mode.Upgrade → UpgradesOverHurt (around (D.told disk.old) (S.left source.old) (W.written sink.old)) (around (D.told disk.new) (S.left source.new) (W.written sink.new)) result }
 
     // A call ends at its first fault: of the three counts one at most rises, once, that of what the status blames; want of memory
     // comes before anything was read or written.
-    ensures causes { HasCauses
-        (record { disk = D.faults disk.old; source = S.faults source.old; sink = W.faults sink.old })
-        (record { disk = D.faults disk.new; source = S.faults source.new; sink = W.faults sink.new }) result }
-    ensures memory { result ≡ Status.Memory → IsWithout
-        (record { told = D.told disk.old; left = S.left source.old; written = W.written sink.old })
-        (record { told = D.told disk.new; left = S.left source.new; written = W.written sink.new }) }
+    ensures causes { HasCauses (counts (D.faults disk.old) (S.faults source.old) (W.faults sink.old)) (counts (D.faults disk.new) (S.faults source.new) (W.faults sink.new)) result }
+    ensures memory { result ≡ Status.Memory → IsWithout (around (D.told disk.old) (S.left source.old) (W.written sink.old)) (around (D.told disk.new) (S.left source.new) (W.written sink.new)) }
 {
     match mode_of(words) {
         Some(mode) => match task_of(mode) {
@@ -160,6 +137,6 @@ pub fn run<D: Disk, S: Source, W: Sink>(
             Task::Upgrade => upgrade_old(alloc, sink, disk),
             Task::Open => run_file(alloc, mode, source, sink, disk),
         },
-        None => print_usage(sink),
+        None => end_with(sink, USAGE, Status::Words),
     }
 }

@@ -12,6 +12,7 @@ use df_base::Sink;
 use df_disk::Disk;
 use df_inspect::{print_format_refusal, print_formatted};
 use df_layout::Layout;
+use df_program::ended;
 use df_session::{FormatError, Rooms, format};
 use std::alloc::Global;
 
@@ -23,10 +24,7 @@ fn refuse_format<W: Sink>(sink: &mut W, error: &FormatError) -> Status
     if *error == FormatError::DiskFault {
         return Status::DiskFault;
     }
-    match print_format_refusal(sink, *error) {
-        Ok(()) => Status::Refused,
-        Err(_) => Status::WriteFault,
-    }
+    ended(print_format_refusal(sink, *error), Status::Refused)
 }
 
 // Prints how many sectors the file has that was made.
@@ -34,10 +32,7 @@ fn tell_formatted<W: Sink>(sink: &mut W, layout: &Layout) -> Status
     ensures line { PrintsLine (formatted_text (file_sectors layout.now)) Status.Done (W.written sink.old) (W.written sink.new) result }
     ensures sink { Blames Status.WriteFault (W.faults sink.old) (W.faults sink.new) result }
 {
-    match print_formatted(sink, layout.sectors()) {
-        Ok(()) => Status::Done,
-        Err(_) => Status::WriteFault,
-    }
+    ended(print_formatted(sink, layout.sectors()), Status::Done)
 }
 
 // Writes the file, and the line that says what became of it.

@@ -7,7 +7,7 @@ ghost use Rattle.df_top.specs.Mode.{Means, OneMeaning, task_of};
 use df_layout::Layout;
 use df_lines::{u64_of, u128_of};
 use df_pace::Pace;
-use df_words::layout_named;
+use df_program::layout_named;
 
 /// The rounds of the longest generated run.
 const MOST_ROUNDS: u64 = 1_000_000;

@@ -5,12 +5,12 @@ ghost use Rattle.df_top.specs.Step.{AnswersCommand};
 ghost use Rattle.df_top.specs.Turning.{BlamesIfEnds, LendsUnit};
 
 use crate::status::Status;
-use crate::telling::{printed, tell};
-use crate::turns::Turn;
+use crate::telling::tell;
 use df_base::Sink;
 use df_disk::Disk;
 use df_inspect::{print_block, print_prepare, print_reply};
 use df_model::{Answer, Command};
+use df_program::{Turn, printed};
 use df_session::{Replica, hear};
 
 /// Reads a prepare, a client's stored reply or a live block, and prints it or why it isn't read.
@@ -19,7 +19,7 @@ pub fn read<D: Disk, W: Sink>(
     sink: &mut W,
     replica: &mut Replica,
     command: Command,
-) -> Turn
+) -> Turn<Status>
     requires live { replica.old.live ≡ true }
     requires lends { LendsUnit (command_of command) }
     ensures answers { AnswersCommand (command_of command.entry) replica.old replica.new (D.told disk.old) (D.told disk.new) (W.written sink.old) (W.written sink.new) result }

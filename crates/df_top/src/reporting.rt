@@ -10,11 +10,11 @@ ghost use Rattle.df_top.specs.Reporting.{OneReport, report_of, status_of};
 ghost use Rattle.df_top.specs.Run.{ServesIn};
 
 use crate::status::Status;
-use crate::telling::refuse_file;
 use df_base::Sink;
 use df_disk::Disk;
 use df_inspect::{print_inspection, print_summary};
 use df_layout::Mend;
+use df_program::{ended, refuse_file};
 use df_session::{Replica, Rooms, Surveyed, survey};
 
 // Whether something is to be mended.
@@ -51,10 +51,7 @@ fn summarise<W: Sink>(sink: &mut W, replica: &Replica) -> Status
     ensures prints { PrintsLine (summary_text (summary_of replica.now)) Status.Done (W.written sink.old) (W.written sink.new) result }
     ensures sink { Blames Status.WriteFault (W.faults sink.old) (W.faults sink.new) result }
 {
-    match print_summary(sink, &replica.summary()) {
-        Ok(()) => Status::Done,
-        Err(_) => Status::WriteFault,
-    }
+    ended(print_summary(sink, &replica.summary()), Status::Done)
 }
 
 /// Surveys the file and prints the report of what is found, or why the file is refused. Nothing is written to the disk, and no boot is raised.

@@ -8,13 +8,13 @@ ghost use Rattle.df_top.specs.Step.{AnswersCommand};
 ghost use Rattle.df_top.specs.Turning.{BlamesIfEnds};
 
 use crate::status::Status;
-use crate::telling::{printed, tell};
-use crate::turns::Turn;
+use crate::telling::tell;
 use df_base::Sink;
 use df_disk::Disk;
 use df_inspect::print_recent;
 use df_layout::{Class, Finding};
 use df_model::{Answer, Command};
+use df_program::{Turn, printed};
 use df_session::Replica;
 
 // How many findings the ring keeps.
@@ -27,7 +27,7 @@ const UNUSED: Finding = Finding {
 };
 
 /// Takes a step of the scrubber's tour, and prints what it found.
-pub fn scrub<D: Disk, W: Sink>(disk: &mut D, sink: &mut W, replica: &mut Replica) -> Turn
+pub fn scrub<D: Disk, W: Sink>(disk: &mut D, sink: &mut W, replica: &mut Replica) -> Turn<Status>
     requires live { replica.old.live ≡ true }
     ensures answers { AnswersCommand Scrub replica.old replica.new (D.told disk.old) (D.told disk.new) (W.written sink.old) (W.written sink.new) result }
     ensures disk { BlamesIfEnds Status.DiskFault (D.faults disk.old) (D.faults disk.new) result }
@@ -74,7 +74,7 @@ fn fill(replica: &Replica, row: &mut [Finding]) -> usize
 }
 
 /// Prints what the scrubber found last, the newest 64 findings. No disk is touched.
-pub fn recent<W: Sink>(sink: &mut W, replica: &Replica) -> Turn
+pub fn recent<W: Sink>(sink: &mut W, replica: &Replica) -> Turn<Status>
     requires live { replica.now.live ≡ true }
     ensures answers { (told : Option Told) → AnswersCommand Recent replica.now replica.now told told (W.written sink.old) (W.written sink.new) result }
     ensures disk { (faults : ℕ) → BlamesIfEnds Status.DiskFault faults faults result }

@@ -13,12 +13,11 @@ ghost use Rattle.df_top.specs.Touring.{EndsTour, TakesStep, TellsStep, TellsTour
 ghost use Rattle.df_top.specs.Turning.{BlamesIfEnds};
 
 use crate::status::Status;
-use crate::telling::{printed, refuse_file};
-use crate::turns::Turn;
 use df_base::Sink;
 use df_disk::Disk;
 use df_inspect::{print_failing, print_tour};
 use df_layout::Finding;
+use df_program::{Turn, printed, refuse_file};
 use df_session::{Replica, Rooms, Scrubbed, Verdict};
 
 // How a tour ends that listed so many blocks.
@@ -44,7 +43,7 @@ fn end_tour<W: Sink>(sink: &mut W, checked: u64, failing: u64) -> Status
 }
 
 // Prints what a step found: a block that fails, or the end of the tour.
-fn tell<W: Sink>(sink: &mut W, scrubbed: Scrubbed) -> Turn
+fn tell<W: Sink>(sink: &mut W, scrubbed: Scrubbed) -> Turn<Status>
     ensures tells { TellsStep scrubbed (W.written sink.old) (W.written sink.new) result }
     ensures sink { BlamesIfEnds Status.WriteFault (W.faults sink.old) (W.faults sink.new) result }
 {
@@ -62,7 +61,7 @@ fn tell<W: Sink>(sink: &mut W, scrubbed: Scrubbed) -> Turn
 }
 
 // Takes a step of the tour, and prints what it found.
-fn check_next<D: Disk, W: Sink>(disk: &mut D, sink: &mut W, replica: &mut Replica) -> Turn
+fn check_next<D: Disk, W: Sink>(disk: &mut D, sink: &mut W, replica: &mut Replica) -> Turn<Status>
     requires live { replica.old.live ≡ true }
     ensures steps { TakesStep replica.old replica.new (D.told disk.old) (W.written sink.old) (W.written sink.new) result }
     ensures same { D.told disk.new ≡ D.told disk.old }

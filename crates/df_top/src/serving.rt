@@ -16,13 +16,13 @@ use crate::reporting::{inspect_file, recover_file};
 use crate::scrubbing::scrub_file;
 use crate::session::Session;
 use crate::status::Status;
-use crate::telling::refuse_file;
 use crate::turns::serve_script;
 use crate::working::workload_file;
 use df_base::{Sink, Source};
 use df_disk::Disk;
 use df_lines::LineRoom;
 use df_pace::{Beat, Pace};
+use df_program::refuse_file;
 use df_session::{Replica, Rooms};
 
 // Opens the file and serves the script, with this work beside it.
@@ -109,21 +109,13 @@ pub fn serve<D: Disk, S: Source, W: Sink>(
 ) -> Status
     requires words { AsksOfFile (map string_bytes words.now) }
     requires lines { IsFresh (line_bound rooms.layout) lines }
-    ensures serves { (mode : Mode) → Means (map string_bytes words.now) mode → ServesIn mode rooms.layout
-        (record { told = D.told disk.old; left = S.left source.old; written = W.written sink.old })
-        (record { told = D.told disk.new; left = S.left source.new; written = W.written sink.new }) result }
+    ensures serves { (mode : Mode) → Means (map string_bytes words.now) mode → ServesIn mode rooms.layout (around (D.told disk.old) (S.left source.old) (W.written sink.old)) (around (D.told disk.new) (S.left source.new) (W.written sink.new)) result }
     ensures inspects { Means (map string_bytes words.now) Mode.Inspect → AddsPart (Sync ∷ []) (D.told disk.old) (D.told disk.new) }
-    ensures hurt { (mode : Mode) → Means (map string_bytes words.now) mode → ServesOverHurt mode rooms.layout
-        (record { told = D.told disk.old; left = S.left source.old; written = W.written sink.old })
-        (record { told = D.told disk.new; left = S.left source.new; written = W.written sink.new }) result }
-    ensures lived { (mode : Mode) → Means (map string_bytes words.now) mode → ServesOverHistory mode rooms.layout
-        (record { told = D.told disk.old; left = S.left source.old; written = W.written sink.old })
-        (record { told = D.told disk.new; left = S.left source.new; written = W.written sink.new }) result }
+    ensures hurt { (mode : Mode) → Means (map string_bytes words.now) mode → ServesOverHurt mode rooms.layout (around (D.told disk.old) (S.left source.old) (W.written sink.old)) (around (D.told disk.new) (S.left source.new) (W.written sink.new)) result }
+    ensures lived { (mode : Mode) → Means (map string_bytes words.now) mode → ServesOverHistory mode rooms.layout (around (D.told disk.old) (S.left source.old) (W.written sink.old)) (around (D.told disk.new) (S.left source.new) (W.written sink.new)) result }
     ensures within { WritesIn rooms.layout (D.told disk.old) (D.told disk.new) }
     ensures unread { (AsksScript (map string_bytes words.now) → ⊥) → S.left source.new ≡ S.left source.old }
-    ensures causes { HasCauses
-        (record { disk = D.faults disk.old; source = S.faults source.old; sink = W.faults sink.old })
-        (record { disk = D.faults disk.new; source = S.faults source.new; sink = W.faults sink.new }) result }
+    ensures causes { HasCauses (counts (D.faults disk.old) (S.faults source.old) (W.faults sink.old)) (counts (D.faults disk.new) (S.faults source.new) (W.faults sink.new)) result }
     ensures memory { result ≡ Status.Memory → ⊥ }
     ensures usage { result ≡ Status.Words → ⊥ }
 {

@@ -1,4 +1,5 @@
 // How a run ends.
+use df_program::Ends;
 
 /// How a run ended. `number` is the status of the program's exit.
 #[derive(Clone, Copy, Debug, PartialEq, Eq)]
@@ -23,24 +24,22 @@ pub enum Status {
     Memory,
 }
 
-impl Status {
-    ghost use Rattle.std.specs.Prelude.{◌≡◌};
-    ghost use Rattle.df_top.specs.Statuses.{exit_number};
+impl Ends for Status {
+    ghost use Rattle.df_top.specs.Statuses.{are_numbered, exit_number};
+    ghost use Rattle.df_top.specs.declared.status.Status.TheVariants as ends;
 
-    /// The exit status of the program.
-    pub fn number(self) -> u8
-        ensures { result ≡ exit_number self }
-    {
-        match self {
-            Status::Done => 0,
-            Status::Found => 1,
-            Status::Words => 2,
-            Status::Script => 3,
-            Status::Refused => 4,
-            Status::DiskFault => 5,
-            Status::ReadFault => 6,
-            Status::WriteFault => 7,
-            Status::Memory => 8,
-        }
+    ghost number = { exit_number };
+    ghost REFUSED = { ends.Refused };
+    ghost DISK_FAULT = { ends.DiskFault };
+    ghost WRITE_FAULT = { ends.WriteFault };
+
+    const REFUSED: Status = Status::Refused;
+    const DISK_FAULT: Status = Status::DiskFault;
+    const WRITE_FAULT: Status = Status::WriteFault;
+
+    fn number(self) -> u8 {
+        self as u8
     }
+
+    ghost are_numbered = { are_numbered };
 }

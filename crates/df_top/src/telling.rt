@@ -1,54 +1,19 @@
-// What becomes of a session by what was heard of an answer: its line is printed, or the session ends; and why a file isn't opened.
+// What becomes of a session by what was heard of an answer: its line is printed, or the session ends.
 ghost use Rattle.std.specs.Prelude.{◌≡◌, true};
 ghost use Rattle.df_inspect.specs.Answers.{command_of};
 ghost use Rattle.df_session.specs.Calls.{HasAnswer};
-ghost use Rattle.df_top.specs.Outside.{Blames, status_or};
-ghost use Rattle.df_top.specs.Refusing.{PrintsFault, PrintsOpenError};
+ghost use Rattle.df_top.specs.Outside.{Blames};
+ghost use Rattle.df_top.specs.Refusing.{PrintsFault};
 ghost use Rattle.df_top.specs.Step.{AnswersCommand};
-ghost use Rattle.df_top.specs.Turning.{BlamesIfEnds, TellsAnswer, printed_turn};
+ghost use Rattle.df_top.specs.Turning.{BlamesIfEnds, TellsAnswer};
 
 use crate::status::Status;
-use crate::turns::Turn;
-use df_base::{Failed, Sink};
+use df_base::Sink;
 use df_disk::Disk;
 use df_inspect::print_answer;
 use df_model::{Answer, Command};
-use df_session::{Fault, OpenError, Replica, make};
-use df_telling::print_damaged;
-
-/// Goes on where the answer was printed.
-pub fn printed(done: Result<(), Failed>) -> Turn
-    ensures { result ≡ printed_turn done }
-{
-    match done {
-        Ok(()) => Turn::GoesOn,
-        Err(_) => Turn::Ends(Status::WriteFault),
-    }
-}
-
-/// Ends with this status where the last line was printed.
-pub fn ended(done: Result<(), Failed>, status: Status) -> Status
-    ensures { result ≡ status_or status done }
-{
-    match done {
-        Ok(()) => status,
-        Err(_) => Status::WriteFault,
-    }
-}
-
-/// Prints why a file isn't opened; a failing disk has no line.
-pub fn refuse_file<W: Sink>(sink: &mut W, error: &OpenError) -> Status
-    ensures prints { PrintsOpenError error.now (W.written sink.old) (W.written sink.new) result }
-    ensures sink { Blames Status.WriteFault (W.faults sink.old) (W.faults sink.new) result }
-{
-    df_telling::refuse_file(
-        sink,
-        error,
-        Status::Refused,
-        Status::DiskFault,
-        Status::WriteFault,
-    )
-}
+use df_program::{Turn, printed, refuse_damaged};
+use df_session::{Fault, Replica, make};
 
 /// Prints why calls ended before the last one was answered; a failing disk has no line.
 pub fn tell_fault<W: Sink>(sink: &mut W, fault: Fault) -> Status
@@ -56,15 +21,13 @@ pub fn tell_fault<W: Sink>(sink: &mut W, fault: Fault) -> Status
     ensures sink { Blames Status.WriteFault (W.faults sink.old) (W.faults sink.new) result }
 {
     match fault {
-        Fault::Damaged { place, class } => {
-            ended(print_damaged(sink, place, class), Status::Refused)
-        }
+        Fault::Damaged { place, class } => refuse_damaged(sink, place, class),
         Fault::Disk => Status::DiskFault,
     }
 }
 
 /// Prints what was heard of an answer: its line, or why the session ends with it.
-pub fn tell<W: Sink>(sink: &mut W, command: &Command, heard: Result<Answer, Fault>) -> Turn
+pub fn tell<W: Sink>(sink: &mut W, command: &Command, heard: Result<Answer, Fault>) -> Turn<Status>
     ensures told { TellsAnswer (command_of command.now) heard (W.written sink.old) (W.written sink.new) result }
     ensures sink { BlamesIfEnds Status.WriteFault (W.faults sink.old) (W.faults sink.new) result }
 {
@@ -80,7 +43,7 @@ pub fn serve<D: Disk, W: Sink>(
     sink: &mut W,
     replica: &mut Replica,
     command: Command,
-) -> Turn
+) -> Turn<Status>
     requires live { replica.old.live ≡ true }
     requires answer { HasAnswer (command_of command) }
     ensures answers { AnswersCommand (command_of command.entry) replica.old replica.new (D.told disk.old) (D.told disk.new) (W.written sink.old) (W.written sink.new) result }

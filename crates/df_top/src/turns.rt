@@ -7,7 +7,7 @@ ghost use Rattle.df_top.specs.Lines.{command_of_line};
 ghost use Rattle.df_top.specs.Outside.{Blames};
 ghost use Rattle.df_top.specs.Pacing.{IsIdleBeat, runs};
 ghost use Rattle.df_top.specs.Session.{Ended, state};
-ghost use Rattle.df_top.specs.Step.{AnswersCommand, RefusesLine, Turns};
+ghost use Rattle.df_top.specs.Step.{AnswersCommand, Turns};
 ghost use Rattle.df_top.specs.Turning.{BlamesIfEnds, IsReadySession, LeavesReader, OnGoing};
 
 use crate::background::work;
@@ -18,29 +18,10 @@ use crate::status::Status;
 use crate::telling::serve;
 use df_base::{Sink, Source};
 use df_disk::Disk;
-use df_inspect::print_script;
 use df_lines::{Line, LineRoom, Next};
 use df_model::Command;
 use df_pace::Beat;
-
-/// What became of a session by one turn.
-#[derive(Clone, Copy, Debug, PartialEq, Eq)]
-pub enum Turn {
-    GoesOn,
-    Ends(Status),
-}
-
-// Writes the line that refuses the next line of a script, of which `lines` were executed.
-fn refuse<W: Sink>(sink: &mut W, lines: u64) -> Status
-    requires { lines < 2 ^ 63 }
-    ensures line { RefusesLine lines (W.written sink.old) (W.written sink.new) result }
-    ensures fault { Blames Status.WriteFault (W.faults sink.old) (W.faults sink.new) result }
-{
-    match print_script(sink, lines + 1) {
-        Ok(()) => Status::Script,
-        Err(_) => Status::WriteFault,
-    }
-}
+use df_program::{Turn, refuse_line};
 
 // What a line asks for, whose body is in the reader's buffer.
 fn asked(lines: &LineRoom, line: Line) -> Command<'_>
@@ -89,7 +70,12 @@ fn asked(lines: &LineRoom, line: Line) -> Command<'_>
 }
 
 // Makes the call that a line asks for, and prints what it answers.
-fn execute<D: Disk, W: Sink>(disk: &mut D, sink: &mut W, session: &mut Session, line: Line) -> Turn
+fn execute<D: Disk, W: Sink>(
+    disk: &mut D,
+    sink: &mut W,
+    session: &mut Session,
+    line: Line,
+) -> Turn<Status>
     requires live { session.old.replica.live ≡ true }
     requires size { body_length line ≤ length session.old.lines.body }
     ensures answers { AnswersCommand (command_of_line (said_with session.old.lines.body line)) session.old.replica session.new.replica (D.told disk.old) (D.told disk.new) (W.written sink.old) (W.written sink.new) result }
@@ -125,7 +111,7 @@ fn serve_line<D: Disk, W: Sink>(
     sink: &mut W,
     session: &mut Session,
     line: Line,
-) -> Turn
+) -> Turn<Status>
     requires live { session.old.replica.live ≡ true }
     requires room { session.old.count < 2 ^ 33 }
     requires size { body_length line ≤ length session.old.lines.body }
@@ -150,7 +136,7 @@ fn take_line<D: Disk, S: Source, W: Sink>(
     source: &mut S,
     sink: &mut W,
     session: &mut Session,
-) -> Turn
+) -> Turn<Status>
     requires idle { IsIdleBeat session.old.beat session.old.replica }
     requires ready { IsReadySession session.old (S.left source.old) }
     ensures turns { Turns session.old.pace session.old.lines.reading.bound
@@ -166,7 +152,7 @@ fn take_line<D: Disk, S: Source, W: Sink>(
 {
     match session.lines.next(source) {
         Ok(Next::Line(line)) => serve_line(disk, sink, session, line),
-        Ok(Next::Refused) => Turn::Ends(refuse(sink, session.count)),
+        Ok(Next::Refused) => Turn::Ends(refuse_line(sink, session.count, Status::Script)),
         Ok(Next::End) => Turn::Ends(Status::Done),
         Err(_) => Turn::Ends(Status::ReadFault),
     }

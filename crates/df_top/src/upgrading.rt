@@ -6,11 +6,11 @@ ghost use Rattle.df_top.specs.Run.{IsWithout};
 ghost use Rattle.df_top.specs.Upgrading.{RunsUpgrade, UpgradesIn};
 
 use crate::status::Status;
-use crate::telling::refuse_file;
 use df_base::Sink;
 use df_buffers::ProbeRoom;
 use df_disk::Disk;
 use df_inspect::print_upgraded;
+use df_program::{ended, refuse_file};
 use df_upgrade::{Rooms, probe_version, upgrade_file};
 use std::alloc::Global;
 
@@ -22,10 +22,7 @@ fn tell_upgraded<W: Sink>(sink: &mut W, sequence: u64) -> Status
     ensures line { PrintsLine (upgraded_text sequence) Status.Done (W.written sink.old) (W.written sink.new) result }
     ensures sink { Blames Status.WriteFault (W.faults sink.old) (W.faults sink.new) result }
 {
-    match print_upgraded(sink, sequence) {
-        Ok(()) => Status::Done,
-        Err(_) => Status::WriteFault,
-    }
+    ended(print_upgraded(sink, sequence), Status::Done)
 }
 
 // Upgrades the file that the disk shows, over rooms of its layout, and prints its sequence, or why it is refused. It takes no memory.
@@ -42,15 +39,9 @@ fn upgrade_there<D: Disk, W: Sink>(rooms: Rooms, sink: &mut W, disk: &mut D) -> 
 
 /// Finds the layout of the file of version 1 that the disk shows, takes the memory for it, and makes it one of version 2.
 pub fn upgrade_old<D: Disk, W: Sink>(alloc: Global, sink: &mut W, disk: &mut D) -> Status
-    ensures upgrades { (left : Option (List ℕ)) → RunsUpgrade
-        (record { told = D.told disk.old; left = left; written = W.written sink.old })
-        (record { told = D.told disk.new; left = left; written = W.written sink.new }) result }
-    ensures causes { (source : ℕ) → HasCauses
-        (record { disk = D.faults disk.old; source = source; sink = W.faults sink.old })
-        (record { disk = D.faults disk.new; source = source; sink = W.faults sink.new }) result }
-    ensures memory { (left : Option (List ℕ)) → result ≡ Status.Memory → IsWithout
-        (record { told = D.told disk.old; left = left; written = W.written sink.old })
-        (record { told = D.told disk.new; left = left; written = W.written sink.new }) }
+    ensures upgrades { (left : Option (List ℕ)) → RunsUpgrade (around (D.told disk.old) left (W.written sink.old)) (around (D.told disk.new) left (W.written sink.new)) result }
+    ensures causes { (source : ℕ) → HasCauses (counts (D.faults disk.old) source (W.faults sink.old)) (counts (D.faults disk.new) source (W.faults sink.new)) result }
+    ensures memory { (left : Option (List ℕ)) → result ≡ Status.Memory → IsWithout (around (D.told disk.old) left (W.written sink.old)) (around (D.told disk.new) left (W.written sink.new)) }
     ensures usage { result ≡ Status.Words → ⊥ }
 {
     let Ok(mut room) = ProbeRoom::reserve(alloc) else {

@@ -11,12 +11,13 @@ ghost use Rattle.df_top.specs.Run.{ServesIn};
 ghost use Rattle.df_top.specs.Works.{CanGoOn, Comes, PrintsRun, steps_left, workload_of};
 
 use crate::status::Status;
-use crate::telling::{ended, refuse_file, tell_fault};
+use crate::telling::tell_fault;
 use crate::works::{make_call, make_next};
 use df_base::Sink;
 use df_disk::Disk;
 use df_inspect::{Workload, print_workload};
 use df_model::Command;
+use df_program::{ended, refuse_file};
 use df_session::{Fault, Replica, Rooms};
 use df_workload::Generator;
 

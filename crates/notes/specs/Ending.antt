@@ -1,5 +1,6 @@
 -- Why the program ends, and which object is to blame.
-use Rattle.std.specs.Prelude.{ℕ, Bool, true, false}
+use Rattle.std.specs.Prelude.{ℕ, Bool, true, false, refl}
+use Rattle.df_program.specs.Ends.{AreNumbered}
 use Rattle.notes.specs.declared.ended.Ended.{Ended}
 use Rattle.notes.specs.declared.ended.Ended.TheVariants.{Refused, DiskFault, ReadFault, WriteFault, Memory}
 
@@ -10,6 +11,9 @@ notes_exit_number DiskFault = 5
 notes_exit_number ReadFault = 6
 notes_exit_number WriteFault = 7
 notes_exit_number Memory = 8
+
+pub are_numbered : AreNumbered notes_exit_number Refused DiskFault WriteFault
+are_numbered = record { refused_is = refl; disk_is = refl; sink_is = refl }
 
 -- by a call that answered an error: the disk failed in it, or it is refused
 abbrev pub ended_by : Bool → Ended

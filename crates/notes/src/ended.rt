@@ -1,37 +1,48 @@
 // Why the program ends before it is done.
 ghost use Rattle.std.specs.Prelude.{◌≡◌};
-ghost use Rattle.notes.specs.Ending.{ended_by, notes_exit_number};
+ghost use Rattle.notes.specs.Ending.{ended_by};
 
 use df_base::BlamesDisk;
+use df_program::Ends;
 
 /// Why the program ended before its end. `number` is the status of its exit, as of `datafile`.
 #[derive(Clone, Copy, Debug, PartialEq, Eq)]
 pub enum Ended {
     /// The file isn't opened, or a note isn't kept: it is too long, or the ring has no slot for it.
-    Refused,
+    Refused = 4,
     /// The disk failed.
-    DiskFault,
+    DiskFault = 5,
     /// Standard input failed, or a line of it isn't UTF-8.
-    ReadFault,
+    ReadFault = 6,
     /// The sink failed.
-    WriteFault,
+    WriteFault = 7,
     /// Want of memory, before anything was read or written.
-    Memory,
+    Memory = 8,
 }
 
-impl Ended {
-    /// The exit status of the program.
-    pub fn number(self) -> u8
-        ensures { result ≡ notes_exit_number self }
-    {
-        match self {
-            Ended::Refused => 4,
-            Ended::DiskFault => 5,
-            Ended::ReadFault => 6,
-            Ended::WriteFault => 7,
-            Ended::Memory => 8,
-        }
+impl Ends for Ended {
+    ghost use Rattle.notes.specs.Ending.{are_numbered, notes_exit_number};
+    ghost use Rattle.notes.specs.declared.ended.Ended.TheVariants as ends;
+
+    ghost number = { notes_exit_number };
+
+    ghost REFUSED = { ends.Refused };
+
+    ghost DISK_FAULT = { ends.DiskFault };
+
+    ghost WRITE_FAULT = { ends.WriteFault };
+
+    const REFUSED: Ended = Ended::Refused;
+
+    const DISK_FAULT: Ended = Ended::DiskFault;
+
+    const WRITE_FAULT: Ended = Ended::WriteFault;
+
+    fn number(self) -> u8 {
+        self as u8
     }
+
+    ghost are_numbered = { are_numbered };
 }
 
 /// By an error of the replica: the disk is to blame, or the call is refused.

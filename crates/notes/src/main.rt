@@ -10,6 +10,7 @@ mod staying;
 
 use df_base::ToWrite;
 use df_filedisk::FileDisk;
+use df_program::Ends;
 use ended::Ended;
 use keeping::keep;
 use opening::{catch_up, open_notes};

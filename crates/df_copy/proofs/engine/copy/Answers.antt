@@ -1,7 +1,7 @@
 -- The words name a layout, and no other one, or none.
 use Rattle.std.proofs.Common.{map, string_bytes, subst}
 use Rattle.df_layout.specs.declared.layout.Layout.{Layout}
-use Rattle.df_telling.specs.Two.{around}
+use Rattle.df_program.specs.Two.{around}
 use Rattle.df_copy.specs.Run.{RunsCopy}
 use Rattle.df_copy.proofs.Ended.{one_meaning}
 use Rattle.df_copy.proofs.engine.copy.Goals as goal

@@ -4,7 +4,7 @@ use Rattle.df_base.specs.Image.{IsImage}
 use Rattle.df_disk.specs.Told.{Told}
 use Rattle.df_layout.specs.declared.layout.Layout.{Layout}
 use Rattle.df_opening.specs.Below.{TellsLayout}
-use Rattle.df_telling.specs.Two.{Outside, around}
+use Rattle.df_program.specs.Two.{Outside, around}
 use Rattle.df_copy.specs.Run.{DoesCopy}
 use Rattle.df_copy.proofs.engine.copy_file.Goals as goal
 

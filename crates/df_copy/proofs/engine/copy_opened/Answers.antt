@@ -4,8 +4,8 @@ use Rattle.df_disk.specs.Told.{Told}
 use Rattle.df_layout.specs.declared.layout.Layout.{Layout}
 use Rattle.df_layout.specs.Zones.{file_sectors}
 use Rattle.df_opening.specs.Opened.{MendsAll}
-use Rattle.df_telling.specs.Two.{counts}
-use Rattle.df_telling.proofs.Laws.{printed_causes}
+use Rattle.df_program.specs.Two.{counts}
+use Rattle.df_program.proofs.Laws.{printed_causes}
 use Rattle.df_copy.specs.declared.status.Status.TheVariants as ends
 use Rattle.df_copy.specs.Copying.{CopiesInto}
 use Rattle.df_copy.specs.Texts.{copied_text}

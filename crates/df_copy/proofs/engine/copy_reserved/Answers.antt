@@ -2,8 +2,8 @@
 use Rattle.std.proofs.Common.{ℕ, inr, Option, refl, subst, sym}
 use Rattle.df_disk.specs.Told.{Told}
 use Rattle.df_opening.specs.Below.{State}
-use Rattle.df_telling.specs.Two.{HasCausesOfTwo, around, counts}
-use Rattle.df_telling.proofs.Laws.{unopened_causes}
+use Rattle.df_program.specs.Two.{HasCausesOfTwo, around, counts}
+use Rattle.df_program.proofs.Laws.{unopened_causes}
 use Rattle.df_copy.specs.declared.status.Status.TheVariants as ends
 use Rattle.df_copy.specs.Run.{CopiesFile}
 use Rattle.df_copy.proofs.Ended.{not_opened, refused_ends}
@@ -28,13 +28,13 @@ pub returns-in-Err-clause-does : goal.returns-in-Err-clause-does
 returns-in-Err-clause-does g c = λ t told whole.
     let refused = c.in-Err.ensures {u = tt} in
     not_opened c.args.reserved.target.layout c.args.reserved.source.layout t (around (g.A.Disk.told c.args.from.now) (g.B.Disk.told c.args.to.now) (g.W.Sink.written c.args.sink.now))
-    (around (g.A.Disk.told c.open.new.disk) (g.B.Disk.told c.args.to.now) (g.W.Sink.written c.refuse_source.new.sink)) c.refuse_source.result c.in-Err.error whole told refused.answer refl refused.refused (refused.stopped t told) c.refuse_source.ensures.prints
+    (around (g.A.Disk.told c.open.new.disk) (g.B.Disk.told c.args.to.now) (g.W.Sink.written c.refuse_file.new.sink)) c.refuse_file.result c.in-Err.error whole told refused.answer refl refused.refused (refused.stopped t told) c.refuse_file.ensures.prints
 
 pub returns-in-Err-clause-causes : goal.returns-in-Err-clause-causes
 returns-in-Err-clause-causes g c =
     let to = g.B.Disk.faults c.args.to.now in
-    unopened_causes ends.DiskFault ends.WriteFault (counts (g.A.Disk.faults c.args.from.now) to (g.W.Sink.faults c.args.sink.now)) (counts (g.A.Disk.faults c.open.new.disk) to (g.W.Sink.faults c.refuse_source.new.sink)) c.refuse_source.result c.refuse_source.ensures.sink (λ no. cc)
-    (g.W.Sink.written c.args.sink.now) (g.W.Sink.written c.refuse_source.new.sink) State c.in-Err.error ends.Refused (λ no. cc) (c.in-Err.ensures {u = tt}).cause refl c.refuse_source.ensures.prints
+    unopened_causes ends.DiskFault ends.WriteFault (counts (g.A.Disk.faults c.args.from.now) to (g.W.Sink.faults c.args.sink.now)) (counts (g.A.Disk.faults c.open.new.disk) to (g.W.Sink.faults c.refuse_file.new.sink)) c.refuse_file.result c.refuse_file.ensures.sink (λ no. cc)
+    (g.W.Sink.written c.args.sink.now) (g.W.Sink.written c.refuse_file.new.sink) State c.in-Err.error ends.Refused (λ no. cc) (c.in-Err.ensures {u = tt}).cause refl c.refuse_file.ensures.prints
 
 pub returns-in-Err-clause-ends : goal.returns-in-Err-clause-ends
-returns-in-Err-clause-ends g c = refused_ends (g.W.Sink.written c.args.sink.now) (g.W.Sink.written c.refuse_source.new.sink) c.refuse_source.result c.in-Err.error c.refuse_source.ensures.prints
+returns-in-Err-clause-ends g c = refused_ends (g.W.Sink.written c.args.sink.now) (g.W.Sink.written c.refuse_file.new.sink) c.refuse_file.result c.in-Err.error c.refuse_file.ensures.prints

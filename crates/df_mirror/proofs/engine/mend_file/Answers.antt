@@ -2,7 +2,7 @@
 use Rattle.std.proofs.Common.{ℕ, refl, subst}
 use Rattle.std.specs.Prelude.{Result, OnOk}
 use Rattle.df_opening.specs.Below.{shape}
-use Rattle.df_telling.specs.Two.{counts}
+use Rattle.df_program.specs.Two.{counts}
 use Rattle.df_mirror.specs.declared.ending.Ending.{Ending}
 use Rattle.df_mirror.specs.declared.status.Status.TheVariants as ends
 use Rattle.df_mirror.specs.Known.{AllShown}

@@ -3,8 +3,8 @@ use Rattle.std.proofs.Common.{◌∙◌, ℕ, inl, inr, Option, Ok, ap, refl, su
 use Rattle.df_base.specs.Log.{Sync}
 use Rattle.df_disk.specs.Told.{Told, after, did}
 use Rattle.df_damage.specs.Found.{TellsFoundAs}
-use Rattle.df_telling.specs.Two.{HasCausesOfTwo, around, counts}
-use Rattle.df_telling.proofs.Laws.{unopened_causes}
+use Rattle.df_program.specs.Two.{HasCausesOfTwo, around, counts}
+use Rattle.df_program.proofs.Laws.{unopened_causes}
 use Rattle.df_mirror.specs.declared.status.Status.TheVariants as ends
 use Rattle.df_mirror.proofs.Ended.{has_file, mirrored_then, not_found, nothing_causes, refusal_otherwise, version_found}
 use Rattle.df_mirror.proofs.engine.mend_first.Goals as goal
@@ -60,8 +60,8 @@ returns-in_default-clause-memory g c = λ is. record { written = refl; told = in
 pub returns-clause-runs : goal.returns-clause-runs
 returns-clause-runs g c = λ t o tell.
     let old = around (g.A.Disk.told c.args.first.now) (g.B.Disk.told c.args.second.now) (g.W.Sink.written c.args.sink.now) in
-    let new = around (g.A.Disk.told c.survey_superblock.new.disk) (g.B.Disk.told c.args.second.now) (g.W.Sink.written c.refuse.new.sink) in
-    elim (not_found (Unit {0}) c.in-Err.error old new c.refuse.result c.in-Err.ensures.barrier c.refuse.ensures.prints t tell.first c.in-Err.ensures.answer) [
+    let new = around (g.A.Disk.told c.survey_superblock.new.disk) (g.B.Disk.told c.args.second.now) (g.W.Sink.written c.refuse_file.new.sink) in
+    elim (not_found (Unit {0}) c.in-Err.error old new c.refuse_file.result c.in-Err.ensures.barrier c.refuse_file.ensures.prints t tell.first c.in-Err.ensures.answer) [
       | inl nothing ↦ inl nothing
       | inr refused ↦ inr (inl refused)
     ]
@@ -69,13 +69,13 @@ returns-clause-runs g c = λ t o tell.
 pub returns-clause-causes : goal.returns-clause-causes
 returns-clause-causes g c =
     unopened_causes ends.DiskFault ends.WriteFault (counts (g.A.Disk.faults c.args.first.now) (g.B.Disk.faults c.args.second.now) (g.W.Sink.faults c.args.sink.now))
-    (counts (g.A.Disk.faults c.survey_superblock.new.disk) (g.B.Disk.faults c.args.second.now) (g.W.Sink.faults c.refuse.new.sink)) c.refuse.result c.refuse.ensures.sink (λ no. cc) (g.W.Sink.written c.args.sink.now) (g.W.Sink.written c.refuse.new.sink)
-    (Unit {0}) c.in-Err.error ends.Refused (λ no. cc) c.in-Err.ensures.cause refl c.refuse.ensures.prints
+    (counts (g.A.Disk.faults c.survey_superblock.new.disk) (g.B.Disk.faults c.args.second.now) (g.W.Sink.faults c.refuse_file.new.sink)) c.refuse_file.result c.refuse_file.ensures.sink (λ no. cc) (g.W.Sink.written c.args.sink.now) (g.W.Sink.written c.refuse_file.new.sink)
+    (Unit {0}) c.in-Err.error ends.Refused (λ no. cc) c.in-Err.ensures.cause refl c.refuse_file.ensures.prints
 
 pub returns-clause-memory : goal.returns-clause-memory
 returns-clause-memory g c = λ is.
-    absurd ((refusal_otherwise c.in-Err.error (g.W.Sink.written c.args.sink.now) (g.W.Sink.written c.refuse.new.sink) c.refuse.result c.refuse.ensures.prints).0 is)
+    absurd ((refusal_otherwise c.in-Err.error (g.W.Sink.written c.args.sink.now) (g.W.Sink.written c.refuse_file.new.sink) c.refuse_file.result c.refuse_file.ensures.prints).0 is)
 
 pub returns-clause-words : goal.returns-clause-words
 returns-clause-words g c =
-    (refusal_otherwise c.in-Err.error (g.W.Sink.written c.args.sink.now) (g.W.Sink.written c.refuse.new.sink) c.refuse.result c.refuse.ensures.prints).1
+    (refusal_otherwise c.in-Err.error (g.W.Sink.written c.args.sink.now) (g.W.Sink.written c.refuse_file.new.sink) c.refuse_file.result c.refuse_file.ensures.prints).1

@@ -23,3 +23,12 @@ returns-in-Ok-reserve-clause-runs g c = λ t told whole.
       shown = subst (λ (o : Option Told). TellsLayout o (Ok layout)) told c.in-Ok-probe.ensures.answer;
       does = does t told whole;
     }))
+
+pub returns-in-Ok-reserve-clause-memory : goal.returns-in-Ok-reserve-clause-memory
+returns-in-Ok-reserve-clause-memory g c = λ is. absurd (c.serve_table.ensures.ends.0 is)
+
+pub returns-in-Ok-reserve-clause-unwritten : goal.returns-in-Ok-reserve-clause-unwritten
+returns-in-Ok-reserve-clause-unwritten g c = λ is. absurd (c.serve_table.ensures.ends.0 is)
+
+pub returns-in-Ok-reserve-clause-words : goal.returns-in-Ok-reserve-clause-words
+returns-in-Ok-reserve-clause-words g c = c.serve_table.ensures.ends.1

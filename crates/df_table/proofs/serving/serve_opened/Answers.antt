@@ -4,13 +4,11 @@ use Rattle.df_lines.specs.Text.{Reading}
 use Rattle.df_session.specs.Below.{memory}
 use Rattle.df_session.specs.Reading.{shown_of}
 use Rattle.df_table.specs.declared.session.Session.{Session}
-use Rattle.df_table.specs.declared.status.Status.{Status}
 use Rattle.df_table.specs.declared.status.Status.TheVariants as status
-use Rattle.df_table.specs.declared.turns.Turn.TheVariants.{Ends}
 use Rattle.df_table.specs.Outside.{Blames, Outside}
-use Rattle.df_table.specs.Serving.{EndsLine}
 use Rattle.df_table.specs.Session.{NotOpened, Served}
-use Rattle.df_table.proofs.Blamed.{other_fault, told_disk, told_line}
+use Rattle.df_table.proofs.Blamed.{line_apart, line_never, told_disk, told_line}
+use Rattle.df_program.proofs.Laws.{no_blame}
 use Rattle.df_table.proofs.ServedLines.{found_steady, lines_served}
 use Rattle.df_table.proofs.serving.serve_opened.Goals as goal
 
@@ -67,12 +65,9 @@ returns-in-Err-clause-causes g c =
     let line = told_line c.in-Err.ending written took c.tell_ending.result c.tell_ending.ensures.writes in
     record {
       disk = told_disk (g.D.Disk.faults c.args.disk.now) (g.D.Disk.faults c.open_table.new.disk) written took c.tell_ending.result c.in-Err.ending c.tell_ending.ensures.disk c.tell_ending.ensures.writes c.in-Err.ensures.disk;
-      source = other_fault status.ReadFault c.tell_ending.result (g.S.Source.faults c.args.source.now) (g.S.Source.faults c.args.source.now) (λ is. subst (λ (s : Status). EndsLine (Ends s)) is line) refl;
+      source = no_blame status.ReadFault (g.S.Source.faults c.args.source.now) (g.S.Source.faults c.args.source.now) c.tell_ending.result refl (line_apart c.tell_ending.result status.ReadFault line (λ no. cc) (λ no. cc) (λ no. cc));
       sink = c.tell_ending.ensures.sink;
     }
 
-pub returns-in-Err-clause-memory : goal.returns-in-Err-clause-memory
-returns-in-Err-clause-memory g c = λ is. subst (λ (s : Status). EndsLine (Ends s)) is (told_line c.in-Err.ending (g.W.Sink.written c.args.sink.now) (g.W.Sink.written c.tell_ending.new.sink) c.tell_ending.result c.tell_ending.ensures.writes)
-
-pub returns-in-Err-clause-words : goal.returns-in-Err-clause-words
-returns-in-Err-clause-words g c = λ is. subst (λ (s : Status). EndsLine (Ends s)) is (told_line c.in-Err.ending (g.W.Sink.written c.args.sink.now) (g.W.Sink.written c.tell_ending.new.sink) c.tell_ending.result c.tell_ending.ensures.writes)
+pub returns-in-Err-clause-ends : goal.returns-in-Err-clause-ends
+returns-in-Err-clause-ends g c = line_never c.tell_ending.result (told_line c.in-Err.ending (g.W.Sink.written c.args.sink.now) (g.W.Sink.written c.tell_ending.new.sink) c.tell_ending.result c.tell_ending.ensures.writes)

@@ -1,14 +1,10 @@
 -- The command is the drop of the key.
 use Rattle.std.proofs.Common.{◌∙◌, ℕ, ap, sym, subst}
 use Rattle.std.specs.Prelude.{codes}
-use Rattle.df_base.specs.declared.Failed.{Failed}
 use Rattle.df_rows.specs.declared.command.Command.TheVariants as commands
 use Rattle.df_script_model.specs.Texts.{line_of, numbered}
-use Rattle.df_table.specs.Serving.{StepBlamesIfEnds}
-use Rattle.df_table.specs.declared.status.Status.TheVariants.{DiskFault, WriteFault}
-use Rattle.df_table.specs.declared.turns.Turn.{Turn as Step}
 use Rattle.df_table.proofs.Behind.{done_executes, ended_executes}
-use Rattle.df_table.proofs.Blamed.{printed_disk, printed_sink, told_disk}
+use Rattle.df_table.proofs.Blamed.{told_disk}
 use Rattle.df_table.proofs.Executed.{drop_asks, drop_text}
 use Rattle.df_rows.specs.Grammar.{Drop}
 use Rattle.df_table.proofs.turns.drop_key.Goals as goal
@@ -32,13 +28,8 @@ pub returns-in-Ok-clause-executes : goal.returns-in-Ok-clause-executes
 returns-in-Ok-clause-executes g c =
     let s = c.args.session.now in
     done_executes s.layout (Drop c.args.key) (commands.Drop c.args.key) s c.change.new.session (g.D.Disk.told c.args.disk.now) (g.D.Disk.told c.change.new.disk) (g.W.Sink.written c.args.sink.now) (g.W.Sink.written c.print_answer.new.sink) (drop_asks s.table c.args.key c.requires.fine)
-    c.ranges.key.fits c.in-Ok.ensures.leaves c.in-Ok.op Failed c.print_answer.result (line_of (numbered (codes "dropped") c.in-Ok.op)) c.printed.result c.in-Ok.ensures.changed c.in-Ok.ensures.table c.in-Ok.ensures.live
-    (λ op. drop_text s.table s.replica.head c.args.key c.requires.fine ∙ ap (λ (n : ℕ). line_of (numbered (codes "dropped") n)) (sym op)) c.print_answer.ensures.prints c.printed.ensures
-
-pub returns-in-Ok-clause-sink : goal.returns-in-Ok-clause-sink
-returns-in-Ok-clause-sink g c =
-    subst (λ (u : Step). StepBlamesIfEnds WriteFault (g.W.Sink.faults c.args.sink.now) (g.W.Sink.faults c.print_answer.new.sink) u) (sym c.printed.ensures) (printed_sink Failed c.print_answer.result (g.W.Sink.faults c.args.sink.now) (g.W.Sink.faults c.print_answer.new.sink) c.print_answer.ensures.cause)
+    c.ranges.key.fits c.in-Ok.ensures.leaves c.in-Ok.op (line_of (numbered (codes "dropped") c.in-Ok.op)) c.printed.result c.in-Ok.ensures.changed c.in-Ok.ensures.table c.in-Ok.ensures.live
+    (λ op. drop_text s.table s.replica.head c.args.key c.requires.fine ∙ ap (λ (n : ℕ). line_of (numbered (codes "dropped") n)) (sym op)) (c.printed.ensures.prints _ _ _ c.print_answer.ensures.prints)
 
 pub returns-in-Ok-clause-disk : goal.returns-in-Ok-clause-disk
-returns-in-Ok-clause-disk g c =
-    subst (λ (u : Step). StepBlamesIfEnds DiskFault (g.D.Disk.faults c.args.disk.now) (g.D.Disk.faults c.change.new.disk) u) (sym c.printed.ensures) (printed_disk Failed c.print_answer.result (g.D.Disk.faults c.args.disk.now) (g.D.Disk.faults c.change.new.disk) c.in-Ok.ensures.disk)
+returns-in-Ok-clause-disk g c = c.printed.ensures.others _ _ _ (λ no. cc) c.in-Ok.ensures.disk

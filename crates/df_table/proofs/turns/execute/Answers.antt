@@ -1,15 +1,10 @@
 -- A line that is refused does nothing.
-use Rattle.std.proofs.Common.{◌≡◌, ◌∙◌, Some, ap, refl, sym, subst}
-use Rattle.df_base.specs.declared.Failed.{Failed}
+use Rattle.std.proofs.Common.{◌≡◌, ◌∙◌, Some, ap, refl, sym}
 use Rattle.df_rows.specs.Answers.{refusal_of}
 use Rattle.df_rows.specs.Grammar.{said_with}
 use Rattle.df_rows.specs.Lines.{line_in}
-use Rattle.df_table.specs.Serving.{StepBlamesIfEnds}
-use Rattle.df_table.specs.declared.status.Status.TheVariants.{DiskFault, WriteFault}
-use Rattle.df_table.specs.declared.turns.Turn.{Turn as Step}
 use Rattle.df_table.proofs.Behind.{told_executes}
-use Rattle.df_table.proofs.Blamed.{printed_disk, printed_sink}
-use Rattle.df_table.proofs.Executed.{line_back, refused_none, refused_text, turn_tells}
+use Rattle.df_table.proofs.Executed.{line_back, refused_none, refused_text}
 use Rattle.df_table.proofs.turns.execute.Goals as goal
 
 pub perform-requires : goal.perform-requires
@@ -21,14 +16,7 @@ returns-in-Some-clause-executes g c =
     let said = said_with s.lines.body c.args.line in
     let is : refusal_of s.table (line_in said) ≡ Some c.in-Some.refusal = ap (refusal_of s.table) (line_back s.lines.body c.args.line c.requires.size) ∙ sym c.refusal.ensures ∙ c.in-Some.is in
     told_executes s.layout said s (g.D.Disk.told c.args.disk.now) (g.W.Sink.written c.args.sink.now) (g.W.Sink.written c.print_answer.new.sink) _ c.printed.result (refused_none s.table said c.in-Some.refusal is) (refused_text s.table s.replica.head said c.in-Some.refusal is)
-    (turn_tells _ (g.W.Sink.written c.args.sink.now) (g.W.Sink.written c.print_answer.new.sink) Failed c.print_answer.result c.printed.result c.print_answer.ensures.prints c.printed.ensures) c.requires.serving.1.live
+    (c.printed.ensures.prints _ _ _ c.print_answer.ensures.prints) c.requires.serving.1.live
 
 pub returns-in-Some-clause-disk : goal.returns-in-Some-clause-disk
-returns-in-Some-clause-disk g c =
-    subst (λ (u : Step). StepBlamesIfEnds DiskFault (g.D.Disk.faults c.args.disk.now) (g.D.Disk.faults c.args.disk.now) u) (sym c.printed.ensures)
-    (printed_disk Failed c.print_answer.result (g.D.Disk.faults c.args.disk.now) (g.D.Disk.faults c.args.disk.now) refl)
-
-pub returns-in-Some-clause-sink : goal.returns-in-Some-clause-sink
-returns-in-Some-clause-sink g c =
-    subst (λ (u : Step). StepBlamesIfEnds WriteFault (g.W.Sink.faults c.args.sink.now) (g.W.Sink.faults c.print_answer.new.sink) u) (sym c.printed.ensures)
-    (printed_sink Failed c.print_answer.result (g.W.Sink.faults c.args.sink.now) (g.W.Sink.faults c.print_answer.new.sink) c.print_answer.ensures.cause)
+returns-in-Some-clause-disk g c = c.printed.ensures.others _ _ _ (λ no. cc) refl

@@ -1,12 +1,8 @@
 -- The value is that of the map.
 use Rattle.std.proofs.Common.{◌≡◌, ℕ, List, Some, sym, subst}
 use Rattle.std.specs.FinMap as map
-use Rattle.df_base.specs.declared.Failed.{Failed}
-use Rattle.df_table.specs.Serving.{StepBlamesIfEnds, TellsLine}
-use Rattle.df_table.specs.declared.status.Status.TheVariants.{WriteFault}
-use Rattle.df_table.specs.declared.turns.Turn.{Turn as Step}
-use Rattle.df_table.proofs.Blamed.{printed_sink}
-use Rattle.df_table.proofs.Executed.{found_text, not_missing, turn_tells}
+use Rattle.df_table.specs.Serving.{TellsLine}
+use Rattle.df_table.proofs.Executed.{found_text, not_missing}
 use Rattle.df_table.proofs.turns.get.Goals as goal
 
 pub returns-in-Some-clause-tells : goal.returns-in-Some-clause-tells
@@ -15,12 +11,7 @@ returns-in-Some-clause-tells g c = λ n.
     let old = g.W.Sink.written c.args.sink.now in
     let new = g.W.Sink.written c.print_answer.new.sink in
     subst (λ (text : List ℕ). TellsLine text old new c.printed.result) (found_text c.args.session.now.table n c.args.key c.in-Some.value.now there)
-    (turn_tells _ old new Failed c.print_answer.result c.printed.result c.print_answer.ensures.prints c.printed.ensures)
-
-pub returns-in-Some-clause-sink : goal.returns-in-Some-clause-sink
-returns-in-Some-clause-sink g c =
-    subst (λ (u : Step). StepBlamesIfEnds WriteFault (g.W.Sink.faults c.args.sink.now) (g.W.Sink.faults c.print_answer.new.sink) u) (sym c.printed.ensures)
-    (printed_sink Failed c.print_answer.result (g.W.Sink.faults c.args.sink.now) (g.W.Sink.faults c.print_answer.new.sink) c.print_answer.ensures.cause)
+    (c.printed.ensures.prints _ _ _ c.print_answer.ensures.prints)
 
 pub returns-in-None-clause-tells : goal.returns-in-None-clause-tells
 returns-in-None-clause-tells g c = absurd (not_missing c.args.session.now.table c.args.key c.requires (sym (rw c.in-None.is at c.get.ensures)))

@@ -1,17 +1,13 @@
 -- The command is the put of the value that stands in the buffer.
 use Rattle.std.proofs.Common.{◌≡◌, ◌∙◌, ℕ, List, take, length, Ok, Err, ap, arith, sym, subst}
 use Rattle.std.specs.Prelude.{codes}
-use Rattle.df_base.specs.declared.Failed.{Failed}
 use Rattle.df_rows.specs.declared.command.Command.{Command}
 use Rattle.df_rows.specs.declared.command.Command.TheVariants as commands
 use Rattle.df_rows.specs.Tables.{with_command}
 use Rattle.df_script_model.specs.Texts.{line_of, numbered}
 use Rattle.df_table.specs.Calls.{IsChanged}
-use Rattle.df_table.specs.Serving.{StepBlamesIfEnds}
-use Rattle.df_table.specs.declared.status.Status.TheVariants.{DiskFault, WriteFault}
-use Rattle.df_table.specs.declared.turns.Turn.{Turn as Step}
 use Rattle.df_table.proofs.Behind.{done_executes, ended_executes}
-use Rattle.df_table.proofs.Blamed.{printed_disk, printed_sink, told_disk}
+use Rattle.df_table.proofs.Blamed.{told_disk}
 use Rattle.df_table.proofs.Executed.{put_asks, put_may, put_short, put_text}
 use Rattle.std.proofs.lemmas.List.{length-take-le}
 use Rattle.df_rows.specs.Grammar.{Put}
@@ -36,27 +32,17 @@ change-requires g c =
       room = subst (λ (e : Entry). HasRoom c.args.session.now.table e.0) (sym row) may.1;
     }
 
-pub returns-in-Ok-clause-disk : goal.returns-in-Ok-clause-disk
-returns-in-Ok-clause-disk g c =
-    subst (λ (u : Step). StepBlamesIfEnds DiskFault (g.D.Disk.faults c.args.disk.now) (g.D.Disk.faults c.change.new.disk) u) (sym c.printed.ensures)
-    (printed_disk Failed c.print_answer.result (g.D.Disk.faults c.args.disk.now) (g.D.Disk.faults c.change.new.disk) c.in-Ok.ensures.disk)
-
 pub returns-in-Ok-clause-executes : goal.returns-in-Ok-clause-executes
 returns-in-Ok-clause-executes g c =
     let s = c.args.session.now in
     let value = take c.args.size s.lines.body in
     let asked : commands.Put c.new-row.result ≡ commands.Put (c.args.key, value) = ap commands.Put (c.new-row.ensures ∙ ap (λ (v : List ℕ). (c.args.key, v)) c.body.ensures) in
     done_executes s.layout (Put c.args.key value) (commands.Put (c.args.key, value)) s c.change.new.session (g.D.Disk.told c.args.disk.now) (g.D.Disk.told c.change.new.disk) (g.W.Sink.written c.args.sink.now) (g.W.Sink.written c.print_answer.new.sink)
-    (put_asks s.table c.args.key c.args.size s.lines.body c.requires.size c.requires.fine) (record { key = c.ranges.key.fits; value = put_short s.table c.args.key c.args.size s.lines.body c.requires.size c.requires.fine }) c.in-Ok.ensures.leaves c.in-Ok.op Failed c.print_answer.result
+    (put_asks s.table c.args.key c.args.size s.lines.body c.requires.size c.requires.fine) (record { key = c.ranges.key.fits; value = put_short s.table c.args.key c.args.size s.lines.body c.requires.size c.requires.fine }) c.in-Ok.ensures.leaves c.in-Ok.op
     (line_of (numbered (codes "put") c.in-Ok.op)) c.printed.result
     (λ ready few. subst (λ (k : Command). IsChanged s.layout s.table.rows k s.replica c.change.new.session.replica (g.D.Disk.told c.args.disk.now) (g.D.Disk.told c.change.new.disk) (Ok c.in-Ok.op)) asked (c.in-Ok.ensures.changed ready few))
     (c.in-Ok.ensures.table ∙ ap (λ (k : Command). with_command k s.table) asked) c.in-Ok.ensures.live (λ op. put_text s.table s.replica.head c.args.key c.args.size s.lines.body c.requires.size c.requires.fine ∙ ap (λ (n : ℕ). line_of (numbered (codes "put") n)) (sym op))
-    c.print_answer.ensures.prints c.printed.ensures
-
-pub returns-in-Ok-clause-sink : goal.returns-in-Ok-clause-sink
-returns-in-Ok-clause-sink g c =
-    subst (λ (u : Step). StepBlamesIfEnds WriteFault (g.W.Sink.faults c.args.sink.now) (g.W.Sink.faults c.print_answer.new.sink) u) (sym c.printed.ensures)
-    (printed_sink Failed c.print_answer.result (g.W.Sink.faults c.args.sink.now) (g.W.Sink.faults c.print_answer.new.sink) c.print_answer.ensures.cause)
+    (c.printed.ensures.prints _ _ _ c.print_answer.ensures.prints)
 
 pub returns-in-Err-clause-executes : goal.returns-in-Err-clause-executes
 returns-in-Err-clause-executes g c =
@@ -70,3 +56,6 @@ returns-in-Err-clause-executes g c =
 pub returns-in-Err-clause-disk : goal.returns-in-Err-clause-disk
 returns-in-Err-clause-disk g c =
     told_disk (g.D.Disk.faults c.args.disk.now) (g.D.Disk.faults c.change.new.disk) (g.W.Sink.written c.args.sink.now) (g.W.Sink.written c.tell_ending.new.sink) c.tell_ending.result c.in-Err.ending c.tell_ending.ensures.disk c.tell_ending.ensures.writes c.in-Err.ensures.disk
+
+pub returns-in-Ok-clause-disk : goal.returns-in-Ok-clause-disk
+returns-in-Ok-clause-disk g c = c.printed.ensures.others _ _ _ (λ no. cc) c.in-Ok.ensures.disk

@@ -2,9 +2,7 @@
 use Rattle.std.proofs.Common.{◌∙◌, refl, sym, subst}
 use Rattle.df_layout.specs.declared.layout.Layout.{Layout}
 use Rattle.df_table.specs.Ready.{IsSteady}
-use Rattle.df_table.specs.declared.status.Status.{Status}
-use Rattle.df_table.specs.declared.turns.Turn.TheVariants.{Ends}
-use Rattle.df_table.specs.Serving.{EndsTurn, IsServing, ServingEndsIn, ServingGoesOn, ServingState, state}
+use Rattle.df_table.specs.Serving.{IsServing, ServingEndsIn, ServingGoesOn, ServingState, state}
 use Rattle.df_table.proofs.Turned.{ended_all, goes_none, goes_on_more}
 use Rattle.df_table.proofs.turns.serve_lines.Goals as goal
 
@@ -55,8 +53,5 @@ returns-in-Ends-clause-session g c = λ steady.
     let here = subst (λ (k : Layout). IsSteady k now.session.replica now.session.table) (sym at) (now.invariant.steady steady) in
     ended_all layout old mid new c.in-Ends.status (now.invariant.goes steady) (subst (λ (k : Layout). ServingEndsIn k mid new c.in-Ends.status) at (c.in-Ends.ensures.turns here))
 
-pub returns-in-Ends-clause-memory : goal.returns-in-Ends-clause-memory
-returns-in-Ends-clause-memory g c = λ is. subst (λ (s : Status). EndsTurn (Ends s)) is c.in-Ends.ensures.never
-
-pub returns-in-Ends-clause-words : goal.returns-in-Ends-clause-words
-returns-in-Ends-clause-words g c = λ is. subst (λ (s : Status). EndsTurn (Ends s)) is c.in-Ends.ensures.never
+pub returns-in-Ends-clause-ends : goal.returns-in-Ends-clause-ends
+returns-in-Ends-clause-ends g c = c.in-Ends.ensures.never

@@ -7,7 +7,8 @@ use Rattle.df_rows.specs.Grammar.{table_lines}
 use Rattle.df_table.specs.Outside.{Outside}
 use Rattle.df_table.specs.declared.status.Status.TheVariants as status
 use Rattle.df_table.proofs.Behind.{executed_serving, taken_line}
-use Rattle.df_table.proofs.Blamed.{line_turn, on_going, other_fault, script_other, script_turn, unread_source}
+use Rattle.df_table.proofs.Blamed.{line_turn, on_going, unread_source}
+use Rattle.df_program.proofs.Laws.{no_blame, text_ends}
 use Rattle.df_inspect.specs.Opening.{script_text}
 use Rattle.df_table.proofs.TurnEnds.{by_turn, ends_done, ends_read, ends_refused}
 use Rattle.df_table.proofs.turns.take_turn.Goals as goal
@@ -25,10 +26,10 @@ pub returns-in-Ok-Refused-clause-turns : goal.returns-in-Ok-Refused-clause-turns
 returns-in-Ok-Refused-clause-turns g c = λ steady.
     let layout = c.args.session.now.layout in
     let before : Outside = record { told = g.D.Disk.told c.args.disk.now; left = g.S.Source.left c.args.source.now; written = g.W.Sink.written c.args.sink.now } in
-    let after : Outside = record { told = g.D.Disk.told c.args.disk.now; left = g.S.Source.left c.next.new.source; written = g.W.Sink.written c.refuse.new.sink } in
+    let after : Outside = record { told = g.D.Disk.told c.args.disk.now; left = g.S.Source.left c.next.new.source; written = g.W.Sink.written c.refuse_line.new.sink } in
     ends_refused layout before after c.args.session.now (record c.args.session.now { lines = c.next.new.self }) refl refl c.next.new.self c.requires.serving.bound c.next.ensures.bound c.requires.serving.at_end
     (λ text tells. subst (GivesNext table_lines c.args.session.now.lines c.next.new.self text (g.S.Source.left c.next.new.source)) c.in-Ok-Refused.field-0-is (c.in-Ok-Refused.ensures.gives text tells))
-    c.refuse.result c.refuse.ensures.line
+    c.refuse_line.result c.refuse_line.ensures.writes
 
 pub returns-in-Ok-End-clause-turns : goal.returns-in-Ok-End-clause-turns
 returns-in-Ok-End-clause-turns g c = λ steady.
@@ -80,36 +81,36 @@ returns-in-Ok-Line-clause-source g c =
 
 -- ---- none was
 
-pub refuse-requires : goal.refuse-requires
-refuse-requires g c = omega (arith, c.requires.serving.count)
+pub refuse_line-requires : goal.refuse_line-requires
+refuse_line-requires g c = record { room = omega (arith, c.requires.serving.count); given = λ no. cc }
 
 pub returns-in-Ok-Refused-clause-disk : goal.returns-in-Ok-Refused-clause-disk
 returns-in-Ok-Refused-clause-disk g c =
-    other_fault status.DiskFault c.refuse.result (g.D.Disk.faults c.args.disk.now) (g.D.Disk.faults c.args.disk.now)
-    (script_other status.DiskFault (script_text (c.args.session.now.count + 1)) (g.W.Sink.written c.args.sink.now) (g.W.Sink.written c.refuse.new.sink) c.refuse.result (λ is. cc) (λ is. cc) c.refuse.ensures.line) refl
+    no_blame status.DiskFault (g.D.Disk.faults c.args.disk.now) (g.D.Disk.faults c.args.disk.now) c.refuse_line.result refl
+    (text_ends status.WriteFault (script_text (c.args.session.now.count + 1)) status.Script status.DiskFault (g.W.Sink.written c.args.sink.now) (g.W.Sink.written c.refuse_line.new.sink) c.refuse_line.result c.refuse_line.ensures.writes (λ is. cc) (λ is. cc))
 
 pub returns-in-Ok-Refused-clause-source : goal.returns-in-Ok-Refused-clause-source
 returns-in-Ok-Refused-clause-source g c =
-    other_fault status.ReadFault c.refuse.result (g.S.Source.faults c.args.source.now) (g.S.Source.faults c.next.new.source)
-    (script_other status.ReadFault (script_text (c.args.session.now.count + 1)) (g.W.Sink.written c.args.sink.now) (g.W.Sink.written c.refuse.new.sink) c.refuse.result (λ is. cc) (λ is. cc) c.refuse.ensures.line) c.in-Ok-Refused.ensures.cause.same
+    no_blame status.ReadFault (g.S.Source.faults c.args.source.now) (g.S.Source.faults c.next.new.source) c.refuse_line.result c.in-Ok-Refused.ensures.cause.same
+    (text_ends status.WriteFault (script_text (c.args.session.now.count + 1)) status.Script status.ReadFault (g.W.Sink.written c.args.sink.now) (g.W.Sink.written c.refuse_line.new.sink) c.refuse_line.result c.refuse_line.ensures.writes (λ is. cc) (λ is. cc))
 
 pub returns-in-Ok-End-clause-disk : goal.returns-in-Ok-End-clause-disk
-returns-in-Ok-End-clause-disk g c = other_fault status.DiskFault status.Done (g.D.Disk.faults c.args.disk.now) (g.D.Disk.faults c.args.disk.now) (λ is. cc) refl
+returns-in-Ok-End-clause-disk g c = no_blame status.DiskFault (g.D.Disk.faults c.args.disk.now) (g.D.Disk.faults c.args.disk.now) status.Done refl (λ is. cc)
 
 pub returns-in-Ok-End-clause-source : goal.returns-in-Ok-End-clause-source
-returns-in-Ok-End-clause-source g c = other_fault status.ReadFault status.Done (g.S.Source.faults c.args.source.now) (g.S.Source.faults c.next.new.source) (λ is. cc) c.in-Ok-End.ensures.cause.same
+returns-in-Ok-End-clause-source g c = no_blame status.ReadFault (g.S.Source.faults c.args.source.now) (g.S.Source.faults c.next.new.source) status.Done c.in-Ok-End.ensures.cause.same (λ is. cc)
 
 pub returns-in-Ok-End-clause-sink : goal.returns-in-Ok-End-clause-sink
-returns-in-Ok-End-clause-sink g c = other_fault status.WriteFault status.Done (g.W.Sink.faults c.args.sink.now) (g.W.Sink.faults c.args.sink.now) (λ is. cc) refl
+returns-in-Ok-End-clause-sink g c = no_blame status.WriteFault (g.W.Sink.faults c.args.sink.now) (g.W.Sink.faults c.args.sink.now) status.Done refl (λ is. cc)
 
 pub returns-in-Err-clause-disk : goal.returns-in-Err-clause-disk
-returns-in-Err-clause-disk g c = other_fault status.DiskFault status.ReadFault (g.D.Disk.faults c.args.disk.now) (g.D.Disk.faults c.args.disk.now) (λ is. cc) refl
+returns-in-Err-clause-disk g c = no_blame status.DiskFault (g.D.Disk.faults c.args.disk.now) (g.D.Disk.faults c.args.disk.now) status.ReadFault refl (λ is. cc)
 
 pub returns-in-Err-clause-source : goal.returns-in-Err-clause-source
 returns-in-Err-clause-source g c = record { rose = λ is. c.in-Err.ensures.cause.failed; same = λ no. absurd (no refl) }
 
 pub returns-in-Err-clause-sink : goal.returns-in-Err-clause-sink
-returns-in-Err-clause-sink g c = other_fault status.WriteFault status.ReadFault (g.W.Sink.faults c.args.sink.now) (g.W.Sink.faults c.args.sink.now) (λ is. cc) refl
+returns-in-Err-clause-sink g c = no_blame status.WriteFault (g.W.Sink.faults c.args.sink.now) (g.W.Sink.faults c.args.sink.now) status.ReadFault refl (λ is. cc)
 
 -- ---- neither for want of memory nor for other words
 
@@ -117,4 +118,8 @@ pub returns-in-Ok-Line-clause-never : goal.returns-in-Ok-Line-clause-never
 returns-in-Ok-Line-clause-never g c = line_turn c.execute-turn.result c.execute-turn.ensures.executes.ends
 
 pub returns-in-Ok-Refused-clause-never : goal.returns-in-Ok-Refused-clause-never
-returns-in-Ok-Refused-clause-never g c = script_turn (script_text (c.args.session.now.count + 1)) (g.W.Sink.written c.args.sink.now) (g.W.Sink.written c.refuse.new.sink) c.refuse.result c.refuse.ensures.line
+returns-in-Ok-Refused-clause-never g c =
+    let other = text_ends status.WriteFault (script_text (c.args.session.now.count + 1)) status.Script in (
+      other status.Memory (g.W.Sink.written c.args.sink.now) (g.W.Sink.written c.refuse_line.new.sink) c.refuse_line.result c.refuse_line.ensures.writes (λ is. cc) (λ is. cc),
+      other status.Words (g.W.Sink.written c.args.sink.now) (g.W.Sink.written c.refuse_line.new.sink) c.refuse_line.result c.refuse_line.ensures.writes (λ is. cc) (λ is. cc),
+    )

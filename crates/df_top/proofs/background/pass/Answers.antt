@@ -1,7 +1,7 @@
 -- A piece goes on, or ends the session by why it has no answer.
 use Rattle.std.proofs.Common.{refl, ◌∙◌}
 use Rattle.df_pace.specs.Beats.{beat_after_piece, command_of_piece}
-use Rattle.df_top.specs.declared.turns.Turn.TheVariants.{Ends}
+use Rattle.df_program.specs.declared.turn.Turn.TheVariants.{Ends}
 use Rattle.df_top.proofs.Passed.{fault_passes, passes_unread}
 use Rattle.df_top.proofs.background.pass.Goals as goal
 

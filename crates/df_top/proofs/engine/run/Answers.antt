@@ -7,6 +7,7 @@ use Rattle.df_top.specs.Mode.{Means}
 use Rattle.df_top.specs.Formats.{Formats, MakesFile}
 use Rattle.df_top.specs.Outside.{Outside}
 use Rattle.df_top.specs.Run.{Runs}
+use Rattle.df_top.specs.Usage.{usage}
 use Rattle.df_top.specs.declared.mode.Mode.{Mode}
 use Rattle.df_top.specs.declared.mode.Mode.TheVariants.{Format, Inspect, Upgrade}
 use Rattle.df_top.proofs.Hurts.{runs_over_hurt}
@@ -141,6 +142,10 @@ pub returns-in-Make-clause-upgraded_hurt : goal.returns-in-Make-clause-upgraded_
 returns-in-Make-clause-upgraded_hurt g c = λ asks. absurd (no_upgrade_asked (map string_bytes c.args.words.now) c.in-Some.mode c.in-Make.file (sym c.task_of.ensures ∙ c.in-Make.is) c.in-Some.ensures.found asks)
 
 -- ---- words without a meaning
+
+pub returns-in-None-clause-usage : goal.returns-in-None-clause-usage
+unfolding usage
+returns-in-None-clause-usage g c = λ nothing. c.end_with.ensures.writes
 
 pub returns-in-None-clause-formats : goal.returns-in-None-clause-formats
 returns-in-None-clause-formats g c = λ layout cluster asks. absurd (c.in-None.ensures.none (Format layout cluster) asks)

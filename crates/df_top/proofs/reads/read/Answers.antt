@@ -15,7 +15,7 @@ pub returns-in-Ok-clause-answers : goal.returns-in-Ok-clause-answers
 returns-in-Ok-clause-answers g c =
     (came_as (command_of c.args.command) (ReadPrepare c.in-ReadPrepare.op) is_prepare_fault c.args.replica.now c.read_prepare.follows.lender-at-none c.read_prepare.result (Ok c.in-Ok.unit) (g.D.Disk.told c.args.disk.now) (g.D.Disk.told c.read_prepare.new.disk) (g.W.Sink.written c.args.sink.now) (g.W.Sink.written c.print_prepare.new.sink) (g.D.Disk.faults c.args.disk.now) (g.D.Disk.faults c.read_prepare.new.disk) c.printed.result (ap command_of c.in-ReadPrepare.is) c.read_prepare.follows.holds-at-none c.in-Ok.is
     (prepare_shown c.args.replica.now c.args.replica.now (g.D.Disk.told c.args.disk.now) (g.D.Disk.told c.read_prepare.new.disk) c.in-Ok.ensures.same (g.W.Sink.written c.args.sink.now) (g.W.Sink.written c.print_prepare.new.sink) (g.D.Disk.faults c.args.disk.now) (g.D.Disk.faults c.read_prepare.new.disk) c.printed.result c.in-ReadPrepare.op _ c.in-Ok.ensures.call c.in-Ok.ensures.cause
-    (shown_turn (codes "prepare") c.in-Ok.unit.now.unit c.header.result.now c.body.result.now (g.W.Sink.written c.args.sink.now) (g.W.Sink.written c.print_prepare.new.sink) c.print_prepare.result c.printed.result c.header.ensures.header c.body.ensures c.printed.ensures c.print_prepare.ensures.prints))).0
+    (shown_turn (codes "prepare") c.in-Ok.unit.now.unit c.header.result.now c.body.result.now (g.W.Sink.written c.args.sink.now) (g.W.Sink.written c.print_prepare.new.sink) c.print_prepare.result c.printed.result c.header.ensures.header c.body.ensures c.printed.ensures.is c.print_prepare.ensures.prints))).0
 
 pub returns-in-Err-clause-answers : goal.returns-in-Err-clause-answers
 returns-in-Err-clause-answers g c =
@@ -27,7 +27,7 @@ pub returns-in-Ok-read_reply-clause-answers : goal.returns-in-Ok-read_reply-clau
 returns-in-Ok-read_reply-clause-answers g c =
     (came_as (command_of c.args.command) (ReadReply c.in-ReadReply.client) is_lookup_fault c.args.replica.now c.read_reply.follows.lender-at-none c.read_reply.result (Ok c.in-Ok-read_reply.unit) (g.D.Disk.told c.args.disk.now) (g.D.Disk.told c.read_reply.new.disk) (g.W.Sink.written c.args.sink.now) (g.W.Sink.written c.print_reply.new.sink) (g.D.Disk.faults c.args.disk.now) (g.D.Disk.faults c.read_reply.new.disk) c.printed-in-Ok-read_reply.result (ap command_of c.in-ReadReply.is) c.read_reply.follows.holds-at-none c.in-Ok-read_reply.is
     (reply_shown c.args.replica.now c.args.replica.now (g.D.Disk.told c.args.disk.now) (g.D.Disk.told c.read_reply.new.disk) c.in-Ok-read_reply.ensures.same (g.W.Sink.written c.args.sink.now) (g.W.Sink.written c.print_reply.new.sink) (g.D.Disk.faults c.args.disk.now) (g.D.Disk.faults c.read_reply.new.disk) c.printed-in-Ok-read_reply.result c.in-ReadReply.client _ c.in-Ok-read_reply.ensures.call c.in-Ok-read_reply.ensures.cause
-    (shown_turn (codes "reply") c.in-Ok-read_reply.unit.now.unit c.header-in-Ok-read_reply.result.now c.body-in-Ok-read_reply.result.now (g.W.Sink.written c.args.sink.now) (g.W.Sink.written c.print_reply.new.sink) c.print_reply.result c.printed-in-Ok-read_reply.result c.header-in-Ok-read_reply.ensures.header c.body-in-Ok-read_reply.ensures c.printed-in-Ok-read_reply.ensures c.print_reply.ensures.prints))).0
+    (shown_turn (codes "reply") c.in-Ok-read_reply.unit.now.unit c.header-in-Ok-read_reply.result.now c.body-in-Ok-read_reply.result.now (g.W.Sink.written c.args.sink.now) (g.W.Sink.written c.print_reply.new.sink) c.print_reply.result c.printed-in-Ok-read_reply.result c.header-in-Ok-read_reply.ensures.header c.body-in-Ok-read_reply.ensures c.printed-in-Ok-read_reply.ensures.is c.print_reply.ensures.prints))).0
 
 pub returns-in-Err-read_reply-clause-answers : goal.returns-in-Err-read_reply-clause-answers
 returns-in-Err-read_reply-clause-answers g c =
@@ -39,7 +39,7 @@ pub returns-in-Ok-read_block-clause-answers : goal.returns-in-Ok-read_block-clau
 returns-in-Ok-read_block-clause-answers g c =
     (came_as (command_of c.args.command) (ReadBlock c.in-ReadBlock.address) is_read_fault c.args.replica.now c.read_block.follows.lender-at-none c.read_block.result (Ok c.in-Ok-read_block.unit) (g.D.Disk.told c.args.disk.now) (g.D.Disk.told c.read_block.new.disk) (g.W.Sink.written c.args.sink.now) (g.W.Sink.written c.print_block.new.sink) (g.D.Disk.faults c.args.disk.now) (g.D.Disk.faults c.read_block.new.disk) c.printed-in-Ok-read_block.result (ap command_of c.in-ReadBlock.is) c.read_block.follows.holds-at-none c.in-Ok-read_block.is
     (block_shown c.in-ReadBlock.address c.args.replica.now c.args.replica.now (g.D.Disk.told c.args.disk.now) (g.D.Disk.told c.read_block.new.disk) c.in-Ok-read_block.ensures.same (g.W.Sink.written c.args.sink.now) (g.W.Sink.written c.print_block.new.sink) (g.D.Disk.faults c.args.disk.now) (g.D.Disk.faults c.read_block.new.disk) c.printed-in-Ok-read_block.result _ c.in-Ok-read_block.ensures.call c.in-Ok-read_block.ensures.cause
-    (block.shown_turn c.in-ReadBlock.address c.in-Ok-read_block.unit.now.unit c.header-in-Ok-read_block.result.now c.body-in-Ok-read_block.result.now (g.W.Sink.written c.args.sink.now) (g.W.Sink.written c.print_block.new.sink) c.print_block.result c.printed-in-Ok-read_block.result c.header-in-Ok-read_block.ensures.header c.body-in-Ok-read_block.ensures c.printed-in-Ok-read_block.ensures c.print_block.ensures.prints))).0
+    (block.shown_turn c.in-ReadBlock.address c.in-Ok-read_block.unit.now.unit c.header-in-Ok-read_block.result.now c.body-in-Ok-read_block.result.now (g.W.Sink.written c.args.sink.now) (g.W.Sink.written c.print_block.new.sink) c.print_block.result c.printed-in-Ok-read_block.result c.header-in-Ok-read_block.ensures.header c.body-in-Ok-read_block.ensures c.printed-in-Ok-read_block.ensures.is c.print_block.ensures.prints))).0
 
 pub returns-in-Err-read_block-clause-answers : goal.returns-in-Err-read_block-clause-answers
 returns-in-Err-read_block-clause-answers g c =

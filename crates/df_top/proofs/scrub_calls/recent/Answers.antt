@@ -5,7 +5,7 @@ use Rattle.df_layout.specs.declared.damage.Finding.{Finding}
 use Rattle.df_model.specs.Commands.{Recent}
 use Rattle.df_script_model.specs.Texts.{recent_text}
 use Rattle.df_top.specs.Step.{AnswersCommand}
-use Rattle.df_top.specs.declared.turns.Turn.{Turn}
+use Rattle.df_top.specs.Outside.{Turn}
 use Rattle.df_top.proofs.ScrubTurns.{ring_printed}
 use Rattle.df_top.proofs.scrub_calls.recent.Goals as goal
 
@@ -14,6 +14,6 @@ returns-clause-answers g c = λ told.
     let s = c.args.replica.now in
     let written = g.W.Sink.written c.args.sink.now in
     let took = g.W.Sink.written c.print_recent.new.sink in
-    subst (λ (u : Turn). AnswersCommand Recent s s told told written took u) (sym c.printed.ensures)
+    subst (λ (u : Turn). AnswersCommand Recent s s told told written took u) (sym c.printed.ensures.is)
     (ring_printed s told written took (c.fill-count.ensures.call told) c.print_recent.result
     (subst (λ (found : List Finding). Prints (recent_text found) written took c.print_recent.result) c.fill-count.ensures.ring c.print_recent.ensures.prints))

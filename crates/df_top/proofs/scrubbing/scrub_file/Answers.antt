@@ -8,7 +8,7 @@ use Rattle.df_top.specs.Outside.{Blames, Outside}
 use Rattle.df_top.specs.Scrubs.{ScrubsFile}
 use Rattle.df_top.specs.declared.mode.Mode.TheVariants.{Scrub}
 use Rattle.df_top.specs.declared.status.Status.TheVariants.{DiskFault, Memory, ReadFault, Words}
-use Rattle.df_telling.proofs.Laws.{no_blame}
+use Rattle.df_program.proofs.Laws.{no_blame}
 use Rattle.df_top.proofs.Causes.{refused_causes, refused_never}
 use Rattle.df_top.proofs.Reported.{scrubs}
 use Rattle.df_top.proofs.Served.{not_opened}

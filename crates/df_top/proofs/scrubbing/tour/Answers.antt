@@ -7,7 +7,7 @@ use Rattle.df_session.specs.Scrubbing.{IsScrub}
 use Rattle.df_session.specs.Below.{State}
 use Rattle.df_top.specs.Touring.{TakesStep}
 use Rattle.df_top.specs.declared.status.Status.{Status}
-use Rattle.df_top.specs.declared.turns.Turn.TheVariants.{Ends}
+use Rattle.df_program.specs.declared.turn.Turn.TheVariants.{Ends}
 use Rattle.df_top.proofs.Tours.{ends, ends_so, fewer, found_told, goes_on, same_on, starts, went_on}
 use Rattle.df_top.proofs.scrubbing.tour.Goals as goal
 

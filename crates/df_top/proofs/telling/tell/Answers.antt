@@ -1,19 +1,16 @@
 -- What was heard is told by its line, or by why the session ends with it.
 use Rattle.std.proofs.Common.{subst, sym, Result}
-use Rattle.df_inspect.specs.Answers.{command_of, line_of_answer}
+use Rattle.df_inspect.specs.Answers.{command_of}
 use Rattle.df_model.specs.declared.commands.Answer.{Answer}
 use Rattle.df_session.specs.declared.hearing.Fault.{Fault}
-use Rattle.df_top.specs.Turning.{IsPrinted, TellsAnswer}
-use Rattle.df_top.specs.declared.turns.Turn.{Turn}
-use Rattle.df_top.specs.declared.turns.Turn.TheVariants.{Ends}
-use Rattle.df_top.proofs.Answered.{prints_turn}
+use Rattle.df_top.specs.Turning.{TellsAnswer}
+use Rattle.df_program.specs.declared.turn.Turn.TheVariants.{Ends}
 use Rattle.df_top.proofs.telling.tell.Goals as goal
 
 pub returns-in-Ok-clause-told : goal.returns-in-Ok-clause-told
 returns-in-Ok-clause-told g c =
     subst (λ (r : Result Answer Fault). TellsAnswer (command_of c.args.command.now) r (g.W.Sink.written c.args.sink.now) (g.W.Sink.written c.print_answer.new.sink) c.printed.result) (sym c.in-Ok.is)
-    (subst (λ (turn : Turn). IsPrinted (line_of_answer (command_of c.args.command.now) c.in-Ok.answer) (g.W.Sink.written c.args.sink.now) (g.W.Sink.written c.print_answer.new.sink) turn) (sym c.printed.ensures)
-    (prints_turn (line_of_answer (command_of c.args.command.now) c.in-Ok.answer) (g.W.Sink.written c.args.sink.now) (g.W.Sink.written c.print_answer.new.sink) c.print_answer.result c.print_answer.ensures.prints))
+    (c.printed.ensures.prints _ _ _ c.print_answer.ensures.prints)
 
 pub returns-in-Err-clause-told : goal.returns-in-Err-clause-told
 returns-in-Err-clause-told g c =

@@ -24,7 +24,7 @@ returns-in-Ok-Refused-clause-turns g c =
     (λ text tells. subst (GivesNext script_lines c.args.session.now.lines c.next.new.self text (g.S.Source.left c.next.new.source)) c.in-Ok-Refused.field-0-is (c.in-Ok-Refused.ensures.gives text tells)))
     (held_next before (g.S.Source.left c.next.new.source) c.args.session.now c.next.new.self c.requires.ready.at_end c.next.ensures.bound
     (λ text tells. subst (GivesNext script_lines c.args.session.now.lines c.next.new.self text (g.S.Source.left c.next.new.source)) c.in-Ok-Refused.field-0-is (c.in-Ok-Refused.ensures.gives text tells)))
-    c.refuse.result c.refuse.ensures.line
+    c.refuse_line.result c.refuse_line.ensures.writes
 
 pub returns-in-Ok-End-clause-turns : goal.returns-in-Ok-End-clause-turns
 returns-in-Ok-End-clause-turns g c =

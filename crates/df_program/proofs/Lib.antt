@@ -1,0 +1,5 @@
+mod Blame
+mod Commas
+mod Disks
+pub mod Laws
+mod Layouts

@@ -1,3 +1,0 @@
-mod Blame
-mod Disks
-pub mod Laws

@@ -1,3 +1,0 @@
-mod Commas
-mod Layouts
-pub mod Laws
