@@ -3,9 +3,8 @@ use Rattle.std.proofs.Common.{◌≡◌, ℕ, ◌+◌, List, [], ◌∷◌, ◌+
 use Rattle.std.proofs.lemmas.List.{take-append-drop}
 use Rattle.std.proofs.Math.Seq.{take-add}
 use Rattle.hex.specs.Hex.{encode_lower, encode_with, lower_digits}
-use Rattle.std.proofs.KnownBytes.{Appends-nil}
 use Rattle.df_base.specs.Streams.{Appends, AppendsPart}
-use Rattle.df_base.proofs.Laws.{appends_more, appends_part}
+use Rattle.df_base.proofs.Laws.{appends_more, appends_part, appends_none}
 use Rattle.df_inspect.specs.Prints.{Prints}
 use Rattle.df_inspect.proofs.Written.{prints_front}
 
@@ -17,7 +16,7 @@ digits_append t (b ∷ x) y = rw (digits_append t x y)
 -- no byte has no digit
 pub none_printed : (old : Option (List ℕ)) → Appends old old (encode_lower [])
 unfolding encode_with
-none_printed old = Appends-nil old
+none_printed old = appends_none old
 
 -- one piece more, of m bytes
 pub piece_printed : (old mid new : Option (List ℕ)) (n m k : ℕ) (bytes : List ℕ) → k ≡ m → Appends old mid (encode_lower (take n bytes)) → Appends mid new (encode_lower (take k (drop n bytes)))

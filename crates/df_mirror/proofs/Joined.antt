@@ -2,11 +2,10 @@
 use Rattle.std.proofs.Common.{◌≡◌, ℕ, ◌+◌, ◌≤◌, List, [], ◌∷◌, ◌++◌, length, Option, Some, refl, sym, ◌∙◌, ap, subst, arith, length-append, append_assoc}
 use Rattle.std.proofs.lemmas.Option.{same_Some}
 use Rattle.std.specs.Prelude.{Result, Ok, Err}
-use Rattle.std.proofs.KnownBytes.{Appends-nil}
 use Rattle.df_base.specs.Image.{Image, IsImage}
 use Rattle.df_base.specs.Log.{Event, Sync, Write}
 use Rattle.df_base.specs.Streams.{Appends, AppendsPart}
-use Rattle.df_base.proofs.Laws.{appends_more, appends_part, written_is_image}
+use Rattle.df_base.proofs.Laws.{appends_more, appends_part, written_is_image, appends_none}
 use Rattle.df_disk.specs.Adds.{AddsPart, after_all}
 use Rattle.df_disk.specs.Told.{Told, did}
 use Rattle.df_disk.proofs.Laws.{all_then}
@@ -79,7 +78,7 @@ kind_at kind place (m ∷ ms) are = (are.0, kind_at kind place ms are.2)
 
 module _ (file : DataFile) (c : Content) (Of : List Mend → Type 0) (none : Of []) (t o : Told) (new : Option Told) (old text : Option (List ℕ)) (same : new ≡ Some t) (silent : text ≡ old) where
   nothing : Appends old text []
-  nothing = subst (λ (x : Option (List ℕ)). Appends old x []) (sym silent) (Appends-nil old)
+  nothing = subst (λ (x : Option (List ℕ)). Appends old x []) (sym silent) (appends_none old)
 
   pub none_came : (Last : List Mend → Told → Type 0) → Last [] t → Came file c Of t o new old text Last
   none_came Last last = record { mends = []; after = t; after_is = same; are_of = none; does = record { are = tt; told = refl; printed = nothing }; last = last }

@@ -3,10 +3,10 @@ use Rattle.std.proofs.Common.{◌≡◌, ℕ, List, [], ◌∷◌, length, take,
 use Rattle.std.proofs.lemmas.List.{append-nil}
 use Rattle.std.proofs.lemmas.Option.{same_Some}
 use Rattle.std.specs.Prelude.{Result, Ok, Err, IfOk}
-use Rattle.std.proofs.KnownBytes.{Appends-nil}
 use Rattle.df_base.specs.Image.{IsImage}
 use Rattle.df_base.specs.Log.{Sync, Write}
 use Rattle.df_base.specs.Streams.{Appends, AppendsPart}
+use Rattle.df_base.proofs.Laws.{appends_none}
 use Rattle.df_disk.specs.Told.{Told, did}
 use Rattle.df_disk.proofs.Laws.{all_is_part}
 use Rattle.df_layout.specs.declared.damage.Class.{Class}
@@ -114,7 +114,7 @@ module _ (file : DataFile) (kind : Kind) (at : Place) (check : List ℕ) (identi
     unfolding the_mend
     one_unwritten new old text writes =
         let own = own_place {T = Unit {0}} (Err First) (Some t) new old text writes in
-        record { mends = the_mend ∷ []; are_of = (refl, refl, tt); does = record { are = (is_mend, tt); told = own.0; printed = (0, omega arith, subst (λ (x : Option (List ℕ)). Appends old x []) (sym own.1) (Appends-nil old)) } }
+        record { mends = the_mend ∷ []; are_of = (refl, refl, tt); does = record { are = (is_mend, tt); told = own.0; printed = (0, omega arith, subst (λ (x : Option (List ℕ)). Appends old x []) (sym own.1) (appends_none old)) } }
 
     pub one_unprinted : (new : Option Told) (old text : Option (List ℕ)) → WritesUnit identity.layout identity.place held (Some t) new old text {T = Unit {0}} (Err Sink) → Failed file c (AreAt kind at) t o new old text
     unfolding the_mend

@@ -1,7 +1,7 @@
 -- What one line does to a session: it goes on with the line executed, or ends.
 use Rattle.std.proofs.Common.{◌≡◌, ◌⊎◌, inl, inr, ◌<◌, ◌+◌, ℕ, true, false, IsTrue, List, [], ◌∷◌, ◌++◌, length, Option, Some, refl, sym, ◌∙◌, ap, subst}
-use Rattle.std.proofs.KnownBytes.{Appends-nil}
 use Rattle.df_base.specs.Streams.{Appends}
+use Rattle.df_base.proofs.Laws.{appends_none}
 use Rattle.df_inspect.specs.Opening.{script_text}
 use Rattle.df_layout.specs.declared.layout.Layout.{Layout}
 use Rattle.df_lines.specs.Room.{HasTextToCome, IsAtEnd, ReaderParts, line_bound}
@@ -71,14 +71,14 @@ module _ (layout : Layout) (before after : Outside) (old new : Session) (same : 
   ends_done unwritten finished =
       ends_between layout (state before old) (state after new) false status.Done same one
       (λ rest is. record { refused = λ no. absurd (cc); held = λ no. absurd (cc); finished = λ done. finished rest is })
-      (inl (inl refl, subst (λ (o : Option (List ℕ)). Appends before.written o []) (sym unwritten) (Appends-nil before.written)))
+      (inl (inl refl, subst (λ (o : Option (List ℕ)). Appends before.written o []) (sym unwritten) (appends_none before.written)))
 
   -- the source failed
   pub ends_read : after.written ≡ before.written → ServingEndsIn layout (state before old) (state after new) status.ReadFault
   ends_read unwritten =
       ends_between layout (state before old) (state after new) false status.ReadFault same one
       (λ rest is. record { refused = λ no. absurd (cc); held = λ no. absurd (cc); finished = λ done. absurd (cc) })
-      (inl (inr refl, subst (λ (o : Option (List ℕ)). Appends before.written o []) (sym unwritten) (Appends-nil before.written)))
+      (inl (inr refl, subst (λ (o : Option (List ℕ)). Appends before.written o []) (sym unwritten) (appends_none before.written)))
 
   -- the next line is refused
   pub ends_refused : (room : ReaderParts) → old.lines.reading.bound ≡ line_bound layout → room.reading.bound ≡ old.lines.reading.bound → (IsTrue old.lines.ended → IsAtEnd before.left)

@@ -1,8 +1,7 @@
 -- Lines that were executed one after the other: what one more line, and what an end, makes of all of them.
 use Rattle.std.proofs.Common.{◌≡◌, inl, inr, ◌+◌, ◌-◌, ℕ, Bool, false, List, [], ◌∷◌, ◌++◌, length, Option, Some, None, refl, sym, ◌∙◌, ap, subst, arith, append_assoc, append-nil, length-append}
-use Rattle.std.proofs.KnownBytes.{Appends-nil}
 use Rattle.df_base.specs.Streams.{Appends, AppendsPart}
-use Rattle.df_base.proofs.Laws.{appends_more, appends_part}
+use Rattle.df_base.proofs.Laws.{appends_more, appends_part, appends_none}
 use Rattle.df_disk.specs.Told.{Told}
 use Rattle.df_layout.specs.declared.layout.Layout.{Layout}
 use Rattle.df_lines.specs.Room.{line_bound}
@@ -211,7 +210,7 @@ goes_none layout s = λ origin turns before. ([], subst (λ (l : List TableTurn)
 executed_none : (layout : Layout) (s : ServingState) → ServingExecuted layout s s []
 executed_none layout s = record {
   text = λ text is. (text, is, (refl, refl));
-  written = Appends-nil s.outside.written;
+  written = appends_none s.outside.written;
   lines = omega arith;
   calls = (refl, refl, refl);
   head = omega arith;

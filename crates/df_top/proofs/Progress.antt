@@ -1,9 +1,8 @@
 -- A session goes on by one call, of a line or of the loop, or ends.
 use Rattle.std.proofs.Common.{◌≡◌, ℕ, ◌+◌, true, false, List, [], ◌∷◌, ◌++◌, length, Option, Some, None, refl, sym, ◌∙◌, ap, subst, arith, length-append, append_assoc}
 use Rattle.std.proofs.lemmas.List.{append-nil}
-use Rattle.std.proofs.KnownBytes.{Appends-nil}
 use Rattle.df_base.specs.Streams.{Appends, AppendsPart}
-use Rattle.df_base.proofs.Laws.{appends_more, appends_part}
+use Rattle.df_base.proofs.Laws.{appends_more, appends_part, appends_none}
 use Rattle.df_disk.specs.Told.{Told}
 use Rattle.df_inspect.specs.Opening.{script_text}
 use Rattle.df_lines.specs.Grammar.{Said}
@@ -31,7 +30,7 @@ use Rattle.df_top.proofs.Written.{begins_more, said_more, text_more, turns_join}
 pub executed_none : (pace : Pace) (bound : ℕ) (origin : SessionState) → Executed pace bound origin origin []
 executed_none pace bound origin = record {
   text = λ text is. (text, is, (refl, refl));
-  written = Appends-nil origin.outside.written;
+  written = appends_none origin.outside.written;
   lines = omega arith;
   calls = NoTurns;
 }
@@ -129,7 +128,7 @@ module _ (pace : Pace) (bound : ℕ) (old new : SessionState) (p : Piece) (text 
       → SessionGoesOn pace bound old new
   works_on x makes wrote lines beat origin turns so_far =
       call_done pace bound old new (ByLoop p) (text, budget) makes.act (makes.is, due) x makes.calls origin turns so_far
-      (subst (λ (o : Option (List ℕ)). Appends old.outside.written o []) (sym wrote) (Appends-nil old.outside.written)) (omega (arith, lines)) beat
+      (subst (λ (o : Option (List ℕ)). Appends old.outside.written o []) (sym wrote) (appends_none old.outside.written)) (omega (arith, lines)) beat
 
 -- ---- some calls and some more
 

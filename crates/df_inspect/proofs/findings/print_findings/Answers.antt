@@ -1,12 +1,12 @@
 -- A turn prints one item more.
 use Rattle.std.proofs.Common.{refl, ◌∙◌, arith}
-use Rattle.std.proofs.KnownBytes.{Appends-nil}
+use Rattle.df_base.proofs.Laws.{appends_none}
 use Rattle.df_inspect.specs.Reports.{finding_text}
 use Rattle.df_inspect.proofs.Each.{each_failed, each_printed}
 use Rattle.df_inspect.proofs.findings.print_findings.Goals as goal
 
 pub loop-finding-init : goal.loop-finding-init
-loop-finding-init g c = record { printed = Appends-nil _; quiet = refl }
+loop-finding-init g c = record { printed = appends_none _; quiet = refl }
 
 pub returns-in_err-print_finding-clause-prints : goal.returns-in_err-print_finding-clause-prints
 returns-in_err-print_finding-clause-prints g c = each_failed (λ place f. finding_text f) _ _ _ c.loop-finding.finding-index c.args.findings.now _ _ c.from_residual.ensures.0 (omega arith) c.loop-finding.invariant.printed c.in_err-print_finding.ensures.prints.part

@@ -1,12 +1,12 @@
 -- A turn prints one item more.
 use Rattle.std.proofs.Common.{refl, ◌∙◌, arith}
-use Rattle.std.proofs.KnownBytes.{Appends-nil}
+use Rattle.df_base.proofs.Laws.{appends_none}
 use Rattle.df_inspect.specs.Reports.{mend_text}
 use Rattle.df_inspect.proofs.Each.{each_failed, each_printed}
 use Rattle.df_inspect.proofs.inspection.print_mends.Goals as goal
 
 pub loop-mend-init : goal.loop-mend-init
-loop-mend-init g c = record { printed = Appends-nil _; quiet = refl }
+loop-mend-init g c = record { printed = appends_none _; quiet = refl }
 
 pub returns-in_err-print_mend-clause-prints : goal.returns-in_err-print_mend-clause-prints
 returns-in_err-print_mend-clause-prints g c = each_failed (λ place mend. mend_text mend) _ _ _ c.loop-mend.mend-index c.args.mends.now _ _ c.from_residual.ensures.0 (omega arith) c.loop-mend.invariant.printed c.in_err-print_mend.ensures.prints.part

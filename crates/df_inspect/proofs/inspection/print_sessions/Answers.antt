@@ -1,12 +1,12 @@
 -- A turn prints one item more.
 use Rattle.std.proofs.Common.{refl, ◌∙◌, arith}
-use Rattle.std.proofs.KnownBytes.{Appends-nil}
+use Rattle.df_base.proofs.Laws.{appends_none}
 use Rattle.df_inspect.specs.Reports.{session_text}
 use Rattle.df_inspect.proofs.Each.{each_failed, each_printed}
 use Rattle.df_inspect.proofs.inspection.print_sessions.Goals as goal
 
 pub loop-place-init : goal.loop-place-init
-loop-place-init g c = record { printed = Appends-nil _; quiet = refl }
+loop-place-init g c = record { printed = appends_none _; quiet = refl }
 
 pub returns-in_err-print_session-clause-prints : goal.returns-in_err-print_session-clause-prints
 returns-in_err-print_session-clause-prints g c = each_failed (session_text) _ _ _ c.loop-place.place c.args.sessions.now _ _ c.from_residual.ensures.0 (omega arith) c.loop-place.invariant.printed c.in_err-print_session.ensures.prints.part

@@ -1,7 +1,7 @@
 -- A failing disk has no line.
 use Rattle.std.proofs.Common.{List, ℕ, sym, subst, Ok}
-use Rattle.std.proofs.KnownBytes.{Appends-nil}
 use Rattle.df_base.specs.declared.Failed.{Failed}
+use Rattle.df_base.proofs.Laws.{appends_none}
 use Rattle.df_inspect.specs.Prints.{Prints}
 use Rattle.df_table.specs.declared.ending.Ending.{Ending}
 use Rattle.df_table.specs.Statuses.{ending_text}
@@ -10,7 +10,7 @@ use Rattle.df_table.proofs.ending.print_ending.Goals as goal
 pub returns-in-Disk-clause-prints : goal.returns-in-Disk-clause-prints
 returns-in-Disk-clause-prints g c =
     let written = g.W.Sink.written c.args.sink.now in
-    subst (λ (e : Ending). Prints {E = Failed} (ending_text e) written written (Ok tt)) (sym c.in-Disk.is) (record { whole = Appends-nil written; part = tt })
+    subst (λ (e : Ending). Prints {E = Failed} (ending_text e) written written (Ok tt)) (sym c.in-Disk.is) (record { whole = appends_none written; part = tt })
 
 pub returns-in-SequenceSpent-clause-prints : goal.returns-in-SequenceSpent-clause-prints
 returns-in-SequenceSpent-clause-prints g c =

@@ -1,6 +1,6 @@
 -- Each check lists what it found, and leaves less to be checked; at the end nothing is left.
 use Rattle.std.proofs.Common.{◌∙◌, Ok, Option, ap, refl, subst}
-use Rattle.std.proofs.KnownBytes.{Appends-nil}
+use Rattle.df_base.proofs.Laws.{appends_none}
 use Rattle.df_disk.specs.Told.{Told}
 use Rattle.df_model.specs.declared.answers.Scrubbed.TheVariants.{Checked}
 use Rattle.df_session.specs.Scrubbing.{IsScrub}
@@ -13,7 +13,7 @@ use Rattle.df_top.proofs.scrubbing.tour.Goals as goal
 
 pub loop-status-init : goal.loop-status-init
 loop-status-init g c = record {
-  touring = λ t told first. starts c.args.replica.now t (g.W.Sink.written c.args.sink.now) first (Appends-nil (g.W.Sink.written c.args.sink.now));
+  touring = λ t told first. starts c.args.replica.now t (g.W.Sink.written c.args.sink.now) first (appends_none (g.W.Sink.written c.args.sink.now));
   moved = refl;
   same = refl;
   disk_faults = refl;
