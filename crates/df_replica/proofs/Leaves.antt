@@ -100,17 +100,9 @@ module _ (file : DataFile) (w : Work) (a : ℕ) where
   checked_was at (Failing class) is = is
 
   changed_was : (given : Given) (command : Command) (u : Work) → Change (shape file) (spelling file) w given command u → is_durable u a ≡ true → WasDurable command
-  changed_was given command u (Stays _ idle) is = inl is
-  changed_was given command u (Appends _ ps group) is = inl is
-  changed_was given command u (Stages client request body none) is = inl is
-  changed_was given command u (Replies op body none) is = inl is
-  changed_was given command u (Lives kind body none) is = inl is
-  changed_was given command u (LetsGo address none) is = inl is
-  changed_was given command u (Begins root none) is = inl is
-  changed_was given command u (Writes r x more running left) is = inl is
   changed_was given command u (Ends r running left) is = inr (r, running, left, is)
   changed_was given command u (Checks x more list) is = inl (checked_was x.0 (supplied_verdict given) is)
-  changed_was given command u (TourEnds none) is = inl is
+  changed_was given command u case is = inl is
 
   was_durable : (given : Given) (command : Command) → is_durable (next file w given command).0 a ≡ true → WasDurable command
   was_durable given command is = changed_was given command (next file w given command).0 (one_thing_law (shape file) (spelling file) w given command) is

@@ -18,34 +18,22 @@ given_in true x y class is = (refl, cc)
 given_in false x y class is = absurd (cc)
 
 pub prepare_in : (known : Option ℕ) (o : Option AnyUnit) (class : Class) (p : Message) → Ok p ≡ prepare_given known o class → (o ≡ Some (PrepareUnit p)) × (known ≡ Some p.header.checksum)
-prepare_in known None class p is = absurd (cc)
-prepare_in known (Some (CopyUnit c)) class p is = absurd (cc)
-prepare_in known (Some (HeaderUnit h)) class p is = absurd (cc)
 prepare_in known (Some (PrepareUnit q)) class p is =
     let given = given_in (is_sum known q.header.checksum) q p class is in
     (ap (λ (x : Message). Some (PrepareUnit x)) given.1, known_is known q.header.checksum given.0 ∙ ap (λ (x : Message). Some x.header.checksum) given.1)
-prepare_in known (Some (ReplyUnit r)) class p is = absurd (cc)
-prepare_in known (Some (BlockUnit b)) class p is = absurd (cc)
+prepare_in known case class p is = absurd (cc)
 
 pub reply_in : (known : Option ℕ) (o : Option AnyUnit) (class : Class) (r : Message) → Ok r ≡ reply_given known o class → (o ≡ Some (ReplyUnit r)) × (known ≡ Some r.header.checksum)
-reply_in known None class r is = absurd (cc)
-reply_in known (Some (CopyUnit c)) class r is = absurd (cc)
-reply_in known (Some (HeaderUnit h)) class r is = absurd (cc)
-reply_in known (Some (PrepareUnit p)) class r is = absurd (cc)
 reply_in known (Some (ReplyUnit q)) class r is =
     let given = given_in (is_sum known q.header.checksum) q r class is in
     (ap (λ (x : Message). Some (ReplyUnit x)) given.1, known_is known q.header.checksum given.0 ∙ ap (λ (x : Message). Some x.header.checksum) given.1)
-reply_in known (Some (BlockUnit b)) class r is = absurd (cc)
+reply_in known case class r is = absurd (cc)
 
 block_there : (known : Option ℕ) (o : Option AnyUnit) (class : Class) (b : Block) → Ok b ≡ block_given known o class → (o ≡ Some (BlockUnit b)) × (known ≡ Some b.checksum)
-block_there known None class b is = absurd (cc)
-block_there known (Some (CopyUnit c)) class b is = absurd (cc)
-block_there known (Some (HeaderUnit h)) class b is = absurd (cc)
-block_there known (Some (PrepareUnit p)) class b is = absurd (cc)
-block_there known (Some (ReplyUnit r)) class b is = absurd (cc)
 block_there known (Some (BlockUnit d)) class b is =
     let given = given_in (is_sum known d.checksum) d b class is in
     (ap (λ (x : Block). Some (BlockUnit x)) given.1, known_is known d.checksum given.0 ∙ ap (λ (x : Block). Some x.checksum) given.1)
+block_there known case class b is = absurd (cc)
 
 -- a trailer's block isn't given
 no_trailer_in : (found : Result Block Class) (b : Block) → Ok b ≡ no_trailer found → Ok b ≡ found

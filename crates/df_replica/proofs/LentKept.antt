@@ -27,10 +27,7 @@ kept_is_written g s w log is =
 -- what a view needs it needs with another content of the same checkpoint
 needs_alike : (sh : Shape) (v : View) (d : Content) (place : Place) (x : AnyUnit) → Needs sh (booted v d) place x → Needs sh v place x
 needs_alike sh v d (CopyPlace n) x need = need
-needs_alike sh v d (HeaderPlace k) x need = need
-needs_alike sh v d (PreparePlace k) x need = need
-needs_alike sh v d (ReplyPlace k) x need = need
-needs_alike sh v d (BlockPlace a) x need = need
+needs_alike sh v d case x need = need
 
 pub opened_is_written_for : OpenedIsWrittenFor
 opened_is_written_for file view t s later d finds grew work =

@@ -174,15 +174,12 @@ module _ (sh : Shape) (spell : Parts → List ℕ) (P : Place → AnyUnit → Ty
   changed_has given command u (Stays _ idle) made = has
   changed_has given command u (Appends _ ps (One client request body none staged)) made = flushed_has ps (made_now (first_refusal (append_refusals (memory_of sh spell w) client request body)) _ none made, tt)
   changed_has given command u (Appends _ ps (Staged none)) made = flushed_has ps (made_now (first_refusal (flush_refusals (memory_of sh spell w))) _ none made)
-  changed_has given command u (Stages client request body none) made = record { needs = has.needs; trailer = has.trailer }
   changed_has given command u (Replies op body none) made = replied_has (place_of_reply (memory_of sh spell w)) (reply_of (memory_of sh spell w) (supplied_sum given) body) (made_now (first_refusal (reply_refusals (memory_of sh spell w) op body)) _ none made)
-  changed_has given command u (Lives kind body none) made = record { needs = has.needs; trailer = has.trailer }
-  changed_has given command u (LetsGo address none) made = record { needs = has.needs; trailer = has.trailer }
   changed_has given command u (Begins root none) made = begun_has root
   changed_has given command u (Writes r a more running left) made = wrote_has r running a (next_trailer sh spell w r (supplied_sum given)) more (written_now (supplied_sum given) r a more running left made)
   changed_has given command u (Ends r running left) made = finished_has r running (supplied_sum given)
   changed_has given command u (Checks x more list) made = checked_has x.0 (supplied_verdict given)
-  changed_has given command u (TourEnds none) made = record { needs = has.needs; trailer = has.trailer }
+  changed_has given command u case made = record { needs = has.needs; trailer = has.trailer }
 
   pub after_has : (given : Given) (command : Command) → OfMade sh spell P w given command → HasEach sh P (after sh spell w given command).0
   after_has given command made = changed_has given command (after sh spell w given command).0 (one_thing_law sh spell w given command) made

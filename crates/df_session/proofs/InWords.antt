@@ -49,14 +49,11 @@ in_words (answers.Advance (Ok (Done sequence))) lends = (refl, ToAdvance (Ok (Do
 in_words (answers.Advance (Err step.NotRunning)) lends = (refl, ToAdvance (Err step.NotRunning), refl)
 in_words (answers.Advance (Err (step.Damaged place class))) lends = (refl, refl)
 in_words (answers.Advance (Err step.DiskFault)) lends = refl
-in_words (answers.ReadPrepare (Ok done)) lends = absurd lends
 in_words (answers.ReadPrepare (Err e)) lends = refused (is_prepare_fault e) (answers.ReadPrepare (Err e)) (ToReadPrepare (Err e)) refl
-in_words (answers.ReadReply (Ok done)) lends = absurd lends
 in_words (answers.ReadReply (Err e)) lends = refused (is_lookup_fault e) (answers.ReadReply (Err e)) (ToReadReply (Err e)) refl
-in_words (answers.ReadBlock (Ok done)) lends = absurd lends
 in_words (answers.ReadBlock (Err e)) lends = refused (is_read_fault e) (answers.ReadBlock (Err e)) (ToReadBlock (Err e)) refl
 in_words (answers.Scrub scrubbed) lends = (refl, ToScrub scrubbed, refl)
-in_words answers.Recent lends = absurd lends
+in_words case lends = absurd lends
 
 -- ---- who is to blame
 
@@ -64,21 +61,7 @@ module _ (before now : ℕ) where
   -- no count rose where the disk didn't fail
   still : (a : Answer) → now ≡ before → IsBlamed is_disk_fault before now (unless_damaged a)
   still (answers.Append r) same = same
-  still (answers.Stage r) same = same
-  still (answers.Flush r) same = same
-  still (answers.Reply r) same = same
-  still (answers.WriteBlock r) same = same
-  still (answers.Release r) same = same
-  still (answers.Begin r) same = same
-  still (answers.Advance (Ok progress)) same = same
-  still (answers.Advance (Err step.NotRunning)) same = same
-  still (answers.Advance (Err (step.Damaged place class))) same = same
-  still (answers.Advance (Err step.DiskFault)) same = same
-  still (answers.ReadPrepare r) same = same
-  still (answers.ReadReply r) same = same
-  still (answers.ReadBlock r) same = same
-  still (answers.Scrub scrubbed) same = same
-  still answers.Recent same = same
+  still case same = same
 
   blamed_as : (a : Answer) (fault : Bool) → Blamed fault before now → IsBlamed {T = Answer} is_disk_fault before now (if fault then Err Disk else unless_damaged a)
   blamed_as a true blamed = blamed

@@ -22,7 +22,4 @@ blank_is_formatted layout cluster t later old new before now Memory named blank 
 blank_is_formatted layout cluster t later old new before now Refused named blank causes none refuses = absurd (none_refused cluster t refuses.0 named blank refuses.1.why)
 blank_is_formatted layout cluster t later old new before now DiskFault named blank causes none part = absurd (none.disk (causes.disk.rose refl))
 blank_is_formatted layout cluster t later old new before now WriteFault named blank causes none part = absurd (none.sink (causes.sink.rose refl))
-blank_is_formatted layout cluster t later old new before now Found named blank causes none never = absurd never
-blank_is_formatted layout cluster t later old new before now Words named blank causes none never = absurd never
-blank_is_formatted layout cluster t later old new before now Script named blank causes none never = absurd never
-blank_is_formatted layout cluster t later old new before now ReadFault named blank causes none never = absurd never
+blank_is_formatted layout cluster t later old new before now case named blank causes none never = absurd never

@@ -98,12 +98,10 @@ module _ (file : DataFile) (view : View) (t : Told) (may : MayBeHurt file view t
     word_reads (Paced pace) found serves finds =
         let c = script_calls serves.session in
         reads_own found finds serves.calls.stands c.to c.new c.exchanges c.failed c.calls
-    word_reads Recover found works finds = tt
-    word_reads Inspect found works finds = tt
-    word_reads Scrub found works finds = tt
     word_reads (Workload seed count) found works finds =
         let c = run_calls works.worked in
         reads_own found finds works.calls.stands c.to c.new c.exchanges c.failed c.calls
+    word_reads case found works finds = tt
 
     comes_of_hurt : (mode : Mode) (comes : ComesTo mode file.layout t old new status) → ComesOfHurt file view t file.layout mode old new status comes
     comes_of_hurt mode (inl r) = refuses r

@@ -80,12 +80,7 @@ module _ (before after : Outside) (old : Session) (room : ReaderParts) (line : L
       line_turns (Ends WriteFault) (inl did) count beat = ends_answer pace bound (state before old) (state after new) said takes idle did
       line_turns (Ends WriteFault) (inr did) count beat = ends_damaged_fault pace bound (state before old) (state after new) (ByLine said) (command_of_line said) takes next did
       line_turns (Ends Refused) did count beat = ends_damaged pace bound (state before old) (state after new) (ByLine said) (command_of_line said) takes next did
-      line_turns (Ends Done) did count beat = absurd did
-      line_turns (Ends Found) did count beat = absurd did
-      line_turns (Ends Words) did count beat = absurd did
-      line_turns (Ends Script) did count beat = absurd did
-      line_turns (Ends ReadFault) did count beat = absurd did
-      line_turns (Ends Memory) did count beat = absurd did
+      line_turns case did count beat = absurd did
 
 -- ---- calls may go on after a line that was answered
 

@@ -66,16 +66,11 @@ begun_same x (answers.Release (Err e)) is = begun_of x (ToRelease (Err e)) false
 begun_same x (answers.Advance (Ok (Working left))) is = begun_of x (ToAdvance (Ok (Working left))) false refl is
 begun_same x (answers.Advance (Ok (progress.Done sequence))) is = begun_of x (ToAdvance (Ok (progress.Done sequence))) false refl is
 begun_same x (answers.Advance (Err step.NotRunning)) is = begun_of x (ToAdvance (Err step.NotRunning)) false refl is
-begun_same x (answers.Advance (Err (step.Damaged place class))) is = absurd (none-some x is)
-begun_same x (answers.Advance (Err step.DiskFault)) is = absurd (none-some x is)
-begun_same x (answers.ReadPrepare (Ok done)) is = absurd (none-some x is)
 begun_same x (answers.ReadPrepare (Err e)) is = begun_if (is_prepare_fault e) x (ToReadPrepare (Err e)) refl is
-begun_same x (answers.ReadReply (Ok done)) is = absurd (none-some x is)
 begun_same x (answers.ReadReply (Err e)) is = begun_if (is_lookup_fault e) x (ToReadReply (Err e)) refl is
-begun_same x (answers.ReadBlock (Ok done)) is = absurd (none-some x is)
 begun_same x (answers.ReadBlock (Err e)) is = begun_if (is_read_fault e) x (ToReadBlock (Err e)) refl is
 begun_same x (answers.Scrub scrubbed) is = begun_of x (ToScrub scrubbed) false refl is
-begun_same x answers.Recent is = absurd (none-some x is)
+begun_same x case is = absurd (none-some x is)
 
 pub does_answered : (command : Command) (s t : Replica) (old new : Option Told) (a : Answer) (begun : Bool) → GivesAnswer command s t old new a → begun ≡ has_begun_in a → DoesPiece command s t old new (Ok begun)
 does_answered command s t old new a begun gives is = (gives.told, gives.makes, is ∙ begun_same gives.told a gives.in_words)
@@ -114,12 +109,7 @@ passes_unread p asked s t old new written took b c GoesOn did = λ faults. refl
 passes_unread p asked s t old new written took b c (Ends DiskFault) did = λ faults. record { rose = λ is. absurd (cc); same = λ other. refl }
 passes_unread p asked s t old new written took b c (Ends Refused) did = λ faults. record { rose = λ is. absurd (cc); same = λ other. refl }
 passes_unread p asked s t old new written took b c (Ends WriteFault) did = λ faults. record { rose = λ is. absurd (cc); same = λ other. refl }
-passes_unread p asked s t old new written took b c (Ends Done) did = absurd did
-passes_unread p asked s t old new written took b c (Ends Found) did = absurd did
-passes_unread p asked s t old new written took b c (Ends Words) did = absurd did
-passes_unread p asked s t old new written took b c (Ends Script) did = absurd did
-passes_unread p asked s t old new written took b c (Ends ReadFault) did = absurd did
-passes_unread p asked s t old new written took b c (Ends Memory) did = absurd did
+passes_unread p asked s t old new written took b c case did = absurd did
 
 -- ---- what it does to a session
 
@@ -135,12 +125,7 @@ module _ (pace : Pace) (bound : ℕ) (old new : SessionState) (p : Piece) (text 
   passes_turns (Ends DiskFault) did = ends_disk pace bound old new (ByLoop p) command (text, budget) next did
   passes_turns (Ends Refused) did = ends_damaged pace bound old new (ByLoop p) command (text, budget) next did
   passes_turns (Ends WriteFault) did = ends_damaged_fault pace bound old new (ByLoop p) command (text, budget) next did
-  passes_turns (Ends Done) did = absurd did
-  passes_turns (Ends Found) did = absurd did
-  passes_turns (Ends Words) did = absurd did
-  passes_turns (Ends Script) did = absurd did
-  passes_turns (Ends ReadFault) did = absurd did
-  passes_turns (Ends Memory) did = absurd did
+  passes_turns case did = absurd did
 
 -- ---- and to what is left
 

@@ -107,13 +107,7 @@ module _ (file : DataFile) (log : Log) (logs : List Log) (t : Told) (may : MayRe
   module _ (old new : Outside) (status : Status) where
     fails_live : (mode : Mode) → StopsBefore mode file.layout t new.told → StaysLived file log logs t new.told
     fails_live Inspect stops = inl stops
-    fails_live (Format layout cluster) stops = stops_live new.told stops
-    fails_live Run stops = stops_live new.told stops
-    fails_live Recover stops = stops_live new.told stops
-    fails_live Scrub stops = stops_live new.told stops
-    fails_live (Workload seed count) stops = stops_live new.told stops
-    fails_live Upgrade stops = stops_live new.told stops
-    fails_live (Paced pace) stops = stops_live new.told stops
+    fails_live case stops = stops_live new.told stops
 
     word_lives : (mode : Mode) (found : FoundFile file.layout t) → Works mode file.layout t found old new status → StaysLived file log logs t new.told
     word_lives (Format layout cluster) found works = absurd works

@@ -41,13 +41,7 @@ use Rattle.df_top.proofs.Served.{not_opened, opened_file}
 
 pub syncs_once : (old new : Option Told) (e : OpenError) → (e ≡ opens.DiskFault → ⊥) → Syncs {T = Replica} old new (Err e) → new ≡ after Sync old
 syncs_once old new opens.DiskFault other syncs = absurd (other refl)
-syncs_once old new opens.NotFormatted other syncs = syncs
-syncs_once old new (opens.NoQuorum a) other syncs = syncs
-syncs_once old new (opens.Version a) other syncs = syncs
-syncs_once old new (opens.BadField a b) other syncs = syncs
-syncs_once old new (opens.LayoutDiffers a b) other syncs = syncs
-syncs_once old new (opens.Damaged a b) other syncs = syncs
-syncs_once old new opens.BootSpent other syncs = syncs
+syncs_once old new case other syncs = syncs
 
 syncs_failed : (old new : Option Told) (e : OpenError) → e ≡ opens.DiskFault → Syncs {T = Replica} old new (Err e) → AddsPart (Sync ∷ []) old new
 syncs_failed old new e is syncs = subst (λ (x : OpenError). Syncs {T = Replica} old new (Err x)) is syncs

@@ -42,13 +42,8 @@ module _ (c : Command) (x : Answered) where
   same_words (answers.Advance (Ok (Working left))) is = said (answers.Advance (Ok (Working left))) (ToAdvance (Ok (Working left))) (refl, refl) is
   same_words (answers.Advance (Ok (Done sequence))) is = said (answers.Advance (Ok (Done sequence))) (ToAdvance (Ok (Done sequence))) (refl, refl) is
   same_words (answers.Advance (Err step.NotRunning)) is = said (answers.Advance (Err step.NotRunning)) (ToAdvance (Err step.NotRunning)) (refl, refl) is
-  same_words (answers.Advance (Err (step.Damaged place class))) is = absurd (none-some x is)
-  same_words (answers.Advance (Err step.DiskFault)) is = absurd (none-some x is)
-  same_words (answers.ReadPrepare (Ok done)) is = absurd (none-some x is)
   same_words (answers.ReadPrepare (Err e)) is = refused (is_prepare_fault e) (answers.ReadPrepare (Err e)) (ToReadPrepare (Err e)) (refl, refl) is
-  same_words (answers.ReadReply (Ok done)) is = absurd (none-some x is)
   same_words (answers.ReadReply (Err e)) is = refused (is_lookup_fault e) (answers.ReadReply (Err e)) (ToReadReply (Err e)) (refl, refl) is
-  same_words (answers.ReadBlock (Ok done)) is = absurd (none-some x is)
   same_words (answers.ReadBlock (Err e)) is = refused (is_read_fault e) (answers.ReadBlock (Err e)) (ToReadBlock (Err e)) (refl, refl) is
   same_words (answers.Scrub scrubbed) is = said (answers.Scrub scrubbed) (ToScrub scrubbed) (refl, refl) is
-  same_words answers.Recent is = absurd (none-some x is)
+  same_words case is = absurd (none-some x is)

@@ -80,13 +80,7 @@ through_whole n old new turns None cut Done ends is = (refl, λ no. cc)
 through_whole n old new turns None cut Script ends is = (refl, λ no. cc)
 through_whole n old new turns (Some f) cut Done ends is = absurd ends
 through_whole n old new turns (Some f) cut Script ends is = absurd ends
-through_whole n old new turns failing cut Words ends is = absurd is
-through_whole n old new turns failing cut Refused ends is = absurd is
-through_whole n old new turns failing cut Memory ends is = absurd is
-through_whole n old new turns failing cut DiskFault ends is = absurd is
-through_whole n old new turns failing cut ReadFault ends is = absurd is
-through_whole n old new turns failing cut WriteFault ends is = absurd is
-through_whole n old new turns failing cut Found ends is = absurd is
+through_whole n old new turns failing cut case ends is = absurd is
 
 -- ---- it is served
 

@@ -102,13 +102,7 @@ module _ (bound : ℕ) (text : List ℕ) (turns : List Turned) (old new : Outsid
   }
   through (Some f) cut Done begins ends wrote is = absurd wrote
   through (Some f) cut Script begins ends wrote is = absurd wrote
-  through failing cut Words begins ends wrote is = absurd is
-  through failing cut Refused begins ends wrote is = absurd is
-  through failing cut Memory begins ends wrote is = absurd is
-  through failing cut DiskFault begins ends wrote is = absurd is
-  through failing cut ReadFault begins ends wrote is = absurd is
-  through failing cut WriteFault begins ends wrote is = absurd is
-  through failing cut Found begins ends wrote is = absurd is
+  through failing cut case begins ends wrote is = absurd is
 
 module _ (pace : Pace) (layout : Layout) (t : Told) (old new : Outside) (status : Status) (opening : FoundFile layout t) (serves : ServesScript pace layout t opening old new status) (text : List ℕ) (left : old.left ≡ Some text) (is : IsThrough status) where
   abbrev file : DataFile

@@ -72,14 +72,8 @@ module _ (layout : Layout) (t : Told) where
 
   -- where the disk failed before the file was found
   before_within : (mode : Mode) (new : Option Told) → StopsBefore mode layout t new → AddsWithin layout (Some t) new
-  before_within (Format shape cluster) new stops = stops_within new stops
-  before_within Upgrade new stops = stops_within new stops
-  before_within Run new stops = stops_within new stops
-  before_within Recover new stops = stops_within new stops
   before_within Inspect new stops = part_within layout (Sync ∷ []) (Some t) new (tt, tt) stops
-  before_within Scrub new stops = stops_within new stops
-  before_within (Paced pace) new stops = stops_within new stops
-  before_within (Workload seed count) new stops = stops_within new stops
+  before_within case new stops = stops_within new stops
 
   -- what was found is mended, and nothing more
   found_within : (found : FoundFile layout t) (new : Option Told) → new ≡ found.mended → AddsWithin layout (Some t) new

@@ -36,34 +36,20 @@ of_file_asked words mode asks means = subst AsksForFile (one_mode words asks.mod
 pub runnable : (words : List (List ℕ)) (mode : Mode) → Means words mode → AsksForFile mode → IsRunnable mode
 runnable words (Format layout cluster) means of = of
 runnable words Upgrade means of = of
-runnable words Run means of = tt
-runnable words Recover means of = tt
-runnable words Inspect means of = tt
-runnable words Scrub means of = tt
-runnable words (Paced pace) means of = tt
 runnable words (Workload seed count) means of = (means.some, means.million)
+runnable words case means of = tt
 
 -- what is to be done is of the word: it opens or surveys a file
 pub opens_file : (mode : Mode) → task_of mode ≡ task.Open → AsksForFile mode
 opens_file (Format layout cluster) is = absurd (let no : task.Make (record { layout = layout; cluster = cluster }) ≡ task.Open = is in cc)
 opens_file Upgrade is = absurd (let no : task.Upgrade ≡ task.Open = is in cc)
-opens_file Run is = tt
-opens_file Recover is = tt
-opens_file Inspect is = tt
-opens_file Scrub is = tt
-opens_file (Paced pace) is = tt
-opens_file (Workload seed count) is = tt
+opens_file case is = tt
 
 -- or it upgrades one
 pub upgrades_file : (mode : Mode) → task_of mode ≡ task.Upgrade → mode ≡ Upgrade
 upgrades_file (Format layout cluster) is = absurd (let no : task.Make (record { layout = layout; cluster = cluster }) ≡ task.Upgrade = is in cc)
 upgrades_file Upgrade is = refl
-upgrades_file Run is = absurd (let no : task.Open ≡ task.Upgrade = is in cc)
-upgrades_file Recover is = absurd (let no : task.Open ≡ task.Upgrade = is in cc)
-upgrades_file Inspect is = absurd (let no : task.Open ≡ task.Upgrade = is in cc)
-upgrades_file Scrub is = absurd (let no : task.Open ≡ task.Upgrade = is in cc)
-upgrades_file (Paced pace) is = absurd (let no : task.Open ≡ task.Upgrade = is in cc)
-upgrades_file (Workload seed count) is = absurd (let no : task.Open ≡ task.Upgrade = is in cc)
+upgrades_file case is = absurd (let no : task.Open ≡ task.Upgrade = is in cc)
 
 -- and what makes one is `format`
 pub makes_file : (mode : Mode) (file : NewFile) → task_of mode ≡ task.Make file → mode ≡ Format file.layout file.cluster
@@ -72,12 +58,7 @@ makes_file (Format layout cluster) file is =
     let same : made ≡ file = cc is in
     λ i. Format (same i).layout (same i).cluster
 makes_file Upgrade file is = absurd (let no : task.Upgrade ≡ task.Make file = is in cc)
-makes_file Run file is = absurd (let no : task.Open ≡ task.Make file = is in cc)
-makes_file Recover file is = absurd (let no : task.Open ≡ task.Make file = is in cc)
-makes_file Inspect file is = absurd (let no : task.Open ≡ task.Make file = is in cc)
-makes_file Scrub file is = absurd (let no : task.Open ≡ task.Make file = is in cc)
-makes_file (Paced pace) file is = absurd (let no : task.Open ≡ task.Make file = is in cc)
-makes_file (Workload seed count) file is = absurd (let no : task.Open ≡ task.Make file = is in cc)
+makes_file case file is = absurd (let no : task.Open ≡ task.Make file = is in cc)
 
 -- so words that make a file ask for nothing of one that is there, and for no upgrade
 pub none_asked : (words : List (List ℕ)) (mode : Mode) (file : NewFile) → task_of mode ≡ task.Make file → Means words mode → (other : Mode) → Means words other → AsksForFile other → ⊥
