@@ -68,7 +68,7 @@ def born(t: Try, programs: dict) -> Life:
     expect("format", (f"formatted {home.layout.sectors()}\n".encode(), script.DONE), (got.text, got.status))
     same_bytes("format", script.fresh(home), binary.get())
     require("a new file is empty", plain.read(binary.get())[0] == State(home))
-    return Life(programs, kind, binary.get(), State(home))
+    return Life(programs, kind, binary.get(), [State(home)])
 
 
 def noted(t: Try, programs: dict) -> Life:
@@ -80,7 +80,7 @@ def noted(t: Try, programs: dict) -> Life:
     expect("the first notes", (wanted.text, wanted.status), (got.text, got.status))
     same_bytes("the first notes", wanted.data, binary.get())
     require("the first notes are there", plain.read(binary.get())[0] == told.states()[-1])
-    return Life(programs, "notes", binary.get(), told.states()[-1])
+    return Life(programs, "notes", binary.get(), told.states())
 
 
 def upgraded(t: Try, programs: dict, kind: str, home: Home) -> Life:
@@ -112,7 +112,7 @@ def upgraded(t: Try, programs: dict, kind: str, home: Home) -> Life:
         same_bytes("upgrade", wanted.data, binary.get())
         require("an upgraded file has what it had", plain.read(binary.get())[0] == state)
         t.counts["files of version 1 that were upgraded"] += 1
-        return Life(programs, kind, binary.get(), state)
+        return Life(programs, kind, binary.get(), [state])
 
 
 def either(data: bytes) -> State:
@@ -185,7 +185,7 @@ def act(t: Try, life: Life) -> None:
         words = t.random.choice((["format", life.home.layout.word(), "7"], ["upgrade"]))
         run(t, life, "datafile", words, b"", 0)
     if t.random.random() < 0.3:
-        life.copies = (life.copies + [life.data])[-6:]
+        life.copied()
 
 
 def lived(t: Try, programs: dict) -> None:

@@ -21,18 +21,25 @@ class Life:
     """A file as the disk shows it and as it was written, what it has, each state that it had since the last open that raised its boot, some of the
     files that it was, and the copies that were taken of it."""
 
-    def __init__(self, programs: dict, kind: str, data: bytes, state: State):
+    def __init__(self, programs: dict, kind: str, data: bytes, since: list):
         self.programs, self.kind = programs, kind
-        self.begins(data, state)
+        self.begins(data, since)
 
-    def begins(self, data: bytes, state: State) -> None:
-        """The file is another one from here on: a copy, or one that was upgraded."""
-        self.home, self.data, self.good, self.state = state.home, data, data, state
-        self.since, self.earlier, self.copies = [state], [data], [data]
+    def begins(self, data: bytes, since: list, good: Optional[bytes] = None, raised: bool = True) -> None:
+        """The file is another one from here on, of which these states were had: a copy, or one that was upgraded."""
+        self.state, self.since = since[-1], list(since)
+        self.home, self.data, self.good, self.earlier = self.state.home, data, good or data, [data]
         # Its boot, and whether the last run came as far as raising it, so that nothing of an earlier one can come back.
-        self.boot, self.raised = plain.read(data)[1], True
+        self.boot, self.raised = plain.read(data)[1], raised
         # What the answered puts and drops made, as long as nothing but the table appends.
-        self.rows = plain.rows_of(state)
+        self.rows = plain.rows_of(self.state)
+        self.copies: list = []
+        self.copied()
+
+    def copied(self) -> None:
+        """A copy is taken, beside what is known of the file then."""
+        since = [one for one in self.since if one != self.state] + [self.state]
+        self.copies = (self.copies + [(self.data, since, self.good, self.raised)])[-6:]
 
     def is_hurt(self, image: bytes, place: Place) -> bool:
         """Whether a place doesn't show all that was written there."""

@@ -49,7 +49,7 @@ def copy(t: Try, life: Life) -> None:
     begun(t, what, moved, wanted.target)
     require(f"{what}: the copy has the source's state", plain.read(target)[0] == moved)
     if t.random.random() < 0.5:
-        life.begins(target, moved)
+        life.begins(target, [moved])
         t.counts["lives that went on in a copy"] += 1
 
 
@@ -156,8 +156,7 @@ def strike(t: Try, life: Life) -> None:
             t.counts["files that are as they were, mended from a copy"] += 1
     if isinstance(found, str):
         if t.random.random() < 0.3:
-            data = t.random.choice(life.copies)
-            life.begins(data, plain.read(data)[0])
+            life.begins(*t.random.choice(life.copies))
             t.counts["files taken from a copy"] += 1
         return
     accept(t, life, image, found)
@@ -182,7 +181,7 @@ def accept(t: Try, life: Life, image: bytes, found: State) -> None:
 
 def mirror(t: Try, life: Life, image: bytes) -> bytes:
     """The file is mended from a copy of it, perhaps an older one, or from another file; sometimes the run is ended first."""
-    other = t.random.choice(life.copies if t.random.random() < 0.5 else life.copies[-1:])
+    other = t.random.choice(life.copies if t.random.random() < 0.5 else life.copies[-1:])[0]
     if t.random.random() < 0.05:
         other = script.fresh(generate.home(t.random))
     if t.random.random() < 0.3:
