@@ -2,10 +2,10 @@
 
     python3 model/together.py FOLDER [--seconds N] [--seed N] [--first N]
 
-FOLDER has the programs as `crates` does once they are built (NAME/out/NAME), or by their names alone; for `model` they are those in Python. Each try
-is the life of a file: made by `datafile` or by `notes`, or of version 1 and upgraded. Runs of the programs follow one another, ended at random moments,
-with what wasn't synced kept, lost or torn, and sectors hurt between them. Prints what was tried, or the first disagreement and the command that tries it
-again. See docs/evidence/MODEL-TRIES.md.
+FOLDER has the programs as `crates` does once they are built (NAME/out/NAME), or by their names alone; in `model` they are those in Python. For `-` the
+model stands in their place, which tries the plain history alone, in many lives. Each try is the life of a file: made by `datafile` or by `notes`, or of
+version 1 and upgraded. Runs of the programs follow one another, ended at random moments, with what wasn't synced kept, lost or torn, and sectors hurt
+between them. Prints what was tried, or the first disagreement and the command that tries it again. See docs/evidence/MODEL-TRIES.md.
 """
 
 import sys
@@ -23,11 +23,11 @@ from random import Random, SystemRandom
 import reader
 import table
 from tries import arguments, form, generate, noting, objects, olden, plain, plan, reports, script, stops
-from tries.binary import Binary, Disagreement, expect, require
+from tries.binary import Disagreement, expect, require
 from tries.common import Try, reads_of, same_bytes
 from tries.form import Home
 from tries.plain import State
-from tries.together import NAMES, Life, run, told_of, went
+from tries.together import NAMES, Built, Life, Stand, run, told_of
 from tries.together_two import LAYOUTS, copy, mirror, strike
 
 PYTHON = {"datafile": "imitation.py"}
@@ -42,13 +42,15 @@ KINDS = {
 
 def programs_in(folder: str, place: str) -> dict:
     """The five programs over one file."""
+    if folder == "-":
+        return {name: Stand(name) for name in NAMES}
     found = {}
     for name in NAMES:
         paths = (os.path.join(folder, name, "out", name), os.path.join(folder, name), os.path.join(folder, PYTHON.get(name, f"{name}.py")))
         path = next((path for path in paths if os.path.isfile(path)), None)
         if path is None:
-            raise argparse.ArgumentTypeError(f"no program {name} in {folder}")
-        found[name] = Binary(path, place)
+            sys.exit(f"no program {name} in {folder}")
+        found[name] = Built(path, place)
     return found
 
 
@@ -200,7 +202,8 @@ def lived(t: Try, programs: dict) -> None:
 
 def main() -> int:
     parser = argparse.ArgumentParser(description="Tries all five built programs over one file against one plain history of it.")
-    parser.add_argument("programs", type=arguments.folder, help="the folder of the built programs, such as crates; or model")
+    parser.add_argument("programs", type=lambda word: word if word == "-" else arguments.folder(word),
+                        help="the folder of the built programs, such as crates; or model, or -")
     parser.add_argument("--seconds", type=arguments.seconds, default=60, help="how long to try (default 60)")
     parser.add_argument("--seed", type=int, help="the seed (default: a new one)")
     parser.add_argument("--first", type=arguments.at_least(0), default=0, help="the number of the first try")
@@ -215,7 +218,7 @@ def main() -> int:
             while time.monotonic() - start < given.seconds:
                 lived(Try(Random(f"{seed} {number}"), programs["datafile"], counts), programs)
                 number += 1
-        except (Disagreement, subprocess.TimeoutExpired) as error:
+        except (Disagreement, subprocess.TimeoutExpired, reader.Refused) as error:
             print(f"DISAGREEMENT, try {number}: {error}")
             print(f"again: python3 model/together.py {given.programs} --seed {seed} --first {number}")
             return 1

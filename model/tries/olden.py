@@ -1,10 +1,10 @@
 """Files of version 1, as a program of that version left them: what a file of version 2 has, without boots and groups."""
 
-from . import form, recovery, script, superblock, units
+from . import form, recovery, script, units
 from .form import CLIENT_REPLIES, COPIES, GRID, SECTOR, WAL_PREPARES, Home, Image, Place
 from .grid import Event
 from .machine import Machine
-from .units import PREPARE, REPLY, RESERVED, Unit
+from .units import RESERVED, Unit
 
 
 def older(unit: Unit, **others) -> Unit:

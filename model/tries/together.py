@@ -5,16 +5,56 @@ from typing import NamedTuple, Optional
 
 import reader
 
-from . import form, lives, noting, objects, plain, script, stops, words, workload
-from .binary import Binary, expect, has_strace, require
+from . import filecopies, filemirrors, form, lives, noting, objects, plain, script, stops, words, workload
+from .binary import Binary, Result, expect, has_strace, require
 from .common import Try, same_bytes
 from .form import GRID, SECTOR, Place
 from .grid import Event, answer
+from .pairs import Pair
 from .plain import Plain, State
 
 NAMES = ("datafile", "objecttable", "filecopy", "filemirror", "notes")
 # So many earlier files of a life are kept, of which damage may bring sectors back.
 EARLIER = 24
+
+
+class Built(Binary):
+    """A program over the file, or over the file and another one."""
+
+    def pair(self, one: Optional[bytes], two: Optional[bytes], listed: list) -> tuple:
+        """A run over two files: what it printed, its status, and both files."""
+        pair = Pair(self)
+        pair.put(one, two)
+        return pair.run(listed), *pair.get()
+
+
+class Stand:
+    """The model in the place of a program, so that the plain history alone is tried beside it."""
+
+    shared: dict = {}
+
+    def __init__(self, name: str):
+        self.name, self.runs = name, 0
+
+    def put(self, data: Optional[bytes]) -> None:
+        self.shared["file"] = data
+
+    def get(self) -> Optional[bytes]:
+        return self.shared["file"]
+
+    def run(self, text: bytes, listed: list) -> Result:
+        self.runs += 1
+        wanted = outcome(self.name, self.get(), listed, text)
+        self.put(wanted.data)
+        return Result(wanted.text, wanted.status)
+
+    def pair(self, one: Optional[bytes], two: Optional[bytes], listed: list) -> tuple:
+        self.runs += 1
+        if self.name == "filecopy":
+            copied = filecopies.command(one, two, listed)
+            return Result(copied.text, copied.status), copied.data, copied.copy
+        mirrored = filemirrors.command(one, two, listed)
+        return Result(mirrored.text, mirrored.status), mirrored.data, two
 
 
 class Life:
@@ -49,7 +89,7 @@ class Life:
         return self.is_hurt(self.data, place)
 
     def takes(self, t: Try, data: bytes, events: list, state: State) -> None:
-        """The file after these events. Of the blocks that the state has, what was hurt and isn't written stays hurt; all else counts as it is shown."""
+        """The file after these events. Of the state's blocks what was hurt and isn't written stays hurt; all else counts as it is shown."""
         written = {(event.at + at) // SECTOR for event in events if event.kind == "write" for at in range(0, len(event.data), SECTOR)}
         kept = [at for address, _ in state.blocks for at in plain.sectors_of(self.home.layout, Place(GRID, address)) if at not in written]
         old = [Event("write", SECTOR * at, form.sector(self.good, at)) for at in kept if SECTOR * at < len(self.good)]
@@ -162,9 +202,9 @@ def went(t: Try, life: Life, what: str, events: list, image: bytes, wanted: Told
 def ended(t: Try, life: Life, name: str, listed: list, text: bytes, wanted) -> tuple:
     """A run that is ended at a moment: with how many of its events, and the file that the disk then has. Sometimes the program itself is killed."""
     upto = stops.moment(t, wanted.events)
-    binary: Binary = life.programs[name]
+    binary = life.programs[name]
     event = wanted.events[upto] if upto < len(wanted.events) else None
-    if has_strace() and event and event.kind in ("write", "sync") and t.random.random() < 0.25:
+    if isinstance(binary, Built) and has_strace() and event and event.kind in ("write", "sync") and t.random.random() < 0.25:
         call = {"write": "pwrite64", "sync": "fdatasync"}[event.kind]
         number = sum(one.kind == event.kind for one in wanted.events[: upto + 1])
         binary.put(life.data)
@@ -211,7 +251,7 @@ def run(t: Try, life: Life, name: str, listed: list, text: bytes = b"", stopped:
         went(t, life, f"{what}, ended after {upto} events", wanted.events[:upto], image, told, answers)
         keeps_table(life, what, [life.rows] if reads else folded(life, text, told) if name == "objecttable" else [], None if reads else answers)
         return
-    binary: Binary = life.programs[name]
+    binary = life.programs[name]
     binary.put(life.data)
     got = binary.run(text, listed)
     expect(f"{what}: text", wanted.text, got.text)

@@ -7,18 +7,10 @@ from .binary import expect, require
 from .common import Try, same_bytes
 from .form import GRID, SECTOR, WAL_PREPARES, Layout, Place
 from .grid import Event
-from .pairs import Pair
 from .plain import State
 from .together import Life, Told, went
 
 LAYOUTS = (form.SMALL, Layout(16, 4096, 1, 4096, 8), Layout(16, 4096, 2, 4096, 8), Layout(32, 4096, 4, 4096, 64), Layout(16, 8192, 4, 4096, 40))
-
-
-def paired(life: Life, name: str, one, two, listed: list) -> tuple:
-    """A run over two files: what it printed, its status, and both files."""
-    pair = Pair(life.programs[name])
-    pair.put(one, two)
-    return pair.run(listed), *pair.get()
 
 
 # ---- filecopy
@@ -35,7 +27,7 @@ def copy(t: Try, life: Life) -> None:
         left = stops.stop(t, life.data, wanted.source, upto)
         went(t, life, f"{what}, ended after {upto} events of the source", wanted.source[:upto], left, told, 0)
         return
-    got, source, target = paired(life, "filecopy", life.data, None, [layout.word()])
+    got, source, target = life.programs["filecopy"].pair(life.data, None, [layout.word()])
     expect(f"{what}: text", wanted.text, got.text)
     expect(f"{what}: status", wanted.status, got.status)
     same_bytes(f"{what}: the source", wanted.data, source)
@@ -190,7 +182,7 @@ def mirror(t: Try, life: Life, image: bytes) -> bytes:
         t.counts["runs of filemirror that were ended"] += 1
         t.counts["stops"] += 1
     wanted = filemirrors.command(image, other, [])
-    got, one, two = paired(life, "filemirror", image, other, [])
+    got, one, two = life.programs["filemirror"].pair(image, other, [])
     what = "filemirror"
     expect(f"{what}: text", wanted.text, got.text)
     expect(f"{what}: status", wanted.status, got.status)
