@@ -129,7 +129,7 @@ def either(data: bytes) -> State:
 
 def notes(t: Try) -> bytes:
     """Some notes."""
-    listed = [bytes(t.random.choices(b"abc xyz", k=t.random.choice((0, 1, 5, 40, 4000)))) for _ in range(t.random.choice((0, 1, 1, 2, 3, 6)))]
+    listed = [bytes(t.random.choices(b"abc xyz\r", k=t.random.choice((0, 1, 5, 40, 4000)))) for _ in range(t.random.choice((0, 1, 1, 2, 3, 6)))]
     if t.random.random() < 0.03:
         listed.append(b"n" * t.random.choice((form.SMALL.body_max(), form.SMALL.body_max() + 1)))
     return generate.text_of(t.random, listed)

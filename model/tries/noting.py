@@ -16,7 +16,9 @@ HOME = Home(form.SMALL, 1)
 def keep(machine, text: bytes) -> tuple:
     """The events of the notes in an opened file, and the status."""
     events = objects.quietly(machine, "reply", machine.replies + 1, b"") if machine.replies < machine.head() else []
-    for note, _ in script.lines(text):
+    for note, ended in script.lines(text):
+        # A line may end as those of Windows do.
+        note = note.removesuffix(b"\r") if ended else note
         request = machine.sessions[0].request + 1 if machine.sessions else 1
         *appended, told = machine.line(("append", CLIENT, request, note))
         events += appended
