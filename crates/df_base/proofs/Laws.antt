@@ -6,5 +6,5 @@ pub use Rattle.df_base.proofs.FieldBytes.{length-check_of, AreBytes-check_of, le
 pub use Rattle.df_base.proofs.FieldMoves.{field_front, field_moved, bits_of_bytes}
 pub use Rattle.df_base.proofs.Images.{blank_is_image, written_is_image, written_else, changed_is_image, now_is_image}
 pub use Rattle.df_base.proofs.Goes.{AtEach, same_log, extends_self, extends_add, extends_on, adds_extends, adds_on, started, more, weaker, from_before, at_weaker, stands, goes_on}
-pub use Rattle.df_base.proofs.Sinks.{appends_none, appends_more, appends_part, part_of_more}
+pub use Rattle.df_base.proofs.Sinks.{appends_more, appends_part, part_of_more}
 pub use Rattle.df_base.proofs.Text.{piece, past, number_behind, so_none, so_many_zeros, so_spelled, so_check, so_both, so_text, text-append, behind, read_back, spelled_back, fit_back, written}

@@ -4,7 +4,8 @@ use Rattle.std.proofs.lemmas.List.{take-append-drop}
 use Rattle.std.proofs.Math.Seq.{take-add}
 use Rattle.hex.specs.Hex.{encode_lower, encode_with, lower_digits}
 use Rattle.df_base.specs.Streams.{Appends, AppendsPart}
-use Rattle.df_base.proofs.Laws.{appends_more, appends_part, appends_none}
+use Rattle.df_base.proofs.Laws.{appends_more, appends_part}
+use Rattle.df_inspect.proofs.Written.{appends_none}
 use Rattle.df_inspect.specs.Prints.{Prints}
 use Rattle.df_inspect.proofs.Written.{prints_front}
 

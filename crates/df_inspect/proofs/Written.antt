@@ -1,9 +1,14 @@
 -- What a sink has taken goes on, piece by piece.
-use Rattle.std.proofs.Common.{◌≡◌, ℕ, ◌+◌, List, ◌++◌, Option, Result, Ok, Err, IsErr, OnOk, OnErr, sym, subst}
+use Rattle.std.proofs.Common.{◌≡◌, ℕ, ◌+◌, List, [], ◌++◌, Option, Some, None, Result, Ok, Err, IsErr, OnOk, OnErr, append-nil, sym, subst}
 use Rattle.std.proofs.lemmas.Bool.{false≢true}
 use Rattle.df_base.specs.Streams.{Appends, AppendsPart}
 use Rattle.df_base.proofs.Laws.{appends_more, appends_part, part_of_more}
 use Rattle.df_inspect.specs.Prints.{Prints}
+
+-- nothing more is taken
+pub appends_none : (old : Option (List ℕ)) → Appends old old []
+appends_none None = tt
+appends_none (Some xs) = sym (append-nil xs)
 
 -- after a text that was taken whole, a call prints another one
 pub prints_more : {T E : Type 0} (x y : List ℕ) (old mid new : Option (List ℕ)) (result : Result T E) → Appends old mid x → Prints y mid new result → Prints (x ++ y) old new result

@@ -5,7 +5,8 @@ use Rattle.std.specs.Prelude.{Result, Ok, Err}
 use Rattle.df_base.specs.Image.{Image, IsImage}
 use Rattle.df_base.specs.Log.{Event, Sync, Write}
 use Rattle.df_base.specs.Streams.{Appends, AppendsPart}
-use Rattle.df_base.proofs.Laws.{appends_more, appends_part, written_is_image, appends_none}
+use Rattle.df_base.proofs.Laws.{appends_more, appends_part, written_is_image}
+use Rattle.df_inspect.proofs.Laws.{appends_none}
 use Rattle.df_disk.specs.Adds.{AddsPart, after_all}
 use Rattle.df_disk.specs.Told.{Told, did}
 use Rattle.df_disk.proofs.Laws.{all_then}

@@ -1,7 +1,7 @@
 -- What one line does to a session: it goes on with the line executed, or ends.
 use Rattle.std.proofs.Common.{◌≡◌, ◌⊎◌, inl, inr, ◌<◌, ◌+◌, ℕ, true, false, IsTrue, List, [], ◌∷◌, ◌++◌, length, Option, Some, refl, sym, ◌∙◌, ap, subst}
 use Rattle.df_base.specs.Streams.{Appends}
-use Rattle.df_base.proofs.Laws.{appends_none}
+use Rattle.df_inspect.proofs.Laws.{appends_none}
 use Rattle.df_inspect.specs.Opening.{script_text}
 use Rattle.df_layout.specs.declared.layout.Layout.{Layout}
 use Rattle.df_lines.specs.Room.{HasTextToCome, IsAtEnd, ReaderParts, line_bound}

@@ -1,6 +1,6 @@
 -- Each check lists what it found, and leaves less to be checked; at the end nothing is left.
 use Rattle.std.proofs.Common.{◌∙◌, Ok, Option, ap, refl, subst}
-use Rattle.df_base.proofs.Laws.{appends_none}
+use Rattle.df_inspect.proofs.Laws.{appends_none}
 use Rattle.df_disk.specs.Told.{Told}
 use Rattle.df_model.specs.declared.answers.Scrubbed.TheVariants.{Checked}
 use Rattle.df_session.specs.Scrubbing.{IsScrub}
