@@ -1,6 +1,6 @@
 // The survey of a file: what it shows is read, its state is found, and what is to be mended is listed. Nothing is written.
 ghost use Rattle.std.specs.Prelude.{◌≡◌, ◌≤◌, length, Some, IfOk, IfErr};
-ghost use Rattle.df_opening.specs.Below.{IsBlamed, IsUsable, Told, is_open_fault, TellsHurt, TellsLived, Syncs};
+ghost use Rattle.df_opening.specs.Below.{IsBlamed, Told, is_open_fault, TellsHurt, TellsLived, Syncs};
 ghost use Rattle.df_damage.specs.Below.{AreFound};
 ghost use Rattle.df_damage.specs.Surveying.{IsPlannedFor, IsWellFound};
 ghost use Rattle.df_opening.specs.Mending.{IsPlanned};
@@ -9,7 +9,7 @@ ghost use Rattle.df_opening.specs.Surveying.{TellsMends, TellsSurvey, state_of, 
 
 use crate::{OpenError, Parts, Rooms};
 use arrayvec::ArrayVec;
-use df_damage::{FileRooms, Found, Scanned, Surveyed, survey_version};
+use df_damage::{FileRooms, Scanned, Surveyed, survey_version};
 use df_disk::Disk;
 use df_layout::ROOT;
 use df_quorum::Chosen;
@@ -25,15 +25,11 @@ pub struct SurveyedFile {
     pub chosen: Chosen,
 }
 
-// The choice of the copies. A superblock that was found can be used, and a root has at most 1,024 bytes.
-fn choice_of(found: &Found, root: &ArrayVec<u8, ROOT>) -> Chosen
-    ensures chosen { result ≡ found.now.chosen }
-    ensures usable { IsUsable found.now.content }
-    ensures root { length root.now.items ≤ 1024 }
+// A root has at most 1,024 bytes.
+fn root_fits(root: &ArrayVec<u8, ROOT>)
+    ensures { length root.now.items ≤ 1024 }
 {
-    let _fields = found.content.fields();
     let _bytes = root.as_slice();
-    found.chosen
 }
 
 // The parts of a file of version 2 whose state was found, with nothing staged and the tour at its start.
@@ -64,14 +60,18 @@ fn parts_of(surveyed: Surveyed) -> SurveyedFile
         scrub,
         mut staging,
     } = rooms;
+    let scrub = scrub.cleared();
     staging.clear();
-    let chosen = choice_of(&copies.found, &root);
+    let chosen = copies.found.chosen;
+    let _fields = copies.found.content.fields();
+    root_fits(&root);
+    let head_checksum = traces.tail.checksum;
     let parts = Parts {
         file,
         content: copies.found.content,
         root,
         head: traces.tail.op,
-        head_checksum: traces.tail.checksum,
+        head_checksum,
         replies: traces.replies,
         sessions,
         waiting,
@@ -80,7 +80,7 @@ fn parts_of(surveyed: Surveyed) -> SurveyedFile
         grid,
         running: None,
         trailer,
-        scrub: scrub.cleared(),
+        scrub,
         staging,
     };
     SurveyedFile { parts, chosen }

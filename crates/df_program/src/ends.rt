@@ -5,8 +5,11 @@ ghost use Rattle.df_program.specs.Ends.{AreNumbered};
 /// How the runs of a program end: an enum of its own, with those of the statuses of `datafile` that it can end with, and with their numbers.
 pub trait Ends: Copy {
     ghost number: { Self → ℕ };
+
     ghost REFUSED: { Self };
+
     ghost DISK_FAULT: { Self };
+
     ghost WRITE_FAULT: { Self };
 
     /// A file isn't opened or made, or what stands in it can't be used, for another cause than a disk's failure.

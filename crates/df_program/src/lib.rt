@@ -10,6 +10,8 @@ mod turn;
 
 pub use command_line::Words;
 pub use ends::Ends;
-pub use last::{end_line, end_with, ended, print_damaged, refuse_damaged, refuse_file, refuse_line};
+pub use last::{
+    end_line, end_with, ended, print_damaged, refuse_damaged, refuse_file, refuse_line,
+};
 pub use layout::{a_name_is_of_one_layout, layout_named};
 pub use turn::{Turn, printed};

@@ -91,7 +91,12 @@ fn do_piece<D: Disk>(disk: &mut D, replica: &mut Replica, piece: Piece) -> Resul
 }
 
 // Does a piece: the session goes on, or ends with the call, by the line of a step that is damaged or by none.
-fn pass<D: Disk, W: Sink>(disk: &mut D, sink: &mut W, session: &mut Session, piece: Piece) -> Turn<Status>
+fn pass<D: Disk, W: Sink>(
+    disk: &mut D,
+    sink: &mut W,
+    session: &mut Session,
+    piece: Piece,
+) -> Turn<Status>
     requires live { session.old.replica.live ≡ true }
     ensures passes { Passes piece (command_of_piece piece session.old.replica.root) session.old.replica session.new.replica (D.told disk.old) (D.told disk.new) (W.written sink.old) (W.written sink.new) session.old.beat session.new.beat result }
     ensures live { OnGoing result (session.new.replica.live ≡ true) }

@@ -29,12 +29,17 @@ impl Ends for Status {
     ghost use Rattle.df_top.specs.declared.status.Status.TheVariants as ends;
 
     ghost number = { exit_number };
+
     ghost REFUSED = { ends.Refused };
+
     ghost DISK_FAULT = { ends.DiskFault };
+
     ghost WRITE_FAULT = { ends.WriteFault };
 
     const REFUSED: Status = Status::Refused;
+
     const DISK_FAULT: Status = Status::DiskFault;
+
     const WRITE_FAULT: Status = Status::WriteFault;
 
     fn number(self) -> u8 {

@@ -4,7 +4,6 @@ use Rattle.std.specs.Prelude.{None, false, true}
 use Rattle.df_format.specs.SuperRules.{IsUsable}
 use Rattle.df_damage.specs.Below.{ScrubState, Staged}
 use Rattle.df_model.specs.Work.{Request}
-use Rattle.df_quorum.specs.declared.choice.Chosen.{Chosen}
 use Rattle.df_opening.specs.Survey.{Survey}
 use Rattle.df_damage.proofs.Laws.{found_awaits, found_ends, found_staging, second_super}
 use Rattle.df_opening.proofs.surveying.parts_of.Goals as goal
@@ -13,7 +12,7 @@ pub returns-clause-found : goal.returns-clause-found
 returns-clause-found c =
     let found = c.requires.found in
     let f = c.args.surveyed.scanned.copies.found.content in
-    let usable : IsUsable f = c.choice_of-chosen.ensures.usable in
+    let usable : IsUsable f = c.fields-fields.ensures.usable in
     let cluster = subst (λ (n : ℕ). n < 2 ^ 128) (sym found.read.named) usable.fits.cluster in
     record {
       whole = record {
@@ -23,7 +22,7 @@ returns-clause-found c =
             version = sym found.read.version;
             second = second_super c.args.surveyed.scanned.file f (sym found.read.version ∙ c.requires.version) usable found.read.fields;
             sequence = usable.rules.sequence;
-            root = c.choice_of-chosen.ensures.root;
+            root = c.root_fits.ensures;
             ring = c.requires.planned.plan.is_table;
           };
           booted = λ live. absurd (let none : false ≡ true = live in cc);
@@ -36,7 +35,7 @@ returns-clause-found c =
         rooms = record {
           rooms_fit = c.args.surveyed.scanned.rooms.log_fits ∙ c.args.surveyed.scanned.rooms_fit;
           trailer_fits = c.args.surveyed.scanned.rooms.trailer_fits ∙ c.args.surveyed.scanned.rooms_fit;
-          scrub_fits = c.cleared.ensures.layout ∙ c.args.surveyed.scanned.rooms.scrub_fits ∙ c.args.surveyed.scanned.rooms_fit;
+          scrub_fits = c.cleared-scrub.ensures.layout ∙ c.args.surveyed.scanned.rooms.scrub_fits ∙ c.args.surveyed.scanned.rooms_fit;
           staging_fits = ap (λ (x : Staged). x.layout) c.clear.ensures ∙ c.args.surveyed.scanned.rooms.staging_fits ∙ c.args.surveyed.scanned.rooms_fit;
         };
         grid = record { grid_fits = c.args.surveyed.scanned.rooms.grid_fits ∙ c.args.surveyed.scanned.rooms_fit; grid_named = c.args.surveyed.scanned.grid_named };
@@ -46,14 +45,14 @@ returns-clause-found c =
       unbooted = c.args.surveyed.scanned.grid_unbooted;
       unstaged = ap (λ (x : Staged). x.requests) c.clear.ensures;
       idle = refl;
-      fresh = c.cleared.ensures.cleared;
+      fresh = c.cleared-scrub.ensures.cleared;
     }
 
 pub returns-clause-seen : goal.returns-clause-seen
 returns-clause-seen c =
     let s = c.args.surveyed.scanned in
     let traces = c.args.surveyed.traces in
-    let seen : List Request → ScrubState → ℕ → Chosen → Survey = λ requests x boot chosen. record {
+    let seen : List Request → ScrubState → ℕ → Survey = λ requests x boot. record {
       state = record {
         file = s.file;
         fields = s.copies.found.content;
@@ -72,7 +71,7 @@ returns-clause-seen c =
         boot = boot;
         live = false;
       };
-      chosen = chosen;
+      chosen = s.copies.found.chosen;
       mends = s.rooms.log.mends.items;
     } in
-    (λ i. seen (c.clear.ensures i).requests (c.cleared.ensures.cleared i) (s.grid_unbooted i) (c.choice_of-chosen.ensures.chosen i))
+    (λ i. seen (c.clear.ensures i).requests (c.cleared-scrub.ensures.cleared i) (s.grid_unbooted i))
