@@ -15,72 +15,44 @@ use Rattle.df_rows.specs.Grammar.{Count, Drop, Get, Put, Said}
 use Rattle.df_rows.specs.Lines.{accepted, asked_by_line, line_in, unless_refused}
 use Rattle.df_rows.specs.Tables.{CanApply, Table}
 use Rattle.df_session.specs.Below.{State as Replica}
-use Rattle.df_session.specs.Links.{AreCalls, EndsCalls, command_in, list_of}
-use Rattle.df_session.specs.Session.{Act}
+use Rattle.df_session.specs.Links.{list_of}
+use Rattle.df_session.specs.Session.{Act, Exchange, acts_in, command_in}
 use Rattle.df_table.specs.declared.ending.Ending.{Ending}
 use Rattle.df_table.specs.Keeping.{AreChanges, Changes, IsPending}
 use Rattle.df_table.specs.Policy.{block_reads, checkpoint, line_commands, opening, prepare_reads, releases, replies, request, room_for, the_client, writes}
-use Rattle.df_table.specs.Turns.{AreAccepted, AreFit, EndIn, IsAccepted}
+use Rattle.df_table.specs.Turns.{AreAccepted, AreFit, EndIn, WasAccepted}
 use Rattle.df_table.proofs.Executed.{put_may}
 use Rattle.df_table.proofs.Walked.{ArePlain, Asks, IsNext}
 
 -- ---- what was made of commands is what they ask for
 
--- as many answers as acts
-abbrev AreMany : List Act → List Answer → Type 0
-AreMany [] [] = Unit {0}
-AreMany [] (x ∷ answers) = ⊥
-AreMany (a ∷ acts) [] = ⊥
-AreMany (a ∷ acts) (x ∷ answers) = AreMany acts answers
-
-many : (s t : Replica) (old new : Option Told) (acts : List Act) (answers : List Answer) → AreCalls s old acts answers t new → AreMany acts answers
-many s t old new [] [] calls = tt
-many s t old new [] (x ∷ answers) calls = absurd calls
-many s t old new (a ∷ acts) [] calls = absurd calls
-many s t old new (a ∷ acts) (x ∷ answers) calls = many calls.0 t calls.1 new acts answers calls.3
-
-ends_many : (s t : Replica) (old new : Option Told) (acts : List Act) (answers : List Answer) (failed : Option Act) → EndsCalls s t old new acts answers failed → AreMany acts answers
-ends_many s t old new acts answers None calls = many s t old new acts answers calls
-ends_many s t old new acts answers (Some a) calls = many s calls.0 old calls.1 acts answers calls.2
-
-no_acts : (acts : List Act) → AreMany acts [] → acts ≡ []
-no_acts [] are = refl
-no_acts (a ∷ acts) are = absurd are
-
-asks_part : (cs : List Command) (acts : List Act) (answers : List Answer) (failed : Option Act) (rest : List Command) → map command_in (acts ++ list_of failed) ++ rest ≡ cs → AreAccepted answers failed → AreMany acts answers → Asks (Unit {0}) failed cs acts answers
-asks_part [] [] [] None rest is accepted are = refl
-asks_part (c ∷ cs) [] [] None rest is accepted are = (tt, tt)
-asks_part [] [] [] (Some a) rest is accepted are = absurd (cc (is))
-asks_part (c ∷ cs) [] [] (Some a) rest is accepted are = (tt, (let same : a.command ≡ c = cc in same))
-asks_part cs [] (x ∷ answers) failed rest is accepted are = absurd are
-asks_part cs (a ∷ acts) [] failed rest is accepted are = absurd are
-asks_part [] (a ∷ acts) (x ∷ answers) failed rest is accepted are = absurd (cc (is))
-asks_part (c ∷ cs) (a ∷ acts) (x ∷ answers) failed rest is accepted are = (
-  (let same : a.command ≡ c = cc in same),
+asks_part : (cs : List Command) (xs : List Exchange) (failed : Option Act) (rest : List Command) → map command_in (acts_in xs ++ list_of failed) ++ rest ≡ cs → AreAccepted xs failed → Asks (Unit {0}) failed cs xs
+asks_part [] [] None rest is accepted = refl
+asks_part (c ∷ cs) [] None rest is accepted = (tt, tt)
+asks_part [] [] (Some a) rest is accepted = absurd (cc (is))
+asks_part (c ∷ cs) [] (Some a) rest is accepted = (tt, (let same : a.command ≡ c = cc in same))
+asks_part [] (x ∷ xs) failed rest is accepted = absurd (cc (is))
+asks_part (c ∷ cs) (x ∷ xs) failed rest is accepted = (
+  (let same : x.act.command ≡ c = cc in same),
   elim accepted.0 [
     | inl here ↦ inl here
-    | inr last ↦ inr (tt, no_acts acts (subst (AreMany acts) last.0 are), last.0, last.1)
+    | inr last ↦ inr (tt, last.0, last.1)
   ],
-  asks_part cs acts answers failed rest (let same : map command_in (acts ++ list_of failed) ++ rest ≡ cs = cc in same) accepted.1 are,
+  asks_part cs xs failed rest (let same : map command_in (acts_in xs ++ list_of failed) ++ rest ≡ cs = cc in same) accepted.1,
 )
 
-pub asks_ends : (cs : List Command) (s t : Replica) (old new : Option Told) (ending : Ending) → (e : EndIn cs s t old new ending) → Asks (Unit {0}) e.failed cs e.acts e.answers
-asks_ends cs s t old new ending e = asks_part cs e.acts e.answers e.failed e.rest e.are e.accepted (ends_many s t old new e.acts e.answers e.failed e.calls)
+pub asks_ends : (cs : List Command) (s t : Replica) (old new : Option Told) (ending : Ending) → (e : EndIn cs s t old new ending) → Asks (Unit {0}) e.failed cs e.exchanges
+asks_ends cs s t old new ending e = asks_part cs e.exchanges e.failed e.rest e.are e.accepted
 
-asks_all : (cs : List Command) (acts : List Act) (answers : List Answer) → map command_in acts ≡ cs → All IsAccepted answers → AreMany acts answers → Asks ⊥ None cs acts answers
-asks_all [] [] [] is accepted are = refl
-asks_all (c ∷ cs) [] [] is accepted are = absurd (cc (is))
-asks_all cs [] (x ∷ answers) is accepted are = absurd are
-asks_all cs (a ∷ acts) [] is accepted are = absurd are
-asks_all [] (a ∷ acts) (x ∷ answers) is accepted are = absurd (cc (is))
-asks_all (c ∷ cs) (a ∷ acts) (x ∷ answers) is accepted are = (
-  (let same : a.command ≡ c = cc in same),
-  inl (All-head IsAccepted x answers accepted),
-  asks_all cs acts answers (let same : map command_in acts ≡ cs = cc in same) (All-tail IsAccepted x answers accepted) are,
+pub asks_made : (cs : List Command) (xs : List Exchange) → map command_in (acts_in xs) ≡ cs → All WasAccepted xs → Asks ⊥ None cs xs
+asks_made [] [] is accepted = refl
+asks_made (c ∷ cs) [] is accepted = absurd (cc (is))
+asks_made [] (x ∷ xs) is accepted = absurd (cc (is))
+asks_made (c ∷ cs) (x ∷ xs) is accepted = (
+  (let same : x.act.command ≡ c = cc in same),
+  inl (All-head WasAccepted x xs accepted),
+  asks_made cs xs (let same : map command_in (acts_in xs) ≡ cs = cc in same) (All-tail WasAccepted x xs accepted),
 )
-
-pub asks_made : (cs : List Command) (s t : Replica) (old new : Option Told) (acts : List Act) (answers : List Answer) → AreCalls s old acts answers t new → map command_in acts ≡ cs → All IsAccepted answers → Asks ⊥ None cs acts answers
-asks_made cs s t old new acts answers calls is accepted = asks_all cs acts answers is accepted (many s t old new acts answers calls)
 
 -- ---- puts and drops
 
@@ -98,9 +70,9 @@ abbrev pub HaveChanges : List Command → Type 0
 HaveChanges [] = Unit {0}
 HaveChanges (c ∷ cs) = HasChange c × HaveChanges cs
 
-abbrev pub ActsHave : List Act → Type 0
-ActsHave [] = Unit {0}
-ActsHave (a ∷ acts) = HasChange a.command × ActsHave acts
+abbrev pub CallsHave : List Exchange → Type 0
+CallsHave [] = Unit {0}
+CallsHave (x ∷ xs) = HasChange x.act.command × CallsHave xs
 
 abbrev pub FailHas : Option Act → Type 0
 FailHas None = Unit {0}
@@ -110,20 +82,17 @@ next_has : (c : Command) (f : Option Act) → HasChange c → IsNext c f → Fai
 next_has c None has is = tt
 next_has c (Some a) has is = subst HasChange (sym is) has
 
-pub asked_have : (part : Type 0) (failed : Option Act) (cs : List Command) (acts : List Act) (answers : List Answer) → Asks part failed cs acts answers → HaveChanges cs → ActsHave acts × FailHas failed
-asked_have part failed [] [] [] asked_by_line have = (tt, subst FailHas (sym asked_by_line) tt)
-asked_have part failed (c ∷ cs) [] [] asked_by_line have = (tt, next_has c failed have.0 asked_by_line.1)
-asked_have part failed [] [] (x ∷ answers) asked_by_line have = absurd asked_by_line
-asked_have part failed (c ∷ cs) [] (x ∷ answers) asked_by_line have = absurd asked_by_line
-asked_have part failed [] (a ∷ acts) answers asked_by_line have = absurd asked_by_line
-asked_have part failed (c ∷ cs) (a ∷ acts) [] asked_by_line have = absurd asked_by_line
-asked_have part failed (c ∷ cs) (a ∷ acts) (x ∷ answers) asked_by_line have =
-    let rest = asked_have part failed cs acts answers asked_by_line.2 have.1 in
-    ((subst HasChange (sym asked_by_line.0) have.0, rest.0), rest.1)
+pub asked_have : (part : Type 0) (failed : Option Act) (cs : List Command) (xs : List Exchange) → Asks part failed cs xs → HaveChanges cs → CallsHave xs × FailHas failed
+asked_have part failed [] [] asks have = (tt, subst FailHas (sym asks) tt)
+asked_have part failed (c ∷ cs) [] asks have = (tt, next_has c failed have.0 asks.1)
+asked_have part failed [] (x ∷ xs) asks have = absurd asks
+asked_have part failed (c ∷ cs) (x ∷ xs) asks have =
+    let rest = asked_have part failed cs xs asks.2 have.1 in
+    ((subst HasChange (sym asks.0) have.0, rest.0), rest.1)
 
-pub acts_have : (acts more : List Act) → ActsHave acts → ActsHave more → ActsHave (acts ++ more)
-acts_have [] more have rest = rest
-acts_have (a ∷ acts) more have rest = (have.0, acts_have acts more have.1 rest)
+pub calls_have : (xs ys : List Exchange) → CallsHave xs → CallsHave ys → CallsHave (xs ++ ys)
+calls_have [] ys have rest = rest
+calls_have (x ∷ xs) ys have rest = (have.0, calls_have xs ys have.1 rest)
 
 appended_change : (client request : ℕ) (body : List ℕ) (x : Answer) → HasChange (Append client request body) → (some : List Change) × Changes (Append client request body) x some
 appended_change client request body (ToAppend (Ok done)) has = (has.0 ∷ [], (has.0, has.1, has.2, refl))
@@ -133,13 +102,11 @@ one_change : (c : Command) (x : Answer) → HasChange c → (some : List Change)
 one_change (Append client request body) x has = appended_change client request body x has
 one_change c x has = ([], refl)
 
-pub changes_there : (acts : List Act) (answers : List Answer) → ActsHave acts → (changes : List Change) × AreChanges acts answers changes
-changes_there [] [] have = ([], refl)
-changes_there [] (x ∷ answers) have = ([], refl)
-changes_there (a ∷ acts) [] have = ([], refl)
-changes_there (a ∷ acts) (x ∷ answers) have =
-    let one = one_change a.command x have.0 in
-    let rest = changes_there acts answers have.1 in
+pub changes_there : (xs : List Exchange) → CallsHave xs → (changes : List Change) × AreChanges xs changes
+changes_there [] have = ([], refl)
+changes_there (x ∷ xs) have =
+    let one = one_change x.act.command x.answer have.0 in
+    let rest = changes_there xs have.1 in
     (one.0 ++ rest.0, (one.0, rest.0, one.1, rest.1, refl))
 
 pub pending_there : (failed : Option Act) → FailHas failed → (pending : List Change) × IsPending failed pending

@@ -29,7 +29,7 @@ use Rattle.df_session.specs.Keeping.{KeepsFile, over}
 use Rattle.df_session.specs.Links.{CallsMade, events_made, list_of}
 use Rattle.df_session.specs.Opened.{MendsPartly, StopsOpening}
 use Rattle.df_session.specs.Serving.{Whole, format}
-use Rattle.df_session.specs.Session.{IsMidway as IsMidwayIn}
+use Rattle.df_session.specs.Session.{IsMidway as IsMidwayIn, acts_in}
 use Rattle.df_session.proofs.Laws.{added_is_told}
 use Rattle.df_table.specs.declared.status.Status.{Status}
 use Rattle.df_table.specs.Keeping.{IsTableMidway, KeepsFrom}
@@ -264,10 +264,10 @@ module _ (file : DataFile) (chapters : List TableChapter) (t : Told) (is : InOrd
     abbrev start : Work
     start = begun_work file t.shown view
 
-    file_kept : KeepsFile file Whole start t c.acts c.answers c.failed (Some end)
+    file_kept : KeepsFile file Whole start t c.exchanges c.failed (Some end)
     file_kept =
         subst
-        (λ (f : DataFile). (view : View) (base : Told) → base.shown ≡ t.shown → MayOpen f view base → Stands (unit_at f.layout f.cluster t.shown) view → KeepsFile f Whole (begun_work f t.shown view) base c.acts c.answers c.failed (over es (events_made c) base))
+        (λ (f : DataFile). (view : View) (base : Told) → base.shown ≡ t.shown → MayOpen f view base → Stands (unit_at f.layout f.cluster t.shown) view → KeepsFile f Whole (begun_work f t.shown view) base c.exchanges c.failed (over es (events_made c) base))
         one (serves.calls.keeps Whole) view t refl may stands_shown
 
     last : file_kept.after ≡ n
@@ -286,8 +286,8 @@ module _ (file : DataFile) (chapters : List TableChapter) (t : Told) (is : InOrd
     seen =
         let have = called_have layout found.replica found.mended old new status serves.opened serves.serves c serves.of in
         from_before Sync t.log n.log (EachSeen file) (order_seen file chapters t.log is.order) grew
-        (weaker (did Sync t).log n.log (IsMidwayIn file Whole start (c.acts ++ list_of c.failed)) (EachSeen file) (λ log mid image left no. some_seen file (c.acts ++ list_of c.failed) start image (all_have file c.acts c.failed have.0 have.1) begun_own (mid.left image left no))
-        (subst (λ (x : Told). EachMoment (did Sync t).log x.log (IsMidwayIn file Whole start (c.acts ++ list_of c.failed))) last file_kept.moments))
+        (weaker (did Sync t).log n.log (IsMidwayIn file Whole start (acts_in c.exchanges ++ list_of c.failed)) (EachSeen file) (λ log mid image left no. some_seen file (acts_in c.exchanges ++ list_of c.failed) start image (all_have file c.exchanges c.failed have.0 have.1) begun_own (mid.left image left no))
+        (subst (λ (x : Told). EachMoment (did Sync t).log x.log (IsMidwayIn file Whole start (acts_in c.exchanges ++ list_of c.failed))) last file_kept.moments))
 
     mid_here : (chapter : TableChapter) (log : Log) → IsMoment t.log n.log log → IsTableMidway file (with_commands chapter.kept table) chapter.perhaps log → Order file (chapter ∷ chapters) log
     mid_here chapter log moment mid = mid_order file chapters table chapter log here.had (seen log moment) mid

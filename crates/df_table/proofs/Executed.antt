@@ -23,6 +23,7 @@ use Rattle.df_rows.specs.Grammar.{Drop, Get, Put, Said, said_with, value_length}
 use Rattle.df_rows.specs.Lines.{accepted, asked_by_line, done_text, line_in, line_of_turn, refusal_or, unless_refused, value_in}
 use Rattle.df_rows.specs.Tables.{HasRoom, Table, with_command, with_commands}
 use Rattle.df_session.specs.Below.{State as Replica, memory}
+use Rattle.df_session.specs.Links.{NoCalls}
 use Rattle.df_table.specs.declared.ending.Ending.{Ending}
 use Rattle.df_table.specs.declared.status.Status.{Status}
 use Rattle.df_table.specs.declared.status.Status.TheVariants.{DiskFault, Done, Memory, ReadFault, Refused, Script, Words, WriteFault}
@@ -33,7 +34,7 @@ use Rattle.df_table.specs.Calls.{Changes}
 use Rattle.df_table.specs.Policy.{line_commands}
 use Rattle.df_table.specs.Serving.{AnswersLine, IsExecuted, TellsLine}
 use Rattle.df_table.specs.Statuses.{ending_text, status_of}
-use Rattle.df_table.specs.Turns.{AreFit, EndIn, IsAccepted, IsOfCall, MakeAll}
+use Rattle.df_table.specs.Turns.{AreFit, EndIn, IsOfCall, MakeAll, WasAccepted}
 
 -- ---- what isn't refused may be done
 
@@ -76,8 +77,7 @@ module _ (layout : Layout) (said : Said) (c : Command) (s t : Replica) (old new 
 
   pub executed : (steps : ℕ) → MakeAll (line_commands layout (memory s) table.rows steps (c ∷ [])) s t old new → later ≡ with_command c table → t.head ≡ s.head + 1 → IsExecuted layout said s t old new table later
   executed steps made changed head = record {
-    acts = made.acts;
-    answers = made.answers;
+    exchanges = made.exchanges;
     steps = steps;
     calls = made.calls;
     are = made.are ∙ ap (λ (l : List Command). line_commands layout (memory s) table.rows steps l) (sym asks_is);
@@ -102,12 +102,11 @@ none_asked table (Some refusal) = refl
 module _ (layout : Layout) (said : Said) (s : Replica) (told : Option Told) (table : Table) (none : accepted table said ≡ []) where
   pub nothing_done : IsExecuted layout said s s told told table table
   nothing_done = record {
-    acts = [];
-    answers = [];
+    exchanges = [];
     steps = 0;
-    calls = (refl, refl);
+    calls = NoCalls;
     are = ap (λ (l : List Command). line_commands layout (memory s) table.rows 0 l) (sym none);
-    accepted = All-nil IsAccepted;
+    accepted = All-nil WasAccepted;
     fit = subst AreFit (sym none) tt;
     behind_is = ap (λ (l : List Command). with_commands l table) (sym none);
     head = plus_zero s.head ∙ ap (λ (l : List Command). s.head + length l) (sym none);

@@ -15,9 +15,9 @@ use Rattle.df_rows.specs.Tables.{Table, with_commands}
 use Rattle.df_rows.proofs.Laws.{commands_more}
 use Rattle.df_session.specs.Acknowledging.{HadReturned}
 use Rattle.df_session.specs.Below.{DataFile, State as Replica, shape, told_after}
-use Rattle.df_session.specs.Links.{AreCalls, Calls, call_events}
+use Rattle.df_session.specs.Links.{AreCalls, Calls, More, NoCalls, call_events}
 use Rattle.df_session.specs.Serving.{IsKept, Whole, format, next}
-use Rattle.df_session.specs.Session.{Act}
+use Rattle.df_session.specs.Session.{Act, Exchange}
 use Rattle.df_session.specs.Session as machine
 use Rattle.df_session.proofs.Laws.{added_is_told, told_append}
 use Rattle.df_result.proofs.Laws.{joined, nothing_is_served}
@@ -145,14 +145,12 @@ FailKept file (Some a) w n t =
     (pending : List Change) → Changes a.command (ToAppend (Ok (0, 0))) pending → (m : ℕ) × IsTableIn file (units_log (format file) n.log) (kept (next file w a.given a.command).0) (with_commands (take m pending) t)
 
 -- one call after the other, from a state with this table: what was written before each has the table of the view after it
-abbrev pub AreKept : (file : DataFile) (failed : Option Act) (w : Work) (n : Told) (t : Table) (s : Replica) (old : Option Told) (acts : List Act) (answers : List Answer) (u : Replica) (new : Option Told) → AreCalls s old acts answers u new → Type 0
-AreKept file failed w n t s old [] [] u new calls = FailKept file failed w n t
-AreKept file failed w n t s old [] (x ∷ answers) u new calls = Unit {0}
-AreKept file failed w n t s old (a ∷ acts) [] u new calls = Unit {0}
-AreKept file failed w n t s old (a ∷ acts) (x ∷ answers) u new calls =
-    (some : List Change) → Changes a.command x some
-    → IsTableIn file (units_log (format file) n.log) (kept (next file w a.given a.command).0) (with_commands some t)
-    × AreKept file failed (next file w a.given a.command).0 (told_after calls.2.call.events n) (with_commands some t) calls.0 calls.1 acts answers u new calls.3
+abbrev pub AreKept : (file : DataFile) (failed : Option Act) (w : Work) (n : Told) (t : Table) (xs : List Exchange) {s : Replica} {old : Option Told} {u : Replica} {new : Option Told} → AreCalls s old xs u new → Type 0
+AreKept file failed w n t [] calls = FailKept file failed w n t
+AreKept file failed w n t (x ∷ xs) (More r mid call rest) =
+    (some : List Change) → Changes x.act.command x.answer some
+    → IsTableIn file (units_log (format file) n.log) (kept (next file w x.act.given x.act.command).0) (with_commands some t)
+    × AreKept file failed (next file w x.act.given x.act.command).0 (told_after call.call.events n) (with_commands some t) xs rest
 
 -- after an answered call
 pub at_behind : (file : DataFile) (a : Act) (s u : Replica) (old mid : Option Told) (x : Answer) (w : Work) (n : Told) (t v : Table) → At file s w n t → (c : Calls a s u old mid (Some x))
@@ -189,8 +187,8 @@ module _ (file : DataFile) (failed : Option Act) (u to : Replica) (mid new : Opt
           mid_of file log (kept w) (kept (next file w a.given a.command).0) t pending later.0 (table_later file n.log log (kept w) t moment.since is.table)
           (table_later file n.log log (kept (next file w a.given a.command).0) (with_commands (take later.0 pending) t) moment.since later.1) good
 
-  abbrev all_told : (s : Replica) (old : Option Told) (acts : List Act) (answers : List Answer) → AreCalls s old acts answers u mid → Told → Told
-  all_told s old acts answers calls n = last_told (told_after (call_events s old acts answers u mid calls) n)
+  abbrev all_told : {s : Replica} {old : Option Told} {xs : List Exchange} → AreCalls s old xs u mid → Told → Told
+  all_told calls n = last_told (told_after (call_events calls) n)
 
   -- those of one call and of those after it
   moments_on : (a : Act) (s r : Replica) (old one : Option Told) (x : Answer) (w : Work) (n after : Told) (t : Table) (some more : List Change) → At file s w n t → (c : Calls a s r old one (Some x))
@@ -210,89 +208,58 @@ module _ (file : DataFile) (failed : Option Act) (u to : Replica) (mid new : Opt
       take_all [] = refl
       take_all (c ∷ l) = ap (λ (x : List Change). c ∷ x) (take_all l)
 
-  all_grew : (s : Replica) (old : Option Told) (acts : List Act) (answers : List Answer) (calls : AreCalls s old acts answers u mid) (n : Told) → Extends (all_told s old acts answers calls n).log n.log
-  all_grew s old acts answers calls n =
-      let es = call_events s old acts answers u mid calls in
-      extends_on (all_told s old acts answers calls n).log (told_after es n).log n.log (grew (last_events failed u to mid new last) (told_after es n)) (grew es n)
-
-  abbrev Fact : (s : Replica) (old : Option Told) (acts : List Act) (answers : List Answer) → AreCalls s old acts answers u mid → (n : Told) (t : Table) (changes : List Change) → Type 0
-  Fact s old acts answers calls n t changes = EachMoment n.log (all_told s old acts answers calls n).log (IsTableMidway file t changes)
+  all_grew : {s : Replica} {old : Option Told} {xs : List Exchange} (calls : AreCalls s old xs u mid) (n : Told) → Extends (all_told calls n).log n.log
+  all_grew calls n =
+      let es = call_events calls in
+      extends_on (all_told calls n).log (told_after es n).log n.log (grew (last_events failed u to mid new last) (told_after es n)) (grew es n)
 
   -- at each moment of all of them
-  pub each_moment : (acts : List Act) (answers : List Answer) (s : Replica) (old : Option Told) (calls : AreCalls s old acts answers u mid) (w : Work) (n : Told) (t : Table) (changes : List Change) → At file s w n t
-      → AreKept file failed w n t s old acts answers u mid calls → AreChanges acts answers changes → EachMoment n.log (all_told s old acts answers calls n).log (IsTableMidway file t (changes ++ pending))
-  each_moment [] [] s old calls w n t changes is kept_all are =
-      let there : At file u w n t = subst (λ (r : Replica). At file r w n t) (sym calls.0) is in
-      subst (λ (l : List Change). EachMoment n.log (last_told n).log (IsTableMidway file t (l ++ pending))) (sym are) (failed_moments w n t there kept_all)
-  each_moment [] (x ∷ answers) s old calls w n t changes is kept_all are = absurd calls
-  each_moment (a ∷ acts) [] s old calls w n t changes is kept_all are = absurd calls
-  each_moment (a ∷ acts) (x ∷ answers) s old calls w n t changes is kept_all are =
+  pub each_moment : (xs : List Exchange) (s : Replica) (old : Option Told) (calls : AreCalls s old xs u mid) (w : Work) (n : Told) (t : Table) (changes : List Change) → At file s w n t → AreKept file failed w n t xs calls → AreChanges xs changes
+      → EachMoment n.log (all_told calls n).log (IsTableMidway file t (changes ++ pending))
+  each_moment [] s old NoCalls w n t changes is kept_all are =
+      subst (λ (l : List Change). EachMoment n.log (last_told n).log (IsTableMidway file t (l ++ pending))) (sym are) (failed_moments w n t is kept_all)
+  each_moment (x ∷ xs) s old (More r one c rest) w n t changes is kept_all are =
       let some = are.0 in
       let more = are.1 in
       let here = kept_all some are.2 in
-      let c = calls.2 in
       let es = c.call.events in
-      let rest = call_events calls.0 calls.1 acts answers u mid calls.3 in
       let behind = told_after es n in
-      let there = at_behind file a s calls.0 old calls.1 x w n t (with_commands some t) is c here.0 in
-      let later = each_moment acts answers calls.0 calls.1 calls.3 (next file w a.given a.command).0 behind (with_commands some t) more there here.1 are.3 in
-      let all = moments_on a s calls.0 old calls.1 x w n (all_told calls.0 calls.1 acts answers calls.3 behind) t some (more ++ pending) is c here.0 (all_grew calls.0 calls.1 acts answers calls.3 behind) later in
-      let ends : all_told s old (a ∷ acts) (x ∷ answers) calls n ≡ all_told calls.0 calls.1 acts answers calls.3 behind = ap last_told (told_append es rest n) in
-      subst (λ (o : Told). EachMoment n.log o.log (IsTableMidway file t (changes ++ pending))) (sym ends)
-      (subst (λ (l : List Change). EachMoment n.log (all_told calls.0 calls.1 acts answers calls.3 behind).log (IsTableMidway file t l)) (sym (append_assoc some more pending) ∙ ap (λ (l : List Change). l ++ pending) (sym are.4)) all)
+      let there = at_behind file x.act s r old one x.answer w n t (with_commands some t) is c here.0 in
+      let later = each_moment xs r one rest (next file w x.act.given x.act.command).0 behind (with_commands some t) more there here.1 are.3 in
+      let all = moments_on x.act s r old one x.answer w n (all_told rest behind) t some (more ++ pending) is c here.0 (all_grew rest behind) later in
+      subst (λ (o : Told). EachMoment n.log o.log (IsTableMidway file t (changes ++ pending))) (sym (ap last_told (told_append es (call_events rest) n)))
+      (subst (λ (l : List Change). EachMoment n.log (all_told rest behind).log (IsTableMidway file t l)) (sym (append_assoc some more pending) ∙ ap (λ (l : List Change). l ++ pending) (sym are.4)) all)
 
   -- at the end
-  pub at_end : (acts : List Act) (answers : List Answer) (s : Replica) (old : Option Told) (calls : AreCalls s old acts answers u mid) (w : Work) (n : Told) (t : Table) (changes : List Change) → At file s w n t
-      → AreKept file failed w n t s old acts answers u mid calls → AreChanges acts answers changes → IsTableMidway file (with_commands changes t) pending (all_told s old acts answers calls n).log
-  at_end [] [] s old calls w n t changes is kept_all are =
-      let there : At file u w n t = subst (λ (r : Replica). At file r w n t) (sym calls.0) is in
+  pub at_end : (xs : List Exchange) (s : Replica) (old : Option Told) (calls : AreCalls s old xs u mid) (w : Work) (n : Told) (t : Table) (changes : List Change) → At file s w n t → AreKept file failed w n t xs calls → AreChanges xs changes
+      → IsTableMidway file (with_commands changes t) pending (all_told calls n).log
+  at_end [] s old NoCalls w n t changes is kept_all are =
       subst (λ (l : List Change). IsTableMidway file (with_commands l t) pending (last_told n).log) (sym are)
-      (failed_moments w n t there kept_all (last_told n).log (record { since = grew (last_events failed u to mid new last) n; until = extends_self (last_told n).log }))
-  at_end (a ∷ acts) (x ∷ answers) s old calls w n t changes is kept_all are =
-      let c = calls.2 in
+      (failed_moments w n t is kept_all (last_told n).log (record { since = grew (last_events failed u to mid new last) n; until = extends_self (last_told n).log }))
+  at_end (x ∷ xs) s old (More r one c rest) w n t changes is kept_all are =
       let es = c.call.events in
       let some = are.0 in
       let more = are.1 in
       let behind = told_after es n in
       let here = kept_all some are.2 in
-      let there = at_behind file a s calls.0 old calls.1 x w n t (with_commands some t) is c here.0 in
-      let later = at_end acts answers calls.0 calls.1 calls.3 (next file w a.given a.command).0 behind (with_commands some t) more there here.1 are.3 in
-      let ends : all_told s old (a ∷ acts) (x ∷ answers) calls n ≡ all_told calls.0 calls.1 acts answers calls.3 behind = ap last_told (told_append es (call_events calls.0 calls.1 acts answers u mid calls.3) n) in
-      subst (λ (o : Told). IsTableMidway file (with_commands changes t) pending o.log) (sym ends)
-      (subst (λ (x : Table). IsTableMidway file x pending (all_told calls.0 calls.1 acts answers calls.3 behind).log) (sym (ap (λ (l : List Change). with_commands l t) are.4 ∙ commands_more some more t)) later)
-  at_end [] (x ∷ answers) s old calls w n t changes is kept_all are = absurd calls
-  at_end (a ∷ acts) [] s old calls w n t changes is kept_all are = absurd calls
+      let there = at_behind file x.act s r old one x.answer w n t (with_commands some t) is c here.0 in
+      let later = at_end xs r one rest (next file w x.act.given x.act.command).0 behind (with_commands some t) more there here.1 are.3 in
+      subst (λ (o : Told). IsTableMidway file (with_commands changes t) pending o.log) (sym (ap last_told (told_append es (call_events rest) n)))
+      (subst (λ (x : Table). IsTableMidway file x pending (all_told rest behind).log) (sym (ap (λ (l : List Change). with_commands l t) are.4 ∙ commands_more some more t)) later)
 
   -- at each moment from the k-th answer on
-  pub from_answer : (k : ℕ) (acts : List Act) (answers : List Answer) (s : Replica) (old : Option Told) (calls : AreCalls s old acts answers u mid) (w : Work) (n : Told) (t : Table) (some more : List Change) (log : Log) → At file s w n t
-      → AreKept file failed w n t s old acts answers u mid calls → AreChanges (take k acts) (take k answers) some → AreChanges (drop k acts) (drop k answers) more → HadReturned k (Some n) log s old acts answers u mid calls
-      → Extends (all_told s old acts answers calls n).log log → IsTableMidway file (with_commands some t) (more ++ pending) log
-  from_answer zero acts answers s old calls w n t some more log is kept_all before after since until =
-      subst (λ (l : List Change). IsTableMidway file (with_commands l t) (more ++ pending) log) (sym (none_before acts answers some before))
-      (each_moment acts answers s old calls w n t more is kept_all (all_behind acts answers more after) log (record { since = since; until = until }))
-    where
-      none_before : (acts : List Act) (answers : List Answer) (l : List Change) → AreChanges (take 0 acts) (take 0 answers) l → l ≡ []
-      none_before [] [] l are = are
-      none_before [] (x ∷ answers) l are = are
-      none_before (a ∷ acts) [] l are = are
-      none_before (a ∷ acts) (x ∷ answers) l are = are
-
-      all_behind : (acts : List Act) (answers : List Answer) (l : List Change) → AreChanges (drop 0 acts) (drop 0 answers) l → AreChanges acts answers l
-      all_behind [] [] l are = are
-      all_behind [] (x ∷ answers) l are = are
-      all_behind (a ∷ acts) [] l are = are
-      all_behind (a ∷ acts) (x ∷ answers) l are = are
-  from_answer (suc k) [] answers s old calls w n t some more log is kept_all before after since until = absurd since
-  from_answer (suc k) (a ∷ acts) [] s old calls w n t some more log is kept_all before after since until = absurd since
-  from_answer (suc k) (a ∷ acts) (x ∷ answers) s old calls w n t some more log is kept_all before after since until =
+  pub from_answer : (k : ℕ) (xs : List Exchange) (s : Replica) (old : Option Told) (calls : AreCalls s old xs u mid) (w : Work) (n : Told) (t : Table) (some more : List Change) (log : Log) → At file s w n t
+      → AreKept file failed w n t xs calls → AreChanges (take k xs) some → AreChanges (drop k xs) more → HadReturned k (Some n) log calls → Extends (all_told calls n).log log → IsTableMidway file (with_commands some t) (more ++ pending) log
+  from_answer zero xs s old calls w n t some more log is kept_all before after since until =
+      subst (λ (l : List Change). IsTableMidway file (with_commands l t) (more ++ pending) log) (sym before) (each_moment xs s old calls w n t more is kept_all after log (record { since = since; until = until }))
+  from_answer (suc k) [] s old NoCalls w n t some more log is kept_all before after since until = absurd since
+  from_answer (suc k) (x ∷ xs) s old (More r one c rest) w n t some more log is kept_all before after since until =
       let first = before.0 in
       let here = kept_all first before.2 in
-      let c = calls.2 in
       let es = c.call.events in
       let behind = told_after es n in
-      let there = at_behind file a s calls.0 old calls.1 x w n t (with_commands first t) is c here.0 in
-      let ends : all_told s old (a ∷ acts) (x ∷ answers) calls n ≡ all_told calls.0 calls.1 acts answers calls.3 behind = ap last_told (told_append es (call_events calls.0 calls.1 acts answers u mid calls.3) n) in
+      let there = at_behind file x.act s r old one x.answer w n t (with_commands first t) is c here.0 in
       let later =
-      from_answer k acts answers calls.0 calls.1 calls.3 (next file w a.given a.command).0 behind (with_commands first t) before.1 more log there here.1 before.3 after
-      (subst (λ (o : Option Told). HadReturned k o log calls.0 calls.1 acts answers u mid calls.3) (added_is_told es n) since) (subst (λ (o : Told). Extends o.log log) ends until) in
+      from_answer k xs r one rest (next file w x.act.given x.act.command).0 behind (with_commands first t) before.1 more log there here.1 before.3 after
+      (subst (λ (o : Option Told). HadReturned k o log rest) (added_is_told es n) since) (subst (λ (o : Told). Extends o.log log) (ap last_told (told_append es (call_events rest) n)) until) in
       subst (λ (x : Table). IsTableMidway file x (more ++ pending) log) (sym (ap (λ (l : List Change). with_commands l t) before.4 ∙ commands_more first before.1 t)) later

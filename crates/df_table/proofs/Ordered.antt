@@ -24,14 +24,14 @@ use Rattle.df_rows.specs.Blocks.{bodies_of}
 use Rattle.df_rows.specs.Limits.{rows_in_block}
 use Rattle.df_session.specs.Below.{DataFile, State as Replica, memory, shape, spelling, told_after}
 use Rattle.df_session.specs.Leaving.{image_after}
-use Rattle.df_session.specs.Links.{AreCalls, Calls, command_in}
+use Rattle.df_session.specs.Links.{AreCalls, Calls, More, NoCalls}
 use Rattle.df_session.specs.Serving.{Firm, Keeps, next}
-use Rattle.df_session.specs.Session.{Act}
+use Rattle.df_session.specs.Session.{Act, Exchange, acts_in, command_in}
 use Rattle.df_session.proofs.Laws.{added_is_told}
 use Rattle.df_table.specs.Laws.{RowsInOrder}
 use Rattle.df_table.specs.Policy.{writes}
 use Rattle.df_table.specs.Table.{ShowsBodies, ShowsBody, references_of}
-use Rattle.df_table.specs.Turns.{IsAccepted, MakeAll}
+use Rattle.df_table.specs.Turns.{IsAccepted, MakeAll, WasAccepted}
 use Rattle.df_table.proofs.Finished.{no_course}
 use Rattle.df_table.proofs.Placed.{LowHeld, NoLive, OnlyLive, entries_last, low_more, lower, none_from, none_live, one_less}
 use Rattle.df_table.proofs.Stayed.{began, released, wrote}
@@ -39,34 +39,29 @@ use Rattle.df_table.proofs.Stayed.{began, released, wrote}
 -- ---- one command after the other
 
 record First (c : Command) (cs : List Command) (s t : Replica) (old new : Option Told) : Type 0 where
-  act : Act
-  answer : Answer
+  exchange : Exchange
   replica : Replica
   mid : Option Told
-  is : act.command ≡ c
-  calls : Calls act s replica old mid (Some answer)
-  accepted : IsAccepted answer
+  is : exchange.act.command ≡ c
+  calls : Calls exchange.act s replica old mid (Some exchange.answer)
+  accepted : WasAccepted exchange
   rest : MakeAll cs replica t mid new
 
-first_of : (c : Command) (cs : List Command) (s t : Replica) (old new : Option Told) (acts : List Act) (answers : List Answer) → AreCalls s old acts answers t new → map command_in acts ≡ c ∷ cs → All IsAccepted answers → First c cs s t old new
-first_of c cs s t old new [] [] calls is accepted = absurd (cc (is))
-first_of c cs s t old new [] (x ∷ answers) calls is accepted = absurd calls
-first_of c cs s t old new (a ∷ acts) [] calls is accepted = absurd calls
-first_of c cs s t old new (a ∷ acts) (x ∷ answers) calls is accepted = record {
-  act = a;
-  answer = x;
-  replica = calls.0;
-  mid = calls.1;
-  is = (let same : a.command ≡ c = cc in same);
-  calls = calls.2;
-  accepted = All-head IsAccepted x answers accepted;
-  rest = record { acts = acts; answers = answers; calls = calls.3; are = (let same : map command_in acts ≡ cs = cc in same); accepted = All-tail IsAccepted x answers accepted };
+first_of : (c : Command) (cs : List Command) (s t : Replica) (old new : Option Told) (xs : List Exchange) → AreCalls s old xs t new → map command_in (acts_in xs) ≡ c ∷ cs → All WasAccepted xs → First c cs s t old new
+first_of c cs s t old new [] calls is accepted = absurd (cc (is))
+first_of c cs s t old new (x ∷ xs) (More u mid call rest) is accepted = record {
+  exchange = x;
+  replica = u;
+  mid = mid;
+  is = (let same : x.act.command ≡ c = cc in same);
+  calls = call;
+  accepted = All-head WasAccepted x xs accepted;
+  rest = record { exchanges = xs; calls = rest; are = (let same : map command_in (acts_in xs) ≡ cs = cc in same); accepted = All-tail WasAccepted x xs accepted };
 }
 
-none_of : (s t : Replica) (old new : Option Told) (acts : List Act) (answers : List Answer) → AreCalls s old acts answers t new → map command_in acts ≡ [] → (t ≡ s) × (new ≡ old)
-none_of s t old new [] [] calls is = calls
-none_of s t old new [] (x ∷ answers) calls is = absurd calls
-none_of s t old new (a ∷ acts) answers calls is = absurd (cc (is))
+none_of : (s t : Replica) (old new : Option Told) (xs : List Exchange) → AreCalls s old xs t new → map command_in (acts_in xs) ≡ [] → (t ≡ s) × (new ≡ old)
+none_of s t old new [] NoCalls is = (refl, refl)
+none_of s t old new (x ∷ xs) calls is = absurd (cc (is))
 
 -- ---- what is shown of blocks
 
@@ -163,16 +158,16 @@ module _ (file : DataFile) where
 
     next_made : (c : Command) (cs : List Command) (s : Replica) (w : Work) (o : Told) → Seen s w o → MakeAll (c ∷ cs) s t (Some o) new → Next c cs w o
     next_made c cs s w o is made =
-        let f = first_of c cs s t (Some o) new made.acts made.answers made.calls made.are made.accepted in
-        let go = moves f.act s f.replica w o f.mid f.answer is f.calls in
+        let f = first_of c cs s t (Some o) new made.exchanges made.calls made.are made.accepted in
+        let go = moves f.exchange.act s f.replica w o f.mid f.exchange.answer is f.calls in
         record {
-          first = f.act;
+          first = f.exchange.act;
           is = f.is;
           replica = f.replica;
           told = go.told;
-          seen = subst (λ (k : Command). Seen f.replica (next file w f.act.given k).0 go.told) f.is go.seen;
-          accepted = subst IsAccepted (go.answer ∙ ap (λ (k : Command). (next file w f.act.given k).1) f.is) f.accepted;
-          blocks = subst (λ (k : Command). (y : ℕ) → image go.told (BlockPlace y) ≡ or_else (puts_of (m w) (supplied_sums f.act.given) k (BlockPlace y)) (image o (BlockPlace y))) f.is go.blocks;
+          seen = subst (λ (k : Command). Seen f.replica (next file w f.exchange.act.given k).0 go.told) f.is go.seen;
+          accepted = subst IsAccepted (go.answer ∙ ap (λ (k : Command). (next file w f.exchange.act.given k).1) f.is) f.accepted;
+          blocks = subst (λ (k : Command). (y : ℕ) → image go.told (BlockPlace y) ≡ or_else (puts_of (m w) (supplied_sums f.exchange.act.given) k (BlockPlace y)) (image o (BlockPlace y))) f.is go.blocks;
           made = subst (λ (p : Option Told). MakeAll cs f.replica t p new) go.is f.rest;
         }
 
@@ -287,7 +282,7 @@ rows_in_order layout s t o n rows steps w ready whole made idle stands =
     (subst (λ (l : List (ℕ × ℕ)). ShowsBodies (image file one.told) l []) (sym (none_from one.work.live 1 (shape file).layout.blocks (λ y from. no_some (one.work.live y) (λ d is. one.so y d is)))) tt) (λ y d live. absurd (one.so y d live)) one.made in
     let three = begin_seen file t (Some n) bodies (replicate steps Advance) two.replica two.work two.told two.seen two.so two.made in
     let four = steps_seen file t (Some n) bodies steps three.replica three.work three.told three.seen three.so three.made in
-    let last = none_of four.replica t (Some four.told) (Some n) four.made.acts four.made.answers four.made.calls four.made.are in
+    let last = none_of four.replica t (Some four.told) (Some n) four.made.exchanges four.made.calls four.made.are in
     let there : t ≡ four.replica = last.0 in
     let told : four.told ≡ n = one_told four.told n last.1 in
     let same : t.file ≡ file = ap (λ (r : Replica). r.file) there ∙ four.seen.same in

@@ -10,17 +10,16 @@ use Rattle.df_theory.specs.Found.{IsFound}
 use Rattle.df_theory.specs.Units.{PreparePlace}
 use Rattle.df_theory.specs.View.{View}
 use Rattle.df_units.specs.Bytes.{unit_at}
-use Rattle.df_model.specs.Commands.{Answer}
 use Rattle.df_rows.specs.Tables.{Table}
 use Rattle.df_session.specs.Begun.{begun_work}
 use Rattle.df_session.specs.Below.{AgreeShown, IsOpened, State as Replica, memory, shape}
 use Rattle.df_session.specs.Found.{FoundFile}
 use Rattle.df_session.specs.Laws.{CallsKeep}
 use Rattle.df_session.specs.Leaving.{IsReadPlace}
-use Rattle.df_session.specs.Links.{AreCalls, CallsMade, EndsCalls}
+use Rattle.df_session.specs.Links.{AreCalls, CallsMade, EndsCalls, NoCalls}
 use Rattle.df_session.specs.Opened.{MendsAll}
 use Rattle.df_session.specs.Reading.{shown_of}
-use Rattle.df_session.specs.Session.{Act}
+use Rattle.df_session.specs.Session.{Act, Exchange}
 use Rattle.df_session.proofs.Laws.{begun_here, calls_join, calls_keep, view_there}
 use Rattle.df_table.specs.declared.ending.Ending.{Ending}
 use Rattle.df_table.specs.declared.status.Status.{Status}
@@ -28,8 +27,8 @@ use Rattle.df_table.specs.Opening.{FindsOf}
 use Rattle.df_table.specs.Outside.{Outside}
 use Rattle.df_table.specs.Ready.{IsBegun}
 use Rattle.df_table.specs.Run.{DoesTable, ServesTable}
-use Rattle.df_table.specs.Session.{AreCallsOf, Halt, HaltsIn, NotOpened, Served, ServesFoundTable, ServesLines, ServesOpened, halted_acts, halted_answers, halted_failed}
-use Rattle.df_table.specs.Turns.{AreTurns, TableTurn, table_acts, table_answers}
+use Rattle.df_table.specs.Session.{AreCallsOf, Halt, HaltsIn, NotOpened, Served, ServesFoundTable, ServesLines, ServesOpened, halted_exchanges, halted_failed}
+use Rattle.df_table.specs.Turns.{AreTurns, NextTurn, NoTurns, TableTurn, table_exchanges}
 use Rattle.df_table.proofs.Agreed.{AreInside, entries_inside, finds_of_same}
 use Rattle.df_table.proofs.Begun.{begun_entries}
 use Rattle.df_table.proofs.Joined.{ends_join}
@@ -37,41 +36,40 @@ use Rattle.df_table.proofs.Sessioned.{sessions_keep}
 
 -- ---- all of its calls
 
-turns_calls : (layout : Layout) (s : Replica) (old : Option Told) (t : Table) (turns : List TableTurn) (u : Replica) (new : Option Told) (v : Table) → AreTurns layout s old t turns u new v → AreCalls s old (table_acts turns) (table_answers turns) u new
-turns_calls layout s old t [] u new v are = (are.0, are.1)
-turns_calls layout s old t (x ∷ turns) u new v are = calls_join s are.0 u old are.1 new x.acts (table_acts turns) x.answers (table_answers turns) are.4 (turns_calls layout are.0 are.1 _ turns u new v are.7)
+turns_calls : (layout : Layout) (s : Replica) (old : Option Told) (t : Table) (turns : List TableTurn) (u : Replica) (new : Option Told) (v : Table) → AreTurns layout s old t turns u new v → AreCalls s old (table_exchanges turns) u new
+turns_calls layout s old t [] u new v NoTurns = NoCalls
+turns_calls layout s old t (x ∷ turns) u new v (NextTurn r mid steps are calls accepted_all fit rest) =
+    calls_join s r u old mid new x.exchanges (table_exchanges turns) calls (turns_calls layout r mid _ turns u new v rest)
 
 halt_calls : (layout : Layout) (s : Replica) (old : Option Told) (t : Table) (halt : Option Halt) (u : Replica) (new : Option Told) → (halts : HaltsIn layout s old t halt u new)
-    → EndsCalls s u old new (halted_acts layout s old t halt u new halts) (halted_answers layout s old t halt u new halts) (halted_failed layout s old t halt u new halts)
-halt_calls layout s old t None u new halts = (halts.0, halts.1)
+    → EndsCalls s u old new (halted_exchanges layout s old t halt u new halts) (halted_failed layout s old t halt u new halts)
+halt_calls layout s old t None u new halts =
+    subst (λ (r : Replica). AreCalls s old [] r new) (sym halts.0) (subst (λ (o : Option Told). AreCalls s old [] s o) (sym halts.1) NoCalls)
 halt_calls layout s old t (Some h) u new halts = halts.1.calls
 
 -- all of them, of a replica and over what a disk shows
 record AllCalls (layout : Layout) (s : Replica) (told : Option Told) (old new : Outside) (status : Status) (opened : Result Table Ending) (serves : ServesFoundTable layout s told old new status opened) : Type 0 where
   to : Replica
-  acts : List Act
-  answers : List Answer
+  exchanges : List Exchange
   failed : Option Act
-  calls : EndsCalls s to told new.told acts answers failed
-  of : AreCallsOf layout s told old new status opened serves (record { from = s; to = to; old = told; new = new.told; acts = acts; answers = answers; failed = failed; calls = calls })
+  calls : EndsCalls s to told new.told exchanges failed
+  of : AreCallsOf layout s told old new status opened serves (record { from = s; to = to; old = told; new = new.told; exchanges = exchanges; failed = failed; calls = calls })
 
 all_calls : (layout : Layout) (s : Replica) (told : Option Told) (old new : Outside) (status : Status) (opened : Result Table Ending) → (serves : ServesFoundTable layout s told old new status opened) → AllCalls layout s told old new status opened serves
 all_calls layout s told old new status opened (NotOpened ending last ends unread writes) =
-    record { to = last; acts = ends.acts; answers = ends.answers; failed = ends.failed; calls = ends.calls; of = (refl, refl, refl, refl, refl, refl) }
+    record { to = last; exchanges = ends.exchanges; failed = ends.failed; calls = ends.calls; of = (refl, refl, refl, refl, refl) }
 all_calls layout s told old new status opened (Served t u mid opens lines) =
     let turns = turns_calls layout u mid t lines.turns lines.replica lines.mid lines.table lines.are in
     let halts = halt_calls layout lines.replica lines.mid lines.table lines.halt lines.last new.told lines.halts in
-    let acts = halted_acts layout lines.replica lines.mid lines.table lines.halt lines.last new.told lines.halts in
-    let answers = halted_answers layout lines.replica lines.mid lines.table lines.halt lines.last new.told lines.halts in
+    let halted = halted_exchanges layout lines.replica lines.mid lines.table lines.halt lines.last new.told lines.halts in
     let failed = halted_failed layout lines.replica lines.mid lines.table lines.halt lines.last new.told lines.halts in
-    let behind = ends_join u lines.replica lines.last mid lines.mid new.told (table_acts lines.turns) acts (table_answers lines.turns) answers failed turns halts in
+    let behind = ends_join u lines.replica lines.last mid lines.mid new.told (table_exchanges lines.turns) halted failed turns halts in
     record {
       to = lines.last;
-      acts = opens.acts ++ (table_acts lines.turns ++ acts);
-      answers = opens.answers ++ (table_answers lines.turns ++ answers);
+      exchanges = opens.exchanges ++ (table_exchanges lines.turns ++ halted);
       failed = failed;
-      calls = ends_join s u lines.last told mid new.told opens.acts (table_acts lines.turns ++ acts) opens.answers (table_answers lines.turns ++ answers) failed opens.calls behind;
-      of = (refl, refl, refl, refl, refl, refl);
+      calls = ends_join s u lines.last told mid new.told opens.exchanges (table_exchanges lines.turns ++ halted) failed opens.calls behind;
+      of = (refl, refl, refl, refl, refl);
     }
 
 -- ---- what was around it
@@ -146,10 +144,10 @@ module _ (layout : Layout) (t : Told) (s : Replica) (mended : Option Told) (whol
     all = all_calls layout s mended old new status opens.opened serves
 
     abbrev made : CallsMade
-    made = record { from = s; to = all.to; old = mended; new = new.told; acts = all.acts; answers = all.answers; failed = all.failed; calls = all.calls }
+    made = record { from = s; to = all.to; old = mended; new = new.told; exchanges = all.exchanges; failed = all.failed; calls = all.calls }
 
     calls : CallsKeep t s mended over.mending made
-    calls = calls_keep t s mended over all.to new.told all.acts all.answers all.failed all.calls whole live
+    calls = calls_keep t s mended over all.to new.told all.exchanges all.failed all.calls whole live
 
     finds : FindsOf layout (shown_of s.file t.shown) (memory s) opens.opened
     finds = finds_first mid opens.opened agree opens.finds

@@ -7,7 +7,6 @@ use Rattle.df_disk.specs.Told.{Told, did}
 use Rattle.df_layout.specs.declared.layout.Layout.{Layout}
 use Rattle.df_theory.specs.View.{View}
 use Rattle.df_units.specs.Bytes.{unit_at}
-use Rattle.df_model.specs.Commands.{Answer}
 use Rattle.df_model.specs.Memory.{Memory}
 use Rattle.df_model.specs.Work.{Work}
 use Rattle.df_rows.specs.declared.command.Command.{Command as Change}
@@ -20,7 +19,7 @@ use Rattle.df_session.specs.Links.{CallsMade, EndsCalls, call_events, events_mad
 use Rattle.df_session.specs.Opened.{MendsAll}
 use Rattle.df_session.specs.Reading.{shown_of}
 use Rattle.df_session.specs.Serving.{Firm, Keeps}
-use Rattle.df_session.specs.Session.{Act}
+use Rattle.df_session.specs.Session.{Act, Exchange}
 use Rattle.df_session.proofs.Laws.{begun_here, told_append}
 use Rattle.df_result.proofs.Laws.{joined}
 use Rattle.df_table.specs.declared.ending.Ending.{Ending}
@@ -30,10 +29,10 @@ use Rattle.df_table.specs.Keeping.{AreChanges, IsPending, IsTableMidway, KeepsTa
 use Rattle.df_table.specs.Opening.{FindsOf, FindsTable}
 use Rattle.df_table.specs.Outside.{Outside}
 use Rattle.df_table.specs.Policy.{opening}
-use Rattle.df_table.specs.Session.{AreCallsOf, NotOpened, Served, ServesFoundTable, halted_acts, halted_answers, halted_failed}
+use Rattle.df_table.specs.Session.{AreCallsOf, NotOpened, Served, ServesFoundTable, halted_exchanges, halted_failed}
 use Rattle.df_table.specs.Table.{IsObjectTable}
-use Rattle.df_table.specs.Turns.{table_acts, table_answers}
-use Rattle.df_table.proofs.Asking.{ActsHave, FailHas, acts_have, asked_have, asks_ends, asks_made, changes_there, opening_has, pending_there}
+use Rattle.df_table.specs.Turns.{table_exchanges}
+use Rattle.df_table.proofs.Asking.{CallsHave, FailHas, asked_have, asks_ends, asks_made, calls_have, changes_there, opening_has, pending_there}
 use Rattle.df_table.proofs.FoundTable.{found_is_table}
 use Rattle.df_table.proofs.Lasting.{At, at_end, each_moment, from_answer, grew}
 use Rattle.df_table.proofs.Started.{at_begin, found_there, mending_moments}
@@ -43,31 +42,31 @@ use Rattle.df_table.proofs.Walked.{KeptAll}
 
 -- ---- all calls, the last of which perhaps failed
 
-module _ (file : DataFile) (from to : Replica) (old new : Option Told) (acts : List Act) (answers : List Answer) (w : Work) (n : Told) (t : Table) (at : At file from w n t) (changes pending : List Change) (are : AreChanges acts answers changes) where
+module _ (file : DataFile) (from to : Replica) (old new : Option Told) (xs : List Exchange) (w : Work) (n : Told) (t : Table) (at : At file from w n t) (changes pending : List Change) (are : AreChanges xs changes) where
   abbrev AllKept : Option Act → Type 0
-  AllKept failed = (u : Replica) (mid : Option Told) → KeptAll file failed u mid from old w n t acts answers
+  AllKept failed = (u : Replica) (mid : Option Told) → KeptAll file failed u mid from old w n t xs
 
-  abbrev last : (failed : Option Act) → EndsCalls from to old new acts answers failed → Told
-  last failed calls = told_after (events_to from to old new acts answers failed calls) n
+  abbrev last : (failed : Option Act) → EndsCalls from to old new xs failed → Told
+  last failed calls = told_after (events_to from to old new xs failed calls) n
 
-  moments_all : (failed : Option Act) (calls : EndsCalls from to old new acts answers failed) → AllKept failed → IsPending failed pending → EachMoment n.log (last failed calls).log (IsTableMidway file t (changes ++ pending))
-  moments_all None calls kept is = each_moment file None to to new new pending is tt acts answers from old calls w n t changes at (kept to new calls) are
+  moments_all : (failed : Option Act) (calls : EndsCalls from to old new xs failed) → AllKept failed → IsPending failed pending → EachMoment n.log (last failed calls).log (IsTableMidway file t (changes ++ pending))
+  moments_all None calls kept is = each_moment file None to to new new pending is tt xs from old calls w n t changes at (kept to new calls) are
   moments_all (Some a) calls kept is =
-      subst (λ (o : Told). EachMoment n.log o.log (IsTableMidway file t (changes ++ pending))) (sym (told_append (call_events from old acts answers calls.0 calls.1 calls.2) calls.3.call.events n))
-      (each_moment file (Some a) calls.0 to calls.1 new pending is calls.3 acts answers from old calls.2 w n t changes at (kept calls.0 calls.1 calls.2) are)
+      subst (λ (o : Told). EachMoment n.log o.log (IsTableMidway file t (changes ++ pending))) (sym (told_append (call_events calls.2) calls.3.call.events n))
+      (each_moment file (Some a) calls.0 to calls.1 new pending is calls.3 xs from old calls.2 w n t changes at (kept calls.0 calls.1 calls.2) are)
 
-  end_all : (failed : Option Act) (calls : EndsCalls from to old new acts answers failed) → AllKept failed → IsPending failed pending → IsTableMidway file (with_commands changes t) pending (last failed calls).log
-  end_all None calls kept is = at_end file None to to new new pending is tt acts answers from old calls w n t changes at (kept to new calls) are
+  end_all : (failed : Option Act) (calls : EndsCalls from to old new xs failed) → AllKept failed → IsPending failed pending → IsTableMidway file (with_commands changes t) pending (last failed calls).log
+  end_all None calls kept is = at_end file None to to new new pending is tt xs from old calls w n t changes at (kept to new calls) are
   end_all (Some a) calls kept is =
-      subst (λ (o : Told). IsTableMidway file (with_commands changes t) pending o.log) (sym (told_append (call_events from old acts answers calls.0 calls.1 calls.2) calls.3.call.events n))
-      (at_end file (Some a) calls.0 to calls.1 new pending is calls.3 acts answers from old calls.2 w n t changes at (kept calls.0 calls.1 calls.2) are)
+      subst (λ (o : Told). IsTableMidway file (with_commands changes t) pending o.log) (sym (told_append (call_events calls.2) calls.3.call.events n))
+      (at_end file (Some a) calls.0 to calls.1 new pending is calls.3 xs from old calls.2 w n t changes at (kept calls.0 calls.1 calls.2) are)
 
-  answered_all : (failed : Option Act) (calls : EndsCalls from to old new acts answers failed) → AllKept failed → IsPending failed pending → (k : ℕ) (log : Log) (some more : List Change) → AreChanges (take k acts) (take k answers) some → AreChanges (drop k acts) (drop k answers) more
-      → HadAnswers k (Some n) log from to old new acts answers failed calls → Extends (last failed calls).log log → IsTableMidway file (with_commands some t) (more ++ pending) log
-  answered_all None calls kept is k log some more before after had until = from_answer file None to to new new pending is tt k acts answers from old calls w n t some more log at (kept to new calls) before after had until
+  answered_all : (failed : Option Act) (calls : EndsCalls from to old new xs failed) → AllKept failed → IsPending failed pending → (k : ℕ) (log : Log) (some more : List Change) → AreChanges (take k xs) some → AreChanges (drop k xs) more
+      → HadAnswers k (Some n) log from to old new xs failed calls → Extends (last failed calls).log log → IsTableMidway file (with_commands some t) (more ++ pending) log
+  answered_all None calls kept is k log some more before after had until = from_answer file None to to new new pending is tt k xs from old calls w n t some more log at (kept to new calls) before after had until
   answered_all (Some a) calls kept is k log some more before after had until =
-      from_answer file (Some a) calls.0 to calls.1 new pending is calls.3 k acts answers from old calls.2 w n t some more log at (kept calls.0 calls.1 calls.2) before after had
-      (subst (λ (o : Told). Extends o.log log) (told_append (call_events from old acts answers calls.0 calls.1 calls.2) calls.3.call.events n) until)
+      from_answer file (Some a) calls.0 to calls.1 new pending is calls.3 k xs from old calls.2 w n t some more log at (kept calls.0 calls.1 calls.2) before after had
+      (subst (λ (o : Told). Extends o.log log) (told_append (call_events calls.2) calls.3.call.events n) until)
 
 -- ---- after an open
 
@@ -75,26 +74,26 @@ module _ (t : Told) (s : Replica) (mended : Option Told) (over : MendsAll t s me
   abbrev begins : Told → Told
   begins base = told_after over.mending.events (did Sync base)
 
-  -- these acts, by whatever calls, leave the table or change it by their commands
-  abbrev EachKept : List Act → List Answer → Option Act → Type 0
-  EachKept acts answers failed =
+  -- these calls, however they were made, leave the table or change it by their commands
+  abbrev EachKept : List Exchange → Option Act → Type 0
+  EachKept xs failed =
       (u : Replica) (mid : Option Told) (view : View) (base : Told) (table : Table) → base.shown ≡ t.shown → MayOpen s.file view base → IsObjectTable s.file (unit_at s.file.layout s.file.cluster t.shown) view table
-      → KeptAll s.file failed u mid s mended (begun_work s.file t.shown view) (begins base) table acts answers
+      → KeptAll s.file failed u mid s mended (begun_work s.file t.shown view) (begins base) table xs
 
-  module _ (made : CallsMade) (acts : List Act) (answers : List Answer) (failed : Option Act) (from_is : made.from ≡ s) (old_is : made.old ≡ mended) (acts_is : made.acts ≡ acts) (answers_is : made.answers ≡ answers) (failed_is : made.failed ≡ failed)
-      (have : ActsHave made.acts × FailHas made.failed) (each : EachKept acts answers failed) where
-    abbrev there : (changes : List Change) × AreChanges made.acts made.answers changes
-    there = changes_there made.acts made.answers have.0
+  module _ (made : CallsMade) (xs : List Exchange) (failed : Option Act) (from_is : made.from ≡ s) (old_is : made.old ≡ mended) (exchanges_is : made.exchanges ≡ xs) (failed_is : made.failed ≡ failed)
+      (have : CallsHave made.exchanges × FailHas made.failed) (each : EachKept xs failed) where
+    abbrev there : (changes : List Change) × AreChanges made.exchanges changes
+    there = changes_there made.exchanges have.0
 
     abbrev pends : (pending : List Change) × IsPending made.failed pending
     pends = pending_there made.failed have.1
 
-    made_kept : (u : Replica) (mid : Option Told) (w : Work) (n : Told) (table : Table) → KeptAll s.file failed u mid s mended w n table acts answers → KeptAll s.file made.failed u mid made.from made.old w n table made.acts made.answers
+    made_kept : (u : Replica) (mid : Option Told) (w : Work) (n : Told) (table : Table) → KeptAll s.file failed u mid s mended w n table xs → KeptAll s.file made.failed u mid made.from made.old w n table made.exchanges
     made_kept u mid w n table kept =
-        subst (λ (f : Option Act). KeptAll s.file f u mid made.from made.old w n table made.acts made.answers) (sym failed_is)
-        (subst (λ (r : Replica). KeptAll s.file failed u mid r made.old w n table made.acts made.answers) (sym from_is)
-        (subst (λ (o : Option Told). KeptAll s.file failed u mid s o w n table made.acts made.answers) (sym old_is)
-        (subst (λ (l : List Act). KeptAll s.file failed u mid s mended w n table l made.answers) (sym acts_is) (subst (λ (l : List Answer). KeptAll s.file failed u mid s mended w n table acts l) (sym answers_is) kept))))
+        subst (λ (f : Option Act). KeptAll s.file f u mid made.from made.old w n table made.exchanges) (sym failed_is)
+        (subst (λ (r : Replica). KeptAll s.file failed u mid r made.old w n table made.exchanges) (sym from_is)
+        (subst (λ (o : Option Told). KeptAll s.file failed u mid s o w n table made.exchanges) (sym old_is)
+        (subst (KeptAll s.file failed u mid s mended w n table) (sym exchanges_is) kept)))
 
     pub keeps_table : KeepsTable t s over.mending.events made
     keeps_table = record {
@@ -106,17 +105,17 @@ module _ (t : Told) (s : Replica) (mended : Option Told) (over : MendsAll t s me
           let w = begun_work s.file t.shown view in
           let n = begins base in
           let at : At s.file made.from w n table = subst (λ (r : Replica). At s.file r w n table) (sym from_is) (at_begin t s mended over whole live view base table same may is) in
-          let kept : (u : Replica) (mid : Option Told) → KeptAll s.file made.failed u mid made.from made.old w n table made.acts made.answers = λ u mid. made_kept u mid w n table (each u mid view base table same may is) in
+          let kept : (u : Replica) (mid : Option Told) → KeptAll s.file made.failed u mid made.from made.old w n table made.exchanges = λ u mid. made_kept u mid w n table (each u mid view base table same may is) in
           let after = told_after (events_made made) n in (
             after,
             record {
               is = refl;
               moments =
                   joined (did Sync base).log n.log after.log (IsTableMidway s.file table (there.0 ++ pends.0)) (grew (events_made made) n) (mending_moments t s mended over whole live view base table same may is (there.0 ++ pends.0))
-                  (moments_all s.file made.from made.to made.old made.new made.acts made.answers w n table at there.0 pends.0 there.1 made.failed made.calls kept pends.1);
+                  (moments_all s.file made.from made.to made.old made.new made.exchanges w n table at there.0 pends.0 there.1 made.failed made.calls kept pends.1);
               answered = λ k log some more before behind had until.
-                  answered_all s.file made.from made.to made.old made.new made.acts made.answers w n table at there.0 pends.0 there.1 made.failed made.calls kept pends.1 k log some more before behind had until;
-              end_safe = end_all s.file made.from made.to made.old made.new made.acts made.answers w n table at there.0 pends.0 there.1 made.failed made.calls kept pends.1;
+                  answered_all s.file made.from made.to made.old made.new made.exchanges w n table at there.0 pends.0 there.1 made.failed made.calls kept pends.1 k log some more before behind had until;
+              end_safe = end_all s.file made.from made.to made.old made.new made.exchanges w n table at there.0 pends.0 there.1 made.failed made.calls kept pends.1;
             },
           );
     }
@@ -129,15 +128,15 @@ called_told layout s told old new status opened (NotOpened ending last ends unre
 called_told layout s told old new status opened (Served found r mid opens lines) c are = (are.1, are.2)
 
 -- a table's program asks for each of them
-pub called_have : (layout : Layout) (s : Replica) (told : Option Told) (old new : Outside) (status : Status) (opened : Result Table Ending) (serves : ServesFoundTable layout s told old new status opened) (c : CallsMade) → AreCallsOf layout s told old new status opened serves c → ActsHave c.acts × FailHas c.failed
+pub called_have : (layout : Layout) (s : Replica) (told : Option Told) (old new : Outside) (status : Status) (opened : Result Table Ending) (serves : ServesFoundTable layout s told old new status opened) (c : CallsMade) → AreCallsOf layout s told old new status opened serves c → CallsHave c.exchanges × FailHas c.failed
 called_have layout s told old new status opened (NotOpened ending last ends unread writes) c are =
-    let have = asked_have (Unit {0}) ends.failed (opening (memory s)) ends.acts ends.answers (asks_ends (opening (memory s)) s last told new.told ending ends) (opening_has (memory s)) in
-    (subst ActsHave (sym are.3) have.0, subst FailHas (sym are.5) have.1)
+    let have = asked_have (Unit {0}) ends.failed (opening (memory s)) ends.exchanges (asks_ends (opening (memory s)) s last told new.told ending ends) (opening_has (memory s)) in
+    (subst CallsHave (sym are.3) have.0, subst FailHas (sym are.4) have.1)
 called_have layout s told old new status opened (Served found r mid opens lines) c are =
-    let asks = asks_made (opening (memory s)) s r told mid opens.acts opens.answers opens.calls opens.are opens.accepted in
-    let first = asked_have ⊥ None (opening (memory s)) opens.acts opens.answers asks (opening_has (memory s)) in
+    let asks = asks_made (opening (memory s)) opens.exchanges opens.are opens.accepted in
+    let first = asked_have ⊥ None (opening (memory s)) opens.exchanges asks (opening_has (memory s)) in
     let rest = lines_have layout lines.turns r lines.replica lines.last mid lines.mid new.told found lines.table lines.halt lines.are lines.halts in
-    (subst ActsHave (sym are.3) (acts_have opens.acts _ first.0 rest.0), subst FailHas (sym are.5) rest.1)
+    (subst CallsHave (sym are.3) (calls_have opens.exchanges _ first.0 rest.0), subst FailHas (sym are.4) rest.1)
 
 -- of all calls of a session the table is kept
 abbrev pub SessionsKeepTable : Type 0
@@ -151,15 +150,14 @@ no_disk x is = cc
 pub sessions_keep : SessionsKeepTable
 sessions_keep layout t s mended over old new status opened (NotOpened ending last ends unread writes) made whole live own finds are =
     let asks = asks_ends (opening (memory s)) s last mended new.told ending ends in
-    keeps_table t s mended over whole live made ends.acts ends.answers ends.failed are.0 are.1 are.3 are.4 are.5 (called_have layout s mended old new status opened (NotOpened ending last ends unread writes) made are)
+    keeps_table t s mended over whole live made ends.exchanges ends.failed are.0 are.1 are.3 are.4 (called_have layout s mended old new status opened (NotOpened ending last ends unread writes) made are)
     (λ u mid view base table same may is.
-    opening_to_end s.file ends.failed u mid s mended (begun_work s.file t.shown view) (told_after over.mending.events (did Sync base)) table (at_begin t s mended over whole live view base table same may is) ends.acts ends.answers (memory s) asks)
+    opening_to_end s.file ends.failed u mid s mended (begun_work s.file t.shown view) (told_after over.mending.events (did Sync base)) table (at_begin t s mended over whole live view base table same may is) ends.exchanges (memory s) asks)
 sessions_keep layout t s mended over old new status opened (Served found r mid opens lines) made whole live own finds are =
-    let acts = halted_acts layout lines.replica lines.mid lines.table lines.halt lines.last new.told lines.halts in
-    let answers = halted_answers layout lines.replica lines.mid lines.table lines.halt lines.last new.told lines.halts in
+    let halted = halted_exchanges layout lines.replica lines.mid lines.table lines.halt lines.last new.told lines.halts in
     let failed = halted_failed layout lines.replica lines.mid lines.table lines.halt lines.last new.told lines.halts in
-    let asks = asks_made (opening (memory s)) s r mended mid opens.acts opens.answers opens.calls opens.are opens.accepted in
-    keeps_table t s mended over whole live made (opens.acts ++ (table_acts lines.turns ++ acts)) (opens.answers ++ (table_answers lines.turns ++ answers)) failed are.0 are.1 are.3 are.4 are.5
+    let asks = asks_made (opening (memory s)) opens.exchanges opens.are opens.accepted in
+    keeps_table t s mended over whole live made (opens.exchanges ++ (table_exchanges lines.turns ++ halted)) failed are.0 are.1 are.3 are.4
     (called_have layout s mended old new status opened (Served found r mid opens lines) made are)
     (λ u new_told view base table same may is.
     let w = begun_work s.file t.shown view in
@@ -174,7 +172,7 @@ sessions_keep layout t s mended over old new status opened (Served found r mid o
           (found_is_table s.file t view found whole there
           (subst (λ (m : Memory). FindsTable s.file.layout (shown_of s.file t.shown) m (Ok found)) stands.1 (subst (λ (l : Layout). FindsTable l (shown_of s.file t.shown) (memory s) (Ok found)) (sym own) finds_it)))
     ] in
-    let behind = acts_stand s.file opens.acts opens.answers s r mended mid opens.calls w refl stands in
-    opening_then s.file failed u new_told s mended w n table at opens.acts opens.answers (table_acts lines.turns ++ acts) (table_answers lines.turns ++ answers) (memory s) asks
+    let behind = acts_stand s.file opens.exchanges s r mended mid opens.calls w refl stands in
+    opening_then s.file failed u new_told s mended w n table at opens.exchanges (table_exchanges lines.turns ++ halted) (memory s) asks
     (λ s' old' w' n' t' here so work.
     lines_kept s.file u new_told layout own lines.turns r lines.replica lines.last mid lines.mid new.told found lines.table lines.halt lines.are lines.halts behind.0 s' old' w' n' t' here (so ∙ one) (subst (λ (v : Work). Keeps Firm r v None) (sym work) behind.1)))

@@ -26,6 +26,7 @@ use Rattle.df_session.specs.Following.{MayOpen}
 use Rattle.df_session.specs.Opened.{MendsAll, begun_state}
 use Rattle.df_session.specs.Serving.{Whole, format}
 use Rattle.df_session.proofs.Laws.{calls_keep}
+use Rattle.df_session.specs.Links.{NoCalls}
 use Rattle.df_table.specs.Keeping.{IsTableMidway}
 use Rattle.df_table.specs.Table.{IsObjectTable, ShowsBodies, references_of}
 use Rattle.df_table.specs.Written.{IsTableIn, WasUnitWritten}
@@ -79,7 +80,7 @@ module _ (t : Told) (s : Replica) (mended : Option Told) (over : MendsAll t s me
 
   stands : Stands (unit_at s.file.layout s.file.cluster t.shown) view
   stands a c referenced =
-      let sense = ((calls_keep t s mended over s mended [] [] None (refl, refl) whole live).stands view found_there).0 in
+      let sense = ((calls_keep t s mended over s mended [] None NoCalls whole live).stands view found_there).0 in
       let inside = sense.grid a (ap (λ (o : Option ℕ). is_known o || (is_captured a work.running || (is_known (work.view.checkpoint.parts.references a) || is_of a work.view.checkpoint.chain))) referenced) in
       all_shown (unit_at s.file.layout s.file.cluster t.shown) view.checkpoint.parts.references 1 s.file.layout.blocks is.bodies is.there a c inside.0 (omega (arith, inside.1)) referenced
 
@@ -96,7 +97,7 @@ module _ (t : Told) (s : Replica) (mended : Option Told) (over : MendsAll t s me
   at_begin = record {
     same = refl;
     live = live;
-    kept_is = (calls_keep t s mended over s mended [] [] None (refl, refl) whole live).kept Whole view base same may stands;
+    kept_is = (calls_keep t s mended over s mended [] None NoCalls whole live).kept Whole view base same may stands;
     table = table_later s.file (did Sync base).log behind.log (kept work) table (grew over.mending.events (did Sync base)) (table_bare s.file (units_log (format s.file) (did Sync base).log) view (kept work) table refl refl at_barrier);
   }
 

@@ -1,14 +1,16 @@
 -- What a command makes of the view: no other one than an append or a checkpoint's last step changes its checkpoint or its tail.
 use Rattle.std.proofs.Common.{◌≡◌, ◌≤◌, ◌-◌, ℕ, zero, suc, List, [], ◌∷◌, length, drop, Option, Some, None, refl, arith}
-use Rattle.df_model.specs.After.{outcome, with_live, with_reply, with_running, begun}
-use Rattle.df_model.specs.Commands.{Advance, Append, Begin, Command, Flush, Given, ReadBlock, ReadPrepare, ReadReply, Recent, Release, Reply, Scrub, Stage, ToBegin, ToRelease, ToWriteBlock, WriteBlock, supplied_sum}
-use Rattle.df_model.specs.Making.{needed_of, next_address, place_of_reply, reply_of}
+use Rattle.df_model.specs.After.{outcome, with_live, with_running, begun}
+use Rattle.df_model.specs.Change.{Appends, Change, Checks, Ends, One, Staged, Writes}
+use Rattle.df_model.specs.Commands.{Advance, Append, Begin, Command, Flush, Given, Release, Scrub, ToBegin, ToRelease, ToWriteBlock, WriteBlock, supplied_sum}
+use Rattle.df_model.specs.Making.{needed_of, next_address}
 use Rattle.df_model.specs.Memory.{Memory, memory_of}
-use Rattle.df_model.specs.Refusals.{begin_refusals, block_refusals, first_refusal, release_refusals, reply_refusals}
+use Rattle.df_model.specs.Refusals.{begin_refusals, block_refusals, first_refusal, release_refusals}
 use Rattle.df_model.specs.Work.{Work}
 use Rattle.df_model.specs.declared.errors.BeginError.{BeginError}
 use Rattle.df_model.specs.declared.errors.BlockError.{BlockError}
 use Rattle.df_model.specs.declared.errors.NotLive.{NotLive}
+use Rattle.df_model.proofs.Laws.{one_thing_law}
 use Rattle.df_session.specs.Below.{DataFile, shape, spelling}
 use Rattle.df_session.specs.Serving.{next}
 use Rattle.df_theory.specs.Units.{Message}
@@ -21,50 +23,28 @@ pub record Stays (w u : Work) : Type 0 where
   pub checkpoint : u.view.checkpoint ≡ w.view.checkpoint
   pub tail : u.view.tail ≡ w.view.tail
 
-pub stays : (w : Work) → Stays w w
-stays w = record { checkpoint = refl; tail = refl }
-
-outcome_stays : {E A : Type 0} (o : Option E) (w u : Work) (x : A) → Stays w u → Stays w (outcome o w u x).0
-outcome_stays None w u x is = is
-outcome_stays (Some e) w u x is = stays w
-
--- neither an append nor a step
+-- neither an append, nor a step, nor a check
 abbrev pub IsPlain : Command → Type 0
 IsPlain (Append client request body) = ⊥
-IsPlain (Stage client request body) = ⊥
 IsPlain Flush = ⊥
-IsPlain (Reply op body) = Unit {0}
-IsPlain (WriteBlock kind body) = Unit {0}
-IsPlain (Release address) = Unit {0}
-IsPlain (Begin root) = Unit {0}
 IsPlain Advance = ⊥
-IsPlain (ReadPrepare op) = Unit {0}
-IsPlain (ReadReply client) = ⊥
-IsPlain (ReadBlock address) = Unit {0}
 IsPlain Scrub = ⊥
-IsPlain Recent = ⊥
+IsPlain command = Unit {0}
 
 module _ (file : DataFile) (w : Work) (given : Given) where
   abbrev m : Memory
   m = memory_of (shape file) (spelling file) w
 
+  changed_stays : (c : Command) (u : Work) → IsPlain c → Change (shape file) (spelling file) w given c u → Stays w u
+  changed_stays c u plain (Appends _ ps (One client request body none staged)) = absurd plain
+  changed_stays c u plain (Appends _ ps (Staged none)) = absurd plain
+  changed_stays c u plain (Writes r a more running left) = absurd plain
+  changed_stays c u plain (Ends r running left) = absurd plain
+  changed_stays c u plain (Checks x more list) = absurd plain
+  changed_stays c u plain change = record { checkpoint = refl; tail = refl }
+
   pub plain_stays : (c : Command) → IsPlain c → Stays w (next file w given c).0
-  plain_stays (Append client request body) plain = absurd plain
-  plain_stays (Stage client request body) plain = absurd plain
-  plain_stays Flush plain = absurd plain
-  plain_stays (Reply op body) plain =
-      outcome_stays (first_refusal (reply_refusals m op body)) w (with_reply w (place_of_reply m) (reply_of m (supplied_sum given) body)) (supplied_sum given) (record { checkpoint = refl; tail = refl })
-  plain_stays (WriteBlock kind body) plain =
-      outcome_stays (first_refusal (block_refusals m kind body)) w (with_live w (next_address m) (Some (supplied_sum given))) (next_address m, supplied_sum given) (record { checkpoint = refl; tail = refl })
-  plain_stays (Release address) plain = outcome_stays (first_refusal (release_refusals m address)) w (with_live w address None) tt (record { checkpoint = refl; tail = refl })
-  plain_stays (Begin root) plain =
-      outcome_stays (first_refusal (begin_refusals m (needed_of (spelling file) m root) root)) w (with_running w (Some (begun (shape file) (spelling file) w root))) (needed_of (spelling file) m root) (record { checkpoint = refl; tail = refl })
-  plain_stays Advance plain = absurd plain
-  plain_stays (ReadPrepare op) plain = stays w
-  plain_stays (ReadReply client) plain = absurd plain
-  plain_stays (ReadBlock address) plain = stays w
-  plain_stays Scrub plain = absurd plain
-  plain_stays Recent plain = absurd plain
+  plain_stays c plain = changed_stays c (next file w given c).0 plain (one_thing_law (shape file) (spelling file) w given c)
 
   -- ---- what was accepted was done
 

@@ -8,14 +8,14 @@ use Rattle.df_sessions.specs.declared.session.Session as told
 use Rattle.df_sessions.specs.Requests.{session_of, sessions_of}
 use Rattle.df_sessions.specs.Table.{requested, with_reply_stored, with_request}
 use Rattle.df_theory.specs.Units.{Session}
-use Rattle.df_model.specs.Commands.{Answer, Command}
+use Rattle.df_model.specs.Commands.{Command}
 use Rattle.df_model.specs.Work.{Work}
 use Rattle.df_result.specs.Appending.{next_unit, with_prepare_appended}
 use Rattle.df_result.specs.Replying.{with_stored_reply}
 use Rattle.df_session.specs.Below.{State as Replica}
-use Rattle.df_session.specs.Links.{AreCalls}
+use Rattle.df_session.specs.Links.{AreCalls, More, NoCalls}
 use Rattle.df_session.specs.Serving.{Firm, Keeps, next}
-use Rattle.df_session.specs.Session.{Act}
+use Rattle.df_session.specs.Session.{Exchange}
 use Rattle.df_table.specs.Policy.{the_client}
 use Rattle.df_table.specs.Ready.{IsReadyReplica}
 use Rattle.df_table.specs.Turns.{MakeAll}
@@ -24,15 +24,12 @@ use Rattle.df_table.proofs.Fine.{AreOwn}
 -- ---- what calls lead to
 
 -- after calls that were made the replica stands for a state of the machine
-acts_keep : (acts : List Act) (answers : List Answer) (s t : Replica) (old new : Option Told) → AreCalls s old acts answers t new → (w : Work) → Keeps Firm s w None → (u : Work) × Keeps Firm t u None
-acts_keep [] [] s t old new calls w keeps = (w, subst (λ (r : Replica). Keeps Firm r w None) (sym calls.0) keeps)
-acts_keep [] (x ∷ answers) s t old new calls w keeps = absurd calls
-acts_keep (a ∷ acts) [] s t old new calls w keeps = absurd calls
-acts_keep (a ∷ acts) (x ∷ answers) s t old new calls w keeps =
-    acts_keep acts answers calls.0 t calls.1 new calls.3 (next s.file w a.given a.command).0 (calls.2.call.answers Firm w keeps).1
+acts_keep : (xs : List Exchange) (s t : Replica) (old new : Option Told) → AreCalls s old xs t new → (w : Work) → Keeps Firm s w None → (u : Work) × Keeps Firm t u None
+acts_keep [] s t old new NoCalls w keeps = (w, keeps)
+acts_keep (x ∷ xs) s t old new (More u mid c rest) w keeps = acts_keep xs u t mid new rest (next s.file w x.act.given x.act.command).0 (c.call.answers Firm w keeps).1
 
 pub makes_keep : (commands : List Command) (s t : Replica) (old new : Option Told) → MakeAll commands s t old new → (w : Work) → Keeps Firm s w None → (u : Work) × Keeps Firm t u None
-makes_keep commands s t old new made w keeps = acts_keep made.acts made.answers s t old new made.calls w keeps
+makes_keep commands s t old new made w keeps = acts_keep made.exchanges s t old new made.calls w keeps
 
 -- ---- sessions
 

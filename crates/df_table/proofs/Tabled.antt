@@ -2,33 +2,30 @@
 use Rattle.std.proofs.Common.{◌≡◌, inl, inr, ℕ, List, [], ◌∷◌, ◌++◌, append-nil, append_assoc, Option, Some, None, refl, sym, ◌∙◌, ap, subst}
 use Rattle.df_disk.specs.Told.{Told}
 use Rattle.df_layout.specs.declared.layout.Layout.{Layout}
-use Rattle.df_model.specs.Commands.{Answer, Command}
+use Rattle.df_model.specs.Commands.{Command}
 use Rattle.df_model.specs.Memory.{Memory, memory_of}
 use Rattle.df_model.specs.Work.{Work}
 use Rattle.df_rows.specs.declared.command.Command.{Command as Change}
 use Rattle.df_rows.specs.Lines.{accepted, table_after}
 use Rattle.df_rows.specs.Tables.{Table, with_commands}
 use Rattle.df_session.specs.Below.{DataFile, State as Replica, memory, shape, spelling}
-use Rattle.df_session.specs.Links.{AreCalls}
+use Rattle.df_session.specs.Links.{AreCalls, More, NoCalls}
 use Rattle.df_session.specs.Serving.{Firm, Keeps, next}
-use Rattle.df_session.specs.Session.{Act, work_after}
+use Rattle.df_session.specs.Session.{Act, Exchange, acts_in, work_after}
 use Rattle.df_table.specs.Policy.{line_commands, opening}
-use Rattle.df_table.specs.Session.{Halt, HaltsIn, halted_acts, halted_answers, halted_failed}
-use Rattle.df_table.specs.Turns.{AreFit, AreTurns, TableTurn, commands_of, table_acts, table_answers}
-use Rattle.df_table.proofs.Asking.{ActsHave, AsksOne, FailHas, acts_have, asked_have, asks_ends, asks_made, line_has, one_asked, opening_plain}
+use Rattle.df_table.specs.Session.{Halt, HaltsIn, halted_exchanges, halted_failed}
+use Rattle.df_table.specs.Turns.{AreFit, AreTurns, NextTurn, NoTurns, TableTurn, commands_of, table_exchanges}
+use Rattle.df_table.proofs.Asking.{AsksOne, CallsHave, FailHas, asked_have, asks_ends, asks_made, calls_have, line_has, one_asked, opening_plain}
 use Rattle.df_table.proofs.Lasting.{At, FailKept}
 use Rattle.df_table.proofs.Walked.{Asks, KeptAll, walk_change, walk_plain}
 
 -- ---- a replica's own state
 
 -- after calls it stands for the state that their acts lead to
-pub acts_stand : (file : DataFile) (acts : List Act) (answers : List Answer) (s t : Replica) (old new : Option Told) → AreCalls s old acts answers t new → (w : Work) → s.file ≡ file → Keeps Firm s w None → (t.file ≡ file) × Keeps Firm t (work_after file w acts) None
-acts_stand file [] [] s t old new calls w same keeps = (ap (λ (r : Replica). r.file) calls.0 ∙ same, subst (λ (r : Replica). Keeps Firm r w None) (sym calls.0) keeps)
-acts_stand file [] (x ∷ answers) s t old new calls w same keeps = absurd calls
-acts_stand file (a ∷ acts) [] s t old new calls w same keeps = absurd calls
-acts_stand file (a ∷ acts) (x ∷ answers) s t old new calls w same keeps =
-    let then = (calls.2.call.answers Firm w keeps).1 in
-    acts_stand file acts answers calls.0 t calls.1 new calls.3 (next file w a.given a.command).0 (calls.2.call.file ∙ same) (subst (λ (f : DataFile). Keeps Firm calls.0 (next f w a.given a.command).0 None) same then)
+pub acts_stand : (file : DataFile) (xs : List Exchange) (s t : Replica) (old new : Option Told) → AreCalls s old xs t new → (w : Work) → s.file ≡ file → Keeps Firm s w None → (t.file ≡ file) × Keeps Firm t (work_after file w (acts_in xs)) None
+acts_stand file [] s t old new NoCalls w same keeps = (same, keeps)
+acts_stand file (x ∷ xs) s t old new (More u mid c rest) w same keeps =
+    acts_stand file xs u t mid new rest (next file w x.act.given x.act.command).0 (c.call.file ∙ same) (subst (λ (f : DataFile). Keeps Firm u (next f w x.act.given x.act.command).0 None) same (c.call.answers Firm w keeps).1)
 
 pub memory_there : (file : DataFile) (s : Replica) (w : Work) → s.file ≡ file → Keeps Firm s w None → memory s ≡ memory_of (shape file) (spelling file) w
 memory_there file s w same keeps = subst (λ (f : DataFile). memory s ≡ memory_of (shape f) (spelling f) w) same keeps.1
@@ -36,33 +33,27 @@ memory_there file s w same keeps = subst (λ (f : DataFile). memory s ≡ memory
 -- ---- walks
 
 module _ (file : DataFile) (failed : Option Act) (u : Replica) (new : Option Told) where
-  -- the same calls, by another list of them
-  by_lists : (s : Replica) (old : Option Told) (w : Work) (n : Told) (t : Table) (acts others : List Act) (answers more : List Answer) → acts ≡ others → answers ≡ more → KeptAll file failed u new s old w n t others more → KeptAll file failed u new s old w n t acts answers
-  by_lists s old w n t acts others answers more same alike kept_all =
-      subst (λ (l : List Act). KeptAll file failed u new s old w n t l answers) (sym same) (subst (λ (l : List Answer). KeptAll file failed u new s old w n t others l) (sym alike) kept_all)
-
   -- what is done after a list of commands
-  module _ (part : Type 0) (fl : Option Act) (more : List Act) (others : List Answer) (end : Work)
-      (stop : part → (s : Replica) (old : Option Told) (w : Work) (n : Told) (t : Table) → At file s w n t → FailKept file fl w n t → KeptAll file failed u new s old w n t more others) where
+  module _ (part : Type 0) (fl : Option Act) (more : List Exchange) (end : Work)
+      (stop : part → (s : Replica) (old : Option Told) (w : Work) (n : Told) (t : Table) → At file s w n t → FailKept file fl w n t → KeptAll file failed u new s old w n t more) where
     abbrev On : (Work → Told → Table → Type 0) → List Command → Type 0
     On P cs =
-        (s : Replica) (old : Option Told) (w : Work) (n : Told) (t : Table) (acts : List Act) (answers : List Answer) → At file s w n t → P w n t → Asks part fl cs acts answers → work_after file w acts ≡ end
-        → KeptAll file failed u new s old w n t (acts ++ more) (answers ++ others)
+        (s : Replica) (old : Option Told) (w : Work) (n : Told) (t : Table) (xs : List Exchange) → At file s w n t → P w n t → Asks part fl cs xs → work_after file w (acts_in xs) ≡ end
+        → KeptAll file failed u new s old w n t (xs ++ more)
 
     walk_line : (t0 : Table) (m : Memory) (steps : ℕ) (cs : List Change) → AsksOne t0 cs → AreFit cs → On (λ w n t. t ≡ with_commands cs t0) [] → On (λ w n t. (t ≡ t0) × (m ≡ memory_of (shape file) (spelling file) w)) (line_commands file.layout m t0.rows steps cs)
     walk_line t0 m steps cs (inl none) fit k =
         subst (λ (l : List Change). On (λ w n t. (t ≡ t0) × (m ≡ memory_of (shape file) (spelling file) w)) (line_commands file.layout m t0.rows steps l)) (sym none)
-        (λ s old w n t acts answers at so asks ends. k s old w n t acts answers at (so.0 ∙ sym (ap (λ (l : List Change). with_commands l t0) none)) asks ends)
+        (λ s old w n t xs at so asks ends. k s old w n t xs at (so.0 ∙ sym (ap (λ (l : List Change). with_commands l t0) none)) asks ends)
     walk_line t0 m steps cs (inr (c, one, can)) fit k =
         subst (λ (l : List Change). On (λ w n t. (t ≡ t0) × (m ≡ memory_of (shape file) (spelling file) w)) (line_commands file.layout m t0.rows steps l)) (sym one)
-        (walk_change file failed u new part fl more others end stop t0 c (subst AreFit one fit).0 can m steps
-        (λ s old w n t acts answers at so asks ends. k s old w n t acts answers at (so ∙ sym (ap (λ (l : List Change). with_commands l t0) one)) asks ends))
+        (walk_change file failed u new part fl more end stop t0 c (subst AreFit one fit).0 can m steps
+        (λ s old w n t xs at so asks ends. k s old w n t xs at (so ∙ sym (ap (λ (l : List Change). with_commands l t0) one)) asks ends))
 
     -- none is left
-    behind_all : (P : Work → Told → Table → Type 0) → ((s : Replica) (old : Option Told) (w : Work) (n : Told) (t : Table) → At file s w n t → P w n t → fl ≡ None → w ≡ end → KeptAll file failed u new s old w n t more others) → On P []
-    behind_all P k s old w n t [] [] at so asks ends = k s old w n t at so asks ends
-    behind_all P k s old w n t [] (x ∷ answers) at so asks ends = absurd asks
-    behind_all P k s old w n t (a ∷ acts) answers at so asks ends = absurd asks
+    behind_all : (P : Work → Told → Table → Type 0) → ((s : Replica) (old : Option Told) (w : Work) (n : Told) (t : Table) → At file s w n t → P w n t → fl ≡ None → w ≡ end → KeptAll file failed u new s old w n t more) → On P []
+    behind_all P k s old w n t [] at so asks ends = k s old w n t at so asks ends
+    behind_all P k s old w n t (x ∷ xs) at so asks ends = absurd asks
 
   -- ---- the end
 
@@ -70,106 +61,102 @@ module _ (file : DataFile) (failed : Option Act) (u : Replica) (new : Option Tol
   none_fails w n t f none = subst (λ (g : Option Act). FailKept file g w n t) (sym none) tt
 
   -- the first of these commands, to the end
-  module _ (s : Replica) (old : Option Told) (w : Work) (n : Told) (t : Table) (at : At file s w n t) (acts : List Act) (answers : List Answer) where
+  module _ (s : Replica) (old : Option Told) (w : Work) (n : Told) (t : Table) (at : At file s w n t) (xs : List Exchange) where
     abbrev end : Work
-    end = work_after file w acts
+    end = work_after file w (acts_in xs)
 
-    to_end : KeptAll file failed u new s old w n t (acts ++ []) (answers ++ []) → KeptAll file failed u new s old w n t acts answers
-    to_end kept_all = by_lists s old w n t acts (acts ++ []) answers (answers ++ []) (sym (append-nil acts)) (sym (append-nil answers)) kept_all
+    to_end : KeptAll file failed u new s old w n t (xs ++ []) → KeptAll file failed u new s old w n t xs
+    to_end kept_all = subst (KeptAll file failed u new s old w n t) (append-nil xs) kept_all
 
-    stop_last : Unit {0} → (s : Replica) (old : Option Told) (w : Work) (n : Told) (t : Table) → At file s w n t → FailKept file failed w n t → KeptAll file failed u new s old w n t [] []
+    stop_last : Unit {0} → (s : Replica) (old : Option Told) (w : Work) (n : Told) (t : Table) → At file s w n t → FailKept file failed w n t → KeptAll file failed u new s old w n t []
     stop_last is s old w n t at fails calls = fails
 
-    at_last : (P : Work → Told → Table → Type 0) → (s : Replica) (old : Option Told) (w : Work) (n : Told) (t : Table) → At file s w n t → P w n t → failed ≡ None → w ≡ end → KeptAll file failed u new s old w n t [] []
+    at_last : (P : Work → Told → Table → Type 0) → (s : Replica) (old : Option Told) (w : Work) (n : Told) (t : Table) → At file s w n t → P w n t → failed ≡ None → w ≡ end → KeptAll file failed u new s old w n t []
     at_last P s old w n t at so none same calls = none_fails w n t failed none
 
-    pub opening_to_end : (m : Memory) → Asks (Unit {0}) failed (opening m) acts answers → KeptAll file failed u new s old w n t acts answers
+    pub opening_to_end : (m : Memory) → Asks (Unit {0}) failed (opening m) xs → KeptAll file failed u new s old w n t xs
     opening_to_end m asks =
         to_end
-        (walk_plain file failed u new (Unit {0}) failed [] [] end stop_last t (opening m) (opening_plain m) (behind_all (Unit {0}) failed [] [] end stop_last (λ v o z. z ≡ t) (at_last (λ v o z. z ≡ t))) s old w n t acts answers at refl asks refl)
+        (walk_plain file failed u new (Unit {0}) failed [] end stop_last t (opening m) (opening_plain m) (behind_all (Unit {0}) failed [] end stop_last (λ v o z. z ≡ t) (at_last (λ v o z. z ≡ t))) s old w n t xs at refl asks refl)
 
-    pub line_to_end : (m : Memory) (steps : ℕ) (cs : List Change) → AsksOne t cs → AreFit cs → m ≡ memory_of (shape file) (spelling file) w → Asks (Unit {0}) failed (line_commands file.layout m t.rows steps cs) acts answers → KeptAll file failed u new s old w n t acts answers
+    pub line_to_end : (m : Memory) (steps : ℕ) (cs : List Change) → AsksOne t cs → AreFit cs → m ≡ memory_of (shape file) (spelling file) w → Asks (Unit {0}) failed (line_commands file.layout m t.rows steps cs) xs → KeptAll file failed u new s old w n t xs
     line_to_end m steps cs one fit is asks =
         to_end
-        (walk_line (Unit {0}) failed [] [] end stop_last t m steps cs one fit (behind_all (Unit {0}) failed [] [] end stop_last (λ v o z. z ≡ with_commands cs t) (at_last (λ v o z. z ≡ with_commands cs t))) s old w n t acts answers at (refl, is) asks refl)
+        (walk_line (Unit {0}) failed [] end stop_last t m steps cs one fit (behind_all (Unit {0}) failed [] end stop_last (λ v o z. z ≡ with_commands cs t) (at_last (λ v o z. z ≡ with_commands cs t))) s old w n t xs at (refl, is) asks refl)
 
   -- ---- commands that were all made, and what was done after them
 
-  module _ (s : Replica) (old : Option Told) (w : Work) (n : Told) (t : Table) (at : At file s w n t) (acts : List Act) (answers : List Answer) (more : List Act) (others : List Answer) where
+  module _ (s : Replica) (old : Option Told) (w : Work) (n : Told) (t : Table) (at : At file s w n t) (xs more : List Exchange) where
     abbrev whole : Work
-    whole = work_after file w acts
+    whole = work_after file w (acts_in xs)
 
     -- so it goes on after them, with this table
     abbrev Then : Table → Type 0
-    Then v = (s : Replica) (old : Option Told) (w : Work) (n : Told) (t : Table) → At file s w n t → t ≡ v → w ≡ whole → KeptAll file failed u new s old w n t more others
+    Then v = (s : Replica) (old : Option Told) (w : Work) (n : Told) (t : Table) → At file s w n t → t ≡ v → w ≡ whole → KeptAll file failed u new s old w n t more
 
-    no_stop : ⊥ → (s : Replica) (old : Option Told) (w : Work) (n : Told) (t : Table) → At file s w n t → FailKept file None w n t → KeptAll file failed u new s old w n t more others
+    no_stop : ⊥ → (s : Replica) (old : Option Told) (w : Work) (n : Told) (t : Table) → At file s w n t → FailKept file None w n t → KeptAll file failed u new s old w n t more
     no_stop never = absurd never
 
-    pub opening_then : (m : Memory) → Asks ⊥ None (opening m) acts answers → Then t → KeptAll file failed u new s old w n t (acts ++ more) (answers ++ others)
+    pub opening_then : (m : Memory) → Asks ⊥ None (opening m) xs → Then t → KeptAll file failed u new s old w n t (xs ++ more)
     opening_then m asks k =
-        walk_plain file failed u new ⊥ None more others whole no_stop t (opening m) (opening_plain m)
-        (behind_all ⊥ None more others whole no_stop (λ v o z. z ≡ t) (λ r one v o z here so none same. k r one v o z here so same)) s old w n t acts answers at refl asks refl
+        walk_plain file failed u new ⊥ None more whole no_stop t (opening m) (opening_plain m)
+        (behind_all ⊥ None more whole no_stop (λ v o z. z ≡ t) (λ r one v o z here so none same. k r one v o z here so same)) s old w n t xs at refl asks refl
 
-    pub line_then : (m : Memory) (steps : ℕ) (cs : List Change) → AsksOne t cs → AreFit cs → m ≡ memory_of (shape file) (spelling file) w → Asks ⊥ None (line_commands file.layout m t.rows steps cs) acts answers → Then (with_commands cs t)
-        → KeptAll file failed u new s old w n t (acts ++ more) (answers ++ others)
+    pub line_then : (m : Memory) (steps : ℕ) (cs : List Change) → AsksOne t cs → AreFit cs → m ≡ memory_of (shape file) (spelling file) w → Asks ⊥ None (line_commands file.layout m t.rows steps cs) xs → Then (with_commands cs t)
+        → KeptAll file failed u new s old w n t (xs ++ more)
     line_then m steps cs one fit is asks k =
-        walk_line ⊥ None more others whole no_stop t m steps cs one fit
-        (behind_all ⊥ None more others whole no_stop (λ v o z. z ≡ with_commands cs t) (λ r one v o z here so none same. k r one v o z here so same)) s old w n t acts answers at (refl, is) asks refl
+        walk_line ⊥ None more whole no_stop t m steps cs one fit
+        (behind_all ⊥ None more whole no_stop (λ v o z. z ≡ with_commands cs t) (λ r one v o z here so none same. k r one v o z here so same)) s old w n t xs at (refl, is) asks refl
 
 -- ---- the lines
 
 -- those of the line within which it ended, if one did
 halt_kept : (file : DataFile) (u : Replica) (new : Option Told) (layout : Layout) → file.layout ≡ layout → (r last : Replica) (told told' : Option Told) (table : Table) (halt : Option Halt) (halts : HaltsIn layout r told table halt last told') → r.file ≡ file
     → (s : Replica) (old : Option Told) (w : Work) (n : Told) (t : Table) → At file s w n t → t ≡ table → Keeps Firm r w None
-    → KeptAll file (halted_failed layout r told table halt last told' halts) u new s old w n t (halted_acts layout r told table halt last told' halts) (halted_answers layout r told table halt last told' halts)
+    → KeptAll file (halted_failed layout r told table halt last told' halts) u new s old w n t (halted_exchanges layout r told table halt last told' halts)
 halt_kept file u new layout own r last told told' table None halts same s old w n t at so stands = λ calls. tt
 halt_kept file u new layout own r last told told' table (Some h) halts same s old w n t at so stands =
     let e = halts.1 in
     let cs = accepted table h.said in
-    let asks : Asks (Unit {0}) e.failed (line_commands file.layout (memory r) t.rows halts.0 cs) e.acts e.answers =
-    subst (λ (l : Layout). Asks (Unit {0}) e.failed (line_commands l (memory r) t.rows halts.0 cs) e.acts e.answers) (sym own)
-    (subst (λ (z : Table). Asks (Unit {0}) e.failed (line_commands layout (memory r) z.rows halts.0 cs) e.acts e.answers) (sym so) (asks_ends (commands_of layout r table halts.0 h.said) r last told told' h.ending e)) in
-    line_to_end file e.failed u new s old w n t at e.acts e.answers (memory r) halts.0 cs (subst (λ (z : Table). AsksOne z cs) (sym so) (one_asked table h.said)) halts.2 (memory_there file r w same stands) asks
+    let asks : Asks (Unit {0}) e.failed (line_commands file.layout (memory r) t.rows halts.0 cs) e.exchanges =
+    subst (λ (l : Layout). Asks (Unit {0}) e.failed (line_commands l (memory r) t.rows halts.0 cs) e.exchanges) (sym own)
+    (subst (λ (z : Table). Asks (Unit {0}) e.failed (line_commands layout (memory r) z.rows halts.0 cs) e.exchanges) (sym so) (asks_ends (commands_of layout r table halts.0 h.said) r last told told' h.ending e)) in
+    line_to_end file e.failed u new s old w n t at e.exchanges (memory r) halts.0 cs (subst (λ (z : Table). AsksOne z cs) (sym so) (one_asked table h.said)) halts.2 (memory_there file r w same stands) asks
 
 -- those of all lines
 pub lines_kept : (file : DataFile) (u : Replica) (new : Option Told) (layout : Layout) → file.layout ≡ layout → (turns : List TableTurn) (r q last : Replica) (told mid told' : Option Told) (table later : Table) (halt : Option Halt) → AreTurns layout r told table turns q mid later
     → (halts : HaltsIn layout q mid later halt last told') → r.file ≡ file → (s : Replica) (old : Option Told) (w : Work) (n : Told) (t : Table) → At file s w n t → t ≡ table → Keeps Firm r w None
-    → KeptAll file (halted_failed layout q mid later halt last told' halts) u new s old w n t (table_acts turns ++ halted_acts layout q mid later halt last told' halts) (table_answers turns ++ halted_answers layout q mid later halt last told' halts)
-lines_kept file u new layout own [] r q last told mid told' table later halt are halts same s old w n t at so stands =
-    halt_kept file u new layout own q last mid told' later halt halts (ap (λ (x : Replica). x.file) are.0 ∙ same) s old w n t at (so ∙ sym are.2) (subst (λ (x : Replica). Keeps Firm x w None) (sym are.0) stands)
-lines_kept file u new layout own (x ∷ turns) r q last told mid told' table later halt are halts same s old w n t at so stands =
-    let failed = halted_failed layout q mid later halt last told' halts in
-    let acts = halted_acts layout q mid later halt last told' halts in
-    let answers = halted_answers layout q mid later halt last told' halts in
+    → KeptAll file (halted_failed layout q mid later halt last told' halts) u new s old w n t (table_exchanges turns ++ halted_exchanges layout q mid later halt last told' halts)
+lines_kept file u new layout own [] r q last told mid told' table later halt NoTurns halts same s old w n t at so stands = halt_kept file u new layout own q last mid told' later halt halts same s old w n t at so stands
+lines_kept file u new layout own (x ∷ turns) r q last told mid told' table later halt (NextTurn r' between steps are calls accepted_all fit rest) halts same s old w n t at so stands =
+    let halted = halted_exchanges layout q mid later halt last told' halts in
     let cs = accepted table x.said in
-    let asks : Asks ⊥ None (line_commands file.layout (memory r) t.rows are.2 cs) x.acts x.answers =
-    subst (λ (l : Layout). Asks ⊥ None (line_commands l (memory r) t.rows are.2 cs) x.acts x.answers) (sym own)
-    (subst (λ (z : Table). Asks ⊥ None (line_commands layout (memory r) z.rows are.2 cs) x.acts x.answers) (sym so) (asks_made (commands_of layout r table are.2 x.said) r are.0 told are.1 x.acts x.answers are.4 are.3 are.5)) in
-    let then = acts_stand file x.acts x.answers r are.0 told are.1 are.4 w same stands in
-    by_lists file failed u new s old w n t ((x.acts ++ table_acts turns) ++ acts) (x.acts ++ (table_acts turns ++ acts)) ((x.answers ++ table_answers turns) ++ answers) (x.answers ++ (table_answers turns ++ answers)) (append_assoc x.acts (table_acts turns) acts)
-    (append_assoc x.answers (table_answers turns) answers)
-    (line_then file failed u new s old w n t at x.acts x.answers (table_acts turns ++ acts) (table_answers turns ++ answers) (memory r) are.2 cs (subst (λ (z : Table). AsksOne z cs) (sym so) (one_asked table x.said)) are.6 (memory_there file r w same stands) asks
+    let asks : Asks ⊥ None (line_commands file.layout (memory r) t.rows steps cs) x.exchanges =
+    subst (λ (l : Layout). Asks ⊥ None (line_commands l (memory r) t.rows steps cs) x.exchanges) (sym own)
+    (subst (λ (z : Table). Asks ⊥ None (line_commands layout (memory r) z.rows steps cs) x.exchanges) (sym so) (asks_made (commands_of layout r table steps x.said) x.exchanges are accepted_all)) in
+    let then = acts_stand file x.exchanges r r' told between calls w same stands in
+    subst (KeptAll file (halted_failed layout q mid later halt last told' halts) u new s old w n t) (sym (append_assoc x.exchanges (table_exchanges turns) halted))
+    (line_then file (halted_failed layout q mid later halt last told' halts) u new s old w n t at x.exchanges (table_exchanges turns ++ halted) (memory r) steps cs (subst (λ (z : Table). AsksOne z cs) (sym so) (one_asked table x.said)) fit (memory_there file r w same stands) asks
     (λ s' old' w' n' t' here more_so work.
-    lines_kept file u new layout own turns are.0 q last are.1 mid told' (table_after table x.said) later halt are.7 halts then.0 s' old' w' n' t' here (more_so ∙ ap (with_commands cs) so) (subst (λ (v : Work). Keeps Firm are.0 v None) (sym work) then.1)))
+    lines_kept file u new layout own turns r' q last between mid told' (table_after table x.said) later halt rest halts then.0 s' old' w' n' t' here (more_so ∙ ap (with_commands cs) so) (subst (λ (v : Work). Keeps Firm r' v None) (sym work) then.1)))
 
 -- ---- which puts and drops are among them
 
-halt_has : (layout : Layout) (r last : Replica) (told told' : Option Told) (table : Table) (halt : Option Halt) (halts : HaltsIn layout r told table halt last told') → ActsHave (halted_acts layout r told table halt last told' halts) × FailHas (halted_failed layout r told table halt last told' halts)
+halt_has : (layout : Layout) (r last : Replica) (told told' : Option Told) (table : Table) (halt : Option Halt) (halts : HaltsIn layout r told table halt last told') → CallsHave (halted_exchanges layout r told table halt last told' halts) × FailHas (halted_failed layout r told table halt last told' halts)
 halt_has layout r last told told' table None halts = (tt, tt)
 halt_has layout r last told told' table (Some h) halts =
     let e = halts.1 in
-    asked_have (Unit {0}) e.failed (commands_of layout r table halts.0 h.said) e.acts e.answers (asks_ends (commands_of layout r table halts.0 h.said) r last told told' h.ending e) (line_has layout (memory r) table.rows halts.0 (accepted table h.said) halts.2)
+    asked_have (Unit {0}) e.failed (commands_of layout r table halts.0 h.said) e.exchanges (asks_ends (commands_of layout r table halts.0 h.said) r last told told' h.ending e) (line_has layout (memory r) table.rows halts.0 (accepted table h.said) halts.2)
 
-turns_have : (layout : Layout) (turns : List TableTurn) (r q : Replica) (told mid : Option Told) (table later : Table) → AreTurns layout r told table turns q mid later → ActsHave (table_acts turns)
+turns_have : (layout : Layout) (turns : List TableTurn) (r q : Replica) (told mid : Option Told) (table later : Table) → AreTurns layout r told table turns q mid later → CallsHave (table_exchanges turns)
 turns_have layout [] r q told mid table later are = tt
-turns_have layout (x ∷ turns) r q told mid table later are =
-    acts_have x.acts (table_acts turns)
-    (asked_have ⊥ None (commands_of layout r table are.2 x.said) x.acts x.answers (asks_made (commands_of layout r table are.2 x.said) r are.0 told are.1 x.acts x.answers are.4 are.3 are.5) (line_has layout (memory r) table.rows are.2 (accepted table x.said) are.6)).0
-    (turns_have layout turns are.0 q are.1 mid (table_after table x.said) later are.7)
+turns_have layout (x ∷ turns) r q told mid table later (NextTurn u between steps are calls accepted_all fit rest) =
+    calls_have x.exchanges (table_exchanges turns)
+    (asked_have ⊥ None (commands_of layout r table steps x.said) x.exchanges (asks_made (commands_of layout r table steps x.said) x.exchanges are accepted_all) (line_has layout (memory r) table.rows steps (accepted table x.said) fit)).0
+    (turns_have layout turns u q between mid (table_after table x.said) later rest)
 
 pub lines_have : (layout : Layout) (turns : List TableTurn) (r q last : Replica) (told mid told' : Option Told) (table later : Table) (halt : Option Halt) → AreTurns layout r told table turns q mid later → (halts : HaltsIn layout q mid later halt last told')
-    → ActsHave (table_acts turns ++ halted_acts layout q mid later halt last told' halts) × FailHas (halted_failed layout q mid later halt last told' halts)
+    → CallsHave (table_exchanges turns ++ halted_exchanges layout q mid later halt last told' halts) × FailHas (halted_failed layout q mid later halt last told' halts)
 lines_have layout turns r q last told mid told' table later halt are halts =
     let ends = halt_has layout q last mid told' later halt halts in
-    (acts_have (table_acts turns) (halted_acts layout q mid later halt last told' halts) (turns_have layout turns r q told mid table later are) ends.0, ends.1)
+    (calls_have (table_exchanges turns) (halted_exchanges layout q mid later halt last told' halts) (turns_have layout turns r q told mid table later are) ends.0, ends.1)

@@ -20,7 +20,7 @@ use Rattle.df_table.specs.Outside.{WritesTableText}
 use Rattle.df_table.specs.Serving.{IsExecuted, ServingEnded, ServingEndsIn, ServingExecuted, ServingGoesOn, ServingState}
 use Rattle.df_table.specs.Session.{EndsTableText, ServingEndsWith, closing}
 use Rattle.df_table.specs.Statuses.{ending_text, status_of}
-use Rattle.df_table.specs.Turns.{AreFit, AreTurns, EndIn, IsOfCall, TableTurn, commands_of, table_said}
+use Rattle.df_table.specs.Turns.{AreFit, AreTurns, EndIn, IsOfCall, NextTurn, NoTurns, TableTurn, commands_of, table_said}
 
 -- ---- lines
 
@@ -41,22 +41,19 @@ begins_more bound budget text (x ∷ says) left rest said begins is = (begins.0,
 module _ (layout : Layout) where
   -- a line that was executed, as a turn
   abbrev pub turn_of : (said : Said) (s t : Replica) (old new : Option Told) (table later : Table) → IsExecuted layout said s t old new table later → TableTurn
-  turn_of said s t old new table later e = record { said = said; acts = e.acts; answers = e.answers }
+  turn_of said s t old new table later e = record { said = said; exchanges = e.exchanges }
 
   turns_more : (turns : List TableTurn) (s u w : Replica) (old mid new : Option Told) (t v later : Table) (said : Said) → AreTurns layout s old t turns u mid v → (e : IsExecuted layout said u w mid new v later)
       → AreTurns layout s old t (turns ++ turn_of said u w mid new v later e ∷ []) w new later
-  turns_more [] s u w old mid new t v later said are e =
-      let turn = turn_of said u w mid new v later e in
-      subst (λ (r : Replica). AreTurns layout r old t (turn ∷ []) w new later) are.0
-      (subst (λ (o : Option Told). AreTurns layout u o t (turn ∷ []) w new later) are.1
-      (subst (λ (k : Table). AreTurns layout u mid k (turn ∷ []) w new later) are.2 (w, new, e.steps, e.are, e.calls, e.accepted, e.fit, (refl, refl, e.behind_is))))
-  turns_more (x ∷ turns) s u w old mid new t v later said are e =
-      (are.0, are.1, are.2, are.3, are.4, are.5, are.6, turns_more turns are.0 u w are.1 mid new (table_after t x.said) v later said are.7 e)
+  turns_more [] s u w old mid new t v later said NoTurns e =
+      subst (λ (k : Table). AreTurns layout s old t (turn_of said s w old new t later e ∷ []) w new k) (sym e.behind_is) (NextTurn w new e.steps e.are e.calls e.accepted e.fit NoTurns)
+  turns_more (x ∷ turns) s u w old mid new t v later said (NextTurn r between steps are calls accepted fit rest) e =
+      NextTurn r between steps are calls accepted fit (turns_more turns r u w between mid new (table_after t x.said) v later said rest e)
 
   -- the table after them
   table_is : (turns : List TableTurn) (s u : Replica) (old new : Option Told) (t v : Table) → AreTurns layout s old t turns u new v → v ≡ all_behind t (table_said turns)
-  table_is [] s u old new t v are = are.2
-  table_is (x ∷ turns) s u old new t v are = table_is turns are.0 u are.1 new (table_after t x.said) v are.7
+  table_is [] s u old new t v NoTurns = refl
+  table_is (x ∷ turns) s u old new t v (NextTurn r mid steps are calls accepted fit rest) = table_is turns r u mid new (table_after t x.said) v rest
 
 -- what the text, the budget and the lines are after a line
 pub record Takes (bound : ℕ) (old : ServingState) (said : Said) (text : Option (List ℕ)) (budget : ℕ) (rest : List ℕ) : Type 0 where
@@ -213,7 +210,7 @@ executed_none layout s = record {
   text = λ text is. (text, is, (refl, refl));
   written = appends_none s.outside.written;
   lines = omega arith;
-  calls = (refl, refl, refl);
+  calls = NoTurns;
   head = omega arith;
 }
 

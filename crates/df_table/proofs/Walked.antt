@@ -10,7 +10,7 @@ use Rattle.df_theory.specs.Units.{BlockPlace, BlockUnit, Message}
 use Rattle.df_theory.specs.View.{head}
 use Rattle.df_model.specs.After.{after_running, after_step_of, begun, outcome, with_live, with_prepare, with_running}
 use Rattle.df_model.specs.Blocks.{addresses, entries, sum_at}
-use Rattle.df_model.specs.Commands.{Advance, Answer, Append, Begin, Command, Flush, ReadBlock, ReadPrepare, ReadReply, Recent, Release, Reply, Scrub, Stage, ToAppend, WriteBlock, supplied_sum}
+use Rattle.df_model.specs.Commands.{Advance, Answer, Append, Begin, Command, Release, Reply, ToAppend, WriteBlock, supplied_sum}
 use Rattle.df_model.specs.Making.{block_of, next_address, prepare_of}
 use Rattle.df_model.specs.Memory.{Memory, memory_of}
 use Rattle.df_model.specs.Refusals.{append_refusals, block_refusals, first_refusal, next_request, session_of_client}
@@ -25,12 +25,12 @@ use Rattle.df_rows.specs.Limits.{rows_in_block}
 use Rattle.df_rows.specs.Tables.{CanApply, Table, with_command, with_commands}
 use Rattle.df_rows.proofs.Laws.{one_command}
 use Rattle.df_session.specs.Below.{DataFile, State as Replica, shape, spelling, told_after}
-use Rattle.df_session.specs.Links.{AreCalls, Calls}
+use Rattle.df_session.specs.Links.{AreCalls, Calls, More}
 use Rattle.df_session.specs.Serving.{format, next}
-use Rattle.df_session.specs.Session.{Act, work_after}
+use Rattle.df_session.specs.Session.{Act, Exchange, acts_in, work_after}
 use Rattle.df_table.specs.Keeping.{Changes}
 use Rattle.df_table.specs.Policy.{checkpoint, is_full, releases, request, room_for, the_client, writes}
-use Rattle.df_table.specs.Turns.{IsAccepted}
+use Rattle.df_table.specs.Turns.{IsAccepted, WasAccepted}
 use Rattle.df_table.specs.Written.{IsTableIn, WasUnitWritten, WroteBodies, WroteBody}
 use Rattle.df_table.proofs.Lasting.{AreKept, At, FailKept, at_behind, bodies_later, grew, none_taken}
 use Rattle.df_table.proofs.Later.{answer_is, block_written, memory_is}
@@ -46,12 +46,12 @@ abbrev pub IsNext : Command → Option Act → Type 0
 IsNext c None = Unit {0}
 IsNext c (Some a) = a.command ≡ c
 
--- These acts ask for the first of these commands, and each was accepted. Where they may be a part of them, the next one may be the one that failed; or none did, and the last one may have been refused.
-abbrev pub Asks : (part : Type 0) (failed : Option Act) → List Command → List Act → List Answer → Type 0
-Asks part failed [] [] [] = failed ≡ None
-Asks part failed (c ∷ cs) [] [] = part × IsNext c failed
-Asks part failed (c ∷ cs) (a ∷ acts) (x ∷ answers) = (a.command ≡ c) × (IsAccepted x ⊎ (part × (acts ≡ []) × (answers ≡ []) × (failed ≡ None))) × Asks part failed cs acts answers
-Asks part failed cs acts answers = ⊥
+-- These calls ask for the first of these commands, and each was accepted. Where they may be a part of them, the next one may be the one that failed; or none did, and the last one may have been refused.
+abbrev pub Asks : (part : Type 0) (failed : Option Act) → List Command → List Exchange → Type 0
+Asks part failed [] [] = failed ≡ None
+Asks part failed (c ∷ cs) [] = part × IsNext c failed
+Asks part failed [] (x ∷ xs) = ⊥
+Asks part failed (c ∷ cs) (x ∷ xs) = (x.act.command ≡ c) × (WasAccepted x ⊎ (part × (xs ≡ []) × (failed ≡ None))) × Asks part failed cs xs
 
 -- each command leaves the view
 abbrev pub ArePlain : List Command → Type 0
@@ -61,24 +61,13 @@ ArePlain (c ∷ cs) = IsPlain c × ArePlain cs
 -- of a command that leaves the view no change comes
 pub plain_changes : (c : Command) (x : Answer) (some : List Change) → IsPlain c → Changes c x some → some ≡ []
 plain_changes (Append client request body) x some plain changes = absurd plain
-plain_changes (Stage client request body) x some plain changes = absurd plain
-plain_changes Flush x some plain changes = absurd plain
-plain_changes (Reply op body) x some plain changes = changes
-plain_changes (WriteBlock kind body) x some plain changes = changes
-plain_changes (Release address) x some plain changes = changes
-plain_changes (Begin root) x some plain changes = changes
-plain_changes Advance x some plain changes = absurd plain
-plain_changes (ReadPrepare op) x some plain changes = changes
-plain_changes (ReadReply client) x some plain changes = absurd plain
-plain_changes (ReadBlock address) x some plain changes = changes
-plain_changes Scrub x some plain changes = absurd plain
-plain_changes Recent x some plain changes = absurd plain
+plain_changes command x some plain changes = changes
 
 -- ---- a walk along the calls
 
 -- however these calls were made, each leaves the table or changes it by its command
-abbrev pub KeptAll : (file : DataFile) (failed : Option Act) (u : Replica) (new : Option Told) (s : Replica) (old : Option Told) (w : Work) (n : Told) (t : Table) → List Act → List Answer → Type 0
-KeptAll file failed u new s old w n t acts answers = (calls : AreCalls s old acts answers u new) → AreKept file failed w n t s old acts answers u new calls
+abbrev pub KeptAll : (file : DataFile) (failed : Option Act) (u : Replica) (new : Option Told) (s : Replica) (old : Option Told) (w : Work) (n : Told) (t : Table) → List Exchange → Type 0
+KeptAll file failed u new s old w n t xs = (calls : AreCalls s old xs u new) → AreKept file failed w n t xs calls
 
 module _ (file : DataFile) where
   abbrev log_of : Told → UnitLog
@@ -91,64 +80,60 @@ module _ (file : DataFile) where
       (table_stays file (log_of n) (kept w) (kept (next file w a.given a.command).0) t same.checkpoint same.tail table)
 
   -- of some commands, with these acts after them; where their acts end before them, so it is by `stop`
-  module _ (failed : Option Act) (u : Replica) (new : Option Told) (part : Type 0) (fl : Option Act) (more : List Act) (others : List Answer) (end : Work)
-      (stop : part → (s : Replica) (old : Option Told) (w : Work) (n : Told) (t : Table) → At file s w n t → FailKept file fl w n t → KeptAll file failed u new s old w n t more others) where
-    abbrev All : (s : Replica) (old : Option Told) (w : Work) (n : Told) (t : Table) → List Act → List Answer → Type 0
-    All s old w n t acts answers = KeptAll file failed u new s old w n t (acts ++ more) (answers ++ others)
+  module _ (failed : Option Act) (u : Replica) (new : Option Told) (part : Type 0) (fl : Option Act) (more : List Exchange) (end : Work)
+      (stop : part → (s : Replica) (old : Option Told) (w : Work) (n : Told) (t : Table) → At file s w n t → FailKept file fl w n t → KeptAll file failed u new s old w n t more) where
+    abbrev All : (s : Replica) (old : Option Told) (w : Work) (n : Told) (t : Table) → List Exchange → Type 0
+    All s old w n t xs = KeptAll file failed u new s old w n t (xs ++ more)
 
     -- what may be said after all of some commands: so it goes on
     abbrev Behind : (Work → Told → Table → Type 0) → List Command → Type 0
     Behind P cs =
-        (s : Replica) (old : Option Told) (w : Work) (n : Told) (t : Table) (acts : List Act) (answers : List Answer) → At file s w n t → P w n t → Asks part fl cs acts answers → work_after file w acts ≡ end → All s old w n t acts answers
+        (s : Replica) (old : Option Told) (w : Work) (n : Told) (t : Table) (xs : List Exchange) → At file s w n t → P w n t → Asks part fl cs xs → work_after file w (acts_in xs) ≡ end → All s old w n t xs
 
-    stopped : (s : Replica) (old : Option Told) (w : Work) (n : Told) (t : Table) (acts : List Act) (answers : List Answer) → At file s w n t → part → acts ≡ [] → answers ≡ [] → fl ≡ None → All s old w n t acts answers
-    stopped s old w n t [] [] at here no_acts no_answers none = stop here s old w n t at (subst (λ (f : Option Act). FailKept file f w n t) (sym none) tt)
-    stopped s old w n t [] (x ∷ answers) at here no_acts no_answers none = absurd (cc (no_answers))
-    stopped s old w n t (a ∷ acts) answers at here no_acts no_answers none = absurd (cc (no_acts))
+    stopped : (s : Replica) (old : Option Told) (w : Work) (n : Told) (t : Table) (xs : List Exchange) → At file s w n t → part → xs ≡ [] → fl ≡ None → All s old w n t xs
+    stopped s old w n t [] at here no_more none = stop here s old w n t at (subst (λ (f : Option Act). FailKept file f w n t) (sym none) tt)
+    stopped s old w n t (x ∷ xs) at here no_more none = absurd (cc (no_more))
 
     next_fails : (c : Command) (w : Work) (n : Told) (t : Table) (f : Option Act) → IsNext c f → ((a : Act) → a.command ≡ c → FailKept file (Some a) w n t) → FailKept file f w n t
     next_fails c w n t None is fails = tt
     next_fails c w n t (Some a) is fails = fails a is
 
     -- the next command
-    peel : (c : Command) (cs : List Command) (s : Replica) (old : Option Told) (w : Work) (n : Told) (t : Table) (acts : List Act) (answers : List Answer) → At file s w n t → Asks part fl (c ∷ cs) acts answers → work_after file w acts ≡ end
+    peel : (c : Command) (cs : List Command) (s : Replica) (old : Option Told) (w : Work) (n : Told) (t : Table) (xs : List Exchange) → At file s w n t → Asks part fl (c ∷ cs) xs → work_after file w (acts_in xs) ≡ end
         → ((a : Act) → a.command ≡ c → (x : Answer) → x ≡ (next file w a.given a.command).1 → (some : List Change) → Changes a.command x some → IsTableIn file (log_of n) (kept (next file w a.given a.command).0) (with_commands some t))
         → ((a : Act) → a.command ≡ c → FailKept file (Some a) w n t)
-        → ((a : Act) (r : Replica) (mid : Option Told) (x : Answer) (some : List Change) (acts : List Act) (answers : List Answer) → a.command ≡ c → (call : Calls a s r old mid (Some x)) → x ≡ (next file w a.given a.command).1 → IsAccepted x → Changes a.command x some
-        → At file r (next file w a.given a.command).0 (told_after call.call.events n) (with_commands some t) → Asks part fl cs acts answers → work_after file (next file w a.given a.command).0 acts ≡ end
-        → All r mid (next file w a.given a.command).0 (told_after call.call.events n) (with_commands some t) acts answers)
-        → All s old w n t acts answers
-    peel c cs s old w n t [] [] at asks ends step fails k = stop asks.0 s old w n t at (next_fails c w n t fl asks.1 fails)
-    peel c cs s old w n t [] (x ∷ answers) at asks ends step fails k = absurd asks
-    peel c cs s old w n t (a ∷ acts) [] at asks ends step fails k = absurd asks
-    peel c cs s old w n t (a ∷ acts) (x ∷ answers) at asks ends step fails k = λ calls some changes.
-        let call = calls.2 in
-        let is = answer_is file a s calls.0 old calls.1 x w n at.same at.kept_is call.call in
-        let table = step a asks.0 x is some changes in
-        let there = at_behind file a s calls.0 old calls.1 x w n t (with_commands some t) at call table in (
+        → ((a : Act) (r : Replica) (mid : Option Told) (x : Answer) (some : List Change) (xs : List Exchange) → a.command ≡ c → (call : Calls a s r old mid (Some x)) → x ≡ (next file w a.given a.command).1 → IsAccepted x → Changes a.command x some
+        → At file r (next file w a.given a.command).0 (told_after call.call.events n) (with_commands some t) → Asks part fl cs xs → work_after file (next file w a.given a.command).0 (acts_in xs) ≡ end
+        → All r mid (next file w a.given a.command).0 (told_after call.call.events n) (with_commands some t) xs)
+        → All s old w n t xs
+    peel c cs s old w n t [] at asks ends step fails k calls = stop asks.0 s old w n t at (next_fails c w n t fl asks.1 fails) calls
+    peel c cs s old w n t (x ∷ xs) at asks ends step fails k (More r mid call rest) = λ some changes.
+        let is = answer_is file x.act s r old mid x.answer w n at.same at.kept_is call.call in
+        let table = step x.act asks.0 x.answer is some changes in
+        let there = at_behind file x.act s r old mid x.answer w n t (with_commands some t) at call table in (
           table,
           elim asks.1 [
-            | inl accepted ↦ k a calls.0 calls.1 x some acts answers asks.0 call is accepted changes there asks.2 ends calls.3
-            | inr last ↦ stopped calls.0 calls.1 (next file w a.given a.command).0 (told_after call.call.events n) (with_commands some t) acts answers there last.0 last.1 last.2 last.3 calls.3
+            | inl accepted ↦ k x.act r mid x.answer some xs asks.0 call is accepted changes there asks.2 ends rest
+            | inr last ↦ stopped r mid (next file w x.act.given x.act.command).0 (told_after call.call.events n) (with_commands some t) xs there last.0 last.1 last.2 rest
           ],
         )
 
     -- one that leaves the view
-    peel_plain : (c : Command) (cs : List Command) → IsPlain c → (s : Replica) (old : Option Told) (w : Work) (n : Told) (t : Table) (acts : List Act) (answers : List Answer) → At file s w n t → Asks part fl (c ∷ cs) acts answers → work_after file w acts ≡ end
-        → ((a : Act) (r : Replica) (mid : Option Told) (x : Answer) (acts : List Act) (answers : List Answer) → a.command ≡ c → (call : Calls a s r old mid (Some x)) → IsAccepted (next file w a.given c).1
-        → At file r (next file w a.given a.command).0 (told_after call.call.events n) t → Asks part fl cs acts answers → work_after file (next file w a.given a.command).0 acts ≡ end
-        → All r mid (next file w a.given a.command).0 (told_after call.call.events n) t acts answers)
-        → All s old w n t acts answers
-    peel_plain c cs plain s old w n t acts answers at asks ends k =
+    peel_plain : (c : Command) (cs : List Command) → IsPlain c → (s : Replica) (old : Option Told) (w : Work) (n : Told) (t : Table) (xs : List Exchange) → At file s w n t → Asks part fl (c ∷ cs) xs → work_after file w (acts_in xs) ≡ end
+        → ((a : Act) (r : Replica) (mid : Option Told) (x : Answer) (xs : List Exchange) → a.command ≡ c → (call : Calls a s r old mid (Some x)) → IsAccepted (next file w a.given c).1
+        → At file r (next file w a.given a.command).0 (told_after call.call.events n) t → Asks part fl cs xs → work_after file (next file w a.given a.command).0 (acts_in xs) ≡ end
+        → All r mid (next file w a.given a.command).0 (told_after call.call.events n) t xs)
+        → All s old w n t xs
+    peel_plain c cs plain s old w n t xs at asks ends k =
         let its : (a : Act) → a.command ≡ c → IsPlain a.command = λ a is. subst IsPlain (sym is) plain in
-        peel c cs s old w n t acts answers at asks ends
+        peel c cs s old w n t xs at asks ends
         (λ a is x from some changes. plain_table w n t a some (its a is) (plain_changes a.command x some (its a is) changes) at.table)
         (λ a is pending changes. (0, plain_table w n t a (take 0 pending) (its a is) (take_none pending) at.table))
-        (λ a r mid x some later rest is call from accepted changes there more_asks more_ends.
+        (λ a r mid x some later is call from accepted changes there more_asks more_ends.
         let none = plain_changes a.command x some (its a is) changes in
         let same : x ≡ (next file w a.given c).1 = from ∙ ap (λ (d : Command). (next file w a.given d).1) is in
-        subst (λ (l : List Change). All r mid (next file w a.given a.command).0 (told_after call.call.events n) (with_commands l t) later rest) (sym none)
-        (k a r mid x later rest is call (subst IsAccepted same accepted) (subst (λ (l : List Change). At file r (next file w a.given a.command).0 (told_after call.call.events n) (with_commands l t)) none there) more_asks more_ends))
+        subst (λ (l : List Change). All r mid (next file w a.given a.command).0 (told_after call.call.events n) (with_commands l t) later) (sym none)
+        (k a r mid x later is call (subst IsAccepted same accepted) (subst (λ (l : List Change). At file r (next file w a.given a.command).0 (told_after call.call.events n) (with_commands l t)) none there) more_asks more_ends))
       where
         take_none : (l : List Change) → take 0 l ≡ []
         take_none [] = refl
@@ -156,20 +141,20 @@ module _ (file : DataFile) where
 
     -- some of them, one after the other
     pub walk_plain : (t0 : Table) (cs : List Command) → ArePlain cs → Behind (λ w n t. t ≡ t0) [] → Behind (λ w n t. t ≡ t0) cs
-    walk_plain t0 [] plain k s old w n t acts answers at is asks ends = k s old w n t acts answers at is asks ends
-    walk_plain t0 (c ∷ cs) plain k s old w n t acts answers at is asks ends =
-        peel_plain c cs plain.0 s old w n t acts answers at asks ends
-        (λ a r mid x later more_answers of call accepted there more_asks more_ends. walk_plain t0 cs plain.1 k r mid (next file w a.given a.command).0 (told_after call.call.events n) t later more_answers there is more_asks more_ends)
+    walk_plain t0 [] plain k s old w n t xs at is asks ends = k s old w n t xs at is asks ends
+    walk_plain t0 (c ∷ cs) plain k s old w n t xs at is asks ends =
+        peel_plain c cs plain.0 s old w n t xs at asks ends
+        (λ a r mid x later of call accepted there more_asks more_ends. walk_plain t0 cs plain.1 k r mid (next file w a.given a.command).0 (told_after call.call.events n) t later there is more_asks more_ends)
 
     -- ---- releases
 
     walk_releases : (t0 : Table) (es : List (ℕ × ℕ)) (rest : List Command) → Behind (λ w n t. (t ≡ t0) × NoLive w) rest → Behind (λ w n t. (t ≡ t0) × OnlyLive es w) (map (λ x. Release x.0) es ++ rest)
-    walk_releases t0 [] rest k s old w n t acts answers at only asks ends = k s old w n t acts answers at (only.0, none_live w only.1) asks ends
-    walk_releases t0 (x ∷ es) rest k s old w n t acts answers at only asks ends =
-        peel_plain (Release x.0) (map (λ y. Release y.0) es ++ rest) tt s old w n t acts answers at asks ends
-        (λ a r mid y later more_answers is call accepted there more_asks more_ends.
+    walk_releases t0 [] rest k s old w n t xs at only asks ends = k s old w n t xs at (only.0, none_live w only.1) asks ends
+    walk_releases t0 (x ∷ es) rest k s old w n t xs at only asks ends =
+        peel_plain (Release x.0) (map (λ y. Release y.0) es ++ rest) tt s old w n t xs at asks ends
+        (λ a r mid y later is call accepted there more_asks more_ends.
         let state : (next file w a.given a.command).0 ≡ with_live w x.0 None = ap (λ (d : Command). (next file w a.given d).0) is ∙ released file w a.given x.0 accepted in
-        walk_releases t0 es rest k r mid (next file w a.given a.command).0 (told_after call.call.events n) t later more_answers there (only.0, subst (OnlyLive es) (sym state) (one_less x es w only.1)) more_asks more_ends)
+        walk_releases t0 es rest k r mid (next file w a.given a.command).0 (told_after call.call.events n) t later there (only.0, subst (OnlyLive es) (sym state) (one_less x es w only.1)) more_asks more_ends)
 
     -- ---- writes
 
@@ -179,11 +164,11 @@ module _ (file : DataFile) where
 
     walk_writes : (t0 : Table) (done todo : List (List ℕ)) (rest : List Command) → Behind (λ w n t. (t ≡ t0) × WroteBodies (log_of n) (live_entries w) (done ++ todo)) rest
         → Behind (λ w n t. (t ≡ t0) × WroteBodies (log_of n) (live_entries w) done × LowHeld w) (map (WriteBlock 1) todo ++ rest)
-    walk_writes t0 done [] rest k s old w n t acts answers at so asks ends =
-        k s old w n t acts answers at (so.0, subst (λ (l : List (List ℕ)). WroteBodies (log_of n) (live_entries w) l) (sym (append-nil done)) so.1) asks ends
-    walk_writes t0 done (body ∷ todo) rest k s old w n t acts answers at so asks ends =
-        peel_plain (WriteBlock 1 body) (map (WriteBlock 1) todo ++ rest) tt s old w n t acts answers at asks ends
-        (λ a r mid x later more_answers is call accepted there more_asks more_ends.
+    walk_writes t0 done [] rest k s old w n t xs at so asks ends =
+        k s old w n t xs at (so.0, subst (λ (l : List (List ℕ)). WroteBodies (log_of n) (live_entries w) l) (sym (append-nil done)) so.1) asks ends
+    walk_writes t0 done (body ∷ todo) rest k s old w n t xs at so asks ends =
+        peel_plain (WriteBlock 1 body) (map (WriteBlock 1) todo ++ rest) tt s old w n t xs at asks ends
+        (λ a r mid x later is call accepted there more_asks more_ends.
         let m = memory_of (shape file) (spelling file) w in
         let sum = supplied_sum a.given in
         let address = next_address m in
@@ -205,8 +190,8 @@ module _ (file : DataFile) where
         (sym (entries_last w.live address sum 1 (shape file).layout.blocks least.inside.0 (omega (arith, least.inside.1)) (λ y d live. lower w address y d so.2 least.inside.0 least.free live)))
         (wrote_more (log_of behind) (live_entries w) done (address, sum) body (bodies_later file n.log behind.log (live_entries w) done (grew call.call.events n) so.1) block) in
         walk_writes t0 (done ++ body ∷ []) todo rest
-        (λ s old w n t acts answers at so asks ends. k s old w n t acts answers at (so.0, subst (λ (l : List (List ℕ)). WroteBodies (log_of n) (live_entries w) l) (append_assoc done (body ∷ []) todo) so.1) asks ends)
-        r mid (next file w a.given a.command).0 behind t later more_answers there
+        (λ s old w n t xs at so asks ends. k s old w n t xs at (so.0, subst (λ (l : List (List ℕ)). WroteBodies (log_of n) (live_entries w) l) (append_assoc done (body ∷ []) todo) so.1) asks ends)
+        r mid (next file w a.given a.command).0 behind t later there
         (so.0, subst (λ (v : Work). WroteBodies (log_of behind) (live_entries v) (done ++ body ∷ [])) (sym state) all, subst LowHeld (sym state) (low_more (shape file) w address sum so.2 least)) more_asks more_ends)
 
     -- ---- the begin and its steps
@@ -220,9 +205,9 @@ module _ (file : DataFile) where
     Captured bodies w n = (r : Running) → w.running ≡ Some r → (r.op ≡ head w.view) × WroteBodies (log_of n) (entries r.parts.references (addresses (shape file).layout)) bodies
 
     walk_begin : (t0 : Table) (bodies : List (List ℕ)) (rest : List Command) → Behind (λ w n t. (t ≡ t0) × Captured bodies w n) rest → Behind (λ w n t. (t ≡ t0) × WroteBodies (log_of n) (live_entries w) bodies) (Begin [] ∷ rest)
-    walk_begin t0 bodies rest k s old w n t acts answers at so asks ends =
-        peel_plain (Begin []) rest tt s old w n t acts answers at asks ends
-        (λ a r mid x later more_answers is call accepted there more_asks more_ends.
+    walk_begin t0 bodies rest k s old w n t xs at so asks ends =
+        peel_plain (Begin []) rest tt s old w n t xs at asks ends
+        (λ a r mid x later is call accepted there more_asks more_ends.
         let behind : Told = told_after call.call.events n in
         let state : (next file w a.given a.command).0 ≡ with_running w (Some (begun (shape file) (spelling file) w [])) = ap (λ (d : Command). (next file w a.given d).0) is ∙ began file w a.given [] accepted in
         let same : entries (λ y. sum_at y (live_entries w)) (addresses (shape file).layout) ≡ live_entries w =
@@ -231,7 +216,7 @@ module _ (file : DataFile) where
         let captured : Captured bodies (with_running w (Some (begun (shape file) (spelling file) w []))) behind = λ q running.
         subst (λ (z : Running). (z.op ≡ head w.view) × WroteBodies (log_of behind) (entries z.parts.references (addresses (shape file).layout)) bodies) (one_some running)
         (refl, subst (λ (l : List (ℕ × ℕ)). WroteBodies (log_of behind) l bodies) (sym same) written) in
-        k r mid (next file w a.given a.command).0 behind t later more_answers there (so.0, subst (λ (v : Work). Captured bodies v behind) (sym state) captured) more_asks more_ends)
+        k r mid (next file w a.given a.command).0 behind t later there (so.0, subst (λ (v : Work). Captured bodies v behind) (sym state) captured) more_asks more_ends)
 
     -- what a step leads to
     record Stepped (t : Table) (n : Told) (v : Work) : Type 0 where
@@ -262,15 +247,15 @@ module _ (file : DataFile) where
     no_change c x some is changes = subst (λ (d : Command). Changes d x some) is changes
 
     walk_steps : (t0 : Table) (steps : ℕ) (rest : List Command) → Behind (λ w n t. t ≡ t0) rest → Behind (λ w n t. (t ≡ t0) × Captured (bodies_in t0) w n) (replicate steps Advance ++ rest)
-    walk_steps t0 zero rest k s old w n t acts answers at so asks ends = k s old w n t acts answers at so.0 asks ends
-    walk_steps t0 (suc steps) rest k s old w n t acts answers at so asks ends =
+    walk_steps t0 zero rest k s old w n t xs at so asks ends = k s old w n t xs at so.0 asks ends
+    walk_steps t0 (suc steps) rest k s old w n t xs at so asks ends =
         let captured : Captured (bodies_in t) w n = subst (λ (z : Table). Captured (bodies_in z) w n) (sym so.0) so.1 in
-        peel Advance (replicate steps Advance ++ rest) s old w n t acts answers at asks ends
+        peel Advance (replicate steps Advance ++ rest) s old w n t xs at asks ends
         (λ a is x from some changes.
         subst (λ (l : List Change). IsTableIn file (log_of n) (kept (next file w a.given a.command).0) (with_commands l t)) (sym (no_change a.command x some is changes)) (stepped w n t a is at.table captured).table)
         (λ a is pending changes.
         (0, subst (λ (z : Table). IsTableIn file (log_of n) (kept (next file w a.given a.command).0) z) (sym (none_taken t pending)) (stepped w n t a is at.table captured).table))
-        (λ a r mid x some later more_answers is call from accepted changes there more_asks more_ends.
+        (λ a r mid x some later is call from accepted changes there more_asks more_ends.
         let behind : Told = told_after call.call.events n in
         let none = no_change a.command x some is changes in
         let here : At file r (next file w a.given a.command).0 behind t = subst (λ (l : List Change). At file r (next file w a.given a.command).0 behind (with_commands l t)) none there in
@@ -280,8 +265,8 @@ module _ (file : DataFile) where
           subst (λ (z : Table). WroteBodies (log_of behind) (entries q.parts.references (addresses (shape file).layout)) (bodies_in z)) so.0
               (bodies_later file n.log behind.log (entries q.parts.references (addresses (shape file).layout)) (bodies_in t) (grew call.call.events n) known.1),
         ) in
-        subst (λ (l : List Change). All r mid (next file w a.given a.command).0 behind (with_commands l t) later more_answers) (sym none)
-        (walk_steps t0 steps rest k r mid (next file w a.given a.command).0 behind t later more_answers here (so.0, still) more_asks more_ends))
+        subst (λ (l : List Change). All r mid (next file w a.given a.command).0 behind (with_commands l t) later) (sym none)
+        (walk_steps t0 steps rest k r mid (next file w a.given a.command).0 behind t later here (so.0, still) more_asks more_ends))
 
     -- ---- the request
 
@@ -324,8 +309,8 @@ module _ (file : DataFile) where
       append_accepted w sum (Some e) x from accepted some changes = absurd (subst IsAccepted from accepted)
 
       walk_request : Behind (λ w n t. t ≡ with_command c t0) [] → Behind (λ w n t. t ≡ t0) (append ∷ Reply op [] ∷ [])
-      walk_request k s old w n t acts answers at so asks ends =
-          peel append (Reply op [] ∷ []) s old w n t acts answers at asks ends
+      walk_request k s old w n t xs at so asks ends =
+          peel append (Reply op [] ∷ []) s old w n t xs at asks ends
           (λ a is x from some changes.
           let x_is = from ∙ ap (λ (d : Command). (next file w a.given d).1) is in
           subst (λ (d : Command). IsTableIn file (log_of n) (kept (next file w a.given d).0) (with_commands some t)) (sym is)
@@ -333,13 +318,13 @@ module _ (file : DataFile) where
           (λ a is pending changes.
           subst (λ (d : Command). (j : ℕ) × IsTableIn file (log_of n) (kept (next file w a.given d).0) (with_commands (take j pending) t)) (sym is)
           (append_fails w n t (supplied_sum a.given) so at.table (refusal w) pending (subst (λ (d : Command). Changes d (ToAppend (Ok (0, 0))) pending) is changes)))
-          (λ a r mid x some later more_answers is call from accepted changes there more_asks more_ends.
+          (λ a r mid x some later is call from accepted changes there more_asks more_ends.
           let behind : Told = told_after call.call.events n in
           let x_is = from ∙ ap (λ (d : Command). (next file w a.given d).1) is in
           let its : some ≡ c ∷ [] = append_accepted w (supplied_sum a.given) (refusal w) x x_is accepted some (subst (λ (d : Command). Changes d x some) is changes) in
-          peel_plain (Reply op []) [] tt r mid (next file w a.given a.command).0 behind (with_commands some t) later more_answers there more_asks more_ends
-          (λ b q one y last last_answers of reply yes here last_asks last_ends.
-          k q one (next file (next file w a.given a.command).0 b.given b.command).0 (told_after reply.call.events behind) (with_commands some t) last last_answers here
+          peel_plain (Reply op []) [] tt r mid (next file w a.given a.command).0 behind (with_commands some t) later there more_asks more_ends
+          (λ b q one y last of reply yes here last_asks last_ends.
+          k q one (next file (next file w a.given a.command).0 b.given b.command).0 (told_after reply.call.events behind) (with_commands some t) last here
           (ap (λ (l : List Change). with_commands l t) its ∙ ap (with_command c) so) last_asks last_ends))
 
     -- ---- a line's commands
@@ -358,8 +343,8 @@ module _ (file : DataFile) where
       begins = walk_begin t0 (bodies_in t0) steps_then (walk_steps t0 steps (request m c) asked)
 
       writing : Behind (λ w n t. (t ≡ t0) × NoLive w) writes_then
-      writing s old w n t acts answers at so asks ends =
-          walk_writes t0 [] (bodies_in t0) (Begin [] ∷ steps_then) begins s old w n t acts answers at
+      writing s old w n t xs at so asks ends =
+          walk_writes t0 [] (bodies_in t0) (Begin [] ∷ steps_then) begins s old w n t xs at
           (so.0, subst (λ (l : List (ℕ × ℕ)). WroteBodies (log_of n) l []) (sym (none_from w.live 1 (shape file).layout.blocks (λ y from. no_some (w.live y) (λ d is. so.1 y d is)))) tt, λ y d live. absurd (so.1 y d live)) asks ends
 
       -- all that is live lies in the grid
@@ -375,11 +360,11 @@ module _ (file : DataFile) where
           let same : checkpoint file.layout m t0.rows steps ++ request m c ≡ releases m ++ writes_then =
           append_assoc (releases m) (writes file.layout t0.rows ++ rest) (request m c) ∙ ap (λ (l : List Command). releases m ++ l) (append_assoc (writes file.layout t0.rows) rest (request m c)) in
           subst (λ (l : List Command). Behind (λ w n t. (t ≡ t0) × (m ≡ memory_of (shape file) (spelling file) w)) l) (sym same)
-          (λ s old w n t acts answers at so asks ends. walk_releases t0 m.blocks.live writes_then writing s old w n t acts answers at (so.0, live_there s w n t at so.1) asks ends)
+          (λ s old w n t xs at so asks ends. walk_releases t0 m.blocks.live writes_then writing s old w n t xs at (so.0, live_there s w n t at so.1) asks ends)
 
       pub walk_change : Behind (λ w n t. (t ≡ t0) × (m ≡ memory_of (shape file) (spelling file) w)) (room_for file.layout m t0.rows steps ++ request m c)
       walk_change = go (is_full m)
         where
           go : (b : Bool) → Behind (λ w n t. (t ≡ t0) × (m ≡ memory_of (shape file) (spelling file) w)) ((if b then checkpoint file.layout m t0.rows steps else []) ++ request m c)
           go true = full
-          go false = λ s old w n t acts answers at so asks ends. asked s old w n t acts answers at so.0 asks ends
+          go false = λ s old w n t xs at so asks ends. asked s old w n t xs at so.0 asks ends

@@ -17,7 +17,7 @@ use Rattle.df_session.specs.Following.{MayOpen}
 use Rattle.df_session.specs.Keeping.{over}
 use Rattle.df_session.specs.Links.{CallsMade, events_made}
 use Rattle.df_session.specs.Serving.{format}
-use Rattle.df_session.specs.Session.{Act}
+use Rattle.df_session.specs.Session.{Act, Exchange}
 use Rattle.df_table.specs.Table.{HasTable, IsObjectTable}
 
 -- ---- puts and drops among calls
@@ -27,10 +27,10 @@ abbrev pub Changes : Command → Answer → List Change → Type 0
 Changes (Append client request body) (ToAppend (Ok done)) changes = (c : Change) × IsCommand c × (body ≡ body_of c) × (changes ≡ c ∷ [])
 Changes command answer changes = changes ≡ []
 
--- those of calls with these answers, in order
-abbrev pub AreChanges : List Act → List Answer → List Change → Type 0
-AreChanges (a ∷ acts) (x ∷ answers) changes = (some : List Change) × (more : List Change) × Changes a.command x some × AreChanges acts answers more × (changes ≡ some ++ more)
-AreChanges acts answers changes = changes ≡ []
+-- those of calls that were answered, in order
+abbrev pub AreChanges : List Exchange → List Change → Type 0
+AreChanges [] changes = changes ≡ []
+AreChanges (x ∷ exchanges) changes = (some : List Change) × (more : List Change) × Changes x.act.command x.answer some × AreChanges exchanges more × (changes ≡ some ++ more)
 
 -- that of a call that was not answered, were it accepted
 abbrev pub IsPending : Option Act → List Change → Type 0
@@ -49,7 +49,7 @@ pub record IsTableMidway (file : DataFile) (t : Table) (changes : List Change) (
 pub record KeepsFrom (file : DataFile) (t : Table) (base : Told) (mending : List Event) (c : CallsMade) (changes pending : List Change) (after : Told) : Type 0 where
   pub is : over mending (events_made c) base ≡ Some after
   pub moments : EachMoment (did Sync base).log after.log (IsTableMidway file t (changes ++ pending))
-  pub answered : (k : ℕ) (log : Log) (some more : List Change) → AreChanges (take k c.acts) (take k c.answers) some → AreChanges (drop k c.acts) (drop k c.answers) more
+  pub answered : (k : ℕ) (log : Log) (some more : List Change) → AreChanges (take k c.exchanges) some → AreChanges (drop k c.exchanges) more
       → WereAnswered k (over mending [] base) log c → IsUntil (Some after) log → IsTableMidway file (with_commands some t) (more ++ pending) log
   pub end_safe : IsTableMidway file (with_commands changes t) pending after.log
 
@@ -57,7 +57,7 @@ pub record KeepsFrom (file : DataFile) (t : Table) (base : Told) (mending : List
 pub record KeepsTable (t : Told) (s : Replica) (mending : List Event) (c : CallsMade) : Type 0 where
   pub changes : List Change
   pub pending : List Change
-  pub are : AreChanges c.acts c.answers changes
+  pub are : AreChanges c.exchanges changes
   pub is_pending : IsPending c.failed pending
   pub keeps : (view : View) (base : Told) (table : Table) → base.shown ≡ t.shown → MayOpen s.file view base → IsObjectTable s.file (unit_at s.file.layout s.file.cluster t.shown) view table
       → (after : Told) × KeepsFrom s.file table base mending c changes pending after

@@ -52,7 +52,7 @@ abbrev pub KeepsChapter : RunExtent → CallsMade → (changes pending : List Ch
 KeepsChapter ToItsEnd c changes pending chapter = chapter ≡ record { kept = changes; perhaps = pending }
 KeepsChapter (ToAMoment log zero) c changes pending chapter = chapter ≡ record { kept = []; perhaps = changes ++ pending }
 KeepsChapter (ToAMoment log (suc k)) c changes pending chapter =
-    (more : List Change) × WereAnswered (suc k) c.old log c × AreChanges (take (suc k) c.acts) (take (suc k) c.answers) chapter.kept × AreChanges (drop (suc k) c.acts) (drop (suc k) c.answers) more × (chapter.perhaps ≡ more ++ pending)
+    (more : List Change) × WereAnswered (suc k) c.old log c × AreChanges (take (suc k) c.exchanges) chapter.kept × AreChanges (drop (suc k) c.exchanges) more × (chapter.perhaps ≡ more ++ pending)
 
 abbrev pub no_changes : TableChapter
 no_changes = record { kept = []; perhaps = [] }

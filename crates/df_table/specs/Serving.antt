@@ -5,15 +5,14 @@ use Rattle.df_disk.specs.Told.{Told}
 use Rattle.df_layout.specs.declared.layout.Layout.{Layout}
 use Rattle.df_lines.specs.Room.{IsAtEnd, line_bound}
 use Rattle.df_lines.specs.Text.{unread}
-use Rattle.df_model.specs.Commands.{Answer}
 use Rattle.df_rows.specs.Grammar.{Said, SaysTableLine}
 use Rattle.df_rows.specs.Limits.{rows_in_block}
 use Rattle.df_rows.specs.Lines.{accepted as change_of, all_accepted, line_of_turn, map_text, table_after}
 use Rattle.df_lines.specs.Lines.{Begins}
 use Rattle.df_rows.specs.Tables.{Table}
 use Rattle.df_session.specs.Below.{State as Replica}
-use Rattle.df_session.specs.Links.{AreCalls, command_in}
-use Rattle.df_session.specs.Session.{Act}
+use Rattle.df_session.specs.Links.{AreCalls}
+use Rattle.df_session.specs.Session.{Exchange, acts_in, command_in}
 use Rattle.df_table.specs.declared.ending.Ending.{Ending}
 use Rattle.df_table.specs.declared.session.Session.{Session}
 use Rattle.df_table.specs.declared.status.Status.{Status}
@@ -26,7 +25,7 @@ use Rattle.df_table.specs.Outside.{EndsWithFile, Outside, WritesTableText}
 use Rattle.df_table.specs.Ready.{IsSteady, LeavesScript}
 use Rattle.df_table.specs.Session.{EndsTableText, Halt, HaltsIn, ServingEndsWith, closing, said_in}
 use Rattle.df_table.specs.Statuses.{ending_text, status_of}
-use Rattle.df_table.specs.Turns.{AreFit, AreTurns, EndIn, IsAccepted, IsOfCall, TableTurn, commands_of, table_said}
+use Rattle.df_table.specs.Turns.{AreFit, AreTurns, EndIn, IsOfCall, TableTurn, WasAccepted, commands_of, table_said}
 
 -- ---- how far it has come
 
@@ -76,12 +75,11 @@ pub record ServingEnded (layout : Layout) (origin now : ServingState) (status : 
 
 -- it was executed: it took its calls, all of which were accepted, and this is the table after it
 pub record IsExecuted (layout : Layout) (said : Said) (s t : Replica) (old new : Option Told) (table later : Table) : Type 0 where
-  pub acts : List Act
-  pub answers : List Answer
+  pub exchanges : List Exchange
   pub steps : ℕ
-  pub calls : AreCalls s old acts answers t new
-  pub are : map command_in acts ≡ commands_of layout s table steps said
-  pub accepted : All IsAccepted answers
+  pub calls : AreCalls s old exchanges t new
+  pub are : map command_in (acts_in exchanges) ≡ commands_of layout s table steps said
+  pub accepted : All WasAccepted exchanges
   pub fit : AreFit (change_of table said)
   pub behind_is : later ≡ table_after table said
   pub head : t.head ≡ s.head + length (change_of table said)

@@ -6,13 +6,12 @@ use Rattle.df_inspect.specs.Opening.{script_text}
 use Rattle.df_layout.specs.declared.layout.Layout.{Layout}
 use Rattle.df_lines.specs.Room.{line_bound}
 use Rattle.df_lines.specs.Text.{line_of}
-use Rattle.df_model.specs.Commands.{Answer}
 use Rattle.df_rows.specs.Grammar.{Said, SaysTableLine}
 use Rattle.df_lines.specs.Lines.{Begins, IsRefused}
 use Rattle.df_rows.specs.Tables.{Table}
 use Rattle.df_session.specs.Below.{State as Replica, memory}
 use Rattle.df_session.specs.Links.{CallsMade}
-use Rattle.df_session.specs.Session.{Act}
+use Rattle.df_session.specs.Session.{Act, Exchange}
 use Rattle.df_table.specs.declared.ending.Ending.{Ending}
 use Rattle.df_table.specs.declared.status.Status.{Status}
 use Rattle.df_table.specs.declared.status.Status.TheVariants.{Done, Script, ReadFault, WriteFault}
@@ -22,7 +21,7 @@ use Rattle.df_table.specs.Opening.{FindsOf}
 use Rattle.df_table.specs.Outside.{Outside, WritesTableText}
 use Rattle.df_table.specs.Policy.{opening}
 use Rattle.df_table.specs.Statuses.{ending_text, status_of}
-use Rattle.df_table.specs.Turns.{AreFit, AreTurns, EndIn, IsOfCall, MakeAll, TableTurn, commands_of, table_acts, table_answers, table_said}
+use Rattle.df_table.specs.Turns.{AreFit, AreTurns, EndIn, IsOfCall, MakeAll, TableTurn, commands_of, table_exchanges, table_said}
 
 -- how many bytes a script may have
 abbrev pub script_budget : ℕ
@@ -106,13 +105,9 @@ pub record ServesOpened (layout : Layout) (s : Replica) (t : Told) (old new : Ou
 
 -- ---- its calls
 
-abbrev pub halted_acts : (layout : Layout) (s : Replica) (old : Option Told) (t : Table) (halt : Option Halt) (u : Replica) (new : Option Told) → HaltsIn layout s old t halt u new → List Act
-halted_acts layout s old t None u new halts = []
-halted_acts layout s old t (Some h) u new halts = halts.1.acts
-
-abbrev pub halted_answers : (layout : Layout) (s : Replica) (old : Option Told) (t : Table) (halt : Option Halt) (u : Replica) (new : Option Told) → HaltsIn layout s old t halt u new → List Answer
-halted_answers layout s old t None u new halts = []
-halted_answers layout s old t (Some h) u new halts = halts.1.answers
+abbrev pub halted_exchanges : (layout : Layout) (s : Replica) (old : Option Told) (t : Table) (halt : Option Halt) (u : Replica) (new : Option Told) → HaltsIn layout s old t halt u new → List Exchange
+halted_exchanges layout s old t None u new halts = []
+halted_exchanges layout s old t (Some h) u new halts = halts.1.exchanges
 
 abbrev pub halted_failed : (layout : Layout) (s : Replica) (old : Option Told) (t : Table) (halt : Option Halt) (u : Replica) (new : Option Told) → HaltsIn layout s old t halt u new → Option Act
 halted_failed layout s old t None u new halts = None
@@ -121,9 +116,8 @@ halted_failed layout s old t (Some h) u new halts = halts.1.failed
 -- These are all the calls of a session, in order.
 abbrev pub AreCallsOf : (layout : Layout) (s : Replica) (told : Option Told) (old new : Outside) (status : Status) (opened : Result Table Ending) → ServesFoundTable layout s told old new status opened → CallsMade → Type 0
 AreCallsOf layout s told old new status opened (NotOpened ending last ends unread writes) c =
-    (c.from ≡ s) × (c.old ≡ told) × (c.new ≡ new.told) × (c.acts ≡ ends.acts) × (c.answers ≡ ends.answers) × (c.failed ≡ ends.failed)
+    (c.from ≡ s) × (c.old ≡ told) × (c.new ≡ new.told) × (c.exchanges ≡ ends.exchanges) × (c.failed ≡ ends.failed)
 AreCallsOf layout s told old new status opened (Served t u mid opens lines) c =
     (c.from ≡ s) × (c.old ≡ told) × (c.new ≡ new.told)
-    × (c.acts ≡ opens.acts ++ (table_acts lines.turns ++ halted_acts layout lines.replica lines.mid lines.table lines.halt lines.last new.told lines.halts))
-    × (c.answers ≡ opens.answers ++ (table_answers lines.turns ++ halted_answers layout lines.replica lines.mid lines.table lines.halt lines.last new.told lines.halts))
+    × (c.exchanges ≡ opens.exchanges ++ (table_exchanges lines.turns ++ halted_exchanges layout lines.replica lines.mid lines.table lines.halt lines.last new.told lines.halts))
     × (c.failed ≡ halted_failed layout lines.replica lines.mid lines.table lines.halt lines.last new.told lines.halts)

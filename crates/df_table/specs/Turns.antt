@@ -15,8 +15,8 @@ use Rattle.df_rows.specs.Grammar.{Said}
 use Rattle.df_rows.specs.Tables.{Table}
 use Rattle.df_session.specs.Below.{State as Replica, memory}
 use Rattle.df_session.specs.Endings.{IsDamagedStep}
-use Rattle.df_session.specs.Links.{AreCalls, EndsCalls, command_in, list_of}
-use Rattle.df_session.specs.Session.{Act}
+use Rattle.df_session.specs.Links.{AreCalls, EndsCalls, list_of}
+use Rattle.df_session.specs.Session.{Act, Exchange, acts_in, answers_in, command_in}
 use Rattle.df_table.specs.declared.ending.Ending.{Ending}
 use Rattle.df_table.specs.declared.ending.Ending.TheVariants.{Disk, Damaged, NotTable, OpsSpent, SequenceSpent}
 use Rattle.df_rows.specs.Lines.{accepted, table_after}
@@ -39,18 +39,20 @@ IsAccepted (ToReadReply (Err e)) = ⊥
 IsAccepted (ToReadBlock (Err e)) = ⊥
 IsAccepted answer = Unit {0}
 
+abbrev pub WasAccepted : Exchange → Type 0
+WasAccepted x = IsAccepted x.answer
+
 -- these commands were made, one after the other, and each was accepted
 pub record MakeAll (commands : List Command) (s t : Replica) (old new : Option Told) : Type 0 where
-  pub acts : List Act
-  pub answers : List Answer
-  pub calls : AreCalls s old acts answers t new
-  pub are : map command_in acts ≡ commands
-  pub accepted : All IsAccepted answers
+  pub exchanges : List Exchange
+  pub calls : AreCalls s old exchanges t new
+  pub are : map command_in (acts_in exchanges) ≡ commands
+  pub accepted : All WasAccepted exchanges
 
--- each of these answers was accepted, but perhaps the last, after which nothing was made
-abbrev pub AreAccepted : List Answer → (failed : Option Act) → Type 0
+-- each of these calls was accepted, but perhaps the last, after which nothing was made
+abbrev pub AreAccepted : List Exchange → (failed : Option Act) → Type 0
 AreAccepted [] failed = Unit {0}
-AreAccepted (x ∷ answers) failed = (IsAccepted x ⊎ ((answers ≡ []) × (failed ≡ None))) × AreAccepted answers failed
+AreAccepted (x ∷ exchanges) failed = (WasAccepted x ⊎ ((exchanges ≡ []) × (failed ≡ None))) × AreAccepted exchanges failed
 
 -- the last of these answers
 abbrev pub LastIs : Answer → List Answer → Type 0
@@ -80,22 +82,20 @@ IsOfCall told SequenceSpent = Unit {0}
 
 -- the first of these commands were made, and no further one, since this ended them
 pub record EndIn (commands : List Command) (s t : Replica) (old new : Option Told) (ending : Ending) : Type 0 where
-  pub acts : List Act
-  pub answers : List Answer
+  pub exchanges : List Exchange
   pub failed : Option Act
-  pub calls : EndsCalls s t old new acts answers failed
+  pub calls : EndsCalls s t old new exchanges failed
   pub rest : List Command
-  pub are : map command_in (acts ++ list_of failed) ++ rest ≡ commands
-  pub accepted : AreAccepted answers failed
-  pub why : EndsFor ending new answers failed
+  pub are : map command_in (acts_in exchanges ++ list_of failed) ++ rest ≡ commands
+  pub accepted : AreAccepted exchanges failed
+  pub why : EndsFor ending new (answers_in exchanges) failed
 
 -- ---- a line
 
 -- a line that was executed, with the calls that it took
 pub record TableTurn : Type 0 where
   pub said : Said
-  pub acts : List Act
-  pub answers : List Answer
+  pub exchanges : List Exchange
 
 -- the commands of a line over this table, where a checkpoint takes so many steps
 abbrev pub commands_of : Layout → Replica → Table → (steps : ℕ) → Said → List Command
@@ -107,19 +107,15 @@ AreFit [] = Unit {0}
 AreFit (c ∷ more) = IsCommand c × AreFit more
 
 -- from one state to another these lines were executed, one after the other: each took its calls, all of which were answered
-abbrev pub AreTurns : Layout → (s : Replica) (old : Option Told) (t : Table) → List TableTurn → (u : Replica) (new : Option Told) (v : Table) → Type 0
-AreTurns layout s old t [] u new v = (u ≡ s) × (new ≡ old) × (v ≡ t)
-AreTurns layout s old t (x ∷ turns) u new v =
-    (r : Replica) × (mid : Option Told) × (steps : ℕ) × (map command_in x.acts ≡ commands_of layout s t steps x.said) × AreCalls s old x.acts x.answers r mid × All IsAccepted x.answers × AreFit (accepted t x.said) × AreTurns layout r mid (table_after t x.said) turns u new v
+pub data AreTurns (layout : Layout) : (s : Replica) (old : Option Told) (t : Table) (turns : List TableTurn) (u : Replica) (new : Option Told) (v : Table) → Type 0 where
+  NoTurns : {s : Replica} {old : Option Told} {t : Table} → AreTurns layout s old t [] s old t
+  NextTurn : {x : TableTurn} {turns : List TableTurn} {s u : Replica} {old new : Option Told} {t v : Table} (r : Replica) (mid : Option Told) (steps : ℕ) → map command_in (acts_in x.exchanges) ≡ commands_of layout s t steps x.said → AreCalls s old x.exchanges r mid
+      → All WasAccepted x.exchanges → AreFit (accepted t x.said) → AreTurns layout r mid (table_after t x.said) turns u new v → AreTurns layout s old t (x ∷ turns) u new v
 
 abbrev pub table_said : List TableTurn → List Said
 table_said [] = []
 table_said (x ∷ turns) = x.said ∷ table_said turns
 
-abbrev pub table_acts : List TableTurn → List Act
-table_acts [] = []
-table_acts (x ∷ turns) = x.acts ++ table_acts turns
-
-abbrev pub table_answers : List TableTurn → List Answer
-table_answers [] = []
-table_answers (x ∷ turns) = x.answers ++ table_answers turns
+abbrev pub table_exchanges : List TableTurn → List Exchange
+table_exchanges [] = []
+table_exchanges (x ∷ turns) = x.exchanges ++ table_exchanges turns
