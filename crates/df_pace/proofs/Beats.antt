@@ -1,15 +1,16 @@
 -- What is due is done piece by piece, and what was accepted is counted by the head.
-use Rattle.std.proofs.Common.{◌≡◌, ◌<◌, ℕ, zero, suc, ◌+◌, ◌-◌, ◌≤◌, ◌&&◌, nat_lt, Bool, true, false, if◌then◌else◌, min, List, [], ◌∷◌, ◌++◌, length, Option, Some, None, replicate, refl, sym, ◌∙◌, ap, subst, arith, length-append, length-drop}
+use Rattle.std.proofs.Common.{◌≡◌, ◌<◌, ℕ, zero, suc, ◌+◌, ◌-◌, ◌&&◌, nat_lt, Bool, true, false, if◌then◌else◌, min, List, [], ◌∷◌, ◌++◌, length, Option, Some, None, replicate, refl, sym, ◌∙◌, ap, subst, arith, length-append, length-drop}
 use Rattle.std.proofs.lemmas.Bool.Decides.{nat_tests}
 use Rattle.df_theory.specs.Units.{Message, Parts}
 use Rattle.df_theory.specs.Shape.{Shape}
 use Rattle.df_theory.specs.View.{head}
 use Rattle.df_model.specs.Work.{Request, Running, Work}
 use Rattle.df_model.specs.Memory.{Course, course_of, memory_of}
-use Rattle.df_model.specs.Refusals.{append_refusals, begin_refusals, block_refusals, first_refusal, flush_refusals, is_running, release_refusals, reply_refusals, stage_refusals, steps_left}
-use Rattle.df_model.specs.Making.{group_of, needed_of, next_address, place_of_reply, prepare_of, reply_of}
-use Rattle.df_model.specs.After.{after_check, after_running, after_step_of, begun, outcome, to_check, with_group, with_live, with_prepare, with_reply, with_running, with_staged}
-use Rattle.df_model.specs.Commands.{Advance, Append, Begin, Command, Flush, ReadBlock, ReadPrepare, ReadReply, Recent, Release, Reply, Scrub, Stage, ToAppend, ToBegin, ToFlush, ToStage, WriteBlock, supplied_sum, supplied_sums, supplied_verdict}
+use Rattle.df_model.specs.Refusals.{append_refusals, begin_refusals, first_refusal, flush_refusals, is_running, stage_refusals, steps_left}
+use Rattle.df_model.specs.Making.{group_of, needed_of, prepare_of}
+use Rattle.df_model.specs.After.{after_check, after_running, after_step_of, begun, outcome, to_check, with_group, with_prepare, with_running, with_staged, with_verdict}
+use Rattle.df_model.specs.Change.{Appends, Change, Checks, Ends, One, Staged}
+use Rattle.df_model.specs.Commands.{Advance, Append, Command, Flush, Given, Scrub, Stage, ToAppend, ToBegin, ToFlush, ToStage, after, supplied_sum, supplied_sums, supplied_verdict}
 use Rattle.df_model.specs.Sense.{IsWork}
 use Rattle.df_model.specs.Supply.{Codec, supplied}
 use Rattle.df_model.specs.declared.answers.Verdict.{Verdict}
@@ -17,7 +18,7 @@ use Rattle.df_model.specs.declared.answers.Verdict.TheVariants.{Sound, Failing}
 use Rattle.df_model.specs.declared.errors.AppendError.{AppendError}
 use Rattle.df_model.specs.declared.errors.BeginError.{BeginError}
 use Rattle.df_model.specs.declared.errors.FlushError.{FlushError}
-use Rattle.df_model.proofs.Laws.{length_in}
+use Rattle.df_model.proofs.Laws.{length_in, one_thing_law}
 use Rattle.df_pace.specs.declared.beat.Piece.{Piece}
 use Rattle.df_pace.specs.declared.beat.Piece.TheVariants as piece
 use Rattle.df_pace.specs.declared.pace.Due.{Due}
@@ -164,10 +165,6 @@ fewer_due d running p is = fewer d.begin (running && nat_lt 0 d.steps) (nat_lt 0
 
 -- ---- what is counted
 
-outcome_head : {E A : Type 0} (o : Option E) (w u : Work) (answer : A) → head u.view ≡ head w.view → head (outcome o w u answer).0.view ≡ head w.view
-outcome_head (Some e) w u answer same = refl
-outcome_head None w u answer same = same
-
 append_counts : (o : Option AppendError) (w u : Work) (answer : ℕ × ℕ) (n since : ℕ) → n + since ≡ head w.view → head u.view ≡ head w.view + 1 → counted_answer n (ToAppend (outcome o w u answer).1) + since ≡ head (outcome o w u answer).0.view
 append_counts (Some e) w u answer n since is longer = is
 append_counts None w u answer n since is longer = omega (arith, is, longer)
@@ -187,40 +184,39 @@ begin_counts : (o : Option BeginError) (w u : Work) (blocks n since : ℕ) → n
 begin_counts (Some e) w u blocks n since is = is
 begin_counts None w u blocks n since is = omega arith
 
+-- neither an append nor a flush
+abbrev AddsNothing : Command → Type 0
+AddsNothing (Append client request body) = ⊥
+AddsNothing Flush = ⊥
+AddsNothing command = Unit {0}
+
 module _ (sh : Shape) (codec : Codec) (x : Stand) (sense : IsWork sh codec.spell x.work) where
-  run_head : (sum : ℕ) (r : Running) (l : List ℕ) → x.work.view.checkpoint.content.op ≤ r.op → r.op ≤ head x.work.view → head (after_running sh codec.spell x.work sum r l).0.view ≡ head x.work.view
-  run_head sum r [] from to = omega (arith, from, to, length-drop (r.op - x.work.view.checkpoint.content.op) x.work.view.tail)
-  run_head sum r (a ∷ more) from to = refl
+  checked_head : (a : ℕ) (verdict : Verdict) → head (with_verdict x.work a verdict).view ≡ head x.work.view
+  checked_head a Sound = refl
+  checked_head a (Failing class) = refl
 
-  step_head : (sum : ℕ) (o : Option Running) → x.work.running ≡ o → head (after_step_of sh codec.spell x.work sum o).0.view ≡ head x.work.view
-  step_head sum None is = refl
-  step_head sum (Some r) is = let capture = sense.running r is in run_head sum r r.left capture.op_from capture.op_to
+  module _ (given : Given) where
+    -- a checkpoint that ends keeps the head
+    changed_head : (c : Command) (u : Work) → AddsNothing c → Change sh codec.spell x.work given c u → head u.view ≡ head x.work.view
+    changed_head c u none (Appends _ ps (One client request body fine staged)) = absurd none
+    changed_head c u none (Appends _ ps (Staged fine)) = absurd none
+    changed_head c u none (Ends r running left) =
+        let capture = sense.running r running in
+        omega (arith, capture.op_from, capture.op_to, length-drop (r.op - x.work.view.checkpoint.content.op) x.work.view.tail)
+    changed_head c u none (Checks y more list) = checked_head y.0 (supplied_verdict given)
+    changed_head c u none change = refl
 
-  check_head : (verdict : Verdict) (xs : List (ℕ × ℕ)) → head (after_check x.work verdict xs).0.view ≡ head x.work.view
-  check_head verdict [] = refl
-  check_head Sound (y ∷ more) = refl
-  check_head (Failing class) (y ∷ more) = refl
+    head_stays : (c : Command) → AddsNothing c → head (after sh codec.spell x.work given c).0.view ≡ head x.work.view
+    head_stays c none = changed_head c (after sh codec.spell x.work given c).0 none (one_thing_law sh codec.spell x.work given c)
 
   module _ (since : ℕ) (is : IsHeadCounted x since) where
-    abbrev sum_for : Command → ℕ
-    sum_for c = supplied_sum (supplied codec x.shown (memory_of sh codec.spell x.work) c)
-
-    abbrev sums_for : Command → List ℕ
-    sums_for c = supplied_sums (supplied codec x.shown (memory_of sh codec.spell x.work) c)
-
-    abbrev verdict_now : Verdict
-    verdict_now = supplied_verdict (supplied codec x.shown (memory_of sh codec.spell x.work) Scrub)
-
-    advanced : head (after_step_of sh codec.spell x.work (sum_for Advance) x.work.running).0.view ≡ head x.work.view
-    advanced = step_head (sum_for Advance) x.work.running refl
-
-    checked : head (after_check x.work verdict_now (to_check (memory_of sh codec.spell x.work))).0.view ≡ head x.work.view
-    checked = check_head verdict_now (to_check (memory_of sh codec.spell x.work))
+    abbrev given_for : Command → Given
+    given_for c = supplied codec x.shown (memory_of sh codec.spell x.work) c
 
     line : (c : Command) → IsHeadCounted (by_script sh codec x c) since
     line (Append client request body) =
         let m = memory_of sh codec.spell x.work in
-        let sum = sum_for (Append client request body) in
+        let sum = supplied_sum (given_for (Append client request body)) in
         let p : Message = prepare_of m sum client request body in
         let longer : head (with_prepare x.work p).view ≡ head x.work.view + 1 = omega (arith, length-append x.work.view.tail (p ∷ [])) in
         append_counts (first_refusal (append_refusals m client request body)) x.work (with_prepare x.work p) (p.header.op, sum) x.appended since is longer
@@ -229,27 +225,11 @@ module _ (sh : Shape) (codec : Codec) (x : Stand) (sense : IsWork sh codec.spell
         stage_counts (first_refusal (stage_refusals m client request body)) x.work (record { client = client; request = request; body = body }) (m.head + length x.work.staged + 1) x.appended since is
     line Flush =
         let m = memory_of sh codec.spell x.work in
-        let ps = group_of m (sums_for Flush) in
-        let longer : head (with_group x.work ps).view ≡ head x.work.view + length x.work.staged = omega (arith, length-append x.work.view.tail ps, length_in m (m.head + 1) (m.head + length m.staged) (m.head + 1) m.head_checksum m.staged (sums_for Flush)) in
+        let sums = supplied_sums (given_for Flush) in
+        let ps = group_of m sums in
+        let longer : head (with_group x.work ps).view ≡ head x.work.view + length x.work.staged = omega (arith, length-append x.work.view.tail ps, length_in m (m.head + 1) (m.head + length m.staged) (m.head + 1) m.head_checksum m.staged sums) in
         flush_counts (first_refusal (flush_refusals m)) x.work (with_group x.work ps) (length x.work.staged) x.appended since is longer
-    line (Reply op body) =
-        let m = memory_of sh codec.spell x.work in
-        let sum = sum_for (Reply op body) in
-        is ∙ sym (outcome_head (first_refusal (reply_refusals m op body)) x.work (with_reply x.work (place_of_reply m) (reply_of m sum body)) sum refl)
-    line (WriteBlock kind body) =
-        let m = memory_of sh codec.spell x.work in
-        let sum = sum_for (WriteBlock kind body) in
-        is ∙ sym (outcome_head (first_refusal (block_refusals m kind body)) x.work (with_live x.work (next_address m) (Some sum)) (next_address m, sum) refl)
-    line (Release address) = is ∙ sym (outcome_head (first_refusal (release_refusals (memory_of sh codec.spell x.work) address)) x.work (with_live x.work address None) tt refl)
-    line (Begin root) =
-        let m = memory_of sh codec.spell x.work in
-        is ∙ sym (outcome_head (first_refusal (begin_refusals m (needed_of codec.spell m root) root)) x.work (with_running x.work (Some (begun sh codec.spell x.work root))) (needed_of codec.spell m root) refl)
-    line Advance = is ∙ sym advanced
-    line (ReadPrepare op) = is
-    line (ReadReply client) = is
-    line (ReadBlock address) = is
-    line Scrub = is ∙ sym checked
-    line Recent = is
+    line c = is ∙ sym (head_stays (given_for c) c tt)
 
     abbrev Counts : Piece → Type 0
     Counts p =
@@ -262,8 +242,8 @@ module _ (sh : Shape) (codec : Codec) (x : Stand) (sense : IsWork sh codec.spell
         let root = x.work.view.checkpoint.parts.root in
         let m = memory_of sh codec.spell x.work in
         begin_counts (first_refusal (begin_refusals m (needed_of codec.spell m root) root)) x.work (with_running x.work (Some (begun sh codec.spell x.work root))) (needed_of codec.spell m root) x.appended since is
-    piece_of piece.Step = is ∙ sym advanced
-    piece_of piece.Scrub = is ∙ sym checked
+    piece_of piece.Step = is ∙ sym (head_stays (given_for Advance) Advance tt)
+    piece_of piece.Scrub = is ∙ sym (head_stays (given_for Scrub) Scrub tt)
 
 pub line_counts : LineCounts
 line_counts sh codec x c since sense is = line sh codec x sense since is c

@@ -16,7 +16,7 @@ use Rattle.df_model.specs.Memory.{Memory, joined, memory_of, message_room, reply
 use Rattle.df_model.specs.Refusals.{append_refusals, first_refusal, flush_refusals, is_last_request, is_new, last_op, next_request, reply_refusals, session_of_client, stage_refusals}
 use Rattle.df_model.specs.Making.{client_of, group_of, place_of_op, place_of_reply, prepare_of, reply_of, request_of}
 use Rattle.df_model.specs.After.{outcome, place_of_client, shown_or, with_group, with_prepare, with_reply, with_staged}
-use Rattle.df_model.specs.Commands.{Advance, Append, Begin, Command, Flush, ReadBlock, ReadPrepare, ReadReply, Recent, Release, Reply, Scrub, Stage, ToAppend, ToFlush, ToReadReply, ToReply, ToStage, WriteBlock}
+use Rattle.df_model.specs.Commands.{Append, Command, Flush, ReadReply, Reply, Stage, ToAppend, ToFlush, ToReadReply, ToReply, ToStage}
 use Rattle.df_model.specs.Supply.{Codec, Shown, checksums_given, class_or, group_puts, reply_at, reply_given, unless}
 use Rattle.df_model.specs.declared.errors.AppendError.{AppendError}
 use Rattle.df_model.specs.declared.errors.AppendError.TheVariants as append
@@ -353,14 +353,7 @@ module _ (sh : Shape) (codec : Codec) (x : Stand) (goes : Goes x.work) where
   line_tells Flush of free = flush_tells
   line_tells (Reply op body) of free = reply_tells op body
   line_tells (ReadReply client) of free = lookup_tells client
-  line_tells (WriteBlock kind body) of free = absurd of
-  line_tells (Release address) of free = absurd of
-  line_tells (Begin root) of free = absurd of
-  line_tells Advance of free = absurd of
-  line_tells (ReadPrepare op) of free = absurd of
-  line_tells (ReadBlock address) of free = absurd of
-  line_tells Scrub of free = absurd of
-  line_tells Recent of free = absurd of
+  line_tells command of free = absurd of
 
 -- ---- a script
 

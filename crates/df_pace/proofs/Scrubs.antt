@@ -7,7 +7,7 @@ use Rattle.df_model.specs.Memory.{memory_of}
 use Rattle.df_model.specs.Refusals.{append_refusals, begin_refusals, block_refusals, first_refusal, flush_refusals, is_running, release_refusals, reply_refusals, stage_refusals, steps_left}
 use Rattle.df_model.specs.Making.{group_of, named_sums, needed_of, next_address, place_of_reply, prepare_of, reply_of}
 use Rattle.df_model.specs.After.{after_check, after_running, after_step_of, begun, outcome, to_check, with_group, with_live, with_prepare, with_reply, with_running, with_staged}
-use Rattle.df_model.specs.Commands.{Advance, Append, Begin, Command, Flush, ReadBlock, ReadPrepare, ReadReply, Recent, Release, Reply, Scrub, Stage, WriteBlock, supplied_sum, supplied_verdict}
+use Rattle.df_model.specs.Commands.{Advance, Append, Begin, Command, Flush, Recent, Release, Reply, Scrub, Stage, WriteBlock, supplied_sum, supplied_verdict}
 use Rattle.df_model.specs.Supply.{Codec, Shown, checksums_given, next, shown_after, supplied}
 use Rattle.df_model.specs.declared.answers.Verdict.{Verdict}
 use Rattle.df_model.specs.declared.answers.Verdict.TheVariants.{Sound, Failing}
@@ -69,30 +69,18 @@ module _ (sh : Shape) (codec : Codec) where
       let m = memory_of sh spell w in
       outcome_bare (first_refusal (begin_refusals m (needed_of spell m root) root)) w (with_running w (Some (begun sh spell w root))) (needed_of spell m root)
   work_bare shown w Advance other = step_bare w (supplied_sum (supplied codec shown (memory_of sh spell w) Advance)) w.running
-  work_bare shown w (ReadPrepare op) other = refl
-  work_bare shown w (ReadReply client) other = refl
-  work_bare shown w (ReadBlock address) other = refl
   work_bare shown w Scrub other = absurd other
   work_bare shown w Recent other = absurd other
+  work_bare shown w command other = refl
 
   -- what is answered, and what is shown after it
   both_bare : (shown : Shown) (w : Work) (c : Command) → AsksOfOthers c
       → (answer_from spell (memory_of sh spell w) (supplied codec shown (memory_of sh spell w) c) c ≡ answer_from spell (memory_of sh spell (bare w)) (supplied codec shown (memory_of sh spell (bare w)) c) c)
       × (shown_after codec shown (memory_of sh spell w) c ≡ shown_after codec shown (memory_of sh spell (bare w)) c)
   unfolding named_sums
-  both_bare shown w (Append client request body) other = (refl, refl)
-  both_bare shown w (Stage client request body) other = (refl, refl)
-  both_bare shown w Flush other = (refl, refl)
-  both_bare shown w (Reply op body) other = (refl, refl)
-  both_bare shown w (WriteBlock kind body) other = (refl, refl)
-  both_bare shown w (Release address) other = (refl, refl)
-  both_bare shown w (Begin root) other = (refl, refl)
-  both_bare shown w Advance other = (refl, refl)
-  both_bare shown w (ReadPrepare op) other = (refl, refl)
-  both_bare shown w (ReadReply client) other = (refl, refl)
-  both_bare shown w (ReadBlock address) other = (refl, refl)
   both_bare shown w Scrub other = absurd other
   both_bare shown w Recent other = absurd other
+  both_bare shown w command other = (refl, refl)
 
   answer_bare : (x : Stand) (c : Command) → AsksOfOthers c → answer_at sh codec x c ≡ answer_at sh codec (bare_at x) c
   answer_bare x c other =

@@ -3,7 +3,7 @@ use Rattle.std.specs.Prelude.{◌≡◌, ℕ, Bool, true, false, List, [], ◌�
 use Rattle.df_theory.specs.Shape.{Shape}
 use Rattle.df_theory.specs.View.{head, sessions}
 use Rattle.df_model.specs.Work.{Work}
-use Rattle.df_model.specs.Commands.{Advance, Answer, Append, Begin, Command, Flush, ReadBlock, ReadPrepare, ReadReply, Recent, Release, Reply, Scrub, Stage, ToAppend, ToReadReply, ToStage, WriteBlock}
+use Rattle.df_model.specs.Commands.{Answer, Append, Command, Flush, ReadReply, Recent, Reply, Scrub, Stage, ToAppend, ToReadReply, ToStage}
 use Rattle.df_model.specs.Supply.{Codec, Shown, last_shown, last_work}
 use Rattle.df_model.specs.declared.errors.AppendError.{AppendError}
 use Rattle.df_model.specs.declared.errors.AppendError.TheVariants as append
@@ -39,19 +39,9 @@ EachOf P (x ∷ xs) = P x × EachOf P xs
 
 -- a line neither scrubs nor asks what scrubbing found
 abbrev pub AsksOfOthers : Command → Type 0
-AsksOfOthers (Append client request body) = Unit {0}
-AsksOfOthers (Stage client request body) = Unit {0}
-AsksOfOthers Flush = Unit {0}
-AsksOfOthers (Reply op body) = Unit {0}
-AsksOfOthers (WriteBlock kind body) = Unit {0}
-AsksOfOthers (Release address) = Unit {0}
-AsksOfOthers (Begin root) = Unit {0}
-AsksOfOthers Advance = Unit {0}
-AsksOfOthers (ReadPrepare op) = Unit {0}
-AsksOfOthers (ReadReply client) = Unit {0}
-AsksOfOthers (ReadBlock address) = Unit {0}
 AsksOfOthers Scrub = ⊥
 AsksOfOthers Recent = ⊥
+AsksOfOthers command = Unit {0}
 
 -- two runs of a script with as much scrubbing as they please print the same, and end with the same image and the same view
 pub record AreUnscrubbed (sh : Shape) (codec : Codec) (pace other : Pace) (x : Stand) (lines : List Command) : Type 0 where
@@ -71,14 +61,7 @@ IsOfLog (Stage client request body) = Unit {0}
 IsOfLog Flush = Unit {0}
 IsOfLog (Reply op body) = Unit {0}
 IsOfLog (ReadReply client) = Unit {0}
-IsOfLog (WriteBlock kind body) = ⊥
-IsOfLog (Release address) = ⊥
-IsOfLog (Begin root) = ⊥
-IsOfLog Advance = ⊥
-IsOfLog (ReadPrepare op) = ⊥
-IsOfLog (ReadBlock address) = ⊥
-IsOfLog Scrub = ⊥
-IsOfLog Recent = ⊥
+IsOfLog command = ⊥
 
 abbrev pub is_ring_full : AppendError → Bool
 is_ring_full (append.WalFull op checkpoint_op) = true
