@@ -2,8 +2,8 @@
 
     python3 model/together.py FOLDER [--seconds N] [--seed N] [--first N]
 
-FOLDER has the programs as `crates` does once they are built (NAME/out/NAME), or by their names alone; in `model` they are those in Python. For `-` the
-model stands in their place, which tries the plain history alone, in many lives. Each try is the life of a file: made by `datafile` or by `notes`, or of
+FOLDER has the programs as `crates` does once they are built (NAME/out/NAME), or by their names alone; in `model` they are those in Python. For `-`
+the model stands in their place, which tries the plain history alone, in many lives. Each try is the life of a file: made by `datafile` or by `notes`, or of
 version 1 and upgraded. Runs of the programs follow one another, ended at random moments, with what wasn't synced kept, lost or torn, and sectors hurt
 between them. Prints what was tried, or the first disagreement and the command that tries it again. See docs/evidence/MODEL-TRIES.md.
 """
@@ -22,7 +22,7 @@ from random import Random, SystemRandom
 
 import reader
 import table
-from tries import arguments, form, generate, noting, objects, olden, plain, plan, reports, script, stops
+from tries import arguments, form, generate, noting, objects, olden, plain, plain_read, plan, reports, script, stops
 from tries.binary import Disagreement, expect, require
 from tries.common import Try, reads_of, same_bytes
 from tries.form import Home
@@ -69,7 +69,7 @@ def born(t: Try, programs: dict) -> Life:
     got = binary.run(b"", ["format", home.layout.word(), str(home.cluster)])
     expect("format", (f"formatted {home.layout.sectors()}\n".encode(), script.DONE), (got.text, got.status))
     same_bytes("format", script.fresh(home), binary.get())
-    require("a new file is empty", plain.read(binary.get())[0] == State(home))
+    require("a new file is empty", plain_read.read(binary.get())[0] == State(home))
     return Life(programs, kind, binary.get(), [State(home)])
 
 
@@ -81,7 +81,7 @@ def noted(t: Try, programs: dict) -> Life:
     got = binary.run(text, [])
     expect("the first notes", (wanted.text, wanted.status), (got.text, got.status))
     same_bytes("the first notes", wanted.data, binary.get())
-    require("the first notes are there", plain.read(binary.get())[0] == told.states()[-1])
+    require("the first notes are there", plain_read.read(binary.get())[0] == told.states()[-1])
     return Life(programs, "notes", binary.get(), told.states())
 
 
@@ -91,9 +91,9 @@ def upgraded(t: Try, programs: dict, kind: str, home: Home) -> Life:
     for _ in range(t.random.randint(1, 3)):
         text = table.lines(t, {}, t.random.randint(1, 50)) if kind == "table" else stops.script_for(t, data)
         data = objects.run(data, text).data if kind == "table" else script.run(data, text).data
-    state = plain.read(data)[0]
+    state = plain_read.read(data)[0]
     data = olden.file_of(data)
-    require("a file of version 1 has what it had", plain.read(data, 1)[0] == state)
+    require("a file of version 1 has what it had", plain_read.read(data, 1)[0] == state)
     binary = programs["datafile"]
     for name in ("datafile", "objecttable", "notes"):
         programs[name].put(data)
@@ -112,7 +112,7 @@ def upgraded(t: Try, programs: dict, kind: str, home: Home) -> Life:
         got = binary.run(b"", ["upgrade"])
         expect("upgrade", (wanted.text, wanted.status), (got.text, got.status))
         same_bytes("upgrade", wanted.data, binary.get())
-        require("an upgraded file has what it had", plain.read(binary.get())[0] == state)
+        require("an upgraded file has what it had", plain_read.read(binary.get())[0] == state)
         t.counts["files of version 1 that were upgraded"] += 1
         return Life(programs, kind, binary.get(), [state])
 
@@ -120,9 +120,9 @@ def upgraded(t: Try, programs: dict, kind: str, home: Home) -> Life:
 def either(data: bytes) -> State:
     """The state of a file of version 2, or of version 1."""
     try:
-        return plain.read(data)[0]
+        return plain_read.read(data)[0]
     except reader.Refused:
-        return plain.read(data, 1)[0]
+        return plain_read.read(data, 1)[0]
 
 
 # ---- what runs

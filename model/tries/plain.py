@@ -1,4 +1,4 @@
-"""The plain history of a file: what its lines came to, as docs/SCRIPT.md tells it, without a byte of the file; and the same as `reader.py` reads it.
+"""The plain history of a file: what its lines came to, as docs/SCRIPT.md tells it, without a byte of the file.
 
 A `Plain` stands in the place of a `Machine`, so that whatever drives that (scripts, paces, workloads, tables, notes) drives this. In place of what is
 written its events have the states, one for each thing that is kept.
@@ -6,10 +6,8 @@ written its events have the states, one for each thing that is kept.
 
 from typing import NamedTuple, Optional, Union
 
-import reader
-
 from . import objects
-from .form import GRID, SECTOR, Home, Layout, Place
+from .form import GRID, Home, Layout, Place
 from .grid import Event, answer
 from .recovery import PIPELINE
 from .trailer import CHECK, ROOT, SESSION
@@ -272,34 +270,3 @@ def rows_of(state: State) -> Union[dict, str]:
             return f"NotTable WalPrepares {op % layout.slots}"
         objects.apply(rows, command)
     return rows
-
-
-def read(data: bytes, version: int = 2) -> tuple:
-    """The state that a file of these bytes has, and its boot, as `reader.py` reads them. A block that isn't shown is None."""
-    found = reader.state_of(data, version=version)
-    f = found["fields"]
-    layout = Layout(*(f[name] for name in ("Slots", "MessageSize", "Clients", "BlockSize", "Blocks")))
-    blocks = tuple((address, None if isinstance(one, str) else (one["block_kind"], one["body"])) for address, one in found["blocks"].items())
-    prepares = tuple(Prepare(one["client"], one["request"], one["mark"], one["checkpoint"], one["body"]) for one in found["tail"])
-    sessions = []
-    for client, last in found["sessions"].items():
-        one = found["replies"][client]
-        stored = Reply(one["mark"], one["checkpoint"], one["body"]) if one["kind"] == reader.REPLY else None
-        sessions.append(Last(client, last["request"], last["op"], stored))
-    state = State(Home(layout, f["Cluster"]), f["Sequence"], f["Op"], found["root"], blocks, tuple(sorted(address for address, _ in found["chain"])),
-                  prepares, found["stored"], tuple(sessions))
-    return state, f["Boot"]
-
-
-def sectors_of(layout: Layout, place: Place) -> range:
-    """The sectors of a place."""
-    first = layout.at(place) // SECTOR
-    return range(first, first + max(1, layout.fits(place.zone) // SECTOR) if place.zone not in ("Superblock", "WalHeaders") else first + 1)
-
-
-def is_read_as(state: State, found: State, hurt) -> bool:
-    """Whether a file is read as this state; of a block whose place is hurt nothing is asked."""
-    if found._replace(blocks=()) != state._replace(blocks=()) or len(found.blocks) != len(state.blocks):
-        return False
-    pairs = zip(state.blocks, found.blocks)
-    return all(one[0] == two[0] and (one[1] == two[1] or two[1] is None and hurt(Place(GRID, one[0]))) for one, two in pairs)

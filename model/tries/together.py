@@ -5,7 +5,7 @@ from typing import NamedTuple, Optional
 
 import reader
 
-from . import filecopies, filemirrors, form, lives, noting, objects, plain, script, stops, words, workload
+from . import filecopies, filemirrors, form, lives, noting, objects, plain, plain_read, script, stops, words, workload
 from .binary import Binary, Result, expect, has_strace, require
 from .common import Try, same_bytes
 from .form import GRID, SECTOR, Place
@@ -70,7 +70,9 @@ class Life:
         self.state, self.since = since[-1], list(since)
         self.home, self.data, self.good, self.earlier = self.state.home, data, good or data, [data]
         # Its boot, and whether the last run came as far as raising it, so that nothing of an earlier one can come back.
-        self.boot, self.raised = plain.read(data)[1], raised
+        self.boot, self.raised = plain_read.read(data)[1], raised
+        # Whether a run came to its end since it was damaged or ended, so that nothing is to be mended.
+        self.tidy = False
         # What the answered puts and drops made, as long as nothing but the table appends.
         self.rows = plain.rows_of(self.state)
         self.copies: list = []
@@ -83,7 +85,7 @@ class Life:
 
     def is_hurt(self, image: bytes, place: Place) -> bool:
         """Whether a place doesn't show all that was written there."""
-        return any(form.sector(image, at) != form.sector(self.good, at) for at in plain.sectors_of(self.home.layout, place))
+        return any(form.sector(image, at) != form.sector(self.good, at) for at in plain_read.sectors_of(self.home.layout, place))
 
     def hurt(self, place: Place) -> bool:
         return self.is_hurt(self.data, place)
@@ -91,7 +93,7 @@ class Life:
     def takes(self, t: Try, data: bytes, events: list, state: State) -> None:
         """The file after these events. Of the state's blocks what was hurt and isn't written stays hurt; all else counts as it is shown."""
         written = {(event.at + at) // SECTOR for event in events if event.kind == "write" for at in range(0, len(event.data), SECTOR)}
-        kept = [at for address, _ in state.blocks for at in plain.sectors_of(self.home.layout, Place(GRID, address)) if at not in written]
+        kept = [at for address, _ in state.blocks for at in plain_read.sectors_of(self.home.layout, Place(GRID, address)) if at not in written]
         old = [Event("write", SECTOR * at, form.sector(self.good, at)) for at in kept if SECTOR * at < len(self.good)]
         self.earlier = (self.earlier + lives.settled(t, self.data, events) + [data])[-EARLIER:]
         self.data, self.good, self.state = data, script.state(data, [one for one in old if any(one.data)]), state
@@ -157,6 +159,8 @@ def says(life: Life, what: str, wanted: Told, text: bytes, status: int) -> None:
         require(f"{what}: {' '.join(one)}: this place is hurt", life.hurt(Place(GRID, int(one[1 if one[0] == "failing" else 3]))))
     if what.split()[0] == "objecttable" and hurt:
         return
+    if what == "datafile inspect" and life.tidy:
+        require(f"{what}: nothing is to be mended: {got[-1]}", got[-1] == "findings 0" and status == script.DONE)
     got = [line for line in got if not line.startswith(("failing", "mend ", "findings "))]
     require(f"{what}: {len(told)} lines are printed, but there are {len(got)}", len(told) == len(got))
     for one, two in zip(told, got):
@@ -177,16 +181,19 @@ def is_said(life: Life, told: str, got: str) -> bool:
     return one[:1] == ["block"] and two[:3] == ["refused", "Damaged", "Grid"] and one[1] == two[3]
 
 
-def went(t: Try, life: Life, what: str, events: list, image: bytes, wanted: Told, answers: Optional[int]) -> None:
-    """The file that a run left, at its end or ended after so many answers: it has a state that the plain history has then."""
+def went(t: Try, life: Life, what: str, events: list, image: bytes, wanted: Told, answers: Optional[int], opens: bool = True) -> None:
+    """The file that a run left, at its end or ended after so many answers: it has a state that the plain history has then. A run that opens it raises
+    its boot."""
     try:
-        found, now = plain.read(image)
+        found, now = plain_read.read(image)
     except reader.Refused as why:
         require(f"{what}: the file opens, but it is refused {why}", False)
+    require(f"{what}: the boot is {now} after {life.boot}", now == life.boot + opens or answers is not None and now == life.boot)
+    require(f"{what}: nothing is to be mended behind it", answers is not None or not opens or plain_read.is_tidy(image))
     states = wanted.states()
     listed = states[-1:] if answers is None else wanted.after(answers)
     life.takes(t, image, events, found)
-    fits = [one for one in listed if plain.is_read_as(one, found, life.hurt)]
+    fits = [one for one in listed if plain_read.is_read_as(one, found, life.hurt)]
     require(f"{what}: the file has head {found.head()}, {found.replies} replies and sequence {found.sequence}, and should have one of "
             f"{[(one.head(), one.replies, one.sequence) for one in listed]}; or else what it has differs", bool(fits))
     life.state = fits[-1]
@@ -195,8 +202,9 @@ def went(t: Try, life: Life, what: str, events: list, image: bytes, wanted: Told
         t.counts["stops that kept the answered ones" if fits[-1] == listed[0] else "stops that kept more"] += 1
     had = states[: 1 + max(at for at, one in enumerate(states) if one == life.state)]
     life.since = list(dict.fromkeys(had if now > life.boot else life.since + had))
-    life.raised = now > life.boot or life.raised and not any(event.kind == "write" for event in events)
-    life.boot = now
+    wrote = any(event.kind == "write" for event in events)
+    life.raised = now > life.boot or life.raised and not wrote
+    life.boot, life.tidy = now, answers is None and opens or life.tidy and not wrote
 
 
 def ended(t: Try, life: Life, name: str, listed: list, text: bytes, wanted) -> tuple:
@@ -243,12 +251,13 @@ def run(t: Try, life: Life, name: str, listed: list, text: bytes = b"", stopped:
     what = " ".join([name, *listed])
     # Of what isn't the table, the words that only read leave the table as it is; what others do to it the plain history tells.
     reads = listed[:1] in (["recover"], ["inspect"], ["scrub"])
+    opens = listed[:1] not in (["inspect"], ["format"], ["upgrade"]) and (name != "notes" or life.home.layout == form.SMALL)
     wanted, told = outcome(name, life.data, listed, text), told_of(life.state, name, listed, text)
     if wanted.events and t.random.random() < stopped:
         upto, image = ended(t, life, name, listed, text, wanted)
         answers = sum(event.kind == "answer" for event in wanted.events[:upto])
         t.counts[f"runs of {name} that were ended"] += 1
-        went(t, life, f"{what}, ended after {upto} events", wanted.events[:upto], image, told, answers)
+        went(t, life, f"{what}, ended after {upto} events", wanted.events[:upto], image, told, answers, opens)
         keeps_table(life, what, [life.rows] if reads else folded(life, text, told) if name == "objecttable" else [], None if reads else answers)
         return
     binary = life.programs[name]
@@ -263,5 +272,5 @@ def run(t: Try, life: Life, name: str, listed: list, text: bytes = b"", stopped:
         t.counts[f"tables: {' '.join(got.text.decode().split()[:3])}"] += 1
     # Of a block of rows that isn't shown the plain history knows nothing: nothing is put then.
     whole = Told(told.events[:1], got.status) if name == "objecttable" and got.text.startswith(b"refused Damaged") else told
-    went(t, life, what, wanted.events, binary.get(), whole, None)
+    went(t, life, what, wanted.events, binary.get(), whole, None, opens)
     keeps_table(life, what, [life.rows] if reads else folded(life, text, whole) if name == "objecttable" else [], None)

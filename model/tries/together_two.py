@@ -2,7 +2,7 @@
 
 import reader
 
-from . import filecopies, filemirrors, form, generate, hurt, lives, plain, script, stops, units
+from . import filecopies, filemirrors, form, generate, hurt, lives, plain, plain_read, script, stops, units
 from .binary import expect, require
 from .common import Try, same_bytes
 from .form import GRID, SECTOR, WAL_PREPARES, Layout, Place
@@ -39,7 +39,7 @@ def copy(t: Try, life: Life) -> None:
         return
     moved = state.moved(layout)
     begun(t, what, moved, wanted.target)
-    require(f"{what}: the copy has the source's state", plain.read(target)[0] == moved)
+    require(f"{what}: the copy has the source's state", plain_read.read(target)[0] == moved)
     if t.random.random() < 0.5:
         life.begins(target, [moved])
         t.counts["lives that went on in a copy"] += 1
@@ -74,7 +74,7 @@ def begun(t: Try, what: str, moved: State, events: list) -> None:
     image = stops.stop(t, b"", events, upto)
     t.counts["stops"] += 1
     try:
-        require(f"{what}: after {upto} events the target is whole", plain.read(image)[0] == moved)
+        require(f"{what}: after {upto} events the target is whole", plain_read.read(image)[0] == moved)
         t.counts["copies that were ended, and there"] += 1
     except reader.Refused as why:
         copies = [at for at, event in enumerate(events, 1) if event.kind == "write" and event.at < SECTOR * form.COPIES]
@@ -99,7 +99,7 @@ def swapped(t: Try, life: Life) -> tuple:
 def found_in(t: Try, life: Life, what: str, image: bytes, sectors: set):
     """The state that is found, one that the file had since the last open that raised its boot; or why it is refused, naming what is hurt."""
     try:
-        found, _ = plain.read(image)
+        found, _ = plain_read.read(image)
     except reader.Refused as why:
         named = str(why).split()
         require(f"{what}: refused {why}", bool(sectors) and named[0] == "Damaged" and named[1] != "Superblock")
@@ -107,7 +107,7 @@ def found_in(t: Try, life: Life, what: str, image: bytes, sectors: set):
         require(f"{what}: refused {why}: it is hurt", any(life.is_hurt(image, one) for one in spoken(life, place)))
         t.counts[f"opens behind damage: refused {' '.join(named[:2])}"] += 1
         return str(why)
-    fits = [one for one in life.since if plain.is_read_as(one, found, lambda place: life.is_hurt(image, place))]
+    fits = [one for one in life.since if plain_read.is_read_as(one, found, lambda place: life.is_hurt(image, place))]
     require(f"{what}: a state that the file had: head {found.head()}, {found.replies} replies", bool(fits))
     require(f"{what}: nothing is hurt: the newest state", bool(sectors) or life.state in fits)
     state = life.state if life.state in fits else fits[-1]
@@ -166,7 +166,7 @@ def known_sectors(life: Life) -> set:
 def accept(t: Try, life: Life, image: bytes, found: State) -> None:
     """The file goes on as the disk shows it."""
     life.takes(t, image, [], found)
-    life.rows = plain.rows_of(found)
+    life.rows, life.tidy = plain.rows_of(found), False
 
 
 # ---- filemirror
