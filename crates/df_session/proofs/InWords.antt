@@ -60,7 +60,10 @@ in_words case lends = absurd lends
 module _ (before now : ℕ) where
   -- no count rose where the disk didn't fail
   still : (a : Answer) → now ≡ before → IsBlamed is_disk_fault before now (unless_damaged a)
-  still (answers.Append r) same = same
+  still (answers.Advance (Ok progress)) same = same
+  still (answers.Advance (Err step.NotRunning)) same = same
+  still (answers.Advance (Err (step.Damaged place class))) same = same
+  still (answers.Advance (Err step.DiskFault)) same = same
   still case same = same
 
   blamed_as : (a : Answer) (fault : Bool) → Blamed fault before now → IsBlamed {T = Answer} is_disk_fault before now (if fault then Err Disk else unless_damaged a)
