@@ -1,45 +1,47 @@
 -- The acts of a session: what each was supplied with is in range, and what a stop leaves of them came through.
-use Rattle.std.proofs.Common.{◌≡◌, inl, inr, ℕ, zero, suc, List, [], ◌∷◌, ◌++◌, append_assoc, take-append-drop, Option, Some, None, refl, sym, ◌∙◌, ap}
+use Rattle.std.proofs.Common.{◌≡◌, inl, inr, ℕ, zero, suc, List, [], ◌∷◌, ◌++◌, Option, Some, None, refl, ap}
 use Rattle.std.specs.Prelude.{take, drop}
 use Rattle.df_base.specs.Image.{Image}
 use Rattle.df_disk.specs.Told.{Told}
-use Rattle.df_model.specs.Commands.{Answer}
 use Rattle.df_model.specs.Work.{Work}
 use Rattle.df_replica.specs.Below.{State as Replica, DataFile}
 use Rattle.df_replica.specs.HeldBlocks.{AreInputs}
 use Rattle.df_replica.specs.Serving.{Grade, next}
-use Rattle.df_replica.specs.Session.{Act, HasView, HoldsSome, answers_of, work_after}
-use Rattle.df_session.specs.Links.{AreCalls, EndsCalls, list_of}
+use Rattle.df_replica.specs.Session.{Act, Exchange, HasView, HoldsSome, acts_in, answers_in, answers_of, work_after}
+use Rattle.df_session.specs.Links.{AreCalls, EndsCalls, More, list_of}
 
 -- ---- what they were supplied with
 
-calls_inputs : (s t : Replica) (old new : Option Told) (acts : List Act) (answers : List Answer) → AreCalls s old acts answers t new → AreInputs acts
-calls_inputs s t old new [] [] calls = tt
-calls_inputs s t old new [] (x ∷ answers) calls = absurd calls
-calls_inputs s t old new (a ∷ acts) [] calls = absurd calls
-calls_inputs s t old new (a ∷ acts) (x ∷ answers) calls = (calls.2.call.input, calls_inputs calls.0 t calls.1 new acts answers calls.3)
+calls_inputs : (s t : Replica) (old new : Option Told) (xs : List Exchange) → AreCalls s old xs t new → AreInputs (acts_in xs)
+calls_inputs s t old new [] calls = tt
+calls_inputs s t old new (x ∷ xs) (More u mid c rest) = (c.call.input, calls_inputs u t mid new xs rest)
 
 pub inputs_join : (acts more : List Act) → AreInputs acts → AreInputs more → AreInputs (acts ++ more)
 inputs_join [] more one two = two
 inputs_join (a ∷ acts) more one two = (one.0, inputs_join acts more one.1 two)
 
-pub ends_inputs : (s t : Replica) (old new : Option Told) (acts : List Act) (answers : List Answer) (failed : Option Act) → EndsCalls s t old new acts answers failed → AreInputs (acts ++ list_of failed)
-ends_inputs s t old new acts answers None calls = inputs_join acts [] (calls_inputs s t old new acts answers calls) tt
-ends_inputs s t old new acts answers (Some a) calls = inputs_join acts (a ∷ []) (calls_inputs s calls.0 old calls.1 acts answers calls.2) (calls.3.call.input, tt)
+pub ends_inputs : (s t : Replica) (old new : Option Told) (xs : List Exchange) (failed : Option Act) → EndsCalls s t old new xs failed → AreInputs (acts_in xs ++ list_of failed)
+ends_inputs s t old new xs None calls = inputs_join (acts_in xs) [] (calls_inputs s t old new xs calls) tt
+ends_inputs s t old new xs (Some a) calls = inputs_join (acts_in xs) (a ∷ []) (calls_inputs s calls.0 old calls.1 xs calls.2) (calls.3.call.input, tt)
 
 -- ---- the first of them, and the others
 
-pub front_and_rest : (k : ℕ) (acts more : List Act) → take k acts ++ (drop k acts ++ more) ≡ acts ++ more
-front_and_rest k acts more = sym (append_assoc (take k acts) (drop k acts) more) ∙ ap (λ (l : List Act). l ++ more) (take-append-drop k acts)
+pub front_and_rest : (k : ℕ) (xs : List Exchange) (more : List Act) → acts_in (take k xs) ++ (acts_in (drop k xs) ++ more) ≡ acts_in xs ++ more
+front_and_rest zero xs more = refl
+front_and_rest (suc k) [] more = refl
+front_and_rest (suc k) (x ∷ xs) more = ap (λ (l : List Act). x.act ∷ l) (front_and_rest k xs more)
 
 pub work_on : (file : DataFile) (w : Work) (acts more : List Act) → work_after file w (acts ++ more) ≡ work_after file (work_after file w acts) more
 work_on file w [] more = refl
 work_on file w (a ∷ acts) more = work_on file (next file w a.given a.command).0 acts more
 
-pub first_answers : (file : DataFile) (k : ℕ) (w : Work) (acts : List Act) → take k (answers_of file w acts) ≡ answers_of file w (take k acts)
-first_answers file zero w acts = refl
-first_answers file (suc k) w [] = refl
-first_answers file (suc k) w (a ∷ acts) = ap (λ (l : List Answer). (next file w a.given a.command).1 ∷ l) (first_answers file k (next file w a.given a.command).0 acts)
+pub first_answers : (file : DataFile) (k : ℕ) (w : Work) (xs : List Exchange) → answers_in xs ≡ answers_of file w (acts_in xs) → answers_in (take k xs) ≡ answers_of file w (acts_in (take k xs))
+first_answers file zero w xs are = refl
+first_answers file (suc k) w [] are = refl
+first_answers file (suc k) w (x ∷ xs) are =
+    let one : x.answer ≡ (next file w x.act.given x.act.command).1 = cc in
+    let rest : answers_in xs ≡ answers_of file (next file w x.act.given x.act.command).0 (acts_in xs) = cc in
+    λ i. one i ∷ first_answers file k (next file w x.act.given x.act.command).0 xs rest i
 
 -- ---- what a stop leaves of them
 

@@ -76,7 +76,7 @@ module _ (file : DataFile) (view : View) (t m : Told) (layout : Layout) (found :
   abbrev base : Told
   base = begun_after found.mending.events t
 
-  keeps : KeepsFile file Firm start base c.acts c.answers c.failed (over [] (events_made c) base)
+  keeps : KeepsFile file Firm start base c.exchanges c.failed (over [] (events_made c) base)
   keeps = keeps_begun Firm file view t layout found c shows calls
 
   answered : KeepsAnswered file Firm start (over [] [] base) c

@@ -5,13 +5,12 @@ use Rattle.df_base.specs.Log.{Event, Sync, after_event}
 use Rattle.df_base.specs.Moments.{Extends, IsMoment}
 use Rattle.df_base.proofs.Laws.{same_log}
 use Rattle.df_disk.specs.Told.{Told, did}
-use Rattle.df_model.specs.Commands.{Answer}
 use Rattle.df_replica.specs.Below.{State as Replica, told_after}
-use Rattle.df_replica.specs.Session.{Act}
+use Rattle.df_replica.specs.Session.{Act, Exchange}
 use Rattle.df_replica.proofs.Laws.{added_is_told}
 use Rattle.df_session.specs.Acknowledging.{HadAnswers, HadReturned, WereAnswered}
 use Rattle.df_session.specs.Keeping.{over}
-use Rattle.df_session.specs.Links.{AreCalls, CallsMade, EndsCalls}
+use Rattle.df_session.specs.Links.{AreCalls, CallsMade, EndsCalls, More, NoCalls}
 use Rattle.df_lifetime.specs.Life.{GoesAlong}
 
 -- ---- events
@@ -62,23 +61,21 @@ one_end t n b m e one two =
 -- ---- answers
 
 module _ (t p b m : Told) (part : GoesAlong t p b m) where
-  returned_along : (k : ℕ) (u c : Told) → GoesAlong t u b c → (s : Replica) (old : Option Told) (acts : List Act) (answers : List Answer) (r : Replica) (new : Option Told) (calls : AreCalls s old acts answers r new)
-      → HadReturned k (Some u) p.log s old acts answers r new calls → HadReturned k (Some c) m.log s old acts answers r new calls
-  returned_along zero u c from s old acts answers r new calls since = extends_along t u p b c m part from since
-  returned_along (suc k) u c from s old [] answers r new calls had = absurd had
-  returned_along (suc k) u c from s old (a ∷ acts) [] r new calls had = absurd had
-  returned_along (suc k) u c from s old (a ∷ acts) (x ∷ answers) r new calls had =
-      let es : List Event = calls.2.call.events in
-      subst (λ (o : Option Told). HadReturned k o m.log calls.0 calls.1 acts answers r new calls.3) (sym (added_is_told es c))
-      (returned_along k (told_after es u) (told_after es c) (along_on t u (told_after es u) b c (told_after es c) from (after_along es u c from.shows)) calls.0 calls.1 acts answers r new calls.3
-      (subst (λ (o : Option Told). HadReturned k o p.log calls.0 calls.1 acts answers r new calls.3) (added_is_told es u) had))
+  returned_along : (k : ℕ) (u c : Told) → GoesAlong t u b c → {s : Replica} {old : Option Told} {xs : List Exchange} {r : Replica} {new : Option Told} (calls : AreCalls s old xs r new) → HadReturned k (Some u) p.log calls → HadReturned k (Some c) m.log calls
+  returned_along zero u c from calls since = extends_along t u p b c m part from since
+  returned_along (suc k) u c from NoCalls had = absurd had
+  returned_along (suc k) u c from (More v mid call rest) had =
+      let es : List Event = call.call.events in
+      subst (λ (o : Option Told). HadReturned k o m.log rest) (sym (added_is_told es c))
+      (returned_along k (told_after es u) (told_after es c) (along_on t u (told_after es u) b c (told_after es c) from (after_along es u c from.shows)) rest
+      (subst (λ (o : Option Told). HadReturned k o p.log rest) (added_is_told es u) had))
 
-  had_along : (k : ℕ) (u c : Told) → GoesAlong t u b c → (s r : Replica) (old new : Option Told) (acts : List Act) (answers : List Answer) (failed : Option Act) (calls : EndsCalls s r old new acts answers failed)
-      → HadAnswers k (Some u) p.log s r old new acts answers failed calls → HadAnswers k (Some c) m.log s r old new acts answers failed calls
-  had_along k u c from s r old new acts answers None calls had = returned_along k u c from s old acts answers r new calls had
-  had_along k u c from s r old new acts answers (Some a) calls had = returned_along k u c from s old acts answers calls.0 calls.1 calls.2 had
+  had_along : (k : ℕ) (u c : Told) → GoesAlong t u b c → (s r : Replica) (old new : Option Told) (xs : List Exchange) (failed : Option Act) (calls : EndsCalls s r old new xs failed) → HadAnswers k (Some u) p.log s r old new xs failed calls
+      → HadAnswers k (Some c) m.log s r old new xs failed calls
+  had_along k u c from s r old new xs None calls had = returned_along k u c from calls had
+  had_along k u c from s r old new xs (Some a) calls had = returned_along k u c from calls.2 had
 
   -- what was answered by then as the disk tells, after a mending, was as the log does
   pub answered_along : (k : ℕ) (mending : List Event) (c : CallsMade) → b.shown ≡ t.shown → WereAnswered k (over mending [] t) p.log c → WereAnswered k (over mending [] b) m.log c
   answered_along k mending c same had =
-      had_along k (told_after mending (did Sync t)) (told_after mending (did Sync b)) (after_along (Sync ∷ mending) t b same) c.from c.to c.old c.new c.acts c.answers c.failed c.calls had
+      had_along k (told_after mending (did Sync t)) (told_after mending (did Sync b)) (after_along (Sync ∷ mending) t b same) c.from c.to c.old c.new c.exchanges c.failed c.calls had

@@ -5,11 +5,10 @@ use Rattle.df_disk.specs.Adds.{after_all}
 use Rattle.df_disk.specs.Told.{Told, did}
 use Rattle.df_theory.specs.View.{View}
 use Rattle.df_units.specs.Bytes.{unit_at}
-use Rattle.df_model.specs.Commands.{Answer}
 use Rattle.df_replica.specs.Below.{DataFile, told_after}
 use Rattle.df_replica.specs.Following.{MayOpen}
 use Rattle.df_replica.specs.Serving.{Grade, StandsFor}
-use Rattle.df_replica.specs.Session.{Act}
+use Rattle.df_replica.specs.Session.{Act, Exchange}
 use Rattle.df_replica.proofs.Laws.{added_is_told}
 use Rattle.df_session.specs.Begun.{begun_work}
 use Rattle.df_session.specs.Links.{CallsMade}
@@ -17,9 +16,9 @@ use Rattle.df_session.specs.Acknowledging.{KeepsAnswered}
 use Rattle.df_session.specs.Keeping.{KeepsFile, over}
 
 -- by each log that shows what the disk shows, and by which the file may be opened, all is kept
-abbrev pub KeepsOver : DataFile → Told → List Act → List Answer → Option Act → (mending added : List Event) → Type 0
-KeepsOver f t acts xs failed mending added =
-    (g : Grade) (v : View) (base : Told) → base.shown ≡ t.shown → MayOpen f v base → StandsFor g (unit_at f.layout f.cluster t.shown) v → KeepsFile f g (begun_work f t.shown v) base acts xs failed (over mending added base)
+abbrev pub KeepsOver : DataFile → Told → List Exchange → Option Act → (mending added : List Event) → Type 0
+KeepsOver f t xs failed mending added =
+    (g : Grade) (v : View) (base : Told) → base.shown ≡ t.shown → MayOpen f v base → StandsFor g (unit_at f.layout f.cluster t.shown) v → KeepsFile f g (begun_work f t.shown v) base xs failed (over mending added base)
 
 -- and what was answered by a moment is there
 abbrev pub AnsweredOver : DataFile → Told → (mending : List Event) → CallsMade → Type 0

@@ -18,7 +18,7 @@ use Rattle.df_trailer.specs.Text.{parse_of}
 use Rattle.df_replica.specs.Below.{shape, spelling, DataFile}
 use Rattle.df_replica.specs.HeldBlocks.{AreInputs}
 use Rattle.df_replica.specs.Serving.{next}
-use Rattle.df_replica.specs.Session.{Act, answers_of, work_after}
+use Rattle.df_replica.specs.Session.{Act, Exchange, acts_in, answers_in, answers_of, work_after}
 use Rattle.df_replica.proofs.Laws.{codec_of, second_found}
 use Rattle.df_session.specs.Begun.{begun_work}
 use Rattle.df_session.specs.Below.{codec}
@@ -50,20 +50,23 @@ module _ (file : DataFile) where
       stays_behind acts (next file w a.given a.command).0 rs given command x (sense_law (shape file) (spelling file) w a.given a.command inputs.0 work) inputs.1
       (stays (shape file) (kept w) (kept (next file w a.given a.command).0) rs given command x work.view (next_law (shape file) (spelling file) w a.given a.command work) there)
 
-  all_stay : (acts : List Act) (w : Work) (rs : List Promised) (done : List Act) (answers : List Answer) → IsWork (shape file) (spelling file) w → AreInputs acts → AreThere (kept w) rs done answers → AreThere (kept (work_after file w acts)) rs done answers
-  all_stay acts w rs [] [] work inputs there = tt
-  all_stay acts w rs [] (x ∷ answers) work inputs there = absurd there
-  all_stay acts w rs (a ∷ done) [] work inputs there = absurd there
-  all_stay acts w rs (a ∷ done) (x ∷ answers) work inputs there = (stays_behind acts w rs a.given a.command x work inputs there.0, all_stay acts w (promised_by rs a.command x) done answers work inputs there.1)
+  all_stay : (acts : List Act) (w : Work) (rs : List Promised) (done : List Exchange) → IsWork (shape file) (spelling file) w → AreInputs acts → AreThere (kept w) rs done → AreThere (kept (work_after file w acts)) rs done
+  all_stay acts w rs [] work inputs there = tt
+  all_stay acts w rs (x ∷ done) work inputs there =
+      (stays_behind acts w rs x.act.given x.act.command x.answer work inputs there.0, all_stay acts w (promised_by rs x.act.command x.answer) done work inputs there.1)
 
   -- of the acts that came through the first ones were answered
-  pub front_there : (acts more : List Act) (w : Work) → IsWork (shape file) (spelling file) w → AreInputs (acts ++ more) → AreThere (kept (work_after file w (acts ++ more))) (promised_in w) acts (answers_of file w acts)
-  front_there [] more w work inputs = tt
-  front_there (a ∷ acts) more w work inputs =
-      let then : IsWork (shape file) (spelling file) (next file w a.given a.command).0 = sense_law (shape file) (spelling file) w a.given a.command inputs.0 work in (
-        stays_behind (acts ++ more) (next file w a.given a.command).0 (promised_in w) a.given a.command (next file w a.given a.command).1 then inputs.1 (just_there (shape file) (spelling file) w a.given a.command work),
-        subst (λ (rs : List Promised). AreThere (kept (work_after file w ((a ∷ acts) ++ more))) rs acts (answers_of file (next file w a.given a.command).0 acts)) (sym (promised_on (shape file) (spelling file) w a.given work a.command))
-            (front_there acts more (next file w a.given a.command).0 then inputs.1),
+  pub front_there : (xs : List Exchange) (more : List Act) (w : Work) → IsWork (shape file) (spelling file) w → AreInputs (acts_in xs ++ more) → answers_in xs ≡ answers_of file w (acts_in xs) → AreThere (kept (work_after file w (acts_in xs ++ more))) (promised_in w) xs
+  front_there [] more w work inputs are = tt
+  front_there (x ∷ xs) more w work inputs are =
+      let a : Act = x.act in
+      let then : IsWork (shape file) (spelling file) (next file w a.given a.command).0 = sense_law (shape file) (spelling file) w a.given a.command inputs.0 work in
+      let v : View = kept (work_after file w (acts_in (x ∷ xs) ++ more)) in
+      let one : x.answer ≡ (next file w x.act.given x.act.command).1 = cc in
+      let rest : answers_in xs ≡ answers_of file (next file w x.act.given x.act.command).0 (acts_in xs) = cc in
+      subst (λ (y : Answer). IsAnswerThere v (promised_in w) a.given a.command y × AreThere v (promised_by (promised_in w) a.command y) xs) (sym one) (
+        stays_behind (acts_in xs ++ more) (next file w a.given a.command).0 (promised_in w) a.given a.command (next file w a.given a.command).1 then inputs.1 (just_there (shape file) (spelling file) w a.given a.command work),
+        subst (λ (rs : List Promised). AreThere v rs xs) (sym (promised_on (shape file) (spelling file) w a.given work a.command)) (front_there xs more (next file w a.given a.command).0 then inputs.1 rest),
       )
 
   pub front_inputs : (acts more : List Act) → AreInputs (acts ++ more) → AreInputs acts
@@ -79,41 +82,31 @@ module _ (file : DataFile) where
     work : IsWork (shape file) (spelling file) start
     work = begun_makes_sense file c.shown v version goes.whole goes.found goes.unspent
 
-    inputs : AreInputs (c.answered ++ goes.came.more)
+    inputs : AreInputs (acts_in c.answered ++ goes.came.more)
     inputs =
-        front_inputs (c.answered ++ goes.came.more) goes.came.rest
-        (subst AreInputs (ap (λ (l : List Act). c.answered ++ l) goes.came.some ∙ sym (append_assoc c.answered goes.came.more goes.came.rest)) goes.inputs)
+        front_inputs (acts_in c.answered ++ goes.came.more) goes.came.rest
+        (subst AreInputs (ap (λ (l : List Act). acts_in c.answered ++ l) goes.came.some ∙ sym (append_assoc (acts_in c.answered) goes.came.more goes.came.rest)) goes.inputs)
 
     -- what is there after the acts that came through is in the view that it came to
-    came_there : (done : List Act) (answers : List Answer) → AreThere (kept (work_after file start (c.answered ++ goes.came.more))) [] done answers → AreThere u [] done answers
-    came_there done answers there =
-        are_there (kept (work_after file start acts)) u goes.view [] done answers (subst (λ (l : List Act). AreThere (kept (work_after file start l)) [] done answers) (sym goes.came.are) there)
+    came_there : (done : List Exchange) → AreThere (kept (work_after file start (acts_in c.answered ++ goes.came.more))) [] done → AreThere u [] done
+    came_there done there = are_there (kept (work_after file start acts)) u goes.view [] done (subst (λ (l : List Act). AreThere (kept (work_after file start l)) [] done) (sym goes.came.are) there)
 
     -- so is what was answered in it
-    answered_there : AreThere u [] c.answered c.answers
-    answered_there =
-        came_there c.answered c.answers
-        (subst (AreThere (kept (work_after file start (c.answered ++ goes.came.more))) [] c.answered) (sym goes.answers_are)
-        (front_there c.answered goes.came.more start work inputs))
+    answered_there : AreThere u [] c.answered
+    answered_there = came_there c.answered (front_there c.answered goes.came.more start work inputs goes.answers_are)
 
     -- and what was answered before
-    before_there : (done : List Act) (answers : List Answer) → AreThere v [] done answers → AreThere u [] done answers
-    before_there done answers there =
-        came_there done answers (all_stay (c.answered ++ goes.came.more) start [] done answers work inputs (are_there v (kept start) (begun_bare file c.shown v) [] done answers there))
-
-  none_there : (view : View) (acts : List Act) (answers : List Answer) → acts ≡ [] → answers ≡ [] → AreThere view [] acts answers
-  none_there view [] [] none no_answers = tt
-  none_there view [] (x ∷ answers) none no_answers = absurd (cc)
-  none_there view (a ∷ acts) answers none no_answers = absurd (cc)
+    before_there : (done : List Exchange) → AreThere v [] done → AreThere u [] done
+    before_there done there = came_there done (all_stay (acts_in c.answered ++ goes.came.more) start [] done work inputs (are_there v (kept start) (begun_bare file c.shown v) [] done there))
 
   -- what was answered in earlier sessions
   all_before : file.version ≡ 2 → (c : Chapter) (v u : View) (chapters : List Chapter) → LeadsTo file c v u → AllThere v chapters → AllThere u chapters
   all_before version c v u [] leads there = tt
-  all_before version c v u (d ∷ chapters) (inl is) there = (are_there v u is.same [] d.answered d.answers there.0, all_before version c v u chapters (inl is) there.1)
-  all_before version c v u (d ∷ chapters) (inr goes) there = (before_there version c goes.0 v u goes.1 d.answered d.answers there.0, all_before version c v u chapters (inr goes) there.1)
+  all_before version c v u (d ∷ chapters) (inl is) there = (are_there v u is.same [] d.answered there.0, all_before version c v u chapters (inl is) there.1)
+  all_before version c v u (d ∷ chapters) (inr goes) there = (before_there version c goes.0 v u goes.1 d.answered there.0, all_before version c v u chapters (inr goes) there.1)
 
-  own_there : file.version ≡ 2 → (c : Chapter) (v u : View) → LeadsTo file c v u → AreThere u [] c.answered c.answers
-  own_there version c v u (inl is) = none_there u c.answered c.answers is.none is.no_answers
+  own_there : file.version ≡ 2 → (c : Chapter) (v u : View) → LeadsTo file c v u → AreThere u [] c.answered
+  own_there version c v u (inl is) = subst (AreThere u []) (sym is.none) tt
   own_there version c v u (inr goes) = answered_there version c goes.0 v u goes.1
 
   all_there : file.version ≡ 2 → (first : View) (chapters : List Chapter) (u : View) → MayHave file first chapters u → AllThere u chapters

@@ -14,7 +14,7 @@ use Rattle.df_model.specs.Views.{KeepsView}
 use Rattle.df_model.specs.Work.{kept}
 use Rattle.df_model.specs.declared.answers.Progress.TheVariants.{Done}
 use Rattle.df_replica.specs.Below.{DataFile}
-use Rattle.df_replica.specs.Session.{Act, work_after}
+use Rattle.df_replica.specs.Session.{Exchange, work_after}
 use Rattle.df_replica.proofs.Laws.{keeps_on}
 use Rattle.df_session.specs.Begun.{begun_work}
 use Rattle.df_lifetime.specs.Acknowledged.{AreThere}
@@ -24,7 +24,7 @@ use Rattle.df_lifetime.specs.There.{HasPrepare, HasReply, HavePrepares, IsAnswer
 -- ---- what a file may have come to
 
 leads_on : (file : DataFile) (c : Chapter) (v u x : View) → LeadsTo file c v u → KeepsView u x → LeadsTo file c v x
-leads_on file c v u x (inl is) keeps = inl (record { none = is.none; no_answers = is.no_answers; same = keeps_on v u x is.same keeps })
+leads_on file c v u x (inl is) keeps = inl (record { none = is.none; same = keeps_on v u x is.same keeps })
 leads_on file c v u x (inr goes) keeps =
     let by = goes.1 in
     inr (goes.0, record { whole = by.whole; found = by.found; unspent = by.unspent; inputs = by.inputs; answers_are = by.answers_are; came = by.came; view = keeps_on (kept (work_after file (begun_work file c.shown v) goes.0)) u x by.view keeps })
@@ -70,8 +70,6 @@ module _ (v u : View) (keeps : KeepsView v u) where
   one_there rs given commands.Advance (ToAdvance (Ok (Done n))) there = omega (arith, there, keeps.content.sequence)
   one_there rs given command answer there = tt
 
-  pub are_there : (rs : List Promised) (acts : List Act) (answers : List Answer) → AreThere v rs acts answers → AreThere u rs acts answers
-  are_there rs [] [] there = tt
-  are_there rs [] (x ∷ answers) there = absurd there
-  are_there rs (a ∷ acts) [] there = absurd there
-  are_there rs (a ∷ acts) (x ∷ answers) there = (one_there rs a.given a.command x there.0, are_there (promised_by rs a.command x) acts answers there.1)
+  pub are_there : (rs : List Promised) (xs : List Exchange) → AreThere v rs xs → AreThere u rs xs
+  are_there rs [] there = tt
+  are_there rs (x ∷ xs) there = (one_there rs x.act.given x.act.command x.answer there.0, are_there (promised_by rs x.act.command x.answer) xs there.1)

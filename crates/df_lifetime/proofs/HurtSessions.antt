@@ -16,7 +16,6 @@ use Rattle.df_theory.specs.Units.{Parts, Units}
 use Rattle.df_theory.specs.View.{View}
 use Rattle.df_theory.proofs.Laws.{found_law}
 use Rattle.df_units.specs.Bytes.{unit_at}
-use Rattle.df_model.specs.Commands.{Answer}
 use Rattle.df_model.specs.Sense.{IsWork}
 use Rattle.df_model.specs.Views.{KeepsView}
 use Rattle.df_model.specs.Work.{Work, kept}
@@ -24,7 +23,7 @@ use Rattle.df_replica.specs.Below.{DataFile, State, restarted, shape, spelling, 
 use Rattle.df_replica.specs.Following.{MayOpen}
 use Rattle.df_replica.specs.HeldBlocks.{AreInputs}
 use Rattle.df_replica.specs.Serving.{Firm, Grade, StandsFor, Whole, format}
-use Rattle.df_replica.specs.Session.{Act, HasView, HoldsFor, IsMidway, answers_of, work_after}
+use Rattle.df_replica.specs.Session.{Act, Exchange, HasView, HoldsFor, IsMidway, acts_in, answers_in, answers_of, work_after}
 use Rattle.df_replica.proofs.Laws.{added_is_told, begun_may_open, same_goes_on, stopped_may_open}
 use Rattle.df_session.specs.Anew.{begun_after}
 use Rattle.df_session.specs.Begun.{begun_work}
@@ -54,24 +53,19 @@ held_for : (g : Grade) (sh : Shape) (u : Units) (v : View) → HoldsFor g sh u v
 held_for Firm sh u v has = (has.0, has.1, has.2, tt)
 held_for Whole sh u v has = (has.0, has.1, has.2.0, λ a c is. has.2.1 a c (ap (λ (parts : Parts). parts.references a) has.1.parts ∙ is))
 
-take_inputs : (k : ℕ) (acts more : List Act) → AreInputs (acts ++ more) → AreInputs (take k acts ++ (drop k acts ++ more))
-take_inputs k acts more inputs = subst AreInputs (sym (front_and_rest k acts more)) inputs
-
 -- ---- the next open
 
 module _ (file : DataFile) (g : Grade) (w : Work) (work : IsWork (shape file) (spelling file) w) (version : file.version ≡ 2) where
   -- what was answered is in the view after it
-  answers_there : (acts : List Act) (answers : List Answer) (more rest : List Act) → answers ≡ answers_of file w acts → AreInputs (acts ++ (more ++ rest)) → AreThere (kept (work_after file w (acts ++ more))) (promised_in w) acts answers
-  answers_there acts answers more rest are inputs =
-      subst (λ (l : List Answer). AreThere (kept (work_after file w (acts ++ more))) (promised_in w) acts l) (sym are)
-      (front_there file acts more w work (front_inputs file (acts ++ more) rest (subst AreInputs (sym (append_assoc acts more rest)) inputs)))
+  answers_there : (xs : List Exchange) (more rest : List Act) → answers_in xs ≡ answers_of file w (acts_in xs) → AreInputs (acts_in xs ++ (more ++ rest)) → AreThere (kept (work_after file w (acts_in xs ++ more))) (promised_in w) xs
+  answers_there xs more rest are inputs = front_there file xs more w work (front_inputs file (acts_in xs ++ more) rest (subst AreInputs (sym (append_assoc (acts_in xs) more rest)) inputs)) are
 
-  module _ (acts : List Act) (answers : List Answer) (are : answers ≡ answers_of file w acts) (perhaps : List Act) (inputs : AreInputs (acts ++ perhaps)) where
+  module _ (xs : List Exchange) (are : answers_in xs ≡ answers_of file w (acts_in xs)) (perhaps : List Act) (inputs : AreInputs (acts_in xs ++ perhaps)) where
     -- after no stop
-    next_now : (more rest : List Act) (n : Told) → perhaps ≡ more ++ rest → IsSafeDisk (format file) (shape file) n.log → IsHonest n → NoChanceOf (format file) n.log (now n.log) → HasView file g (work_after file w (acts ++ more)) (now n.log)
-        → NextFinds file g w acts answers perhaps n
+    next_now : (more rest : List Act) (n : Told) → perhaps ≡ more ++ rest → IsSafeDisk (format file) (shape file) n.log → IsHonest n → NoChanceOf (format file) n.log (now n.log) → HasView file g (work_after file w (acts_in xs ++ more)) (now n.log)
+        → NextFinds file g w xs perhaps n
     next_now more rest n some safe honest chance has =
-        let view : View = kept (work_after file w (acts ++ more)) in
+        let view : View = kept (work_after file w (acts_in xs ++ more)) in
         let both = held_for g (shape file) ((format file).unit_at (now n.log)) view has in
         let shows : now n.log ≡ n.shown = λ i sector. sym (honest.shows sector) i in
         record {
@@ -79,18 +73,18 @@ module _ (file : DataFile) (g : Grade) (w : Work) (work : IsWork (shape file) (s
           rest = rest;
           some = some;
           may = (both.0, both.1, record { version = version; safe = safe; honest = honest; found = (found_law (shape file) ((format file).unit_at (now n.log)) both.0).0 both.2; no_chance = chance });
-          there = answers_there acts answers more rest are (subst (λ (l : List Act). AreInputs (acts ++ l)) some inputs);
+          there = answers_there xs more rest are (subst (λ (l : List Act). AreInputs (acts_in xs ++ l)) some inputs);
           stands = subst (λ (image : Image). StandsFor g (unit_at file.layout file.cluster image) view) shows both.3;
         }
 
     -- after one
-    next_stopped : (m : Told) (changes : List (ℕ × List ℕ)) → IsMidway file g (work_after file w acts) perhaps m.log → IsHonest m → AreLoose m.log.events changes → NoChanceOf (format file) m.log (changed changes (now m.log))
-        → NextFinds file g w acts answers perhaps (did (Stop changes) m)
+    next_stopped : (m : Told) (changes : List (ℕ × List ℕ)) → IsMidway file g (work_after file w (acts_in xs)) perhaps m.log → IsHonest m → AreLoose m.log.events changes → NoChanceOf (format file) m.log (changed changes (now m.log))
+        → NextFinds file g w xs perhaps (did (Stop changes) m)
     next_stopped m changes mid honest loose chance =
         let image : Image = changed changes (now m.log) in
-        let some = has_front file g (work_after file w acts) perhaps image (mid.left image (left_by m.log changes mid.safe.is_log loose) chance) in
-        let view : View = kept (work_after file w (acts ++ some.front)) in
-        let has : HasView file g (work_after file w (acts ++ some.front)) image = subst (λ (u : Work). HasView file g u image) (sym (work_on file w acts some.front)) some.has in
+        let some = has_front file g (work_after file w (acts_in xs)) perhaps image (mid.left image (left_by m.log changes mid.safe.is_log loose) chance) in
+        let view : View = kept (work_after file w (acts_in xs ++ some.front)) in
+        let has : HasView file g (work_after file w (acts_in xs ++ some.front)) image = subst (λ (u : Work). HasView file g u image) (sym (work_on file w (acts_in xs) some.front)) some.has in
         let both = held_for g (shape file) ((format file).unit_at image) view has in
         let shows : now m.log ≡ m.shown = λ i sector. sym (honest.shows sector) i in
         record {
@@ -98,20 +92,20 @@ module _ (file : DataFile) (g : Grade) (w : Work) (work : IsWork (shape file) (s
           rest = some.rest;
           some = some.are;
           may = (both.0, both.1, stopped_may_open file both.0 m changes version mid.safe honest loose chance both.2);
-          there = answers_there acts answers some.front some.rest are (subst (λ (l : List Act). AreInputs (acts ++ l)) some.are inputs);
+          there = answers_there xs some.front some.rest are (subst (λ (l : List Act). AreInputs (acts_in xs ++ l)) some.are inputs);
           stands = subst (λ (now_shown : Image). StandsFor g (unit_at file.layout file.cluster (changed changes now_shown)) view) shows both.3;
         }
 
   -- at the end of a session
-  next_ended : (acts : List Act) (answers : List Answer) (failed : Option Act) (n : Told) → IsSafeDisk (format file) (shape file) n.log → IsHonest n → LeavesAll file g w acts failed n → answers ≡ answers_of file w acts → AreInputs (acts ++ list_of failed)
-      → NoChanceOf (format file) n.log (now n.log) → NextFinds file g w acts answers (list_of failed) n
-  next_ended acts answers None n safe honest left are inputs chance =
-      next_now acts answers are [] inputs [] [] n refl safe honest chance
-      (subst (λ (l : List Act). HasView file g (work_after file w l) (now n.log)) (sym (append-nil acts)) (left (now n.log) (now_left n.log safe.is_log) chance))
-  next_ended acts answers (Some a) n safe honest left are inputs chance = elim (left (now n.log) (now_left n.log safe.is_log) chance) [
+  next_ended : (xs : List Exchange) (failed : Option Act) (n : Told) → IsSafeDisk (format file) (shape file) n.log → IsHonest n → LeavesAll file g w (acts_in xs) failed n → answers_in xs ≡ answers_of file w (acts_in xs) → AreInputs (acts_in xs ++ list_of failed)
+      → NoChanceOf (format file) n.log (now n.log) → NextFinds file g w xs (list_of failed) n
+  next_ended xs None n safe honest left are inputs chance =
+      next_now xs are [] inputs [] [] n refl safe honest chance
+      (subst (λ (l : List Act). HasView file g (work_after file w l) (now n.log)) (sym (append-nil (acts_in xs))) (left (now n.log) (now_left n.log safe.is_log) chance))
+  next_ended xs (Some a) n safe honest left are inputs chance = elim (left (now n.log) (now_left n.log safe.is_log) chance) [
     | inl before ↦
-        next_now acts answers are (a ∷ []) inputs [] (a ∷ []) n refl safe honest chance (subst (λ (l : List Act). HasView file g (work_after file w l) (now n.log)) (sym (append-nil acts)) before)
-    | inr after ↦ next_now acts answers are (a ∷ []) inputs (a ∷ []) [] n refl safe honest chance after
+        next_now xs are (a ∷ []) inputs [] (a ∷ []) n refl safe honest chance (subst (λ (l : List Act). HasView file g (work_after file w l) (now n.log)) (sym (append-nil (acts_in xs))) before)
+    | inr after ↦ next_now xs are (a ∷ []) inputs (a ∷ []) [] n refl safe honest chance after
   ]
 
 -- ---- a session
@@ -126,10 +120,10 @@ module _ (file : DataFile) (g : Grade) (view : View) (t base : Told) (version : 
   abbrev start : Work
   start = begun_work file t.shown view
 
-  module _ (work : IsWork (shape file) (spelling file) start) (mending : List Event) (c : CallsMade) (keeps : KeepsFile file g start base c.acts c.answers c.failed (over mending (events_made c) base)) (answered : KeepsAnswered file g start (over mending [] base) c)
+  module _ (work : IsWork (shape file) (spelling file) start) (mending : List Event) (c : CallsMade) (keeps : KeepsFile file g start base c.exchanges c.failed (over mending (events_made c) base)) (answered : KeepsAnswered file g start (over mending [] base) c)
       (shows : (n : Told) → c.new ≡ Some n → (at_end mending c base).shown ≡ n.shown) where
-    inputs : AreInputs (c.acts ++ list_of c.failed)
-    inputs = ends_inputs c.from c.to c.old c.new c.acts c.answers c.failed c.calls
+    inputs : AreInputs (acts_in c.exchanges ++ list_of c.failed)
+    inputs = ends_inputs c.from c.to c.old c.new c.exchanges c.failed c.calls
 
     abbrev last : Told
     last = at_end mending c base
@@ -137,26 +131,26 @@ module _ (file : DataFile) (g : Grade) (view : View) (t base : Told) (version : 
     after_is : keeps.after ≡ last
     after_is = one_some (over mending (events_made c) base) keeps.after last keeps.is refl
 
-    moments : EachMoment (did Sync base).log last.log (IsMidway file g start (c.acts ++ list_of c.failed))
-    moments = subst (λ (x : Told). EachMoment (did Sync base).log x.log (IsMidway file g start (c.acts ++ list_of c.failed))) after_is keeps.moments
+    moments : EachMoment (did Sync base).log last.log (IsMidway file g start (acts_in c.exchanges ++ list_of c.failed))
+    moments = subst (λ (x : Told). EachMoment (did Sync base).log x.log (IsMidway file g start (acts_in c.exchanges ++ list_of c.failed))) after_is keeps.moments
 
     grew : Extends last.log (did Sync base).log
     grew = subst (λ (x : Told). Extends x.log (did Sync base).log) after_is keeps.barrier
 
-    ended : NoChanceOf (format file) last.log (now last.log) → NextFinds file g start c.acts c.answers (list_of c.failed) last
+    ended : NoChanceOf (format file) last.log (now last.log) → NextFinds file g start c.exchanges (list_of c.failed) last
     ended chance =
-        next_ended file g start work version c.acts c.answers c.failed last (moments last.log (record { since = grew; until = extends_self last.log })).safe (subst IsHonest after_is keeps.honest)
-        (subst (λ (x : Told). LeavesAll file g start c.acts c.failed x) after_is keeps.left) keeps.answered inputs chance
+        next_ended file g start work version c.exchanges c.failed last (moments last.log (record { since = grew; until = extends_self last.log })).safe (subst IsHonest after_is keeps.honest)
+        (subst (λ (x : Told). LeavesAll file g start (acts_in c.exchanges) c.failed x) after_is keeps.left) keeps.answered inputs chance
 
-    midway : (k : ℕ) (m : Told) → IsMoment (did Sync base).log last.log m.log → AreAnswered k mending base m.log c → IsMidway file g (work_after file start (take k c.acts)) (drop k c.acts ++ list_of c.failed) m.log
+    midway : (k : ℕ) (m : Told) → IsMoment (did Sync base).log last.log m.log → AreAnswered k mending base m.log c → IsMidway file g (work_after file start (acts_in (take k c.exchanges))) (acts_in (drop k c.exchanges) ++ list_of c.failed) m.log
     midway zero m moment none = moments m.log moment
     midway (suc k) m moment were =
         answered (suc k) m.log were (subst (λ (o : Option Told). IsUntil o m.log) (sym (added_is_told (events_made c) (told_after mending (did Sync base)))) moment.until)
 
     stopped : (k : ℕ) (m : Told) (changes : List (ℕ × List ℕ)) → IsMoment (did Sync base).log last.log m.log → AreAnswered k mending base m.log c → IsHonest m → AreLoose m.log.events changes → NoChanceOf (format file) m.log (changed changes (now m.log))
-        → NextFinds file g start (take k c.acts) (take k c.answers) (drop k c.acts ++ list_of c.failed) (did (Stop changes) m)
+        → NextFinds file g start (take k c.exchanges) (acts_in (drop k c.exchanges) ++ list_of c.failed) (did (Stop changes) m)
     stopped k m changes moment were honest loose chance =
-        next_stopped file g start work version (take k c.acts) (take k c.answers) (ap (take k) keeps.answered ∙ first_answers file k start c.acts) (drop k c.acts ++ list_of c.failed) (take_inputs k c.acts (list_of c.failed) inputs)
+        next_stopped file g start work version (take k c.exchanges) (first_answers file k start c.exchanges keeps.answered) (acts_in (drop k c.exchanges) ++ list_of c.failed) (subst AreInputs (sym (front_and_rest k c.exchanges (list_of c.failed))) inputs)
         m changes (midway k m moment were) honest loose chance
 
     keeps_on : KeepsOn file g start base mending c
@@ -187,7 +181,7 @@ calls_keep_on g file view t base found c calls from adds same may stands =
     let one : found.replica.file ≡ file = file_there file.layout t found ∙ one_file 2 file file.layout t.shown view found.found here found.is_opened in
     let there = subst (λ (f : DataFile). IsFound (shape f) (unit_at f.layout f.cluster t.shown) view) (sym one) here in
     let work : IsWork (shape file) (spelling file) (begun_work file t.shown view) = subst (λ (f : DataFile). IsWork (shape f) (spelling f) (begun_work f t.shown view)) one (calls.stands view there).0 in
-    keeps_on file g view t base may.version work found.mending.events c (subst (λ (f : DataFile). KeepsOver f t c.acts c.answers c.failed found.mending.events (events_made c)) one calls.keeps g view base same may stands)
+    keeps_on file g view t base may.version work found.mending.events c (subst (λ (f : DataFile). KeepsOver f t c.exchanges c.failed found.mending.events (events_made c)) one calls.keeps g view base same may stands)
     (subst (λ (f : DataFile). AnsweredOver f t found.mending.events c) one calls.acknowledged g view base same may stands) (shows_over found.mending.events c t base same (from ∙ found.mending.told) adds)
 
 pub scripts_keep_on : ScriptsKeepOn

@@ -19,7 +19,6 @@ use Rattle.df_theory.proofs.Laws.{disk_stop_law, one_found_law, rests_safe, safe
 use Rattle.df_units.specs.Bytes.{unit_at}
 use Rattle.df_units.specs.Making.{first_view}
 use Rattle.df_units.proofs.Laws.{is_format}
-use Rattle.df_model.specs.Commands.{Answer}
 use Rattle.df_model.specs.Views.{KeepsView}
 use Rattle.df_model.specs.Work.{Work, kept}
 use Rattle.df_model.specs.declared.errors.OpenError.TheVariants.{NotFormatted}
@@ -29,7 +28,7 @@ use Rattle.df_replica.specs.HeldBlocks.{AreInputs}
 use Rattle.df_replica.specs.Making.{file_of}
 use Rattle.df_replica.specs.Opened.{Mends, MendsPartly, StopsOpening, begun_state}
 use Rattle.df_replica.specs.Serving.{Grade, IsGoodFor, StandsFor, Whole, format}
-use Rattle.df_replica.specs.Session.{Act, HasView, IsMidway, work_after}
+use Rattle.df_replica.specs.Session.{Act, Exchange, HasView, IsMidway, acts_in, work_after}
 use Rattle.df_replica.proofs.Laws.{added_is_told, found_is_usable, good_left, good_safe, honest_stays, keeps_on, keeps_self}
 use Rattle.df_session.specs.Begun.{begun_work}
 use Rattle.df_session.specs.Found.{FoundFile, no_calls}
@@ -191,14 +190,14 @@ module _ (file : DataFile) (first : View) (chapters : List Chapter) (b : Told) (
   abbrev start : Work
   start = begun_work file t.shown view
 
-  keeps_as : (replica : Replica) (acts : List Act) (xs : List Answer) (failed : Option Act) (mending added : List Event) → replica.file ≡ file → KeepsOver replica.file t acts xs failed mending added
-      → KeepsFile file Whole start b acts xs failed (over mending added b)
-  keeps_as replica acts xs failed mending added one keeps = subst (λ (f : DataFile). KeepsOver f t acts xs failed mending added) one keeps Whole view b shown opens stands_there
+  keeps_as : (replica : Replica) (xs : List Exchange) (failed : Option Act) (mending added : List Event) → replica.file ≡ file → KeepsOver replica.file t xs failed mending added
+      → KeepsFile file Whole start b xs failed (over mending added b)
+  keeps_as replica xs failed mending added one keeps = subst (λ (f : DataFile). KeepsOver f t xs failed mending added) one keeps Whole view b shown opens stands_there
 
   answered_as : (replica : Replica) (c : CallsMade) (mending : List Event) → replica.file ≡ file → AnsweredOver replica.file t mending c → KeepsAnswered file Whole start (over mending [] b) c
   answered_as replica c mending one keeps = subst (λ (f : DataFile). AnsweredOver f t mending c) one keeps Whole view b shown opens stands_there
 
-  module _ (acts : List Act) (xs : List Answer) (failed : Option Act) (e : Told) (keeps : KeepsFile file Whole start b acts xs failed (Some e)) where
+  module _ (xs : List Exchange) (failed : Option Act) (e : Told) (keeps : KeepsFile file Whole start b xs failed (Some e)) where
     same_end : keeps.after ≡ e
     same_end = one_some (Some e) keeps.after e keeps.is refl
 
@@ -208,21 +207,21 @@ module _ (file : DataFile) (first : View) (chapters : List Chapter) (b : Told) (
     barrier : Extends e.log (did Sync b).log
     barrier = subst (λ (x : Told). Extends x.log (did Sync b).log) same_end keeps.barrier
 
-    midway : EachMoment (did Sync b).log e.log (IsMidway file Whole start (acts ++ list_of failed))
-    midway = subst (λ (x : Told). EachMoment (did Sync b).log x.log (IsMidway file Whole start (acts ++ list_of failed))) same_end keeps.moments
+    midway : EachMoment (did Sync b).log e.log (IsMidway file Whole start (acts_in xs ++ list_of failed))
+    midway = subst (λ (x : Told). EachMoment (did Sync b).log x.log (IsMidway file Whole start (acts_in xs ++ list_of failed))) same_end keeps.moments
 
-    leaves : LeavesAll file Whole start acts failed e
-    leaves = subst (λ (x : Told). LeavesAll file Whole start acts failed x) same_end keeps.left
+    leaves : LeavesAll file Whole start (acts_in xs) failed e
+    leaves = subst (λ (x : Told). LeavesAll file Whole start (acts_in xs) failed x) same_end keeps.left
 
-    last : IsMidway file Whole start (acts ++ list_of failed) e.log
+    last : IsMidway file Whole start (acts_in xs ++ list_of failed) e.log
     last = midway e.log (record { since = barrier; until = extends_self e.log })
 
     abbrev ended : Chapter
-    ended = record { shown = t.shown; answered = acts; answers = xs; perhaps = list_of failed }
+    ended = record { shown = t.shown; answered = xs; perhaps = list_of failed }
 
-    module _ (unspent : boot_of view < 2 ^ 62) (inputs : AreInputs (acts ++ list_of failed)) where
+    module _ (unspent : boot_of view < 2 ^ 62) (inputs : AreInputs (acts_in xs ++ list_of failed)) where
       -- at the end these acts came through
-      all_came : (image : Image) (came more rest : List Act) → came ≡ acts ++ more → list_of failed ≡ more ++ rest → HasView file Whole (work_after file start came) image → Has file first (ended ∷ chapters) image
+      all_came : (image : Image) (came more rest : List Act) → came ≡ acts_in xs ++ more → list_of failed ≡ more ++ rest → HasView file Whole (work_after file start came) image → Has file first (ended ∷ chapters) image
       all_came image came more rest are some has = record {
         view = has.0;
         had = (view, had, inr (came, record { whole = whole; found = found_shown; unspent = unspent; inputs = inputs; answers_are = keeps.answered; came = record { more = more; rest = rest; are = are; some = some }; view = has.1 }));
@@ -230,22 +229,22 @@ module _ (file : DataFile) (first : View) (chapters : List Chapter) (b : Told) (
         stands = has.2.1;
       }
 
-  end_order : (acts : List Act) (xs : List Answer) (failed : Option Act) (e : Told) (keeps : KeepsFile file Whole start b acts xs failed (Some e)) → boot_of view < 2 ^ 62 → AreInputs (acts ++ list_of failed)
-      → LeavesAll file Whole start acts failed e → Order file first (record { shown = t.shown; answered = acts; answers = xs; perhaps = list_of failed } ∷ chapters) e.log
-  end_order acts xs None e keeps unspent inputs all = record {
-    safe = (last acts xs None e keeps).safe;
-    left = λ image left no. all_came acts xs None e keeps unspent inputs image acts [] [] (sym (append-nil acts)) refl (all image left no);
+  end_order : (xs : List Exchange) (failed : Option Act) (e : Told) (keeps : KeepsFile file Whole start b xs failed (Some e)) → boot_of view < 2 ^ 62 → AreInputs (acts_in xs ++ list_of failed)
+      → LeavesAll file Whole start (acts_in xs) failed e → Order file first (record { shown = t.shown; answered = xs; perhaps = list_of failed } ∷ chapters) e.log
+  end_order xs None e keeps unspent inputs all = record {
+    safe = (last xs None e keeps).safe;
+    left = λ image left no. all_came xs None e keeps unspent inputs image (acts_in xs) [] [] (sym (append-nil (acts_in xs))) refl (all image left no);
   }
-  end_order acts xs (Some a) e keeps unspent inputs all = record {
-    safe = (last acts xs (Some a) e keeps).safe;
+  end_order xs (Some a) e keeps unspent inputs all = record {
+    safe = (last xs (Some a) e keeps).safe;
     left = λ image left no. elim (all image left no) [
-      | inl before ↦ all_came acts xs (Some a) e keeps unspent inputs image acts [] (a ∷ []) (sym (append-nil acts)) refl before
-      | inr after ↦ all_came acts xs (Some a) e keeps unspent inputs image (acts ++ a ∷ []) (a ∷ []) [] refl refl after
+      | inl before ↦ all_came xs (Some a) e keeps unspent inputs image (acts_in xs) [] (a ∷ []) (sym (append-nil (acts_in xs))) refl before
+      | inr after ↦ all_came xs (Some a) e keeps unspent inputs image (acts_in xs ++ a ∷ []) (a ∷ []) [] refl refl after
     ];
   }
 
   -- up to a moment these did
-  module _ (c : CallsMade) (mending : List Event) (unspent : boot_of view < 2 ^ 62) (inputs : AreInputs (c.acts ++ list_of c.failed)) (keeps : KeepsFile file Whole start b c.acts c.answers c.failed (over mending (events_made c) b)) where
+  module _ (c : CallsMade) (mending : List Event) (unspent : boot_of view < 2 ^ 62) (inputs : AreInputs (acts_in c.exchanges ++ list_of c.failed)) (keeps : KeepsFile file Whole start b c.exchanges c.failed (over mending (events_made c) b)) where
     -- what the disk and the log tell after the mending, and at the end
     abbrev opened : Told
     opened = told_after mending (did Sync b)
@@ -256,22 +255,22 @@ module _ (file : DataFile) (first : View) (chapters : List Chapter) (b : Told) (
     abbrev cut : ℕ → Chapter
     cut k = chapter_of (ToAMoment k) t.shown c
 
-    some_came : (k : ℕ) (image : Image) → HasFront file Whole (work_after file start (take k c.acts)) (drop k c.acts ++ list_of c.failed) image → Has file first (cut k ∷ chapters) image
+    some_came : (k : ℕ) (image : Image) → HasFront file Whole (work_after file start (acts_in (take k c.exchanges))) (acts_in (drop k c.exchanges) ++ list_of c.failed) image → Has file first (cut k ∷ chapters) image
     some_came k image has = record {
       view = has.has.0;
       had = (
         view,
         had,
         inr (
-          take k c.acts ++ has.front,
+          acts_in (take k c.exchanges) ++ has.front,
           record {
             whole = whole;
             found = found_shown;
             unspent = unspent;
-            inputs = subst AreInputs (sym (front_and_rest k c.acts (list_of c.failed))) inputs;
-            answers_are = ap (take k) keeps.answered ∙ first_answers file k start c.acts;
+            inputs = subst AreInputs (sym (front_and_rest k c.exchanges (list_of c.failed))) inputs;
+            answers_are = first_answers file k start c.exchanges keeps.answered;
             came = record { more = has.front; rest = has.rest; are = refl; some = has.are };
-            view = subst (λ (w : Work). KeepsView (kept w) has.has.0) (sym (work_on file start (take k c.acts) has.front)) has.has.1;
+            view = subst (λ (w : Work). KeepsView (kept w) has.has.0) (sym (work_on file start (acts_in (take k c.exchanges)) has.front)) has.has.1;
           },
         ),
       );
@@ -279,14 +278,14 @@ module _ (file : DataFile) (first : View) (chapters : List Chapter) (b : Told) (
       stands = has.has.2.1;
     }
 
-    mid_order : (k : ℕ) (log : Log) → IsMidway file Whole (work_after file start (take k c.acts)) (drop k c.acts ++ list_of c.failed) log → Order file first (cut k ∷ chapters) log
+    mid_order : (k : ℕ) (log : Log) → IsMidway file Whole (work_after file start (acts_in (take k c.exchanges))) (acts_in (drop k c.exchanges) ++ list_of c.failed) log → Order file first (cut k ∷ chapters) log
     mid_order k log mid = record {
       safe = mid.safe;
-      left = λ image left no. some_came k image (has_front file Whole (work_after file start (take k c.acts)) (drop k c.acts ++ list_of c.failed) image (mid.left image left no));
+      left = λ image left no. some_came k image (has_front file Whole (work_after file start (acts_in (take k c.exchanges))) (acts_in (drop k c.exchanges) ++ list_of c.failed) image (mid.left image left no));
     }
 
     none_came : (image : Image) → Has file first chapters image → Has file first (cut 0 ∷ chapters) image
-    none_came image has = record { view = has.view; had = (has.view, has.had, inl (record { none = refl; no_answers = refl; same = keeps_self has.view })); held = has.held; stands = has.stands }
+    none_came image has = record { view = has.view; had = (has.view, has.had, inl (record { none = refl; same = keeps_self has.view })); held = has.held; stands = has.stands }
 
     cut_order : (log : Log) → Order file first chapters log → Order file first (cut 0 ∷ chapters) log
     cut_order log order = record { safe = order.safe; left = λ image left no. none_came image (order.left image left no) }
@@ -295,8 +294,8 @@ module _ (file : DataFile) (first : View) (chapters : List Chapter) (b : Told) (
       -- where none was answered it may be a moment before the barrier
       first_moments : EachMoment b.log end.log (Order file first (cut 0 ∷ chapters))
       first_moments =
-          from_before Sync b.log end.log (Order file first (cut 0 ∷ chapters)) (cut_order b.log (order_of file first chapters b is)) (barrier c.acts c.answers c.failed end keeps)
-          (weaker (did Sync b).log end.log (IsMidway file Whole start (c.acts ++ list_of c.failed)) (Order file first (cut 0 ∷ chapters)) (mid_order 0) (midway c.acts c.answers c.failed end keeps))
+          from_before Sync b.log end.log (Order file first (cut 0 ∷ chapters)) (cut_order b.log (order_of file first chapters b is)) (barrier c.exchanges c.failed end keeps)
+          (weaker (did Sync b).log end.log (IsMidway file Whole start (acts_in c.exchanges ++ list_of c.failed)) (Order file first (cut 0 ∷ chapters)) (mid_order 0) (midway c.exchanges c.failed end keeps))
 
       until : (log : Log) → Extends end.log log → IsUntil (after_all (events_made c) (over mending [] b)) log
       until log later = subst (λ (o : Option Told). IsUntil o log) (sym (added_is_told (events_made c) opened)) later
@@ -323,8 +322,8 @@ module _ (file : DataFile) (first : View) (chapters : List Chapter) (b : Told) (
             end = end;
             along = along;
             own = ap (λ (x : Told). told_after (events_made c) (told_after mending (did Sync x)));
-            honest = honest_end c.acts c.answers c.failed end keeps;
-            at_end = end_order c.acts c.answers c.failed end keeps unspent inputs (leaves c.acts c.answers c.failed end keeps);
+            honest = honest_end c.exchanges c.failed end keeps;
+            at_end = end_order c.exchanges c.failed end keeps unspent inputs (leaves c.exchanges c.failed end keeps);
             moments = λ k p m later part had. all_moments k p m later part had from;
           })
 
@@ -338,11 +337,11 @@ module _ (file : DataFile) (first : View) (chapters : List Chapter) (b : Told) (
         record { view = has.0; had = had_on file first chapters view has.0 had (keeps_on view (kept start) has.0 (begun_bare file t.shown view) has.1); held = has.2.0; stands = has.2.1 };
   }
 
-  idle_comes : (mending : List Event) (n : Told) → KeepsFile file Whole start b [] [] None (over mending [] b) → told_after mending (did Sync t) ≡ n → Comes file first chapters None t n b
+  idle_comes : (mending : List Event) (n : Told) → KeepsFile file Whole start b [] None (over mending [] b) → told_after mending (did Sync t) ≡ n → Comes file first chapters None t n b
   idle_comes mending n keeps same =
       let end : Told = told_after mending (did Sync b) in
-      let idle : EachMoment (did Sync b).log end.log (Order file first chapters) = weaker (did Sync b).log end.log (IsMidway file Whole start []) (Order file first chapters) idle_order (midway [] [] None end keeps) in
-      let grew : Extends end.log (did Sync b).log = barrier [] [] None end keeps in
+      let idle : EachMoment (did Sync b).log end.log (Order file first chapters) = weaker (did Sync b).log end.log (IsMidway file Whole start []) (Order file first chapters) idle_order (midway [] None end keeps) in
+      let grew : Extends end.log (did Sync b).log = barrier [] None end keeps in
       quiet_comes (Sync ∷ mending) n same (idle end.log (record { since = grew; until = extends_self end.log })) (after_barrier file first chapters b is chance end.log grew idle)
 
   -- ---- a word
@@ -350,11 +349,11 @@ module _ (file : DataFile) (first : View) (chapters : List Chapter) (b : Told) (
   module _ (layout : Layout) (old new : Outside) (status : Status) (n : Told) (to : new.told ≡ Some n) where
     -- calls after an open and what it mended
     calls_come : (replica : Replica) (c : CallsMade) (mending : Mends replica.file (Some (did Sync t)) c.old) → replica.file ≡ file → boot_of view < 2 ^ 62 → new.told ≡ after_all (events_made c) c.old
-        → KeepsOver replica.file t c.acts c.answers c.failed mending.events (events_made c) → AnsweredOver replica.file t mending.events c → Comes file first chapters (Some c) t n b
+        → KeepsOver replica.file t c.exchanges c.failed mending.events (events_made c) → AnsweredOver replica.file t mending.events c → Comes file first chapters (Some c) t n b
     calls_come replica c mending one unspent adds keeps acknowledged =
-        let inputs : AreInputs (c.acts ++ list_of c.failed) = ends_inputs c.from c.to c.old c.new c.acts c.answers c.failed c.calls in
+        let inputs : AreInputs (acts_in c.exchanges ++ list_of c.failed) = ends_inputs c.from c.to c.old c.new c.exchanges c.failed c.calls in
         let told : Told = told_after (events_made c) (told_after mending.events (did Sync t)) in
-        served_comes c mending.events unspent inputs (keeps_as replica c.acts c.answers c.failed mending.events (events_made c) one keeps) (answered_as replica c mending.events one acknowledged) n
+        served_comes c mending.events unspent inputs (keeps_as replica c.exchanges c.failed mending.events (events_made c) one keeps) (answered_as replica c mending.events one acknowledged) n
         (one_some new.told told n (told_over mending.events (events_made c) t c.old new.told mending.told adds) to) (told_over mending.events [] t c.old c.old mending.told refl)
 
     -- what was found is the file
@@ -367,7 +366,7 @@ module _ (file : DataFile) (first : View) (chapters : List Chapter) (b : Told) (
     -- no call was made on it
     idles : (found : FoundFile layout t) → new.told ≡ found.mended → CallsKeep t found.replica found.mended found.mending (no_calls found) → Comes file first chapters None t n b
     idles found told calls =
-        idle_comes found.mending.events n (keeps_as found.replica [] [] None found.mending.events [] (found_one found) calls.keeps)
+        idle_comes found.mending.events n (keeps_as found.replica [] None found.mending.events [] (found_one found) calls.keeps)
         (one_some new.told (told_after found.mending.events (did Sync t)) n (told ∙ told_over found.mending.events [] t found.mended found.mended found.mending.told refl) to)
 
     works_come : (mode : Mode) (found : FoundFile layout t) (works : Works mode layout t found old new status) → Comes file first chapters (word_calls mode layout t found old new status works) t n b

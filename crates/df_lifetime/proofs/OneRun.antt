@@ -13,7 +13,7 @@ use Rattle.df_theory.specs.View.{View, head, sequence}
 use Rattle.df_units.specs.Bytes.{unit_at}
 use Rattle.df_model.specs.After.{after_running, after_step_of, outcome, to_check, with_group, with_prepare, with_reply, with_staged}
 use Rattle.df_model.specs.Changing.{appended_in, begun_in, checked_in, course_on, flushed_in, memory_after, replied_in, staged_in, step_in, unless_refused}
-use Rattle.df_model.specs.Commands.{Advance, Answer, Append, Begin, Command, Flush, Given, ReadBlock, ReadPrepare, ReadReply, Recent, Release, Reply, Scrub, Stage, ToAdvance, ToAppend, ToFlush, ToReply, ToStage, WriteBlock, after, supplied_sum, supplied_sums, supplied_verdict}
+use Rattle.df_model.specs.Commands.{Advance, Answer, Append, Begin, Command, Flush, Given, Reply, Scrub, Stage, ToAdvance, ToAppend, ToFlush, ToReply, ToStage, after, supplied_sum, supplied_sums, supplied_verdict}
 use Rattle.df_model.specs.Making.{group_of, needed_of, place_of_reply, prepare_of, reply_of}
 use Rattle.df_model.specs.Memory.{Course, Memory, course, course_of, memory_of}
 use Rattle.df_model.specs.Refusals.{append_refusals, begin_refusals, first_refusal, flush_refusals, reply_refusals, stage_refusals}
@@ -30,7 +30,7 @@ use Rattle.df_model.proofs.Laws.{change_law, length_in}
 use Rattle.df_replica.specs.Below.{DataFile, State as Replica, memory, shape, spelling}
 use Rattle.df_replica.specs.Reading.{shown_of}
 use Rattle.df_replica.specs.Serving.{Firm, Keeps, next as next_work}
-use Rattle.df_replica.specs.Session.{Act}
+use Rattle.df_replica.specs.Session.{Act, Exchange, acts_in, answers_in, command_in}
 use Rattle.df_session.specs.Below.{AgreeShown, codec}
 use Rattle.df_workload.specs.Asking.{asks}
 use Rattle.df_workload.specs.Following.{Follows}
@@ -39,7 +39,7 @@ use Rattle.df_workload.specs.Rounds.{start}
 use Rattle.df_workload.specs.declared.state.State.{State as Run}
 use Rattle.df_session.specs.Begun.{begun_work}
 use Rattle.df_session.specs.Found.{FoundFile}
-use Rattle.df_session.specs.Links.{AreCalls, EndsCalls, command_in}
+use Rattle.df_session.specs.Links.{AreCalls, EndsCalls, More, NoCalls}
 use Rattle.df_session.proofs.Laws.{file_there, layout_there, view_there, agree_self}
 use Rattle.df_top.specs.Outside.{Outside}
 use Rattle.df_top.specs.Working.{WorksThrough}
@@ -149,30 +149,23 @@ module _ (sh : Shape) (spell : Parts → List ℕ) (w : Work) (given : Given) wh
       let ps = group_of m (supplied_sums given) in
       flush_counts (first_refusal (flush_refusals m)) w (with_group w ps) m ps (length w.staged) (length_in m (m.head + 1) (m.head + length w.staged) (m.head + 1) m.head_checksum w.staged (supplied_sums given))
   counted_one (Reply op body) = reply_counts (first_refusal (reply_refusals m op body)) w (with_reply w (place_of_reply m) (reply_of m (supplied_sum given) body)) m (supplied_sum given)
-  counted_one (WriteBlock kind body) = refl
-  counted_one (Release address) = refl
   counted_one (Begin root) = begin_counts (first_refusal (begin_refusals m (needed_of spell m root) root)) m (Some (begun_in spell m root))
   counted_one Advance = step_counts w.running
-  counted_one (ReadPrepare op) = refl
-  counted_one (ReadReply client) = refl
-  counted_one (ReadBlock address) = refl
   counted_one Scrub = check_counts (supplied_verdict given) (to_check m)
-  counted_one Recent = refl
+  counted_one command = refl
 
 -- after calls they are what the answers make of them
-pub calls_count : (s u : Replica) (old new : Option Told) (acts : List Act) (answers : List Answer) (w : Work) → AreCalls s old acts answers u new → Keeps Firm s w None → numbers_in (memory u) ≡ after_answers answers (numbers_in (memory s))
-calls_count s u old new [] [] w calls k = ap (λ (x : Replica). numbers_in (memory x)) calls.0
-calls_count s u old new [] (x ∷ answers) w calls k = absurd calls
-calls_count s u old new (a ∷ acts) [] w calls k = absurd calls
-calls_count s u old new (a ∷ acts) (x ∷ answers) w calls k =
-    let v : Replica = calls.0 in
-    let on = calls.2.call.answers Firm w k in
+pub calls_count : (s u : Replica) (old new : Option Told) (xs : List Exchange) (w : Work) → AreCalls s old xs u new → Keeps Firm s w None → numbers_in (memory u) ≡ after_answers (answers_in xs) (numbers_in (memory s))
+calls_count s u old new [] w NoCalls k = refl
+calls_count s u old new (x ∷ xs) w (More v mid c rest) k =
+    let a : Act = x.act in
+    let on = c.call.answers Firm w k in
     let then : Work = (next_work s.file w a.given a.command).0 in
-    let known : memory v ≡ memory_of (shape s.file) (spelling s.file) then = on.1.1 ∙ ap (λ (f : DataFile). memory_of (shape f) (spelling f) then) calls.2.call.file in
-    let one : numbers_in (memory v) ≡ after_answer x (numbers_in (memory s)) =
+    let known : memory v ≡ memory_of (shape s.file) (spelling s.file) then = on.1.1 ∙ ap (λ (f : DataFile). memory_of (shape f) (spelling f) then) c.call.file in
+    let one : numbers_in (memory v) ≡ after_answer x.answer (numbers_in (memory s)) =
     ap numbers_in (known ∙ change_law (shape s.file) (spelling s.file) w a.given a.command k.0) ∙ counted_one (shape s.file) (spelling s.file) w a.given a.command
-    ∙ ap (λ (y : Answer). after_answer y (numbers_in (memory_of (shape s.file) (spelling s.file) w))) (sym on.0) ∙ ap (λ (m : Memory). after_answer x (numbers_in m)) (sym k.1) in
-    calls_count v u calls.1 new acts answers then calls.3 on.1 ∙ ap (after_answers answers) one
+    ∙ ap (λ (y : Answer). after_answer y (numbers_in (memory_of (shape s.file) (spelling s.file) w))) (sym on.0) ∙ ap (λ (m : Memory). after_answer x.answer (numbers_in m)) (sym k.1) in
+    calls_count v u mid new xs then rest on.1 ∙ ap (after_answers (answers_in xs)) one
 
 -- ---- a run that came to its end
 
@@ -201,10 +194,10 @@ module _ (seed count : ℕ) (layout : Layout) (t : Told) (old new : Outside) (st
   found : IsFound (shape opening.replica.file) (unit_at opening.replica.file.layout opening.replica.file.cluster t.shown) opening.is_opened.view
   found = view_there layout t opening
 
-  pub last_numbers : numbers_in (memory works.last) ≡ after_answers works.worked.answers (numbers_in (memory opening.replica))
+  pub last_numbers : numbers_in (memory works.last) ≡ after_answers (answers_in works.worked.exchanges) (numbers_in (memory opening.replica))
   last_numbers =
-      calls_count opening.replica works.last opening.mended new.told works.worked.acts works.worked.answers (begun_work opening.replica.file t.shown opening.is_opened.view)
-      (subst (λ (o : Option Act). EndsCalls opening.replica works.last opening.mended new.told works.worked.acts works.worked.answers o) by_end.0 works.worked.calls)
+      calls_count opening.replica works.last opening.mended new.told works.worked.exchanges (begun_work opening.replica.file t.shown opening.is_opened.view)
+      (subst (λ (o : Option Act). EndsCalls opening.replica works.last opening.mended new.told works.worked.exchanges o) by_end.0 works.worked.calls)
       (works.calls.stands opening.is_opened.view found)
 
   -- the numbers that its calls begin with are those of a view that is found
@@ -213,7 +206,7 @@ module _ (seed count : ℕ) (layout : Layout) (t : Told) (old new : Outside) (st
 
   -- its answers over what is shown
   pub answers_over : (shown : Shown) → AgreeShown opening.replica.file.layout (shown_of opening.replica.file t.shown) shown
-      → works.worked.answers ≡ result (shape opening.replica.file) (codec opening.replica.file) shown (begun_work opening.replica.file t.shown opening.is_opened.view) (map command_in works.worked.acts)
+      → (answers_in works.worked.exchanges) ≡ result (shape opening.replica.file) (codec opening.replica.file) shown (begun_work opening.replica.file t.shown opening.is_opened.view) (map command_in (acts_in works.worked.exchanges))
   answers_over shown agree = works.calls.result opening.is_opened.view shown found agree
 
 -- ---- two of them
@@ -261,15 +254,15 @@ module _ (seed count : ℕ) (layout : Layout) (runs : Twice layout (OnFile layou
       ∙ ap (λ (v : View). over s.file (unit_at s.file.layout s.file.cluster b) v cs) views
       ∙ ap (λ (f : DataFile). over f (unit_at f.layout f.cluster b) there.is_opened.view cs) file
 
-  alike : (one.run ≡ other.run) × (one.worked.answers ≡ other.worked.answers)
+  alike : (one.run ≡ other.run) × ((answers_in one.worked.exchanges) ≡ (answers_in other.worked.exchanges))
   alike =
       let w : Work = begun_work u.file b there.is_opened.view in
       let first =
       answers_over seed count layout runs.one.told runs.one.old runs.one.new runs.one.status here one whole runs.ended.0 (shown_of s.file b) (agree_there layout a b runs.same s.file (layout_there layout runs.one.told here))
-      ∙ over_alike (map command_in one.worked.acts) in
+      ∙ over_alike (map command_in (acts_in one.worked.exchanges)) in
       let second =
       answers_over seed count layout runs.other.told runs.other.old runs.other.new runs.other.status there other entire runs.ended.1 (shown_of u.file b) (agree_self u.file.layout (shown_of u.file b)) in
-      same_run (shape u.file) (codec u.file) (shown_of u.file b) w (start seed count layout.clients) one.run other.run (map command_in one.worked.acts) (map command_in other.worked.acts) one.worked.answers other.worked.answers one.worked.follows
+      same_run (shape u.file) (codec u.file) (shown_of u.file b) w (start seed count layout.clients) one.run other.run (map command_in (acts_in one.worked.exchanges)) (map command_in (acts_in other.worked.exchanges)) (answers_in one.worked.exchanges) (answers_in other.worked.exchanges) one.worked.follows
       other.worked.follows (asks_none seed count layout runs.one.told runs.one.old runs.one.new runs.one.status here one whole runs.ended.0) (asks_none seed count layout runs.other.told runs.other.old runs.other.new runs.other.status there other entire runs.ended.1)
       first second
 
@@ -282,7 +275,7 @@ module _ (seed count : ℕ) (layout : Layout) (runs : Twice layout (OnFile layou
   numbers_alike : numbers_in (memory one.last) ≡ numbers_in (memory other.last)
   numbers_alike =
       last_numbers seed count layout runs.one.told runs.one.old runs.one.new runs.one.status here one whole runs.ended.0
-      ∙ ap (after_answers one.worked.answers) firsts
+      ∙ ap (after_answers (answers_in one.worked.exchanges)) firsts
       ∙ ap (λ (xs : List Answer). after_answers xs (numbers_in (memory u))) alike.1
       ∙ sym (last_numbers seed count layout runs.other.told runs.other.old runs.other.new runs.other.status there other entire runs.ended.1)
 

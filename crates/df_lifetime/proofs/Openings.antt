@@ -18,14 +18,13 @@ use Rattle.df_theory.specs.View.{View, boot_of}
 use Rattle.df_theory.proofs.Laws.{one_found_law, pool_pools}
 use Rattle.df_units.specs.Bytes.{unit_at}
 use Rattle.df_units.specs.Meaning.{content_of}
-use Rattle.df_model.specs.Commands.{Answer}
 use Rattle.df_model.specs.Sense.{IsWork}
 use Rattle.df_model.specs.Work.{Work}
 use Rattle.df_replica.specs.Below.{AreDistinctUnits, DataFile, IsOpened, shape, spelling, told_after}
 use Rattle.df_replica.specs.HeldBlocks.{AreInputs}
 use Rattle.df_replica.specs.Opened.{HistoryBegins}
 use Rattle.df_replica.specs.Serving.{Firm, Grade, StandsFor, Whole, format}
-use Rattle.df_replica.specs.Session.{Act, HasView, IsMidway, answers_of, work_after}
+use Rattle.df_replica.specs.Session.{Act, Exchange, HasView, IsMidway, acts_in, answers_in, answers_of, work_after}
 use Rattle.df_replica.proofs.Laws.{added_is_told, keeps_self}
 use Rattle.df_session.specs.Acknowledging.{IsUntil, KeepsAnswered}
 use Rattle.df_session.specs.Anew.{KeepsAnew, begun_after}
@@ -57,9 +56,9 @@ module _ (g : Grade) (file : DataFile) (view : View) (t : Told) (layout : Layout
       (subst (λ (f : DataFile). StandsFor g (unit_at f.layout f.cluster t.shown) view) (sym one) shows.stands)
 
   -- said of the file
-  pub keeps_begun : KeepsFile file g (begun_work file t.shown view) (begun_after found.mending.events t) c.acts c.answers c.failed (over [] (events_made c) (begun_after found.mending.events t))
+  pub keeps_begun : KeepsFile file g (begun_work file t.shown view) (begun_after found.mending.events t) c.exchanges c.failed (over [] (events_made c) (begun_after found.mending.events t))
   keeps_begun =
-      subst (λ (f : DataFile). KeepsFile f g (begun_work f t.shown view) (begun_after found.mending.events t) c.acts c.answers c.failed (over [] (events_made c) (begun_after found.mending.events t))) one anew.keeps
+      subst (λ (f : DataFile). KeepsFile f g (begun_work f t.shown view) (begun_after found.mending.events t) c.exchanges c.failed (over [] (events_made c) (begun_after found.mending.events t))) one anew.keeps
 
   pub answers_begun : KeepsAnswered file g (begun_work file t.shown view) (over [] [] (begun_after found.mending.events t)) c
   answers_begun = subst (λ (f : DataFile). KeepsAnswered f g (begun_work f t.shown view) (over [] [] (begun_after found.mending.events t)) c) one anew.acknowledged
@@ -104,7 +103,7 @@ module _ (file : DataFile) (g : Grade) (w : Work) where
       let front = has_front file g (work_after file w acts) perhaps image (mid.left image left fair) in
       record { came = acts ++ front.front; more = front.front; rest = front.rest; are = refl; some = front.are; has = subst (λ (u : Work). HasView file g u image) (sym (work_on file w acts front.front)) front.has }
 
-  module _ (b : Told) (c : CallsMade) (keeps : KeepsFile file g w b c.acts c.answers c.failed (over [] (events_made c) b)) (answered : KeepsAnswered file g w (over [] [] b) c) where
+  module _ (b : Told) (c : CallsMade) (keeps : KeepsFile file g w b c.exchanges c.failed (over [] (events_made c) b)) (answered : KeepsAnswered file g w (over [] [] b) c) where
     abbrev end : Told
     end = told_after (events_made c) (did Sync b)
 
@@ -114,12 +113,12 @@ module _ (file : DataFile) (g : Grade) (w : Work) where
     grew : Extends end.log (did Sync b).log
     grew = grows (events_made c) (did Sync b)
 
-    last : IsMidway file g w (c.acts ++ list_of c.failed) end.log
+    last : IsMidway file g w (acts_in c.exchanges ++ list_of c.failed) end.log
     last =
-        subst (λ (x : Told). EachMoment (did Sync b).log x.log (IsMidway file g w (c.acts ++ list_of c.failed))) same_end keeps.moments end.log
+        subst (λ (x : Told). EachMoment (did Sync b).log x.log (IsMidway file g w (acts_in c.exchanges ++ list_of c.failed))) same_end keeps.moments end.log
         (record { since = grew; until = extends_self end.log })
 
-    midway : (k : ℕ) (m : Told) → AreMade (ToAMoment k) b c m → IsMidway file g (work_after file w (take k c.acts)) (drop k c.acts ++ list_of c.failed) m.log
+    midway : (k : ℕ) (m : Told) → AreMade (ToAMoment k) b c m → IsMidway file g (work_after file w (acts_in (take k c.exchanges))) (acts_in (drop k c.exchanges) ++ list_of c.failed) m.log
     midway k m made = answered k m.log made.0 (subst (λ (o : Option Told). IsUntil o m.log) (sym (added_is_told (events_made c) (did Sync b))) made.1)
 
     pub made_honest : (extent : Extent) (m : Told) → AreMade extent b c m → IsHonest m
@@ -136,25 +135,25 @@ module _ (file : DataFile) (g : Grade) (w : Work) where
     made_start (ToAMoment k) m made = sym made.1.2 ∙ grew.2
 
     pub made_left : (extent : Extent) (shown : Image) (m : Told) → AreMade extent b c m → (image : Image) → IsLeft m.log image → NoChanceOf (format file) m.log image
-        → Came file g w (chapter_of extent shown c).answered (chapter_of extent shown c).perhaps image
+        → Came file g w (acts_in (chapter_of extent shown c).answered) (chapter_of extent shown c).perhaps image
     made_left ToItsEnd shown m made =
-        subst (λ (x : Told). (image : Image) → IsLeft x.log image → NoChanceOf (format file) x.log image → Came file g w c.acts (list_of c.failed) image) (same_end ∙ sym made)
-        (all_came c.acts c.failed keeps.after keeps.left)
-    made_left (ToAMoment k) shown m made = some_came (take k c.acts) (drop k c.acts ++ list_of c.failed) m.log (midway k m made)
+        subst (λ (x : Told). (image : Image) → IsLeft x.log image → NoChanceOf (format file) x.log image → Came file g w (acts_in c.exchanges) (list_of c.failed) image) (same_end ∙ sym made)
+        (all_came (acts_in c.exchanges) c.failed keeps.after keeps.left)
+    made_left (ToAMoment k) shown m made = some_came (acts_in (take k c.exchanges)) (acts_in (drop k c.exchanges) ++ list_of c.failed) m.log (midway k m made)
 
-made_inputs : (c : CallsMade) (extent : Extent) (shown : Image) → AreInputs ((chapter_of extent shown c).answered ++ (chapter_of extent shown c).perhaps)
-made_inputs c ToItsEnd shown = ends_inputs c.from c.to c.old c.new c.acts c.answers c.failed c.calls
-made_inputs c (ToAMoment k) shown = subst AreInputs (sym (front_and_rest k c.acts (list_of c.failed))) (ends_inputs c.from c.to c.old c.new c.acts c.answers c.failed c.calls)
+made_inputs : (c : CallsMade) (extent : Extent) (shown : Image) → AreInputs (acts_in (chapter_of extent shown c).answered ++ (chapter_of extent shown c).perhaps)
+made_inputs c ToItsEnd shown = ends_inputs c.from c.to c.old c.new c.exchanges c.failed c.calls
+made_inputs c (ToAMoment k) shown = subst AreInputs (sym (front_and_rest k c.exchanges (list_of c.failed))) (ends_inputs c.from c.to c.old c.new c.exchanges c.failed c.calls)
 
 -- ---- so a life that begins there is in order
 
 module _ (file : DataFile) (first : View) (t m : Told) (shows : ShowsFile Whole file first t.shown) (unspent : boot_of first < 2 ^ 62) where
   -- a session as far as it is known, of which each image that is left has what came through
-  opened_by : (answered : List Act) (answers : List Answer) (perhaps : List Act) → answers ≡ answers_of file (begun_work file t.shown first) answered → AreInputs (answered ++ perhaps) → IsHonest m → IsSafeDisk (format file) (shape file) m.log
-      → ((image : Image) → IsLeft m.log image → NoChanceOf (format file) m.log image → Came file Whole (begun_work file t.shown first) answered perhaps image)
-      → IsInOrder file first (record { shown = t.shown; answered = answered; answers = answers; perhaps = perhaps } ∷ []) m
-  opened_by answered answers perhaps are inputs honest safe left =
-      in_order file first (record { shown = t.shown; answered = answered; answers = answers; perhaps = perhaps } ∷ []) m shows.version honest
+  opened_by : (answered : List Exchange) (perhaps : List Act) → answers_in answered ≡ answers_of file (begun_work file t.shown first) (acts_in answered) → AreInputs (acts_in answered ++ perhaps) → IsHonest m → IsSafeDisk (format file) (shape file) m.log
+      → ((image : Image) → IsLeft m.log image → NoChanceOf (format file) m.log image → Came file Whole (begun_work file t.shown first) (acts_in answered) perhaps image)
+      → IsInOrder file first (record { shown = t.shown; answered = answered; perhaps = perhaps } ∷ []) m
+  opened_by answered perhaps are inputs honest safe left =
+      in_order file first (record { shown = t.shown; answered = answered; perhaps = perhaps } ∷ []) m shows.version honest
       (record {
         safe = safe;
         left = λ image gone no.
@@ -189,14 +188,14 @@ opened_in_order file first t m layout found c ToItsEnd shows calls made =
     let b : Told = begun_after found.mending.events t in
     let keeps = keeps_begun Whole file first t layout found c shows calls in
     let answered = answers_begun Whole file first t layout found c shows calls in
-    opened_by file first t m shows (unspent_begun Whole file first t layout found c shows calls) c.acts c.answers (list_of c.failed) keeps.answered (made_inputs c ToItsEnd t.shown) (made_honest file Whole w b c keeps answered ToItsEnd m made)
+    opened_by file first t m shows (unspent_begun Whole file first t layout found c shows calls) c.exchanges (list_of c.failed) keeps.answered (made_inputs c ToItsEnd t.shown) (made_honest file Whole w b c keeps answered ToItsEnd m made)
     (made_safe file Whole w b c keeps answered ToItsEnd m made) (made_left file Whole w b c keeps answered ToItsEnd t.shown m made)
 opened_in_order file first t m layout found c (ToAMoment k) shows calls made =
     let w : Work = begun_work file t.shown first in
     let b : Told = begun_after found.mending.events t in
     let keeps = keeps_begun Whole file first t layout found c shows calls in
     let answered = answers_begun Whole file first t layout found c shows calls in
-    opened_by file first t m shows (unspent_begun Whole file first t layout found c shows calls) (take k c.acts) (take k c.answers) (drop k c.acts ++ list_of c.failed) (ap (take k) keeps.answered ∙ first_answers file k w c.acts)
+    opened_by file first t m shows (unspent_begun Whole file first t layout found c shows calls) (take k c.exchanges) (acts_in (drop k c.exchanges) ++ list_of c.failed) (first_answers file k w c.exchanges keeps.answered)
     (made_inputs c (ToAMoment k) t.shown) (made_honest file Whole w b c keeps answered (ToAMoment k) m made) (made_safe file Whole w b c keeps answered (ToAMoment k) m made) (made_left file Whole w b c keeps answered (ToAMoment k) t.shown m made)
 
 -- ---- a stop within the open

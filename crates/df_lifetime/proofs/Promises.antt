@@ -1,35 +1,27 @@
 -- What is staged after an answer is what the answers so far say of it.
-use Rattle.std.proofs.Common.{◌≡◌, ℕ, ◌+◌, ◌-◌, ◌≤◌, List, [], ◌∷◌, ◌++◌, length, Option, Some, None, refl, sym, ◌∙◌, ap, arith, length-drop}
-use Rattle.df_base.proofs.Laws.{no_elements}
+use Rattle.std.proofs.Common.{◌≡◌, ℕ, ◌+◌, ◌-◌, List, [], ◌∷◌, ◌++◌, length, Option, Some, None, refl, sym, ap, arith, length-drop}
 use Rattle.df_theory.specs.Shape.{Shape}
 use Rattle.df_theory.specs.Units.{Message, Parts}
 use Rattle.df_theory.specs.View.{head}
-use Rattle.df_model.specs.After.{after_check, after_running, after_step_of, begun, outcome, to_check, with_group, with_live, with_prepare, with_reply, with_running, with_staged}
-use Rattle.df_model.specs.Commands.{Advance, Append, Begin, Command, Flush, Given, ReadBlock, ReadPrepare, ReadReply, Recent, Release, Reply, Scrub, Stage, ToFlush, ToStage, WriteBlock, after, supplied_sum, supplied_sums, supplied_verdict}
-use Rattle.df_model.specs.Making.{group_of, needed_of, next_address, place_of_reply, prepare_of, reply_of}
+use Rattle.df_model.specs.After.{finished, outcome, with_group, with_staged, with_verdict}
+use Rattle.df_model.specs.Change.{Appends, Change, Checks, Ends, One, Staged, Stages}
+use Rattle.df_model.specs.Commands.{Command, Flush, Given, Stage, ToFlush, ToStage, after, supplied_sum, supplied_sums, supplied_verdict}
+use Rattle.df_model.specs.Making.{group_of}
 use Rattle.df_model.specs.Memory.{memory_of}
-use Rattle.df_model.specs.Refusals.{append_refusals, begin_refusals, block_refusals, first_refusal, flush_refusals, release_refusals, reply_refusals, stage_refusals}
+use Rattle.df_model.specs.Refusals.{first_refusal, flush_refusals, stage_refusals}
 use Rattle.df_model.specs.Sense.{IsWork}
-use Rattle.df_model.specs.Work.{Request, Running, Work}
+use Rattle.df_model.specs.Work.{Request, Work}
 use Rattle.df_model.specs.declared.answers.Verdict.{Verdict}
 use Rattle.df_model.specs.declared.answers.Verdict.TheVariants.{Sound, Failing}
 use Rattle.df_model.specs.declared.errors.AppendError.{AppendError}
 use Rattle.df_model.specs.declared.errors.FlushError.{FlushError}
-use Rattle.df_model.proofs.Laws.{all_pass}
+use Rattle.df_model.proofs.Laws.{one_thing_law}
 use Rattle.df_lifetime.specs.There.{Promised, promised_by, promised_from, promised_in}
 
 -- with a request more
 promised_more : (op n : ℕ) (rs : List Request) (r : Request) → op + length rs ≡ n → promised_from op (rs ++ r ∷ []) ≡ promised_from op rs ++ record { op = n; client = r.client; request = r.request; body = r.body } ∷ []
 promised_more op n [] r same = let here : op ≡ n = omega (arith, same) in ap (λ (k : ℕ). record { op = k; client = r.client; request = r.request; body = r.body } ∷ []) here
 promised_more op n (x ∷ rs) r same = ap (λ (l : List Promised). record { op = op; client = x.client; request = x.request; body = x.body } ∷ l) (promised_more (op + 1) n rs r (omega (arith, same)))
-
--- from any head on where nothing is staged
-promised_none : (op n : ℕ) (rs : List Request) → rs ≡ [] → promised_from op rs ≡ promised_from n rs
-promised_none op n rs none = ap (promised_from op) none ∙ sym (ap (promised_from n) none)
-
-outcome_same : {E A : Type 0} (o : Option E) (w u : Work) (answer : A) → promised_in w ≡ promised_in u → promised_in w ≡ promised_in (outcome o w u answer).0
-outcome_same (Some e) w u answer same = refl
-outcome_same None w u answer same = same
 
 stage_promised : (o : Option AppendError) (w : Work) (client request op : ℕ) (body : List ℕ) → let r : Request = record { client = client; request = request; body = body } in
     promised_in (with_staged w r) ≡ promised_in w ++ record { op = op; client = client; request = request; body = body } ∷ []
@@ -41,32 +33,30 @@ flush_promised : (o : Option FlushError) (w : Work) (ps : List Message) (count :
 flush_promised (Some e) w ps count = refl
 flush_promised None w ps count = refl
 
-append_promised : (o : Option AppendError) (w : Work) (p : Message) (answer : ℕ × ℕ) → (o ≡ None → w.staged ≡ []) → promised_in w ≡ promised_in (outcome o w (with_prepare w p) answer).0
-append_promised (Some e) w p answer none = refl
-append_promised None w p answer none = promised_none (head w.view + 1) (head (with_prepare w p).view + 1) w.staged (none refl)
+-- neither a stage nor a flush
+abbrev IsOther : Command → Type 0
+IsOther (Stage client request body) = ⊥
+IsOther Flush = ⊥
+IsOther command = Unit {0}
 
 module _ (sh : Shape) (spell : Parts → List ℕ) (w : Work) (given : Given) (work : IsWork sh spell w) where
-  -- a checkpoint that ends keeps the head
-  left_promised : (sum : ℕ) (r : Running) (left : List ℕ) → w.view.checkpoint.content.op ≤ r.op → r.op ≤ head w.view → promised_in w ≡ promised_in (after_running sh spell w sum r left).0
-  left_promised sum r [] from to =
-      let same : head w.view ≡ head (after_running sh spell w sum r []).0.view = omega (arith, from, to, length-drop (r.op - w.view.checkpoint.content.op) w.view.tail) in
+  checked_promised : (a : ℕ) (verdict : Verdict) → promised_in w ≡ promised_in (with_verdict w a verdict)
+  checked_promised a Sound = refl
+  checked_promised a (Failing class) = refl
+
+  -- an append is made where nothing is staged, and a checkpoint that ends keeps the head
+  changed_promised : (c : Command) (u : Work) → IsOther c → Change sh spell w given c u → promised_in w ≡ promised_in u
+  changed_promised c u other (Appends _ ps (One client request body none staged)) = ap (promised_from (head w.view + 1)) staged
+  changed_promised c u other (Appends _ ps (Staged none)) = absurd other
+  changed_promised c u other (Stages client request body none) = absurd other
+  changed_promised c u other (Ends r running left) =
+      let capture = work.running r running in
+      let same : head w.view ≡ head (finished sh spell w r (supplied_sum given)).view = omega (arith, capture.op_from, capture.op_to, length-drop (r.op - w.view.checkpoint.content.op) w.view.tail) in
       ap (λ (h : ℕ). promised_from (h + 1) w.staged) same
-  left_promised sum r (a ∷ more) from to = refl
-
-  step_promised : (sum : ℕ) (o : Option Running) → w.running ≡ o → promised_in w ≡ promised_in (after_step_of sh spell w sum o).0
-  step_promised sum None is = refl
-  step_promised sum (Some r) is = let capture = work.running r is in left_promised sum r r.left capture.op_from capture.op_to
-
-  check_promised : (verdict : Verdict) (xs : List (ℕ × ℕ)) → promised_in w ≡ promised_in (after_check w verdict xs).0
-  check_promised verdict [] = refl
-  check_promised Sound (x ∷ more) = refl
-  check_promised (Failing class) (x ∷ more) = refl
+  changed_promised c u other (Checks x more list) = checked_promised x.0 (supplied_verdict given)
+  changed_promised c u other change = refl
 
   pub promised_on : (command : Command) → promised_by (promised_in w) command (after sh spell w given command).1 ≡ promised_in (after sh spell w given command).0
-  promised_on (Append client request body) =
-      let m = memory_of sh spell w in
-      let p = prepare_of m (supplied_sum given) client request body in
-      append_promised (first_refusal (append_refusals m client request body)) w p (p.header.op, supplied_sum given) (λ none. no_elements w.staged (all_pass (append_refusals m client request body) none).1.1.1.1.1.1.1.1.1.0)
   promised_on (Stage client request body) =
       let m = memory_of sh spell w in
       stage_promised (first_refusal (stage_refusals m client request body)) w client request (m.head + length w.staged + 1) body
@@ -74,19 +64,4 @@ module _ (sh : Shape) (spell : Parts → List ℕ) (w : Work) (given : Given) (w
   promised_on Flush =
       let m = memory_of sh spell w in
       flush_promised (first_refusal (flush_refusals m)) w (group_of m (supplied_sums given)) (length w.staged)
-  promised_on (Reply op body) =
-      let m = memory_of sh spell w in
-      outcome_same (first_refusal (reply_refusals m op body)) w (with_reply w (place_of_reply m) (reply_of m (supplied_sum given) body)) (supplied_sum given) refl
-  promised_on (WriteBlock kind body) =
-      let m = memory_of sh spell w in
-      outcome_same (first_refusal (block_refusals m kind body)) w (with_live w (next_address m) (Some (supplied_sum given))) (next_address m, supplied_sum given) refl
-  promised_on (Release address) = outcome_same {A = Unit {0}} (first_refusal (release_refusals (memory_of sh spell w) address)) w (with_live w address None) tt refl
-  promised_on (Begin root) =
-      let m = memory_of sh spell w in
-      outcome_same (first_refusal (begin_refusals m (needed_of spell m root) root)) w (with_running w (Some (begun sh spell w root))) (needed_of spell m root) refl
-  promised_on Advance = step_promised (supplied_sum given) w.running refl
-  promised_on (ReadPrepare op) = refl
-  promised_on (ReadReply client) = refl
-  promised_on (ReadBlock address) = refl
-  promised_on Scrub = check_promised (supplied_verdict given) (to_check (memory_of sh spell w))
-  promised_on Recent = refl
+  promised_on command = changed_promised command (after sh spell w given command).0 tt (one_thing_law sh spell w given command)

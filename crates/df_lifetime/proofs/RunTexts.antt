@@ -12,7 +12,7 @@ use Rattle.df_theory.specs.Shape.{Shape}
 use Rattle.df_theory.specs.View.{View, head, sequence}
 use Rattle.df_units.specs.Bytes.{unit_at}
 use Rattle.df_model.specs.After.{after_advance, after_begin, after_block, after_release}
-use Rattle.df_model.specs.Commands.{Advance, Answer, Command, ToAdvance, ToAppend, ToBegin, ToFlush, ToReadBlock, ToReadPrepare, ToReadReply, ToRecent, ToRelease, ToReply, ToScrub, ToStage, ToWriteBlock, WriteBlock}
+use Rattle.df_model.specs.Commands.{Advance, Answer, Command, ToAdvance, ToAppend, ToBegin, ToFlush, ToRelease, ToReply, ToWriteBlock, WriteBlock}
 use Rattle.df_model.specs.Memory.{memory_of}
 use Rattle.df_model.specs.Supply.{Codec, Shown, checksum_given, next, result, shown_after}
 use Rattle.df_model.specs.Work.{Work}
@@ -38,8 +38,8 @@ use Rattle.df_workload.specs.declared.state.State.{State as Run}
 use Rattle.df_workload.proofs.Laws.{asks_end}
 use Rattle.df_session.specs.Begun.{begun_work}
 use Rattle.df_session.specs.Found.{FoundFile}
-use Rattle.df_session.specs.Links.{command_in}
 use Rattle.df_session.proofs.Laws.{layout_there, agree_self}
+use Rattle.df_session.specs.Session.{acts_in, answers_in, command_in}
 use Rattle.df_top.specs.Outside.{Outside}
 use Rattle.df_top.specs.Working.{WorksThrough}
 use Rattle.df_top.specs.Works.{workload_of, workload_with}
@@ -149,23 +149,10 @@ same_numbers a b c x y z one two three = λ i. (one i, two i, three i)
 
 one_added : (x : Answer) (n m : Numbers) → after_answer x (added n m) ≡ added n (after_answer x m)
 one_added (ToAppend (Ok receipt)) n m = same_numbers _ _ _ _ _ _ (omega arith) refl refl
-one_added (ToAppend (Err e)) n m = refl
-one_added (ToStage r) n m = refl
 one_added (ToFlush (Ok count)) n m = same_numbers _ _ _ _ _ _ (omega arith) refl refl
-one_added (ToFlush (Err e)) n m = refl
 one_added (ToReply (Ok sum)) n m = same_numbers _ _ _ _ _ _ refl (omega arith) refl
-one_added (ToReply (Err e)) n m = refl
 one_added (ToAdvance (Ok (Ended k))) n m = same_numbers _ _ _ _ _ _ refl refl (omega arith)
-one_added (ToAdvance (Ok (Working left))) n m = refl
-one_added (ToAdvance (Err e)) n m = refl
-one_added (ToWriteBlock r) n m = refl
-one_added (ToRelease r) n m = refl
-one_added (ToBegin r) n m = refl
-one_added (ToReadPrepare r) n m = refl
-one_added (ToReadReply r) n m = refl
-one_added (ToReadBlock r) n m = refl
-one_added (ToScrub r) n m = refl
-one_added (ToRecent r) n m = refl
+one_added x n m = refl
 
 none_added : (n : Numbers) → n ≡ added n (0, 0, 0)
 none_added n = same_numbers _ _ _ _ _ _ (omega arith) (omega arith) (omega arith)
@@ -190,26 +177,26 @@ module _ (seed count : ℕ) (layout : Layout) (t : Told) (old new : Outside) (st
   abbrev w : Work
   w = begun_work file t.shown view
 
-  answers_are : works.worked.answers ≡ result (shape file) (codec file) (shown_of file t.shown) w (map command_in works.worked.acts)
+  answers_are : (answers_in works.worked.exchanges) ≡ result (shape file) (codec file) (shown_of file t.shown) w (map command_in (acts_in works.worked.exchanges))
   answers_are = works.calls.result view (shown_of file t.shown) found (agree_self file.layout (shown_of file t.shown))
 
-  follows_on : Follows (start seed count file.layout.clients) (map command_in works.worked.acts) works.worked.answers works.run
-  follows_on = subst (λ (l : Layout). Follows (start seed count l.clients) (map command_in works.worked.acts) works.worked.answers works.run) (sym (layout_there layout t opening)) works.worked.follows
+  follows_on : Follows (start seed count file.layout.clients) (map command_in (acts_in works.worked.exchanges)) (answers_in works.worked.exchanges) works.run
+  follows_on = subst (λ (l : Layout). Follows (start seed count l.clients) (map command_in (acts_in works.worked.exchanges)) (answers_in works.worked.exchanges) works.run) (sym (layout_there layout t opening)) works.worked.follows
 
   is_run : IsRun seed count file t.shown view works.run
   is_run = record {
-    commands = map command_in works.worked.acts;
-    follows = subst (λ (xs : List Answer). Follows (start seed count file.layout.clients) (map command_in works.worked.acts) xs works.run) answers_are follows_on;
+    commands = map command_in (acts_in works.worked.exchanges);
+    follows = subst (λ (xs : List Answer). Follows (start seed count file.layout.clients) (map command_in (acts_in works.worked.exchanges)) xs works.run) answers_are follows_on;
     ends = asks_none seed count layout t old new status opening works whole ended;
   }
 
-  run_counted : counted works.run ≡ after_answers works.worked.answers (0, 0, 0)
-  run_counted = run_counts (shape file) (codec file) (shown_of file t.shown) w (start seed count file.layout.clients) works.run (map command_in works.worked.acts) works.worked.answers follows_on answers_are
+  run_counted : counted works.run ≡ after_answers (answers_in works.worked.exchanges) (0, 0, 0)
+  run_counted = run_counts (shape file) (codec file) (shown_of file t.shown) w (start seed count file.layout.clients) works.run (map command_in (acts_in works.worked.exchanges)) (answers_in works.worked.exchanges) follows_on answers_are
 
   numbers : numbers_in (memory works.last) ≡ added (head view, view.replies, sequence view) (counted works.run)
   numbers =
       let first : Numbers = (head view, view.replies, sequence view) in
-      last_numbers seed count layout t old new status opening works whole ended ∙ ap (after_answers works.worked.answers) (first_numbers seed count layout t old new status opening works whole ended view found ∙ none_added first) ∙ all_added works.worked.answers first (0, 0, 0) ∙ ap (added first) (sym run_counted)
+      last_numbers seed count layout t old new status opening works whole ended ∙ ap (after_answers (answers_in works.worked.exchanges)) (first_numbers seed count layout t old new status opening works whole ended view found ∙ none_added first) ∙ all_added (answers_in works.worked.exchanges) first (0, 0, 0) ∙ ap (added first) (sym run_counted)
 
   report : workload_of works.run works.last ≡ workload_by view works.run
   report = λ i. workload_with works.run (numbers i).0 (numbers i).1 (numbers i).2

@@ -6,23 +6,21 @@ use Rattle.df_theory.specs.Device.{NoChanceOf}
 use Rattle.df_theory.specs.Found.{IsFound}
 use Rattle.df_theory.specs.View.{View}
 use Rattle.df_units.specs.Bytes.{unit_at}
-use Rattle.df_model.specs.Commands.{Answer}
 use Rattle.df_replica.specs.Below.{shape, DataFile}
 use Rattle.df_replica.specs.Serving.{format}
-use Rattle.df_replica.specs.Session.{Act}
 use Rattle.df_lifetime.specs.Life.{Chapter, Life}
 use Rattle.df_lifetime.specs.There.{IsAnswerThere, Promised, promised_by}
+use Rattle.df_session.specs.Session.{Exchange}
 
--- what each of these acts was answered is there, where these requests are staged before the first of them
-abbrev pub AreThere : View → List Promised → List Act → List Answer → Type 0
-AreThere v rs [] [] = Unit {0}
-AreThere v rs (a ∷ acts) (x ∷ answers) = IsAnswerThere v rs a.given a.command x × AreThere v (promised_by rs a.command x) acts answers
-AreThere v rs acts answers = ⊥
+-- what each of these calls was answered is there, where these requests are staged before the first of them
+abbrev pub AreThere : View → List Promised → List Exchange → Type 0
+AreThere v rs [] = Unit {0}
+AreThere v rs (x ∷ exchanges) = IsAnswerThere v rs x.act.given x.act.command x.answer × AreThere v (promised_by rs x.act.command x.answer) exchanges
 
 -- and so is what was answered in each of these sessions, which begin with nothing staged
 abbrev pub AllThere : View → List Chapter → Type 0
 AllThere v [] = Unit {0}
-AllThere v (c ∷ chapters) = AreThere v [] c.answered c.answers × AllThere v chapters
+AllThere v (c ∷ chapters) = AreThere v [] c.answered × AllThere v chapters
 
 -- Whatever was acknowledged in any session of a file's life is in the view that the next open finds.
 abbrev pub AcknowledgedIsFound : Type 0

@@ -9,13 +9,12 @@ use Rattle.df_layout.specs.declared.layout.Layout.{Layout}
 use Rattle.df_theory.specs.Device.{NoChanceOf}
 use Rattle.df_theory.specs.View.{View}
 use Rattle.df_units.specs.Bytes.{unit_at}
-use Rattle.df_model.specs.Commands.{Answer}
 use Rattle.df_model.specs.Views.{SomeKeeps}
 use Rattle.df_model.specs.Work.{Work, kept}
 use Rattle.df_replica.specs.Below.{DataFile, FindsHad, MayBeHurt, restarted, told_after}
 use Rattle.df_replica.specs.Following.{MayOpen}
 use Rattle.df_replica.specs.Serving.{Grade, StandsFor, format}
-use Rattle.df_replica.specs.Session.{Act, work_after}
+use Rattle.df_replica.specs.Session.{Act, Exchange, acts_in, work_after}
 use Rattle.df_session.specs.Begun.{begun_work}
 use Rattle.df_session.specs.Anew.{begun_after}
 use Rattle.df_session.specs.Found.{FoundFile}
@@ -34,15 +33,15 @@ use Rattle.df_lifetime.specs.Life.{Chapter, Life, MayHave, ShowsFile}
 use Rattle.df_lifetime.specs.There.{promised_in}
 use Rattle.df_lifetime.specs.Life.Life.{Begun, Ended, Made, Opened, Ran, Spared, Stopped, Taken}
 
--- The next open finds the view after all of these acts, which were answered so, and perhaps some of those after them, from the first of these on: the file may be opened by
+-- The next open finds the view after all of these calls, and perhaps some of the acts after them, from the first of these on: the file may be opened by
 -- this log, what was answered is there, and at the higher grade so is each block that is referenced.
-pub record NextFinds (file : DataFile) (g : Grade) (w : Work) (acts : List Act) (answers : List Answer) (perhaps : List Act) (t : Told) : Type 0 where
+pub record NextFinds (file : DataFile) (g : Grade) (w : Work) (exchanges : List Exchange) (perhaps : List Act) (t : Told) : Type 0 where
   pub more : List Act
   pub rest : List Act
   pub some : perhaps ≡ more ++ rest
-  pub may : SomeKeeps (kept (work_after file w (acts ++ more))) (λ view. MayOpen file view t)
-  pub there : AreThere (kept (work_after file w (acts ++ more))) (promised_in w) acts answers
-  pub stands : StandsFor g (unit_at file.layout file.cluster t.shown) (kept (work_after file w (acts ++ more)))
+  pub may : SomeKeeps (kept (work_after file w (acts_in exchanges ++ more))) (λ view. MayOpen file view t)
+  pub there : AreThere (kept (work_after file w (acts_in exchanges ++ more))) (promised_in w) exchanges
+  pub stands : StandsFor g (unit_at file.layout file.cluster t.shown) (kept (work_after file w (acts_in exchanges ++ more)))
 
 -- what a base tells at the end of a session
 abbrev pub at_end : List Event → CallsMade → Told → Told
@@ -56,12 +55,12 @@ AreAnswered (suc k) mending base log c = WereAnswered (suc k) (over mending [] b
 -- What a session keeps by a base, after this mending of its open and from this state of the machine on: what `run` promises of a disk that may be opened. The disk shows at
 -- the end what the base tells, and so the next open goes on from there, or after a stop at any moment, with all that was answered by then.
 pub record KeepsOn (file : DataFile) (g : Grade) (w : Work) (base : Told) (mending : List Event) (c : CallsMade) : Type 0 where
-  pub keeps : KeepsFile file g w base c.acts c.answers c.failed (over mending (events_made c) base)
+  pub keeps : KeepsFile file g w base c.exchanges c.failed (over mending (events_made c) base)
   pub acknowledged : KeepsAnswered file g w (over mending [] base) c
   pub shows : (n : Told) → c.new ≡ Some n → (at_end mending c base).shown ≡ n.shown
-  pub ended : NoChanceOf (format file) (at_end mending c base).log (now (at_end mending c base).log) → NextFinds file g w c.acts c.answers (list_of c.failed) (at_end mending c base)
+  pub ended : NoChanceOf (format file) (at_end mending c base).log (now (at_end mending c base).log) → NextFinds file g w c.exchanges (list_of c.failed) (at_end mending c base)
   pub stopped : (k : ℕ) (m : Told) (changes : List (ℕ × List ℕ)) → IsMoment (did Sync base).log (at_end mending c base).log m.log → AreAnswered k mending base m.log c → IsHonest m → AreLoose m.log.events changes
-      → NoChanceOf (format file) m.log (changed changes (now m.log)) → NextFinds file g w (take k c.acts) (take k c.answers) (drop k c.acts ++ list_of c.failed) (did (Stop changes) m)
+      → NoChanceOf (format file) m.log (changed changes (now m.log)) → NextFinds file g w (take k c.exchanges) (acts_in (drop k c.exchanges) ++ list_of c.failed) (did (Stop changes) m)
 
 -- so does each session, whatever was done to the disk before: by each log that shows what it shows, and by which the file may be opened
 abbrev pub ScriptsKeepOn : Type 0

@@ -13,7 +13,6 @@ use Rattle.df_theory.specs.View.{View, boot_of}
 use Rattle.df_units.specs.Bytes.{unit_at}
 use Rattle.df_units.specs.Format.{format_of}
 use Rattle.df_units.specs.Making.{first_view}
-use Rattle.df_model.specs.Commands.{Answer}
 use Rattle.df_model.specs.Views.{KeepsView}
 use Rattle.df_model.specs.Work.{kept}
 use Rattle.df_replica.specs.Below.{AreDistinctUnits, DataFile, restarted, shape, told_after}
@@ -21,7 +20,7 @@ use Rattle.df_replica.specs.Following.{MayOpen}
 use Rattle.df_replica.specs.HeldBlocks.{AreInputs}
 use Rattle.df_replica.specs.Making.{MayMakeOn, file_of}
 use Rattle.df_replica.specs.Serving.{Grade, StandsFor, Whole, format}
-use Rattle.df_replica.specs.Session.{Act, answers_of, work_after}
+use Rattle.df_replica.specs.Session.{Act, Exchange, acts_in, answers_in, answers_of, work_after}
 use Rattle.df_session.specs.Begun.{begun_work}
 use Rattle.df_session.specs.Anew.{begun_after}
 use Rattle.df_session.specs.Found.{FoundFile}
@@ -42,19 +41,17 @@ use Rattle.df_top.specs.declared.status.Status.TheVariants.{Done, Memory}
 
 -- ---- what a session leaves of a file
 
--- a session as far as it is known: the image that it opened, the acts that were surely answered, with their answers, and those after them of which some may
--- have come through
+-- a session as far as it is known: the image that it opened, the calls that were surely answered, and the acts after them of which some may have come through
 pub record Chapter : Type 0 where
   pub shown : Image
-  pub answered : List Act
-  pub answers : List Answer
+  pub answered : List Exchange
   pub perhaps : List Act
 
 -- these acts came through: all that were answered, and some of the others, from the first on
 pub record CameThrough (c : Chapter) (acts : List Act) : Type 0 where
   pub more : List Act
   pub rest : List Act
-  pub are : acts ≡ c.answered ++ more
+  pub are : acts ≡ acts_in c.answered ++ more
   pub some : c.perhaps ≡ more ++ rest
 
 -- the session found view v in its image, and boots were left to raise it; from the state after the boot update on the machine answered as it did, and came to view u by the acts that came through
@@ -62,15 +59,14 @@ pub record GoesBy (file : DataFile) (c : Chapter) (acts : List Act) (v u : View)
   pub whole : IsImage c.shown
   pub found : IsFound (shape file) (unit_at file.layout file.cluster c.shown) v
   pub unspent : boot_of v < 2 ^ 62
-  pub inputs : AreInputs (c.answered ++ c.perhaps)
-  pub answers_are : c.answers ≡ answers_of file (begun_work file c.shown v) c.answered
+  pub inputs : AreInputs (acts_in c.answered ++ c.perhaps)
+  pub answers_are : answers_in c.answered ≡ answers_of file (begun_work file c.shown v) (acts_in c.answered)
   pub came : CameThrough c acts
   pub view : KeepsView (kept (work_after file (begun_work file c.shown v) acts)) u
 
 -- nothing was answered, and the view is as it was, but for its boot
 pub record IsUntouched (c : Chapter) (v u : View) : Type 0 where
   pub none : c.answered ≡ []
-  pub no_answers : c.answers ≡ []
   pub same : KeepsView v u
 
 -- a session leads from one view to the next
@@ -92,8 +88,8 @@ pub data Extent : Type 0 where
 -- A session over this image that made these calls. At its end all that was answered is known to be there; at a moment all that was answered by then is, and any
 -- of the calls after that may be.
 abbrev pub chapter_of : Extent → Image → CallsMade → Chapter
-chapter_of ToItsEnd shown c = record { shown = shown; answered = c.acts; answers = c.answers; perhaps = list_of c.failed }
-chapter_of (ToAMoment k) shown c = record { shown = shown; answered = take k c.acts; answers = take k c.answers; perhaps = drop k c.acts ++ list_of c.failed }
+chapter_of ToItsEnd shown c = record { shown = shown; answered = c.exchanges; perhaps = list_of c.failed }
+chapter_of (ToAMoment k) shown c = record { shown = shown; answered = take k c.exchanges; perhaps = acts_in (drop k c.exchanges) ++ list_of c.failed }
 
 abbrev pub chapters_of : Extent → Image → Option CallsMade → List Chapter
 chapters_of extent shown None = []
