@@ -8,7 +8,6 @@ pub mod OpenedPlaces
 pub mod OpenedRuns
 pub mod OpenedViews
 pub mod Taken
-pub mod Tidied
 pub mod Frames
 pub mod Chains
 pub mod Linked

@@ -1,5 +1,5 @@
 -- One link of the chain, as a step of the walk.
-use Rattle.std.proofs.Common.{◌≡◌, ℕ, ◌+◌, ◌-◌, ◌<◌, ◌==◌, ◌||◌, Bool, true, false, List, [], ◌∷◌, ◌++◌, length, map, Some, refl, sym, ◌∙◌, ap, subst, arith, inl, inr}
+use Rattle.std.proofs.Common.{◌≡◌, ℕ, ◌+◌, ◌-◌, ◌<◌, ◌==◌, ◌||◌, Bool, true, false, List, [], ◌∷◌, ◌++◌, length, map, Option, Some, None, refl, sym, ◌∙◌, ap, subst, arith, inl, inr}
 use Rattle.std.proofs.lemmas.List.{length-map, map-append}
 use Rattle.std.proofs.lemmas.Option.{same_Some}
 use Rattle.std.specs.Prelude.{Result, Ok, Err, IfOk}
@@ -29,12 +29,12 @@ use Rattle.df_mirror.specs.Known.{IsDue}
 use Rattle.df_mirror.specs.Mends.{AreOfKind}
 use Rattle.df_mirror.specs.Outside.{Outside, Tell}
 use Rattle.df_mirror.specs.Refusals.{ComesAgain, RefusesFirstTrailer}
-use Rattle.df_mirror.specs.Taking.{HoldsShown, MendsUnit, ShowsUnit, count_in}
+use Rattle.df_mirror.specs.Taking.{HoldsShown, MendsUnit, ShowsUnit}
 use Rattle.df_mirror.specs.Walks.{HasWalkedChain, Mended, WalkGoesOn, broken_at, content_of_superblock, superblock_units}
 use Rattle.df_mirror.proofs.Chains.{among, arrives_there, asked_shown, chain_spare, not_among}
 use Rattle.df_mirror.proofs.Frames.{other_place}
 use Rattle.df_mirror.proofs.Joined.{came_with, kind_at, none_came}
-use Rattle.df_mirror.proofs.Turns.{MendsDue, due_mended, of_one}
+use Rattle.df_mirror.proofs.Turns.{MendsDue, due_mended, lent_shown, of_one}
 
 -- the references have an address where their addresses do
 among_map : (a : ℕ) (refs : List Link) → is_among a refs ≡ list_any (λ other. other == a) (map (λ r. r.address) refs)
@@ -91,17 +91,17 @@ module _ (b : Superblock) (n index : ℕ) (walk : Walk) (t o : Told) (counts : I
     }
 
     module _ (identity : Identity) (is_at : identity ≡ at_address b.file.layout b.file.cluster walk.at.address walk.at.checksum) (fits : IsCheck walk.at.checksum) (old new : Outside) (tell : Tell t o old) where
-      due : (result : Result (Holding × ℕ) Ending) → MendsUnit Trailer identity old new (count_in result) → IfOk result (λ done. HoldsShown Trailer identity old.first new.first done.0)
-          → MendsDue b Trailer (BlockPlace walk.at.address) walk.at.checksum t o old new result
-      due result mends shown = due_mended b Trailer (BlockPlace walk.at.address) walk.at.checksum identity (record { is = is_at; stands = tt; fits = fits }) t o old new tell link_due result mends shown
+      due : (shelf : Option Holding) (result : Result ℕ Ending) → MendsUnit Trailer identity old new result → IfOk result (λ n. HoldsShown Trailer identity old.first new.first shelf)
+          → MendsDue b Trailer (BlockPlace walk.at.address) walk.at.checksum t o old new shelf result
+      due shelf result mends shown = due_mended b Trailer (BlockPlace walk.at.address) walk.at.checksum identity (record { is = is_at; stands = tt; fits = fits }) t o old new tell shelf link_due result mends shown
 
       -- a call failed, or neither file shows the block
       pub link_failed : (e : Ending) (Shows : Units → Type 0) → MendsUnit Trailer identity old new (Err e) → Mended b (AreOfKind Trailer) t o old new (Err e) Shows
-      link_failed e Shows mends = of_one b Trailer (BlockPlace walk.at.address) t o old new (Err e) Shows (due (Err e) mends tt).answers (λ u is. tt)
+      link_failed e Shows mends = of_one b Trailer (BlockPlace walk.at.address) t o old new (Err e) Shows (due None (Err e) mends tt).answers (λ u is. tt)
 
-      module _ (held : Holding) (more : ℕ) (mends : MendsUnit Trailer identity old new (Ok more)) (holds : HoldsShown Trailer identity old.first new.first held) where
-        it : MendsDue b Trailer (BlockPlace walk.at.address) walk.at.checksum t o old new (Ok (held, more))
-        it = due (Ok (held, more)) mends holds
+      module _ (held : Holding) (shelf : Option Holding) (lent : shelf ≡ Some held) (more : ℕ) (mends : MendsUnit Trailer identity old new (Ok more)) (holds : HoldsShown Trailer identity old.first new.first shelf) where
+        it : MendsDue b Trailer (BlockPlace walk.at.address) walk.at.checksum t o old new shelf (Ok more)
+        it = due shelf (Ok more) mends holds
 
         module _ (m : Told) (is : new.first ≡ Some m) where
           same_chain : (e : ℕ) (x : Block) → InChain e x walked.chain → superblock_units b m.shown (BlockPlace e) ≡ superblock_units b t.shown (BlockPlace e)
@@ -112,7 +112,7 @@ module _ (b : Superblock) (n index : ℕ) (walk : Walk) (t o : Told) (counts : I
           arrives = arrives_there (superblock_units b t.shown) (superblock_units b m.shown) walked.chain (content_of_superblock b).trailer (content_of_superblock b).trailer_checksum walk.at.address (number_of walk.at.checksum) walked.arrives same_chain
 
           there : IsThere (superblock_units b m.shown) walk.at.address (number_of walk.at.checksum) held.unit
-          there = it_is_there b walk.at.address walk.at.checksum m held.unit (it.shows m is)
+          there = it_is_there b walk.at.address walk.at.checksum m held.unit (lent_shown b.file Trailer (BlockPlace walk.at.address) walk.at.checksum m.shown shelf held lent (it.shows m is))
 
           walks_on : (next : Walk) → 0 < walk.at.address → WalkGoesOn b walk.at walk.read.items index held.unit (Ok next) → HasWalkedChain b (superblock_units b m.shown) n next
           walks_on next above goes =

@@ -1,77 +1,65 @@
--- What was read of a place is what the disk shows there, and a unit that is wanted is the theory's.
-use Rattle.std.proofs.Common.{◌≡◌, ℕ, ◌/◌, ◌*◌, List, length, Option, Some, None, refl, sym, ◌∙◌, ap, subst, arith}
-use Rattle.std.specs.Prelude.{Result, Ok, Err, IfOk, IfErr}
+-- What a shelf holds of what was read, and a unit that is wanted is the theory's.
+use Rattle.std.proofs.Common.{◌≡◌, ◌≢◌, ℕ, ◌/◌, ◌*◌, List, length, Option, Some, None, refl, sym, ◌∙◌, ap, subst, arith}
+use Rattle.std.proofs.lemmas.Option.{same_Some}
+use Rattle.std.specs.Prelude.{IsSome}
 use Rattle.df_base.specs.Image.{Image, IsImage, bytes_at}
 use Rattle.df_disk.specs.Told.{Shows, Told}
 use Rattle.df_layout.specs.declared.damage.Class.{Class}
 use Rattle.df_layout.specs.declared.layout.Layout.{Layout}
 use Rattle.df_layout.specs.declared.places.Place.{Place as FilePlace}
 use Rattle.df_layout.specs.declared.places.Zone.{Zone}
-use Rattle.df_layout.specs.declared.places.Zone.TheVariants.{Superblock}
+use Rattle.df_layout.specs.declared.places.Zone.TheVariants.{Superblock, WalHeaders, WalPrepares, ClientReplies, Grid}
 use Rattle.df_layout.specs.Spans.{place_sectors, span_of}
 use Rattle.df_format.specs.declared.kind.Kind.{Kind}
 use Rattle.df_format.specs.declared.kind.Kind.TheVariants.{Block, Prepare, Reply, Reserved, Trailer}
 use Rattle.df_format.specs.Message.{Message}
-use Rattle.df_format.specs.Shown.{bytes_of, class_of, unit_in}
+use Rattle.df_format.specs.Shown.{bytes_of, class_of, part_in, unit_in}
 use Rattle.df_format.specs.Shown
 use Rattle.df_format.specs.Wanted as words
 use Rattle.df_format.proofs.Laws.{shown_is_unit}
 use Rattle.df_buffers.specs.declared.identity.Identity.{Identity}
 use Rattle.df_buffers.specs.declared.identity.Wanted.TheVariants.{Checksum}
-use Rattle.df_buffers.specs.Found.{FindsKind, IsValidUnit, class_for}
+use Rattle.df_buffers.specs.Found.{FindsKind, IsThere, class_for}
 use Rattle.df_buffers.specs.Rooms.{FillsRoom, Room, StandsIn}
 use Rattle.df_buffers.specs.Sounds.{Holding}
 use Rattle.df_buffers.proofs.Laws.{is_no_ring}
-use Rattle.df_places.specs.Shelves.{IsFoundUnit, shown_at}
+use Rattle.df_places.specs.Shelves.{HoldsBlanked, HoldsFound, IsBlanked, IsFoundUnit, IsRead, shown_at}
 use Rattle.df_theory.specs.Units.{AnyUnit, BlockPlace, CopyPlace, HeaderPlace, Place, PreparePlace, ReplyPlace}
 use Rattle.df_units.specs.Bytes.{message_unit}
 use Rattle.df_units.specs.Meaning.{number_of, place_of, unit_of}
 use Rattle.df_units.specs.Wanted.{IsOfKind, checksum_of, class_at}
 use Rattle.df_units.proofs.Laws.{none_wanted, units_told}
-use Rattle.df_places.proofs.Laws.{all_own}
 use Rattle.df_opening.specs.Below.{DataFile}
 use Rattle.df_mirror.specs.Known.{IsShownAs}
 use Rattle.df_mirror.specs.Mends.{units_shown}
-use Rattle.df_mirror.specs.Taking.{IsFor, LacksIt, LoadsUnit, ShowsIt, ShowsUnit}
+use Rattle.df_mirror.specs.Taking.{IsFor, ShowsUnit}
 
--- ---- bytes
+-- ---- what a shelf holds
 
-sectors_are : (layout : Layout) (place : FilePlace) (zone : Zone) (n : ℕ) → place.zone ≡ zone → n ≡ 4096 * place_sectors layout zone → n / 4096 ≡ (span_of layout place).count
-unfolding span_of
-sectors_are layout place zone n in_zone is = let there : n ≡ 4096 * place_sectors layout place.zone = subst (λ (z : Zone). n ≡ 4096 * place_sectors layout z) (sym in_zone) is in omega (arith, there)
+-- where nothing is wrong it holds the unit that is wanted
+pub found_held : (kind : Kind) (identity : Identity) (shelf : Option Holding) → HoldsFound kind identity None shelf → (held : Holding) × (shelf ≡ Some held) × IsFoundUnit kind identity held.unit
+found_held kind identity None found = absurd found
+found_held kind identity (Some held) found = (held, refl, found)
 
-module _ (kind : Kind) (zone : Zone) (identity : Identity) (bytes : List ℕ) (stands : StandsIn kind zone) (in_zone : identity.place.zone ≡ zone) (fills : FillsRoom identity.layout zone bytes) where
-  of_place : (t : Told) → Shows (Some t) (span_of identity.layout identity.place).first bytes → bytes ≡ bytes_of identity.layout t.shown identity.place
-  unfolding bytes_of
-  of_place t shows =
-      let span = span_of identity.layout identity.place in
-      shows ∙ ap (λ (n : ℕ). bytes_at t.shown span.first n) (sectors_are identity.layout identity.place zone (length bytes) in_zone fills)
-      ∙ all_own identity.place.zone identity.place.index (bytes_at t.shown span.first span.count) (λ ring. is_no_ring kind zone stands (sym in_zone ∙ ring))
+pub held_some : (kind : Kind) (identity : Identity) (shelf : Option Holding) → HoldsFound kind identity None shelf → IsSome shelf
+held_some kind identity None found = absurd found
+held_some kind identity (Some held) found = refl
 
-  unit_shown : (t : Told) → Shows (Some t) (span_of identity.layout identity.place).first bytes → unit_in identity.layout identity.cluster identity.place bytes ≡ shown_at identity t.shown
-  unfolding Shown.unit_at
-  unit_shown t shows = ap (unit_in identity.layout identity.cluster identity.place) (of_place t shows)
+-- blanked, it holds the same one, with zeros after it
+pub blanked_held : (layout : Layout) (shelf new : Option Holding) (held : Holding) → shelf ≡ Some held → HoldsBlanked layout shelf new → (blanked : Holding) × (new ≡ Some blanked) × IsBlanked layout held blanked
+blanked_held layout None new held is holds = absurd holds
+blanked_held layout (Some old) None held is holds = absurd holds
+blanked_held layout (Some old) (Some blanked) held is holds = (blanked, refl, subst (λ (h : Holding). IsBlanked layout h blanked) (same_Some _ _ is) holds)
 
-  class_shown : (t : Told) → Shows (Some t) (span_of identity.layout identity.place).first bytes → class_for identity bytes ≡ Shown.class_at identity.layout identity.cluster t.shown identity.place
-  unfolding Shown.class_at
-  class_shown t shows = ap (class_of identity.layout identity.cluster identity.place) (of_place t shows)
+-- a unit that is shown is shown, whatever stands after it in the room
+pub shown_still : (kind : Kind) (identity : Identity) (told : Option Told) (old new : Holding) → new.unit ≡ old.unit → IsRead kind identity told None (Some old) → IsRead kind identity told None (Some new)
+shown_still kind identity None old new same read = tt
+shown_still kind identity (Some t) old new same read = record { valid = read.valid; judges = read.judges ∙ ap Some (sym same) }
 
-  pub it_is_shown : (told : Option Told) (u : Message) → Shows told (span_of identity.layout identity.place).first bytes → FindsKind kind identity bytes u → ShowsIt identity told u
-  it_is_shown None u shows finds = tt
-  it_is_shown (Some t) u shows finds = sym (unit_shown t shows) ∙ finds.found.valid
-
-  pub it_is_lacking : (told : Option Told) (class : Class) → Shows told (span_of identity.layout identity.place).first bytes → ((u : Message) → FindsKind kind identity bytes u → ⊥) → class ≡ class_for identity bytes → LacksIt kind identity told class
-  it_is_lacking None class shows none is = tt
-  it_is_lacking (Some t) class shows none is = (
-    λ u shown found. none u (record { found = record { valid = unit_shown t shows ∙ shown; wanted = found.wanted }; of_kind = found.of_kind }),
-    is ∙ class_shown t shows,
-  )
-
-  -- all that is answered of it
-  pub loads_all : (room : Room) → room.layout ≡ identity.layout → (told : Option Told) (result : Result Holding (Room × Class)) → Shows told (span_of identity.layout identity.place).first bytes → IfOk result (λ s. FindsKind kind identity bytes s.unit) → IfOk result (λ s. IsValidUnit identity s.unit)
-      → IfOk result (λ s. (s.layout ≡ room.layout) × (s.bytes ≡ bytes)) → IfErr result (λ _. (u : Message) → FindsKind kind identity bytes u → ⊥) → IfErr result (λ refused. refused.1 ≡ class_for identity bytes) → IfErr result (λ refused. refused.0 ≡ room) → LoadsUnit kind identity told result
-  loads_all room layout told (Ok s) shows finds there same none class back = (same.0 ∙ layout, record { is = there; of_kind = finds.of_kind; wanted = finds.found.wanted }, it_is_shown told s.unit shows finds)
-  loads_all room layout told (Err refused) shows finds there same none class back = (ap (λ (r : Room). r.layout) back ∙ layout, it_is_lacking told refused.1 shows none class)
+-- the class of what is shown doesn't hang on what is held
+pub lacks_none : (kind : Kind) (identity : Identity) (told : Option Told) (class : Class) (shelf : Option Holding) → IsRead kind identity told (Some class) shelf → IsRead kind identity told (Some class) None
+lacks_none kind identity None class shelf read = tt
+lacks_none kind identity (Some t) class shelf read = record { valid = read.valid; judges = read.judges }
 
 -- ---- the theory's unit
 

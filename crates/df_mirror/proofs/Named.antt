@@ -1,5 +1,5 @@
 -- The prepares that the superblock names: each is due where those above it are shown, and the walk goes one prepare further down.
-use Rattle.std.proofs.Common.{◌≡◌, ℕ, ◌+◌, ◌-◌, ◌%◌, ◌==◌, ◌<◌, ◌≤◌, if◌then◌else◌, List, [], ◌∷◌, length, Some, refl, sym, ◌∙◌, ap, subst, arith, inl, inr}
+use Rattle.std.proofs.Common.{◌≡◌, ℕ, ◌+◌, ◌-◌, ◌%◌, ◌==◌, ◌<◌, ◌≤◌, if◌then◌else◌, List, [], ◌∷◌, length, Option, Some, None, refl, sym, ◌∙◌, ap, subst, arith, inl, inr}
 use Rattle.std.proofs.lemmas.Bool.{cases_lt}
 use Rattle.std.proofs.lemmas.Option.{same_Some}
 use Rattle.std.specs.Prelude.{Result, Ok, Err, IfOk}
@@ -21,10 +21,10 @@ use Rattle.df_mirror.specs.declared.superblock.Superblock.{Superblock}
 use Rattle.df_mirror.specs.Known.{IsDue, IsKnownAt, IsShownAs, IsSparePlace}
 use Rattle.df_mirror.specs.Mends.{AreOfKind}
 use Rattle.df_mirror.specs.Outside.{Outside, Tell}
-use Rattle.df_mirror.specs.Taking.{HoldsShown, IsFor, MendsUnit, count_in}
+use Rattle.df_mirror.specs.Taking.{HoldsShown, IsFor, MendsUnit}
 use Rattle.df_mirror.specs.Walks.{Mended, NamesPreparesFrom, ShowsNamed, content_of_superblock, superblock_units}
 use Rattle.df_mirror.proofs.Frames.{other_place}
-use Rattle.df_mirror.proofs.Turns.{MendsDue, due_mended, of_one}
+use Rattle.df_mirror.proofs.Turns.{MendsDue, due_mended, lent_shown, of_one}
 
 -- known prepares are known in an image whose ring shows them, too
 pub ring_there : (n : ℕ) (image other : Units) (op sum : ℕ) (ps : List Message) → AreKnown n image op sum ps → ((o : ℕ) → op ≤ o → o < op + length ps → other (PreparePlace (o % n)) ≡ image (PreparePlace (o % n))) → AreKnown n other op sum ps
@@ -98,13 +98,13 @@ module _ (b : Superblock) where
   -- the prepare that is named is mended, and names the one before it
   module _ (usable : IsUsable b.content) (op : ℕ) (check : List ℕ) (above : b.content.op < op) (identity : Identity) (for : IsFor b.file Prepare (PreparePlace (op % b.file.layout.slots)) check identity) (t o : Told) (old new : Outside) (tell : Tell t o old)
       (from : NamesPreparesFrom b (superblock_units b t.shown) op (number_of check)) where
-    names_on : (held : Holding) (more : ℕ) → MendsDue b Prepare (PreparePlace (op % b.file.layout.slots)) check t o old new (Ok (held, more)) → (m : Told) → new.first ≡ Some m → NamesPreparesFrom b (superblock_units b m.shown) (op - 1) (number_of held.unit.header.parent)
-    names_on held more mends m is =
+    names_on : (held : Holding) (shelf : Option Holding) → shelf ≡ Some held → (more : ℕ) → MendsDue b Prepare (PreparePlace (op % b.file.layout.slots)) check t o old new shelf (Ok more) → (m : Told) → new.first ≡ Some m → NamesPreparesFrom b (superblock_units b m.shown) (op - 1) (number_of held.unit.header.parent)
+    names_on held shelf lent more mends m is =
         let n = b.file.layout.slots in
         let image = superblock_units b m.shown in
         let pin = (content_of_superblock b).pin_checksum in
         let u = held.unit in
-        let shows = mends.shows m is in
+        let shows = lent_shown b.file Prepare (PreparePlace (op % n)) check m.shown shelf held lent (mends.shows m is) in
         let same : shows.unit ≡ PrepareUnit (message_of u) = same_Some _ _ (sym shows.unit_is) in
         let there : image (PreparePlace (op % n)) ≡ Some (PrepareUnit (message_of u)) = shows.shown ∙ sym shows.unit_is in
         let sum : (message_of u).header.checksum ≡ named_by pin from.later = sym (ap checksum_of same) ∙ shows.sum_is ∙ from.sum_is in
@@ -119,15 +119,15 @@ module _ (b : Superblock) where
           sum_is = refl;
         }
 
-    due : (result : Result (Holding × ℕ) Ending) → MendsUnit Prepare identity old new (count_in result) → IfOk result (λ done. HoldsShown Prepare identity old.first new.first done.0) → MendsDue b Prepare (PreparePlace (op % b.file.layout.slots)) check t o old new result
-    due result mends shown = due_mended b Prepare (PreparePlace (op % b.file.layout.slots)) check identity for t o old new tell (named_due usable t op (number_of check) above from) result mends shown
+    due : (shelf : Option Holding) (result : Result ℕ Ending) → MendsUnit Prepare identity old new result → IfOk result (λ n. HoldsShown Prepare identity old.first new.first shelf) → MendsDue b Prepare (PreparePlace (op % b.file.layout.slots)) check t o old new shelf result
+    due shelf result mends shown = due_mended b Prepare (PreparePlace (op % b.file.layout.slots)) check identity for t o old new tell shelf (named_due usable t op (number_of check) above from) result mends shown
 
-    pub prepare_mended : (held : Holding) (more : ℕ) → MendsUnit Prepare identity old new (Ok more) → HoldsShown Prepare identity old.first new.first held → (h : Header) → h ≡ held.unit.header
+    pub prepare_mended : (held : Holding) (shelf : Option Holding) → shelf ≡ Some held → (more : ℕ) → MendsUnit Prepare identity old new (Ok more) → HoldsShown Prepare identity old.first new.first shelf → (h : Header) → h ≡ held.unit.header
         → Mended b (AreOfKind Prepare) t o old new (Ok more) (λ image. NamesPreparesFrom b image (op - 1) (number_of h.parent))
-    prepare_mended held more mends shown h is =
-        let it = due (Ok (held, more)) mends shown in
+    prepare_mended held shelf lent more mends shown h is =
+        let it = due shelf (Ok more) mends shown in
         of_one b Prepare (PreparePlace (op % b.file.layout.slots)) t o old new (Ok more) (λ image. NamesPreparesFrom b image (op - 1) (number_of h.parent)) it.answers
-        (λ m there. subst (λ (x : Header). NamesPreparesFrom b (superblock_units b m.shown) (op - 1) (number_of x.parent)) (sym is) (names_on held more it m there))
+        (λ m there. subst (λ (x : Header). NamesPreparesFrom b (superblock_units b m.shown) (op - 1) (number_of x.parent)) (sym is) (names_on held shelf lent more it m there))
 
     pub prepare_failed : (e : Ending) → MendsUnit Prepare identity old new (Err e) → Mended b (AreOfKind Prepare) t o old new (Err e) (λ image. Unit {0})
-    prepare_failed e mends = of_one b Prepare (PreparePlace (op % b.file.layout.slots)) t o old new (Err e) (λ image. Unit {0}) (due (Err e) mends tt).answers (λ m is. tt)
+    prepare_failed e mends = of_one b Prepare (PreparePlace (op % b.file.layout.slots)) t o old new (Err e) (λ image. Unit {0}) (due None (Err e) mends tt).answers (λ m is. tt)

@@ -26,7 +26,7 @@ use Rattle.df_mirror.specs.declared.superblock.Superblock.{Superblock}
 use Rattle.df_mirror.specs.Known.{IsDue, IsKnownAt, IsRecordedReply, IsShownAs}
 use Rattle.df_mirror.specs.Mends.{AreAt}
 use Rattle.df_mirror.specs.Outside.{Outside, Tell, around}
-use Rattle.df_mirror.specs.Taking.{HoldsShown, IsFor, MendsUnit, ShowsUnit, count_in}
+use Rattle.df_mirror.specs.Taking.{HoldsShown, IsFor, MendsUnit, ShowsHeld}
 use Rattle.df_mirror.specs.Walks.{HasNewer, IsNewer, MendsRecorded, content_of_superblock, superblock_units}
 use Rattle.df_mirror.proofs.Joined.{none_came, none_failed}
 use Rattle.df_mirror.proofs.Turns.{holds}
@@ -105,14 +105,14 @@ module _ (b : Superblock) (k : ℕ) (check : List ℕ) (t o : Told) (old : Outsi
       for : IsFor b.file Reply (ReplyPlace k) check identity
       for = record { is = is; stands = tt; fits = fits }
 
-      is_shown : (m : Told) (result : Result (Holding × ℕ) Ending) → IfOk result (λ done. ShowsUnit b.file Reply (ReplyPlace k) check m.shown done.0.unit)
-          → OnOk (count_in result) (HasNewer b (superblock_units b m.shown) k ⊎ IsShownAs (superblock_units b m.shown) Reply (ReplyPlace k) (number_of check))
-      is_shown m (Ok done) it = inr (record { unit = it.unit; shown = it.shown; of_kind = it.of_kind; sum_is = it.sum_is })
-      is_shown m (Err e) it = tt
+      is_shown : (m : Told) (shelf : Option Holding) (result : Result ℕ Ending) → IfOk result (λ n. ShowsHeld b.file Reply (ReplyPlace k) check m.shown shelf)
+          → OnOk result (HasNewer b (superblock_units b m.shown) k ⊎ IsShownAs (superblock_units b m.shown) Reply (ReplyPlace k) (number_of check))
+      is_shown m shelf (Ok n) it = inr (record { unit = it.2.unit; shown = it.2.shown; of_kind = it.2.of_kind; sum_is = it.2.sum_is })
+      is_shown m shelf (Err e) it = tt
 
       -- nothing newer is, and it is mended
-      pub recorded_mended : (result : Result (Holding × ℕ) Ending) → MendsUnit Reply identity mid new (count_in result) → IfOk result (λ done. HoldsShown Reply identity told new.first done.0) → MendsRecorded b k check t o old new (count_in result)
-      recorded_mended result mends shown = record {
+      pub recorded_mended : (shelf : Option Holding) (result : Result ℕ Ending) → MendsUnit Reply identity mid new result → IfOk result (λ n. HoldsShown Reply identity told new.first shelf) → MendsRecorded b k check t o old new result
+      recorded_mended shelf result mends shown = record {
         answers = λ known. mends b.file (content_of_superblock b) (ReplyPlace k) check t o for on (reply_due b t k (number_of check) (known (λ newer. none (newer_seen b t k seen seen_is newer))));
-        shown = λ m there. is_shown m result (holds b Reply (ReplyPlace k) check identity for t o mid new on result shown m there);
+        shown = λ m there. is_shown m shelf result (holds b Reply (ReplyPlace k) check identity for t o mid new on shelf result shown m there);
       }

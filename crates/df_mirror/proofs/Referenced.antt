@@ -1,5 +1,5 @@
 -- A referenced block, as a turn over the addresses.
-use Rattle.std.proofs.Common.{◌≡◌, ℕ, ◌+◌, List, Some, None, sym, ◌∙◌, ap, subst, arith, inl, inr}
+use Rattle.std.proofs.Common.{◌≡◌, ℕ, ◌+◌, List, Option, Some, None, sym, ◌∙◌, ap, subst, arith, inl, inr}
 use Rattle.std.proofs.lemmas.Bool.{cases_eq}
 use Rattle.std.proofs.lemmas.Option.{same_Some}
 use Rattle.std.specs.Prelude.{Result, Ok, Err, IfOk, OnOk}
@@ -22,7 +22,7 @@ use Rattle.df_mirror.specs.declared.superblock.Superblock.{Superblock}
 use Rattle.df_mirror.specs.Known.{IsDue, IsKnownAt, IsShownAs, IsSparePlace}
 use Rattle.df_mirror.specs.Mends.{AreOfKind}
 use Rattle.df_mirror.specs.Outside.{Outside, Tell}
-use Rattle.df_mirror.specs.Taking.{HoldsShown, MendsUnit, count_in}
+use Rattle.df_mirror.specs.Taking.{HoldsShown, MendsUnit}
 use Rattle.df_mirror.specs.Walks.{HasTrailerText, Mended, ShowsBlocks, content_of_superblock, superblock_units}
 use Rattle.df_mirror.proofs.Frames.{other_place}
 use Rattle.df_mirror.proofs.Ones.{one_trailer, trailer_there, wanted_block}
@@ -73,12 +73,12 @@ module _ (b : Superblock) (grid : GridState) (ss : List Session) (before : ℕ) 
     block_due : IsDue (shape b.file) (superblock_units b t.shown) (content_of_superblock b) AsBlock (BlockPlace (before + 1)) (number_of check)
     block_due = record { known = record { says = shows.has.says; reference = referenced }; spare = spare }
 
-    module _ (identity : Identity) (is : identity ≡ at_address b.file.layout b.file.cluster (before + 1) check) (fits : IsCheck check) (old new : Outside) (tell : Tell t o old) where
-      one_more : (result : Result (Holding × ℕ) Ending) → MendsDue b AsBlock (BlockPlace (before + 1)) check t o old new result → (m : Told) → new.first ≡ Some m → OnOk (count_in result) (ShowsBlocks b (superblock_units b m.shown) grid ss (before + 1))
+    module _ (identity : Identity) (is : identity ≡ at_address b.file.layout b.file.cluster (before + 1) check) (fits : IsCheck check) (old new : Outside) (tell : Tell t o old) (shelf : Option Holding) where
+      one_more : (result : Result ℕ Ending) → MendsDue b AsBlock (BlockPlace (before + 1)) check t o old new shelf result → (m : Told) → new.first ≡ Some m → OnOk result (ShowsBlocks b (superblock_units b m.shown) grid ss (before + 1))
       one_more (Err e) mends m is = tt
-      one_more (Ok done) mends m is =
+      one_more (Ok more) mends m is =
           let same : (e : ℕ) → (e ≡ before + 1 → ⊥) → superblock_units b m.shown (BlockPlace e) ≡ superblock_units b t.shown (BlockPlace e) =
-          λ e other. other_place b.file (content_of_superblock b) t o m new.first old.written new.written tell.whole is (BlockPlace e) AsBlock (BlockPlace (before + 1)) done.1 mends.answers (λ (one : BlockPlace (before + 1) ≡ BlockPlace e). other (cc)) in
+          λ e other. other_place b.file (content_of_superblock b) t o m new.first old.written new.written tell.whole is (BlockPlace e) AsBlock (BlockPlace (before + 1)) more mends.answers (λ (one : BlockPlace (before + 1) ≡ BlockPlace e). other (cc)) in
           record {
             has = record {
               says = trailer_there (shape b.file) (superblock_units b t.shown) (superblock_units b m.shown) (content_of_superblock b) shows.has.says (λ e x at. same e (apart e x at));
@@ -88,7 +88,7 @@ module _ (b : Superblock) (grid : GridState) (ss : List Session) (before : ℕ) 
             };
             shown = λ a sum to known. elim (cases_eq a (before + 1)) [
               | inl here ↦
-                  let it = mends.shows m is in
+                  let it = (mends.shows m is).2 in
                   let one : number_of check ≡ sum = same_Some _ _ (sym live ∙ ap (λ (n : ℕ). sum_at n grid.blocks.live) (sym here) ∙ known) in
                   subst (λ (n : ℕ). IsShownAs (superblock_units b m.shown) AsBlock (BlockPlace n) sum) (sym here) (record { unit = it.unit; shown = it.shown; of_kind = it.of_kind; sum_is = it.sum_is ∙ one })
               | inr other ↦ shown_there (superblock_units b t.shown) (superblock_units b m.shown) AsBlock (BlockPlace a) sum (same a other) (shows.shown a sum (omega (arith, to, other)) known)
@@ -96,11 +96,11 @@ module _ (b : Superblock) (grid : GridState) (ss : List Session) (before : ℕ) 
           }
 
       -- the block that is referenced is mended
-      pub block_mended : (result : Result (Holding × ℕ) Ending) → MendsUnit AsBlock identity old new (count_in result) → IfOk result (λ done. HoldsShown AsBlock identity old.first new.first done.0)
-          → Mended b (AreOfKind AsBlock) t o old new (count_in result) (λ image. ShowsBlocks b image grid ss (before + 1))
+      pub block_mended : (result : Result ℕ Ending) → MendsUnit AsBlock identity old new result → IfOk result (λ n. HoldsShown AsBlock identity old.first new.first shelf)
+          → Mended b (AreOfKind AsBlock) t o old new result (λ image. ShowsBlocks b image grid ss (before + 1))
       block_mended result mends shown =
-          let due = due_mended b AsBlock (BlockPlace (before + 1)) check identity (record { is = is; stands = tt; fits = fits }) t o old new tell block_due result mends shown in
-          of_one b AsBlock (BlockPlace (before + 1)) t o old new (count_in result) (λ image. ShowsBlocks b image grid ss (before + 1)) due.answers (one_more result due)
+          let due = due_mended b AsBlock (BlockPlace (before + 1)) check identity (record { is = is; stands = tt; fits = fits }) t o old new tell shelf block_due result mends shown in
+          of_one b AsBlock (BlockPlace (before + 1)) t o old new result (λ image. ShowsBlocks b image grid ss (before + 1)) due.answers (one_more result due)
 
 -- no address is 0
 pub none_yet : (b : Superblock) (grid : GridState) (ss : List Session) (t : Told) → HasTrailerText b (superblock_units b t.shown) grid ss → ShowsBlocks b (superblock_units b t.shown) grid ss 0

@@ -1,8 +1,8 @@
 -- One unit is mended, or isn't: as a list of mends.
-use Rattle.std.proofs.Common.{◌≡◌, ℕ, List, [], ◌∷◌, length, take, Option, Some, refl, sym, ◌∙◌, ap, subst, arith}
+use Rattle.std.proofs.Common.{◌≡◌, ℕ, List, [], ◌∷◌, length, take, Option, Some, None, refl, sym, ◌∙◌, ap, subst, arith}
 use Rattle.std.proofs.lemmas.List.{append-nil}
 use Rattle.std.proofs.lemmas.Option.{same_Some}
-use Rattle.std.specs.Prelude.{Result, Ok, Err, IfOk}
+use Rattle.std.specs.Prelude.{Result, Ok, Err}
 use Rattle.df_base.specs.Image.{IsImage}
 use Rattle.df_base.specs.Log.{Sync, Write}
 use Rattle.df_base.specs.Streams.{Appends, AppendsPart}
@@ -14,8 +14,8 @@ use Rattle.df_layout.specs.declared.places.Place.{Place as FilePlace}
 use Rattle.df_format.specs.declared.kind.Kind.{Kind}
 use Rattle.df_format.specs.Message.{sectors_end}
 use Rattle.df_buffers.specs.declared.identity.Identity.{Identity}
-use Rattle.df_buffers.specs.Sounds.{Holding}
-use Rattle.df_places.specs.Shelves.{IsFoundUnit, shown_at}
+use Rattle.df_buffers.specs.Sounds.{Holding, IsTidy}
+use Rattle.df_places.specs.Shelves.{IsFoundUnit, IsRead, shown_at}
 use Rattle.df_places.specs.Units.{unit_events}
 use Rattle.df_theory.specs.Device.{IsPut}
 use Rattle.df_theory.specs.UnitLog.{put_one}
@@ -30,28 +30,27 @@ use Rattle.df_mirror.specs.declared.ending.Ending.TheVariants.{First, Neither, S
 use Rattle.df_mirror.specs.Known.{IsDue, IsKnownAt, IsShownAs}
 use Rattle.df_mirror.specs.Mends.{AnswersMending, AreAt, Came, Failed, IsMend, IsNeither, Mend, units_shown}
 use Rattle.df_mirror.specs.Outside.{Outside}
-use Rattle.df_mirror.specs.Taking.{IsFor, IsZeroFilled, LacksIt, PutsUnit, ShowsIt, ShowsUnit, TakesFromSecond, TakesUnit, WritesUnit}
+use Rattle.df_mirror.specs.Taking.{IsFor, PutsUnit, ShowsUnit, TakesUnit, WritesUnit}
 use Rattle.df_mirror.specs.Texts.{mended_text}
 use Rattle.df_mirror.proofs.Joined.{none_came, none_failed}
 use Rattle.df_mirror.proofs.Loaded.{IsUnitOf, class_is, found_unit, lacks_unit, shows_unit}
 
 -- ---- one
 
--- what was written of the second file's unit
-pub takes_all : (kind : Kind) (identity : Identity) (class : Class) (old new : Outside) (held : Holding) (result : Result Holding Ending) → IsFoundUnit kind identity held.unit → ShowsIt identity old.second held.unit → PutsUnit identity.layout identity.place held → IsZeroFilled held
-    → WritesUnit identity.layout identity.place held old.first new.first old.written new.written result → IfOk result (λ back. back ≡ held) → TakesUnit kind identity class old new result
-takes_all kind identity class old new held (Ok back) found shown puts filled writes same =
-    subst (λ (h : Holding). TakesFromSecond kind identity old new h (Ok tt)) (sym same) (record { found = found; shown = shown; puts = puts; filled = filled; writes = writes })
-takes_all kind identity class old new held (Err First) found shown puts filled writes same = (held, record { found = found; shown = shown; puts = puts; filled = filled; writes = writes })
-takes_all kind identity class old new held (Err Sink) found shown puts filled writes same = (held, record { found = found; shown = shown; puts = puts; filled = filled; writes = writes })
-takes_all kind identity class old new held (Err Second) found shown puts filled writes same = absurd writes
-takes_all kind identity class old new held (Err (Unopened e)) found shown puts filled writes same = absurd writes
-takes_all kind identity class old new held (Err (Neither place other)) found shown puts filled writes same = absurd writes
+-- what was written of the second file's unit, which is held
+pub takes_all : (kind : Kind) (identity : Identity) (class : Class) (old new : Outside) (shelf : Option Holding) (held : Holding) (result : Result (Unit {0}) Ending) → shelf ≡ Some held → IsFoundUnit kind identity held.unit → IsRead kind identity old.second None (Some held)
+    → PutsUnit identity.layout identity.place held → IsTidy held → WritesUnit identity.layout identity.place held old.first new.first old.written new.written result → TakesUnit kind identity class old new shelf result
+takes_all kind identity class old new shelf held (Ok x) is found shown puts tidy writes = (held, is, record { found = found; shown = shown; puts = puts; tidy = tidy; writes = writes })
+takes_all kind identity class old new shelf held (Err First) is found shown puts tidy writes = (held, is, record { found = found; shown = shown; puts = puts; tidy = tidy; writes = writes })
+takes_all kind identity class old new shelf held (Err Sink) is found shown puts tidy writes = (held, is, record { found = found; shown = shown; puts = puts; tidy = tidy; writes = writes })
+takes_all kind identity class old new shelf held (Err Second) is found shown puts tidy writes = absurd writes
+takes_all kind identity class old new shelf held (Err (Unopened e)) is found shown puts tidy writes = absurd writes
+takes_all kind identity class old new shelf held (Err (Neither place other)) is found shown puts tidy writes = absurd writes
 
 abbrev bytes_of : Holding → List ℕ
 bytes_of held = take (sectors_end held.unit.header.size) held.bytes
 
-module _ (file : DataFile) (kind : Kind) (at : Place) (check : List ℕ) (identity : Identity) (for : IsFor file kind at check identity) (held : Holding) (found : IsFoundUnit kind identity held.unit) (puts : PutsUnit identity.layout identity.place held) (filled : IsZeroFilled held) where
+module _ (file : DataFile) (kind : Kind) (at : Place) (check : List ℕ) (identity : Identity) (for : IsFor file kind at check identity) (held : Holding) (found : IsFoundUnit kind identity held.unit) (puts : PutsUnit identity.layout identity.place held) (tidy : IsTidy held) where
   there : IsUnitOf kind at check held.unit
   there = found_unit file kind at check identity for held.unit found
 
@@ -94,7 +93,7 @@ module _ (file : DataFile) (kind : Kind) (at : Place) (check : List ℕ) (identi
           of_kind = there.of_kind;
           from = from.shown ∙ sym from.unit_is ∙ there.unit_is;
           puts = put;
-          filled = (held.unit, there.unit_is, filled);
+          filled = (held.unit, there.unit_is, tidy);
         }
 
     pub one_mended : (new : Option Told) (old text : Option (List ℕ)) → WritesUnit identity.layout identity.place held (Some t) new old text {T = Unit {0}} (Ok tt) → Came file c (AreAt kind at) t o new old text (λ ms n. 1 ≡ length ms)
@@ -134,11 +133,11 @@ module _ (file : DataFile) (c : Content) (kind : Kind) (at : Place) (check : Lis
   From old = record { first = Some t; second = Some o; written = old }
 
   -- how many were written, where the unit came from the second file
-  abbrev pub one_in : Result Holding Ending → Result ℕ Ending
-  one_in (Ok held) = Ok 1
+  abbrev pub one_in : Result (Unit {0}) Ending → Result ℕ Ending
+  one_in (Ok x) = Ok 1
   one_in (Err e) = Err e
 
-  neither : (class other : Class) (place : FilePlace) → IsImage o.shown → place ≡ identity.place → LacksIt kind identity (Some t) class → LacksIt kind identity (Some o) other → IsNeither file c t.shown o.shown place class
+  neither : (class other : Class) (place : FilePlace) → IsImage o.shown → place ≡ identity.place → IsRead kind identity (Some t) (Some class) None → IsRead kind identity (Some o) (Some other) None → IsNeither file c t.shown o.shown place class
   neither class other place whole is first second = record {
     kind = kind;
     at = at;
@@ -146,24 +145,24 @@ module _ (file : DataFile) (c : Content) (kind : Kind) (at : Place) (check : Lis
     place_is = is ∙ ap (λ (i : Identity). i.place) for.is;
     known = due.known;
     lacks = lacks;
-    other = lacks_unit file kind at check identity for o.shown whole second.0;
-    class_is = class_is file kind at check identity for t.shown class first.1;
+    other = lacks_unit file kind at check identity for o.shown whole second.judges.0;
+    class_is = class_is file kind at check identity for t.shown class first.judges.1;
   }
 
-  pub taken : (class : Class) (old : Option (List ℕ)) (new : Outside) (result : Result Holding Ending) → IsImage o.shown → LacksIt kind identity (Some t) class → TakesUnit kind identity class (From old) new result
+  pub taken : (class : Class) (old : Option (List ℕ)) (new : Outside) (shelf : Option Holding) (result : Result (Unit {0}) Ending) → IsImage o.shown → IsRead kind identity (Some t) (Some class) None → TakesUnit kind identity class (From old) new shelf result
       → AnswersMending file c (AreAt kind at) t o new.first old new.written (one_in result)
-  taken class old new (Ok held) whole first takes = one_mended file kind at check identity for held takes.found takes.puts takes.filled c t o takes.shown due lacks new.first old new.written takes.writes
-  taken class old new (Err First) whole first takes = let h = takes.0 in let by = takes.1 in one_unwritten file kind at check identity for h by.found by.puts by.filled c t o by.shown due lacks new.first old new.written by.writes
-  taken class old new (Err Sink) whole first takes = let h = takes.0 in let by = takes.1 in one_unprinted file kind at check identity for h by.found by.puts by.filled c t o by.shown due lacks new.first old new.written by.writes
-  taken class old new (Err Second) whole first takes = none_failed file c (AreAt kind at) tt t o new.first old new.written takes.0 takes.1
-  taken class old new (Err (Unopened e)) whole first takes = absurd takes
-  taken class old new (Err (Neither place other)) whole first takes =
+  taken class old new shelf (Ok x) whole first takes = let h = takes.0 in let by = takes.2 in one_mended file kind at check identity for h by.found by.puts by.tidy c t o by.shown.judges due lacks new.first old new.written by.writes
+  taken class old new shelf (Err First) whole first takes = let h = takes.0 in let by = takes.2 in one_unwritten file kind at check identity for h by.found by.puts by.tidy c t o by.shown.judges due lacks new.first old new.written by.writes
+  taken class old new shelf (Err Sink) whole first takes = let h = takes.0 in let by = takes.2 in one_unprinted file kind at check identity for h by.found by.puts by.tidy c t o by.shown.judges due lacks new.first old new.written by.writes
+  taken class old new shelf (Err Second) whole first takes = none_failed file c (AreAt kind at) tt t o new.first old new.written takes.0 takes.1
+  taken class old new shelf (Err (Unopened e)) whole first takes = absurd takes
+  taken class old new shelf (Err (Neither place other)) whole first takes =
       none_came file c (AreAt kind at) tt t o new.first old new.written takes.2.0 takes.2.1 (λ ms n. IsNeither file c n.shown o.shown place other)
-      (neither other takes.3.0 place whole takes.0 (subst (λ (k : Class). LacksIt kind identity (Some t) k) (sym takes.1) first) takes.3.1)
+      (neither other takes.3.0 place whole takes.0 (subst (λ (k : Class). IsRead kind identity (Some t) (Some k) None) (sym takes.1) first) takes.3.1)
 
 -- the outside as it is told
-pub told_from : (kind : Kind) (identity : Identity) (class : Class) (old new : Outside) (result : Result Holding Ending) (t o : Told) → old.first ≡ Some t → old.second ≡ Some o → TakesUnit kind identity class old new result
-    → TakesUnit kind identity class (record { first = Some t; second = Some o; written = old.written }) new result
-told_from kind identity class old new result t o first second takes =
-    subst (λ (s : Option Told). TakesUnit kind identity class (record { first = Some t; second = s; written = old.written }) new result) second
-    (subst (λ (f : Option Told). TakesUnit kind identity class (record { first = f; second = old.second; written = old.written }) new result) first takes)
+pub told_from : (kind : Kind) (identity : Identity) (class : Class) (old new : Outside) (shelf : Option Holding) (result : Result (Unit {0}) Ending) (t o : Told) → old.first ≡ Some t → old.second ≡ Some o → TakesUnit kind identity class old new shelf result
+    → TakesUnit kind identity class (record { first = Some t; second = Some o; written = old.written }) new shelf result
+told_from kind identity class old new shelf result t o first second takes =
+    subst (λ (s : Option Told). TakesUnit kind identity class (record { first = Some t; second = s; written = old.written }) new shelf result) second
+    (subst (λ (f : Option Told). TakesUnit kind identity class (record { first = f; second = old.second; written = old.written }) new shelf result) first takes)

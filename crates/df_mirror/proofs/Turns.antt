@@ -2,6 +2,7 @@
 use Rattle.std.proofs.Common.{◌≡◌, ℕ, ◌+◌, ◌≤◌, List, [], ◌++◌, length, Option, Some, refl, sym, ◌∙◌, subst, arith}
 use Rattle.std.proofs.lemmas.Option.{same_Some}
 use Rattle.std.specs.Prelude.{Result, Ok, Err, IfOk, OnOk}
+use Rattle.df_base.specs.Image.{Image}
 use Rattle.df_disk.specs.Told.{Told}
 use Rattle.df_format.specs.declared.kind.Kind.{Kind}
 use Rattle.df_layout.specs.declared.layout.Layout.{Layout}
@@ -10,7 +11,7 @@ use Rattle.df_buffers.specs.Sounds.{Holding}
 use Rattle.df_theory.specs.Units.{Place, Units}
 use Rattle.df_units.specs.Meaning.{number_of}
 use Rattle.df_program.specs.Two.{Faults}
-use Rattle.df_opening.specs.Below.{shape}
+use Rattle.df_opening.specs.Below.{DataFile, shape}
 use Rattle.df_mirror.specs.declared.ending.Ending.{Ending}
 use Rattle.df_mirror.specs.declared.ending.Ending.TheVariants.{First}
 use Rattle.df_mirror.specs.declared.superblock.Superblock.{Superblock}
@@ -18,7 +19,7 @@ use Rattle.df_mirror.specs.Known.{IsDue}
 use Rattle.df_mirror.specs.Mends.{AnswersMending, AreAt, AreOfKind, Mend}
 use Rattle.df_mirror.specs.Outside.{Outside, Tell}
 use Rattle.df_mirror.specs.Statuses.{AreBlamed}
-use Rattle.df_mirror.specs.Taking.{HoldsShown, IsFor, MendsUnit, ShowsUnit, count_in}
+use Rattle.df_mirror.specs.Taking.{HoldsShown, IsFor, MendsUnit, ShowsHeld, ShowsUnit}
 use Rattle.df_mirror.specs.Walks.{Mended, content_of_superblock, superblock_units}
 use Rattle.df_mirror.proofs.Joined.{answers_then, answers_with, kind_at, kinds_append, more, none_came, none_failed, told_is_whole}
 
@@ -81,19 +82,28 @@ ends_so {b = b} {Of = Of} {All = All} {t = t} {o = o} {old = old} {new = new} {e
 
 -- ---- one unit
 
--- what was mended of a unit that was due; the image shows it, where it didn't end there
-pub record MendsDue (b : Superblock) (kind : Kind) (at : Place) (check : List ℕ) (t o : Told) (old new : Outside) (result : Result (Holding × ℕ) Ending) : Type 0 where
-  pub answers : AnswersMending b.file (content_of_superblock b) (AreAt kind at) t o new.first old.written new.written (count_in result)
-  pub shows : (m : Told) → new.first ≡ Some m → IfOk result (λ done. ShowsUnit b.file kind at check m.shown done.0.unit)
+-- what was mended of a unit that was due; the image shows it and the shelf holds it, where it didn't end there
+pub record MendsDue (b : Superblock) (kind : Kind) (at : Place) (check : List ℕ) (t o : Told) (old new : Outside) (shelf : Option Holding) (result : Result ℕ Ending) : Type 0 where
+  pub answers : AnswersMending b.file (content_of_superblock b) (AreAt kind at) t o new.first old.written new.written result
+  pub shows : (m : Told) → new.first ≡ Some m → IfOk result (λ n. ShowsHeld b.file kind at check m.shown shelf)
 
-module _ (b : Superblock) (kind : Kind) (at : Place) (check : List ℕ) (identity : Identity) (for : IsFor b.file kind at check identity) (t o : Told) (old new : Outside) (tell : Tell t o old) where
-  pub holds : (result : Result (Holding × ℕ) Ending) → IfOk result (λ done. HoldsShown kind identity old.first new.first done.0) → (m : Told) → new.first ≡ Some m → IfOk result (λ done. ShowsUnit b.file kind at check m.shown done.0.unit)
-  holds (Ok done) shown m is = shown b.file at check t m for tell.first is tell.whole
+-- what it lends is shown
+pub lent_shown : (file : DataFile) (kind : Kind) (at : Place) (check : List ℕ) (image : Image) (shelf : Option Holding) (held : Holding) → shelf ≡ Some held → ShowsHeld file kind at check image shelf → ShowsUnit file kind at check image held.unit
+lent_shown file kind at check image shelf held lent shows = subst (λ (h : Holding). ShowsUnit file kind at check image h.unit) (same_Some _ _ (sym shows.1 ∙ lent)) shows.2
+
+module _ (b : Superblock) (kind : Kind) (at : Place) (check : List ℕ) (identity : Identity) (for : IsFor b.file kind at check identity) (t o : Told) (old new : Outside) (tell : Tell t o old) (shelf : Option Holding) where
+  pub holds : (result : Result ℕ Ending) → IfOk result (λ n. HoldsShown kind identity old.first new.first shelf) → (m : Told) → new.first ≡ Some m → IfOk result (λ n. ShowsHeld b.file kind at check m.shown shelf)
+  holds (Ok n) shown m is = shown b.file at check t m for tell.first is tell.whole
   holds (Err e) shown m is = tt
 
-  pub due_mended : IsDue (shape b.file) (superblock_units b t.shown) (content_of_superblock b) kind at (number_of check) → (result : Result (Holding × ℕ) Ending) → MendsUnit kind identity old new (count_in result) → IfOk result (λ done. HoldsShown kind identity old.first new.first done.0)
-      → MendsDue b kind at check t o old new result
+  pub due_mended : IsDue (shape b.file) (superblock_units b t.shown) (content_of_superblock b) kind at (number_of check) → (result : Result ℕ Ending) → MendsUnit kind identity old new result → IfOk result (λ n. HoldsShown kind identity old.first new.first shelf)
+      → MendsDue b kind at check t o old new shelf result
   due_mended due result mends shown = record { answers = mends b.file (content_of_superblock b) at check t o for tell due; shows = holds result shown }
+
+-- one at most was mended, in a shelf of the file
+pub mended_back : (layout old new : Layout) (Found : Type 0) (result : Result ℕ Ending) → IfOk result (λ n. (new ≡ old) × Found × (n ≤ 1)) → old ≡ layout → IfOk result (λ n. (new ≡ layout) × (n ≤ 1))
+mended_back layout old new Found (Ok n) is same = (is.0 ∙ same, is.2)
+mended_back layout old new Found (Err e) is same = tt
 
 -- one of its kind
 pub of_one : (b : Superblock) (kind : Kind) (at : Place) (t o : Told) (old new : Outside) (result : Result ℕ Ending) (Shows : Units → Type 0) → AnswersMending b.file (content_of_superblock b) (AreAt kind at) t o new.first old.written new.written result

@@ -1,5 +1,5 @@
 -- Units that are mended one after the other, what that writes and prints, and how it ends.
-use Rattle.std.specs.Prelude.{◌≡◌, ◌≤◌, ◌+◌, ◌-◌, ℕ, List, [], ◌∷◌, ◌++◌, drop, length, replicate, Option, Some, Result, Ok, Err}
+use Rattle.std.specs.Prelude.{◌≡◌, ◌≤◌, ◌+◌, ℕ, List, [], ◌∷◌, ◌++◌, length, Option, Some, Result, Ok, Err}
 use Rattle.df_base.specs.Image.{Image}
 use Rattle.df_base.specs.Log.{Event, Sync, Write}
 use Rattle.df_base.specs.Streams.{Appends, AppendsPart}
@@ -8,6 +8,7 @@ use Rattle.df_disk.specs.Told.{Told}
 use Rattle.df_format.specs.declared.kind.Kind.{Kind}
 use Rattle.df_format.specs.declared.kind.Kind.TheVariants.{Block as AsBlock, Prepare, Reply, Reserved, Trailer}
 use Rattle.df_format.specs.Message.{Message}
+use Rattle.df_buffers.specs.Sounds.{EndsInZeros}
 use Rattle.df_layout.specs.declared.damage.Class.{Class}
 use Rattle.df_layout.specs.declared.places.Place.{Place as FilePlace}
 use Rattle.df_theory.specs.Device.{IsPut}
@@ -37,10 +38,6 @@ pub record Mend : Type 0 where
   pub place : Place
   pub unit : AnyUnit
   pub bytes : List ℕ
-
--- after so many bytes there are zeros
-abbrev pub EndsInZeros : ℕ → List ℕ → Type 0
-EndsInZeros size bytes = drop size bytes ≡ replicate (length bytes - size) 0
 
 -- it is known and not shown, no known unit that is shown stands at its place, the second file shows it there, its sectors bring it and touch no other place, and hold zeros after its header and its body
 pub record IsMend (file : DataFile) (c : Content) (shown second : Image) (m : Mend) : Type 0 where

@@ -65,6 +65,11 @@ abbrev pub WalkGoesOn : Superblock → (at : Link) → (read : List Link) → �
 WalkGoesOn b at read index u (Ok walk) = IsLink (shape b.file) (content_of_superblock b) index (block_of u) × (walk.at ≡ before_of u) × (walk.read.items ≡ read ++ at ∷ [])
 WalkGoesOn b at read index u (Err e) = (e ≡ broken_at at.address) × (IsLink (shape b.file) (content_of_superblock b) index (block_of u) → ⊥)
 
+-- how many were mended, beside the walk
+abbrev pub counted_in : Result (Walk × ℕ) Ending → Result ℕ Ending
+counted_in (Ok done) = Ok done.1
+counted_in (Err e) = Err e
+
 -- the walk goes on, where the link is mended
 abbrev pub WalksTo : Superblock → ℕ → Result (Walk × ℕ) Ending → Units → Type 0
 WalksTo b n result image = IfOk result (λ done. HasWalkedChain b image n done.0)

@@ -9,27 +9,26 @@ ghost use Rattle.df_mirror.specs.Known.{AreShown};
 ghost use Rattle.df_mirror.specs.Mends.{AreOfKind};
 ghost use Rattle.df_mirror.specs.Outside.{Tell, around, counts};
 ghost use Rattle.df_mirror.specs.Statuses.{AreBlamed};
-ghost use Rattle.df_mirror.specs.Taking.{count_in};
-ghost use Rattle.df_mirror.specs.Walks.{HasWalkedChain, IsInsideGrid, Mended, WalkGoesOn, WalksTo, broken_at, content_of_superblock, superblock_units};
+ghost use Rattle.df_mirror.specs.Walks.{HasWalkedChain, IsInsideGrid, Mended, WalkGoesOn, WalksTo, broken_at, content_of_superblock, counted_in, superblock_units};
 
 use crate::ending::Ending;
 use crate::superblock::Superblock;
 use crate::unit::mend_unit;
 use arrayvec::ArrayVec;
 use df_base::Sink;
-use df_buffers::{Raw, Sound, Trailer};
+use df_buffers::{Sound, Trailer};
 use df_checkpoint::{Link, block_count, is_among, link_before};
 use df_disk::Disk;
 use df_grid::{chains_have_room, known_at};
 use df_layout::{Field, LINKS};
 use df_model::OpenError;
+use df_places::Shelf;
 
-/// How far the chain was walked: the block that is wanted next, and those that were read before it; and the room that blocks are read into.
+/// How far the chain was walked: the block that is wanted next, and those that were read before it.
 #[derive(Drop)]
 pub(crate) struct Walk {
     pub(crate) at: Link,
     pub(crate) read: ArrayVec<Link, LINKS>,
-    pub(crate) room: Raw<Trailer>,
 }
 
 // A block that isn't the link that the chain asks for.
@@ -50,23 +49,18 @@ fn go_on(
     at: Link,
     read: ArrayVec<Link, LINKS>,
     index: u64,
-    unit: Sound<Trailer>,
+    unit: &Sound<Trailer>,
 ) -> Result<Walk, Ending>
     requires few { array_vec_len read + index < 70 }
-    ensures goes { WalkGoesOn base.now at read.items index unit.unit result }
+    ensures goes { WalkGoesOn base.now at read.items index unit.now.unit result }
     ensures inside { IfOk result (λ walk. 0 < index → IsInsideGrid base.now walk.at.address) }
     ensures more { IfOk result (λ walk. array_vec_len walk.read ≡ array_vec_len read + 1) }
-    ensures room { IfOk result (λ walk. walk.room.layout ≡ unit.layout) }
 {
     let mut read = read;
-    match link_before(&base.file.layout, base.content.fields(), index, &unit) {
+    match link_before(&base.file.layout, base.content.fields(), index, unit) {
         Some(before) => {
             read.push(at);
-            Ok(Walk {
-                at: before,
-                read,
-                room: unit.loosen(),
-            })
+            Ok(Walk { at: before, read })
         }
         None => Err(broken(at.address)),
     }
@@ -78,33 +72,29 @@ fn mend_link<A: Disk, B: Disk, W: Sink>(
     second: &mut B,
     sink: &mut W,
     base: &Superblock,
+    shelf: &mut Shelf<Trailer>,
     walk: Walk,
     index: u64,
 ) -> Result<(Walk, u64), Ending>
     requires inside { IsInsideGrid base.now walk.at.address }
     requires few { array_vec_len walk.read + index < 70 }
-    requires room { walk.room.layout ≡ base.now.file.layout }
+    requires layout { shelf.old.layout ≡ base.now.file.layout }
     ensures mends { (t o : Told) (n : ℕ) → Tell t o (around (A.told first.old) (B.told second.old) (W.written sink.old)) → IsCount (base.now.file.layout.block_size - 256) base.now.content.trailer_size n
         → n ≡ length walk.read.items + (index + 1) → HasWalkedChain base.now (superblock_units base.now t.shown) n walk
-        → Mended base.now (AreOfKind AsTrailer) t o (around (A.told first.old) (B.told second.old) (W.written sink.old)) (around (A.told first.new) (B.told second.new) (W.written sink.new)) (count_in result) (WalksTo base.now n result) }
+        → Mended base.now (AreOfKind AsTrailer) t o (around (A.told first.old) (B.told second.old) (W.written sink.old)) (around (A.told first.new) (B.told second.new) (W.written sink.new)) (counted_in result) (WalksTo base.now n result) }
     ensures inside { IfOk result (λ done. 0 < index → IsInsideGrid base.now done.0.at.address) }
-    ensures more { IfOk result (λ done. (array_vec_len done.0.read ≡ array_vec_len walk.read + 1) × (done.0.room.layout ≡ base.now.file.layout) × (done.1 ≤ 1)) }
+    ensures more { IfOk result (λ done. (array_vec_len done.0.read ≡ array_vec_len walk.read + 1) × (shelf.new.layout ≡ base.now.file.layout) × (done.1 ≤ 1)) }
     ensures same { B.told second.new ≡ B.told second.old }
     ensures blamed { AreBlamed (counts (A.faults first.old) (B.faults second.old) (W.faults sink.old)) (counts (A.faults first.new) (B.faults second.new) (W.faults sink.new)) result }
 {
-    let Walk { at, read, room } = walk;
+    let Walk { at, read } = walk;
     if is_among(&read, at.address) {
         return Err(broken(at.address));
     }
     let checksum = at.checksum;
-    match mend_unit(
-        first,
-        second,
-        sink,
-        room,
-        &known_at(&base.file.layout, base.file.cluster, at.address, checksum),
-    ) {
-        Ok((unit, more)) => match go_on(base, at, read, index, unit) {
+    let wanted = known_at(&base.file.layout, base.file.cluster, at.address, checksum);
+    match mend_unit(first, second, sink, shelf, &wanted) {
+        Ok(more) => match go_on(base, at, read, index, shelf.unit()) {
             Ok(next) => Ok((next, more)),
             Err(ending) => Err(ending),
         },
@@ -129,9 +119,9 @@ pub(crate) fn mend_chain<A: Disk, B: Disk, W: Sink>(
     second: &mut B,
     sink: &mut W,
     base: &Superblock,
-    room: Raw<Trailer>,
+    shelf: &mut Shelf<Trailer>,
 ) -> Result<u64, Ending>
-    requires room { room.layout ≡ base.now.file.layout }
+    requires layout { shelf.old.layout ≡ base.now.file.layout }
     ensures mends { (t o : Told) → Tell t o (around (A.told first.old) (B.told second.old) (W.written sink.old))
         → Mended base.now (AreOfKind AsTrailer) t o (around (A.told first.old) (B.told second.old) (W.written sink.old)) (around (A.told first.new) (B.told second.new) (W.written sink.new)) result (λ image. AreShown (shape base.now.file) image (content_of_superblock base.now) AsTrailer) }
     ensures few { IfOk result (λ mended. mended ≤ 70) }
@@ -147,11 +137,10 @@ pub(crate) fn mend_chain<A: Disk, B: Disk, W: Sink>(
             checksum,
         },
         read: ArrayVec::new(),
-        room,
     };
     let count = count_of(base);
     for done in 0..count {
-        match mend_link(first, second, sink, base, walk, count - 1 - done) {
+        match mend_link(first, second, sink, base, shelf, walk, count - 1 - done) {
             Ok((next, more)) => {
                 walk = next;
                 mended += more;

@@ -17,6 +17,7 @@ use df_disk::Disk;
 use df_format::Super;
 use df_layout::Layout;
 use df_opening::{DataFile, OpenError, Rooms, survey_superblock};
+use df_places::Shelf;
 use df_program::{end_with, refuse_file};
 use std::alloc::Global;
 
@@ -51,8 +52,8 @@ fn reserve(alloc: Global, layout: &Layout) -> Result<Reserved, OutOfMemory>
     let block = Raw::reserve(alloc, layout)?;
     Ok(Reserved {
         rooms,
-        trailer,
-        block,
+        trailer: Shelf::over(*layout, trailer),
+        block: Shelf::over(*layout, block),
     })
 }
 

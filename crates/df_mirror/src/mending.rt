@@ -1,5 +1,5 @@
 // All known units, in their order: the trailer, what it references, the prepares, and the replies.
-ghost use Rattle.std.specs.Prelude.{◌≡◌, ◌≤◌, ◌+◌, ◌^◌, length, IfOk};
+ghost use Rattle.std.specs.Prelude.{◌≡◌, ◌≤◌, ◌+◌, length, IfOk};
 ghost use Rattle.df_disk.specs.Told.{Told};
 ghost use Rattle.df_opening.specs.Below.{shape};
 ghost use Rattle.df_sessions.specs.Requests.{sessions_of};
@@ -18,9 +18,10 @@ use crate::sessions::sessions_at_head;
 use crate::superblock::Superblock;
 use crate::trailer::read_trailer;
 use df_base::Sink;
-use df_buffers::{Block, Raw, Trailer};
+use df_buffers::{Block, Trailer};
 use df_disk::Disk;
 use df_journal::{Start, scan};
+use df_places::Shelf;
 use df_rooms::{LogRooms, Rooms};
 use df_sessions::SessionTable;
 
@@ -28,22 +29,8 @@ use df_sessions::SessionTable;
 #[derive(Drop)]
 pub(crate) struct Reserved {
     pub(crate) rooms: Rooms,
-    pub(crate) trailer: Raw<Trailer>,
-    pub(crate) block: Raw<Block>,
-}
-
-// Where the scan of the ring of prepares begins.
-fn start_of(base: &Superblock) -> Start
-    ensures op { result.op ≤ 2 ^ 62 }
-    ensures cluster { result.cluster ≡ base.now.file.cluster }
-{
-    let fields = base.content.fields();
-    Start {
-        cluster: fields.cluster,
-        op: fields.op,
-        head: fields.head,
-        boot: fields.boot,
-    }
+    pub(crate) trailer: Shelf<Trailer>,
+    pub(crate) block: Shelf<Block>,
 }
 
 // Mends the prepares, and then the replies.
@@ -68,24 +55,24 @@ fn mend_log<A: Disk, B: Disk, W: Sink>(
         layout,
         superblock: _,
         mut sector,
-        prepare,
-        reply,
+        mut prepare,
+        mut reply,
         headers: _,
         mut slots,
         replies: _,
         mends: _,
     } = rooms;
-    let (room, prepares) = match mend_prepares(first, second, sink, base, prepare.into_room()) {
-        Ok(done) => done,
+    let prepares = match mend_prepares(first, second, sink, base, &mut prepare) {
+        Ok(mended) => mended,
         Err(ending) => return Err(ending),
     };
-    let start = start_of(base);
+    let start = Start::of(base.content.fields());
+    let room = prepare.into_room();
     let (_, done) = scan(first, &layout, &start, &mut slots, &mut sector, room);
     match done {
         Ok(()) => {
             let sessions = sessions_at_head(base, &slots, sessions);
-            let reply = reply.into_room();
-            match mend_replies(first, second, sink, base, &slots, &sessions, reply) {
+            match mend_replies(first, second, sink, base, &slots, &sessions, &mut reply) {
                 Ok(replies) => Ok(prepares + replies),
                 Err(ending) => Err(ending),
             }
@@ -112,11 +99,11 @@ pub(crate) fn mend_all<A: Disk, B: Disk, W: Sink>(
 {
     let Reserved {
         rooms,
-        trailer,
-        block,
+        mut trailer,
+        mut block,
     } = reserved;
     let (log, grid, room, _, _) = rooms.into_parts();
-    let chain = match mend_chain(first, second, sink, base, trailer) {
+    let chain = match mend_chain(first, second, sink, base, &mut trailer) {
         Ok(mended) => mended,
         Err(ending) => return Err(ending),
     };
@@ -124,7 +111,7 @@ pub(crate) fn mend_all<A: Disk, B: Disk, W: Sink>(
         Ok(found) => found,
         Err(ending) => return Err(ending),
     };
-    let blocks = match mend_blocks(first, second, sink, base, &found.grid, block) {
+    let blocks = match mend_blocks(first, second, sink, base, &found.grid, &mut block) {
         Ok(mended) => mended,
         Err(ending) => return Err(ending),
     };

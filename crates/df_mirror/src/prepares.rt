@@ -10,17 +10,17 @@ ghost use Rattle.df_units.specs.Meaning.{place_of};
 ghost use Rattle.df_mirror.specs.Mends.{AreOfKind};
 ghost use Rattle.df_mirror.specs.Outside.{Tell, around, counts};
 ghost use Rattle.df_mirror.specs.Statuses.{AreBlamed};
-ghost use Rattle.df_mirror.specs.Taking.{count_in};
 ghost use Rattle.df_mirror.specs.Walks.{Mended, ShowsNamed};
 
 use crate::ending::Ending;
 use crate::superblock::Superblock;
 use crate::unit::mend_unit;
 use df_base::{Check, Sink};
-use df_buffers::{Identity, Prepare, Raw, Wanted};
+use df_buffers::{Identity, Prepare};
 use df_disk::Disk;
 use df_journal::slot_of;
 use df_layout::{Place, Zone};
+use df_places::Shelf;
 
 // The prepare of an op, by its checksum.
 fn prepare_at(base: &Superblock, op: u64, checksum: Check) -> Identity
@@ -28,47 +28,41 @@ fn prepare_at(base: &Superblock, op: u64, checksum: Check) -> Identity
     ensures place { HasPlace result.layout result.place }
     ensures check { IsCheck checksum }
 {
-    Identity {
-        layout: base.file.layout,
-        cluster: base.file.cluster,
-        place: Place {
-            zone: Zone::WalPrepares,
-            index: u64::from(slot_of(&base.file.layout, op)),
-        },
-        wanted: Wanted::Checksum(checksum),
-    }
+    let place = Place {
+        zone: Zone::WalPrepares,
+        index: u64::from(slot_of(&base.file.layout, op)),
+    };
+    Identity::known(&base.file.layout, base.file.cluster, place, checksum)
 }
 
-/// Mends the prepares that the superblock names, from its head down to the one above its checkpoint. Answers how many were written, with the room.
+/// Mends the prepares that the superblock names, from its head down to the one above its checkpoint. Answers how many were written.
 pub(crate) fn mend_prepares<A: Disk, B: Disk, W: Sink>(
     first: &mut A,
     second: &mut B,
     sink: &mut W,
     base: &Superblock,
-    room: Raw<Prepare>,
-) -> Result<(Raw<Prepare>, u64), Ending>
-    requires room { room.layout ≡ base.now.file.layout }
+    shelf: &mut Shelf<Prepare>,
+) -> Result<u64, Ending>
+    requires layout { shelf.old.layout ≡ base.now.file.layout }
     ensures mends { (t o : Told) → Tell t o (around (A.told first.old) (B.told second.old) (W.written sink.old))
-        → Mended base.now (AreOfKind AsPrepare) t o (around (A.told first.old) (B.told second.old) (W.written sink.old)) (around (A.told first.new) (B.told second.new) (W.written sink.new)) (count_in result) (ShowsNamed base.now) }
-    ensures back { IfOk result (λ done. (done.0.layout ≡ base.now.file.layout) × (done.1 ≤ base.now.file.layout.slots)) }
+        → Mended base.now (AreOfKind AsPrepare) t o (around (A.told first.old) (B.told second.old) (W.written sink.old)) (around (A.told first.new) (B.told second.new) (W.written sink.new)) result (ShowsNamed base.now) }
+    ensures back { IfOk result (λ mended. (shelf.new.layout ≡ base.now.file.layout) × (mended ≤ base.now.file.layout.slots)) }
     ensures same { B.told second.new ≡ B.told second.old }
     ensures blamed { AreBlamed (counts (A.faults first.old) (B.faults second.old) (W.faults sink.old)) (counts (A.faults first.new) (B.faults second.new) (W.faults sink.new)) result }
 {
     let fields = base.content.fields();
-    let mut room = room;
     let mut named = fields.head_checksum;
     let mut op = fields.head;
     let mut mended = 0;
     while fields.op < op {
-        match mend_unit(first, second, sink, room, &prepare_at(base, op, named)) {
-            Ok((unit, more)) => {
-                named = unit.header().parent;
-                room = unit.loosen();
+        match mend_unit(first, second, sink, shelf, &prepare_at(base, op, named)) {
+            Ok(more) => {
+                named = shelf.unit().header().parent;
                 mended += more;
             }
             Err(ending) => return Err(ending),
         }
         op -= 1;
     }
-    Ok((room, mended))
+    Ok(mended)
 }

@@ -11,7 +11,6 @@ ghost use Rattle.df_mirror.specs.Known.{AreShown};
 ghost use Rattle.df_mirror.specs.Mends.{AreOfKind};
 ghost use Rattle.df_mirror.specs.Outside.{Tell, around, counts};
 ghost use Rattle.df_mirror.specs.Statuses.{AreBlamed};
-ghost use Rattle.df_mirror.specs.Taking.{count_in};
 ghost use Rattle.df_mirror.specs.Walks.{HasHead, IsNewer, Mended, MendsRecorded, ShowsKnownReplies, content_of_superblock, superblock_units};
 
 use crate::ending::Ending;
@@ -19,12 +18,12 @@ use crate::sessions::has_later;
 use crate::superblock::Superblock;
 use crate::unit::mend_unit;
 use df_base::{Check, Sink};
-use df_buffers::{Identity, Raw, Reply, Wanted};
+use df_buffers::{Identity, Reply};
 use df_disk::Disk;
 use df_format::Header;
 use df_journal::SlotTable;
 use df_layout::{Class, Place, Zone};
-use df_places::scan_place;
+use df_places::Shelf;
 use df_sessions::SessionTable;
 
 // The reply in the slot of a session, by its checksum.
@@ -32,15 +31,11 @@ fn reply_at(base: &Superblock, place: u64, checksum: Check) -> Identity
     ensures identity { result ≡ record { layout = base.now.file.layout; cluster = base.now.file.cluster; place = place_of (ReplyPlace place); wanted = WithChecksum checksum } }
     ensures check { IsCheck checksum }
 {
-    Identity {
-        layout: base.file.layout,
-        cluster: base.file.cluster,
-        place: Place {
-            zone: Zone::ClientReplies,
-            index: place,
-        },
-        wanted: Wanted::Checksum(checksum),
-    }
+    let place = Place {
+        zone: Zone::ClientReplies,
+        index: place,
+    };
+    Identity::known(&base.file.layout, base.file.cluster, place, checksum)
 }
 
 // Whether what is seen in a slot is a reply of the superblock's boot above those that it records.
@@ -64,46 +59,36 @@ fn recorded_at(base: &Superblock, place: u64) -> Check
     base.content.fields().reply_checksums[place as usize]
 }
 
-// Mends the reply of a session that the superblock recorded, where its slot shows nothing newer. The room comes back.
+// Mends the reply of a session that the superblock recorded, where its slot shows nothing newer. Answers how many were written, 0 or 1.
 fn mend_recorded<A: Disk, B: Disk, W: Sink>(
     first: &mut A,
     second: &mut B,
     sink: &mut W,
     base: &Superblock,
-    room: Raw<Reply>,
+    shelf: &mut Shelf<Reply>,
     place: u64,
     checksum: Check,
-) -> Result<(Raw<Reply>, u64), Ending>
+) -> Result<u64, Ending>
     requires place { place < base.now.file.layout.clients }
-    requires room { room.layout ≡ base.now.file.layout }
-    ensures mends { (t o : Told) → Tell t o (around (A.told first.old) (B.told second.old) (W.written sink.old)) → MendsRecorded base.now place checksum t o (around (A.told first.old) (B.told second.old) (W.written sink.old)) (around (A.told first.new) (B.told second.new) (W.written sink.new)) (count_in result) }
-    ensures back { IfOk result (λ done. (done.0.layout ≡ base.now.file.layout) × (done.1 ≤ 1)) }
+    requires layout { shelf.old.layout ≡ base.now.file.layout }
+    ensures mends { (t o : Told) → Tell t o (around (A.told first.old) (B.told second.old) (W.written sink.old)) → MendsRecorded base.now place checksum t o (around (A.told first.old) (B.told second.old) (W.written sink.old)) (around (A.told first.new) (B.told second.new) (W.written sink.new)) result }
+    ensures back { IfOk result (λ more. (shelf.new.layout ≡ base.now.file.layout) × (more ≤ 1)) }
     ensures same { B.told second.new ≡ B.told second.old }
     ensures blamed { AreBlamed (counts (A.faults first.old) (B.faults second.old) (W.faults sink.old)) (counts (A.faults first.new) (B.faults second.new) (W.faults sink.new)) result }
 {
     let wanted = reply_at(base, place, checksum);
-    let (room, seen) = scan_place(
-        first,
-        &base.file.layout,
-        base.file.cluster,
-        wanted.place,
-        room,
-    );
-    match seen {
+    match shelf.see(first, base.file.cluster, wanted.place) {
         Ok(seen) => {
             if is_newer(base, &seen) {
-                return Ok((room, 0));
+                return Ok(0);
             }
-            match mend_unit(first, second, sink, room, &wanted) {
-                Ok((unit, more)) => Ok((unit.loosen(), more)),
-                Err(ending) => Err(ending),
-            }
+            mend_unit(first, second, sink, shelf, &wanted)
         }
         Err(_) => Err(Ending::First),
     }
 }
 
-// Mends the reply of the session at a place, where it is known by the checksum that the superblock recorded: nothing newer of its boot is shown.
+// Mends the reply of the session at a place, where it is known by the checksum that the superblock recorded: nothing newer of its boot is shown. Answers how many were written, 0 or 1.
 fn mend_reply<A: Disk, B: Disk, W: Sink>(
     first: &mut A,
     second: &mut B,
@@ -111,32 +96,32 @@ fn mend_reply<A: Disk, B: Disk, W: Sink>(
     base: &Superblock,
     slots: &SlotTable,
     sessions: &SessionTable,
-    room: Raw<Reply>,
+    shelf: &mut Shelf<Reply>,
     place: u64,
-) -> Result<(Raw<Reply>, u64), Ending>
+) -> Result<u64, Ending>
     requires place { (place < length sessions.now.sessions) × (place < base.now.file.layout.clients) }
     requires places { sessions.now.max ≡ base.now.file.layout.clients }
     requires table { length slots.now.slots ≡ base.now.file.layout.slots }
-    requires room { room.layout ≡ base.now.file.layout }
+    requires layout { shelf.old.layout ≡ base.now.file.layout }
     ensures mends { (t o : Told) → Tell t o (around (A.told first.old) (B.told second.old) (W.written sink.old)) → ShowsKnownReplies base.now (superblock_units base.now t.shown) slots.now sessions.now place
-        → Mended base.now (AreOfKind AsReply) t o (around (A.told first.old) (B.told second.old) (W.written sink.old)) (around (A.told first.new) (B.told second.new) (W.written sink.new)) (count_in result) (λ image. ShowsKnownReplies base.now image slots.now sessions.now (place + 1)) }
-    ensures back { IfOk result (λ done. (done.0.layout ≡ base.now.file.layout) × (done.1 ≤ 1)) }
+        → Mended base.now (AreOfKind AsReply) t o (around (A.told first.old) (B.told second.old) (W.written sink.old)) (around (A.told first.new) (B.told second.new) (W.written sink.new)) result (λ image. ShowsKnownReplies base.now image slots.now sessions.now (place + 1)) }
+    ensures back { IfOk result (λ more. (shelf.new.layout ≡ base.now.file.layout) × (more ≤ 1)) }
     ensures same { B.told second.new ≡ B.told second.old }
     ensures blamed { AreBlamed (counts (A.faults first.old) (B.faults second.old) (W.faults sink.old)) (counts (A.faults first.new) (B.faults second.new) (W.faults sink.new)) result }
 {
     let checksum = recorded_at(base, place);
     if checksum == [0; 16] {
-        return Ok((room, 0));
+        return Ok(0);
     }
     match sessions.get(place) {
         Some(session) => {
             if has_later(base, slots, session.client) {
-                Ok((room, 0))
+                Ok(0)
             } else {
-                mend_recorded(first, second, sink, base, room, place, checksum)
+                mend_recorded(first, second, sink, base, shelf, place, checksum)
             }
         }
-        None => Ok((room, 0)),
+        None => Ok(0),
     }
 }
 
@@ -148,25 +133,21 @@ pub(crate) fn mend_replies<A: Disk, B: Disk, W: Sink>(
     base: &Superblock,
     slots: &SlotTable,
     sessions: &SessionTable,
-    room: Raw<Reply>,
+    shelf: &mut Shelf<Reply>,
 ) -> Result<u64, Ending>
     requires places { sessions.now.max ≡ base.now.file.layout.clients }
     requires table { length slots.now.slots ≡ base.now.file.layout.slots }
-    requires room { room.layout ≡ base.now.file.layout }
+    requires layout { shelf.old.layout ≡ base.now.file.layout }
     ensures mends { (t o : Told) → Tell t o (around (A.told first.old) (B.told second.old) (W.written sink.old)) → HasHead base.now (superblock_units base.now t.shown) slots.now sessions.now
         → Mended base.now (AreOfKind AsReply) t o (around (A.told first.old) (B.told second.old) (W.written sink.old)) (around (A.told first.new) (B.told second.new) (W.written sink.new)) result (λ image. AreShown (shape base.now.file) image (content_of_superblock base.now) AsReply) }
     ensures few { IfOk result (λ mended. mended ≤ 64) }
     ensures same { B.told second.new ≡ B.told second.old }
     ensures blamed { AreBlamed (counts (A.faults first.old) (B.faults second.old) (W.faults sink.old)) (counts (A.faults first.new) (B.faults second.new) (W.faults sink.new)) result }
 {
-    let mut room = room;
     let mut mended = 0;
     for place in 0..sessions.len() {
-        match mend_reply(first, second, sink, base, slots, sessions, room, place) {
-            Ok((back, more)) => {
-                room = back;
-                mended += more;
-            }
+        match mend_reply(first, second, sink, base, slots, sessions, shelf, place) {
+            Ok(more) => mended += more,
             Err(ending) => return Err(ending),
         }
     }

@@ -65,8 +65,7 @@ fn read_named<A: Disk>(
     requires grid { grid.old ≡ empty_grid base.now }
     requires rooms { rooms.layout ≡ base.now.file.layout }
     ensures reads { (t : Told) → A.told first.old ≡ Some t → IsImage t.shown → ReadsNamed base.now t.shown grid.new result }
-    ensures each { IfOk result (λ sessions. AreReadSessions base.now.file.layout.clients base.now.content.op sessions.items) }
-    ensures layout { grid.new.layout ≡ grid.old.layout }
+    ensures fits { IfOk result (λ sessions. (grid.new.layout ≡ base.now.file.layout) × AreReadSessions base.now.file.layout.clients base.now.content.op sessions.items) }
     ensures same { A.told first.new ≡ A.told first.old }
     ensures cause { IsBlamed is_first (A.faults first.old) (A.faults first.new) result }
     ensures own { IfErr result IsOfFirst }

@@ -6,7 +6,7 @@ use Rattle.df_mirror.proofs.Turns.{begins, comes_to, goes_on, stops}
 use Rattle.df_mirror.proofs.blocks.mend_blocks.Goals as goal
 
 pub loop-before-init : goal.loop-before-init
-loop-before-init g c = begins c.requires.room (none_yet c.args.base.now c.args.grid.now)
+loop-before-init g c = begins c.requires.layout (none_yet c.args.base.now c.args.grid.now)
 
 pub returns-in-Err-clause-mends : goal.returns-in-Err-clause-mends
 returns-in-Err-clause-mends g c = λ ss t o tell has. stops c.loop-before.invariant c.in-Err.ending c.in-Err.ensures.mends ss t o tell has _

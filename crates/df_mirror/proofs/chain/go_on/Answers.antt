@@ -8,11 +8,11 @@ use Rattle.df_mirror.proofs.chain.go_on.Goals as goal
 pub returns-in-Some-clause-goes : goal.returns-in-Some-clause-goes
 returns-in-Some-clause-goes c =
     let b = c.args.base.now in
-    let is = subst (λ (f : SuperFields). IsLinkOf b.file.layout f c.args.index c.args.unit.unit) c.fields.ensures.value c.in-Some.ensures.link.0 in
+    let is = subst (λ (f : SuperFields). IsLinkOf b.file.layout f c.args.index c.args.unit.now.unit) c.fields.ensures.value c.in-Some.ensures.link.0 in
     (is (shape b.file) refl, c.in-Some.ensures.link.1, c.push.ensures.items)
 
 pub returns-in-None-clause-goes : goal.returns-in-None-clause-goes
 returns-in-None-clause-goes c =
     let b = c.args.base.now in
-    let none = subst (λ (f : SuperFields). IsNoLink b.file.layout f c.args.index c.args.unit.unit) c.fields.ensures.value c.in-None.ensures.none in
+    let none = subst (λ (f : SuperFields). IsNoLink b.file.layout f c.args.index c.args.unit.now.unit) c.fields.ensures.value c.in-None.ensures.none in
     (c.broken.ensures, none (shape b.file) refl)

@@ -13,7 +13,7 @@ pub loop-done-init : goal.loop-done-init
 loop-done-init g c =
     let named = c.fields-fields.ensures.value in
     record {
-      walked = begins c.requires.room (λ x t is. record { chain = []; addresses = ap (map (λ r. r.address)) c.new.ensures; arrives = (ap (λ (f : SuperFields). f.trailer_address) named, ap (λ (f : SuperFields). number_of f.trailer_checksum) named); links = tt });
+      walked = begins c.requires.layout (λ x t is. record { chain = []; addresses = ap (map (λ r. r.address)) c.new.ensures; arrives = (ap (λ (f : SuperFields). f.trailer_address) named, ap (λ (f : SuperFields). number_of f.trailer_checksum) named); links = tt });
       few = c.count_of-count.ensures.few;
       size = ap length c.new.ensures;
       inside = λ some. subst (λ (f : SuperFields). IsInsideGrid c.args.base.now f.trailer_address) (sym named) (c.count_of-count.ensures.inside some);

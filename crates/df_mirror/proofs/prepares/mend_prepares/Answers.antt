@@ -2,9 +2,10 @@
 use Rattle.std.proofs.Common.{◌∙◌, ◌<◌, ◌≤◌, ap, arith, subst, sym}
 use Rattle.df_format.specs.declared.superblock.SuperFields.{SuperFields}
 use Rattle.df_buffers.specs.declared.identity.Identity.{Identity}
-use Rattle.df_buffers.specs.Rooms.{Room}
+use Rattle.df_format.specs.declared.kind.Kind.TheVariants.{Prepare}
 use Rattle.df_units.specs.Meaning.{number_of}
 use Rattle.df_mirror.specs.Walks.{NamesPreparesFrom, superblock_units}
+use Rattle.df_mirror.proofs.Loaded.{held_some}
 use Rattle.df_mirror.proofs.Named.{names_all, names_head, prepare_failed, prepare_mended}
 use Rattle.df_mirror.proofs.Turns.{begins, comes_to, goes_on, stops}
 use Rattle.df_mirror.proofs.prepares.mend_prepares.Goals as goal
@@ -16,7 +17,7 @@ loop-op-init g c =
     record {
       low = subst (λ (f : SuperFields). f.op ≤ f.head) fields c.fields-fields.ensures.usable.rules.head.0;
       high = omega arith;
-      walked = begins c.requires.room (λ x t is. subst (λ (f : SuperFields). NamesPreparesFrom b (superblock_units b t.shown) f.head (number_of f.head_checksum)) fields (names_head b (superblock_units b t.shown)));
+      walked = begins c.requires.layout (λ x t is. subst (λ (f : SuperFields). NamesPreparesFrom b (superblock_units b t.shown) f.head (number_of f.head_checksum)) fields (names_head b (superblock_units b t.shown)));
     }
 
 pub mend_unit-requires-clause-layout : goal.mend_unit-requires-clause-layout
@@ -42,9 +43,9 @@ loop-op-preserved g c =
       low = omega arith;
       high = omega (arith, now.invariant.high);
       walked = goes_on now.invariant.walked did.same did.blamed
-          (ap (λ (r : Room). r.layout) c.loosen-room.ensures ∙ did.unit.0 ∙ ap (λ (i : Identity). i.layout) c.prepare_at.ensures.identity) (omega (arith, now.invariant.walked.few, now.invariant.high, did.unit.2))
+          (did.unit.0 ∙ now.invariant.walked.room_is) (omega (arith, now.invariant.walked.few, now.invariant.high, did.unit.2))
           (λ x m o on from. prepare_mended c.args.base.now c.fields-fields.ensures.usable now.op now.named above c.prepare_at.result (record { is = c.prepare_at.ensures.identity; stands = tt; fits = c.prepare_at.ensures.check }) m o _ _ on from
-          c.in-Ok.unit c.in-Ok.more did.mends did.shown c.header.result.now c.header.ensures.header);
+          c.unit.result.now c.mend_unit.new.shelf.held c.unit.ensures c.in-Ok.more did.mends did.shown c.header.result.now c.header.ensures.header);
     }
 
 pub returns-clause-mends : goal.returns-clause-mends
@@ -56,3 +57,6 @@ pub returns-clause-back : goal.returns-clause-back
 returns-clause-back g c =
     let i = c.loop-op.invariant in
     (i.walked.room_is, omega (arith, i.walked.few, i.low, ap (λ (f : SuperFields). f.op) c.fields-fields.ensures.value, ap (λ (f : SuperFields). f.head) c.fields-fields.ensures.value, c.fields-fields.ensures.usable.rules.head, c.args.base.now.fields.slots))
+
+pub unit-requires : goal.unit-requires
+unit-requires g c = held_some Prepare c.prepare_at.result c.mend_unit.new.shelf.held c.in-Ok.ensures.unit.1

@@ -14,7 +14,7 @@ invariant-loop-op g l = record {
   high : l.op ≤ l.fields.head;
   walked : Walked l.fn.base Prepare (around (g.A.Disk.told l.fn.first) (g.B.Disk.told l.fn.second) (g.W.Sink.written l.fn.sink)) (around (g.A.Disk.told l.first) (g.B.Disk.told l.second) (g.W.Sink.written l.sink))
       (counts (g.A.Disk.faults l.fn.first) (g.B.Disk.faults l.fn.second) (g.W.Sink.faults l.fn.sink)) (counts (g.A.Disk.faults l.first) (g.B.Disk.faults l.second) (g.W.Sink.faults l.sink))
-      l.room.layout l.mended (l.fields.head - l.op) (λ (x : Unit {0}) (t : Told). Unit {0}) (λ x image. NamesPreparesFrom l.fn.base image l.op (number_of l.named));
+      l.shelf.layout l.mended (l.fields.head - l.op) (λ (x : Unit {0}) (t : Told). Unit {0}) (λ x image. NamesPreparesFrom l.fn.base image l.op (number_of l.named));
 }
 
 abbrev pub decreases-loop-op : goal.decreases-loop-op

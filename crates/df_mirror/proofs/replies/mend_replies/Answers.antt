@@ -6,7 +6,7 @@ use Rattle.df_mirror.proofs.Turns.{begins, comes_to, goes_on, stops}
 use Rattle.df_mirror.proofs.replies.mend_replies.Goals as goal
 
 pub loop-place-init : goal.loop-place-init
-loop-place-init g c = begins c.requires.room (λ x t head. none_yet c.args.base.now (superblock_units c.args.base.now t.shown) c.args.slots.now c.args.sessions.now head)
+loop-place-init g c = begins c.requires.layout (λ x t head. none_yet c.args.base.now (superblock_units c.args.base.now t.shown) c.args.slots.now c.args.sessions.now head)
 
 pub mend_reply-requires-clause-place : goal.mend_reply-requires-clause-place
 mend_reply-requires-clause-place g c =

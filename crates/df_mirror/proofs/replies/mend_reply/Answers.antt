@@ -2,7 +2,6 @@
 use Rattle.std.proofs.Common.{◌≡◌, ◌∙◌, sym, refl, true, false}
 use Rattle.std.proofs.lemmas.Slice.Eq.{bytes_eq-Decides}
 use Rattle.df_format.specs.Spelling.{no_checksum}
-use Rattle.df_mirror.specs.Taking.{count_in}
 use Rattle.df_mirror.specs.Walks.{superblock_units}
 use Rattle.df_mirror.proofs.AtHead.{is_recorded, no_session, not_behind, not_named, reply_mended, reply_none}
 use Rattle.df_mirror.proofs.replies.mend_reply.Goals as goal
@@ -32,7 +31,7 @@ returns-else-has_later-clause-mends g c = λ t o tell shows.
     reply_mended b c.args.slots.now c.args.sessions.now c.args.place t o _ _ tell shows check.result check.ensures.sum
     (is_recorded b (superblock_units b t.shown) c.args.slots.now c.args.sessions.now c.args.place shows.has c.in-Some.session (sym c.get.ensures ∙ c.in-Some.is) check.result check.ensures.sum check.ensures.check
     (λ zeros. let clash : true ≡ false = sym (c.eq.ensures ∙ (bytes_eq-Decides check.result no_checksum).1 zeros) ∙ c.if-eq.false in cc)
-    (c.has_later.ensures.no (superblock_units b t.shown) shows.has.tells c.if-has_later.false)) (count_in c.mend_recorded.result) (c.mend_recorded.ensures.mends t o tell)
+    (c.has_later.ensures.no (superblock_units b t.shown) shows.has.tells c.if-has_later.false)) c.mend_recorded.result (c.mend_recorded.ensures.mends t o tell)
 
 pub returns-in-None-clause-mends : goal.returns-in-None-clause-mends
 returns-in-None-clause-mends g c = λ t o tell shows. absurd (no_session c.args.sessions.now.sessions c.args.place c.requires.place.0 (sym c.get.ensures ∙ c.in-None.is))

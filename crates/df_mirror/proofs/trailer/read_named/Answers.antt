@@ -28,7 +28,10 @@ returns-clause-reads g c = λ t told whole.
     (named_refused b t.shown c.read_chain.new.grid c.read_chain.new.grid c.read_chain.new.reader c.in-Err.fault
     (told_answer b c.args.grid.now c.read_chain.new.grid c.read_chain.new.reader (Err c.in-Err.fault) (g.A.Disk.told c.args.first.now) c.requires.grid (c.in-Err.ensures.answer (shape b.file) (ap layout_of (sym layout)) refl) t told))
 
-pub returns-in-Ok-clause-each : goal.returns-in-Ok-clause-each
-returns-in-Ok-clause-each g c =
+pub returns-in-Ok-clause-fits : goal.returns-in-Ok-clause-fits
+returns-in-Ok-clause-fits g c =
     let b = c.args.base.now in
-    complete_gives (λ (l : Layout) (op : ℕ). AreReadSessions l.clients op c.into_parts.result.sessions.items) c.args.grid.now b.content.op c.read_chain.new.reader b.file.layout c.in-Ok.ensures.complete (ap (λ (x : GridState). x.layout) c.requires.grid) c.into_parts.ensures.sessions
+    let layout = ap (λ (x : GridState). x.layout) c.requires.grid in (
+      c.in-Ok.ensures.grid.layout ∙ layout,
+      complete_gives (λ (l : Layout) (op : ℕ). AreReadSessions l.clients op c.into_parts.result.sessions.items) c.args.grid.now b.content.op c.read_chain.new.reader b.file.layout c.in-Ok.ensures.complete layout c.into_parts.ensures.sessions,
+    )

@@ -19,7 +19,7 @@ returns-then-fields-eq0-clause-reads g c = λ t told whole shown.
     subst (λ (x : GridState). HasTrailerText b (superblock_units b t.shown) x c.new-sessions.result.sessions) (sym (grid_is b c.into_grid-grid.result c.args.grid.layout c.into_grid-grid.ensures c.requires.grid)) (subst (λ (l : List Session). HasTrailerText b (superblock_units b t.shown) (empty_grid b) l) (sym c.new-sessions.ensures.empty) (no_text b (superblock_units b t.shown) c.fields-fields.ensures.usable.rules none))
 
 pub over-requires-clause-named : goal.over-requires-clause-named
-over-requires-clause-named g c = λ k s at zero. omega (arith, (c.in-Ok.ensures.each.each k s at).client, zero)
+over-requires-clause-named g c = λ k s at zero. omega (arith, (c.in-Ok.ensures.fits.1.each k s at).client, zero)
 
 pub returns-in-None-clause-reads : goal.returns-in-None-clause-reads
 returns-in-None-clause-reads g c = λ t told whole shown.

@@ -1,1 +1,0 @@
--- The head that a superblock names is far below the greatest number.
