@@ -1,28 +1,23 @@
 -- What a shelf holds of what was read, and a unit that is wanted is the theory's.
-use Rattle.std.proofs.Common.{◌≡◌, ◌≢◌, ℕ, ◌/◌, ◌*◌, List, length, Option, Some, None, refl, sym, ◌∙◌, ap, subst, arith}
+use Rattle.std.proofs.Common.{◌≡◌, ◌≢◌, ℕ, ◌/◌, ◌*◌, List, Option, Some, None, refl, sym, ◌∙◌, ap, subst}
 use Rattle.std.proofs.lemmas.Option.{same_Some}
 use Rattle.std.specs.Prelude.{IsSome}
-use Rattle.df_base.specs.Image.{Image, IsImage, bytes_at}
-use Rattle.df_disk.specs.Told.{Shows, Told}
+use Rattle.df_base.specs.Image.{Image, IsImage}
+use Rattle.df_disk.specs.Told.{Told}
 use Rattle.df_layout.specs.declared.damage.Class.{Class}
 use Rattle.df_layout.specs.declared.layout.Layout.{Layout}
-use Rattle.df_layout.specs.declared.places.Place.{Place as FilePlace}
 use Rattle.df_layout.specs.declared.places.Zone.{Zone}
-use Rattle.df_layout.specs.declared.places.Zone.TheVariants.{Superblock, WalHeaders, WalPrepares, ClientReplies, Grid}
-use Rattle.df_layout.specs.Spans.{place_sectors, span_of}
+use Rattle.df_layout.specs.declared.places.Zone.TheVariants.{Superblock}
 use Rattle.df_format.specs.declared.kind.Kind.{Kind}
 use Rattle.df_format.specs.declared.kind.Kind.TheVariants.{Block, Prepare, Reply, Reserved, Trailer}
 use Rattle.df_format.specs.Message.{Message}
-use Rattle.df_format.specs.Shown.{bytes_of, class_of, part_in, unit_in}
 use Rattle.df_format.specs.Shown
 use Rattle.df_format.specs.Wanted as words
 use Rattle.df_format.proofs.Laws.{shown_is_unit}
 use Rattle.df_buffers.specs.declared.identity.Identity.{Identity}
 use Rattle.df_buffers.specs.declared.identity.Wanted.TheVariants.{Checksum}
-use Rattle.df_buffers.specs.Found.{FindsKind, IsThere, class_for}
-use Rattle.df_buffers.specs.Rooms.{FillsRoom, Room, StandsIn}
+use Rattle.df_buffers.specs.Rooms.{StandsIn}
 use Rattle.df_buffers.specs.Sounds.{Holding}
-use Rattle.df_buffers.proofs.Laws.{is_no_ring}
 use Rattle.df_places.specs.Shelves.{HoldsBlanked, HoldsFound, IsBlanked, IsFoundUnit, IsRead, shown_at}
 use Rattle.df_theory.specs.Units.{AnyUnit, BlockPlace, CopyPlace, HeaderPlace, Place, PreparePlace, ReplyPlace}
 use Rattle.df_units.specs.Bytes.{message_unit}

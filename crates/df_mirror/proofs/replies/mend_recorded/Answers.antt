@@ -1,9 +1,8 @@
 -- A reply that is recorded is mended, where nothing newer is shown.
-use Rattle.std.proofs.Common.{Option, subst}
+use Rattle.std.proofs.Common.{subst}
 use Rattle.df_layout.specs.declared.layout.Layout.{Layout}
 use Rattle.df_places.specs.Units.{IsSeen}
 use Rattle.df_mirror.proofs.Recorded.{recorded_mended, recorded_newer, recorded_unread}
-use Rattle.df_mirror.proofs.replies.mend_recorded.Given.{Over}
 use Rattle.df_mirror.proofs.replies.mend_recorded.Goals as goal
 
 pub returns-then-is_newer-clause-mends : goal.returns-then-is_newer-clause-mends

@@ -1,5 +1,5 @@
 -- The second file's unit is held, blanked after it, and written.
-use Rattle.std.proofs.Common.{◌∙◌, Option, Some, None, subst, sym}
+use Rattle.std.proofs.Common.{◌∙◌, Option, None, subst, sym}
 use Rattle.std.proofs.lemmas.Option.{same_Some}
 use Rattle.df_layout.specs.declared.damage.Class.{Class}
 use Rattle.df_buffers.specs.Sounds.{Holding}
