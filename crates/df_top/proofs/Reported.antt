@@ -23,6 +23,7 @@ use Rattle.df_session.specs.Replica.{Survey, summary_of}
 use Rattle.df_session.specs.Scrubbing.{IsMachineTour, at_start}
 use Rattle.df_session.specs.Surveying.{TellsMends, TellsSurvey}
 use Rattle.df_session.proofs.Laws.{added_is_told, shown_after}
+use Rattle.df_session.specs.Links.{NoCalls}
 use Rattle.df_session.specs.Found.{FoundFile, no_calls}
 use Rattle.df_session.specs.Laws.{CallsKeep}
 use Rattle.df_program.proofs.Laws.{open_fault}
@@ -114,7 +115,7 @@ module _ (layout : Layout) (t : Told) (old new : Outside) (status : Status) (s :
   found = opened_file layout t s new.told whole of over
 
   calls : CallsKeep t found.replica found.mended found.mending (no_calls found)
-  calls = calls_keep t s new.told over s new.told [] [] None (refl, refl) whole live
+  calls = calls_keep t s new.told over s new.told [] None NoCalls whole live
 
   pub recovers : PrintsLine (summary_text (summary_of s)) Done old.written new.written status → (found : FoundFile layout t) × Recovers layout t found old new status
   recovers prints = (found, record { prints = prints; unread = unread; told = refl; calls = calls })
