@@ -5,7 +5,7 @@ use Rattle.df_copy.specs.declared.ending.Ending.{Ending}
 use Rattle.df_copy.specs.declared.ending.Ending.TheVariants.{BlockTooLong, Damaged, NotAtRest, NotBlank, ReplyTooLong, Source, Target, TooFewBlocks, TooFewClients}
 
 abbrev pub copy_usage : List ℕ
-copy_usage = codes "copy_usage: filecopy FROM TO LAYOUT\n"
+copy_usage = codes "usage: filecopy FROM TO LAYOUT\n"
 
 -- the target has so many sectors
 abbrev pub copied_text : ℕ → List ℕ

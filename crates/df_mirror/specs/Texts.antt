@@ -5,7 +5,7 @@ use Rattle.df_layout.specs.declared.places.Place.{Place}
 use Rattle.df_script_model.specs.Texts.{class_text, line_of, numbered, place_text, spaced}
 
 abbrev pub mirror_usage : List ℕ
-mirror_usage = codes "mirror_usage: filemirror FIRST SECOND\n"
+mirror_usage = codes "usage: filemirror FIRST SECOND\n"
 
 -- the unit at a place was written
 abbrev pub mended_text : Place → List ℕ

@@ -25,7 +25,7 @@ use Rattle.df_table.specs.Session.{AreCallsOf, ServesFoundTable}
 -- ---- words
 
 abbrev pub table_usage : List ℕ
-table_usage = codes "table_usage: objecttable FILE table\n"
+table_usage = codes "usage: objecttable FILE table\n"
 
 -- the words are exactly this one
 abbrev pub IsTableWord : List (List ℕ) → Type 0
