@@ -4,10 +4,10 @@ use Rattle.std.specs.Prelude.{take, drop}
 use Rattle.df_base.specs.Image.{Image}
 use Rattle.df_disk.specs.Told.{Told}
 use Rattle.df_model.specs.Work.{Work}
-use Rattle.df_replica.specs.Below.{State as Replica, DataFile}
-use Rattle.df_replica.specs.HeldBlocks.{AreInputs}
-use Rattle.df_replica.specs.Serving.{Grade, next}
-use Rattle.df_replica.specs.Session.{Act, Exchange, HasView, HoldsSome, acts_in, answers_in, answers_of, work_after}
+use Rattle.df_session.specs.Below.{State as Replica, DataFile}
+use Rattle.df_session.specs.HeldBlocks.{AreInputs}
+use Rattle.df_session.specs.Serving.{Grade, next}
+use Rattle.df_session.specs.Session.{Act, Exchange, HasView, HoldsSome, acts_in, answers_in, answers_of, work_after}
 use Rattle.df_session.specs.Links.{AreCalls, EndsCalls, More, list_of}
 
 -- ---- what they were supplied with

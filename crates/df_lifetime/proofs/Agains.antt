@@ -16,10 +16,10 @@ use Rattle.df_theory.proofs.Laws.{disk_stop_law, rests_safe, safe_disk_law}
 use Rattle.df_history.specs.OpenLaws.{BeginsHistory}
 use Rattle.df_units.specs.Bytes.{unit_at}
 use Rattle.df_units.proofs.Laws.{is_format}
-use Rattle.df_replica.specs.Below.{DataFile, FindsSince, IsLivedDisk, IsOpened, MayReopen, State as Replica, restarted, shape, told_after}
-use Rattle.df_replica.specs.Following.{MayOpen}
-use Rattle.df_replica.specs.Serving.{Firm, format}
-use Rattle.df_replica.proofs.Laws.{added_is_told, begun_may_open, first_goes_on, found_was_since, layout_shown, lived_layout, stopped_goes_on}
+use Rattle.df_session.specs.Below.{DataFile, FindsSince, IsLivedDisk, IsOpened, MayReopen, State as Replica, restarted, shape, told_after}
+use Rattle.df_session.specs.Following.{MayOpen}
+use Rattle.df_session.specs.Serving.{Firm, format}
+use Rattle.df_session.proofs.Laws.{added_is_told, begun_may_open, first_goes_on, found_was_since, layout_shown, lived_layout, stopped_goes_on}
 use Rattle.df_upgrade.specs.Upgrading.{second}
 use Rattle.df_model.specs.Work.{Work}
 use Rattle.df_session.specs.Acknowledging.{KeepsAnswered}

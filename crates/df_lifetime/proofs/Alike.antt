@@ -13,11 +13,11 @@ use Rattle.df_theory.proofs.Laws.{one_found_law}
 use Rattle.df_units.specs.Bytes.{unit_at}
 use Rattle.df_model.specs.Memory.{Memory, memory_of}
 use Rattle.df_model.specs.Work.{opened}
-use Rattle.df_replica.specs.Below.{DataFile, IsOpened, State as Replica, memory, shape, spelling}
-use Rattle.df_replica.specs.Reading.{shown_of}
-use Rattle.df_replica.specs.Replica.{summary_of}
-use Rattle.df_replica.proofs.Laws.{one_super, same_file, super_shown}
-use Rattle.df_session.specs.Below.{AgreeShown}
+use Rattle.df_session.specs.Below.{DataFile, IsOpened, State as Replica, memory, shape, spelling}
+use Rattle.df_session.specs.Reading.{shown_of}
+use Rattle.df_session.specs.Replica.{summary_of}
+use Rattle.df_session.proofs.Laws.{one_super, same_file, super_shown}
+use Rattle.df_session.specs.Agreeing.{AgreeShown}
 use Rattle.df_session.specs.Found.{FoundFile}
 use Rattle.df_top.specs.OneText.{ShowSame}
 

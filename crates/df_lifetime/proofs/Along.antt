@@ -5,9 +5,9 @@ use Rattle.df_base.specs.Log.{Event, Sync, after_event}
 use Rattle.df_base.specs.Moments.{Extends, IsMoment}
 use Rattle.df_base.proofs.Laws.{same_log}
 use Rattle.df_disk.specs.Told.{Told, did}
-use Rattle.df_replica.specs.Below.{State as Replica, told_after}
-use Rattle.df_replica.specs.Session.{Act, Exchange}
-use Rattle.df_replica.proofs.Laws.{added_is_told}
+use Rattle.df_session.specs.Below.{State as Replica, told_after}
+use Rattle.df_session.specs.Session.{Act, Exchange}
+use Rattle.df_session.proofs.Laws.{added_is_told}
 use Rattle.df_session.specs.Acknowledging.{HadAnswers, HadReturned, WereAnswered}
 use Rattle.df_session.specs.Keeping.{over}
 use Rattle.df_session.specs.Links.{AreCalls, CallsMade, EndsCalls, More, NoCalls}

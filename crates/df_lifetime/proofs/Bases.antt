@@ -5,11 +5,11 @@ use Rattle.df_disk.specs.Adds.{after_all}
 use Rattle.df_disk.specs.Told.{Told, did}
 use Rattle.df_theory.specs.View.{View}
 use Rattle.df_units.specs.Bytes.{unit_at}
-use Rattle.df_replica.specs.Below.{DataFile, told_after}
-use Rattle.df_replica.specs.Following.{MayOpen}
-use Rattle.df_replica.specs.Serving.{Grade, StandsFor}
-use Rattle.df_replica.specs.Session.{Act, Exchange}
-use Rattle.df_replica.proofs.Laws.{added_is_told}
+use Rattle.df_session.specs.Below.{DataFile, told_after}
+use Rattle.df_session.specs.Following.{MayOpen}
+use Rattle.df_session.specs.Serving.{Grade, StandsFor}
+use Rattle.df_session.specs.Session.{Act, Exchange}
+use Rattle.df_session.proofs.Laws.{added_is_told}
 use Rattle.df_session.specs.Begun.{begun_work}
 use Rattle.df_session.specs.Links.{CallsMade}
 use Rattle.df_session.specs.Acknowledging.{KeepsAnswered}

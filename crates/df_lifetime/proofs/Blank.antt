@@ -14,9 +14,9 @@ use Rattle.df_theory.specs.MakingLaws.{IsMaking}
 use Rattle.df_units.specs.Format.{format_of}
 use Rattle.df_units.specs.Meaning.{content_of}
 use Rattle.df_units.proofs.Laws.{new_is_making}
-use Rattle.df_replica.specs.Below.{shape}
-use Rattle.df_replica.specs.Making.{file_of}
-use Rattle.df_replica.proofs.Laws.{first_is_super}
+use Rattle.df_session.specs.Below.{shape}
+use Rattle.df_session.specs.Making.{file_of}
+use Rattle.df_session.proofs.Laws.{first_is_super}
 use Rattle.df_lifetime.specs.NewDisks.{NewDisksAreMadeOn}
 
 -- ---- its superblock can be used

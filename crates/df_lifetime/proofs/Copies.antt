@@ -8,8 +8,8 @@ use Rattle.df_disk.specs.Told.{Told}
 use Rattle.df_layout.specs.declared.layout.Layout.{Layout}
 use Rattle.df_theory.specs.View.{View}
 use Rattle.df_units.specs.Bytes.{unit_at}
-use Rattle.df_replica.specs.Below.{AreDistinctUnits, DataFile, restarted, told_after}
-use Rattle.df_replica.proofs.Laws.{added_is_told}
+use Rattle.df_session.specs.Below.{AreDistinctUnits, DataFile, restarted, told_after}
+use Rattle.df_session.proofs.Laws.{added_is_told}
 use Rattle.df_copy.specs.Lives.{MayGoOn}
 use Rattle.df_copy.specs.Views.{HoldsCopy, ShowsCopy, file_in}
 use Rattle.df_copy.proofs.Laws.{copied_begins}

@@ -5,7 +5,7 @@ use Rattle.df_layout.specs.declared.layout.Layout.{Layout}
 use Rattle.df_theory.specs.Found.{IsFound}
 use Rattle.df_theory.specs.View.{View}
 use Rattle.df_units.specs.Bytes.{unit_at}
-use Rattle.df_replica.specs.Below.{State, shape, DataFile}
+use Rattle.df_session.specs.Below.{State, shape, DataFile}
 use Rattle.df_session.proofs.Laws.{found_file}
 use Rattle.df_upgrade.specs.Below.{IsOpenedAs}
 

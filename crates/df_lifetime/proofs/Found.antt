@@ -15,13 +15,13 @@ use Rattle.df_model.specs.Supply.{boot_sum}
 use Rattle.df_model.specs.Work.{Work, kept, opened}
 use Rattle.df_model.proofs.Laws.{found_law, next_law, raised_law, sense_law}
 use Rattle.df_trailer.specs.Text.{parse_of}
-use Rattle.df_replica.specs.Below.{shape, spelling, DataFile}
-use Rattle.df_replica.specs.HeldBlocks.{AreInputs}
-use Rattle.df_replica.specs.Serving.{next}
-use Rattle.df_replica.specs.Session.{Act, Exchange, acts_in, answers_in, answers_of, work_after}
-use Rattle.df_replica.proofs.Laws.{codec_of, second_found}
+use Rattle.df_session.specs.Below.{shape, spelling, DataFile}
+use Rattle.df_session.specs.HeldBlocks.{AreInputs}
+use Rattle.df_session.specs.Serving.{next}
+use Rattle.df_session.specs.Session.{Act, Exchange, acts_in, answers_in, answers_of, work_after}
+use Rattle.df_session.proofs.Laws.{codec_of, second_found}
 use Rattle.df_session.specs.Begun.{begun_work}
-use Rattle.df_session.specs.Below.{codec}
+use Rattle.df_session.specs.Codec.{codec}
 use Rattle.df_lifetime.specs.Acknowledged.{AcknowledgedIsFound, AllThere, AreThere}
 use Rattle.df_lifetime.specs.Life.{Chapter, GoesBy, LeadsTo, MayHave}
 use Rattle.df_lifetime.specs.There.{IsAnswerThere, Promised, promised_by, promised_in}

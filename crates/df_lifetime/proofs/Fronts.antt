@@ -17,10 +17,11 @@ use Rattle.df_lines.proofs.Laws.{one_said, one_script, no_line, begins_one}
 use Rattle.df_theory.specs.Shape.{Shape}
 use Rattle.df_model.specs.Supply.{Codec, Shown}
 use Rattle.df_model.specs.Work.{Work}
-use Rattle.df_replica.specs.Below.{DataFile, shape, told_after}
-use Rattle.df_replica.specs.Reading.{shown_of}
-use Rattle.df_replica.proofs.Laws.{added_is_told}
-use Rattle.df_session.specs.Below.{AgreeShown, codec}
+use Rattle.df_session.specs.Below.{DataFile, shape, told_after}
+use Rattle.df_session.specs.Reading.{shown_of}
+use Rattle.df_session.proofs.Laws.{added_is_told}
+use Rattle.df_session.specs.Codec.{codec}
+use Rattle.df_session.specs.Agreeing.{AgreeShown}
 use Rattle.df_model.specs.Commands.{Command}
 use Rattle.df_pace.specs.Loop.{Stand, answer_at, paced, passed, start as stand_at}
 use Rattle.df_pace.specs.declared.pace.Pace.{Pace}

@@ -13,9 +13,9 @@ use Rattle.df_model.specs.Making.{first_of}
 use Rattle.df_model.specs.Views.{KeepsView}
 use Rattle.df_model.specs.Work.{kept}
 use Rattle.df_model.specs.declared.answers.Progress.TheVariants.{Done}
-use Rattle.df_replica.specs.Below.{DataFile}
-use Rattle.df_replica.specs.Session.{Exchange, work_after}
-use Rattle.df_replica.proofs.Laws.{keeps_on}
+use Rattle.df_session.specs.Below.{DataFile}
+use Rattle.df_session.specs.Session.{Exchange, work_after}
+use Rattle.df_session.proofs.Laws.{keeps_on}
 use Rattle.df_session.specs.Begun.{begun_work}
 use Rattle.df_lifetime.specs.Acknowledged.{AreThere}
 use Rattle.df_lifetime.specs.Life.{Chapter, LeadsTo, MayHave}

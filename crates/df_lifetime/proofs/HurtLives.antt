@@ -2,8 +2,8 @@
 use Rattle.std.proofs.Common.{◌≡◌, inr, List, refl, ◌∙◌}
 use Rattle.df_disk.specs.Told.{Told}
 use Rattle.df_theory.specs.View.{View}
-use Rattle.df_replica.specs.Below.{DataFile}
-use Rattle.df_replica.specs.Serving.{Whole}
+use Rattle.df_session.specs.Below.{DataFile}
+use Rattle.df_session.specs.Serving.{Whole}
 use Rattle.df_session.specs.Anew.{begun_after}
 use Rattle.df_session.specs.Begun.{begun_work}
 use Rattle.df_lifetime.specs.Hurt.{LifeMayBeHurt, began_with}

@@ -19,12 +19,12 @@ use Rattle.df_units.specs.Bytes.{unit_at}
 use Rattle.df_model.specs.Sense.{IsWork}
 use Rattle.df_model.specs.Views.{KeepsView}
 use Rattle.df_model.specs.Work.{Work, kept}
-use Rattle.df_replica.specs.Below.{DataFile, State, restarted, shape, spelling, told_after}
-use Rattle.df_replica.specs.Following.{MayOpen}
-use Rattle.df_replica.specs.HeldBlocks.{AreInputs}
-use Rattle.df_replica.specs.Serving.{Firm, Grade, StandsFor, Whole, format}
-use Rattle.df_replica.specs.Session.{Act, Exchange, HasView, HoldsFor, IsMidway, acts_in, answers_in, answers_of, work_after}
-use Rattle.df_replica.proofs.Laws.{added_is_told, begun_may_open, same_goes_on, stopped_may_open}
+use Rattle.df_session.specs.Below.{DataFile, State, restarted, shape, spelling, told_after}
+use Rattle.df_session.specs.Following.{MayOpen}
+use Rattle.df_session.specs.HeldBlocks.{AreInputs}
+use Rattle.df_session.specs.Serving.{Firm, Grade, StandsFor, Whole, format}
+use Rattle.df_session.specs.Session.{Act, Exchange, HasView, HoldsFor, IsMidway, acts_in, answers_in, answers_of, work_after}
+use Rattle.df_session.proofs.Laws.{added_is_told, begun_may_open, same_goes_on, stopped_may_open}
 use Rattle.df_session.specs.Anew.{begun_after}
 use Rattle.df_session.specs.Begun.{begun_work}
 use Rattle.df_session.specs.Found.{FoundFile}

@@ -23,9 +23,9 @@ use Rattle.df_model.specs.Supply.{Codec, block_read, message_given}
 use Rattle.df_model.specs.Work.{Work}
 use Rattle.df_model.specs.declared.reading.LookupError.TheVariants as lookup
 use Rattle.df_model.proofs.Laws.{block_read_law, prepare_read_law, reply_read_law}
-use Rattle.df_replica.specs.Below.{memory, shape, spelling, DataFile}
-use Rattle.df_replica.specs.Reading.{shown_of}
-use Rattle.df_replica.specs.Serving.{Firm, Grade, KeptFor, Whole, format, next}
+use Rattle.df_session.specs.Below.{memory, shape, spelling, DataFile}
+use Rattle.df_session.specs.Reading.{shown_of}
+use Rattle.df_session.specs.Serving.{Firm, Grade, KeptFor, Whole, format, next}
 use Rattle.df_lifetime.specs.Reads.{IsAnsweredRead, KeptPreparesAreRead, KeptRepliesAreRead, LiveBlocksAreRead}
 
 -- ---- the tests of a read

@@ -22,14 +22,14 @@ use Rattle.df_units.proofs.Laws.{is_format}
 use Rattle.df_model.specs.Views.{KeepsView}
 use Rattle.df_model.specs.Work.{Work, kept}
 use Rattle.df_model.specs.declared.errors.OpenError.TheVariants.{NotFormatted}
-use Rattle.df_replica.specs.Below.{IsOpened, State as Replica, boot_fields, shape, DataFile, IsUnformatted, told_after}
-use Rattle.df_replica.specs.Following.{MayOpen}
-use Rattle.df_replica.specs.HeldBlocks.{AreInputs}
-use Rattle.df_replica.specs.Making.{file_of}
-use Rattle.df_replica.specs.Opened.{Mends, MendsPartly, StopsOpening, begun_state}
-use Rattle.df_replica.specs.Serving.{Grade, IsGoodFor, StandsFor, Whole, format}
-use Rattle.df_replica.specs.Session.{Act, Exchange, HasView, IsMidway, acts_in, work_after}
-use Rattle.df_replica.proofs.Laws.{added_is_told, found_is_usable, good_left, good_safe, honest_stays, keeps_on, keeps_self}
+use Rattle.df_session.specs.Below.{IsOpened, State as Replica, boot_fields, shape, DataFile, IsUnformatted, told_after}
+use Rattle.df_session.specs.Following.{MayOpen}
+use Rattle.df_session.specs.HeldBlocks.{AreInputs}
+use Rattle.df_session.specs.Making.{file_of}
+use Rattle.df_session.specs.Opened.{Mends, MendsPartly, StopsOpening, begun_state}
+use Rattle.df_session.specs.Serving.{Grade, IsGoodFor, StandsFor, Whole, format}
+use Rattle.df_session.specs.Session.{Act, Exchange, HasView, IsMidway, acts_in, work_after}
+use Rattle.df_session.proofs.Laws.{added_is_told, found_is_usable, good_left, good_safe, honest_stays, keeps_on, keeps_self}
 use Rattle.df_session.specs.Begun.{begun_work}
 use Rattle.df_session.specs.Found.{FoundFile, no_calls}
 use Rattle.df_session.specs.Laws.{CallsKeep}

@@ -27,11 +27,12 @@ use Rattle.df_model.specs.declared.answers.Progress.TheVariants.{Done as Ended}
 use Rattle.df_model.specs.declared.answers.Verdict.{Verdict}
 use Rattle.df_model.specs.declared.answers.Verdict.TheVariants.{Sound, Failing}
 use Rattle.df_model.proofs.Laws.{change_law, length_in}
-use Rattle.df_replica.specs.Below.{DataFile, State as Replica, memory, shape, spelling}
-use Rattle.df_replica.specs.Reading.{shown_of}
-use Rattle.df_replica.specs.Serving.{Firm, Keeps, next as next_work}
-use Rattle.df_replica.specs.Session.{Act, Exchange, acts_in, answers_in, command_in}
-use Rattle.df_session.specs.Below.{AgreeShown, codec}
+use Rattle.df_session.specs.Below.{DataFile, State as Replica, memory, shape, spelling}
+use Rattle.df_session.specs.Reading.{shown_of}
+use Rattle.df_session.specs.Serving.{Firm, Keeps, next as next_work}
+use Rattle.df_session.specs.Session.{Act, Exchange, acts_in, answers_in, command_in}
+use Rattle.df_session.specs.Codec.{codec}
+use Rattle.df_session.specs.Agreeing.{AgreeShown}
 use Rattle.df_workload.specs.Asking.{asks}
 use Rattle.df_workload.specs.Following.{Follows}
 use Rattle.df_workload.specs.Hearing.{heard}

@@ -5,8 +5,8 @@ use Rattle.df_base.specs.Streams.{Appends}
 use Rattle.df_disk.specs.Told.{Told}
 use Rattle.df_inspect.specs.Reports.{summary_text}
 use Rattle.df_layout.specs.declared.layout.Layout.{Layout}
-use Rattle.df_replica.specs.Below.{IsOpened, State as Replica}
-use Rattle.df_replica.specs.Replica.{summary_of}
+use Rattle.df_session.specs.Below.{IsOpened, State as Replica}
+use Rattle.df_session.specs.Replica.{summary_of}
 use Rattle.df_session.specs.Found.{FoundFile}
 use Rattle.df_top.specs.OneText.{ShowSame}
 use Rattle.df_top.specs.Outside.{Outside, PrintsLine}

@@ -13,10 +13,10 @@ use Rattle.df_model.specs.Reading.{failing, with_finding}
 use Rattle.df_model.specs.Supply.{Shown, block_given, check_of, class_at, class_or, verdict_of}
 use Rattle.df_model.specs.declared.answers.Scrubbed.TheVariants.{TourEnd}
 use Rattle.df_units.specs.Meaning.{layout_of}
-use Rattle.df_replica.specs.Below.{DataFile, State as Replica, failing_in, grid_with}
-use Rattle.df_replica.specs.Leaving.{SparesReads}
-use Rattle.df_replica.specs.Reading.{shown_of}
-use Rattle.df_session.specs.Below.{AgreeShown}
+use Rattle.df_session.specs.Below.{DataFile, State as Replica, failing_in, grid_with}
+use Rattle.df_session.specs.Leaving.{SparesReads}
+use Rattle.df_session.specs.Reading.{shown_of}
+use Rattle.df_session.specs.Agreeing.{AgreeShown}
 use Rattle.df_script_model.specs.Texts.{scrubbed_text}
 use Rattle.df_session.specs.Found.{FoundFile}
 use Rattle.df_session.proofs.Laws.{file_there, layout_there}

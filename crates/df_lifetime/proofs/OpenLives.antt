@@ -4,8 +4,8 @@ use Rattle.df_disk.specs.Adds.{after_all}
 use Rattle.df_disk.specs.Told.{Told}
 use Rattle.df_layout.specs.declared.layout.Layout.{Layout}
 use Rattle.df_theory.specs.View.{View}
-use Rattle.df_replica.specs.Below.{DataFile}
-use Rattle.df_replica.specs.Serving.{Whole}
+use Rattle.df_session.specs.Below.{DataFile}
+use Rattle.df_session.specs.Serving.{Whole}
 use Rattle.df_session.specs.Anew.{begun_after}
 use Rattle.df_session.specs.Found.{FoundFile}
 use Rattle.df_session.specs.Laws.{CallsKeep}

@@ -20,12 +20,12 @@ use Rattle.df_units.specs.Bytes.{unit_at}
 use Rattle.df_units.specs.Meaning.{content_of}
 use Rattle.df_model.specs.Sense.{IsWork}
 use Rattle.df_model.specs.Work.{Work}
-use Rattle.df_replica.specs.Below.{AreDistinctUnits, DataFile, IsOpened, shape, spelling, told_after}
-use Rattle.df_replica.specs.HeldBlocks.{AreInputs}
-use Rattle.df_replica.specs.Opened.{HistoryBegins}
-use Rattle.df_replica.specs.Serving.{Firm, Grade, StandsFor, Whole, format}
-use Rattle.df_replica.specs.Session.{Act, Exchange, HasView, IsMidway, acts_in, answers_in, answers_of, work_after}
-use Rattle.df_replica.proofs.Laws.{added_is_told, keeps_self}
+use Rattle.df_session.specs.Below.{AreDistinctUnits, DataFile, IsOpened, shape, spelling, told_after}
+use Rattle.df_session.specs.HeldBlocks.{AreInputs}
+use Rattle.df_session.specs.Opened.{HistoryBegins}
+use Rattle.df_session.specs.Serving.{Firm, Grade, StandsFor, Whole, format}
+use Rattle.df_session.specs.Session.{Act, Exchange, HasView, IsMidway, acts_in, answers_in, answers_of, work_after}
+use Rattle.df_session.proofs.Laws.{added_is_told, keeps_self}
 use Rattle.df_session.specs.Acknowledging.{IsUntil, KeepsAnswered}
 use Rattle.df_session.specs.Anew.{KeepsAnew, begun_after}
 use Rattle.df_session.specs.Begun.{begun_work}

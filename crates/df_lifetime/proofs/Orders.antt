@@ -18,11 +18,11 @@ use Rattle.df_units.specs.Making.{first_view}
 use Rattle.df_units.specs.Meaning.{layout_of}
 use Rattle.df_units.proofs.Laws.{is_format, of_places}
 use Rattle.df_trailer.specs.Text.{parse_of}
-use Rattle.df_replica.specs.Below.{shape, DataFile, restarted}
-use Rattle.df_replica.specs.Following.{MayOpen}
-use Rattle.df_replica.specs.Making.{MayMakeOn, file_of, making_events}
-use Rattle.df_replica.specs.Serving.{format}
-use Rattle.df_replica.proofs.Laws.{begun_may_open, keeps_self}
+use Rattle.df_session.specs.Below.{shape, DataFile, restarted}
+use Rattle.df_session.specs.Following.{MayOpen}
+use Rattle.df_session.specs.Making.{MayMakeOn, file_of, making_events}
+use Rattle.df_session.specs.Serving.{format}
+use Rattle.df_session.proofs.Laws.{begun_may_open, keeps_self}
 use Rattle.df_top.specs.Formats.{MakesOn}
 use Rattle.df_top.specs.declared.status.Status.{Status}
 use Rattle.df_top.specs.declared.status.Status.TheVariants.{Done, Memory}

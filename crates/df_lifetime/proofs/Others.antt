@@ -20,8 +20,8 @@ use Rattle.df_theory.proofs.Laws.{now_units}
 use Rattle.df_units.specs.Bytes.{copy_unit, unit_at}
 use Rattle.df_units.specs.Meaning.{content_of}
 use Rattle.df_units.proofs.Laws.{choice_chosen}
-use Rattle.df_replica.specs.Below.{DataFile, IsUnformatted, MayReopen, shape, units_logs}
-use Rattle.df_replica.specs.Serving.{format}
+use Rattle.df_session.specs.Below.{DataFile, IsUnformatted, MayReopen, shape, units_logs}
+use Rattle.df_session.specs.Serving.{format}
 use Rattle.df_upgrade.specs.Below.{IsLayoutShownAs}
 use Rattle.df_upgrade.proofs.Laws.{super_as}
 use Rattle.df_layout.specs.declared.layout.Layout.{Layout}

@@ -15,7 +15,7 @@ use Rattle.df_units.specs.Meaning.{layout_of}
 use Rattle.df_units.proofs.Laws.{of_places}
 use Rattle.df_model.specs.Memory.{Memory}
 use Rattle.df_model.specs.Result.{AgreeReads}
-use Rattle.df_replica.specs.Below.{State as Replica, shape}
+use Rattle.df_session.specs.Below.{State as Replica, shape}
 use Rattle.df_upgrade.specs.Base.{base_fields}
 use Rattle.df_upgrade.specs.Below.{IsOpenedAs}
 use Rattle.df_upgrade.specs.Upgrading.{second, upgraded}

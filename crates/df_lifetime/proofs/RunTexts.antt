@@ -24,9 +24,9 @@ use Rattle.df_model.specs.declared.errors.BlockError.{BlockError}
 use Rattle.df_model.specs.declared.errors.NotLive.{NotLive}
 use Rattle.df_model.specs.declared.errors.ReplyError.{ReplyError}
 use Rattle.df_model.specs.declared.errors.StepError.{StepError}
-use Rattle.df_replica.specs.Below.{DataFile, memory, shape}
-use Rattle.df_replica.specs.Reading.{shown_of}
-use Rattle.df_session.specs.Below.{codec}
+use Rattle.df_session.specs.Below.{DataFile, memory, shape}
+use Rattle.df_session.specs.Reading.{shown_of}
+use Rattle.df_session.specs.Codec.{codec}
 use Rattle.df_workload.specs.Asking.{asks_at, number_body}
 use Rattle.df_workload.specs.Draw.{drawn_body}
 use Rattle.df_workload.specs.Following.{Follows}

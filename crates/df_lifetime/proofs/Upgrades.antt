@@ -17,10 +17,10 @@ use Rattle.df_theory.specs.Upgrades.{as_version}
 use Rattle.df_theory.specs.View.{View}
 use Rattle.df_units.specs.Bytes.{unit_at}
 use Rattle.df_model.specs.Result.{AgreeReads}
-use Rattle.df_replica.specs.Below.{AreDistinctUnits, DataFile, State as Replica, restarted, shape, told_after}
-use Rattle.df_replica.specs.Leaving.{SparesReads, image_after}
-use Rattle.df_replica.specs.Serving.{format}
-use Rattle.df_replica.proofs.Laws.{added_is_told, honest_stays, shown_after}
+use Rattle.df_session.specs.Below.{AreDistinctUnits, DataFile, State as Replica, restarted, shape, told_after}
+use Rattle.df_session.specs.Leaving.{SparesReads, image_after}
+use Rattle.df_session.specs.Serving.{format}
+use Rattle.df_session.proofs.Laws.{added_is_told, honest_stays, shown_after}
 use Rattle.df_upgrade.specs.Base.{base_fields}
 use Rattle.df_upgrade.specs.Below.{IsOpenedAs}
 use Rattle.df_upgrade.specs.Upgraded.{UpgradesAll}

@@ -6,8 +6,8 @@ use Rattle.df_theory.specs.Device.{NoChanceOf}
 use Rattle.df_theory.specs.Found.{IsFound}
 use Rattle.df_theory.specs.View.{View}
 use Rattle.df_units.specs.Bytes.{unit_at}
-use Rattle.df_replica.specs.Below.{shape, DataFile}
-use Rattle.df_replica.specs.Serving.{format}
+use Rattle.df_session.specs.Below.{shape, DataFile}
+use Rattle.df_session.specs.Serving.{format}
 use Rattle.df_lifetime.specs.Life.{Chapter, Life}
 use Rattle.df_lifetime.specs.There.{IsAnswerThere, Promised, promised_by}
 use Rattle.df_session.specs.Session.{Exchange}

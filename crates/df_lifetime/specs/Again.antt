@@ -12,8 +12,8 @@ use Rattle.df_theory.specs.Device.{NoChanceOf}
 use Rattle.df_theory.specs.Holds.{Stands}
 use Rattle.df_theory.specs.View.{View}
 use Rattle.df_units.specs.Bytes.{unit_at}
-use Rattle.df_replica.specs.Below.{DataFile, FindsSince, IsOpened, State as Replica, restarted, shape, units_logs}
-use Rattle.df_replica.specs.Serving.{Firm, Grade, StandsFor, format}
+use Rattle.df_session.specs.Below.{DataFile, FindsSince, IsOpened, State as Replica, restarted, shape, units_logs}
+use Rattle.df_session.specs.Serving.{Firm, Grade, StandsFor, format}
 use Rattle.df_upgrade.specs.Upgrading.{second}
 use Rattle.df_session.specs.Begun.{begun_work}
 use Rattle.df_session.specs.Anew.{begun_after}

@@ -13,8 +13,8 @@ use Rattle.df_theory.specs.View.{View}
 use Rattle.df_history.specs.OpenLaws.{BeginsHistory}
 use Rattle.df_units.specs.Bytes.{unit_at}
 use Rattle.df_units.specs.Meaning.{layout_of}
-use Rattle.df_replica.specs.Below.{AreDistinctUnits, DataFile, restarted, shape}
-use Rattle.df_replica.specs.Serving.{format}
+use Rattle.df_session.specs.Below.{AreDistinctUnits, DataFile, restarted, shape}
+use Rattle.df_session.specs.Serving.{format}
 use Rattle.df_program.specs.Two.{Outside}
 use Rattle.df_copy.specs.Run.{CopiesFile, source_view}
 use Rattle.df_copy.specs.Stops.{AreSplit}

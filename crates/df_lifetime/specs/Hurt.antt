@@ -11,10 +11,10 @@ use Rattle.df_theory.specs.View.{View}
 use Rattle.df_units.specs.Bytes.{unit_at}
 use Rattle.df_model.specs.Views.{SomeKeeps}
 use Rattle.df_model.specs.Work.{Work, kept}
-use Rattle.df_replica.specs.Below.{DataFile, FindsHad, MayBeHurt, restarted, told_after}
-use Rattle.df_replica.specs.Following.{MayOpen}
-use Rattle.df_replica.specs.Serving.{Grade, StandsFor, format}
-use Rattle.df_replica.specs.Session.{Act, Exchange, acts_in, work_after}
+use Rattle.df_session.specs.Below.{DataFile, FindsHad, MayBeHurt, restarted, told_after}
+use Rattle.df_session.specs.Following.{MayOpen}
+use Rattle.df_session.specs.Serving.{Grade, StandsFor, format}
+use Rattle.df_session.specs.Session.{Act, Exchange, acts_in, work_after}
 use Rattle.df_session.specs.Begun.{begun_work}
 use Rattle.df_session.specs.Anew.{begun_after}
 use Rattle.df_session.specs.Found.{FoundFile}

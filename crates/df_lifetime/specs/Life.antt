@@ -15,12 +15,12 @@ use Rattle.df_units.specs.Format.{format_of}
 use Rattle.df_units.specs.Making.{first_view}
 use Rattle.df_model.specs.Views.{KeepsView}
 use Rattle.df_model.specs.Work.{kept}
-use Rattle.df_replica.specs.Below.{AreDistinctUnits, DataFile, restarted, shape, told_after}
-use Rattle.df_replica.specs.Following.{MayOpen}
-use Rattle.df_replica.specs.HeldBlocks.{AreInputs}
-use Rattle.df_replica.specs.Making.{MayMakeOn, file_of}
-use Rattle.df_replica.specs.Serving.{Grade, StandsFor, Whole, format}
-use Rattle.df_replica.specs.Session.{Act, Exchange, acts_in, answers_in, answers_of, work_after}
+use Rattle.df_session.specs.Below.{AreDistinctUnits, DataFile, restarted, shape, told_after}
+use Rattle.df_session.specs.Following.{MayOpen}
+use Rattle.df_session.specs.HeldBlocks.{AreInputs}
+use Rattle.df_session.specs.Making.{MayMakeOn, file_of}
+use Rattle.df_session.specs.Serving.{Grade, StandsFor, Whole, format}
+use Rattle.df_session.specs.Session.{Act, Exchange, acts_in, answers_in, answers_of, work_after}
 use Rattle.df_session.specs.Begun.{begun_work}
 use Rattle.df_session.specs.Anew.{begun_after}
 use Rattle.df_session.specs.Found.{FoundFile}

@@ -4,7 +4,7 @@ use Rattle.df_base.specs.Image.{blank}
 use Rattle.df_base.specs.Log.{AreSyncs}
 use Rattle.df_disk.specs.Told.{Told}
 use Rattle.df_layout.specs.declared.layout.Layout.{Layout}
-use Rattle.df_replica.specs.Making.{MayMakeOn}
+use Rattle.df_session.specs.Making.{MayMakeOn}
 
 -- on a disk that was never written, whatever syncs it had, a file of any layout and any cluster but 0 may be made
 abbrev pub NewDisksAreMadeOn : Type 0

@@ -15,10 +15,10 @@ use Rattle.df_theory.specs.View.{View, head, sequence}
 use Rattle.df_units.specs.Bytes.{unit_at}
 use Rattle.df_model.specs.Commands.{Command}
 use Rattle.df_model.specs.Supply.{result}
-use Rattle.df_replica.specs.Below.{DataFile, shape}
-use Rattle.df_replica.specs.Reading.{shown_of}
+use Rattle.df_session.specs.Below.{DataFile, shape}
+use Rattle.df_session.specs.Reading.{shown_of}
 use Rattle.df_session.specs.Begun.{begun_work}
-use Rattle.df_session.specs.Below.{codec}
+use Rattle.df_session.specs.Codec.{codec}
 use Rattle.df_session.specs.Found.{FoundFile}
 use Rattle.df_workload.specs.Asking.{asks}
 use Rattle.df_workload.specs.Following.{Follows}

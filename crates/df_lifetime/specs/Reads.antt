@@ -7,8 +7,8 @@ use Rattle.df_theory.specs.Units.{Block, Message, Session}
 use Rattle.df_theory.specs.View.{head, sessions}
 use Rattle.df_model.specs.Commands.{Answer, Command, Given, ReadBlock, ReadPrepare, ReadReply, ToReadBlock, ToReadPrepare, ToReadReply}
 use Rattle.df_model.specs.Work.{Work}
-use Rattle.df_replica.specs.Below.{State}
-use Rattle.df_replica.specs.Serving.{Grade, IsCall, IsKept, Whole}
+use Rattle.df_session.specs.Below.{State}
+use Rattle.df_session.specs.Serving.{Grade, IsCall, IsKept, Whole}
 
 -- A call that was answered so, from a state of the replica that keeps the file for this state of the machine, by a log over which the disk is honest: the one that is
 -- told, or another base with the same shown image

@@ -12,8 +12,8 @@ use Rattle.df_theory.specs.Upgrades.{as_version}
 use Rattle.df_theory.specs.View.{View}
 use Rattle.df_history.specs.OpenLaws.{BeginsHistory}
 use Rattle.df_units.specs.Bytes.{unit_at}
-use Rattle.df_replica.specs.Below.{AreDistinctUnits, DataFile, restarted, shape}
-use Rattle.df_replica.specs.Serving.{format}
+use Rattle.df_session.specs.Below.{AreDistinctUnits, DataFile, restarted, shape}
+use Rattle.df_session.specs.Serving.{format}
 use Rattle.df_upgrade.specs.Upgrading.{second}
 use Rattle.df_top.specs.declared.status.Status.{Status}
 use Rattle.df_top.specs.declared.status.Status.TheVariants.{Done}

@@ -8,12 +8,12 @@ use Rattle.df_disk.specs.Told.{Told}
 use Rattle.df_disk.specs.Adds.{after_all}
 use Rattle.df_disk.proofs.Laws.{after_append}
 use Rattle.df_model.specs.Work.{Work}
-use Rattle.df_result.specs.Below.{DataFile, State as Replica}
-use Rattle.df_result.specs.Serving.{Grade, Keeps, next}
-use Rattle.df_result.specs.Session.{Act, EachIsMidway, Exchange, IsMidway, acts_in, work_after}
+use Rattle.df_replica.specs.Below.{DataFile, State as Replica}
+use Rattle.df_replica.specs.Serving.{Grade, Keeps, next}
+use Rattle.df_replica.specs.Session.{Act, EachIsMidway, Exchange, IsMidway, acts_in, work_after}
 use Rattle.df_session.specs.Links.{AreCalls, Calls, CallsMade, EndsCalls, More, NoCalls, call_events, events_to, list_of}
 use Rattle.df_session.specs.Acknowledging.{HadAnswers, HadReturned, IsUntil, KeepsAnswered}
-use Rattle.df_result.proofs.Laws.{fault_stops_them}
+use Rattle.df_replica.proofs.Laws.{fault_stops_them}
 use Rattle.df_session.proofs.Kept.{all_served}
 
 module _ (file : DataFile) (g : Grade) where

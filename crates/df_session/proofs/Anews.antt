@@ -14,12 +14,13 @@ use Rattle.df_theory.proofs.Laws.{tidy_sync_law}
 use Rattle.df_units.specs.Bytes.{unit_at}
 use Rattle.df_model.specs.Laws.{IsKeptBy}
 use Rattle.df_model.specs.Work.{Work, kept}
-use Rattle.df_result.specs.Begun.{begun_work}
-use Rattle.df_result.specs.Below.{AreDistinctUnits, State as Replica, restarted, shape, spelling, told_after}
-use Rattle.df_result.specs.Opened.{HistoryBegins, MendsAll}
-use Rattle.df_result.specs.Serving.{Firm, Grade, IsKept, KeptFor, StandsFor, Whole, format}
-use Rattle.df_result.specs.Session.{Act, Exchange}
-use Rattle.df_result.proofs.Laws.{begun_is_work, good_now, keeps_self, same_goes_on}
+use Rattle.df_session.specs.Begun.{begun_work}
+use Rattle.df_replica.specs.Below.{AreDistinctUnits, State as Replica, restarted, shape, spelling, told_after}
+use Rattle.df_replica.specs.Opened.{HistoryBegins, MendsAll}
+use Rattle.df_replica.specs.Serving.{Firm, Grade, IsKept, KeptFor, StandsFor, Whole, format}
+use Rattle.df_replica.specs.Session.{Act, Exchange}
+use Rattle.df_replica.proofs.Laws.{good_now, keeps_self, same_goes_on}
+use Rattle.df_session.proofs.BegunWorks.{begun_is_work}
 use Rattle.df_session.specs.Anew.{KeepsAnew}
 use Rattle.df_session.specs.Laws.{made_on}
 use Rattle.df_session.specs.Links.{EndsCalls}

@@ -30,14 +30,14 @@ use Rattle.df_model.specs.declared.errors.ReplyError.{ReplyError}
 use Rattle.df_model.specs.declared.errors.ReplyError.TheVariants as reply
 use Rattle.df_model.specs.declared.errors.StepError.{StepError}
 use Rattle.df_model.specs.declared.errors.StepError.TheVariants as step
-use Rattle.df_result.specs.Answering.{Serves, begin_answer, release_answer, stage_answer}
-use Rattle.df_result.specs.Appending.{IsAppendCall, append_events, next_unit}
-use Rattle.df_result.specs.Beginning.{IsBegin}
-use Rattle.df_result.specs.Below.{RunningState, State as Replica, memory}
-use Rattle.df_result.specs.Blocks.{IsRelease, IsWriteBlock, block_events, next_block}
-use Rattle.df_result.specs.Flushing.{IsFlush, IsStage, flush_events, flush_units, sums_of}
-use Rattle.df_result.specs.Replying.{IsReplyCall, next_reply, reply_events}
-use Rattle.df_result.specs.Stepping.{IsStepCall, OfRunning, TellsImage, block_events as piece_events, events_for, last_events, made_by, step_events}
+use Rattle.df_replica.specs.Answering.{Serves, begin_answer, release_answer, stage_answer}
+use Rattle.df_replica.specs.Appending.{IsAppendCall, append_events, next_unit}
+use Rattle.df_replica.specs.Beginning.{IsBegin}
+use Rattle.df_replica.specs.Below.{RunningState, State as Replica, memory}
+use Rattle.df_replica.specs.Blocks.{IsRelease, IsWriteBlock, block_events, next_block}
+use Rattle.df_replica.specs.Flushing.{IsFlush, IsStage, flush_events, flush_units, sums_of}
+use Rattle.df_replica.specs.Replying.{IsReplyCall, next_reply, reply_events}
+use Rattle.df_replica.specs.Stepping.{IsStepCall, OfRunning, TellsImage, block_events as piece_events, events_for, last_events, made_by, step_events}
 use Rattle.df_units.specs.Meaning.{number_of}
 use Rattle.df_model.specs.Faults.{is_append_fault, is_block_fault, is_flush_fault, is_reply_fault, is_step_fault}
 use Rattle.df_session.specs.Calls.{IsExact, LendsNothing, blames, is_fault, machine_answer}

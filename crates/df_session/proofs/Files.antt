@@ -11,8 +11,8 @@ use Rattle.df_theory.specs.View.{View}
 use Rattle.df_theory.proofs.Laws.{one_chosen_law}
 use Rattle.df_units.specs.Bytes.{unit_at}
 use Rattle.df_units.specs.Meaning.{layout_of}
-use Rattle.df_result.specs.Below.{DataFile, shape}
-use Rattle.df_result.proofs.Laws.{same_file}
+use Rattle.df_replica.specs.Below.{DataFile, shape}
+use Rattle.df_replica.proofs.Laws.{same_file}
 
 -- what is chosen among the copies is no matter of the file
 chosen_for : (layout other : Layout) (cluster another : ℕ) (image : Image) (c : Content) → IsChosen (unit_at layout cluster image) c → IsChosen (unit_at other another image) c

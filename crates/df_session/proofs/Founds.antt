@@ -4,7 +4,7 @@ use Rattle.df_disk.specs.Told.{Told}
 use Rattle.df_layout.specs.declared.layout.Layout.{Layout}
 use Rattle.df_theory.specs.Found.{IsFound}
 use Rattle.df_units.specs.Bytes.{unit_at}
-use Rattle.df_result.specs.Below.{DataFile, IsOpened, State as Replica, shape}
+use Rattle.df_replica.specs.Below.{DataFile, IsOpened, State as Replica, shape}
 use Rattle.df_session.specs.Found.{FoundFile}
 
 -- a view that is found in an image, with the layout of its file

@@ -9,7 +9,7 @@ use Rattle.df_model.specs.declared.commands.Answer.{Answer}
 use Rattle.df_model.specs.declared.commands.Answer.TheVariants as answers
 use Rattle.df_model.specs.declared.errors.StepError.TheVariants as step
 use Rattle.df_model.specs.Faults.{is_append_fault, is_block_fault, is_flush_fault, is_lookup_fault, is_prepare_fault, is_read_fault, is_reply_fault}
-use Rattle.df_result.specs.Below.{State as Replica}
+use Rattle.df_replica.specs.Below.{State as Replica}
 use Rattle.df_units.specs.Meaning.{number_of}
 use Rattle.df_session.specs.Calls.{IsExact, LendsNothing, is_fault, machine_answer}
 use Rattle.df_session.specs.Endings.{MakesTo, heard, is_disk_fault, unless_damaged}

@@ -5,11 +5,11 @@ use Rattle.df_disk.specs.Told as told
 use Rattle.df_disk.specs.Told.{Told}
 use Rattle.df_disk.specs.Adds.{AddsPart, after_all}
 use Rattle.df_model.specs.Commands.{Answer, Command, Given}
-use Rattle.df_result.specs.Below.{State as Replica}
-use Rattle.df_result.specs.Answering.{Serves}
-use Rattle.df_result.specs.Opened.{ToldBy}
-use Rattle.df_result.specs.Session.{Exchange}
-use Rattle.df_result.specs.Supply.{IsSupplied}
+use Rattle.df_replica.specs.Below.{State as Replica}
+use Rattle.df_replica.specs.Answering.{Serves}
+use Rattle.df_replica.specs.Opened.{ToldBy}
+use Rattle.df_replica.specs.Session.{Exchange}
+use Rattle.df_replica.specs.Supply.{IsSupplied}
 use Rattle.df_session.specs.Links.{AreCalls, Makes, More, NoCalls}
 use Rattle.df_session.specs.Own.{AddsOwn, own_events}
 

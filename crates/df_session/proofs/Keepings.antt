@@ -7,12 +7,13 @@ use Rattle.df_theory.specs.Found.{IsFound}
 use Rattle.df_theory.specs.View.{View}
 use Rattle.df_units.specs.Bytes.{unit_at}
 use Rattle.df_model.specs.Work.{Work}
-use Rattle.df_result.specs.Begun.{begun_work}
-use Rattle.df_result.specs.Below.{DataFile, State as Replica, restarted, shape, told_after}
-use Rattle.df_result.specs.Following.{MayOpen}
-use Rattle.df_result.specs.Opened.{MendsAll, begun_state}
-use Rattle.df_result.specs.Serving.{Firm, Grade, Keeps, StandsFor}
-use Rattle.df_result.proofs.Laws.{begun_is_work, begun_keeps}
+use Rattle.df_session.specs.Begun.{begun_work}
+use Rattle.df_replica.specs.Below.{DataFile, State as Replica, restarted, shape, told_after}
+use Rattle.df_replica.specs.Following.{MayOpen}
+use Rattle.df_replica.specs.Opened.{MendsAll, begun_state}
+use Rattle.df_replica.specs.Serving.{Firm, Grade, Keeps, StandsFor}
+use Rattle.df_replica.proofs.Laws.{begun_keeps}
+use Rattle.df_session.proofs.BegunWorks.{begun_is_work}
 use Rattle.df_session.specs.Links.{events_to}
 use Rattle.df_session.specs.Laws.{CallsOnOpenFileKeepIt, made_on}
 use Rattle.df_session.proofs.Acknowledged.{keeps_answered}

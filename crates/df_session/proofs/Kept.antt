@@ -17,13 +17,13 @@ use Rattle.df_theory.specs.View.{View}
 use Rattle.df_units.specs.Bytes.{unit_at}
 use Rattle.df_model.specs.Views.{KeepsView}
 use Rattle.df_model.specs.Work.{Work, kept}
-use Rattle.df_result.specs.Below.{DataFile, State as Replica, shape, spelling, told_after}
-use Rattle.df_result.specs.Following.{MayOpen}
-use Rattle.df_result.specs.Leaving.{AreSettled, SparesHeld}
-use Rattle.df_result.specs.Opened.{MendsAll, ToldBy, begun_state}
-use Rattle.df_result.specs.Serving.{Firm, Grade, IsGoodFor, IsKept, Keeps, KeptFor, StandsFor, Whole, format}
-use Rattle.df_result.specs.Session.{Act, EachIsMidway, Exchange, HasView, HoldsSome, IsMidway, IsServed, LeavesEither, LeavesView, acts_in, answers_in, answers_of, work_after}
-use Rattle.df_result.proofs.Laws.{added_is_told, answered_is_there, fault_stops_them, good_left, good_safe, holds_on, joined, keeps_alone, nothing_is_served, one_more_is_served}
+use Rattle.df_replica.specs.Below.{DataFile, State as Replica, shape, spelling, told_after}
+use Rattle.df_replica.specs.Following.{MayOpen}
+use Rattle.df_replica.specs.Leaving.{AreSettled, SparesHeld}
+use Rattle.df_replica.specs.Opened.{MendsAll, ToldBy, begun_state}
+use Rattle.df_replica.specs.Serving.{Firm, Grade, IsGoodFor, IsKept, Keeps, KeptFor, StandsFor, Whole, format}
+use Rattle.df_replica.specs.Session.{Act, EachIsMidway, Exchange, HasView, HoldsSome, IsMidway, IsServed, LeavesEither, LeavesView, acts_in, answers_in, answers_of, work_after}
+use Rattle.df_replica.proofs.Laws.{added_is_told, answered_is_there, fault_stops_them, good_left, good_safe, holds_on, joined, keeps_alone, nothing_is_served, one_more_is_served}
 use Rattle.df_session.specs.Keeping.{KeepsFile}
 use Rattle.df_session.specs.Links.{AreCalls, Calls, EndsCalls, More, NoCalls, call_events, events_to}
 use Rattle.df_session.proofs.Untouched.{settled_told, stay_settled}

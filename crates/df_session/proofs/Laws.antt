@@ -9,5 +9,7 @@ pub use Rattle.df_session.proofs.Founds.{file_there, layout_there, view_there}
 pub use Rattle.df_session.proofs.Files.{found_file}
 pub use Rattle.df_session.proofs.ReadCalls.{reads_block, reads_prepare, reads_reply}
 pub use Rattle.df_session.proofs.Keepings.{begun_here, calls_keep}
-pub use Rattle.df_result.proofs.Laws.{added_is_told, answer_is_of_hurt, begun_is_work, begun_may_open, call_is_own, call_is_the_one, filter_more, found_is_usable, found_keeps, found_was_since, headers_may_be_hurt, lived_layout, one_more_is_result, one_super, opened_is_written_for, probe_is_of_hurt, safe_is_not_refused, same_file, shown_after, super_shown, two_copies_are_enough}
+pub use Rattle.df_replica.proofs.Laws.{added_is_told, answer_is_of_hurt, begun_may_open, call_is_own, call_is_the_one, codec_of, filter_more, first_goes_on, first_is_super, found_is_usable, found_keeps, found_was_since, good_left, good_safe, headers_may_be_hurt, honest_stays, joined, keeps_on, keeps_self, layout_shown, lived_layout, nothing_is_served, one_super, opened_is_written_for, probe_is_of_hurt, safe_is_not_refused, same_file, same_goes_on, second_found, shown_after, stopped_goes_on, stopped_may_open, super_shown, two_copies_are_enough}
+pub use Rattle.df_session.proofs.BegunWorks.{begun_is_work}
+pub use Rattle.df_session.proofs.OneMore.{one_more_is_result}
 pub use Rattle.df_session.proofs.Lived.{told_append}

@@ -1,3 +1,11 @@
+mod Sums
+mod Groups
+mod Made
+mod Supplied
+mod Agreed
+mod Folds
+mod OneMore
+mod BegunWorks
 mod Untouched
 mod Joins
 mod ReadCalls

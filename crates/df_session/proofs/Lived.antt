@@ -9,12 +9,12 @@ use Rattle.df_disk.specs.Told.{Told, did}
 use Rattle.df_theory.specs.Device.{IsSafeDisk}
 use Rattle.df_theory.specs.View.{View}
 use Rattle.df_model.specs.Work.{Work}
-use Rattle.df_result.specs.Below.{DataFile, FindsSince, IsLivedDisk, IsOpened, MayReopen, State as Replica, restarted, shape, told_after}
-use Rattle.df_result.specs.Following.{MayOpen}
-use Rattle.df_result.specs.Opened.{MendsAll}
-use Rattle.df_result.specs.Serving.{Grade, format}
-use Rattle.df_result.specs.Session.{Act, Exchange}
-use Rattle.df_result.proofs.Laws.{begun_may_open, found_was_since, joined, raised_goes_on}
+use Rattle.df_replica.specs.Below.{DataFile, FindsSince, IsLivedDisk, IsOpened, MayReopen, State as Replica, restarted, shape, told_after}
+use Rattle.df_replica.specs.Following.{MayOpen}
+use Rattle.df_replica.specs.Opened.{MendsAll}
+use Rattle.df_replica.specs.Serving.{Grade, format}
+use Rattle.df_replica.specs.Session.{Act, Exchange}
+use Rattle.df_replica.proofs.Laws.{begun_may_open, found_was_since, joined, raised_goes_on}
 use Rattle.df_session.specs.Keeping.{KeepsFile, over}
 use Rattle.df_session.proofs.Kept.{goes_over}
 

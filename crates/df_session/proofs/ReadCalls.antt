@@ -6,12 +6,12 @@ use Rattle.df_layout.specs.declared.damage.Class.{Class}
 use Rattle.df_layout.specs.declared.damage.Class.TheVariants.{Blank}
 use Rattle.df_theory.specs.Units.{Block, Message}
 use Rattle.df_model.specs.Commands.{Answer, Command, ForReadBlock, ForReadPrepare, ForReadReply, Given, ReadBlock, ReadPrepare, ReadReply}
-use Rattle.df_result.specs.Answering.{GivesBlock, GivesFound, ServesBlockRead, ServesRead}
-use Rattle.df_result.specs.Below.{State as Replica}
-use Rattle.df_result.specs.BlockReads.{block_found}
-use Rattle.df_result.specs.Reading.{message_at}
-use Rattle.df_result.specs.Serving.{IsCall}
-use Rattle.df_result.specs.Supply.{IsSupplied}
+use Rattle.df_replica.specs.Answering.{GivesBlock, GivesFound, ServesBlockRead, ServesRead}
+use Rattle.df_replica.specs.Below.{State as Replica}
+use Rattle.df_replica.specs.BlockReads.{block_found}
+use Rattle.df_replica.specs.Reading.{message_at}
+use Rattle.df_replica.specs.Serving.{IsCall}
+use Rattle.df_replica.specs.Supply.{IsSupplied}
 use Rattle.df_session.specs.Links.{Makes}
 use Rattle.df_session.specs.Own.{own_events}
 use Rattle.df_session.proofs.Joins.{adds_none}

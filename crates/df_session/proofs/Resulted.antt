@@ -9,17 +9,17 @@ use Rattle.df_units.specs.Bytes.{unit_at}
 use Rattle.df_model.specs.Memory.{Memory, memory_of}
 use Rattle.df_model.specs.Supply.{Shown, next, result, shown_after}
 use Rattle.df_model.specs.Work.{Work}
-use Rattle.df_result.specs.Below.{DataFile, State as Replica, shape, told_after}
-use Rattle.df_result.specs.Leaving.{IsReadPlace, SparesReads}
-use Rattle.df_result.specs.Opened.{MendsAll}
-use Rattle.df_result.specs.Reading.{shown_of}
-use Rattle.df_result.specs.Serving.{Firm, IsCall, Keeps}
-use Rattle.df_result.specs.Session.{Act, Exchange, acts_in, answers_in, command_in}
-use Rattle.df_result.proofs.Laws.{added_is_told, shown_after as shown_then}
-use Rattle.df_result.specs.Agreeing.{AgreeShown}
-use Rattle.df_result.specs.Calls.{IsResult}
-use Rattle.df_result.specs.Codec.{codec}
-use Rattle.df_result.proofs.Laws.{one_more_is_result}
+use Rattle.df_replica.specs.Below.{DataFile, State as Replica, shape, told_after}
+use Rattle.df_replica.specs.Leaving.{IsReadPlace, SparesReads}
+use Rattle.df_replica.specs.Opened.{MendsAll}
+use Rattle.df_replica.specs.Reading.{shown_of}
+use Rattle.df_replica.specs.Serving.{Firm, IsCall, Keeps}
+use Rattle.df_replica.specs.Session.{Act, Exchange, acts_in, answers_in, command_in}
+use Rattle.df_replica.proofs.Laws.{added_is_told, shown_after as shown_then}
+use Rattle.df_session.specs.Agreeing.{AgreeShown}
+use Rattle.df_session.specs.Results.{IsResult}
+use Rattle.df_session.specs.Codec.{codec}
+use Rattle.df_session.proofs.OneMore.{one_more_is_result}
 use Rattle.df_session.specs.Links.{AreCalls, EndsCalls, More}
 use Rattle.df_session.specs.Resulting.{AnswersResult}
 

@@ -10,8 +10,8 @@ use Rattle.df_model.specs.Commands.{Advance, Command}
 use Rattle.df_model.specs.Sense.{AtEachOf, IsClearAddress}
 use Rattle.df_model.specs.Work.{Running, Work, is_captured, is_held, is_known, is_of}
 use Rattle.df_model.proofs.Laws.{some_of}
-use Rattle.df_result.specs.Below.{DataFile}
-use Rattle.df_result.specs.Leaving.{AreSettled, SparesHeld, WritesNext, is_durable, writes_to}
+use Rattle.df_replica.specs.Below.{DataFile}
+use Rattle.df_replica.specs.Leaving.{AreSettled, SparesHeld, WritesNext, is_durable, writes_to}
 
 -- ---- tests
 

@@ -5,9 +5,9 @@ use Rattle.df_base.specs.Moments.{Extends}
 use Rattle.df_disk.specs.Told.{Told}
 use Rattle.df_disk.specs.Adds.{after_all}
 use Rattle.df_model.specs.Work.{Work}
-use Rattle.df_result.specs.Below.{DataFile, State as Replica}
-use Rattle.df_result.specs.Serving.{Grade}
-use Rattle.df_result.specs.Session.{Act, Exchange, IsMidway, acts_in, work_after}
+use Rattle.df_replica.specs.Below.{DataFile, State as Replica}
+use Rattle.df_replica.specs.Serving.{Grade}
+use Rattle.df_replica.specs.Session.{Act, Exchange, IsMidway, acts_in, work_after}
 use Rattle.df_session.specs.Links.{AreCalls, CallsMade, NoCalls, More, EndsCalls, events_made, list_of}
 
 -- ---- what was answered by a moment, of the told log or of another base

@@ -7,10 +7,10 @@ use Rattle.df_format.specs.Copies.{content_with}
 use Rattle.df_theory.specs.Next.{IsSameBare, booted}
 use Rattle.df_theory.specs.View.{View}
 use Rattle.df_units.specs.Meaning.{content_of}
-use Rattle.df_result.specs.Begun.{begun_work}
-use Rattle.df_result.specs.Below.{State as Replica, restarted, told_after}
-use Rattle.df_result.specs.Opened.{HistoryBegins, StaysFound}
-use Rattle.df_result.specs.Serving.{Grade, IsKept}
+use Rattle.df_session.specs.Begun.{begun_work}
+use Rattle.df_replica.specs.Below.{State as Replica, restarted, told_after}
+use Rattle.df_replica.specs.Opened.{HistoryBegins, StaysFound}
+use Rattle.df_replica.specs.Serving.{Grade, IsKept}
 use Rattle.df_session.specs.Acknowledging.{KeepsAnswered}
 use Rattle.df_session.specs.Keeping.{KeepsFile, over}
 use Rattle.df_session.specs.Links.{CallsMade, events_made}

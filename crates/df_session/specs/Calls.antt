@@ -15,14 +15,14 @@ use Rattle.df_model.specs.declared.errors.NotLive.{NotLive}
 use Rattle.df_model.specs.declared.errors.ReplyError.{ReplyError}
 use Rattle.df_model.specs.declared.errors.StepError.{StepError}
 use Rattle.df_model.specs.Faults.{is_append_fault, is_block_fault, is_flush_fault, is_lookup_fault, is_prepare_fault, is_read_fault, is_reply_fault, is_step_fault}
-use Rattle.df_result.specs.Answering.{answer_of, as_append, as_flush, as_reply, as_write_block, begin_answer, is_step_unanswered, release_answer, stage_answer}
-use Rattle.df_result.specs.Appending.{IsAppendCall}
-use Rattle.df_result.specs.Beginning.{IsBegin}
-use Rattle.df_result.specs.Below.{State as Replica}
-use Rattle.df_result.specs.Blocks.{IsRelease, IsWriteBlock}
-use Rattle.df_result.specs.Flushing.{IsFlush, IsStage}
-use Rattle.df_result.specs.Replying.{IsReplyCall}
-use Rattle.df_result.specs.Stepping.{IsStepCall}
+use Rattle.df_replica.specs.Answering.{answer_of, as_append, as_flush, as_reply, as_write_block, begin_answer, is_step_unanswered, release_answer, stage_answer}
+use Rattle.df_replica.specs.Appending.{IsAppendCall}
+use Rattle.df_replica.specs.Beginning.{IsBegin}
+use Rattle.df_replica.specs.Below.{State as Replica}
+use Rattle.df_replica.specs.Blocks.{IsRelease, IsWriteBlock}
+use Rattle.df_replica.specs.Flushing.{IsFlush, IsStage}
+use Rattle.df_replica.specs.Replying.{IsReplyCall}
+use Rattle.df_replica.specs.Stepping.{IsStepCall}
 
 -- an answer tells all of it: a read lends its unit and the ring its findings, and a check has none that tells of a failing disk
 abbrev pub HasAnswer : Command → Type 0

@@ -8,7 +8,7 @@ use Rattle.df_model.specs.Commands.{Advance, Answer as Answered, Command}
 use Rattle.df_model.specs.declared.commands.Answer.{Answer}
 use Rattle.df_model.specs.declared.commands.Answer.TheVariants as answers
 use Rattle.df_model.specs.declared.errors.StepError.TheVariants as step
-use Rattle.df_result.specs.Below.{State as Replica}
+use Rattle.df_replica.specs.Below.{State as Replica}
 use Rattle.df_session.specs.Calls.{IsExact, is_fault, machine_answer}
 use Rattle.df_session.specs.Links.{Makes}
 use Rattle.df_session.specs.declared.hearing.Fault.{Fault}

@@ -6,10 +6,10 @@ use Rattle.df_disk.specs.Told.{IsHonest, Told, did}
 use Rattle.df_theory.specs.Device.{units_log}
 use Rattle.df_theory.specs.TidyLaws.{IsTidy}
 use Rattle.df_model.specs.Work.{Work, kept}
-use Rattle.df_result.specs.Below.{DataFile, shape, told_after}
-use Rattle.df_result.specs.Leaving.{AreSettled}
-use Rattle.df_result.specs.Serving.{Grade, format}
-use Rattle.df_result.specs.Session.{Act, Exchange, IsMidway, LeavesEither, LeavesView, acts_in, answers_in, answers_of, work_after}
+use Rattle.df_replica.specs.Below.{DataFile, shape, told_after}
+use Rattle.df_replica.specs.Leaving.{AreSettled}
+use Rattle.df_replica.specs.Serving.{Grade, format}
+use Rattle.df_replica.specs.Session.{Act, Exchange, IsMidway, LeavesEither, LeavesView, acts_in, answers_in, answers_of, work_after}
 use Rattle.df_session.specs.Links.{list_of}
 
 -- what a base tells after the barrier of an open and its mending, and after what was done then

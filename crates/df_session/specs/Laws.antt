@@ -9,14 +9,14 @@ use Rattle.df_theory.specs.Found.{IsFound}
 use Rattle.df_theory.specs.View.{View}
 use Rattle.df_units.specs.Bytes.{unit_at}
 use Rattle.df_model.specs.Supply.{Shown}
-use Rattle.df_result.specs.Below.{AreDistinctUnits, IsLivedDisk, MayReopen, State as Replica, restarted, shape, told_after}
-use Rattle.df_result.specs.Following.{MayOpen}
-use Rattle.df_result.specs.Begun.{begun_work}
-use Rattle.df_result.specs.Opened.{AreRaising, Mends, MendsAll, raised_state}
-use Rattle.df_result.specs.Reading.{shown_of}
-use Rattle.df_result.specs.Serving.{Firm, Grade, IsKept, Keeps, StandsFor}
-use Rattle.df_result.specs.Session.{Act, Exchange, acts_in, answers_in, answers_of}
-use Rattle.df_result.specs.Agreeing.{AgreeShown}
+use Rattle.df_replica.specs.Below.{AreDistinctUnits, IsLivedDisk, MayReopen, State as Replica, restarted, shape, told_after}
+use Rattle.df_replica.specs.Following.{MayOpen}
+use Rattle.df_session.specs.Begun.{begun_work}
+use Rattle.df_replica.specs.Opened.{AreRaising, Mends, MendsAll, raised_state}
+use Rattle.df_replica.specs.Reading.{shown_of}
+use Rattle.df_replica.specs.Serving.{Firm, Grade, IsKept, Keeps, StandsFor}
+use Rattle.df_replica.specs.Session.{Act, Exchange, acts_in, answers_in, answers_of}
+use Rattle.df_session.specs.Agreeing.{AgreeShown}
 use Rattle.df_session.specs.Acknowledging.{KeepsAnswered}
 use Rattle.df_session.specs.Anew.{KeepsAnew}
 use Rattle.df_session.specs.Keeping.{KeepsFile, over}

@@ -6,12 +6,12 @@ use Rattle.df_disk.specs.Told.{Told}
 use Rattle.df_model.specs.Changing.{unless_refused}
 use Rattle.df_model.specs.Commands.{Advance, Answer, Append, Command, Flush, Reply, WriteBlock}
 use Rattle.df_model.specs.Refusals.{append_refusals, block_refusals, first_refusal, flush_refusals, reply_refusals}
-use Rattle.df_result.specs.Appending.{append_events, next_unit}
-use Rattle.df_result.specs.Below.{RunningState, State as Replica, memory}
-use Rattle.df_result.specs.Blocks.{block_events, next_block}
-use Rattle.df_result.specs.Flushing.{flush_events}
-use Rattle.df_result.specs.Replying.{next_reply, reply_events}
-use Rattle.df_result.specs.Stepping.{step_events}
+use Rattle.df_replica.specs.Appending.{append_events, next_unit}
+use Rattle.df_replica.specs.Below.{RunningState, State as Replica, memory}
+use Rattle.df_replica.specs.Blocks.{block_events, next_block}
+use Rattle.df_replica.specs.Flushing.{flush_events}
+use Rattle.df_replica.specs.Replying.{next_reply, reply_events}
+use Rattle.df_replica.specs.Stepping.{step_events}
 
 -- those of a step, where a checkpoint runs: the write of the trailer's next block, or at last a sync and the four copies of the superblock
 abbrev pub running_events : Replica → Option RunningState → List Event

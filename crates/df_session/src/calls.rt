@@ -7,7 +7,7 @@ ghost use Rattle.df_session.specs.Links.{Makes};
 
 use df_disk::Disk;
 use df_model::{Answer, Command};
-use df_result::Replica;
+use df_replica::Replica;
 
 /// Makes the call that a command asks for. What it reads is lent by the call itself, so no read is made here.
 pub(crate) fn call<D: Disk>(disk: &mut D, replica: &mut Replica, command: Command) -> Answer

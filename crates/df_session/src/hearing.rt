@@ -10,7 +10,7 @@ use df_base::BlamesDisk;
 use df_disk::Disk;
 use df_layout::{Class, Place};
 use df_model::{Answer, Command, StepError};
-use df_result::Replica;
+use df_replica::Replica;
 
 /// Why a list of calls ends before its last one was answered.
 #[derive(Clone, Copy, Debug, PartialEq, Eq)]

@@ -9,7 +9,7 @@ use Rattle.df_model.specs.Commands.{ReadBlock, ReadPrepare}
 use Rattle.df_model.specs.Memory.{Memory, prepare_sum}
 use Rattle.df_model.specs.Supply.{Shown, block_given, block_read, class_at, class_or, message_given, no_trailer, prepare_given}
 use Rattle.df_rows.specs.Tables.{Table}
-use Rattle.df_session.specs.Below.{AgreeShown}
+use Rattle.df_session.specs.Agreeing.{AgreeShown}
 use Rattle.df_session.specs.Leaving.{IsReadPlace}
 use Rattle.df_table.specs.declared.ending.Ending.{Ending}
 use Rattle.df_table.specs.Opening.{AreFollowed, ArePrepares, AreReadBlocks, AreTakenBlocks, BlockHurt, FindsOf, FindsTable, Found, OtherBlock, OtherClient, OtherPrepare, PrepareHurt}

@@ -19,7 +19,7 @@ use Rattle.df_model.specs.Supply.{Shown}
 use Rattle.df_model.specs.Work.{Work}
 use Rattle.df_model.proofs.Laws.{pass_all}
 use Rattle.df_sessions.proofs.Laws.{reply_unnoted}
-use Rattle.df_result.specs.Replying.{with_stored_reply}
+use Rattle.df_session.specs.Replying.{with_stored_reply}
 use Rattle.df_rows.specs.Limits.{blocks_of_table}
 use Rattle.df_rows.specs.Tables.{Table}
 use Rattle.df_session.specs.Below.{DataFile, State as Replica, memory, shape, spelling}

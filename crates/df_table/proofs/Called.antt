@@ -26,7 +26,7 @@ use Rattle.df_model.specs.declared.errors.ReplyError.TheVariants as reply
 use Rattle.df_model.specs.declared.errors.StepError.{StepError}
 use Rattle.df_model.specs.declared.errors.StepError.TheVariants as step
 use Rattle.df_session.specs.Answering.{as_append, as_reply, as_write_block}
-use Rattle.df_result.specs.Appending.{IsAppendCall, next_unit, with_prepare_appended}
+use Rattle.df_session.specs.Appending.{IsAppendCall, next_unit, with_prepare_appended}
 use Rattle.df_session.specs.Beginning.{IsBegin, begin_refusal, with_checkpoint_begun}
 use Rattle.df_session.specs.Below.{State as Replica, RunningState, memory}
 use Rattle.df_session.specs.Blocks.{IsRelease, IsWriteBlock, next_block, released, written}
@@ -35,7 +35,7 @@ use Rattle.df_session.specs.Endings.{EndsBy, GivesAnswer, is_disk_fault as by_fa
 use Rattle.df_session.specs.Links.{Makes}
 use Rattle.df_session.specs.declared.hearing.Fault.{Fault}
 use Rattle.df_session.specs.declared.hearing.Fault.TheVariants as faults
-use Rattle.df_result.specs.Replying.{IsReplyCall, next_reply, with_stored_reply}
+use Rattle.df_session.specs.Replying.{IsReplyCall, next_reply, with_stored_reply}
 use Rattle.df_session.specs.Stepping.{IsStepCall, OfRunning}
 use Rattle.df_session.proofs.Laws.{on_running}
 use Rattle.df_table.specs.Calls.{CheckpointStepped, Comes, IsCheckpointing, MayAppendCommand, MayBegin, accepted_or, done_of, op_of}

@@ -17,7 +17,7 @@ use Rattle.df_rows.specs.declared.command.Command.{Command}
 use Rattle.df_rows.specs.declared.command.Command.TheVariants.{Drop, Put}
 use Rattle.df_rows.specs.Commands.{IsCommand, body_of}
 use Rattle.df_session.specs.Below.{State as Replica, memory}
-use Rattle.df_result.specs.Appending.{next_unit, with_prepare_appended}
+use Rattle.df_session.specs.Appending.{next_unit, with_prepare_appended}
 use Rattle.df_session.specs.Beginning.{needed}
 use Rattle.df_table.specs.Calls.{MayAppendCommand, MayBegin}
 use Rattle.df_table.specs.Policy.{is_full, the_client}

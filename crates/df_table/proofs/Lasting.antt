@@ -20,7 +20,7 @@ use Rattle.df_session.specs.Serving.{IsKept, Whole, format, next}
 use Rattle.df_session.specs.Session.{Act, Exchange}
 use Rattle.df_session.specs.Session as machine
 use Rattle.df_session.proofs.Laws.{added_is_told, told_append}
-use Rattle.df_result.proofs.Laws.{joined, nothing_is_served}
+use Rattle.df_session.proofs.Laws.{joined, nothing_is_served}
 use Rattle.df_table.specs.Keeping.{AreChanges, Changes, IsPending, IsTableMidway}
 use Rattle.df_table.specs.Table.{HasTable}
 use Rattle.df_table.specs.Written.{IsTableIn, WroteBodies}

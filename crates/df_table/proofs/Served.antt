@@ -12,7 +12,8 @@ use Rattle.df_theory.specs.View.{View}
 use Rattle.df_units.specs.Bytes.{unit_at}
 use Rattle.df_rows.specs.Tables.{Table}
 use Rattle.df_session.specs.Begun.{begun_work}
-use Rattle.df_session.specs.Below.{AgreeShown, IsOpened, State as Replica, memory, shape}
+use Rattle.df_session.specs.Below.{IsOpened, State as Replica, memory, shape}
+use Rattle.df_session.specs.Agreeing.{AgreeShown}
 use Rattle.df_session.specs.Found.{FoundFile}
 use Rattle.df_session.specs.Laws.{CallsKeep}
 use Rattle.df_session.specs.Leaving.{IsReadPlace}

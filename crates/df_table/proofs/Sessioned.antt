@@ -21,7 +21,7 @@ use Rattle.df_session.specs.Reading.{shown_of}
 use Rattle.df_session.specs.Serving.{Firm, Keeps}
 use Rattle.df_session.specs.Session.{Act, Exchange}
 use Rattle.df_session.proofs.Laws.{begun_here, told_append}
-use Rattle.df_result.proofs.Laws.{joined}
+use Rattle.df_session.proofs.Laws.{joined}
 use Rattle.df_table.specs.declared.ending.Ending.{Ending}
 use Rattle.df_table.specs.declared.ending.Ending.TheVariants.{Disk}
 use Rattle.df_table.specs.declared.status.Status.{Status}

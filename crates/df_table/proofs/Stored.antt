@@ -10,8 +10,8 @@ use Rattle.df_sessions.specs.Table.{requested, with_reply_stored, with_request}
 use Rattle.df_theory.specs.Units.{Session}
 use Rattle.df_model.specs.Commands.{Command}
 use Rattle.df_model.specs.Work.{Work}
-use Rattle.df_result.specs.Appending.{next_unit, with_prepare_appended}
-use Rattle.df_result.specs.Replying.{with_stored_reply}
+use Rattle.df_session.specs.Appending.{next_unit, with_prepare_appended}
+use Rattle.df_session.specs.Replying.{with_stored_reply}
 use Rattle.df_session.specs.Below.{State as Replica}
 use Rattle.df_session.specs.Links.{AreCalls, More, NoCalls}
 use Rattle.df_session.specs.Serving.{Firm, Keeps, next}

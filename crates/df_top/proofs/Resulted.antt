@@ -21,7 +21,9 @@ use Rattle.df_session.specs.Below.{DataFile, State as Replica, is_running, memor
 use Rattle.df_session.specs.Opened.{MendsAll}
 use Rattle.df_session.specs.Reading.{shown_of}
 use Rattle.df_session.specs.Serving.{Firm, IsCall, Keeps}
-use Rattle.df_session.specs.Below.{AgreeShown, IsResult, codec}
+use Rattle.df_session.specs.Codec.{codec}
+use Rattle.df_session.specs.Results.{IsResult}
+use Rattle.df_session.specs.Agreeing.{AgreeShown}
 use Rattle.df_script_model.specs.Script.{answer_text}
 use Rattle.df_session.specs.Resulting.{AnswersResult}
 use Rattle.df_session.proofs.Laws.{one_more_is_result, opened_agrees, opened_answers}

@@ -27,7 +27,8 @@ use Rattle.df_session.specs.Begun.{begun_work}
 use Rattle.df_session.specs.Below.{DataFile, IsOpened, State as Replica, shape}
 use Rattle.df_session.specs.Reading.{shown_of}
 use Rattle.df_session.proofs.Laws.{file_there, layout_there, one_super, same_file, super_shown, view_there, agree_self}
-use Rattle.df_session.specs.Below.{AgreeShown, codec}
+use Rattle.df_session.specs.Codec.{codec}
+use Rattle.df_session.specs.Agreeing.{AgreeShown}
 use Rattle.df_session.specs.Found.{FoundFile}
 use Rattle.df_top.specs.Lines.{Failing, Turned, act_of, all_said, all_text, command_of_line, printed, said_of}
 use Rattle.df_top.specs.OneText.{OneText, ShowSame, TextIsResult, status_by, text_by}

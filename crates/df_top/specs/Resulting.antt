@@ -9,7 +9,7 @@ use Rattle.df_model.specs.Work.{Work}
 use Rattle.df_session.specs.Begun.{begun_work}
 use Rattle.df_session.specs.Below.{DataFile, shape}
 use Rattle.df_session.specs.Reading.{shown_of}
-use Rattle.df_session.specs.Below.{codec}
+use Rattle.df_session.specs.Codec.{codec}
 use Rattle.df_pace.specs.Beats.{idle}
 use Rattle.df_pace.specs.Loop.{all_commands, paced, start}
 use Rattle.df_pace.specs.declared.pace.Pace.{Pace}

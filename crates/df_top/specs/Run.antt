@@ -15,7 +15,7 @@ use Rattle.df_pace.specs.declared.pace.Pace.{Pace}
 use Rattle.df_session.specs.Begun.{begun_work}
 use Rattle.df_session.specs.Below.{IsLayoutShown, State as Replica, shape}
 use Rattle.df_session.specs.Reading.{shown_of}
-use Rattle.df_session.specs.Below.{AgreeShown}
+use Rattle.df_session.specs.Agreeing.{AgreeShown}
 use Rattle.df_session.specs.Found.{FoundFile}
 use Rattle.df_session.specs.Links.{events_made}
 use Rattle.df_session.specs.Laws.{CallsKeep}

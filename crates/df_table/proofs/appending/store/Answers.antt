@@ -5,7 +5,7 @@ use Rattle.df_table.proofs.Changed.{append_ends, both_made, reply_ends}
 use Rattle.df_table.proofs.Fine.{may_answer, may_store}
 use Rattle.df_table.proofs.Stored.{ready_stored}
 use Rattle.df_table.specs.Policy.{request}
-use Rattle.df_result.specs.Replying.{next_reply}
+use Rattle.df_session.specs.Replying.{next_reply}
 use Rattle.df_table.proofs.appending.store.Goals as goal
 
 pub append-requires : goal.append-requires

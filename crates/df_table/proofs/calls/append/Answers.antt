@@ -3,7 +3,7 @@ use Rattle.std.proofs.Common.{subst, sym, ℕ, ◌+◌, [], ◌∷◌, Err, Resu
 use Rattle.std.specs.Prelude.{IfErr, IfOk, OnOk}
 use Rattle.df_base.specs.Causes.{Blamed, IsBlamed}
 use Rattle.df_model.specs.Commands.{Append}
-use Rattle.df_result.specs.Appending.{next_unit, with_prepare_appended}
+use Rattle.df_session.specs.Appending.{next_unit, with_prepare_appended}
 use Rattle.df_table.specs.declared.ending.Ending.{Ending}
 use Rattle.df_table.specs.Calls.{Comes}
 use Rattle.df_table.specs.Statuses.{is_disk}

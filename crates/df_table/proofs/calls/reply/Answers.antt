@@ -3,7 +3,7 @@ use Rattle.std.proofs.Common.{◌≡◌, ◌∙◌, subst, sym, [], ◌∷◌, E
 use Rattle.std.specs.Prelude.{IfErr, OnOk}
 use Rattle.df_base.specs.Causes.{Blamed, IsBlamed}
 use Rattle.df_model.specs.Commands.{Reply}
-use Rattle.df_result.specs.Replying.{next_reply, with_stored_reply}
+use Rattle.df_session.specs.Replying.{next_reply, with_stored_reply}
 use Rattle.df_table.specs.declared.ending.Ending.{Ending}
 use Rattle.df_table.specs.declared.ending.Ending.TheVariants.{Disk}
 use Rattle.df_table.specs.Calls.{Comes}

@@ -4,7 +4,7 @@ use Rattle.std.specs.List.{range_with_len}
 use Rattle.df_base.specs.Causes.{Blamed}
 use Rattle.df_model.specs.Commands.{Reply}
 use Rattle.df_model.specs.declared.answers.Summary.{Summary}
-use Rattle.df_result.specs.Replying.{next_reply}
+use Rattle.df_session.specs.Replying.{next_reply}
 use Rattle.df_session.specs.Below.{memory}
 use Rattle.df_table.specs.Policy.{replies}
 use Rattle.df_table.specs.Statuses.{is_disk}

@@ -5,7 +5,7 @@ use Rattle.df_theory.specs.Units.{AnyUnit, Block, BlockPlace, BlockUnit, Content
 use Rattle.df_theory.specs.UnitLog.{put_one}
 use Rattle.df_theory.proofs.Laws.{put_one_law}
 use Rattle.df_units.specs.Bytes.{unit_at}
-use Rattle.df_model.specs.Commands.{Advance, Append, Begin, Command, Flush, ReadBlock, ReadPrepare, ReadReply, Recent, Release, Reply, Scrub, Stage, WriteBlock}
+use Rattle.df_model.specs.Commands.{Advance, Append, Command, Flush, Reply, WriteBlock}
 use Rattle.df_model.specs.Making.{block_of, finishing_content, first_of, group_of, next_address, place_of_reply, prepare_of, reply_of, trailer_block}
 use Rattle.df_model.specs.Memory.{Course, Memory}
 use Rattle.df_model.specs.Refusals.{append_refusals, block_refusals, first_refusal, reply_refusals}
@@ -13,10 +13,10 @@ use Rattle.df_model.specs.Supply.{group_puts, puts_of, step_puts, step_sum, trai
 use Rattle.df_model.specs.declared.errors.FlushError.{FlushError}
 use Rattle.df_replica.specs.Below.{DataFile}
 use Rattle.df_replica.specs.Leaving.{LeavesCopies, LeavesShown}
-use Rattle.df_result.specs.Agreeing.{AreSums}
-use Rattle.df_result.specs.Codec.{IsContentOfFile, codec}
-use Rattle.df_result.proofs.Groups.{at_more, puts_each, sums_in}
-use Rattle.df_result.proofs.Sums.{units_have_sums}
+use Rattle.df_session.specs.Agreeing.{AreSums}
+use Rattle.df_session.specs.Codec.{IsContentOfFile, codec}
+use Rattle.df_session.proofs.Groups.{at_more, puts_each, sums_in}
+use Rattle.df_session.proofs.Sums.{units_have_sums}
 
 -- as many checksums are supplied as units are made, if none is refused, and a step of no checkpoint with 0
 abbrev pub AreAsMany : Memory → (sums : List ℕ) → Command → Type 0

@@ -1,6 +1,6 @@
 -- The laws are proved.
-use Rattle.df_result.proofs.OneMore.{one_more_is_result, supplied_is_result}
-use Rattle.df_result.proofs.calls.a_call_answers_the_result.Goals as goal
+use Rattle.df_session.proofs.OneMore.{one_more_is_result, supplied_is_result}
+use Rattle.df_session.proofs.results.a_call_answers_the_result.Goals as goal
 
 pub returns-clause-supplied : goal.returns-clause-supplied
 returns-clause-supplied c = supplied_is_result

@@ -1,5 +1,5 @@
 // A call over what a disk shows: laws, each the clause of a function that does nothing.
-ghost use Rattle.df_result.specs.Calls.{NextAgrees, OneMoreIsResult, ResultAgrees, SuppliedIsResult};
+ghost use Rattle.df_session.specs.Results.{NextAgrees, OneMoreIsResult, ResultAgrees, SuppliedIsResult};
 
 /// No command tells two things apart that a disk may show and that agree: over both it answers the same, and leaves the same state; and so do commands one after the
 /// other.

@@ -1,7 +1,7 @@
 -- The laws are proved.
-use Rattle.df_result.proofs.Agreed.{next_same}
-use Rattle.df_result.proofs.Folds.{result_agrees}
-use Rattle.df_result.proofs.calls.what_agrees_is_not_told_apart.Goals as goal
+use Rattle.df_session.proofs.Agreed.{next_same}
+use Rattle.df_session.proofs.Folds.{result_agrees}
+use Rattle.df_session.proofs.results.what_agrees_is_not_told_apart.Goals as goal
 
 pub returns-clause-next : goal.returns-clause-next
 returns-clause-next c = next_same

@@ -11,7 +11,7 @@ use Rattle.df_theory.specs.Units.{AnyUnit, BlockPlace, Message, Place, PreparePl
 use Rattle.df_theory.specs.View.{sessions}
 use Rattle.df_model.specs.After.{after_check, lookup_answer, place_of_client, prepare_answer, read_answer, shown_or, to_check}
 use Rattle.df_model.specs.Blocks.{addresses, entries, entry, reference_in, sum_at}
-use Rattle.df_model.specs.Commands.{Advance, Append, Begin, Command, Flush, ReadBlock, ReadPrepare, ReadReply, Recent, Release, Reply, Scrub, Stage, ToReadBlock, ToReadPrepare, ToReadReply, ToScrub, WriteBlock, Answer, as_answer}
+use Rattle.df_model.specs.Commands.{Command, ReadBlock, ReadPrepare, ReadReply, Scrub, ToReadBlock, ToReadPrepare, ToReadReply, ToScrub, Answer, as_answer}
 use Rattle.df_model.specs.Memory.{Memory, memory_of, prepare_sum, reply_sum}
 use Rattle.df_model.specs.Refusals.{first_refusal, lookup_refusals, read_refusals}
 use Rattle.df_model.specs.Sense.{IsWork}
@@ -21,9 +21,9 @@ use Rattle.df_model.specs.declared.answers.Verdict.{Verdict}
 use Rattle.df_model.proofs.Laws.{all_pass, place_known}
 use Rattle.df_replica.specs.Below.{DataFile, shape, spelling}
 use Rattle.df_replica.specs.Leaving.{IsReadPlace}
-use Rattle.df_result.specs.Agreeing.{AgreeShown}
-use Rattle.df_result.specs.Calls.{NextAgrees}
-use Rattle.df_result.specs.Codec.{codec}
+use Rattle.df_session.specs.Agreeing.{AgreeShown}
+use Rattle.df_session.specs.Results.{NextAgrees}
+use Rattle.df_session.specs.Codec.{codec}
 
 -- ---- which places are read
 

@@ -5,7 +5,7 @@ use Rattle.df_theory.specs.Units.{Block, BlockPlace, BlockUnit, Message, Prepare
 use Rattle.df_theory.specs.Shape.{Shape}
 use Rattle.df_theory.specs.UnitLog.{put_one}
 use Rattle.df_model.specs.After.{after_check, after_step_of, outcome, prepare_answer, lookup_answer, read_answer, to_check, with_group, with_live, with_prepare, with_reply}
-use Rattle.df_model.specs.Commands.{Advance, Answer, Append, Begin, Command, Flush, Given, ReadBlock, ReadPrepare, ReadReply, Recent, Release, Reply, Scrub, Stage, ToAdvance, ToAppend, ToFlush, ToReadBlock, ToReadPrepare, ToReadReply, ToReply, ToScrub, ToWriteBlock, WriteBlock, after, as_answer, supplied_sums}
+use Rattle.df_model.specs.Commands.{Advance, Answer, Append, Command, Flush, Given, ReadBlock, ReadPrepare, ReadReply, Reply, Scrub, ToAdvance, ToAppend, ToFlush, ToReadBlock, ToReadPrepare, ToReadReply, ToReply, ToScrub, ToWriteBlock, WriteBlock, after, as_answer, supplied_sums}
 use Rattle.df_model.specs.Making.{block_of, first_of, group_of, next_address, place_of_reply, prepare_of, reply_of}
 use Rattle.df_model.specs.Memory.{Memory, memory_of}
 use Rattle.df_model.specs.Refusals.{append_refusals, block_refusals, first_refusal, flush_refusals, reply_refusals}
@@ -16,7 +16,7 @@ use Rattle.df_model.specs.declared.errors.AppendError.{AppendError}
 use Rattle.df_model.specs.declared.errors.BlockError.{BlockError}
 use Rattle.df_model.specs.declared.errors.FlushError.{FlushError}
 use Rattle.df_model.specs.declared.errors.ReplyError.{ReplyError}
-use Rattle.df_result.specs.Agreeing.{AreSums, IsFoundIn}
+use Rattle.df_session.specs.Agreeing.{AreSums, IsFoundIn}
 
 -- what is made of checksums, where a refusal makes the same of all
 by_refusal : {E X : Type 0} (f : Option E → List ℕ → X) (o : Option E) (a b : List ℕ) → ((e : E) → f (Some e) a ≡ f (Some e) b) → (o ≡ None → a ≡ b) → f o a ≡ f o b

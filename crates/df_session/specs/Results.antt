@@ -11,8 +11,8 @@ use Rattle.df_replica.specs.Below.{DataFile, Represents, State, memory, shape, s
 use Rattle.df_replica.specs.Reading.{shown_of}
 use Rattle.df_replica.specs.Serving.{Firm, IsCall, Keeps, next}
 use Rattle.df_replica.specs.Supply.{IsSupplied}
-use Rattle.df_result.specs.Agreeing.{AgreeShown, AreSums}
-use Rattle.df_result.specs.Codec.{codec}
+use Rattle.df_session.specs.Agreeing.{AgreeShown, AreSums}
+use Rattle.df_session.specs.Codec.{codec}
 
 -- no command tells apart what agrees
 abbrev pub NextAgrees : Type 0

@@ -16,9 +16,9 @@ use Rattle.df_replica.specs.Below.{DataFile, IsOpened, State, boot_fields, memor
 use Rattle.df_replica.specs.Leaving.{image_after}
 use Rattle.df_replica.specs.Opened.{begun_state}
 use Rattle.df_replica.proofs.Laws.{found_keeps, raised_is, sum_of}
-use Rattle.df_result.specs.Begun.{BegunIsWork, begun_work}
-use Rattle.df_result.specs.Codec.{IsContentOfFile, codec}
-use Rattle.df_result.proofs.Sums.{units_have_sums}
+use Rattle.df_session.specs.Begun.{BegunIsWork, begun_work}
+use Rattle.df_session.specs.Codec.{IsContentOfFile, codec}
+use Rattle.df_session.proofs.Sums.{units_have_sums}
 
 module _ (t : Told) (f : State) (view : View) (whole : IsImage t.shown) (is : IsOpened f.file.layout t.shown f) (found : IsFound (shape f.file) (unit_at f.file.layout f.file.cluster t.shown) view) (later : Image) (later_whole : IsImage later)
     (shown : unit_at f.file.layout f.file.cluster later (CopyPlace 0) ≡ Some (CopyUnit (content_of (content_with (boot_fields f))))) where

@@ -7,7 +7,7 @@ use Rattle.df_format.specs.Super.{covered_bytes}
 use Rattle.df_format.specs.declared.header.Header.{Header}
 use Rattle.df_theory.specs.Units.{AnyUnit, BlockPlace, Place, PreparePlace, ReplyPlace, or_else}
 use Rattle.df_model.specs.Codec.{AreChecksums, IsChecksum}
-use Rattle.df_model.specs.Commands.{Advance, Answer, Append, Begin, Command, Flush, ReadBlock, ReadPrepare, ReadReply, Recent, Release, Reply, Scrub, Stage, WriteBlock, supplied_sums}
+use Rattle.df_model.specs.Commands.{Advance, Answer, Append, Command, Flush, Reply, WriteBlock, supplied_sums}
 use Rattle.df_model.specs.Making.{block_of, finishing_content, next_address, place_of_reply, prepare_in, prepare_of, reply_of, trailer_block}
 use Rattle.df_model.specs.Memory.{Course, Memory, memory_of}
 use Rattle.df_model.specs.Sense.{IsWork}
@@ -16,10 +16,10 @@ use Rattle.df_model.specs.Work.{Request, Work}
 use Rattle.df_model.proofs.Laws.{sense_law}
 use Rattle.df_replica.specs.Below.{DataFile, shape, spelling}
 use Rattle.df_replica.specs.Leaving.{IsReadPlace}
-use Rattle.df_result.specs.Agreeing.{AgreeShown}
-use Rattle.df_result.specs.Calls.{ResultAgrees}
-use Rattle.df_result.specs.Codec.{block_header, codec, fields_of, prepare_header, reply_header, sum_of_unit}
-use Rattle.df_result.proofs.Agreed.{next_agrees}
+use Rattle.df_session.specs.Agreeing.{AgreeShown}
+use Rattle.df_session.specs.Results.{ResultAgrees}
+use Rattle.df_session.specs.Codec.{block_header, codec, fields_of, prepare_header, reply_header, sum_of_unit}
+use Rattle.df_session.proofs.Agreed.{next_agrees}
 
 -- ---- what is made has a checksum
 

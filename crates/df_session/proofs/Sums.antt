@@ -31,7 +31,7 @@ use Rattle.df_units.specs.Bytes.{copy_unit, message_unit, unit_at}
 use Rattle.df_units.specs.Meaning.{block_of, content_of, message_of, number_of, number_or, pin_checksum_of, reply_checksums_of, unnamed_of}
 use Rattle.df_units.proofs.Laws.{by_other, by_second, none_are, nothing_else}
 use Rattle.df_replica.specs.Below.{DataFile, version_in}
-use Rattle.df_result.specs.Codec.{HasCodecSum, IsContentOfFile, UnitsHaveSums, codec, fields_of, group_in, sum_of_unit, trailer_header}
+use Rattle.df_session.specs.Codec.{HasCodecSum, IsContentOfFile, UnitsHaveSums, codec, fields_of, group_in, sum_of_unit, trailer_header}
 
 -- ---- a header that has these fields
 

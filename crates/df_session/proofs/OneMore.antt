@@ -7,7 +7,7 @@ use Rattle.df_theory.specs.Units.{AnyUnit, BlockPlace, CopyPlace, HeaderPlace, P
 use Rattle.df_theory.specs.View.{PassesTests}
 use Rattle.df_units.specs.Bytes.{unit_at}
 use Rattle.df_units.specs.Wanted.{class_at}
-use Rattle.df_model.specs.Commands.{Advance, Answer, Append, Begin, Command, Flush, Given, ReadBlock, ReadPrepare, ReadReply, Recent, Release, Reply, Scrub, Stage, WriteBlock, supplied_sum, supplied_sums}
+use Rattle.df_model.specs.Commands.{Advance, Answer, Append, Command, Flush, Given, ReadBlock, ReadPrepare, ReadReply, Reply, Scrub, WriteBlock, supplied_sum, supplied_sums}
 use Rattle.df_model.specs.Making.{first_of}
 use Rattle.df_model.specs.Memory.{Memory, memory_of}
 use Rattle.df_model.specs.Supply.{Shown, checksums_given, next as over, puts_of, shown_after}
@@ -22,12 +22,12 @@ use Rattle.df_replica.specs.Serving.{Firm, IsCall, Keeps, next}
 use Rattle.df_replica.specs.Stepping.{made_by}
 use Rattle.df_replica.specs.Supply.{IsSupplied}
 use Rattle.df_replica.proofs.Laws.{added_is_told, shown_after as shown_then}
-use Rattle.df_result.specs.Agreeing.{AgreeShown, AreSums, IsFoundIn}
-use Rattle.df_result.specs.Calls.{IsResult, OneMoreIsResult, SuppliedIsResult}
-use Rattle.df_result.specs.Codec.{IsContentOfFile, codec}
-use Rattle.df_result.proofs.Agreed.{next_agrees}
-use Rattle.df_result.proofs.Made.{AreAsMany, sums_made}
-use Rattle.df_result.proofs.Supplied.{next_is, puts_are}
+use Rattle.df_session.specs.Agreeing.{AgreeShown, AreSums, IsFoundIn}
+use Rattle.df_session.specs.Results.{IsResult, OneMoreIsResult, SuppliedIsResult}
+use Rattle.df_session.specs.Codec.{IsContentOfFile, codec}
+use Rattle.df_session.proofs.Agreed.{next_agrees}
+use Rattle.df_session.proofs.Made.{AreAsMany, sums_made}
+use Rattle.df_session.proofs.Supplied.{next_is, puts_are}
 
 -- ---- what is shown then
 

@@ -9,7 +9,7 @@ use Rattle.df_model.specs.Supply.{begun_from}
 use Rattle.df_model.specs.Work.{Work, opened}
 use Rattle.df_replica.specs.Below.{DataFile, State, shape}
 use Rattle.df_replica.specs.Opened.{MendsAll, begun_state}
-use Rattle.df_result.specs.Codec.{codec}
+use Rattle.df_session.specs.Codec.{codec}
 
 -- what calls begin with where an open finds this view in this image
 abbrev pub begun_work : DataFile → Image → View → Work

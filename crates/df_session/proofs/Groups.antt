@@ -9,7 +9,7 @@ use Rattle.df_model.specs.Memory.{Memory}
 use Rattle.df_model.specs.Supply.{group_puts, group_sums}
 use Rattle.df_model.specs.Work.{Request}
 use Rattle.df_replica.specs.Below.{DataFile}
-use Rattle.df_result.specs.Codec.{HasCodecSum, codec}
+use Rattle.df_session.specs.Codec.{HasCodecSum, codec}
 
 put_aside : (a s : ℕ) (x : AnyUnit) → (a ≡ s → ⊥) → put_one (PreparePlace a) x (PreparePlace s) ≡ None
 put_aside a s x apart = go (a == s) refl

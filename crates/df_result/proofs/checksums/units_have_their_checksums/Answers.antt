@@ -1,6 +1,0 @@
--- The law is proved.
-use Rattle.df_result.proofs.Sums.{units_have_sums}
-use Rattle.df_result.proofs.checksums.units_have_their_checksums.Goals as goal
-
-pub returns : goal.returns
-returns c = units_have_sums
