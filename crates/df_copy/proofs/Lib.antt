@@ -8,6 +8,7 @@ pub mod Ended
 pub mod Frees
 pub mod Grids
 pub mod Holding
+pub mod HowFar
 pub mod Images
 pub mod Joining
 pub mod Laws
@@ -28,6 +29,7 @@ pub mod Sampled
 pub mod Seen
 pub mod Sources
 pub mod Spares
+pub mod Stages
 pub mod Stopped
 pub mod Trailed
 pub mod Trailing

@@ -1,8 +1,8 @@
 -- At each moment of a copy that wrote all units, or a part of what follows them: what a stop leaves of the target.
-use Rattle.std.proofs.Common.{◌≡◌, inl, inr, ℕ, ◌<◌, false, List, [], ◌∷◌, Option, Some, None, refl, sym, ◌∙◌, ap, subst, arith}
+use Rattle.std.proofs.Common.{◌≡◌, ◌⊎◌, inl, inr, ℕ, ◌<◌, false, List, [], ◌∷◌, Option, Some, None, refl, sym, ◌∙◌, ap, subst, arith}
 use Rattle.std.specs.Prelude.{slice_get}
 use Rattle.df_base.specs.Image.{Image, IsImage, blank}
-use Rattle.df_base.specs.Log.{IsLog, Log, Sync, add, now, settled}
+use Rattle.df_base.specs.Log.{IsLeft, IsLog, Log, Sync, add, now, settled}
 use Rattle.df_base.specs.Moments.{EachMoment, Passed, adds}
 use Rattle.df_base.proofs.Laws.{adds_extends, adds_on, blank_is_image}
 use Rattle.df_disk.specs.Told.{Told}
@@ -11,10 +11,11 @@ use Rattle.df_layout.specs.declared.layout.Layout.{Layout}
 use Rattle.df_format.specs.Message.{Message}
 use Rattle.df_format.specs.declared.superblock.SuperFields.{SuperFields}
 use Rattle.df_format.specs.Copies.{content_with}
+use Rattle.df_format.specs.SuperRules.{IsUsable}
 use Rattle.df_theory.specs.Chance.{InImages}
-use Rattle.df_theory.specs.Copies.{Agree}
+use Rattle.df_theory.specs.Copies.{Agree, IsSplit}
 use Rattle.df_theory.specs.CopyPuts.{update_steps}
-use Rattle.df_theory.specs.Device.{AreSteps, Format, units_log}
+use Rattle.df_theory.specs.Device.{AreSteps, Format, NoChanceOf, units_log}
 use Rattle.df_theory.specs.Rests.{IsCopy}
 use Rattle.df_theory.specs.UnitLog
 use Rattle.df_theory.specs.UnitLog.{UnitLog, same_place}
@@ -33,11 +34,13 @@ use Rattle.df_copy.specs.Targets.{copy_events, front_events, front_steps, superb
 use Rattle.df_copy.specs.Views.{IsEmptyImage, ShowsCopy}
 use Rattle.df_copy.proofs.Afters.{update_other}
 use Rattle.df_copy.proofs.Holding.{nothing_shown, shown, shown_after}
+use Rattle.df_copy.proofs.HowFar.{units_distinct}
 use Rattle.df_copy.proofs.Sources.{IsSource}
 use Rattle.df_copy.proofs.Spares.{before_copies, spare_before}
+use Rattle.df_copy.proofs.Stages.{HasStage, left_by, stages}
 use Rattle.df_copy.proofs.UnderWay.{IsUnderWay, Leaves, update_leaves}
 use Rattle.df_copy.proofs.Untouched.{IsUntouched, all_split, log_on, no_copy, none_in, stops_part, untouched_begun, untouched_leaves, untouched_on, untouched_then}
-use Rattle.df_copy.proofs.Usables.{IsNamed, superblock_are_steps}
+use Rattle.df_copy.proofs.Usables.{IsNamed, copy_usable, superblock_are_steps}
 use Rattle.df_copy.proofs.Written.{front_are_steps}
 
 apart : (place : Place) → (IsCopy place → ⊥) → (n : ℕ) → same_place (CopyPlace n) place ≡ false
@@ -60,6 +63,9 @@ module _ (layout : Layout) (s : State) (rs bs : List Message) (image : Units) (v
 
   abbrev c : Content
   c = content_of (content_with f)
+
+  usable : IsUsable f
+  usable = copy_usable layout s rs bs is
 
   abbrev then : Units
   then = shown layout s rs bs image v is source read
@@ -139,11 +145,26 @@ module _ (layout : Layout) (s : State) (rs bs : List Message) (image : Units) (v
 
     -- ---- the moments
 
-    gives : (log : Log) → IsLog log → Leaves c then (units_log fmt log) → Left log
+    -- no two copies agree, and none did in what was durable before; or it shows the copy
+    Decides : Log → Type 0
+    Decides log = (target : Image) → IsLeft log target → NoChanceOf fmt log target → (IsSplit (unit_at layout cluster target) × AreSplit (UnitLog.settled (units_log fmt log))) ⊎ ShowsCopy layout s.file from w target
+
+    gives : (log : Log) → IsLog log → Leaves c then (units_log fmt log) → Decides log
+    unfolding Decides
     gives log whole leaves target left chance = elim (leaves (unit_at layout cluster target) (firm_units fmt (is_format layout cluster) log target left.kept) chance) [
       | inl split ↦ inl split
       | inr both ↦ inr (suffices target left.whole both.0.same both.1 both.0.only)
     ]
+
+    at_stage : (log : Log) → Decides log → HasStage f usable log → Left log
+    unfolding Decides
+    at_stage log decides stage target left chance =
+        let decided = decides target left chance in
+        record {
+          is = left_by f usable layout s.file from w log target left (elim decided [ inl split ↦ inl split.0 | inr shows ↦ inr shows ]) stage;
+          early = λ split. elim decided [ inl early ↦ early.1 | inr shows ↦ absurd (split shows.view.checkpoint.content shows.found.chosen.agreed) ];
+          distinct = units_distinct layout cluster log target chance;
+        }
 
     abbrev exit : Log
     exit = adds (update_events f) durable
@@ -151,11 +172,13 @@ module _ (layout : Layout) (s : State) (rs bs : List Message) (image : Units) (v
     update_are : AreSteps fmt (update_events f) (update_steps (put_copies f))
     update_are = superblock_are_steps layout s rs bs is
 
+    decided : EachMoment durable exit Decides
+    decided = moments fmt (Leaves c then) Decides gives (update_events f) (update_steps (put_copies f)) durable durable_log update_are (update_leaves c then (put_copies f) units under_way)
+
     behind_sync : Passed durable exit Left
-    behind_sync = record {
-      grew = adds_extends (update_events f) durable;
-      moments = moments fmt (Leaves c then) Left gives (update_events f) (update_steps (put_copies f)) durable durable_log update_are (update_leaves c then (put_copies f) units under_way);
-    }
+    behind_sync =
+        let staged = stages f usable durable (λ n from inside. (untouched.firm n inside, untouched.shown n inside)) in
+        record { grew = adds_extends (update_events f) durable; moments = λ log moment. at_stage log (decided log moment) (staged.moments log moment) }
 
     all_moments : Passed start exit Left
     all_moments =

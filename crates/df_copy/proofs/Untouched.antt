@@ -7,6 +7,7 @@ use Rattle.df_base.proofs.Laws.{adds_extends, adds_on, extends_on, goes_on, stan
 use Rattle.df_disk.specs.Told.{Told, did}
 use Rattle.df_disk.specs.Adds.{AddsPart}
 use Rattle.df_layout.specs.declared.layout.Layout.{Layout}
+use Rattle.df_format.specs.Copies.{is_blank_copy}
 use Rattle.df_format.proofs.Laws.{same_copy}
 use Rattle.df_theory.specs.Chance.{InImages}
 use Rattle.df_theory.specs.Copies.{IsSplit}
@@ -17,9 +18,12 @@ use Rattle.df_theory.specs.View.{View}
 use Rattle.df_theory.proofs.Laws.{settled_law}
 use Rattle.df_units.specs.Bytes.{copy_unit, unit_at}
 use Rattle.df_units.proofs.Laws.{blank_empty}
-use Rattle.df_opening.specs.Below.{DataFile, format_of, restarted, told_after}
-use Rattle.df_copy.specs.Stops.{AreSplit, LeavesCopy, StopsCopy}
+use Rattle.df_model.specs.declared.errors.OpenError.TheVariants.{NotFormatted}
+use Rattle.df_opening.specs.Below.{DataFile, Refuses, format_of, restarted, told_after}
+use Rattle.df_copy.specs.Stops.{AreSplit, IsLeftAt, LeavesCopy, Progress, StopsCopy, progress}
+use Rattle.df_copy.specs.Stops.Progress.{NotBegun}
 use Rattle.df_copy.specs.Views.{IsEmptyImage}
+use Rattle.df_copy.proofs.HowFar.{blank_is_blank, not_begun, units_distinct}
 use Rattle.df_copy.proofs.Spares.{SpareSuper, front_of_part, uncovered}
 
 -- ---- the sectors of the superblock
@@ -91,10 +95,14 @@ module _ (layout : Layout) (cluster : ℕ) where
 
 module _ (layout : Layout) (file : DataFile) (source : Image) (v : View) where
   pub untouched_leaves : (log : Log) → IsUntouched log → LeavesCopy layout file source v log
-  untouched_leaves log is image left chance = inl (
-    split_blank layout file.cluster image (λ n inside. left.kept n (is.firm n inside) ∙ is.shown n inside),
-    subst AreSplit (sym (settled_law (format_of layout file.cluster) log)) (all_split layout file.cluster (settled log) is.durable),
-  )
+  untouched_leaves log is image left chance =
+      let zeros : Refuses image NotFormatted = λ n inside. ap is_blank_copy (left.kept n (is.firm n inside) ∙ is.shown n inside) ∙ blank_is_blank n in
+      record {
+        is = subst (λ (w : Progress). IsLeftAt layout file source v w (progress log 1) image) (sym (not_begun log 0 (is.shown 0 (omega arith))))
+            (subst (λ (w : Progress). IsLeftAt layout file source v NotBegun w image) (sym (not_begun log 1 (is.shown 1 (omega arith)))) zeros);
+        early = λ split. subst AreSplit (sym (settled_law (format_of layout file.cluster) log)) (all_split layout file.cluster (settled log) is.durable);
+        distinct = units_distinct layout file.cluster log image chance;
+      }
 
   -- what is told after these events, and the log of it
   told_log : (es : List Event) (t : Told) → (told_after es t).log ≡ adds es t.log

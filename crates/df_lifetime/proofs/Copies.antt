@@ -12,7 +12,7 @@ use Rattle.df_session.specs.Below.{AreDistinctUnits, DataFile, restarted, told_a
 use Rattle.df_session.proofs.Laws.{added_is_told}
 use Rattle.df_copy.specs.Lives.{MayGoOn}
 use Rattle.df_copy.specs.Views.{HoldsCopy, ShowsCopy, file_in}
-use Rattle.df_copy.proofs.Laws.{copied_begins}
+use Rattle.df_copy.proofs.Laws.{copied_begins, left_or_shows}
 use Rattle.df_lifetime.specs.Again.Again.{Once}
 use Rattle.df_lifetime.specs.Copied.{CopiedBegins, IsCopiedImage, MadeIsCopied, StoppedIsCopied, file_of, view_of}
 use Rattle.df_lifetime.specs.Life.{GoesAlong}
@@ -43,7 +43,7 @@ stopped_is_copied layout t read o n p m run image empty until along left chance 
     let told : told_after stops.events o ≡ n = one_some run.new.second (told_after stops.events o) n (stops.told ∙ added_is_told stops.events o) run.later in
     let all : GoesAlong o n (restarted o) (told_after stops.events (restarted o)) = subst (λ (x : Told). GoesAlong o x (restarted o) (told_after stops.events (restarted o))) told (after_along stops.events o (restarted o) refl) in
     let moment : IsMoment (restarted o).log (told_after stops.events (restarted o)).log m.log = moment_along o p n (restarted o) m (told_after stops.events (restarted o)) all along until in
-    elim (stops.moments m.log moment image left chance) [
+    elim (left_or_shows layout (file_of run) read.shown (view_of run) image left.whole m.log (stops.moments m.log moment image left chance)) [
       | inl split ↦ inl split
       | inr shows ↦ inr (is_copied layout (file_of run) read.shown (view_of run) image shows (distinct_left (file_in layout (file_of run)) m.log image chance))
     ]
