@@ -7,7 +7,8 @@ use Rattle.std.specs.Prelude.{Result, Ok, Err, OnOk, option_map, slice_index}
 use Rattle.std.proofs.lemmas.Bool.{cases_eq, cases_lt}
 use Rattle.std.proofs.lemmas.Option.{same_Some, slice_get-get_or, slice_get-map, slice_get_within}
 use Rattle.df_disk.specs.Told.{Told}
-use Rattle.df_format.specs.declared.kind.Kind.TheVariants.{Reply}
+use Rattle.df_format.specs.declared.kind.Kind.{Kind}
+use Rattle.df_format.specs.declared.kind.Kind.TheVariants.{Block as AsBlock, Prepare, Reply, Trailer}
 use Rattle.df_format.specs.declared.superblock.SuperFields.{SuperFields}
 use Rattle.df_format.specs.Spelling.{IsCheck, no_checksum}
 use Rattle.df_format.specs.SuperRules.{IsUsable}
@@ -26,13 +27,15 @@ use Rattle.df_units.proofs.Laws.{no_number, one_number}
 use Rattle.df_opening.specs.Below.{shape}
 use Rattle.df_mirror.specs.declared.ending.Ending.{Ending}
 use Rattle.df_mirror.specs.declared.superblock.Superblock.{Superblock}
-use Rattle.df_mirror.specs.Known.{AreShown, HasSessions, IsKnownAt, IsRecordedReply, IsShownAs}
+use Rattle.df_mirror.specs.Known.{AreShown, ComesBefore, HasSessions, IsKnownAt, IsRecordedReply, IsShownAs}
 use Rattle.df_mirror.specs.Mends.{AreOfKind}
 use Rattle.df_mirror.specs.Outside.{Outside, Tell}
 use Rattle.df_mirror.specs.Walks.{HasHead, HasLater, HasNewer, Mended, MendsRecorded, ShowsKnownReplies, content_of_superblock, superblock_units}
 use Rattle.df_mirror.proofs.Frames.{other_place}
+use Rattle.df_mirror.proofs.Logs.{prepares_shown}
 use Rattle.df_mirror.proofs.Named.{ring_there}
 use Rattle.df_mirror.proofs.Ones.{one_trailer, trailer_there}
+use Rattle.df_mirror.proofs.Orders.{grid_there}
 use Rattle.df_mirror.proofs.Recorded.{recorded_sum}
 use Rattle.df_mirror.proofs.Referenced.{shown_there}
 use Rattle.df_mirror.proofs.Turns.{none_mended, of_one}
@@ -72,6 +75,7 @@ module _ (b : Superblock) (k : ℕ) (image other : Units) (alike : AreAlike k im
 
   head_there : (slots : Scan) (table : Table) → HasHead b image slots table → HasHead b other slots table
   head_there slots table head = record {
+    grid = grid_there b image other (λ a. alike (BlockPlace a) (λ (same : BlockPlace a ≡ ReplyPlace k). cc)) head.grid;
     tells = record {
       table = head.tells.table;
       shows = record {
@@ -151,10 +155,18 @@ module _ (b : Superblock) (slots : Scan) (table : Table) (k : ℕ) (t o : Told) 
   })
 
   module _ (check : List ℕ) (sum_at : slice_get b.content.reply_checksums k ≡ Some check) (known : (HasNewer b (superblock_units b t.shown) k → ⊥) → IsRecordedReply (shape b.file) (superblock_units b t.shown) (content_of_superblock b) k (number_of check)) where
+    -- the known blocks, the prepares, and the replies at lower places are shown
+    first : (kind : Kind) (at : Place) (sum : ℕ) → ComesBefore kind Reply at (ReplyPlace k) → IsKnownAt (shape b.file) (superblock_units b t.shown) (content_of_superblock b) kind at sum → IsShownAs (superblock_units b t.shown) kind at sum
+    first Trailer at sum comes is = shows.has.grid.trailer at sum is
+    first AsBlock at sum comes is = shows.has.grid.blocks at sum is
+    first Prepare at sum comes is = prepares_shown b (superblock_units b t.shown) (record { named = shows.has.has.named; known = shows.has.has.known; count = shows.has.has.count }) at sum is
+    first Reply (ReplyPlace j) sum comes is = let less : j < k = comes in shows.shown j sum less is
+    first kind at sum comes is = absurd is
+
     one_more : (answer : Result ℕ Ending) → MendsRecorded b k check t o old new answer → (u : Told) → new.first ≡ Some u → OnOk answer (ShowsKnownReplies b (superblock_units b u.shown) slots table (k + 1))
     one_more (Err e) mends u is = tt
     one_more (Ok count) mends u is =
-        let alike : AreAlike k (superblock_units b t.shown) (superblock_units b u.shown) = λ place apart. other_place b.file (content_of_superblock b) t o u new.first old.written new.written tell.whole is place Reply (ReplyPlace k) count (mends.answers known) (λ same. apart (sym same)) in
+        let alike : AreAlike k (superblock_units b t.shown) (superblock_units b u.shown) = λ place apart. other_place b.file (content_of_superblock b) t o u new.first old.written new.written tell.whole is place Reply (ReplyPlace k) count (mends.answers known first) (λ same. apart (sym same)) in
         let back : AreAlike k (superblock_units b u.shown) (superblock_units b t.shown) = λ place apart. sym (alike place apart) in
         record {
           has = head_there b k (superblock_units b t.shown) (superblock_units b u.shown) alike slots table shows.has;
@@ -171,7 +183,7 @@ module _ (b : Superblock) (slots : Scan) (table : Table) (k : ℕ) (t o : Told) 
         }
 
     pub reply_mended : (answer : Result ℕ Ending) → MendsRecorded b k check t o old new answer → Mended b (AreOfKind Reply) t o old new answer (λ image. ShowsKnownReplies b image slots table (k + 1))
-    reply_mended answer mends = of_one b Reply (ReplyPlace k) t o old new answer (λ image. ShowsKnownReplies b image slots table (k + 1)) (mends.answers known) (one_more answer mends)
+    reply_mended answer mends = of_one b Reply (ReplyPlace k) t o old new answer (λ image. ShowsKnownReplies b image slots table (k + 1)) (mends.answers known first) (one_more answer mends)
 
 -- ---- all of them
 

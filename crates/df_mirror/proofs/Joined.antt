@@ -1,16 +1,16 @@
 -- Mends one list after the other, and the answers of walks one after the other.
-use Rattle.std.proofs.Common.{◌≡◌, ℕ, ◌+◌, ◌≤◌, List, [], ◌∷◌, ◌++◌, length, Option, Some, refl, sym, ◌∙◌, ap, subst, arith, length-append, append_assoc}
+use Rattle.std.proofs.Common.{◌≡◌, ℕ, ◌+◌, ◌≤◌, List, [], ◌∷◌, ◌++◌, length, Option, Some, None, refl, sym, ◌∙◌, ap, subst, arith, length-append, append_assoc}
 use Rattle.std.proofs.lemmas.Option.{same_Some}
 use Rattle.std.specs.Prelude.{Result, Ok, Err}
 use Rattle.df_base.specs.Image.{Image, IsImage}
 use Rattle.df_base.specs.Log.{Event, Sync, Write}
-use Rattle.df_base.specs.Streams.{Appends, AppendsPart}
-use Rattle.df_base.proofs.Laws.{appends_more, appends_part, written_is_image}
+use Rattle.df_base.specs.Streams.{Appends}
+use Rattle.df_base.proofs.Laws.{appends_more, written_is_image}
 use Rattle.df_inspect.proofs.Laws.{appends_none}
-use Rattle.df_disk.specs.Adds.{AddsPart, after_all}
+use Rattle.df_disk.specs.Adds.{after_all}
 use Rattle.df_disk.specs.Told.{Told, did}
-use Rattle.df_disk.proofs.Laws.{all_then}
 use Rattle.df_format.specs.declared.kind.Kind.{Kind}
+use Rattle.df_format.specs.declared.kind.Kind.TheVariants.{Trailer}
 use Rattle.df_theory.specs.Units.{Content, Place}
 use Rattle.df_units.specs.Bytes.{first_at}
 use Rattle.df_units.specs.Meaning.{place_of}
@@ -18,8 +18,9 @@ use Rattle.df_damage.specs.Anew.{told_after}
 use Rattle.df_opening.specs.Below.{DataFile}
 use Rattle.df_mirror.specs.declared.ending.Ending.{Ending}
 use Rattle.df_mirror.specs.declared.ending.Ending.TheVariants.{First, Neither, Second, Sink, Unopened}
+use Rattle.df_mirror.specs.Known.{rank_of_kind}
 use Rattle.df_mirror.specs.Laws.{MendsGoOn, UnitsComeInOrder}
-use Rattle.df_mirror.specs.Mends.{AnswersMending, AreAt, AreFrom, AreMends, AreOfKind, Came, Failed, Mend, MendsUnits, lines_of, mirrored_events, rank_of_kind}
+use Rattle.df_mirror.specs.Mends.{AnswersMending, AreAt, AreFrom, AreMends, AreOfKind, Came, Failed, FailsAt, IsRefusal, Mend, MendsUnits, lines_of, mirrored_events, under_way}
 use Rattle.df_mirror.specs.Texts.{mended_text}
 
 -- ---- lists
@@ -84,25 +85,27 @@ module _ (file : DataFile) (c : Content) (Of : List Mend → Type 0) (none : Of 
   pub none_came : (Last : List Mend → Told → Type 0) → Last [] t → Came file c Of t o new old text Last
   none_came Last last = record { mends = []; after = t; after_is = same; are_of = none; does = record { are = tt; told = refl; printed = nothing }; last = last }
 
-  pub none_failed : Failed file c Of t o new old text
-  none_failed = record { mends = []; are_of = none; does = record { are = tt; told = same; printed = (0, omega arith, nothing) } }
+-- a call failed before any was
+pub none_failed : (file : DataFile) (c : Content) (Of : List Mend → Type 0) → Of [] → (t o : Told) (new : Option Told) (old text : Option (List ℕ)) (e : Ending) → FailsAt file e None t new old text → Failed file c Of t o new old text e
+none_failed file c Of none t o new old text e fails = record { mends = []; one = None; are_of = none; are = tt; said = old; printed = appends_none old; fails = fails }
 
 -- what comes last is another fact
 pub came_with : (file : DataFile) (c : Content) (Of Also : List Mend → Type 0) (t o : Told) (new : Option Told) (old text : Option (List ℕ)) (One Other : List Mend → Told → Type 0) → ((ms : List Mend) → Of ms → Also ms)
-    → ((ms : List Mend) (n : Told) → new ≡ Some n → One ms n → Other ms n) → Came file c Of t o new old text One → Came file c Also t o new old text Other
-came_with file c Of Also t o new old text One Other of last came = record { mends = came.mends; after = came.after; after_is = came.after_is; are_of = of came.mends came.are_of; does = came.does; last = last came.mends came.after came.after_is came.last }
+    → ((ms : List Mend) (n : Told) → new ≡ Some n → Of ms → One ms n → Other ms n) → Came file c Of t o new old text One → Came file c Also t o new old text Other
+came_with file c Of Also t o new old text One Other of last came = record { mends = came.mends; after = came.after; after_is = came.after_is; are_of = of came.mends came.are_of; does = came.does; last = last came.mends came.after came.after_is came.are_of came.last }
 
-failed_with : (file : DataFile) (c : Content) (Of Also : List Mend → Type 0) (t o : Told) (new : Option Told) (old text : Option (List ℕ)) → ((ms : List Mend) → Of ms → Also ms) → Failed file c Of t o new old text → Failed file c Also t o new old text
-failed_with file c Of Also t o new old text of failed = record { mends = failed.mends; are_of = of failed.mends failed.are_of; does = failed.does }
+failed_with : (file : DataFile) (c : Content) (Of Also : List Mend → Type 0) (t o : Told) (new : Option Told) (old text : Option (List ℕ)) (e : Ending) → ((ms : List Mend) → Of ms → Also ms) → Failed file c Of t o new old text e → Failed file c Also t o new old text e
+failed_with file c Of Also t o new old text e of failed =
+    record { mends = failed.mends; one = failed.one; are_of = of (failed.mends ++ under_way failed.one) failed.are_of; are = failed.are; said = failed.said; printed = failed.printed; fails = failed.fails }
 
 pub answers_with : (file : DataFile) (c : Content) (Of Also : List Mend → Type 0) (t o : Told) (new : Option Told) (old text : Option (List ℕ)) (result : Result ℕ Ending) → ((ms : List Mend) → Of ms → Also ms) → AnswersMending file c Of t o new old text result
     → AnswersMending file c Also t o new old text result
-answers_with file c Of Also t o new old text (Ok n) of is = came_with file c Of Also t o new old text _ _ of (λ ms n same last. last) is
-answers_with file c Of Also t o new old text (Err (Neither place class)) of is = came_with file c Of Also t o new old text _ _ of (λ ms n same last. last) is
-answers_with file c Of Also t o new old text (Err (Unopened e)) of is = came_with file c Of Also t o new old text _ _ of (λ ms n same last. last) is
-answers_with file c Of Also t o new old text (Err First) of is = failed_with file c Of Also t o new old text of is
-answers_with file c Of Also t o new old text (Err Second) of is = failed_with file c Of Also t o new old text of is
-answers_with file c Of Also t o new old text (Err Sink) of is = failed_with file c Of Also t o new old text of is
+answers_with file c Of Also t o new old text (Ok n) of is = came_with file c Of Also t o new old text _ _ of (λ ms n same are last. last) is
+answers_with file c Of Also t o new old text (Err (Neither place class)) of is = came_with file c Of Also t o new old text _ _ of (λ ms n same are last. last) is
+answers_with file c Of Also t o new old text (Err (Unopened e)) of is = came_with file c Of Also t o new old text _ _ of (λ ms n same are last. last) is
+answers_with file c Of Also t o new old text (Err First) of is = failed_with file c Of Also t o new old text First of is
+answers_with file c Of Also t o new old text (Err Second) of is = failed_with file c Of Also t o new old text Second of is
+answers_with file c Of Also t o new old text (Err Sink) of is = failed_with file c Of Also t o new old text Sink of is
 
 -- so many more were mended
 abbrev pub more : ℕ → Result ℕ Ending → Result ℕ Ending
@@ -127,32 +130,35 @@ module _ (file : DataFile) (c : Content) (Of Then All : List Mend → Type 0) (c
     last = last came.mends came.after came.last;
   }
 
-  join_failed : (new : Option Told) (later : Option (List ℕ)) → Failed file c Then Mid o new text later → Failed file c All t o new old later
-  join_failed new later failed = record {
-    mends = ms ++ failed.mends;
-    are_of = closed ms failed.mends of failed.are_of;
-    does = record {
-      are = mends_go_on file c o.shown t ms failed.mends does.are failed.does.are;
-      told = subst (λ (es : List Event). AddsPart es (Some t) new) (sym (events_append file ms failed.mends)) (all_then (mirrored_events file ms) (mirrored_events file failed.mends) (Some t) (Some Mid) new (sym (after_told (mirrored_events file ms) t)) failed.does.told);
-      printed = subst (λ (p : List ℕ). AppendsPart old later p) (sym (lines_append ms failed.mends)) (appends_part old text later (lines_of ms) (lines_of failed.mends) does.printed failed.does.printed);
-    };
-  }
+  join_failed : (new : Option Told) (later : Option (List ℕ)) (e : Ending) → Failed file c Then Mid o new text later e → Failed file c All t o new old later e
+  join_failed new later e failed =
+      let last : List Mend = under_way failed.one in
+      let all : ms ++ (failed.mends ++ last) ≡ (ms ++ failed.mends) ++ last = sym (append_assoc ms failed.mends last) in
+      record {
+        mends = ms ++ failed.mends;
+        one = failed.one;
+        are_of = subst All all (closed ms (failed.mends ++ last) of failed.are_of);
+        are = subst (λ (l : List Mend). AreMends file c o.shown t l) all (mends_go_on file c o.shown t ms (failed.mends ++ last) does.are failed.are);
+        said = failed.said;
+        printed = subst (λ (p : List ℕ). Appends old failed.said p) (sym (lines_append ms failed.mends)) (appends_more old text failed.said (lines_of ms) (lines_of failed.mends) does.printed failed.printed);
+        fails = subst (λ (m : Told). FailsAt file e failed.one m new failed.said later) (sym (told_behind file ms failed.mends t)) failed.fails;
+      }
 
-  pub joined : (a : ℕ) → a ≡ length ms → (new : Option Told) (later : Option (List ℕ)) (result : Result ℕ Ending) → AnswersMending file c Then Mid o new text later result → AnswersMending file c All t o new old later (more a result)
-  joined a size new later (Ok b) is = join new later (λ ls n. b ≡ length ls) (λ ls n. a + b ≡ length ls) (λ ls n count. omega (arith, size, count, length-append ms ls)) is
-  joined a size new later (Err (Neither place class)) is = join new later _ _ (λ ls n last. last) is
-  joined a size new later (Err (Unopened e)) is = join new later _ _ (λ ls n last. last) is
-  joined a size new later (Err First) is = join_failed new later is
-  joined a size new later (Err Second) is = join_failed new later is
-  joined a size new later (Err Sink) is = join_failed new later is
+  pub joined : (a : ℕ) → a ≡ length ms → (new : Option Told) (later : Option (List ℕ)) (result : Result ℕ Ending) → (IsRefusal result → AreOfKind Trailer ms) → AnswersMending file c Then Mid o new text later result → AnswersMending file c All t o new old later (more a result)
+  joined a size new later (Ok b) only is = join new later (λ ls n. b ≡ length ls) (λ ls n. a + b ≡ length ls) (λ ls n count. omega (arith, size, count, length-append ms ls)) is
+  joined a size new later (Err (Neither place class)) only is = join new later _ _ (λ ls n last. last) is
+  joined a size new later (Err (Unopened e)) only is = join new later _ _ (λ ls n last. (kinds_append Trailer ms ls (only tt) last.0, last.1)) is
+  joined a size new later (Err First) only is = join_failed new later First is
+  joined a size new later (Err Second) only is = join_failed new later Second is
+  joined a size new later (Err Sink) only is = join_failed new later Sink is
 
 -- what one walk mended, and what the next one does
-pub answers_then : (file : DataFile) (c : Content) (Of Then All : List Mend → Type 0) → ((ms ls : List Mend) → Of ms → Then ls → All (ms ++ ls)) → (t o m : Told) (mid new : Option Told) (old text later : Option (List ℕ)) (a : ℕ) (result : Result ℕ Ending)
+pub answers_then : (file : DataFile) (c : Content) (Of Then All : List Mend → Type 0) → ((ms ls : List Mend) → Of ms → Then ls → All (ms ++ ls)) → (t o m : Told) (mid new : Option Told) (old text later : Option (List ℕ)) (a : ℕ) (result : Result ℕ Ending) → (IsRefusal result → (ms : List Mend) → Of ms → AreOfKind Trailer ms)
     → AnswersMending file c Of t o mid old text (Ok a) → mid ≡ Some m → AnswersMending file c Then m o new text later result → AnswersMending file c All t o new old later (more a result)
-answers_then file c Of Then All closed t o m mid new old text later a result came is rest =
+answers_then file c Of Then All closed t o m mid new old text later a result only came is rest =
     let same : m ≡ told_after (mirrored_events file came.mends) t = sym (same_Some _ _ (sym came.after_is ∙ is)) ∙ came.does.told in
     let does : MendsUnits file c t o (told_after (mirrored_events file came.mends) t) old text came.mends = record { are = came.does.are; told = refl; printed = came.does.printed } in
-    joined file c Of Then All closed t o came.mends came.are_of old text does a came.last new later result (subst (λ (x : Told). AnswersMending file c Then x o new text later result) same rest)
+    joined file c Of Then All closed t o came.mends came.are_of old text does a came.last new later result (λ refusal. only refusal came.mends came.are_of) (subst (λ (x : Told). AnswersMending file c Then x o new text later result) same rest)
 
 -- what is told after a walk is whole
 pub told_is_whole : (file : DataFile) (c : Content) (Of : List Mend → Type 0) (t o m : Told) (mid : Option Told) (old text : Option (List ℕ)) (a : ℕ) → IsImage t.shown → AnswersMending file c Of t o mid old text (Ok a) → mid ≡ Some m → IsImage m.shown

@@ -7,6 +7,7 @@ pub mod OpenedMarks
 pub mod OpenedPlaces
 pub mod OpenedRuns
 pub mod OpenedViews
+pub mod Orders
 pub mod Taken
 pub mod Frames
 pub mod Chains

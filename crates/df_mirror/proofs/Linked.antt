@@ -34,6 +34,7 @@ use Rattle.df_mirror.specs.Walks.{HasWalkedChain, Mended, WalkGoesOn, broken_at,
 use Rattle.df_mirror.proofs.Chains.{among, arrives_there, asked_shown, chain_spare, not_among}
 use Rattle.df_mirror.proofs.Frames.{other_place}
 use Rattle.df_mirror.proofs.Joined.{came_with, kind_at, none_came}
+use Rattle.df_mirror.proofs.Orders.{before_trailer}
 use Rattle.df_mirror.proofs.Turns.{MendsDue, due_mended, lent_shown, of_one}
 
 -- the references have an address where their addresses do
@@ -76,7 +77,7 @@ module _ (b : Superblock) (n index : ℕ) (walk : Walk) (t o : Told) (counts : I
       let there = among walked.chain walk.at.address (sym (among_walked read same) ∙ some) in
       let again : ComesAgain (shape b.file) (superblock_units b t.shown) (content_of_superblock b) walk.at.address = record { sum = number_of walk.at.checksum; reads = Its; block = there.0; chained = there.1 } in
       subst (λ (x : Ending). Mended b (AreOfKind Trailer) t o old old (Err x) Shows) (sym is) (record {
-        answers = none_came b.file (content_of_superblock b) (AreOfKind Trailer) tt t o old.first old.written old.written tell.first refl (λ ms m. RefusesFirstTrailer b.file m.shown (content_of_superblock b) (BadField TrailerChain walk.at.address)) (inr (refl, again));
+        answers = none_came b.file (content_of_superblock b) (AreOfKind Trailer) tt t o old.first old.written old.written tell.first refl (λ ms m. AreOfKind Trailer ms × RefusesFirstTrailer b.file m.shown (content_of_superblock b) (BadField TrailerChain walk.at.address)) (tt, inr (refl, again));
         shown = λ u is. tt;
       })
 
@@ -87,6 +88,7 @@ module _ (b : Superblock) (n index : ℕ) (walk : Walk) (t o : Told) (counts : I
     link_due : IsDue (shape b.file) (superblock_units b t.shown) (content_of_superblock b) Trailer (BlockPlace walk.at.address) (number_of walk.at.checksum)
     link_due = record {
       known = Its;
+      first = before_trailer (shape b.file) (superblock_units b t.shown) (content_of_superblock b) (BlockPlace walk.at.address);
       spare = λ lacks. chain_spare (shape b.file) (superblock_units b t.shown) (content_of_superblock b) n walked.chain walk.at.address (number_of walk.at.checksum) counts walked.arrives walked.links some_more apart lacks;
     }
 
@@ -144,7 +146,7 @@ module _ (b : Superblock) (n index : ℕ) (walk : Walk) (t o : Told) (counts : I
 
         pub link_broken : (e : Ending) (Shows : Units → Type 0) → WalkGoesOn b walk.at walk.read.items index held.unit (Err e) → Mended b (AreOfKind Trailer) t o old new (Err e) Shows
         link_broken e Shows goes = subst (λ (x : Ending). Mended b (AreOfKind Trailer) t o old new (Err x) Shows) (sym goes.0) (record {
-          answers = came_with b.file (content_of_superblock b) _ (AreOfKind Trailer) t o new.first old.written new.written _ (λ ms m. RefusesFirstTrailer b.file m.shown (content_of_superblock b) (BadField TrailerChain walk.at.address)) (kind_at Trailer (BlockPlace walk.at.address))
-              (λ ms m is last. breaks m is goes.1) it.answers;
+          answers = came_with b.file (content_of_superblock b) _ (AreOfKind Trailer) t o new.first old.written new.written _ (λ ms m. AreOfKind Trailer ms × RefusesFirstTrailer b.file m.shown (content_of_superblock b) (BadField TrailerChain walk.at.address)) (kind_at Trailer (BlockPlace walk.at.address))
+              (λ ms m is of last. (kind_at Trailer (BlockPlace walk.at.address) ms of, breaks m is goes.1)) it.answers;
           shown = λ m is. tt;
         })

@@ -26,16 +26,14 @@ use Rattle.df_opening.specs.Below.{shape}
 use Rattle.df_mirror.specs.declared.ending.Ending.{Ending}
 use Rattle.df_mirror.specs.declared.ending.Ending.TheVariants.{First, Neither, Second, Sink, Unopened}
 use Rattle.df_mirror.specs.declared.superblock.Superblock.{Superblock}
-use Rattle.df_mirror.specs.Known.{AllShown, AreShown, IsKnownAt, IsNamedPrepare, IsShownAs, ShowsTrailer}
-use Rattle.df_mirror.specs.Mends.{AnswersMending, AreFrom, AreInOrder, AreLate, AreOfKind, Mend, rank_of_kind}
+use Rattle.df_mirror.specs.Known.{AllShown, AreShown, IsKnownAt, IsNamedPrepare, IsShownAs, ShowsTrailer, rank_of_kind}
+use Rattle.df_mirror.specs.Mends.{AnswersMending, AreFrom, AreInOrder, AreLate, AreOfKind, IsRefusal, Mend}
 use Rattle.df_mirror.specs.Outside.{Outside, Tell, around}
 use Rattle.df_mirror.specs.Refusals.{RefusesFirstTrailer}
-use Rattle.df_mirror.specs.Walks.{HasHead, HasTrailerText, Mended, ReadsChainText, ShowsBlocks, ShowsLog, ShowsNamed, content_of_superblock, superblock_units}
-use Rattle.df_mirror.proofs.Referenced.{shown_there}
-use Rattle.df_mirror.proofs.Chains.{all_of_it, shown_block}
+use Rattle.df_mirror.specs.Walks.{HasHead, HasTrailerText, Mended, ReadsChainText, ShowsBlocks, ShowsGrid, ShowsLog, ShowsNamed, content_of_superblock, superblock_units}
 use Rattle.df_mirror.proofs.Frames.{other_kind}
 use Rattle.df_mirror.proofs.Joined.{answers_with, more, none_came, none_failed}
-use Rattle.df_mirror.proofs.Ones.{one_trailer, trailer_there}
+use Rattle.df_mirror.proofs.Orders.{grid_shown, grid_there}
 use Rattle.df_mirror.proofs.Turns.{none_read, read_behind, shows_more, then_mended}
 
 -- ---- the order
@@ -55,18 +53,18 @@ then_from rank kind (m ∷ ms) ls less are from =
 
 -- so many of one kind were mended, a read comes after them, and then those that follow in the order
 pub walk_then : {b : Superblock} {t o : Told} {old mid new : Outside} {told : Option Told} {a : ℕ} {Before After : Units → Type 0} (low high : ℕ) (kind : Kind) → low ≤ rank_of_kind kind → rank_of_kind kind ≤ high → Tell t o old → Mended b (AreOfKind kind) t o old mid (Ok a) Before → mid.second ≡ old.second
-    → told ≡ mid.first → (result : Result ℕ Ending) → ((m : Told) → Tell m o (around told mid.second mid.written) → Before (superblock_units b m.shown) → Mended b (AreFrom high) m o (around told mid.second mid.written) new result After)
+    → told ≡ mid.first → (result : Result ℕ Ending) → (IsRefusal result → (ms : List Mend) → AreOfKind kind ms → AreOfKind Trailer ms) → ((m : Told) → Tell m o (around told mid.second mid.written) → Before (superblock_units b m.shown) → Mended b (AreFrom high) m o (around told mid.second mid.written) new result After)
     → Mended b (AreFrom low) t o old new (more a result) After
-walk_then {mid = mid} {told = told} low high kind from to tell has same read result next =
-    then_mended {mid = around told mid.second mid.written} (λ ms ls of then. then_from low kind ms ls from of (from_lower (rank_of_kind kind) high ls to then)) tell same (read_behind has read refl) result next
+walk_then {mid = mid} {told = told} low high kind from to tell has same read result only next =
+    then_mended {mid = around told mid.second mid.written} (λ ms ls of then. then_from low kind ms ls from of (from_lower (rank_of_kind kind) high ls to then)) tell same (read_behind has read refl) result only next
 
 -- the trailer is refused
 pub refused_here : (b : Superblock) (rank : ℕ) (m o : Told) (old : Outside) (e : Ending) (Shows : Units → Type 0) → Tell m o old → ReadsChainText b m.shown (Err e) → Mended b (AreFrom rank) m o old old (Err e) Shows
 refused_here b rank m o old e Shows tell reads = record { answers = by e reads; shown = λ u is. tt }
   where
     by : (e : Ending) → ReadsChainText b m.shown (Err e) → AnswersMending b.file (content_of_superblock b) (AreFrom rank) m o old.first old.written old.written (Err e)
-    by (Unopened e) reads = none_came b.file (content_of_superblock b) (AreFrom rank) tt m o old.first old.written old.written tell.first refl (λ ms n. RefusesFirstTrailer b.file n.shown (content_of_superblock b) e) reads
-    by First reads = none_failed b.file (content_of_superblock b) (AreFrom rank) tt m o old.first old.written old.written tell.first refl
+    by (Unopened e) reads = none_came b.file (content_of_superblock b) (AreFrom rank) tt m o old.first old.written old.written tell.first refl (λ ms n. AreOfKind Trailer ms × RefusesFirstTrailer b.file n.shown (content_of_superblock b) e) (tt, reads)
+    by First reads = none_failed b.file (content_of_superblock b) (AreFrom rank) tt m o old.first old.written old.written First (tell.first, refl)
     by Second reads = absurd reads
     by Sink reads = absurd reads
     by (Neither place class) reads = absurd reads
@@ -104,10 +102,11 @@ named_there b image other same is = record { named = is.named; known = known_the
 
 -- ---- the sessions at the head
 
-pub head_is : (b : Superblock) (image now : Units) (slots : Scan) (table : Table) (ss : List model.Session) (says : ShowsTrailer (shape b.file) image (content_of_superblock b)) → says.parts.sessions ≡ ss → ((a : ℕ) → now (BlockPlace a) ≡ image (BlockPlace a)) → ShowsNamed b now
+pub head_is : (b : Superblock) (image now : Units) → ShowsGrid b now → (slots : Scan) (table : Table) (ss : List model.Session) (says : ShowsTrailer (shape b.file) image (content_of_superblock b)) → says.parts.sessions ≡ ss → ((a : ℕ) → now (BlockPlace a) ≡ image (BlockPlace a)) → ShowsNamed b now
     → TellsRings b.file.layout now slots → table.max ≡ b.file.layout.clients
     → ((named : List Message) → AreKnown b.file.layout.slots now (b.content.op + 1) (content_of_superblock b).pin_checksum named → b.content.op + length named ≡ (content_of_superblock b).pin → sessions_of table.sessions ≡ take b.file.layout.clients (sessions_after ss named)) → HasHead b now slots table
-head_is b image now slots table ss says same blocks named tells places given = record {
+head_is b image now grid slots table ss says same blocks named tells places given = record {
+  grid = grid;
   tells = tells;
   sessions = sessions_after says.parts.sessions named.named;
   has = record { says = record { chain = says.chain; parts = says.parts; trailer = says.trailer; shown = λ a x at. blocks a ∙ says.shown a x at }; named = named.named; known = named.known; count = named.count; sessions_are = refl };
@@ -119,10 +118,10 @@ head_is b image now slots table ss says same blocks named tells places given = r
 module _ (b : Superblock) (t o : Told) (old mid : Outside) (a : ℕ) (tell : Tell t o old) (came : Mended b (AreOfKind Prepare) t o old mid (Ok a) (ShowsNamed b)) (same : mid.second ≡ old.second) (told : Option Told) (read : told ≡ mid.first) where
   -- the rings can't be read
   pub log_unread : (Shows : Units → Type 0) → Mended b AreLate t o old (around told mid.second mid.written) (Err First) Shows
-  log_unread Shows = walk_then 3 3 Prepare (omega arith) (omega arith) tell came same read (Err First) (λ m on named. none_read b (AreFrom 3) tt m o (around told mid.second mid.written) (around told mid.second mid.written) on refl refl Shows)
+  log_unread Shows = walk_then 3 3 Prepare (omega arith) (omega arith) tell came same read (Err First) (λ refusal. absurd refusal) (λ m on named. none_read b (AreFrom 3) tt m o (around told mid.second mid.written) (around told mid.second mid.written) on refl refl Shows)
 
   -- and then the replies are mended
-  module _ (says : ShowsTrailer (shape b.file) (superblock_units b t.shown) (content_of_superblock b)) (ss : List model.Session) (of_trailer : says.parts.sessions ≡ ss) (layout : Layout) (of_file : layout ≡ b.file.layout) (slots : Scan) (start : Start) (begun : slots.start ≡ start)
+  module _ (grid : ShowsGrid b (superblock_units b t.shown)) (says : ShowsTrailer (shape b.file) (superblock_units b t.shown) (content_of_superblock b)) (ss : List model.Session) (of_trailer : says.parts.sessions ≡ ss) (layout : Layout) (of_file : layout ≡ b.file.layout) (slots : Scan) (start : Start) (begun : slots.start ≡ start)
       (cluster : start.cluster ≡ b.file.cluster) (scanned : IsScanned layout mid.first slots) (table : Table) (places : table.max ≡ b.file.layout.clients)
       (brought : (image : Units) (named : List Message) → TellsRings b.file.layout image slots → AreKnown b.file.layout.slots image (b.content.op + 1) (content_of_superblock b).pin_checksum named → b.content.op + length named ≡ (content_of_superblock b).pin
       → sessions_of table.sessions ≡ take b.file.layout.clients (sessions_after ss named)) where
@@ -139,7 +138,7 @@ module _ (b : Superblock) (t o : Told) (old mid : Outside) (a : ℕ) (tell : Tel
           subst (λ (n : ℕ). TellsRings b.file.layout (unit_at b.file.layout n m.shown) slots) (ap (λ (x : Start). x.cluster) begun ∙ cluster) (rings_shown b.file.layout m slots here)
 
       head : HasHead b (superblock_units b m.shown) slots table
-      head = head_is b (superblock_units b t.shown) (superblock_units b m.shown) slots table ss says of_trailer blocks_there named rings places (λ ps known count. brought (superblock_units b m.shown) ps rings known count)
+      head = head_is b (superblock_units b t.shown) (superblock_units b m.shown) (grid_there b (superblock_units b t.shown) (superblock_units b m.shown) blocks_there grid) slots table ss says of_trailer blocks_there named rings places (λ ps known count. brought (superblock_units b m.shown) ps rings known count)
 
       log_shown : (new : Outside) (result : Result ℕ Ending) → Mended b (AreOfKind Reply) m o (around told mid.second mid.written) new result (λ image. AreShown (shape b.file) image (content_of_superblock b) Reply) → (u : Told) → new.first ≡ Some u
           → OnOk result (ShowsLog b (superblock_units b t.shown) (superblock_units b u.shown))
@@ -150,11 +149,11 @@ module _ (b : Superblock) (t o : Told) (old mid : Outside) (a : ℕ) (tell : Tel
         replies = rest.shown u is;
       }
 
-    pub log_mended : (new : Outside) (result : Result ℕ Ending)
+    pub log_mended : (new : Outside) (result : Result ℕ Ending) → (IsRefusal result → ⊥)
         → ((m : Told) → Tell m o (around told mid.second mid.written) → HasHead b (superblock_units b m.shown) slots table → Mended b (AreOfKind Reply) m o (around told mid.second mid.written) new result (λ image. AreShown (shape b.file) image (content_of_superblock b) Reply))
         → Mended b AreLate t o old new (more a result) (ShowsLog b (superblock_units b t.shown))
-    log_mended new result next =
-        walk_then 3 3 Prepare (omega arith) (omega arith) tell came same read result (λ m on named.
+    log_mended new result never next =
+        walk_then 3 3 Prepare (omega arith) (omega arith) tell came same read result (λ refusal. absurd (never refusal)) (λ m on named.
         let rest = next m on (head m on named) in
         record {
           answers = answers_with b.file (content_of_superblock b) (AreOfKind Reply) (AreFrom 3) m o new.first mid.written new.written result (λ ms are. from_kind 3 Reply ms (omega arith) are) rest.answers;
@@ -166,17 +165,14 @@ module _ (b : Superblock) (t o : Told) (old mid : Outside) (a : ℕ) (tell : Tel
 pub all_shown : (b : Superblock) (grid : GridState) (ss : List Session) (image now : Units) → ShowsBlocks b image grid ss b.file.layout.blocks → ShowsLog b image now → AllShown (shape b.file) now (content_of_superblock b)
 all_shown b grid ss image now blocks log = by
   where
+    there : ShowsGrid b now
+    there = grid_there b image now log.blocks (grid_shown b grid ss image blocks)
+
     by : (kind : Kind) (place : Place) (sum : ℕ) → IsKnownAt (shape b.file) now (content_of_superblock b) kind place sum → IsShownAs now kind place sum
-    by Trailer (BlockPlace a) sum known =
-        let says = trailer_there (shape b.file) image now (content_of_superblock b) blocks.has.says (λ e x at. log.blocks e) in
-        shown_block now a sum (all_of_it (shape b.file) now (content_of_superblock b) says a sum known)
-    by AsBlock (BlockPlace a) sum known =
-        let says = trailer_there (shape b.file) image now (content_of_superblock b) blocks.has.says (λ e x at. log.blocks e) in
-        let parts : known.says.parts ≡ blocks.has.says.parts = one_trailer (shape b.file) now (content_of_superblock b) known.says says in
-        let reference : blocks.has.says.parts.references a ≡ Some sum = ap (λ (p : Parts). p.references a) (sym parts) ∙ known.reference in
-        shown_there image now AsBlock (BlockPlace a) sum (log.blocks a) (blocks.shown a sum (blocks.has.inside a sum reference).1 (blocks.has.live a ∙ reference))
-    by Prepare (PreparePlace s) sum known = log.prepares (PreparePlace s) sum known
-    by Reply (ReplyPlace k) sum known = log.replies (ReplyPlace k) sum known
+    by Trailer place sum known = there.trailer place sum known
+    by AsBlock place sum known = there.blocks place sum known
+    by Prepare place sum known = log.prepares place sum known
+    by Reply place sum known = log.replies place sum known
     by kind place sum known = absurd known
 
 -- ---- the walks one after the other
@@ -186,10 +182,10 @@ pub all_mended : {b : Superblock} {t o : Told} {old mid late new : Outside} {tol
     → Mended b (AreOfKind Trailer) t o old mid (Ok a) (λ image. AreShown (shape b.file) image (content_of_superblock b) Trailer) → mid.second ≡ old.second
     → told ≡ mid.first → ((m : Told) → mid.first ≡ Some m → IsImage m.shown → AreShown (shape b.file) (superblock_units b m.shown) (content_of_superblock b) Trailer → HasTrailerText b (superblock_units b m.shown) grid ss)
     → ((m : Told) → Tell m o (around told mid.second mid.written) → HasTrailerText b (superblock_units b m.shown) grid ss → Mended b (AreOfKind AsBlock) m o (around told mid.second mid.written) late (Ok k) (λ image. ShowsBlocks b image grid ss b.file.layout.blocks)) → late.second ≡ mid.second
-    → (result : Result ℕ Ending) → ((m : Told) → Tell m o late → (says : ShowsTrailer (shape b.file) (superblock_units b m.shown) (content_of_superblock b)) → says.parts.sessions ≡ sessions_of ss → Mended b AreLate m o late new result (ShowsLog b (superblock_units b m.shown)))
+    → (result : Result ℕ Ending) → (IsRefusal result → ⊥) → ((m : Told) → Tell m o late → ShowsGrid b (superblock_units b m.shown) → (says : ShowsTrailer (shape b.file) (superblock_units b m.shown) (content_of_superblock b)) → says.parts.sessions ≡ sessions_of ss → Mended b AreLate m o late new result (ShowsLog b (superblock_units b m.shown)))
     → Mended b AreInOrder t o old new (more a (more k result)) (λ image. AllShown (shape b.file) image (content_of_superblock b))
-all_mended {b = b} {k = k} grid ss tell chain same read has blocks also result log =
-    walk_then 0 1 Trailer (omega arith) (omega arith) tell chain same read (more k result) (λ m on shown.
+all_mended {b = b} {k = k} grid ss tell chain same read has blocks also result never log =
+    walk_then 0 1 Trailer (omega arith) (omega arith) tell chain same read (more k result) (λ refusal ms are. are) (λ m on shown.
     let text = has m (sym read ∙ on.first) on.whole shown in
-    walk_then 1 3 AsBlock (omega arith) (omega arith) on (blocks m on text) also refl result (λ n then shows.
-    shows_more (λ image shown. all_shown b grid ss (superblock_units b n.shown) image shows shown) (log n then shows.has.says shows.has.sessions_are)))
+    walk_then 1 3 AsBlock (omega arith) (omega arith) on (blocks m on text) also refl result (λ refusal. absurd (never refusal)) (λ n then shows.
+    shows_more (λ image shown. all_shown b grid ss (superblock_units b n.shown) image shows shown) (log n then (grid_shown b grid ss (superblock_units b n.shown) shows) shows.has.says shows.has.sessions_are)))

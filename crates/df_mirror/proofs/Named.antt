@@ -22,8 +22,9 @@ use Rattle.df_mirror.specs.Known.{IsDue, IsKnownAt, IsShownAs, IsSparePlace}
 use Rattle.df_mirror.specs.Mends.{AreOfKind}
 use Rattle.df_mirror.specs.Outside.{Outside, Tell}
 use Rattle.df_mirror.specs.Taking.{HoldsShown, IsFor, MendsUnit}
-use Rattle.df_mirror.specs.Walks.{Mended, NamesPreparesFrom, ShowsNamed, content_of_superblock, superblock_units}
+use Rattle.df_mirror.specs.Walks.{Mended, NamesPreparesFrom, ShowsGrid, ShowsNamed, content_of_superblock, superblock_units}
 use Rattle.df_mirror.proofs.Frames.{other_place}
+use Rattle.df_mirror.proofs.Orders.{before_prepare, grid_there}
 use Rattle.df_mirror.proofs.Turns.{MendsDue, due_mended, lent_shown, of_one}
 
 -- known prepares are known in an image whose ring shows them, too
@@ -53,8 +54,8 @@ module _ (b : Superblock) where
   pin_checksum_is = ap (λ (v : ℕ). number_of (if v == 2 then b.content.head_checksum else b.content.op_checksum)) b.second
 
   -- at the head none is above
-  pub names_head : (image : Units) → NamesPreparesFrom b image b.content.head (number_of b.content.head_checksum)
-  names_head image = record { later = []; known = tt; count = omega (arith, pin_is); sum_is = sym pin_checksum_is }
+  pub names_head : (image : Units) → ShowsGrid b image → NamesPreparesFrom b image b.content.head (number_of b.content.head_checksum)
+  names_head image grid = record { grid = grid; later = []; known = tt; count = omega (arith, pin_is); sum_is = sym pin_checksum_is }
 
   -- and at the checkpoint all are
   pub names_all : (image : Units) (op sum : ℕ) → NamesPreparesFrom b image op sum → op ≡ b.content.op → ShowsNamed b image
@@ -93,7 +94,7 @@ module _ (b : Superblock) where
         at_kind kind at k known shown same = absurd known
 
     named_due : IsDue (shape b.file) (superblock_units b t.shown) (content_of_superblock b) Prepare (PreparePlace (op % b.file.layout.slots)) sum
-    named_due = record { known = record { op = op; above = above; slot_is = refl; later = from.later; known = from.known; count = from.count; sum_is = from.sum_is }; spare = spare }
+    named_due = record { known = record { op = op; above = above; slot_is = refl; later = from.later; known = from.known; count = from.count; sum_is = from.sum_is }; first = before_prepare b (superblock_units b t.shown) (PreparePlace (op % b.file.layout.slots)) from.grid; spare = spare }
 
   -- the prepare that is named is mended, and names the one before it
   module _ (usable : IsUsable b.content) (op : ℕ) (check : List ℕ) (above : b.content.op < op) (identity : Identity) (for : IsFor b.file Prepare (PreparePlace (op % b.file.layout.slots)) check identity) (t o : Told) (old new : Outside) (tell : Tell t o old)
@@ -113,6 +114,8 @@ module _ (b : Superblock) where
         (λ (one : PreparePlace (op % n) ≡ PreparePlace (q % n)). mod_apart n op q some (omega (arith, low)) (omega (arith, high, from.count, within usable, above)) (cc))) in
         let one : op ≡ (op - 1) + 1 = omega (arith, above) in
         record {
+          grid = grid_there b (superblock_units b t.shown) image (λ a. other_place b.file (content_of_superblock b) t o m new.first old.written new.written tell.whole is (BlockPlace a) Prepare (PreparePlace (op % n)) more mends.answers
+              (λ (one : PreparePlace (op % n) ≡ BlockPlace a). cc)) from.grid;
           later = message_of u ∷ from.later;
           known = subst (λ (k : ℕ). AreKnown n image k pin (message_of u ∷ from.later)) one (there, sum, later);
           count = omega (arith, from.count, above);

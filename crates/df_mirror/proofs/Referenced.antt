@@ -1,5 +1,5 @@
 -- A referenced block, as a turn over the addresses.
-use Rattle.std.proofs.Common.{◌≡◌, ℕ, ◌+◌, List, Option, Some, None, sym, ◌∙◌, ap, subst, arith, inl, inr}
+use Rattle.std.proofs.Common.{◌≡◌, ℕ, ◌+◌, ◌<◌, List, Option, Some, None, sym, ◌∙◌, ap, subst, arith, inl, inr}
 use Rattle.std.proofs.lemmas.Bool.{cases_eq}
 use Rattle.std.proofs.lemmas.Option.{same_Some}
 use Rattle.std.specs.Prelude.{Result, Ok, Err, IfOk, OnOk}
@@ -19,11 +19,12 @@ use Rattle.df_grid.specs.Reads.{at_address}
 use Rattle.df_opening.specs.Below.{shape}
 use Rattle.df_mirror.specs.declared.ending.Ending.{Ending}
 use Rattle.df_mirror.specs.declared.superblock.Superblock.{Superblock}
-use Rattle.df_mirror.specs.Known.{IsDue, IsKnownAt, IsShownAs, IsSparePlace}
+use Rattle.df_mirror.specs.Known.{ComesBefore, IsDue, IsKnownAt, IsShownAs, IsSparePlace}
 use Rattle.df_mirror.specs.Mends.{AreOfKind}
 use Rattle.df_mirror.specs.Outside.{Outside, Tell}
 use Rattle.df_mirror.specs.Taking.{HoldsShown, MendsUnit}
 use Rattle.df_mirror.specs.Walks.{HasTrailerText, Mended, ShowsBlocks, content_of_superblock, superblock_units}
+use Rattle.df_mirror.proofs.Chains.{all_of_it, shown_block}
 use Rattle.df_mirror.proofs.Frames.{other_place}
 use Rattle.df_mirror.proofs.Ones.{one_trailer, trailer_there, wanted_block}
 use Rattle.df_mirror.proofs.Turns.{MendsDue, due_mended, none_mended, of_one}
@@ -71,7 +72,18 @@ module _ (b : Superblock) (grid : GridState) (ss : List Session) (before : ℕ) 
         at_kind kind at sum known shown same = absurd known
 
     block_due : IsDue (shape b.file) (superblock_units b t.shown) (content_of_superblock b) AsBlock (BlockPlace (before + 1)) (number_of check)
-    block_due = record { known = record { says = shows.has.says; reference = referenced }; spare = spare }
+    block_due = record { known = record { says = shows.has.says; reference = referenced }; first = first; spare = spare }
+      where
+        -- the trailer, and the blocks at lower addresses
+        first : (kind : Kind) (at : Place) (sum : ℕ) → ComesBefore kind AsBlock at (BlockPlace (before + 1)) → IsKnownAt (shape b.file) (superblock_units b t.shown) (content_of_superblock b) kind at sum → IsShownAs (superblock_units b t.shown) kind at sum
+        first Trailer (BlockPlace e) sum comes known = shown_block (superblock_units b t.shown) e sum (all_of_it (shape b.file) (superblock_units b t.shown) (content_of_superblock b) shows.has.says e sum known)
+        first AsBlock (BlockPlace e) sum comes known =
+            let less : e < before + 1 = comes in
+            let parts = one_trailer (shape b.file) (superblock_units b t.shown) (content_of_superblock b) known.says shows.has.says in
+            shows.shown e sum (omega (arith, less)) (shows.has.live e ∙ ap (λ (p : Parts). p.references e) (sym parts) ∙ known.reference)
+        first Prepare at sum comes known = absurd (let less : 3 < 2 = comes in omega (arith, less))
+        first Reply at sum comes known = absurd (let less : 4 < 2 = comes in omega (arith, less))
+        first kind at sum comes known = absurd known
 
     module _ (identity : Identity) (is : identity ≡ at_address b.file.layout b.file.cluster (before + 1) check) (fits : IsCheck check) (old new : Outside) (tell : Tell t o old) (shelf : Option Holding) where
       one_more : (result : Result ℕ Ending) → MendsDue b AsBlock (BlockPlace (before + 1)) check t o old new shelf result → (m : Told) → new.first ≡ Some m → OnOk result (ShowsBlocks b (superblock_units b m.shown) grid ss (before + 1))

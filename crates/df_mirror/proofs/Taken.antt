@@ -5,10 +5,9 @@ use Rattle.std.proofs.lemmas.Option.{same_Some}
 use Rattle.std.specs.Prelude.{Result, Ok, Err}
 use Rattle.df_base.specs.Image.{IsImage}
 use Rattle.df_base.specs.Log.{Sync, Write}
-use Rattle.df_base.specs.Streams.{Appends, AppendsPart}
+use Rattle.df_base.specs.Streams.{Appends}
 use Rattle.df_inspect.proofs.Laws.{appends_none}
 use Rattle.df_disk.specs.Told.{Told, did}
-use Rattle.df_disk.proofs.Laws.{all_is_part}
 use Rattle.df_layout.specs.declared.damage.Class.{Class}
 use Rattle.df_layout.specs.declared.places.Place.{Place as FilePlace}
 use Rattle.df_format.specs.declared.kind.Kind.{Kind}
@@ -16,7 +15,6 @@ use Rattle.df_format.specs.Message.{sectors_end}
 use Rattle.df_buffers.specs.declared.identity.Identity.{Identity}
 use Rattle.df_buffers.specs.Sounds.{Holding, IsTidy}
 use Rattle.df_places.specs.Shelves.{IsFoundUnit, IsRead, shown_at}
-use Rattle.df_places.specs.Units.{unit_events}
 use Rattle.df_theory.specs.Device.{IsPut}
 use Rattle.df_theory.specs.UnitLog.{put_one}
 use Rattle.df_theory.specs.Units.{AnyUnit, Content, Place, or_else}
@@ -28,7 +26,7 @@ use Rattle.df_opening.specs.Below.{DataFile, shape}
 use Rattle.df_mirror.specs.declared.ending.Ending.{Ending}
 use Rattle.df_mirror.specs.declared.ending.Ending.TheVariants.{First, Neither, Second, Sink, Unopened}
 use Rattle.df_mirror.specs.Known.{IsDue, IsKnownAt, IsShownAs}
-use Rattle.df_mirror.specs.Mends.{AnswersMending, AreAt, Came, Failed, IsMend, IsNeither, Mend, units_shown}
+use Rattle.df_mirror.specs.Mends.{AnswersMending, AreAt, Came, Failed, IsMend, IsNeither, IsRefusal, Mend, units_shown}
 use Rattle.df_mirror.specs.Outside.{Outside}
 use Rattle.df_mirror.specs.Taking.{IsFor, PutsUnit, ShowsUnit, TakesUnit, WritesUnit}
 use Rattle.df_mirror.specs.Texts.{mended_text}
@@ -87,8 +85,11 @@ module _ (file : DataFile) (kind : Kind) (at : Place) (check : List ℕ) (identi
         let from = shows_unit file kind at check identity for o.shown held.unit shown found in
         let sum = sym there.sum_is in
         record {
-          known = subst (λ (n : ℕ). IsKnownAt (shape file) (units_shown file t.shown) c kind at n) sum due.known;
-          lacks = subst (λ (n : ℕ). IsShownAs (units_shown file t.shown) kind at n → ⊥) sum lacks;
+          next = record {
+            known = subst (λ (n : ℕ). IsKnownAt (shape file) (units_shown file t.shown) c kind at n) sum due.known;
+            lacks = subst (λ (n : ℕ). IsShownAs (units_shown file t.shown) kind at n → ⊥) sum lacks;
+            first = due.first;
+          };
           spare = due.spare lacks;
           of_kind = there.of_kind;
           from = from.shown ∙ sym from.unit_is ∙ there.unit_is;
@@ -109,21 +110,22 @@ module _ (file : DataFile) (kind : Kind) (at : Place) (check : List ℕ) (identi
           last = refl;
         }
 
-    pub one_unwritten : (new : Option Told) (old text : Option (List ℕ)) → WritesUnit identity.layout identity.place held (Some t) new old text {T = Unit {0}} (Err First) → Failed file c (AreAt kind at) t o new old text
+    pub one_unwritten : (new : Option Told) (old text : Option (List ℕ)) → WritesUnit identity.layout identity.place held (Some t) new old text {T = Unit {0}} (Err First) → Failed file c (AreAt kind at) t o new old text First
     unfolding the_mend
     one_unwritten new old text writes =
         let own = own_place {T = Unit {0}} (Err First) (Some t) new old text writes in
-        record { mends = the_mend ∷ []; are_of = (refl, refl, tt); does = record { are = (is_mend, tt); told = own.0; printed = (0, omega arith, subst (λ (x : Option (List ℕ)). Appends old x []) (sym own.1) (appends_none old)) } }
+        record { mends = []; one = Some the_mend; are_of = (refl, refl, tt); are = (is_mend, tt); said = old; printed = appends_none old; fails = own }
 
-    pub one_unprinted : (new : Option Told) (old text : Option (List ℕ)) → WritesUnit identity.layout identity.place held (Some t) new old text {T = Unit {0}} (Err Sink) → Failed file c (AreAt kind at) t o new old text
+    pub one_unprinted : (new : Option Told) (old text : Option (List ℕ)) → WritesUnit identity.layout identity.place held (Some t) new old text {T = Unit {0}} (Err Sink) → Failed file c (AreAt kind at) t o new old text Sink
     unfolding the_mend
     one_unprinted new old text writes =
         let own = own_place {T = Unit {0}} (Err Sink) (Some t) new old text writes in
-        record {
-          mends = the_mend ∷ [];
-          are_of = (refl, refl, tt);
-          does = record { are = (is_mend, tt); told = all_is_part (unit_events file.layout (place_of at) held) (Some t) new own.0; printed = subst (λ (p : List ℕ). AppendsPart old text p) (sym (append-nil (mended_text (place_of at)))) own.1 };
-        }
+        record { mends = []; one = Some the_mend; are_of = (refl, refl, tt); are = (is_mend, tt); said = old; printed = appends_none old; fails = own }
+
+-- how many were written, where the unit came from the second file
+abbrev pub one_in : Result (Unit {0}) Ending → Result ℕ Ending
+one_in (Ok x) = Ok 1
+one_in (Err e) = Err e
 
 module _ (file : DataFile) (c : Content) (kind : Kind) (at : Place) (check : List ℕ) (identity : Identity) (for : IsFor file kind at check identity) (t o : Told) (due : IsDue (shape file) (units_shown file t.shown) c kind at (number_of check))
     (lacks : IsShownAs (units_shown file t.shown) kind at (number_of check) → ⊥) where
@@ -132,19 +134,13 @@ module _ (file : DataFile) (c : Content) (kind : Kind) (at : Place) (check : Lis
   abbrev From : Option (List ℕ) → Outside
   From old = record { first = Some t; second = Some o; written = old }
 
-  -- how many were written, where the unit came from the second file
-  abbrev pub one_in : Result (Unit {0}) Ending → Result ℕ Ending
-  one_in (Ok x) = Ok 1
-  one_in (Err e) = Err e
-
   neither : (class other : Class) (place : FilePlace) → IsImage o.shown → place ≡ identity.place → IsRead kind identity (Some t) (Some class) None → IsRead kind identity (Some o) (Some other) None → IsNeither file c t.shown o.shown place class
   neither class other place whole is first second = record {
     kind = kind;
     at = at;
     sum = number_of check;
     place_is = is ∙ ap (λ (i : Identity). i.place) for.is;
-    known = due.known;
-    lacks = lacks;
+    next = record { known = due.known; lacks = lacks; first = due.first };
     other = lacks_unit file kind at check identity for o.shown whole second.judges.0;
     class_is = class_is file kind at check identity for t.shown class first.judges.1;
   }
@@ -154,11 +150,20 @@ module _ (file : DataFile) (c : Content) (kind : Kind) (at : Place) (check : Lis
   taken class old new shelf (Ok x) whole first takes = let h = takes.0 in let by = takes.2 in one_mended file kind at check identity for h by.found by.puts by.tidy c t o by.shown.judges due lacks new.first old new.written by.writes
   taken class old new shelf (Err First) whole first takes = let h = takes.0 in let by = takes.2 in one_unwritten file kind at check identity for h by.found by.puts by.tidy c t o by.shown.judges due lacks new.first old new.written by.writes
   taken class old new shelf (Err Sink) whole first takes = let h = takes.0 in let by = takes.2 in one_unprinted file kind at check identity for h by.found by.puts by.tidy c t o by.shown.judges due lacks new.first old new.written by.writes
-  taken class old new shelf (Err Second) whole first takes = none_failed file c (AreAt kind at) tt t o new.first old new.written takes.0 takes.1
+  taken class old new shelf (Err Second) whole first takes = none_failed file c (AreAt kind at) tt t o new.first old new.written Second (takes.0, takes.1)
   taken class old new shelf (Err (Unopened e)) whole first takes = absurd takes
   taken class old new shelf (Err (Neither place other)) whole first takes =
       none_came file c (AreAt kind at) tt t o new.first old new.written takes.2.0 takes.2.1 (λ ms n. IsNeither file c n.shown o.shown place other)
       (neither other takes.3.0 place whole takes.0 (subst (λ (k : Class). IsRead kind identity (Some t) (Some k) None) (sym takes.1) first) takes.3.1)
+
+-- it is no refusal of a trailer
+pub no_refusal : (kind : Kind) (identity : Identity) (class : Class) (old new : Outside) (shelf : Option Holding) (result : Result (Unit {0}) Ending) → TakesUnit kind identity class old new shelf result → IsRefusal (one_in result) → ⊥
+no_refusal kind identity class old new shelf (Ok x) takes refusal = refusal
+no_refusal kind identity class old new shelf (Err First) takes refusal = refusal
+no_refusal kind identity class old new shelf (Err Second) takes refusal = refusal
+no_refusal kind identity class old new shelf (Err Sink) takes refusal = refusal
+no_refusal kind identity class old new shelf (Err (Unopened e)) takes refusal = takes
+no_refusal kind identity class old new shelf (Err (Neither place other)) takes refusal = refusal
 
 -- the outside as it is told
 pub told_from : (kind : Kind) (identity : Identity) (class : Class) (old new : Outside) (shelf : Option Holding) (result : Result (Unit {0}) Ending) (t o : Told) → old.first ≡ Some t → old.second ≡ Some o → TakesUnit kind identity class old new shelf result

@@ -5,6 +5,7 @@ use Rattle.std.specs.Prelude.{Result, Ok, Err, IfOk, OnOk}
 use Rattle.df_base.specs.Image.{Image}
 use Rattle.df_disk.specs.Told.{Told}
 use Rattle.df_format.specs.declared.kind.Kind.{Kind}
+use Rattle.df_format.specs.declared.kind.Kind.TheVariants.{Trailer}
 use Rattle.df_layout.specs.declared.layout.Layout.{Layout}
 use Rattle.df_buffers.specs.declared.identity.Identity.{Identity}
 use Rattle.df_buffers.specs.Sounds.{Holding}
@@ -16,7 +17,7 @@ use Rattle.df_mirror.specs.declared.ending.Ending.{Ending}
 use Rattle.df_mirror.specs.declared.ending.Ending.TheVariants.{First}
 use Rattle.df_mirror.specs.declared.superblock.Superblock.{Superblock}
 use Rattle.df_mirror.specs.Known.{IsDue}
-use Rattle.df_mirror.specs.Mends.{AnswersMending, AreAt, AreOfKind, Mend}
+use Rattle.df_mirror.specs.Mends.{AnswersMending, AreAt, AreOfKind, IsRefusal, Mend}
 use Rattle.df_mirror.specs.Outside.{Outside, Tell}
 use Rattle.df_mirror.specs.Statuses.{AreBlamed}
 use Rattle.df_mirror.specs.Taking.{HoldsShown, IsFor, MendsUnit, ShowsHeld, ShowsUnit}
@@ -35,7 +36,7 @@ module _ (b : Superblock) (Of : List Mend → Type 0) (none : Of []) (t o : Told
 
   -- the first file can't be read
   pub none_read : Mended b Of t o old new (Err First) Shows
-  none_read = record { answers = none_failed b.file (content_of_superblock b) Of none t o new.first old.written new.written (same ∙ tell.first) silent; shown = λ u is. tt }
+  none_read = record { answers = none_failed b.file (content_of_superblock b) Of none t o new.first old.written new.written First (same ∙ tell.first, silent); shown = λ u is. tt }
 
 -- ---- one after the other
 
@@ -43,10 +44,10 @@ on_more : (a : ℕ) (result : Result ℕ Ending) (P : Type 0) → OnOk result P 
 on_more a (Ok n) P is = is
 on_more a (Err e) P is = tt
 
--- so many were mended, and then as many more as are answered
+-- so many were mended, and then as many more as are answered; or the trailer is refused, where blocks of it alone were
 pub then_mended : {b : Superblock} {Of Then All : List Mend → Type 0} {t o : Told} {old mid new : Outside} {a : ℕ} {Before After : Units → Type 0} → ((ms ls : List Mend) → Of ms → Then ls → All (ms ++ ls)) → Tell t o old → mid.second ≡ old.second
-    → Mended b Of t o old mid (Ok a) Before → (result : Result ℕ Ending) → ((m : Told) → Tell m o mid → Before (superblock_units b m.shown) → Mended b Then m o mid new result After) → Mended b All t o old new (more a result) After
-then_mended {b = b} {Of = Of} {Then = Then} {All = All} {t = t} {o = o} {old = old} {mid = mid} {new = new} {a = a} {After = After} closed tell same has result next =
+    → Mended b Of t o old mid (Ok a) Before → (result : Result ℕ Ending) → (IsRefusal result → (ms : List Mend) → Of ms → AreOfKind Trailer ms) → ((m : Told) → Tell m o mid → Before (superblock_units b m.shown) → Mended b Then m o mid new result After) → Mended b All t o old new (more a result) After
+then_mended {b = b} {Of = Of} {Then = Then} {All = All} {t = t} {o = o} {old = old} {mid = mid} {new = new} {a = a} {After = After} closed tell same has result only next =
     let came = has.answers in
     let on : Tell came.after o mid = record {
       first = came.after_is;
@@ -56,7 +57,7 @@ then_mended {b = b} {Of = Of} {Then = Then} {All = All} {t = t} {o = o} {old = o
     } in
     let rest = next came.after on (has.shown came.after came.after_is) in
     record {
-      answers = answers_then b.file (content_of_superblock b) Of Then All closed t o came.after mid.first new.first old.written mid.written new.written a result came came.after_is rest.answers;
+      answers = answers_then b.file (content_of_superblock b) Of Then All closed t o came.after mid.first new.first old.written mid.written new.written a result only came came.after_is rest.answers;
       shown = λ u is. on_more a result (After (superblock_units b u.shown)) (rest.shown u is);
     }
 
@@ -137,14 +138,14 @@ module _ {b : Superblock} {kind : Kind} {old : Outside} {before : Faults} {X : T
 
   module _ {mid : Outside} {between : Faults} {room : Layout} {a most : ℕ} {Shows : X → Units → Type 0} (walked : Walked b kind old mid before between room a most Begins Shows) where
     -- what the next turn answers is answered
-    turn : {new : Outside} {After : X → Units → Type 0} (result : Result ℕ Ending) → ((x : X) (m o : Told) → Tell m o mid → Shows x (superblock_units b m.shown) → Mended b (AreOfKind kind) m o mid new result (After x))
+    turn : {new : Outside} {After : X → Units → Type 0} (result : Result ℕ Ending) → (IsRefusal result → (ms : List Mend) → AreOfKind kind ms → AreOfKind Trailer ms) → ((x : X) (m o : Told) → Tell m o mid → Shows x (superblock_units b m.shown) → Mended b (AreOfKind kind) m o mid new result (After x))
         → (x : X) (t o : Told) → Tell t o old → Begins x t → Mended b (AreOfKind kind) t o old new (more a result) (After x)
-    turn result next x t o tell is = then_mended (kinds_append kind) tell walked.calm.same (walked.mends x t o tell is) result (λ m. next x m o)
+    turn result only next x t o tell is = then_mended (kinds_append kind) tell walked.calm.same (walked.mends x t o tell is) result only (λ m. next x m o)
 
     -- it ends there
-    pub stops : {new : Outside} {After : X → Units → Type 0} (e : Ending) → ((x : X) (m o : Told) → Tell m o mid → Shows x (superblock_units b m.shown) → Mended b (AreOfKind kind) m o mid new (Err e) (After x))
+    pub stops : {new : Outside} {After : X → Units → Type 0} (e : Ending) → (IsRefusal (Err e) → (ms : List Mend) → AreOfKind kind ms → AreOfKind Trailer ms) → ((x : X) (m o : Told) → Tell m o mid → Shows x (superblock_units b m.shown) → Mended b (AreOfKind kind) m o mid new (Err e) (After x))
         → (x : X) (t o : Told) → Tell t o old → Begins x t → (Says : Units → Type 0) → Mended b (AreOfKind kind) t o old new (Err e) Says
-    stops e next x t o tell is Says = ends_so (λ ms of. of) (turn (Err e) next x t o tell is)
+    stops e only next x t o tell is Says = ends_so (λ ms of. of) (turn (Err e) only next x t o tell is)
 
     -- or goes on
     pub goes_on : {new : Outside} {after : Faults} {back : Layout} {one later : ℕ} {After : X → Units → Type 0} → new.second ≡ mid.second → AreBlamed between after (Ok one) → back ≡ b.file.layout → a + one ≤ later
@@ -153,7 +154,7 @@ module _ {b : Superblock} {kind : Kind} {old : Outside} {before : Faults} {X : T
       calm = record { same = same ∙ walked.calm.same; first = blamed.0 ∙ walked.calm.first; second = blamed.1 ∙ walked.calm.second; sink = blamed.2 ∙ walked.calm.sink };
       room_is = back;
       few = few;
-      mends = turn (Ok one) next;
+      mends = turn (Ok one) (λ refusal. absurd refusal) next;
     }
 
     -- or has come to its end, where what is shown says this

@@ -2,7 +2,7 @@
 use Rattle.std.specs.Prelude.{◌≡◌, ◌<◌, ◌≤◌, ◌+◌, ◌%◌, ℕ, List, length, slice_index, Some}
 use Rattle.std.specs.List.{slice_get}
 use Rattle.df_format.specs.declared.kind.Kind.{Kind}
-use Rattle.df_format.specs.declared.kind.Kind.TheVariants.{Block as AsBlock, Prepare as AsPrepare, Reply as AsReply, Trailer as AsTrailer}
+use Rattle.df_format.specs.declared.kind.Kind.TheVariants.{Block as AsBlock, Prepare as AsPrepare, Reply as AsReply, Reserved, Trailer as AsTrailer}
 use Rattle.df_theory.specs.Opens.{AreKnown, ReadsTo, named_by}
 use Rattle.df_theory.specs.Sessions.{sessions_after}
 use Rattle.df_theory.specs.Shape.{Shape, slots}
@@ -80,7 +80,34 @@ AreShown sh image c kind = (place : Place) (sum : ℕ) → IsKnownAt sh image c 
 abbrev pub IsSparePlace : Shape → Units → Content → Place → Type 0
 IsSparePlace sh image c place = (kind : Kind) (at : Place) (sum : ℕ) → IsKnownAt sh image c kind at sum → IsShownAs image kind at sum → at ≡ place → ⊥
 
--- the unit is the next to be proved: it is known, and where it isn't shown it may be written at its place
+-- ---- their order
+
+-- the kinds in the order in which they are mended
+abbrev pub rank_of_kind : Kind → ℕ
+rank_of_kind Reserved = 0
+rank_of_kind AsTrailer = 1
+rank_of_kind AsBlock = 2
+rank_of_kind AsPrepare = 3
+rank_of_kind AsReply = 4
+
+-- A unit of the first kind and place comes before one of the others: by kind, referenced blocks by address, and replies by place. Of the trailer, and of the prepares, at most one that is known lacks at a time, as each is known only where all before it are shown.
+abbrev pub ComesBefore : (kind later : Kind) (place at : Place) → Type 0
+ComesBefore AsBlock AsBlock (BlockPlace a) (BlockPlace e) = a < e
+ComesBefore AsReply AsReply (ReplyPlace j) (ReplyPlace k) = j < k
+ComesBefore kind later place at = rank_of_kind kind < rank_of_kind later
+
+-- each known unit that comes before is shown
+abbrev pub AreShownBefore : Shape → Units → Content → Kind → Place → Type 0
+AreShownBefore sh image c kind place = (before : Kind) (at : Place) (sum : ℕ) → ComesBefore before kind at place → IsKnownAt sh image c before at sum → IsShownAs image before at sum
+
+-- the first known unit that isn't shown
+pub record IsNext (sh : Shape) (image : Units) (c : Content) (kind : Kind) (place : Place) (sum : ℕ) : Type 0 where
+  pub known : IsKnownAt sh image c kind place sum
+  pub lacks : IsShownAs image kind place sum → ⊥
+  pub first : AreShownBefore sh image c kind place
+
+-- the unit is the next to be proved: it is known, all that come before it are shown, and where it isn't shown it may be written at its place
 pub record IsDue (sh : Shape) (image : Units) (c : Content) (kind : Kind) (place : Place) (sum : ℕ) : Type 0 where
   pub known : IsKnownAt sh image c kind place sum
+  pub first : AreShownBefore sh image c kind place
   pub spare : (IsShownAs image kind place sum → ⊥) → IsSparePlace sh image c place

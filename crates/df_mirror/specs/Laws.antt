@@ -18,8 +18,8 @@ use Rattle.df_damage.specs.Versions.{IsUnspent}
 use Rattle.df_opening.specs.Below.{DataFile, shape}
 use Rattle.df_mirror.specs.declared.status.Status.{Status}
 use Rattle.df_mirror.specs.declared.status.Status.TheVariants.{Done, Found}
-use Rattle.df_mirror.specs.Known.{AllShown, IsKnownAt, IsShownAs}
-use Rattle.df_mirror.specs.Mends.{AreInOrder, AreMends, Mend, mirrored_events, rank_of_kind, units_shown}
+use Rattle.df_mirror.specs.Known.{AllShown, IsKnownAt, IsShownAs, rank_of_kind}
+use Rattle.df_mirror.specs.Mends.{AreInOrder, AreMends, Mend, mirrored_events, units_shown}
 use Rattle.df_mirror.specs.Outside.{Outside, Tell}
 use Rattle.df_mirror.specs.Run.{Mirrors}
 

@@ -1,12 +1,12 @@
 -- Units that are mended one after the other, what that writes and prints, and how it ends.
-use Rattle.std.specs.Prelude.{◌≡◌, ◌≤◌, ◌+◌, ℕ, List, [], ◌∷◌, ◌++◌, length, Option, Some, Result, Ok, Err}
+use Rattle.std.specs.Prelude.{◌≡◌, ◌≤◌, ◌+◌, ℕ, List, [], ◌∷◌, ◌++◌, length, Option, Some, None, Result, Ok, Err}
 use Rattle.df_base.specs.Image.{Image}
 use Rattle.df_base.specs.Log.{Event, Sync, Write}
 use Rattle.df_base.specs.Streams.{Appends, AppendsPart}
 use Rattle.df_disk.specs.Adds.{AddsPart}
 use Rattle.df_disk.specs.Told.{Told}
 use Rattle.df_format.specs.declared.kind.Kind.{Kind}
-use Rattle.df_format.specs.declared.kind.Kind.TheVariants.{Block as AsBlock, Prepare, Reply, Reserved, Trailer}
+use Rattle.df_format.specs.declared.kind.Kind.TheVariants.{Trailer}
 use Rattle.df_format.specs.Message.{Message}
 use Rattle.df_buffers.specs.Sounds.{EndsInZeros}
 use Rattle.df_layout.specs.declared.damage.Class.{Class}
@@ -20,7 +20,7 @@ use Rattle.df_units.specs.Meaning.{place_of, unit_of}
 use Rattle.df_units.specs.Wanted.{IsOfKind, checksum_of, class_at}
 use Rattle.df_damage.specs.Anew.{told_after}
 use Rattle.df_opening.specs.Below.{DataFile, shape}
-use Rattle.df_mirror.specs.Known.{IsKnownAt, IsShownAs, IsSparePlace}
+use Rattle.df_mirror.specs.Known.{IsNext, IsShownAs, IsSparePlace, rank_of_kind}
 use Rattle.df_mirror.specs.Refusals.{RefusesFirstTrailer}
 use Rattle.df_mirror.specs.Texts.{mended_text}
 use Rattle.df_mirror.specs.declared.ending.Ending.{Ending}
@@ -39,10 +39,10 @@ pub record Mend : Type 0 where
   pub unit : AnyUnit
   pub bytes : List ℕ
 
--- it is known and not shown, no known unit that is shown stands at its place, the second file shows it there, its sectors bring it and touch no other place, and hold zeros after its header and its body
+-- it is the first known unit that isn't shown, no known unit that is shown stands at its place, the second file shows it there, its sectors bring it and touch no other place, and hold zeros after its header and its body
 pub record IsMend (file : DataFile) (c : Content) (shown second : Image) (m : Mend) : Type 0 where
-  pub known : IsKnownAt (shape file) (units_shown file shown) c m.kind m.place (checksum_of m.unit)
-  pub lacks : IsShownAs (units_shown file shown) m.kind m.place (checksum_of m.unit) → ⊥
+  pub next : IsNext (shape file) (units_shown file shown) c m.kind m.place (checksum_of m.unit)
+  pub open next use *
   pub spare : IsSparePlace (shape file) (units_shown file shown) c m.place
   pub of_kind : IsOfKind m.kind m.unit
   pub from : units_shown file second m.place ≡ Some m.unit
@@ -76,14 +76,6 @@ abbrev pub AreAt : Kind → Place → List Mend → Type 0
 AreAt kind place [] = Unit {0}
 AreAt kind place (m ∷ ms) = (m.kind ≡ kind) × (m.place ≡ place) × AreAt kind place ms
 
--- the kinds in the order in which they are mended
-abbrev pub rank_of_kind : Kind → ℕ
-rank_of_kind Reserved = 0
-rank_of_kind Trailer = 1
-rank_of_kind AsBlock = 2
-rank_of_kind Prepare = 3
-rank_of_kind Reply = 4
-
 abbrev pub AreFrom : ℕ → List Mend → Type 0
 AreFrom rank [] = Unit {0}
 AreFrom rank (m ∷ ms) = (rank ≤ rank_of_kind m.kind) × AreFrom (rank_of_kind m.kind) ms
@@ -104,20 +96,27 @@ pub record MendsUnits (file : DataFile) (c : Content) (t o n : Told) (old new : 
   pub told : n ≡ told_after (mirrored_events file ms) t
   pub printed : Appends old new (lines_of ms)
 
--- one of these was being mended as a disk or the sink failed: of what they write and print a part is there, from the first on
-pub record MendsPart (file : DataFile) (c : Content) (t o : Told) (new : Option Told) (old text : Option (List ℕ)) (ms : List Mend) : Type 0 where
-  pub are : AreMends file c o.shown t ms
-  pub told : AddsPart (mirrored_events file ms) (Some t) new
-  pub printed : AppendsPart old text (lines_of ms)
+-- the unit at which a call failed, if it was at one
+abbrev pub under_way : Option Mend → List Mend
+under_way None = []
+under_way (Some m) = m ∷ []
 
--- a known unit is shown by neither file, and this is the class of what the first one shows
+-- How a call failed, by what was told and printed before it: it was a read, and nothing more was done; or a write or the sync of this unit, and a part of that is there, and no byte of its line; or its line, of which a part is there, and it is written.
+abbrev pub FailsAt : DataFile → Ending → Option Mend → Told → (new : Option Told) → (said text : Option (List ℕ)) → Type 0
+FailsAt file First None mid new said text = (new ≡ Some mid) × (text ≡ said)
+FailsAt file Second None mid new said text = (new ≡ Some mid) × (text ≡ said)
+FailsAt file First (Some m) mid new said text = AddsPart (mirrored_events file (m ∷ [])) (Some mid) new × (text ≡ said)
+FailsAt file Sink (Some m) mid new said text = (new ≡ Some (told_after (mirrored_events file (m ∷ [])) mid)) × AppendsPart said text (mended_text (place_of m.place))
+FailsAt file e one mid new said text = ⊥
+
+-- the first known unit that isn't shown is shown by neither file, and this is the class of what the first one shows
 pub record IsNeither (file : DataFile) (c : Content) (shown second : Image) (place : FilePlace) (class : Class) : Type 0 where
   pub kind : Kind
   pub at : Place
   pub sum : ℕ
   pub place_is : place ≡ place_of at
-  pub known : IsKnownAt (shape file) (units_shown file shown) c kind at sum
-  pub lacks : IsShownAs (units_shown file shown) kind at sum → ⊥
+  pub next : IsNext (shape file) (units_shown file shown) c kind at sum
+  pub open next use *
   pub other : IsShownAs (units_shown file second) kind at sum → ⊥
   pub class_is : class ≡ class_at file.layout file.cluster shown at
 
@@ -130,17 +129,26 @@ pub record Came (file : DataFile) (c : Content) (Of : List Mend → Type 0) (t o
   pub does : MendsUnits file c t o after old text mends
   pub last : Last mends after
 
--- some were, and then a disk or the sink failed
-pub record Failed (file : DataFile) (c : Content) (Of : List Mend → Type 0) (t o : Told) (new : Option Told) (old text : Option (List ℕ)) : Type 0 where
+-- Some were, and all of each was written and printed; and then a disk or the sink failed, at the next one if at any. So what was written and what was printed know one another: no line tells of a unit that isn't written.
+pub record Failed (file : DataFile) (c : Content) (Of : List Mend → Type 0) (t o : Told) (new : Option Told) (old text : Option (List ℕ)) (e : Ending) : Type 0 where
   pub mends : List Mend
-  pub are_of : Of mends
-  pub does : MendsPart file c t o new old text mends
+  pub one : Option Mend
+  pub are_of : Of (mends ++ under_way one)
+  pub are : AreMends file c o.shown t (mends ++ under_way one)
+  pub said : Option (List ℕ)
+  pub printed : Appends old said (lines_of mends)
+  pub fails : FailsAt file e one (told_after (mirrored_events file mends) t) new said text
 
--- units are mended, of such a kind or in such an order: so many, or up to one that neither file shows, or to where the trailer fails a test, or a call failed
+-- units are mended, of such a kind or in such an order: so many, or up to the first that neither file shows, or to where the trailer fails a test, once blocks of its own alone were mended, or a call failed
 abbrev pub AnswersMending : DataFile → Content → (List Mend → Type 0) → Told → Told → Option Told → (old text : Option (List ℕ)) → Result ℕ Ending → Type 0
 AnswersMending file c Of t o new old text (Ok count) = Came file c Of t o new old text (λ ms n. count ≡ length ms)
 AnswersMending file c Of t o new old text (Err (Neither place class)) = Came file c Of t o new old text (λ ms n. IsNeither file c n.shown o.shown place class)
-AnswersMending file c Of t o new old text (Err (Unopened e)) = Came file c Of t o new old text (λ ms n. RefusesFirstTrailer file n.shown c e)
-AnswersMending file c Of t o new old text (Err First) = Failed file c Of t o new old text
-AnswersMending file c Of t o new old text (Err Second) = Failed file c Of t o new old text
-AnswersMending file c Of t o new old text (Err Sink) = Failed file c Of t o new old text
+AnswersMending file c Of t o new old text (Err (Unopened e)) = Came file c Of t o new old text (λ ms n. AreOfKind Trailer ms × RefusesFirstTrailer file n.shown c e)
+AnswersMending file c Of t o new old text (Err First) = Failed file c Of t o new old text First
+AnswersMending file c Of t o new old text (Err Second) = Failed file c Of t o new old text Second
+AnswersMending file c Of t o new old text (Err Sink) = Failed file c Of t o new old text Sink
+
+-- it is the refusal of a trailer
+abbrev pub IsRefusal : Result ℕ Ending → Type 0
+IsRefusal (Err (Unopened e)) = Unit {0}
+IsRefusal result = ⊥

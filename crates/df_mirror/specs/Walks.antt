@@ -2,7 +2,7 @@
 use Rattle.std.specs.Prelude.{◌≡◌, ◌⊎◌, ◌+◌, ◌<◌, ◌≤◌, ℕ, List, ◌∷◌, [], ◌++◌, length, map, take, Some, Result, Ok, Err, IfOk, OnOk}
 use Rattle.df_base.specs.Image.{Image}
 use Rattle.df_disk.specs.Told.{Told}
-use Rattle.df_format.specs.declared.kind.Kind.TheVariants.{Block as AsBlock, Prepare, Reply}
+use Rattle.df_format.specs.declared.kind.Kind.TheVariants.{Block as AsBlock, Prepare, Reply, Trailer}
 use Rattle.df_format.specs.declared.header.Header.{Header}
 use Rattle.df_checkpoint.specs.declared.links.Link.{Link}
 use Rattle.df_format.specs.Message as format
@@ -27,7 +27,7 @@ use Rattle.df_mirror.specs.declared.ending.Ending.{Ending}
 use Rattle.df_mirror.specs.declared.ending.Ending.TheVariants.{First, Unopened}
 use Rattle.df_mirror.specs.declared.superblock.Superblock.{Superblock}
 use Rattle.df_mirror.specs.declared.trailer.Text.{Text}
-use Rattle.df_mirror.specs.Known.{AreShown, HasSessions, IsRecordedReply, IsShownAs, ShowsTrailer}
+use Rattle.df_mirror.specs.Known.{AreShown, AreShownBefore, HasSessions, IsRecordedReply, IsShownAs, ShowsTrailer}
 use Rattle.df_mirror.specs.Mends.{AnswersMending, AreAt, Mend, units_shown}
 use Rattle.df_mirror.specs.Outside.{Outside}
 use Rattle.df_mirror.specs.Refusals.{RefusesFirstTrailer}
@@ -97,10 +97,16 @@ pub record ShowsBlocks (b : Superblock) (image : Units) (grid : GridState) (sess
   pub has : HasTrailerText b image grid sessions
   pub shown : (a sum : ℕ) → a ≤ to → sum_at a grid.blocks.live ≡ Some sum → IsShownAs image AsBlock (BlockPlace a) sum
 
+-- the blocks of the trailer are shown, and those that it references
+pub record ShowsGrid (b : Superblock) (image : Units) : Type 0 where
+  pub trailer : AreShown (shape b.file) image (content_of_superblock b) Trailer
+  pub blocks : AreShown (shape b.file) image (content_of_superblock b) AsBlock
+
 -- ---- the prepares
 
--- all prepares above this op that the superblock names are shown as they are named, and this is the checksum of the one with the op
+-- all prepares above this op that the superblock names are shown as they are named, and this is the checksum of the one with the op; and so are the known blocks
 pub record NamesPreparesFrom (b : Superblock) (image : Units) (op sum : ℕ) : Type 0 where
+  pub grid : ShowsGrid b image
   pub later : List Message
   pub known : AreKnown b.file.layout.slots image (op + 1) (content_of_superblock b).pin_checksum later
   pub count : op + length later ≡ (content_of_superblock b).pin
@@ -114,8 +120,9 @@ pub record ShowsNamed (b : Superblock) (image : Units) : Type 0 where
 
 -- ---- the replies
 
--- the table of slots says what the rings of the image show, and the table of sessions has those at the superblock's head, as many as there are places for
+-- the table of slots says what the rings of the image show, and the table of sessions has those at the superblock's head, as many as there are places for; the known blocks are shown
 pub record HasHead (b : Superblock) (image : Units) (slots : Scan) (table : Table) : Type 0 where
+  pub grid : ShowsGrid b image
   pub tells : TellsRings b.file.layout image slots
   pub sessions : List Units.Session
   pub has : HasSessions (shape b.file) image (content_of_superblock b) sessions
@@ -136,9 +143,9 @@ IsNewer b (Err class) = ⊥
 abbrev pub HasNewer : Superblock → Units → ℕ → Type 0
 HasNewer b image k = (r : Message) × (image (ReplyPlace k) ≡ Some (ReplyUnit r)) × (r.header.boot ≡ (content_of_superblock b).boot) × ((content_of_superblock b).replies < r.header.op)
 
--- the reply with this checksum is mended, where it is known if its slot shows nothing newer: it is shown then, or something newer is
+-- the reply with this checksum is mended, where it is known if its slot shows nothing newer, and all that come before it are shown: it is shown then, or something newer is
 pub record MendsRecorded (b : Superblock) (k : ℕ) (check : List ℕ) (t o : Told) (old new : Outside) (answer : Result ℕ Ending) : Type 0 where
-  pub answers : ((HasNewer b (superblock_units b t.shown) k → ⊥) → IsRecordedReply (shape b.file) (superblock_units b t.shown) (content_of_superblock b) k (number_of check)) → AnswersMending b.file (content_of_superblock b) (AreAt Reply (ReplyPlace k)) t o new.first old.written new.written answer
+  pub answers : ((HasNewer b (superblock_units b t.shown) k → ⊥) → IsRecordedReply (shape b.file) (superblock_units b t.shown) (content_of_superblock b) k (number_of check)) → AreShownBefore (shape b.file) (superblock_units b t.shown) (content_of_superblock b) Reply (ReplyPlace k) → AnswersMending b.file (content_of_superblock b) (AreAt Reply (ReplyPlace k)) t o new.first old.written new.written answer
   pub shown : (u : Told) → new.first ≡ Some u → OnOk answer (HasNewer b (superblock_units b u.shown) k ⊎ IsShownAs (superblock_units b u.shown) Reply (ReplyPlace k) (number_of check))
 
 -- a prepare of the superblock's boot above its head, of this client

@@ -3,7 +3,7 @@ ghost use Rattle.std.specs.Prelude.{◌≡◌, ◌+◌, ◌<◌, ◌≤◌, List
 ghost use Rattle.df_disk.specs.Told.{Told};
 ghost use Rattle.df_format.specs.declared.kind.Kind.TheVariants.{Block as AsBlock};
 ghost use Rattle.df_sessions.specs.declared.session.Session.{Session};
-ghost use Rattle.df_mirror.specs.Mends.{AreOfKind};
+ghost use Rattle.df_mirror.specs.Mends.{AreOfKind, IsRefusal};
 ghost use Rattle.df_mirror.specs.Outside.{Tell, around, counts};
 ghost use Rattle.df_mirror.specs.Statuses.{AreBlamed};
 ghost use Rattle.df_mirror.specs.Walks.{HasTrailerText, Mended, ShowsBlocks, superblock_units};
@@ -31,6 +31,7 @@ fn mend_at<A: Disk, B: Disk, W: Sink>(
     requires layout { shelf.old.layout ≡ base.now.file.layout }
     ensures mends { (sessions : List Session) (t o : Told) → Tell t o (around (A.told first.old) (B.told second.old) (W.written sink.old)) → ShowsBlocks base.now (superblock_units base.now t.shown) grid.now sessions before
         → Mended base.now (AreOfKind AsBlock) t o (around (A.told first.old) (B.told second.old) (W.written sink.old)) (around (A.told first.new) (B.told second.new) (W.written sink.new)) result (λ image. ShowsBlocks base.now image grid.now sessions (before + 1)) }
+    ensures unrefused { IsRefusal result → ⊥ }
     ensures back { IfOk result (λ more. (shelf.new.layout ≡ base.now.file.layout) × (more ≤ 1)) }
     ensures same { B.told second.new ≡ B.told second.old }
     ensures blamed { AreBlamed (counts (A.faults first.old) (B.faults second.old) (W.faults sink.old)) (counts (A.faults first.new) (B.faults second.new) (W.faults sink.new)) result }
@@ -57,6 +58,7 @@ pub(crate) fn mend_blocks<A: Disk, B: Disk, W: Sink>(
     requires layout { shelf.old.layout ≡ base.now.file.layout }
     ensures mends { (sessions : List Session) (t o : Told) → Tell t o (around (A.told first.old) (B.told second.old) (W.written sink.old)) → HasTrailerText base.now (superblock_units base.now t.shown) grid.now sessions
         → Mended base.now (AreOfKind AsBlock) t o (around (A.told first.old) (B.told second.old) (W.written sink.old)) (around (A.told first.new) (B.told second.new) (W.written sink.new)) result (λ image. ShowsBlocks base.now image grid.now sessions base.now.file.layout.blocks) }
+    ensures unrefused { IsRefusal result → ⊥ }
     ensures few { IfOk result (λ mended. mended ≤ base.now.file.layout.blocks) }
     ensures same { B.told second.new ≡ B.told second.old }
     ensures blamed { AreBlamed (counts (A.faults first.old) (B.faults second.old) (W.faults sink.old)) (counts (A.faults first.new) (B.faults second.new) (W.faults sink.new)) result }

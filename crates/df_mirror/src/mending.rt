@@ -4,10 +4,10 @@ ghost use Rattle.df_disk.specs.Told.{Told};
 ghost use Rattle.df_opening.specs.Below.{shape};
 ghost use Rattle.df_sessions.specs.Requests.{sessions_of};
 ghost use Rattle.df_mirror.specs.Known.{AllShown, ShowsTrailer};
-ghost use Rattle.df_mirror.specs.Mends.{AreInOrder, AreLate};
+ghost use Rattle.df_mirror.specs.Mends.{AreInOrder, AreLate, IsRefusal};
 ghost use Rattle.df_mirror.specs.Outside.{Tell, around, counts};
 ghost use Rattle.df_mirror.specs.Statuses.{AreBlamed};
-ghost use Rattle.df_mirror.specs.Walks.{Mended, ShowsLog, content_of_superblock, superblock_units};
+ghost use Rattle.df_mirror.specs.Walks.{Mended, ShowsGrid, ShowsLog, content_of_superblock, superblock_units};
 
 use crate::blocks::mend_blocks;
 use crate::chain::mend_chain;
@@ -45,8 +45,9 @@ fn mend_log<A: Disk, B: Disk, W: Sink>(
     requires rooms { rooms.layout ≡ base.now.file.layout }
     requires places { sessions.max ≡ base.now.file.layout.clients }
     requires few { length sessions.sessions ≤ sessions.max }
-    ensures mends { (t o : Told) → Tell t o (around (A.told first.old) (B.told second.old) (W.written sink.old)) → (says : ShowsTrailer (shape base.now.file) (superblock_units base.now t.shown) (content_of_superblock base.now)) → says.parts.sessions ≡ sessions_of sessions.sessions
+    ensures mends { (t o : Told) → Tell t o (around (A.told first.old) (B.told second.old) (W.written sink.old)) → ShowsGrid base.now (superblock_units base.now t.shown) → (says : ShowsTrailer (shape base.now.file) (superblock_units base.now t.shown) (content_of_superblock base.now)) → says.parts.sessions ≡ sessions_of sessions.sessions
         → Mended base.now AreLate t o (around (A.told first.old) (B.told second.old) (W.written sink.old)) (around (A.told first.new) (B.told second.new) (W.written sink.new)) result (ShowsLog base.now (superblock_units base.now t.shown)) }
+    ensures unrefused { IsRefusal result → ⊥ }
     ensures few { IfOk result (λ mended. mended ≤ base.now.file.layout.slots + 64) }
     ensures same { B.told second.new ≡ B.told second.old }
     ensures blamed { AreBlamed (counts (A.faults first.old) (B.faults second.old) (W.faults sink.old)) (counts (A.faults first.new) (B.faults second.new) (W.faults sink.new)) result }

@@ -7,10 +7,10 @@ ghost use Rattle.df_buffers.specs.declared.identity.Wanted.TheVariants.{Checksum
 ghost use Rattle.df_layout.specs.Spans.{HasPlace};
 ghost use Rattle.df_theory.specs.Units.{PreparePlace};
 ghost use Rattle.df_units.specs.Meaning.{place_of};
-ghost use Rattle.df_mirror.specs.Mends.{AreOfKind};
+ghost use Rattle.df_mirror.specs.Mends.{AreOfKind, IsRefusal};
 ghost use Rattle.df_mirror.specs.Outside.{Tell, around, counts};
 ghost use Rattle.df_mirror.specs.Statuses.{AreBlamed};
-ghost use Rattle.df_mirror.specs.Walks.{Mended, ShowsNamed};
+ghost use Rattle.df_mirror.specs.Walks.{Mended, ShowsGrid, ShowsNamed, superblock_units};
 
 use crate::ending::Ending;
 use crate::superblock::Superblock;
@@ -44,8 +44,9 @@ pub(crate) fn mend_prepares<A: Disk, B: Disk, W: Sink>(
     shelf: &mut Shelf<Prepare>,
 ) -> Result<u64, Ending>
     requires layout { shelf.old.layout ≡ base.now.file.layout }
-    ensures mends { (t o : Told) → Tell t o (around (A.told first.old) (B.told second.old) (W.written sink.old))
+    ensures mends { (t o : Told) → Tell t o (around (A.told first.old) (B.told second.old) (W.written sink.old)) → ShowsGrid base.now (superblock_units base.now t.shown)
         → Mended base.now (AreOfKind AsPrepare) t o (around (A.told first.old) (B.told second.old) (W.written sink.old)) (around (A.told first.new) (B.told second.new) (W.written sink.new)) result (ShowsNamed base.now) }
+    ensures unrefused { IsRefusal result → ⊥ }
     ensures back { IfOk result (λ mended. (shelf.new.layout ≡ base.now.file.layout) × (mended ≤ base.now.file.layout.slots)) }
     ensures same { B.told second.new ≡ B.told second.old }
     ensures blamed { AreBlamed (counts (A.faults first.old) (B.faults second.old) (W.faults sink.old)) (counts (A.faults first.new) (B.faults second.new) (W.faults sink.new)) result }

@@ -4,6 +4,7 @@ ghost use Rattle.df_base.specs.Causes.{IsBlamed};
 ghost use Rattle.df_format.specs.Valid.{IsUnit};
 ghost use Rattle.df_layout.specs.Spans.{HasPlace};
 ghost use Rattle.df_places.specs.Shelves.{HoldsFound};
+ghost use Rattle.df_mirror.specs.Mends.{IsRefusal};
 ghost use Rattle.df_mirror.specs.Outside.{around, counts};
 ghost use Rattle.df_mirror.specs.Statuses.{AreBlamed, is_first, is_sink};
 ghost use Rattle.df_mirror.specs.Taking.{HoldsShown, MendsUnit, PutsUnit, TakesUnit, WritesUnit};
@@ -89,6 +90,7 @@ pub(crate) fn mend_unit<A: Disk, B: Disk, W: Sink, K: UnitKind>(
     ensures mends { MendsUnit K.KIND identity.now
         (around (A.told first.old) (B.told second.old) (W.written sink.old))
         (around (A.told first.new) (B.told second.new) (W.written sink.new)) result }
+    ensures unrefused { IsRefusal result → ⊥ }
     ensures same { B.told second.new ≡ B.told second.old }
     ensures blamed { AreBlamed (counts (A.faults first.old) (B.faults second.old) (W.faults sink.old)) (counts (A.faults first.new) (B.faults second.new) (W.faults sink.new)) result }
 {

@@ -9,7 +9,7 @@ pub loop-before-init : goal.loop-before-init
 loop-before-init g c = begins c.requires.layout (none_yet c.args.base.now c.args.grid.now)
 
 pub returns-in-Err-clause-mends : goal.returns-in-Err-clause-mends
-returns-in-Err-clause-mends g c = λ ss t o tell has. stops c.loop-before.invariant c.in-Err.ending c.in-Err.ensures.mends ss t o tell has _
+returns-in-Err-clause-mends g c = λ ss t o tell has. stops c.loop-before.invariant c.in-Err.ending (λ refusal. absurd (c.in-Err.ensures.unrefused refusal)) c.in-Err.ensures.mends ss t o tell has _
 
 pub loop-before-preserved : goal.loop-before-preserved
 loop-before-preserved g c =

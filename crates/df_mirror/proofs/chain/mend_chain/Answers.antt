@@ -23,7 +23,7 @@ loop-done-init g c =
 pub returns-in-Err-clause-mends : goal.returns-in-Err-clause-mends
 returns-in-Err-clause-mends g c = λ t o tell.
     let i = c.loop-done.invariant in
-    stops i.walked c.in-Err.ending (λ x m also on walked. c.in-Err.ensures.mends m also c.count_of-count.result on i.counted (omega (arith, i.size, c.loop-done-test.true)) walked) tt t o tell tt _
+    stops i.walked c.in-Err.ending (λ refusal ms are. are) (λ x m also on walked. c.in-Err.ensures.mends m also c.count_of-count.result on i.counted (omega (arith, i.size, c.loop-done-test.true)) walked) tt t o tell tt _
 
 pub loop-done-preserved : goal.loop-done-preserved
 loop-done-preserved g c =

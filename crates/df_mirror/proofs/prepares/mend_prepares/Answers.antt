@@ -17,7 +17,7 @@ loop-op-init g c =
     record {
       low = subst (λ (f : SuperFields). f.op ≤ f.head) fields c.fields-fields.ensures.usable.rules.head.0;
       high = omega arith;
-      walked = begins c.requires.layout (λ x t is. subst (λ (f : SuperFields). NamesPreparesFrom b (superblock_units b t.shown) f.head (number_of f.head_checksum)) fields (names_head b (superblock_units b t.shown)));
+      walked = begins c.requires.layout (λ x t is. subst (λ (f : SuperFields). NamesPreparesFrom b (superblock_units b t.shown) f.head (number_of f.head_checksum)) fields (names_head b (superblock_units b t.shown) is));
     }
 
 pub mend_unit-requires-clause-layout : goal.mend_unit-requires-clause-layout
@@ -27,12 +27,12 @@ pub overflow_add-mended : goal.overflow_add-mended
 overflow_add-mended g c = omega (arith, c.loop-op.invariant.walked.few, c.in-Ok.ensures.unit.2, ap (λ (f : SuperFields). f.head) c.fields-fields.ensures.value, c.fields-fields.ensures.usable.rules.head)
 
 pub returns-in-Err-clause-mends : goal.returns-in-Err-clause-mends
-returns-in-Err-clause-mends g c = λ t o tell.
+returns-in-Err-clause-mends g c = λ t o tell grid.
     let now = c.loop-op in
     let above : c.args.base.now.content.op < now.op = omega (arith, ap (λ (f : SuperFields). f.op) c.fields-fields.ensures.value) in
-    stops now.invariant.walked c.in-Err.ending
+    stops now.invariant.walked c.in-Err.ending (λ refusal. absurd (c.in-Err.ensures.unrefused refusal))
     (λ x m also on from. prepare_failed c.args.base.now c.fields-fields.ensures.usable now.op now.named above c.prepare_at.result (record { is = c.prepare_at.ensures.identity; stands = tt; fits = c.prepare_at.ensures.check }) m also _ _ on from
-    c.in-Err.ending c.in-Err.ensures.mends) tt t o tell tt _
+    c.in-Err.ending c.in-Err.ensures.mends) tt t o tell grid _
 
 pub loop-op-preserved : goal.loop-op-preserved
 loop-op-preserved g c =
@@ -49,9 +49,9 @@ loop-op-preserved g c =
     }
 
 pub returns-clause-mends : goal.returns-clause-mends
-returns-clause-mends g c = λ t o tell.
+returns-clause-mends g c = λ t o tell grid.
     let now = c.loop-op in
-    comes_to now.invariant.walked (λ x image from. names_all c.args.base.now image now.op (number_of now.named) from (omega (arith, now.invariant.low, ap (λ (f : SuperFields). f.op) c.fields-fields.ensures.value))) tt t o tell tt
+    comes_to now.invariant.walked (λ x image from. names_all c.args.base.now image now.op (number_of now.named) from (omega (arith, now.invariant.low, ap (λ (f : SuperFields). f.op) c.fields-fields.ensures.value))) tt t o tell grid
 
 pub returns-clause-back : goal.returns-clause-back
 returns-clause-back g c =

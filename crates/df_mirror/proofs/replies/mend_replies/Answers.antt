@@ -13,7 +13,7 @@ mend_reply-requires-clause-place g c =
     (omega (arith, c.loop-place-test, c.len-place-end.ensures.value), omega (arith, c.loop-place-test, c.len-place-end.ensures.value, c.len-place-end.ensures.table.within, c.requires.places))
 
 pub returns-in-Err-clause-mends : goal.returns-in-Err-clause-mends
-returns-in-Err-clause-mends g c = λ t o tell head. stops c.loop-place.invariant c.in-Err.ending (λ x. c.in-Err.ensures.mends) tt t o tell head _
+returns-in-Err-clause-mends g c = λ t o tell head. stops c.loop-place.invariant c.in-Err.ending (λ refusal. absurd (c.in-Err.ensures.unrefused refusal)) (λ x. c.in-Err.ensures.mends) tt t o tell head _
 
 pub loop-place-preserved : goal.loop-place-preserved
 loop-place-preserved g c =

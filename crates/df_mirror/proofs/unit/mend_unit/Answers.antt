@@ -5,11 +5,12 @@ use Rattle.df_layout.specs.declared.damage.Class.{Class}
 use Rattle.df_buffers.specs.Sounds.{Holding}
 use Rattle.df_places.specs.Shelves.{HoldsFound, IsRead}
 use Rattle.df_mirror.specs.declared.ending.Ending.{Ending}
+use Rattle.df_mirror.specs.declared.ending.Ending.TheVariants.{First}
 use Rattle.df_mirror.specs.Mends.{AreAt}
 use Rattle.df_mirror.specs.Taking.{WritesUnit}
 use Rattle.df_mirror.proofs.Loaded.{found_held, lacks_none, lacks_unit, shows_unit}
 use Rattle.df_mirror.proofs.Joined.{none_came, none_failed}
-use Rattle.df_mirror.proofs.Taken.{taken, told_from, written_is_shown}
+use Rattle.df_mirror.proofs.Taken.{no_refusal, taken, told_from, written_is_shown}
 use Rattle.df_mirror.proofs.unit.mend_unit.Goals as goal
 
 pub returns-in-Ok-None-clause-shown : goal.returns-in-Ok-None-clause-shown
@@ -62,4 +63,7 @@ returns-in-Err-take_unit-clause-mends g c = λ file content at check t o for tel
 
 pub returns-in-Err-clause-mends : goal.returns-in-Err-clause-mends
 returns-in-Err-clause-mends g c = λ file content at check t o for tell due.
-    none_failed file content (AreAt g.K.UnitKind.KIND at) tt t o _ _ _ (c.load.ensures.same ∙ tell.first) refl
+    none_failed file content (AreAt g.K.UnitKind.KIND at) tt t o _ _ _ First (c.load.ensures.same ∙ tell.first, refl)
+
+pub returns-in-Err-take_unit-clause-unrefused : goal.returns-in-Err-take_unit-clause-unrefused
+returns-in-Err-take_unit-clause-unrefused g c = no_refusal g.K.UnitKind.KIND c.args.identity.now c.in-Ok-Some.class _ _ c.take_unit.new.shelf.held (Err c.in-Err-take_unit.ending) c.in-Err-take_unit.ensures.takes
