@@ -170,6 +170,7 @@ mirrored_then b t o old mid new status has barrier silent memory mirrors told = 
           result = m.result;
           answers = subst (λ (x : Option (List ℕ)). AnswersMending b.file (content_of_superblock b) AreInOrder (did Sync t) o new.first x m.text m.result) silent m.answers;
           shown = m.shown;
+          trailer = m.trailer;
           tells = m.tells;
         };
       }))

@@ -4,7 +4,7 @@ use Rattle.std.specs.List.{slice_get}
 use Rattle.df_format.specs.declared.kind.Kind.{Kind}
 use Rattle.df_format.specs.declared.kind.Kind.TheVariants.{Block as AsBlock, Prepare as AsPrepare, Reply as AsReply, Reserved, Trailer as AsTrailer}
 use Rattle.df_theory.specs.Opens.{AreKnown, ReadsTo, named_by}
-use Rattle.df_theory.specs.Sessions.{sessions_after}
+use Rattle.df_theory.specs.Sessions.{Has, sessions_after}
 use Rattle.df_theory.specs.Shape.{Shape, slots}
 use Rattle.df_theory.specs.Trailer.{InChain, IsTrailer}
 use Rattle.df_theory.specs.Units.{AnyUnit, Block, BlockPlace, BlockUnit, Content, Message, Parts, Place, PreparePlace, PrepareUnit, ReplyPlace, ReplyUnit, Session, Units}
@@ -25,6 +25,11 @@ pub record ShowsTrailer (sh : Shape) (image : Units) (c : Content) : Type 0 wher
   pub parts : Parts
   pub trailer : IsTrailer sh c chain parts
   pub shown : (a : ℕ) (b : Block) → InChain a b chain → image (BlockPlace a) ≡ Some (BlockUnit b)
+
+-- the trailer passes the tests of an open: it is shown whole, and each op that waits for its reply is that of a session
+pub record PassesTrailer (sh : Shape) (image : Units) (c : Content) : Type 0 where
+  pub says : ShowsTrailer sh image c
+  pub pending : (n : ℕ) → c.replies < n → n ≤ c.op → Has says.parts.sessions n
 
 -- a block that the trailer references
 pub record IsReferencedBlock (sh : Shape) (image : Units) (c : Content) (a sum : ℕ) : Type 0 where

@@ -11,7 +11,7 @@ use Rattle.df_mirror.specs.declared.ending.Ending.TheVariants.{First, Neither, S
 use Rattle.df_mirror.specs.declared.status.Status.{Status}
 use Rattle.df_mirror.specs.declared.superblock.Superblock.{Superblock}
 use Rattle.df_mirror.specs.declared.status.Status.TheVariants as ends
-use Rattle.df_mirror.specs.Known.{AllShown}
+use Rattle.df_mirror.specs.Known.{AllShown, PassesTrailer}
 use Rattle.df_mirror.specs.Mends.{AnswersMending, AreInOrder}
 use Rattle.df_mirror.specs.Outside.{Outside, PrintsError, Tell, Writes, ended}
 use Rattle.df_mirror.specs.Texts.{count_text, neither_text}
@@ -47,12 +47,13 @@ TellsEnd (Err First) old new status = (status ≡ ends.DiskFault) × (new ≡ ol
 TellsEnd (Err Second) old new status = (status ≡ ends.DiskFault) × (new ≡ old)
 TellsEnd (Err Sink) old new status = (status ≡ ends.WriteFault) × (new ≡ old)
 
--- Known units were mended, those of the trailer first, then blocks, prepares and replies, each as it wasn't shown; and the line on that is the last. Where no disk and no sink failed and both files together show all that is known, all of it is shown then.
+-- Known units were mended, always the first that wasn't shown; and the line on that is the last. Where no disk and no sink failed and both files together show all that is known, all of it is shown then, and the trailer isn't refused; where it is, blocks of it alone were mended.
 pub record Mirrored (b : Superblock) (t o : Told) (old new : Outside) (status : Status) : Type 0 where
   pub text : Option (List ℕ)
   pub result : Result ℕ Ending
   pub answers : AnswersMending b.file (content_of_superblock b) AreInOrder t o new.first old.written text result
   pub shown : (count : ℕ) (n : Told) → result ≡ Ok count → new.first ≡ Some n → AllShown (shape b.file) (superblock_units b n.shown) (content_of_superblock b)
+  pub trailer : (count : ℕ) (n : Told) → result ≡ Ok count → new.first ≡ Some n → PassesTrailer (shape b.file) (superblock_units b n.shown) (content_of_superblock b)
   pub tells : TellsEnd result text new.written status
 
 -- the superblock that the first file shows says what is known, and it is mended after the barrier

@@ -11,6 +11,7 @@ use Rattle.df_layout.specs.declared.fields.Field.TheVariants.{TrailerChain}
 use Rattle.df_model.specs.Blocks.{sum_at}
 use Rattle.df_model.specs.declared.errors.OpenError.TheVariants.{BadField}
 use Rattle.df_theory.specs.Opens.{AreKnown, AreLinks, Arrives, IsLink, named_by}
+use Rattle.df_theory.specs.Sessions.{Has}
 use Rattle.df_theory.specs.Units
 use Rattle.df_theory.specs.Units.{Block, BlockPlace, Content, Message, PreparePlace, PrepareUnit, ReplyPlace, ReplyUnit, Units}
 use Rattle.df_units.specs.Meaning.{block_of, number_of}
@@ -27,7 +28,7 @@ use Rattle.df_mirror.specs.declared.ending.Ending.{Ending}
 use Rattle.df_mirror.specs.declared.ending.Ending.TheVariants.{First, Unopened}
 use Rattle.df_mirror.specs.declared.superblock.Superblock.{Superblock}
 use Rattle.df_mirror.specs.declared.trailer.Text.{Text}
-use Rattle.df_mirror.specs.Known.{AreShown, AreShownBefore, HasSessions, IsRecordedReply, IsShownAs, ShowsTrailer}
+use Rattle.df_mirror.specs.Known.{AllShown, AreShown, AreShownBefore, HasSessions, IsRecordedReply, IsShownAs, PassesTrailer, ShowsTrailer}
 use Rattle.df_mirror.specs.Mends.{AnswersMending, AreAt, Mend, units_shown}
 use Rattle.df_mirror.specs.Outside.{Outside}
 use Rattle.df_mirror.specs.Refusals.{RefusesFirstTrailer}
@@ -83,9 +84,13 @@ pub record HasTrailerText (b : Superblock) (image : Units) (grid : GridState) (s
   pub live : (a : ℕ) → sum_at a grid.blocks.live ≡ says.parts.references a
   pub sessions_are : says.parts.sessions ≡ sessions_of sessions
 
+-- each op that waits for its reply is that of one of these sessions
+abbrev pub HasWaiting : Superblock → List Session → Type 0
+HasWaiting b sessions = (n : ℕ) → b.content.replies < n → n ≤ b.content.op → Has (sessions_of sessions) n
+
 -- what the reading answers, where each block that is wanted is shown
 abbrev pub ReadsChainText : Superblock → Image → Result Text Ending → Type 0
-ReadsChainText b image (Ok text) = HasTrailerText b (superblock_units b image) text.grid text.sessions.sessions
+ReadsChainText b image (Ok text) = HasTrailerText b (superblock_units b image) text.grid text.sessions.sessions × HasWaiting b text.sessions.sessions
 ReadsChainText b image (Err (Unopened e)) = RefusesFirstTrailer b.file image (content_of_superblock b) e
 ReadsChainText b image (Err First) = Unit {0}
 ReadsChainText b image (Err e) = ⊥
@@ -165,3 +170,8 @@ pub record ShowsLog (b : Superblock) (image now : Units) : Type 0 where
   pub blocks : (a : ℕ) → now (BlockPlace a) ≡ image (BlockPlace a)
   pub prepares : AreShown (shape b.file) now (content_of_superblock b) Prepare
   pub replies : AreShown (shape b.file) now (content_of_superblock b) Reply
+
+-- all known units are shown, and the trailer passes the tests of an open
+pub record ShowsAll (b : Superblock) (image : Units) : Type 0 where
+  pub all : AllShown (shape b.file) image (content_of_superblock b)
+  pub trailer : PassesTrailer (shape b.file) image (content_of_superblock b)

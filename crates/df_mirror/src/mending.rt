@@ -3,11 +3,11 @@ ghost use Rattle.std.specs.Prelude.{◌≡◌, ◌≤◌, ◌+◌, length, IfOk}
 ghost use Rattle.df_disk.specs.Told.{Told};
 ghost use Rattle.df_opening.specs.Below.{shape};
 ghost use Rattle.df_sessions.specs.Requests.{sessions_of};
-ghost use Rattle.df_mirror.specs.Known.{AllShown, ShowsTrailer};
+ghost use Rattle.df_mirror.specs.Known.{ShowsTrailer};
 ghost use Rattle.df_mirror.specs.Mends.{AreInOrder, AreLate, IsRefusal};
 ghost use Rattle.df_mirror.specs.Outside.{Tell, around, counts};
 ghost use Rattle.df_mirror.specs.Statuses.{AreBlamed};
-ghost use Rattle.df_mirror.specs.Walks.{Mended, ShowsGrid, ShowsLog, content_of_superblock, superblock_units};
+ghost use Rattle.df_mirror.specs.Walks.{Mended, ShowsAll, ShowsGrid, ShowsLog, content_of_superblock, superblock_units};
 
 use crate::blocks::mend_blocks;
 use crate::chain::mend_chain;
@@ -94,7 +94,7 @@ pub(crate) fn mend_all<A: Disk, B: Disk, W: Sink>(
     requires trailer { reserved.trailer.layout ≡ base.now.file.layout }
     requires block { reserved.block.layout ≡ base.now.file.layout }
     ensures mends { (t o : Told) → Tell t o (around (A.told first.old) (B.told second.old) (W.written sink.old))
-        → Mended base.now AreInOrder t o (around (A.told first.old) (B.told second.old) (W.written sink.old)) (around (A.told first.new) (B.told second.new) (W.written sink.new)) result (λ image. AllShown (shape base.now.file) image (content_of_superblock base.now)) }
+        → Mended base.now AreInOrder t o (around (A.told first.old) (B.told second.old) (W.written sink.old)) (around (A.told first.new) (B.told second.new) (W.written sink.new)) result (ShowsAll base.now) }
     ensures same { B.told second.new ≡ B.told second.old }
     ensures blamed { AreBlamed (counts (A.faults first.old) (B.faults second.old) (W.faults sink.old)) (counts (A.faults first.new) (B.faults second.new) (W.faults sink.new)) result }
 {

@@ -1,12 +1,10 @@
 -- What was mended is told.
 use Rattle.std.proofs.Common.{ℕ, refl, subst}
 use Rattle.std.specs.Prelude.{Result, OnOk}
-use Rattle.df_opening.specs.Below.{shape}
 use Rattle.df_program.specs.Two.{counts}
 use Rattle.df_mirror.specs.declared.ending.Ending.{Ending}
 use Rattle.df_mirror.specs.declared.status.Status.TheVariants as ends
-use Rattle.df_mirror.specs.Known.{AllShown}
-use Rattle.df_mirror.specs.Walks.{content_of_superblock, superblock_units}
+use Rattle.df_mirror.specs.Walks.{ShowsAll, superblock_units}
 use Rattle.df_mirror.proofs.Ended.{mended_causes, nothing_causes, tells_otherwise}
 use Rattle.df_mirror.proofs.engine.mend_file.Goals as goal
 
@@ -17,7 +15,8 @@ returns-in-Ok-clause-mirrors g c = λ t o tell no.
       text = g.W.Sink.written c.mend_all-mended.new.sink;
       result = c.mend_all-mended.result;
       answers = (c.mend_all-mended.ensures.mends t o tell).answers;
-      shown = λ count n is same. subst (λ (r : Result ℕ Ending). OnOk r (AllShown (shape b.file) (superblock_units b n.shown) (content_of_superblock b))) is ((c.mend_all-mended.ensures.mends t o tell).shown n same);
+      shown = λ count n is same. (subst (λ (r : Result ℕ Ending). OnOk r (ShowsAll b (superblock_units b n.shown))) is ((c.mend_all-mended.ensures.mends t o tell).shown n same)).all;
+      trailer = λ count n is same. (subst (λ (r : Result ℕ Ending). OnOk r (ShowsAll b (superblock_units b n.shown))) is ((c.mend_all-mended.ensures.mends t o tell).shown n same)).trailer;
       tells = c.tell.ensures.tells;
     }
 

@@ -1,11 +1,9 @@
 -- The walks come one after the other, and after the last one all is shown.
 use Rattle.std.proofs.Common.{◌≡◌, ◌+◌, ◌∙◌, ℕ, arith, subst, sym, Ok, Err}
 use Rattle.df_format.specs.declared.kind.Kind.TheVariants.{Block as AsBlock, Trailer}
-use Rattle.df_opening.specs.Below.{shape}
-use Rattle.df_mirror.specs.Known.{AllShown}
 use Rattle.df_mirror.specs.Mends.{AreInOrder}
 use Rattle.df_mirror.specs.Outside.{around}
-use Rattle.df_mirror.specs.Walks.{Mended, content_of_superblock}
+use Rattle.df_mirror.specs.Walks.{Mended, ShowsAll}
 use Rattle.df_mirror.proofs.Logs.{all_mended, from_kind, refused_here, walk_then}
 use Rattle.df_mirror.proofs.Turns.{ends_so}
 use Rattle.df_mirror.proofs.mending.mend_all.Goals as goal
@@ -23,7 +21,7 @@ pub returns-in-Err-mend_blocks-clause-mends : goal.returns-in-Err-mend_blocks-cl
 returns-in-Err-mend_blocks-clause-mends g c = λ t o tell.
     let read = c.in-Ok-read_trailer in
     walk_then 0 1 Trailer (omega arith) (omega arith) tell (c.in-Ok.ensures.mends t o tell) c.in-Ok.ensures.same read.ensures.same (Err c.in-Err-mend_blocks.ending) (λ refusal ms are. are)
-    (λ m on shown. ends_so (λ ms are. from_kind 1 AsBlock ms (omega arith) are) (c.in-Err-mend_blocks.ensures.mends read.found.sessions.sessions m o on (read.ensures.reads m (sym read.ensures.same ∙ on.first) on.whole shown)))
+    (λ m on shown. ends_so (λ ms are. from_kind 1 AsBlock ms (omega arith) are) (c.in-Err-mend_blocks.ensures.mends read.found.sessions.sessions m o on (read.ensures.reads m (sym read.ensures.same ∙ on.first) on.whole shown).0))
 
 pub returns-clause-mends : goal.returns-clause-mends
 returns-clause-mends g c = λ t o tell.
@@ -40,6 +38,6 @@ returns-in-Ok-mend_log-clause-mends g c = λ t o tell.
     let old = around (g.A.Disk.told c.args.first.now) (g.B.Disk.told c.args.second.now) (g.W.Sink.written c.args.sink.now) in
     let new = around (g.A.Disk.told c.mend_log.new.first) (g.B.Disk.told c.mend_log.new.second) (g.W.Sink.written c.mend_log.new.sink) in
     let sum : c.in-Ok.mended + (c.in-Ok-mend_blocks.mended + c.in-Ok-mend_log.mended) ≡ c.in-Ok.mended + c.in-Ok-mend_blocks.mended + c.in-Ok-mend_log.mended = omega arith in
-    subst (λ (n : ℕ). Mended b AreInOrder t o old new (Ok n) (λ image. AllShown (shape b.file) image (content_of_superblock b))) sum
+    subst (λ (n : ℕ). Mended b AreInOrder t o old new (Ok n) (ShowsAll b)) sum
     (all_mended read.found.grid read.found.sessions.sessions tell (c.in-Ok.ensures.mends t o tell) c.in-Ok.ensures.same read.ensures.same read.ensures.reads (λ m. blocks.mends read.found.sessions.sessions m o) blocks.same (Ok c.in-Ok-mend_log.mended) (λ refusal. refusal)
     (λ m. c.in-Ok-mend_log.ensures.mends m o))

@@ -1,5 +1,5 @@
 -- The trailer is read, or there is none.
-use Rattle.std.proofs.Common.{◌≡◌, ◌≢◌, List, Some, sym, subst, arith}
+use Rattle.std.proofs.Common.{◌≡◌, ◌≢◌, List, Some, None, sym, subst, arith}
 use Rattle.std.specs.Prelude.{Err}
 use Rattle.df_format.specs.declared.superblock.SuperFields.{SuperFields}
 use Rattle.df_grid.specs.Grid.{GridState}
@@ -7,8 +7,8 @@ use Rattle.df_sessions.specs.Table.{Table}
 use Rattle.df_mirror.specs.declared.ending.Ending.{Ending}
 use Rattle.df_mirror.specs.Trailers.{empty_grid}
 use Rattle.df_sessions.specs.declared.session.Session.{Session}
-use Rattle.df_checkpoint.proofs.Laws.{pending_of}
-use Rattle.df_mirror.specs.Walks.{HasTrailerText, ReadsChainText, superblock_units}
+use Rattle.df_checkpoint.proofs.Laws.{has_is, pending_of}
+use Rattle.df_mirror.specs.Walks.{HasTrailerText, HasWaiting, ReadsChainText, superblock_units}
 use Rattle.df_mirror.proofs.Trailers.{grid_is, no_text, text_refused, text_untracked}
 use Rattle.df_mirror.proofs.trailer.read_trailer.Goals as goal
 
@@ -16,7 +16,10 @@ pub returns-then-fields-eq0-clause-reads : goal.returns-then-fields-eq0-clause-r
 returns-then-fields-eq0-clause-reads g c = λ t told whole shown.
     let b = c.args.base.now in
     let none : b.content.trailer_address ≡ 0 = subst (λ (x : SuperFields). x.trailer_address ≡ 0) c.fields-fields.ensures.value c.if-fields-eq0.true in
-    subst (λ (x : GridState). HasTrailerText b (superblock_units b t.shown) x c.new-sessions.result.sessions) (sym (grid_is b c.into_grid-grid.result c.args.grid.layout c.into_grid-grid.ensures c.requires.grid)) (subst (λ (l : List Session). HasTrailerText b (superblock_units b t.shown) (empty_grid b) l) (sym c.new-sessions.ensures.empty) (no_text b (superblock_units b t.shown) c.fields-fields.ensures.usable.rules none))
+    let rules = c.fields-fields.ensures.usable.rules in (
+      subst (λ (x : GridState). HasTrailerText b (superblock_units b t.shown) x c.new-sessions.result.sessions) (sym (grid_is b c.into_grid-grid.result c.args.grid.layout c.into_grid-grid.ensures c.requires.grid)) (subst (λ (l : List Session). HasTrailerText b (superblock_units b t.shown) (empty_grid b) l) (sym c.new-sessions.ensures.empty) (no_text b (superblock_units b t.shown) rules none)),
+      λ n above within. absurd (rules.trailer.1 (λ zero. omega (arith, zero, above, within)) none),
+    )
 
 pub over-requires-clause-named : goal.over-requires-clause-named
 over-requires-clause-named g c = λ k s at zero. omega (arith, (c.in-Ok.ensures.fits.1.each k s at).client, zero)
@@ -24,7 +27,9 @@ over-requires-clause-named g c = λ k s at zero. omega (arith, (c.in-Ok.ensures.
 pub returns-in-None-clause-reads : goal.returns-in-None-clause-reads
 returns-in-None-clause-reads g c = λ t told whole shown.
     let b = c.args.base.now in
-    subst (λ (x : Table). HasTrailerText b (superblock_units b t.shown) c.read_named.new.grid x.sessions) (sym c.over.ensures) (c.in-Ok.ensures.reads t told whole)
+    let pending = pending_of c.deref.result.now c.in-Ok.sessions.items c.fields-fields.result.now b.content None c.deref.ensures.0 c.fields-fields.ensures.value c.in-None.ensures in
+    subst (λ (x : Table). HasTrailerText b (superblock_units b t.shown) c.read_named.new.grid x.sessions × HasWaiting b x.sessions) (sym c.over.ensures)
+    (c.in-Ok.ensures.reads t told whole, λ n above within. has_is n c.in-Ok.sessions.items (pending n above within))
 
 pub returns-in-Some-clause-reads : goal.returns-in-Some-clause-reads
 returns-in-Some-clause-reads g c = λ t told whole shown.
