@@ -25,11 +25,11 @@ use Rattle.df_mirror.specs.Texts.{mended_text}
 
 -- ---- lists
 
-told_append : (es fs : List Event) (t : Told) → told_after (es ++ fs) t ≡ told_after fs (told_after es t)
+pub told_append : (es fs : List Event) (t : Told) → told_after (es ++ fs) t ≡ told_after fs (told_after es t)
 told_append [] fs t = refl
 told_append (e ∷ es) fs t = told_append es fs (did e t)
 
-events_append : (file : DataFile) (ms ls : List Mend) → mirrored_events file (ms ++ ls) ≡ mirrored_events file ms ++ mirrored_events file ls
+pub events_append : (file : DataFile) (ms ls : List Mend) → mirrored_events file (ms ++ ls) ≡ mirrored_events file ms ++ mirrored_events file ls
 events_append file [] ls = refl
 events_append file (m ∷ ms) ls = ap (λ (es : List Event). Write (first_at file.layout m.place) m.bytes ∷ Sync ∷ es) (events_append file ms ls)
 

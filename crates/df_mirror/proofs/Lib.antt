@@ -24,4 +24,5 @@ pub mod AtHead
 pub mod HeadSessions
 pub mod RingSeen
 pub mod Recorded
+pub mod Runs
 pub mod Stays

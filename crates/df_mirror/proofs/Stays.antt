@@ -156,7 +156,7 @@ module _ (file : DataFile) (c : Content) (second : Image) (v : Told) (m : Mend) 
 left_still : (file : DataFile) (v : Told) → IsHonest v → IsStill v.log → (left : Image) → IsLeft v.log left → (p : Place) → units_shown file left p ≡ units_shown file v.shown p
 left_still file v honest still left is_left p = (is_format file.layout file.cluster).local left v.shown p (λ sector inside. is_left.kept sector (still sector) ∙ sym (honest.shows sector))
 
-told_extends : (es : List Event) (t : Told) → Extends (told_after es t).log t.log
+pub told_extends : (es : List Event) (t : Told) → Extends (told_after es t).log t.log
 told_extends [] t = extends_self t.log
 told_extends (e ∷ es) t = extends_on (told_after es (did e t)).log (did e t).log t.log (told_extends es (did e t)) (e ∷ [], refl, refl)
 

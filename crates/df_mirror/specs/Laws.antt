@@ -1,8 +1,9 @@
 -- What a list of mends leaves true of the first file, whatever it is and wherever a stop falls.
-use Rattle.std.specs.Prelude.{◌≡◌, ◌⊎◌, ◌<◌, ◌≤◌, ◌++◌, ℕ, true, List, [], ◌∷◌, Some}
+use Rattle.std.specs.Prelude.{◌≡◌, ◌⊎◌, ◌<◌, ◌≤◌, ◌++◌, ℕ, true, List, [], ◌∷◌, Option, Some}
 use Rattle.df_base.specs.Image.{Image, IsImage}
-use Rattle.df_base.specs.Log.{IsLeft, Log, Sync, now}
+use Rattle.df_base.specs.Log.{Event, IsLeft, Log, Sync, now}
 use Rattle.df_base.specs.Moments.{EachMoment}
+use Rattle.df_disk.specs.Adds.{after_all}
 use Rattle.df_disk.specs.Told.{IsHonest, Told, did}
 use Rattle.df_format.specs.declared.kind.Kind.{Kind}
 use Rattle.df_theory.specs.Copies.{IsChosen}
@@ -10,7 +11,7 @@ use Rattle.df_theory.specs.Found.{IsFound}
 use Rattle.df_theory.specs.Units.{Content, Message, Place, ReplyPlace, ReplyUnit}
 use Rattle.df_theory.specs.View.{View}
 use Rattle.df_units.specs.Bytes.{has}
-use Rattle.df_damage.specs.Anew.{IsStill, told_after}
+use Rattle.df_damage.specs.Anew.{IsStill, restarted, told_after}
 use Rattle.df_damage.specs.Histories.{HasRaised, MayReopen}
 use Rattle.df_damage.specs.Hurt.{IsUnhurt}
 use Rattle.df_damage.specs.Unrefused.{IsNotRefused}
@@ -22,6 +23,7 @@ use Rattle.df_mirror.specs.Known.{AllShown, IsKnownAt, IsShownAs, rank_of_kind}
 use Rattle.df_mirror.specs.Mends.{AreInOrder, AreMends, Mend, mirrored_events, units_shown}
 use Rattle.df_mirror.specs.Outside.{Outside, Tell}
 use Rattle.df_mirror.specs.Run.{Mirrors}
+use Rattle.df_mirror.specs.Walks.{content_of_superblock}
 
 -- mends of what mends left go on with them
 abbrev pub MendsGoOn : Type 0
@@ -48,6 +50,17 @@ abbrev pub KnownStays : Type 0
 KnownStays =
     (file : DataFile) (c : Content) (second : Image) (t u : Told) (ms later : List Mend) → IsHonest t → IsStill t.log → IsImage t.shown → AreMends file c second t (ms ++ later) → u ≡ told_after (mirrored_events file ms) t
     → EachMoment u.log (told_after (mirrored_events file later) u).log (LeavesKnownShown file c u.shown)
+
+-- What a run does after its barrier, by the log that begins there: these are mended, and then a part of one more is written, or none. From each whole mend on, and from the barrier on, the units that are known and shown then are shown, in whatever a stop leaves.
+pub record KeepsKnown (file : DataFile) (c : Content) (t : Told) (new : Option Told) : Type 0 where
+  pub mends : List Mend
+  pub part : List Event
+  pub told : new ≡ after_all (mirrored_events file mends ++ part) (Some (did Sync t))
+  pub moments : (front back : List Mend) (u : Told) → mends ≡ front ++ back → u ≡ told_after (mirrored_events file front) (restarted t) → EachMoment u.log (told_after (mirrored_events file back ++ part) u).log (LeavesKnownShown file c u.shown)
+
+-- So it is in each run, however it ends.
+abbrev pub RunKeepsKnown : Type 0
+RunKeepsKnown = (t o : Told) (old new : Outside) (status : Status) (is : Mirrors t o old new status) → Tell t o old → KeepsKnown is.base.file (content_of_superblock is.base) t new.first
 
 -- ---- what an open finds then
 

@@ -1,5 +1,5 @@
 // What a list of mends leaves true: laws, each the clause of a function that does nothing.
-ghost use Rattle.df_mirror.specs.Laws.{KnownStays, MendedIsOpened, MendsGoOn, MirroredIsOpened, UnitsComeInOrder};
+ghost use Rattle.df_mirror.specs.Laws.{KnownStays, MendedIsOpened, MendsGoOn, MirroredIsOpened, RunKeepsKnown, UnitsComeInOrder};
 
 /// Mends go on with mends of what they left.
 pub fn mends_go_on()
@@ -11,9 +11,10 @@ pub fn units_come_in_order()
     ensures { UnitsComeInOrder }
 {}
 
-/// At every moment each known unit that was shown is still shown, in whatever a stop leaves.
+/// At every moment each known unit that was shown is still shown, in whatever a stop leaves: of a list of mends by any honest log of which nothing is loose, and of a run, however it ends, by the log that begins after its barrier.
 pub fn known_units_stay()
-    ensures { KnownStays }
+    ensures mends { KnownStays }
+    ensures run { RunKeepsKnown }
 {}
 
 /// A file that had four equal superblock copies, and of which only known units and at most two copies were hurt, is opened as it was left, once all known units are shown again.
