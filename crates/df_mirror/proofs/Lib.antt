@@ -13,6 +13,7 @@ pub mod Frames
 pub mod Chains
 pub mod Linked
 pub mod Turns
+pub mod WasThere
 pub mod Counts
 pub mod Trailers
 pub mod Ones

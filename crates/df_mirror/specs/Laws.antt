@@ -6,13 +6,15 @@ use Rattle.df_base.specs.Moments.{EachMoment}
 use Rattle.df_disk.specs.Adds.{after_all}
 use Rattle.df_disk.specs.Told.{IsHonest, Told, did}
 use Rattle.df_format.specs.declared.kind.Kind.{Kind}
+use Rattle.df_theory.specs.Chance.{Distinct}
 use Rattle.df_theory.specs.Copies.{IsChosen}
 use Rattle.df_theory.specs.Found.{IsFound}
-use Rattle.df_theory.specs.Units.{Content, Message, Place, ReplyPlace, ReplyUnit}
+use Rattle.df_theory.specs.Units.{AnyUnit, Content, Message, Place, ReplyPlace, ReplyUnit}
 use Rattle.df_theory.specs.View.{View}
+use Rattle.df_history.specs.Histories.{InHistoryPool, InHistoryPools, NoChanceOver}
 use Rattle.df_units.specs.Bytes.{has}
 use Rattle.df_damage.specs.Anew.{IsStill, restarted, told_after}
-use Rattle.df_damage.specs.Histories.{HasRaised, MayReopen}
+use Rattle.df_damage.specs.Histories.{HasRaised, MayReopen, units_logs}
 use Rattle.df_damage.specs.Hurt.{IsUnhurt}
 use Rattle.df_damage.specs.Unrefused.{IsNotRefused}
 use Rattle.df_damage.specs.Versions.{IsUnspent}
@@ -20,7 +22,7 @@ use Rattle.df_opening.specs.Below.{DataFile, shape}
 use Rattle.df_mirror.specs.declared.status.Status.{Status}
 use Rattle.df_mirror.specs.declared.status.Status.TheVariants.{Done, Found}
 use Rattle.df_mirror.specs.Known.{AllShown, IsKnownAt, IsShownAs, rank_of_kind}
-use Rattle.df_mirror.specs.Mends.{AreInOrder, AreMends, Mend, mirrored_events, units_shown}
+use Rattle.df_mirror.specs.Mends.{AreInOrder, AreMends, IsMend, Mend, mirrored_events, units_shown}
 use Rattle.df_mirror.specs.Outside.{Outside, Tell}
 use Rattle.df_mirror.specs.Run.{Mirrors}
 use Rattle.df_mirror.specs.Walks.{content_of_superblock}
@@ -61,6 +63,13 @@ pub record KeepsKnown (file : DataFile) (c : Content) (t : Told) (new : Option T
 -- So it is in each run, however it ends.
 abbrev pub RunKeepsKnown : Type 0
 RunKeepsKnown = (t o : Told) (old new : Outside) (status : Status) (is : Mirrors t o old new status) → Tell t o old → KeepsKnown is.base.file (content_of_superblock is.base) t new.first
+
+-- Under no chance a mended unit is the one that was written there: where an image shows it at its place, as the second file's does, and the first one's after its write, it was written there in the history; and no other unit of its kind with its checksum
+-- was ever written anywhere.
+abbrev pub MendedWasWritten : Type 0
+MendedWasWritten =
+    (file : DataFile) (c : Content) (shown second image : Image) (logs : List Log) (m : Mend) → IsMend file c shown second m → units_shown file image m.place ≡ Some m.unit → NoChanceOver (units_logs file logs) (units_shown file image)
+    → InHistoryPool (units_logs file logs) m.place m.unit × ((other : Place) (y : AnyUnit) → InHistoryPools (units_logs file logs) other y → Distinct y m.unit)
 
 -- ---- what an open finds then
 

@@ -1,5 +1,5 @@
 // What a list of mends leaves true: laws, each the clause of a function that does nothing.
-ghost use Rattle.df_mirror.specs.Laws.{KnownStays, MendedIsOpened, MendsGoOn, MirroredIsOpened, RunKeepsKnown, UnitsComeInOrder};
+ghost use Rattle.df_mirror.specs.Laws.{KnownStays, MendedIsOpened, MendedWasWritten, MendsGoOn, MirroredIsOpened, RunKeepsKnown, UnitsComeInOrder};
 
 /// Mends go on with mends of what they left.
 pub fn mends_go_on()
@@ -15,6 +15,11 @@ pub fn units_come_in_order()
 pub fn known_units_stay()
     ensures mends { KnownStays }
     ensures run { RunKeepsKnown }
+{}
+
+/// A mended unit is the one that was written at its place, under no chance over the history: no other unit of its kind has its checksum.
+pub fn a_mended_unit_was_written()
+    ensures { MendedWasWritten }
 {}
 
 /// A file that had four equal superblock copies, and of which only known units and at most two copies were hurt, is opened as it was left, once all known units are shown again.
