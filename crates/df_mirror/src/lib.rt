@@ -19,6 +19,9 @@ mod unit;
 
 pub use ending::Ending;
 pub use engine::mirror;
-pub use laws::{a_mended_file_is_opened, a_mended_unit_was_written, known_units_stay, mends_go_on, units_come_in_order};
+pub use laws::{
+    a_mended_file_is_opened, a_mended_unit_was_written, known_units_stay, mends_go_on,
+    units_come_in_order,
+};
 pub use status::Status;
 pub use telling::USAGE;
