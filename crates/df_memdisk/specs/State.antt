@@ -2,9 +2,9 @@
 use Rattle.std.specs.Prelude.{◌≡◌, ◌⊎◌, ℕ, true, not, List, ◌∷◌, length, map, reverse, find, Option, Result, OnErr, OnOk}
 use Rattle.df_base.specs.Causes.{counted}
 use Rattle.df_base.specs.Image.{blank}
-use Rattle.df_base.specs.Log.{Event, Log, AreEvents, loose_of}
-use Rattle.df_base.specs.Plan.{Plan, is_listed}
-use Rattle.df_disk.specs.Told.{Told}
+use Rattle.df_base.specs.Log.{Event, Log, Sync, AreEvents, loose_of}
+use Rattle.df_base.specs.Plan.{FailsExactly, Plan, after_call, is_listed}
+use Rattle.df_disk.specs.Told.{Told, did}
 use Rattle.df_memdisk.specs.Struck.{shown_after, AreBehind}
 use Rattle.df_memdisk.specs.declared.shown.Struck.{Struck}
 use Rattle.df_memdisk.specs.History.{events_of}
@@ -34,6 +34,23 @@ told_of state = told_by state.events state.strikes
 pub record AddsEvent {T E : Type 0} (event : Event) (old new : DiskState) (result : Result T E) : Type 0 where
   pub ok : OnOk result (new.events ≡ event ∷ old.events)
   pub err : OnErr result (((is_listed old.plan ≡ true) × (new.events ≡ event ∷ old.events) × (new.refused ≡ old.refused)) ⊎ ((new.events ≡ old.events) × (new.refused ≡ counted old.refused)))
+
+-- What a write leaves: it fails exactly where its number was listed or memory was refused, and adds its event; the strikes stay, and the call is counted.
+pub record WritesEvent {T E : Type 0} (write : Event) (old new : DiskState) (result : Result T E) : Type 0 where
+  pub fails_exactly : FailsExactly old.plan old.refused new.refused result
+  pub event : AddsEvent write old new result
+  pub told : OnOk result (told_of new ≡ did write (told_of old))
+  pub strikes : new.strikes ≡ old.strikes
+  pub plan : new.plan ≡ after_call old.plan result
+
+-- What a sync leaves, likewise; but where it fails its event isn't there.
+pub record SyncsEvents {T E : Type 0} (old new : DiskState) (result : Result T E) : Type 0 where
+  pub fails_exactly : FailsExactly old.plan old.refused new.refused result
+  pub event : OnOk result (new.events ≡ Sync ∷ old.events)
+  pub no_event : OnErr result (new.events ≡ old.events)
+  pub told : OnOk result (told_of new ≡ did Sync (told_of old))
+  pub strikes : new.strikes ≡ old.strikes
+  pub plan : new.plan ≡ after_call old.plan result
 
 -- the first of the named sectors that wasn't written since the last sync or stop
 abbrev pub first_firm : List Event → List (ℕ × List ℕ) → Option ℕ

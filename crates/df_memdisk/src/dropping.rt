@@ -1,11 +1,11 @@
 // A disk that loses writes: it answers Ok to some without doing them, as a device does whose writes are misdirected or lost.
-ghost use Rattle.std.specs.Prelude.{◌≡◌, ◌⊎◌, ◌∷◌, length, true, false, is_err, Some, OnOk, OnErr, IsOk};
+ghost use Rattle.std.specs.Prelude.{◌≡◌, ◌⊎◌, length, is_err, Some, OnOk, OnErr};
 ghost use Rattle.df_base.specs.Causes.{HasCause, counted};
 ghost use Rattle.df_base.specs.Log.{Write, Sync};
-ghost use Rattle.df_base.specs.Plan.{is_listed, after_call, FailsExactly};
-ghost use Rattle.df_disk.specs.Told.{AreSectors, IsHonest, Shows, after, did};
-ghost use Rattle.df_memdisk.specs.State.{told_of, AddsEvent};
-ghost use Rattle.df_memdisk.specs.Dropping.{is_dropped, tells_nothing};
+ghost use Rattle.df_base.specs.Plan.{is_listed, after_call};
+ghost use Rattle.df_disk.specs.Told.{AreSectors, IsHonest, Shows, after};
+ghost use Rattle.df_memdisk.specs.State.{SyncsEvents, told_of};
+ghost use Rattle.df_memdisk.specs.Dropping.{WritesUnlessDropped, is_dropped, tells_nothing};
 
 use crate::MemoryDisk;
 use df_base::Failed;
@@ -90,13 +90,7 @@ impl Disk for DroppingDisk {
 
         ensures count { self.new.writes ≡ counted self.old.writes }
         ensures list { self.new.dropped ≡ self.old.dropped }
-        ensures lost { is_dropped self.old ≡ true → self.new.disk ≡ self.old.disk }
-        ensures lost_is_ok { is_dropped self.old ≡ true → IsOk result }
-        ensures done_fails_exactly { is_dropped self.old ≡ false → FailsExactly self.old.disk.plan self.old.disk.refused self.new.disk.refused result }
-        ensures done_event { is_dropped self.old ≡ false → AddsEvent (Write at bytes.now) self.old.disk self.new.disk result }
-        ensures done_told { is_dropped self.old ≡ false → OnOk result (told_of self.new.disk ≡ did (Write at bytes.now) (told_of self.old.disk)) }
-        ensures done_strikes { is_dropped self.old ≡ false → self.new.disk.strikes ≡ self.old.disk.strikes }
-        ensures done_plan { is_dropped self.old ≡ false → self.new.disk.plan ≡ after_call self.old.disk.plan result }
+        ensures does { WritesUnlessDropped (Write at bytes.now) self.old self.new result }
         ensures honest { IsHonest (told_of self.old.disk) → IsHonest (told_of self.new.disk) }
     {
         if self.begin_write() {
@@ -112,12 +106,7 @@ impl Disk for DroppingDisk {
 
         ensures count { self.new.writes ≡ self.old.writes }
         ensures list { self.new.dropped ≡ self.old.dropped }
-        ensures fails_exactly { FailsExactly self.old.disk.plan self.old.disk.refused self.new.disk.refused result }
-        ensures event { OnOk result (self.new.disk.events ≡ Sync ∷ self.old.disk.events) }
-        ensures told { OnOk result (told_of self.new.disk ≡ did Sync (told_of self.old.disk)) }
-        ensures no_event { OnErr result (self.new.disk.events ≡ self.old.disk.events) }
-        ensures strikes { self.new.disk.strikes ≡ self.old.disk.strikes }
-        ensures plan { self.new.disk.plan ≡ after_call self.old.disk.plan result }
+        ensures does { SyncsEvents self.old.disk self.new.disk result }
         ensures honest { IsHonest (told_of self.old.disk) → IsHonest (told_of self.new.disk) }
     {
         self.disk.sync()

@@ -4,9 +4,9 @@ ghost use Rattle.std.specs.Prelude.{◌≡◌, ◌≤◌, ◌⊎◌, [], ◌∷�
 ghost use Rattle.df_base.specs.Causes.{HasCause, counted};
 ghost use Rattle.df_base.specs.Image.{blank};
 ghost use Rattle.df_base.specs.Log.{new_log, Write, Sync, AreEvents, IsLog};
-ghost use Rattle.df_base.specs.Plan.{new_plan, is_listed, after_call, FailsExactly};
+ghost use Rattle.df_base.specs.Plan.{new_plan, is_listed, after_call};
 ghost use Rattle.df_disk.specs.Told.{AreSectors, IsHonest, Shows, after, did};
-ghost use Rattle.df_memdisk.specs.State.{log_of, told_of, AddsEvent};
+ghost use Rattle.df_memdisk.specs.State.{SyncsEvents, WritesEvent, log_of, told_of};
 
 use crate::history::Happened;
 use crate::shown::{Struck, show_sectors};
@@ -166,11 +166,8 @@ impl Disk for MemoryDisk {
         ensures err { OnErr result ((Some (told_of self.new) ≡ Some (told_of self.old)) ⊎ (Some (told_of self.new) ≡ after (Write at bytes.now) (Some (told_of self.old)))) }
         ensures cause { HasCause self.old.plan.faults self.new.plan.faults result }
 
-        ensures fails_exactly { FailsExactly self.old.plan self.old.refused self.new.refused result }
-        ensures event { AddsEvent (Write at bytes.now) self.old self.new result }
-        ensures strikes { self.new.strikes ≡ self.old.strikes }
+        ensures does { WritesEvent (Write at bytes.now) self.old self.new result }
         ensures honest { IsHonest (told_of self.old) → IsHonest (told_of self.new) }
-        ensures plan { self.new.plan ≡ after_call self.old.plan result }
     {
         let listed = self.plan.begin_call();
         if self.keep_write(at, bytes).is_err() {
@@ -187,13 +184,9 @@ impl Disk for MemoryDisk {
         ensures err { OnErr result (Some (told_of self.new) ≡ Some (told_of self.old)) }
         ensures cause { HasCause self.old.plan.faults self.new.plan.faults result }
 
-        ensures fails_exactly { FailsExactly self.old.plan self.old.refused self.new.refused result }
-        ensures event { OnOk result (self.new.events ≡ Sync ∷ self.old.events) }
-        ensures no_event { OnErr result (self.new.events ≡ self.old.events) }
-        ensures strikes { self.new.strikes ≡ self.old.strikes }
+        ensures does { SyncsEvents self.old self.new result }
         ensures honest { IsHonest (told_of self.old) → IsHonest (told_of self.new) }
         ensures listed_asks_for_nothing { is_listed self.old.plan ≡ true → self.new.refused ≡ self.old.refused }
-        ensures plan { self.new.plan ≡ after_call self.old.plan result }
     {
         if self.plan.begin_call() {
             return Err(self.plan.fail());

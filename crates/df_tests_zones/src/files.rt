@@ -40,9 +40,7 @@ pub(crate) fn prepare_header(
     is_paired: bool,
     parent: Check,
 ) -> Header
-    requires op { (1 ≤ op) × (op ≤ 1000) }
-    requires request { (1 ≤ request) × (request ≤ 1000) }
-    requires boot { boot ≤ 1000 }
+    requires small { (1 ≤ op) × (op ≤ 1000) × (1 ≤ request) × (request ≤ 1000) × (boot ≤ 1000) }
     ensures sealed { ObeysRules result }
     ensures rules { ObeysRules (for_body result []) }
     ensures kind { result.kind ≡ Kind.Prepare }
