@@ -1,10 +1,11 @@
 // The trailer: what the source's says, with the new addresses and checksums, in blocks after the copied ones.
-ghost use Rattle.std.specs.Prelude.{◌≡◌, ◌<◌, ◌≤◌, ◌-◌, ◌^◌, List, true, length, IfErr, OnOk};
+ghost use Rattle.std.specs.Prelude.{◌≡◌, ◌<◌, ◌≤◌, ◌-◌, ◌^◌, List, length, IfErr, OnOk};
 ghost use Rattle.df_base.specs.Causes.{HasCause, IsBlamed};
 ghost use Rattle.df_disk.specs.Adds.{Adds};
 ghost use Rattle.df_format.specs.Message.{Message};
 ghost use Rattle.df_grid.specs.Writes.{made_events};
 ghost use Rattle.df_opening.specs.Below.{memory};
+ghost use Rattle.df_copy.specs.Acts.{IsReadySource};
 ghost use Rattle.df_copy.specs.Planning.{IsCopyPlan};
 ghost use Rattle.df_copy.specs.Statuses.{is_target};
 ghost use Rattle.df_copy.specs.Targets.{IsTarget, grid_behind, pieces_from, sequence_of};
@@ -102,8 +103,7 @@ pub(crate) fn write_trailer<B: Disk>(
     target: &mut Target,
     plan: Plan,
 ) -> Result<(), Ending>
-    requires live { replica.now.live ≡ true }
-    requires fits { length replica.now.table.sessions ≤ target.old.layout.clients }
+    requires ready { IsReadySource target.old.layout replica.now }
     requires plan { IsCopyPlan target.old.layout replica.now plan }
     requires room { needed target.old.layout (memory replica.now) ≤ target.old.layout.blocks }
     requires begun { (rs : List Message) × (bs : List Message) × IsTarget target.old.layout replica.now.file.cluster rs bs target.old × (length bs ≡ length (references (memory replica.now))) }

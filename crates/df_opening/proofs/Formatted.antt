@@ -1,5 +1,5 @@
 -- What a making answers, put together: on a disk that is blank where the copies stand it makes the file or a part of it, and on another one nothing.
-use Rattle.std.proofs.Common.{◌≡◌, ◌<◌, ℕ, List, Option, Some, None, sym, ◌∙◌, ap, subst, Ok, Err}
+use Rattle.std.proofs.Common.{◌≡◌, ◌<◌, ℕ, List, Option, Some, None, sym, ◌∙◌, ap, subst, refl, arith, Ok, Err}
 use Rattle.df_base.specs.Log.{Event}
 use Rattle.df_disk.specs.Told.{Told}
 use Rattle.df_disk.specs.Adds.{AddsPart, after_all}
@@ -25,6 +25,20 @@ not_refused cluster ClusterZero named is = absurd (cc)
 not_refused cluster (NotBlank copy) named is = named
 not_refused cluster DiskFault named is = named
 
+-- and a refused cluster nothing, either
+zero_tells : (old : Option Told) → TellsBlank {T = Unit {0}} old (Err ClusterZero)
+zero_tells None = tt
+zero_tells (Some t) = tt
+
+pub no_cluster : (layout : Layout) (cluster : ℕ) (old : Option Told) → cluster ≡ 0 → FormatsFile {T = Unit {0}} layout cluster old old (Err ClusterZero)
+no_cluster layout cluster old none = record {
+  named = none;
+  blank = zero_tells old;
+  events = refl;
+  steps = λ named. absurd (omega (arith, none, named));
+  makes = λ before after first last may. absurd (omega (arith, none, may.named));
+}
+
 module _ (layout : Layout) (cluster : ℕ) (is : IsUsable (first_super layout cluster)) (old : Option Told) where
   abbrev events : List Event
   events = making_events layout cluster
@@ -38,7 +52,7 @@ module _ (layout : Layout) (cluster : ℕ) (is : IsUsable (first_super layout cl
     named = not_refused cluster e (named_of layout cluster is) refuses;
     blank = blank;
     events = unchanged_adds events old new e same;
-    steps = steps_of_making layout cluster is;
+    steps = λ named. steps_of_making layout cluster is;
     makes = part_makes new e (nothing_is_part events old new same);
   }
 
@@ -50,7 +64,7 @@ module _ (layout : Layout) (cluster : ℕ) (is : IsUsable (first_super layout cl
           named = named_of layout cluster is;
           blank = blank;
           events = adds;
-          steps = steps_of_making layout cluster is;
+          steps = λ named. steps_of_making layout cluster is;
           makes = λ before after first last may. makes_call {T = Unit {0}} {E = FormatError} layout cluster is before may after (Ok tt) (sym last ∙ adds ∙ ap (after_all events) first);
         }
 
@@ -61,6 +75,6 @@ module _ (layout : Layout) (cluster : ℕ) (is : IsUsable (first_super layout cl
           named = named_of layout cluster is;
           blank = fault_tells old;
           events = (part, blank_alone _ old new tt blank);
-          steps = steps_of_making layout cluster is;
+          steps = λ named. steps_of_making layout cluster is;
           makes = part_makes new DiskFault part;
         }

@@ -4,7 +4,7 @@ use Rattle.std.specs.Prelude.{Result, Ok, Err}
 use Rattle.df_base.specs.Causes.{Blamed}
 use Rattle.df_base.specs.Log.{Event, Sync}
 use Rattle.df_disk.specs.Adds.{AddsPart, after_all}
-use Rattle.df_disk.proofs.Laws.{after_append, all_is_part, all_then, none_after}
+use Rattle.df_disk.proofs.Laws.{after_append, all_is_part, all_then, none_after, part_then}
 use Rattle.df_disk.specs.Told.{Told, after, did}
 use Rattle.df_layout.specs.declared.damage.Class.{Class}
 use Rattle.df_layout.specs.declared.layout.Layout.{Layout}
@@ -20,7 +20,7 @@ use Rattle.df_superblock.specs.declared.updates.UpdateError.{UpdateError}
 use Rattle.df_superblock.specs.declared.updates.UpdateError.TheVariants as updates
 use Rattle.df_damage.proofs.Laws.{added_is_told}
 use Rattle.df_opening.specs.Below.{Refuses, TellsLayout}
-use Rattle.df_opening.specs.Mending.{AddsRaising, IsReadBack, IsUnharmed}
+use Rattle.df_opening.specs.Mending.{AddsRaising, AddsUpdating, IsReadBack, IsUnharmed}
 use Rattle.df_opening.specs.Opened.{refusal_of}
 use Rattle.df_damage.specs.Surveying.{TellsSurveyAs}
 
@@ -73,6 +73,24 @@ adds_error S T events old new (Damaged place kind) is = is
 pub read_error : (S T : Type 0) (f : SuperFields) (told : Option Told) (error : MendError) → IsReadBack {T = S} f told (Err error) → IsReadBack {T = T} f told (Err error)
 read_error S T f told DiskFault is = tt
 read_error S T f told (Damaged place kind) is = is
+
+-- an update after device calls that were made, whatever is handed out
+pub updating_then : {T : Type 0} (es fs : List Event) (d : SuperFields) (old mid new : Option Told) (result : Result T MendError) → mid ≡ after_all es old → AddsUpdating fs d mid new result → AddsUpdating (es ++ fs) d old new result
+updating_then es fs d old mid new result is adds = record { events = raising_then es fs old mid new result is adds.events; read_back = adds.read_back; unharmed = adds.unharmed }
+
+pub updating_ok : {S T : Type 0} (es : List Event) (d : SuperFields) (old new : Option Told) (x : S) (y : T) → AddsUpdating es d old new (Ok x) → AddsUpdating es d old new (Ok y)
+updating_ok es d old new x y adds = record { events = adds.events; read_back = adds.read_back; unharmed = unharmed_ok new y }
+
+pub updating_error : (S T : Type 0) (es : List Event) (d : SuperFields) (old new : Option Told) (error : MendError) → AddsUpdating {T = S} es d old new (Err error) → AddsUpdating {T = T} es d old new (Err error)
+updating_error S T es d old new error adds = record {
+  events = adds_error S T es old new error adds.events;
+  read_back = read_error S T d new error adds.read_back;
+  unharmed = unharmed_error S T new error adds.unharmed;
+}
+
+-- where the disk failed before it, nothing of it was done
+pub updating_fault : (T : Type 0) (es fs : List Event) (d : SuperFields) (old new : Option Told) → AddsPart es old new → AddsUpdating {T = T} (es ++ fs) d old new (Err DiskFault)
+updating_fault T es fs d old new part = record { events = part_then es fs old new part; read_back = tt; unharmed = unharmed_fault T new }
 
 -- an open blames the disk where the mending did
 pub blamed_open : (error : MendError) (before now : ℕ) → Blamed (is_mend_fault error) before now → Blamed (is_open_fault (refusal_of error)) before now

@@ -75,6 +75,6 @@ pub record FormatsFile {T : Type 0} (layout : Layout) (cluster : ℕ) (old new :
   -- the device calls that are made
   pub events : AddsFormat (making_events layout cluster) old new result
   -- these are the theory's making
-  pub steps : AreSteps (format_of layout cluster) (making_events layout cluster) (making_steps layout cluster)
+  pub steps : 0 < cluster → AreSteps (format_of layout cluster) (making_events layout cluster) (making_steps layout cluster)
   -- the disk is safe at each moment, and has the first view at the end
   pub makes : (before after : Told) → old ≡ Some before → new ≡ Some after → (may : MayMakeOn layout cluster before) → MakingLeaves layout cluster before may after result

@@ -4,7 +4,7 @@ use Rattle.std.specs.List.{filter, list_any, range_with_len}
 use Rattle.df_base.specs.Image.{Image, IsImage}
 use Rattle.df_base.specs.Log.{Event, IsLeft, IsLog, Log, Sync, now}
 use Rattle.df_disk.specs.Told.{IsHonest, Told, did}
-use Rattle.df_disk.specs.Adds.{AddsPart, after_all}
+use Rattle.df_disk.specs.Adds.{Adds, AddsPart, after_all}
 use Rattle.df_layout.specs.declared.damage.Mend.{Mend}
 use Rattle.df_layout.specs.declared.layout.Layout.{Layout}
 use Rattle.df_layout.specs.declared.places.Zone.{Zone}
@@ -20,7 +20,7 @@ use Rattle.df_theory.specs.Rests.{IsDry, RestsOn}
 use Rattle.df_theory.specs.View.{View, head}
 use Rattle.df_theory.specs.Next.{booted}
 use Rattle.df_theory.specs.Upgrades.{raise_steps}
-use Rattle.df_theory.specs.Device.{NoChanceOf, units_log}
+use Rattle.df_theory.specs.Device.{AreSteps, Format, NoChanceOf, units_log}
 use Rattle.df_theory.specs.MendLaws.{MayMend, mend_steps}
 use Rattle.df_theory.specs.Runs.{Step}
 use Rattle.df_theory.specs.TidyLaws.{IsTidy}
@@ -97,6 +97,11 @@ sector_puts table sectors = map (sector_put table) sectors
 abbrev pub mending_steps : Layout → List Header → List Mend → SuperFields → List Bool → List Step
 mending_steps layout table mends f members = mend_steps (sector_puts table (sectors_of layout mends)) (repaired f 0 members)
 
+-- these device calls are added, or a part of them, from the first on, where the disk failed; in the words of the theory they are these steps
+pub record AddsSteps {T E : Type 0} (f : Format) (es : List Event) (ss : List Step) (old new : Option Told) (result : Result T E) : Type 0 where
+  pub events : Adds es old new result
+  pub steps : AreSteps f es ss
+
 -- the file is tidy, with the view, and its header ring shows the table; by the grade the referenced blocks stand, too
 pub record IsMended (g : Grade) (file : DataFile) (view : View) (table : List Header) (t : Told) : Type 0 where
   pub tidy : IsTidy (shape file) (units_log (format file) t.log) view
@@ -172,6 +177,12 @@ IsReadBack {T = T} d told (Err DiskFault) = Unit {0}
 abbrev pub IsUnharmed : {T : Type 0} → Option Told → Result T MendError → Type 0
 IsUnharmed (Some t) (Err (Damaged place class)) = ⊥
 IsUnharmed told result = Unit {0}
+
+-- An update with this superblock, the last of these device calls: which of them were added, what was read back, and that a disk that tells what it shows is told of no damage.
+pub record AddsUpdating {T : Type 0} (es : List Event) (d : SuperFields) (old new : Option Told) (result : Result T MendError) : Type 0 where
+  pub events : AddsRaising es old new result
+  pub read_back : IsReadBack d new result
+  pub unharmed : IsUnharmed new result
 
 -- At this moment each image that a stop may leave, none of whose units came about by chance, has the view, by the superblock of before or by this one: the bare view is one. By the grade it
 -- shows the referenced blocks, too. Nothing is asked of what the copies showed before.

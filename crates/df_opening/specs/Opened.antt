@@ -1,9 +1,9 @@
 -- What an open leaves of a file, and what it leaves where the disk failed in it.
-use Rattle.std.specs.Prelude.{◌≡◌, ◌⊎◌, ◌<◌, ℕ, List, ◌∷◌, ◌++◌, Option, Some, Result, Ok, Err}
+use Rattle.std.specs.Prelude.{◌≡◌, ◌⊎◌, ◌<◌, ℕ, true, List, ◌∷◌, ◌++◌, Option, Some, Result, Ok, Err}
 use Rattle.df_base.specs.Image.{Image, IsImage}
 use Rattle.df_base.specs.Log.{Event, Log, Sync, add}
 use Rattle.df_base.specs.Moments.{EachMoment}
-use Rattle.df_disk.specs.Told.{Told, did}
+use Rattle.df_disk.specs.Told.{Told, after, did}
 use Rattle.df_disk.specs.Adds.{AddsPart, after_all}
 use Rattle.df_layout.specs.declared.damage.Mend.{Mend}
 use Rattle.df_layout.specs.declared.layout.Layout.{Layout}
@@ -27,7 +27,7 @@ use Rattle.df_model.specs.declared.errors.MendError.{MendError}
 use Rattle.df_model.specs.declared.errors.MendError.TheVariants as mend
 use Rattle.df_model.specs.declared.errors.OpenError.{OpenError}
 use Rattle.df_model.specs.declared.errors.OpenError.TheVariants as opens
-use Rattle.df_damage.specs.Below.{DataFile, State, boot_fields, shape}
+use Rattle.df_damage.specs.Below.{AreWhole, DataFile, Parts, State, boot_fields, shape, state_in}
 use Rattle.df_damage.specs.Plan.{AreDistinctUnits}
 use Rattle.df_damage.specs.Surveys.{IsOpenedAs}
 use Rattle.df_opening.specs.Following.{MayOpen}
@@ -150,3 +150,31 @@ TellsHurtOpened layout told (Err e) = TellsHurt layout told (Err e)
 abbrev pub TellsLivedOpened : Layout → Option Told → Result State OpenError → Type 0
 TellsLivedOpened layout told (Ok s) = (found : State) × (s ≡ raised_state found) × TellsLived layout told (Ok found)
 TellsLivedOpened layout told (Err e) = TellsLived layout told (Err e)
+
+-- ---- the three ways in which an open is told of
+
+-- what it answers, by what the disk shows, on one that was hurt, and on one that was hurt before other opens
+pub record AnswersOpen (layout : Layout) (told : Option Told) (result : Result State OpenError) : Type 0 where
+  pub answer : TellsOpened layout told result
+  pub hurt : TellsHurtOpened layout told result
+  pub lived : TellsLivedOpened layout told result
+
+-- what it hands out: parts of this layout, on which calls may be made
+pub record AreOpened (layout : Layout) (parts : Parts) : Type 0 where
+  pub whole : AreWhole parts
+  pub kept : (state_in parts).file.layout ≡ layout
+  pub live : (state_in parts).live ≡ true
+
+-- what it leaves told with this state: its device calls alone after the barrier, by which the file is mended and raised
+pub record LeavesOpened (old new : Option Told) (s : State) : Type 0 where
+  pub told : ToldBy (after Sync old) new
+  pub opened : (t : Told) → old ≡ Some t → MendsAll t s new
+
+-- and with this refusal: the barrier alone, unless the disk failed, and then as much of all that as was done
+pub record LeavesRefused (layout : Layout) (old new : Option Told) (e : OpenError) : Type 0 where
+  pub refused : (e ≡ opens.DiskFault → ⊥) → new ≡ after Sync old
+  pub stopped : (t : Told) → old ≡ Some t → IsImage t.shown → e ≡ opens.DiskFault → StopsOpening layout t new
+
+abbrev pub LeavesOpen : Layout → (old new : Option Told) → Result State OpenError → Type 0
+LeavesOpen layout old new (Ok s) = LeavesOpened old new s
+LeavesOpen layout old new (Err e) = LeavesRefused layout old new e

@@ -1,9 +1,12 @@
 -- What an open does after its survey: it mends, and raises the boot; and what it leaves at each moment of that, by each log on which the plan rests.
-use Rattle.std.specs.Prelude.{List, ◌∷◌}
+use Rattle.std.specs.Prelude.{◌≡◌, List, ◌∷◌}
+use Rattle.df_base.specs.Image.{IsImage}
 use Rattle.df_base.specs.Log.{Event, Log}
 use Rattle.df_base.specs.Moments.{EachMoment}
 use Rattle.df_disk.specs.Told.{Told}
 use Rattle.df_format.specs.Copies.{content_with}
+use Rattle.df_theory.specs.Device.{AreSteps}
+use Rattle.df_theory.specs.Found.{IsFound}
 use Rattle.df_theory.specs.Next.{IsSameBare, booted}
 use Rattle.df_theory.specs.Runs.{Step}
 use Rattle.df_theory.specs.Units.{Content}
@@ -13,9 +16,10 @@ use Rattle.df_units.specs.Bytes.{unit_at}
 use Rattle.df_units.specs.Meaning.{content_of}
 use Rattle.df_damage.specs.Anew.{restarted, told_after}
 use Rattle.df_damage.specs.Histories.{HasLived, LivesOn}
-use Rattle.df_damage.specs.Below.{State, boot_fields, shape}
-use Rattle.df_opening.specs.Keeping.{Grade, IsGoodFor, IsKept, format}
-use Rattle.df_opening.specs.Mending.{IsMended, IsPlanned, StaysFound, begun_state, raised_state, raising_events, raising_steps}
+use Rattle.df_damage.specs.Plan.{AreDistinctUnits}
+use Rattle.df_damage.specs.Below.{AreWhole, Parts, Represents, State, boot_fields, shape, state_in}
+use Rattle.df_opening.specs.Keeping.{Grade, IsGoodFor, IsKept, StandsFor, format}
+use Rattle.df_opening.specs.Mending.{IsMended, IsPlanned, RestsOnDisk, StaysFound, begun_state, first_state, raised_state, raising_events, raising_steps}
 use Rattle.df_opening.specs.Survey.{Survey}
 
 -- the superblock that an open writes of a state that was found
@@ -50,3 +54,16 @@ pub record RaisesAnew (g : Grade) (view : View) (s : Survey) (base : Told) : Typ
   pub bare : IsSameBare view (booted view (raised_content s.state))
   pub kept_for : IsKept g (raised_state s.state) (begun_state s.state.file base view (boot_fields s.state)) (restarted (told_after (opening_events s) base)).log
   pub begins : BeginsHistory (shape s.state.file) (unit_at s.state.file.layout s.state.file.cluster (told_after (opening_events s) base).shown)
+
+-- what its device calls are in the words of the theory, and what they leave: of each log that shows what was planned of, and on which a view rests; and of one that is restarted at what was shown
+pub record RaisesEach (s : Survey) : Type 0 where
+  pub steps : AreSteps (format s.state.file) (opening_events s) (opening_steps s)
+  pub over : (base : Told) (g : Grade) (view : View) → IsPlannedOf s base → RestsOnDisk g s.state.file view base → Represents s.state (first_state s.state.file base view) → RaisesOver g view s base
+  pub anew : (base : Told) (g : Grade) (view : View) → IsPlannedOf s (restarted base) → IsImage base.shown → IsFound (shape s.state.file) (unit_at s.state.file.layout s.state.file.cluster base.shown) view
+      → AreDistinctUnits (unit_at s.state.file.layout s.state.file.cluster base.shown) → StandsFor g (unit_at s.state.file.layout s.state.file.cluster base.shown) view
+      → Represents s.state (first_state s.state.file base view) → RaisesAnew g view s (restarted base)
+
+-- what it hands out of a state that was found: parts on which calls may be made, with that state after the boot update
+pub record AreRaised (found : State) (parts : Parts) : Type 0 where
+  pub whole : AreWhole parts
+  pub state : state_in parts ≡ raised_state found

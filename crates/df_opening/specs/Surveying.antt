@@ -4,11 +4,14 @@ use Rattle.df_base.specs.Image.{Image, IsImage}
 use Rattle.df_disk.specs.Told.{Told}
 use Rattle.df_layout.specs.declared.layout.Layout.{Layout}
 use Rattle.df_model.specs.declared.errors.OpenError.{OpenError}
+use Rattle.df_damage.specs.Answers.{TellsHurt}
 use Rattle.df_damage.specs.Below.{State}
 use Rattle.df_damage.specs.Found.{IsChoiceOf}
+use Rattle.df_damage.specs.Histories.{TellsLived}
 use Rattle.df_damage.specs.Surveying.{TellsSurveyAs, state_found}
 pub use Rattle.df_damage.specs.Surveying.{copy_mend_at, headers_of, mends_of}
 use Rattle.df_damage.specs.Types.{Surveyed}
+use Rattle.df_opening.specs.Raising.{IsPlannedOf}
 use Rattle.df_opening.specs.Survey.{Survey}
 
 -- the survey of a file that was read, whose state was found
@@ -36,3 +39,15 @@ state_of (Err refused) = Err refused.1
 -- the answer is that of what the disk shows, where it tells that and its sectors are whole
 abbrev pub TellsSurvey : Layout → Option Told → Result State OpenError → Type 0
 TellsSurvey layout told result = TellsSurveyAs 2 layout told result
+
+-- and on a disk that was hurt, before other opens or after them, it is because of what is hurt, or is of what the file had
+pub record AnswersSurvey (layout : Layout) (told : Option Told) (result : Result State OpenError) : Type 0 where
+  pub answer : TellsSurvey layout told result
+  pub hurt : TellsHurt layout told result
+  pub lived : TellsLived layout told result
+
+-- what is known of what was surveyed over rooms of this layout: it is the file's, and what is to be mended is that of what was shown, and is planned of what is told after the barrier
+pub record IsSurveyed (layout : Layout) (old new : Option Told) (survey : Survey) : Type 0 where
+  pub kept : survey.state.file.layout ≡ layout
+  pub mends : TellsMends layout old survey
+  pub planned : (t : Told) → new ≡ Some t → IsPlannedOf survey t

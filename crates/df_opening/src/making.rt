@@ -1,9 +1,9 @@
 // How a file is made: reserved headers in each sector of the header ring, a sync, and the four copies of the first superblock, on
 // a disk that is blank where the copies stand. A header ring without a superblock is no file, so the copies come last.
-ghost use Rattle.std.specs.Prelude.{◌≡◌, ◌<◌, ◌∷◌, length, Some};
-ghost use Rattle.df_opening.specs.Below.{HasCause, IsBlamed, Sync, Told, Adds, first_super, IsUsable, update_events, AreSteps, format_of, header_writes, is_format_fault};
-ghost use Rattle.df_opening.specs.Formatting.{AddsFormat, RefusesCluster, TellsBlank};
-ghost use Rattle.df_opening.specs.Making.{AreWritable, FormatsFile, MakingLeaves, MayMakeOn, file_events, making_events, making_steps, sectors_in};
+ghost use Rattle.std.specs.Prelude.{◌≡◌, ◌<◌, ◌∷◌, length};
+ghost use Rattle.df_opening.specs.Below.{HasCause, IsBlamed, Sync, Adds, first_super, IsUsable, update_events, header_writes, is_format_fault};
+ghost use Rattle.df_opening.specs.Formatting.{RefusesCluster, TellsBlank};
+ghost use Rattle.df_opening.specs.Making.{AreWritable, FormatsFile, file_events, making_events, sectors_in};
 
 use crate::first::first_superblock;
 use crate::{FormatError, LogRooms, Rooms};
@@ -145,11 +145,7 @@ fn make_on_blank<D: Disk>(
 /// is written. Refuses cluster 0, and then a disk that isn't blank, with nothing written. After a fault the file may be written
 /// in part.
 pub fn format<D: Disk>(disk: &mut D, rooms: &mut Rooms, cluster: u128) -> Result<(), FormatError>
-    ensures cluster { RefusesCluster cluster result }
-    ensures blank { TellsBlank (D.told disk.old) result }
-    ensures events { AddsFormat (making_events rooms.old.layout cluster) (D.told disk.old) (D.told disk.new) result }
-    ensures steps { 0 < cluster → AreSteps (format_of rooms.old.layout cluster) (making_events rooms.old.layout cluster) (making_steps rooms.old.layout cluster) }
-    ensures makes { (before after : Told) → D.told disk.old ≡ Some before → D.told disk.new ≡ Some after → (may : MayMakeOn rooms.old.layout cluster before) → MakingLeaves rooms.old.layout cluster before may after result }
+    ensures formats { FormatsFile rooms.old.layout cluster (D.told disk.old) (D.told disk.new) result }
     ensures cause { IsBlamed is_format_fault (D.faults disk.old) (D.faults disk.new) result }
     ensures layout { rooms.new.layout ≡ rooms.old.layout }
 {

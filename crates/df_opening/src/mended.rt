@@ -1,15 +1,12 @@
 // What the rooms of a surveyed file list is mended, and its boot is raised; then calls may go on.
 ghost use Rattle.std.specs.Prelude.{◌≡◌, ◌<◌, ◌^◌, length, IfErr, IfOk, None, OnErr, OnOk};
 ghost use Rattle.df_format.specs.SuperRules.{fault_of};
-ghost use Rattle.df_theory.specs.Found.{IsFound};
-ghost use Rattle.df_units.specs.Bytes.{unit_at};
-ghost use Rattle.df_damage.specs.Plan.{AreDistinctUnits};
-ghost use Rattle.df_opening.specs.Below.{HasCause, IsBlamed, IsImage, Told, Adds, AreSteps, Represents, View, restarted, is_mend_fault, shape, update_events, without_rooms};
+ghost use Rattle.df_opening.specs.Below.{HasCause, IsBlamed, is_mend_fault, update_events, without_rooms};
 ghost use Rattle.df_opening.specs.Held.{AreAsBefore, AreLogRoomsOf};
-ghost use Rattle.df_opening.specs.Keeping.{Grade, StandsFor, format};
-ghost use Rattle.df_opening.specs.Mending.{AddsRaising, IsReadBack, IsUnharmed, RestsOnDisk, first_state, mending_events, mending_steps, raised_state};
-ghost use Rattle.df_opening.specs.Raising.{IsPlannedOf, RaisesAnew, RaisesOver, opening_events, opening_steps};
-ghost use Rattle.df_opening.specs.Survey.{opened_of, survey_in};
+ghost use Rattle.df_opening.specs.Keeping.{format};
+ghost use Rattle.df_opening.specs.Mending.{AddsSteps, AddsUpdating, mending_events, mending_steps, raised_state};
+ghost use Rattle.df_opening.specs.Raising.{AreRaised, RaisesEach, opening_events};
+ghost use Rattle.df_opening.specs.Survey.{survey_in};
 ghost use Rattle.df_damage.specs.Below.{AreFound, AreWhole, boot_fields, state_in};
 
 use crate::mending::{are_four, write_mends};
@@ -29,8 +26,8 @@ fn mend_rooms<D: Disk>(
     rooms: &mut LogRooms,
 ) -> Result<(), Failed>
     requires rooms { AreLogRoomsOf file.now.layout file.now.cluster rooms.old }
-    ensures events { Adds (mending_events file.now.layout rooms.old.headers rooms.old.mends.items content.now members) (D.told disk.old) (D.told disk.new) result }
-    ensures steps { AreSteps (format file.now) (mending_events file.now.layout rooms.old.headers rooms.old.mends.items content.now members) (mending_steps file.now.layout rooms.old.headers rooms.old.mends.items content.now members) }
+    ensures does { AddsSteps (format file.now) (mending_events file.now.layout rooms.old.headers rooms.old.mends.items content.now members)
+        (mending_steps file.now.layout rooms.old.headers rooms.old.mends.items content.now members) (D.told disk.old) (D.told disk.new) result }
     ensures size { length members ≡ 4 }
     ensures rooms { AreAsBefore rooms.old rooms.new }
     ensures cause { HasCause (D.faults disk.old) (D.faults disk.new) result }
@@ -57,9 +54,8 @@ fn mend_parts<D: Disk>(disk: &mut D, parts: &mut Parts, members: [bool; 4]) -> R
     requires whole { AreWhole parts.old }
     ensures state { state_in parts.new ≡ state_in parts.old }
     ensures whole { AreWhole parts.new }
-    ensures events { Adds (mending_events parts.old.file.layout parts.old.rooms.headers parts.old.rooms.mends.items parts.old.content members) (D.told disk.old) (D.told disk.new) result }
-    ensures steps { AreSteps (format parts.old.file) (mending_events parts.old.file.layout parts.old.rooms.headers parts.old.rooms.mends.items parts.old.content members)
-        (mending_steps parts.old.file.layout parts.old.rooms.headers parts.old.rooms.mends.items parts.old.content members) }
+    ensures does { AddsSteps (format parts.old.file) (mending_events parts.old.file.layout parts.old.rooms.headers parts.old.rooms.mends.items parts.old.content members)
+        (mending_steps parts.old.file.layout parts.old.rooms.headers parts.old.rooms.mends.items parts.old.content members) (D.told disk.old) (D.told disk.new) result }
     ensures size { length members ≡ 4 }
     ensures cause { HasCause (D.faults disk.old) (D.faults disk.new) result }
 {
@@ -102,9 +98,7 @@ fn raise_parts<D: Disk>(disk: &mut D, parts: &mut Parts, content: Super) -> Resu
     ensures state { OnOk result (state_in parts.new ≡ raised_state (state_in parts.old)) }
     ensures kept { OnErr result (state_in parts.new ≡ state_in parts.old) }
     ensures whole { AreWhole parts.new }
-    ensures events { AddsRaising (update_events content) (D.told disk.old) (D.told disk.new) result }
-    ensures read_back { IsReadBack content (D.told disk.new) result }
-    ensures unharmed { IsUnharmed (D.told disk.new) result }
+    ensures does { AddsUpdating (update_events content) content (D.told disk.old) (D.told disk.new) result }
     ensures cause { IsBlamed is_mend_fault (D.faults disk.old) (D.faults disk.new) result }
 {
     match update(disk, &mut parts.rooms.superblock, &content) {
@@ -129,17 +123,10 @@ fn raise_parts<D: Disk>(disk: &mut D, parts: &mut Parts, content: Super) -> Resu
 /// rooms come back with an error.
 pub fn mend_file<D: Disk>(disk: &mut D, surveyed: SurveyedFile) -> Result<Parts, (Rooms, MendError)>
     requires found { AreFound surveyed.parts }
-    ensures whole { IfOk result (λ parts. AreWhole parts) }
-    ensures state { IfOk (opened_of result) (λ state. state ≡ raised_state (state_in surveyed.parts)) }
+    ensures raised { IfOk result (AreRaised (state_in surveyed.parts)) }
     ensures rooms { IfErr result (λ refused. refused.0.layout ≡ surveyed.parts.file.layout) }
-    ensures events { AddsRaising (opening_events (survey_in surveyed)) (D.told disk.old) (D.told disk.new) (without_rooms result) }
-    ensures steps { AreSteps (format surveyed.parts.file) (opening_events (survey_in surveyed)) (opening_steps (survey_in surveyed)) }
-    ensures read_back { IsReadBack (boot_fields (state_in surveyed.parts)) (D.told disk.new) (without_rooms result) }
-    ensures unharmed { IsUnharmed (D.told disk.new) (without_rooms result) }
-    ensures over { (base : Told) (g : Grade) (view : View) → IsPlannedOf (survey_in surveyed) base → RestsOnDisk g surveyed.parts.file view base
-        → Represents (state_in surveyed.parts) (first_state surveyed.parts.file base view) → RaisesOver g view (survey_in surveyed) base }
-    ensures anew { (base : Told) (g : Grade) (view : View) → IsPlannedOf (survey_in surveyed) (restarted base) → IsImage base.shown → IsFound (shape surveyed.parts.file) (unit_at surveyed.parts.file.layout surveyed.parts.file.cluster base.shown) view → AreDistinctUnits (unit_at surveyed.parts.file.layout surveyed.parts.file.cluster base.shown)
-        → StandsFor g (unit_at surveyed.parts.file.layout surveyed.parts.file.cluster base.shown) view → Represents (state_in surveyed.parts) (first_state surveyed.parts.file base view) → RaisesAnew g view (survey_in surveyed) (restarted base) }
+    ensures does { AddsUpdating (opening_events (survey_in surveyed)) (boot_fields (state_in surveyed.parts)) (D.told disk.old) (D.told disk.new) (without_rooms result) }
+    ensures leaves { RaisesEach (survey_in surveyed) }
     ensures cause { IsBlamed is_mend_fault (D.faults disk.old) (D.faults disk.new) (without_rooms result) }
 {
     let SurveyedFile { mut parts, chosen } = surveyed;

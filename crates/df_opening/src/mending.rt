@@ -1,9 +1,9 @@
 // The writes of a mending: header sectors, one sync, then the copies of the superblock that aren't members of the choice.
 // A header sector is durable before a copy is written.
 ghost use Rattle.std.specs.Prelude.{◌≡◌, ◌<◌, ◌/◌, IfOk, length};
-ghost use Rattle.df_opening.specs.Below.{HasCause, Adds, AreSteps, sector_writes};
+ghost use Rattle.df_opening.specs.Below.{HasCause, Adds, sector_writes};
 ghost use Rattle.df_headers.specs.Ring.{IsHeaderTable};
-ghost use Rattle.df_opening.specs.Mending.{header_events, lies_in, mending_events, mending_steps, needs_sector, sectors_of, some_of, wanted_writes};
+ghost use Rattle.df_opening.specs.Mending.{AddsSteps, header_events, lies_in, mending_events, mending_steps, needs_sector, sectors_of, some_of, wanted_writes};
 ghost use Rattle.df_opening.specs.Keeping.{format};
 
 use crate::DataFile;
@@ -154,9 +154,8 @@ pub fn write_mends<D: Disk>(
     requires table { IsHeaderTable file.now.layout file.now.cluster headers.now }
     requires room { sector.old.layout ≡ file.now.layout }
     requires content { content.now ≡ chosen.now.content }
-    ensures events { Adds (mending_events file.now.layout headers.now mends.now content.now chosen.now.members) (D.told disk.old) (D.told disk.new) result }
-    ensures steps { AreSteps (format file.now) (mending_events file.now.layout headers.now mends.now content.now chosen.now.members)
-        (mending_steps file.now.layout headers.now mends.now content.now chosen.now.members) }
+    ensures does { AddsSteps (format file.now) (mending_events file.now.layout headers.now mends.now content.now chosen.now.members)
+        (mending_steps file.now.layout headers.now mends.now content.now chosen.now.members) (D.told disk.old) (D.told disk.new) result }
     ensures room { sector.new.layout ≡ file.now.layout }
     ensures cause { HasCause (D.faults disk.old) (D.faults disk.new) result }
 {

@@ -1,15 +1,15 @@
 // The survey of a file: what it shows is read, its state is found, and what is to be mended is listed. Nothing is written.
-ghost use Rattle.std.specs.Prelude.{◌≡◌, ◌≤◌, length, Some, IfOk, IfErr};
-ghost use Rattle.df_opening.specs.Below.{IsBlamed, Told, is_open_fault, TellsHurt, TellsLived, Syncs};
+ghost use Rattle.std.specs.Prelude.{◌≡◌, ◌≤◌, length, IfOk, IfErr};
+ghost use Rattle.df_opening.specs.Below.{IsBlamed, is_open_fault, Syncs};
 ghost use Rattle.df_damage.specs.Below.{AreFound};
 ghost use Rattle.df_damage.specs.Surveying.{IsPlannedFor, IsWellFound};
-ghost use Rattle.df_opening.specs.Mending.{IsPlanned};
 ghost use Rattle.df_opening.specs.Survey.{survey_in, survey_of};
-ghost use Rattle.df_opening.specs.Surveying.{TellsMends, TellsSurvey, state_of, survey_found};
+ghost use Rattle.df_opening.specs.Surveying.{AnswersSurvey, IsSurveyed, state_of, survey_found};
 
 use crate::{OpenError, Parts, Rooms};
 use arrayvec::ArrayVec;
-use df_damage::{FileRooms, Scanned, Surveyed, survey_version};
+use df_base::Check;
+use df_damage::{FileRooms, Scanned, Surveyed, Traces, survey_version};
 use df_disk::Disk;
 use df_layout::ROOT;
 use df_quorum::Chosen;
@@ -32,19 +32,14 @@ fn root_fits(root: &ArrayVec<u8, ROOT>)
     let _bytes = root.as_slice();
 }
 
-// The parts of a file of version 2 whose state was found, with nothing staged and the tour at its start.
-fn parts_of(surveyed: Surveyed) -> SurveyedFile
-    requires found { IsWellFound surveyed }
-    requires version { surveyed.scanned.file.version ≡ 2 }
-    requires planned { IsPlannedFor surveyed }
-    ensures found { AreFound result.parts }
-    ensures seen { survey_in result ≡ survey_found surveyed }
+// The parts of a file of version 2 that was scanned and whose traces were found, with nothing staged and the tour at its start.
+fn parts_in(scanned: Scanned, traces: Traces, waiting: ArrayVec<Check, 8>) -> Parts
+    requires found { IsWellFound (record { scanned = scanned; traces = traces; waiting = waiting }) }
+    requires version { scanned.file.version ≡ 2 }
+    requires planned { IsPlannedFor (record { scanned = scanned; traces = traces; waiting = waiting }) }
+    ensures found { AreFound result }
+    ensures seen { survey_in (record { parts = result; chosen = scanned.copies.found.chosen }) ≡ survey_found (record { scanned = scanned; traces = traces; waiting = waiting }) }
 {
-    let Surveyed {
-        scanned,
-        traces,
-        waiting,
-    } = surveyed;
     let Scanned {
         file,
         copies,
@@ -62,11 +57,10 @@ fn parts_of(surveyed: Surveyed) -> SurveyedFile
     } = rooms;
     let scrub = scrub.cleared();
     staging.clear();
-    let chosen = copies.found.chosen;
     let _fields = copies.found.content.fields();
     root_fits(&root);
     let head_checksum = traces.tail.checksum;
-    let parts = Parts {
+    Parts {
         file,
         content: copies.found.content,
         root,
@@ -82,7 +76,24 @@ fn parts_of(surveyed: Surveyed) -> SurveyedFile
         trailer,
         scrub,
         staging,
-    };
+    }
+}
+
+// What was surveyed, as parts and the choice.
+fn parts_of(surveyed: Surveyed) -> SurveyedFile
+    requires found { IsWellFound surveyed }
+    requires version { surveyed.scanned.file.version ≡ 2 }
+    requires planned { IsPlannedFor surveyed }
+    ensures found { AreFound result.parts }
+    ensures seen { survey_in result ≡ survey_found surveyed }
+{
+    let Surveyed {
+        scanned,
+        traces,
+        waiting,
+    } = surveyed;
+    let chosen = scanned.copies.found.chosen;
+    let parts = parts_in(scanned, traces, waiting);
     SurveyedFile { parts, chosen }
 }
 
@@ -94,14 +105,10 @@ fn parts_of(surveyed: Surveyed) -> SurveyedFile
 /// these that raised its boot.
 pub fn survey_file<D: Disk>(disk: &mut D, rooms: Rooms) -> Result<SurveyedFile, (Rooms, OpenError)>
     ensures found { IfOk result (λ surveyed. AreFound surveyed.parts) }
-    ensures kept { IfOk (survey_of result) (λ survey. survey.state.file.layout ≡ rooms.layout) }
+    ensures surveyed { IfOk (survey_of result) (IsSurveyed rooms.layout (D.told disk.old) (D.told disk.new)) }
     ensures given_back { IfErr result (λ refused. refused.0.layout ≡ rooms.layout) }
-    ensures answer { TellsSurvey rooms.layout (D.told disk.old) (state_of (survey_of result)) }
-    ensures hurt { TellsHurt rooms.layout (D.told disk.old) (state_of (survey_of result)) }
-    ensures lived { TellsLived rooms.layout (D.told disk.old) (state_of (survey_of result)) }
-    ensures mends { IfOk (survey_of result) (TellsMends rooms.layout (D.told disk.old)) }
+    ensures answers { AnswersSurvey rooms.layout (D.told disk.old) (state_of (survey_of result)) }
     ensures barrier { Syncs (D.told disk.old) (D.told disk.new) (state_of (survey_of result)) }
-    ensures planned { (t : Told) → D.told disk.new ≡ Some t → IfOk (survey_of result) (λ survey. IsPlanned survey.state.file survey.state.headers survey.mends survey.state.fields survey.chosen.members t) }
     ensures cause { IsBlamed is_open_fault (D.faults disk.old) (D.faults disk.new) (state_of (survey_of result)) }
 {
     match survey_version(disk, rooms, VERSION) {

@@ -3,4 +3,4 @@ pub use Rattle.df_session.proofs.Laws.{unit_spared}
 pub use Rattle.df_top.proofs.OneReport.{summary_same}
 pub use Rattle.df_top.proofs.Upgrades.{second_is_left}
 -- ---- damage before any number of opens
-pub use Rattle.df_top.proofs.Reopens.{runs_over_history, serves_over_history}
+pub use Rattle.df_top.proofs.Reopens.{calls_live, stops_live}

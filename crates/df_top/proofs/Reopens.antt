@@ -70,7 +70,7 @@ module _ (file : DataFile) (log : Log) (logs : List Log) (t : Told) (may : MayRe
   same_file found = file_there file.layout t found ∙ (finds found).of
 
   -- the calls of a word keep it lived
-  calls_live : (found : FoundFile file.layout t) (c : CallsMade) → CallsKeep t found.replica found.mended found.mending c → (later : Option Told) → later ≡ after_all (events_made c) found.mended → LivesThrough file log logs t later
+  pub calls_live : (found : FoundFile file.layout t) (c : CallsMade) → CallsKeep t found.replica found.mended found.mending c → (later : Option Told) → later ≡ after_all (events_made c) found.mended → LivesThrough file log logs t later
   calls_live found c keeps later adds =
       let of : DataFile = found.replica.file in
       let here : MayReopen of log logs t.shown = subst (λ (f : DataFile). MayReopen f log logs t.shown) (sym (same_file found)) may in
@@ -85,7 +85,7 @@ module _ (file : DataFile) (log : Log) (logs : List Log) (t : Told) (may : MayRe
       })
 
   -- so does an open that was stopped by the disk
-  stops_live : (later : Option Told) → StopsOpening file.layout t later → StaysLived file log logs t later
+  pub stops_live : (later : Option Told) → StopsOpening file.layout t later → StaysLived file log logs t later
   stops_live later (inl same) = inl (inl same)
   stops_live later (inr (inl barrier)) = inl (inr barrier)
   stops_live later (inr (inr partly)) =

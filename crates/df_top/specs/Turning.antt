@@ -1,21 +1,21 @@
 -- What the functions that serve a script say of their session.
-use Rattle.std.specs.Prelude.{◌≡◌, ◌≤◌, ◌+◌, ◌^◌, ℕ, Bool, true, false, List, Option, Some, None, Result, Ok, Err}
+use Rattle.std.specs.Prelude.{◌≡◌, ◌<◌, ◌≤◌, ◌+◌, ◌^◌, ℕ, Bool, true, false, List, Option, Some, None, Result, Ok, Err}
 use Rattle.df_inspect.specs.Answers.{line_of_answer}
 use Rattle.df_disk.specs.Told.{Told}
 use Rattle.df_model.specs.Commands.{Answer as Said, Command, ReadBlock, ReadPrepare, ReadReply}
 use Rattle.df_model.specs.declared.commands.Answer.{Answer}
 use Rattle.df_model.specs.declared.commands.Answer.TheVariants as answers
-use Rattle.df_pace.specs.Beats.{is_begun}
+use Rattle.df_pace.specs.Beats.{beat_after_line, is_begun, pieces_left}
 use Rattle.df_session.specs.Below.{State as Replica}
 use Rattle.df_session.specs.Endings.{EndsBy}
 use Rattle.df_session.specs.Links.{Makes}
 use Rattle.df_session.specs.declared.hearing.Fault.{Fault}
 pub use Rattle.df_program.specs.Turns.{BlamesIfEnds, OnGoing}
 use Rattle.df_program.specs.Turns as turns
+use Rattle.df_top.specs.Pacing.{runs}
 use Rattle.df_top.specs.Refusing.{PrintsFault}
 use Rattle.df_top.specs.Session.{EndedIsEnd}
 use Rattle.df_top.specs.declared.session.Session.{Session}
-use Rattle.df_top.specs.declared.status.Status.{Status}
 use Rattle.df_top.specs.declared.status.Status.TheVariants.{WriteFault}
 use Rattle.df_top.specs.Outside.{Turn}
 use Rattle.df_program.specs.declared.turn.Turn.TheVariants.{GoesOn, Ends}
@@ -62,3 +62,24 @@ pub record IsReadySession (s : Session) (left : Option (List ℕ)) : Type 0 wher
   pub live : s.replica.live ≡ true
   pub count : s.count + s.lines.reading.budget ≤ 2 ^ 33
   pub at_end : EndedIsEnd s left
+
+-- A line was served: the reader and the pace are as they were, the loop stands where it does after a line, and where the session goes on, calls may, and one line more was executed.
+pub record ServesLine (old new : Session) (turn : Turn) : Type 0 where
+  pub lines : new.lines ≡ old.lines
+  pub pace : new.pace ≡ old.pace
+  pub beat : new.beat ≡ beat_after_line old.pace old.beat new.replica.head (runs new.replica)
+  pub live : OnGoing turn (new.replica.live ≡ true)
+  pub count : OnGoing turn (new.count ≡ old.count + 1)
+
+-- A line was taken: the bound of a line and the pace are as they were, and where the session goes on, it is ready for the next one, with fewer bytes to take.
+pub record TakesLine (old new : Session) (left : Option (List ℕ)) (turn : Turn) : Type 0 where
+  pub bound : new.lines.reading.bound ≡ old.lines.reading.bound
+  pub pace : new.pace ≡ old.pace
+  pub ready : OnGoing turn (IsReadySession new left)
+  pub budget : OnGoing turn (new.lines.reading.budget < old.lines.reading.budget)
+
+-- A piece of the work was done: the reader is left as it was, and where the session goes on, calls may, and fewer pieces are due.
+pub record DoesNext (old new : Session) (turn : Turn) : Type 0 where
+  pub leaves : LeavesReader old new
+  pub live : OnGoing turn (new.replica.live ≡ true)
+  pub fewer : OnGoing turn (pieces_left new.beat.due < pieces_left old.beat.due)

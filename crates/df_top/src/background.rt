@@ -1,15 +1,15 @@
 // The loop's work after a line: each piece is one call, whose answer isn't printed, until nothing is due or something fails.
-ghost use Rattle.std.specs.Prelude.{◌≡◌, ◌<◌, Option, List, ℕ, Some, true};
+ghost use Rattle.std.specs.Prelude.{◌≡◌, Option, List, ℕ, Some, true};
 ghost use Rattle.df_base.specs.Causes.{IsBlamed};
 ghost use Rattle.df_inspect.specs.Answers.{command_of as call_of};
 ghost use Rattle.df_model.specs.Commands.{Begin, Scrub};
-ghost use Rattle.df_pace.specs.Beats.{beat_after_piece, command_of_piece, is_begun, next_piece, pieces_left};
+ghost use Rattle.df_pace.specs.Beats.{command_of_piece, is_begun, next_piece};
 ghost use Rattle.df_session.specs.Calls.{HasAnswer};
 ghost use Rattle.df_session.specs.Endings.{is_disk_fault};
 ghost use Rattle.df_top.specs.Pacing.{IsIdleBeat, runs};
 ghost use Rattle.df_top.specs.Session.{state};
 ghost use Rattle.df_top.specs.Step.{Passes, Turns};
-ghost use Rattle.df_top.specs.Turning.{BlamesIfEnds, DoesPiece, LeavesReader, OnGoing, has_begun_in};
+ghost use Rattle.df_top.specs.Turning.{BlamesIfEnds, DoesNext, DoesPiece, LeavesReader, OnGoing, has_begun_in};
 
 use crate::session::Session;
 use crate::status::Status;
@@ -127,9 +127,7 @@ fn do_next<D: Disk, W: Sink>(
     ensures turns { (left : Option (List ℕ)) (bound : ℕ) → Turns session.old.pace bound
         (state (record { told = D.told disk.old; left = left; written = W.written sink.old }) session.old)
         (state (record { told = D.told disk.new; left = left; written = W.written sink.new }) session.new) result }
-    ensures leaves { LeavesReader session.old session.new }
-    ensures live { OnGoing result (session.new.replica.live ≡ true) }
-    ensures fewer { OnGoing result (pieces_left session.new.beat.due < pieces_left session.old.beat.due) }
+    ensures does { DoesNext session.old session.new result }
     ensures disk { BlamesIfEnds Status.DiskFault (D.faults disk.old) (D.faults disk.new) result }
     ensures source { (faults : ℕ) → BlamesIfEnds Status.ReadFault faults faults result }
     ensures sink { BlamesIfEnds Status.WriteFault (W.faults sink.old) (W.faults sink.new) result }

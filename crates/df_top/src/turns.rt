@@ -1,5 +1,5 @@
 // The session over a script: one turn for each line and the work after it, until there is none, one is refused, or something fails.
-ghost use Rattle.std.specs.Prelude.{◌≡◌, ◌<◌, ◌≤◌, ◌+◌, ◌^◌, length, true};
+ghost use Rattle.std.specs.Prelude.{◌≡◌, ◌<◌, ◌≤◌, ◌^◌, length, true};
 ghost use Rattle.df_inspect.specs.Answers.{command_of as call_of};
 ghost use Rattle.df_lines.specs.Grammar.{body_length, said_with};
 ghost use Rattle.df_pace.specs.Beats.{beat_after_line};
@@ -8,7 +8,7 @@ ghost use Rattle.df_top.specs.Outside.{Blames};
 ghost use Rattle.df_top.specs.Pacing.{IsIdleBeat, runs};
 ghost use Rattle.df_top.specs.Session.{Ended, state};
 ghost use Rattle.df_top.specs.Step.{AnswersCommand, Turns};
-ghost use Rattle.df_top.specs.Turning.{BlamesIfEnds, IsReadySession, LeavesReader, OnGoing};
+ghost use Rattle.df_top.specs.Turning.{BlamesIfEnds, IsReadySession, LeavesReader, ServesLine, TakesLine};
 
 use crate::background::work;
 use crate::reads::read;
@@ -116,11 +116,7 @@ fn serve_line<D: Disk, W: Sink>(
     requires room { session.old.count < 2 ^ 33 }
     requires size { body_length line ≤ length session.old.lines.body }
     ensures answers { AnswersCommand (command_of_line (said_with session.old.lines.body line)) session.old.replica session.new.replica (D.told disk.old) (D.told disk.new) (W.written sink.old) (W.written sink.new) result }
-    ensures lines { session.new.lines ≡ session.old.lines }
-    ensures live { OnGoing result (session.new.replica.live ≡ true) }
-    ensures count { OnGoing result (session.new.count ≡ session.old.count + 1) }
-    ensures pace { session.new.pace ≡ session.old.pace }
-    ensures beat { session.new.beat ≡ beat_after_line session.old.pace session.old.beat session.new.replica.head (runs session.new.replica) }
+    ensures serves { ServesLine session.old session.new result }
     ensures disk { BlamesIfEnds Status.DiskFault (D.faults disk.old) (D.faults disk.new) result }
     ensures sink { BlamesIfEnds Status.WriteFault (W.faults sink.old) (W.faults sink.new) result }
 {
@@ -142,10 +138,7 @@ fn take_line<D: Disk, S: Source, W: Sink>(
     ensures turns { Turns session.old.pace session.old.lines.reading.bound
         (state (record { told = D.told disk.old; left = S.left source.old; written = W.written sink.old }) session.old)
         (state (record { told = D.told disk.new; left = S.left source.new; written = W.written sink.new }) session.new) result }
-    ensures ready { OnGoing result (IsReadySession session.new (S.left source.new)) }
-    ensures bound { session.new.lines.reading.bound ≡ session.old.lines.reading.bound }
-    ensures budget { OnGoing result (session.new.lines.reading.budget < session.old.lines.reading.budget) }
-    ensures pace { session.new.pace ≡ session.old.pace }
+    ensures takes { TakesLine session.old session.new (S.left source.new) result }
     ensures disk { BlamesIfEnds Status.DiskFault (D.faults disk.old) (D.faults disk.new) result }
     ensures source { BlamesIfEnds Status.ReadFault (S.faults source.old) (S.faults source.new) result }
     ensures sink { BlamesIfEnds Status.WriteFault (W.faults sink.old) (W.faults sink.new) result }

@@ -14,13 +14,16 @@ use Rattle.df_damage.specs.Surveying.{TellsSurveyAs}
 use Rattle.df_damage.specs.Surveys.{IsOpenedAs}
 use Rattle.df_damage.proofs.Laws.{answer_is_of_hurt_as}
 use Rattle.df_opening.specs.Mending.{first_state}
-use Rattle.df_upgrade.specs.Old.{TellsHurtOld}
+use Rattle.df_upgrade.specs.Old.{AnswersOld, TellsHurtOld}
 
 -- of a disk that may be hurt
-pub hurt_old : (layout : Layout) (told : Option Told) (result : Result State OpenError) → TellsSurveyAs 1 layout told result → TellsHurtOld layout told result
+hurt_old : (layout : Layout) (told : Option Told) (result : Result State OpenError) → TellsSurveyAs 1 layout told result → TellsHurtOld layout told result
 hurt_old layout told result tells = λ file view t is same may.
     answer_is_of_hurt_as 1 file view t result may (λ second. absurd (omega (arith, second)))
     (subst (λ (l : Layout). TellsSurveyAs 1 l (Some t) result) same (subst (λ (o : Option Told). TellsSurveyAs 1 layout o result) is tells) may.whole)
+
+pub answers_old : (layout : Layout) (told : Option Told) (result : Result State OpenError) → TellsSurveyAs 1 layout told result → AnswersOld layout told result
+answers_old layout told result tells = record { answer = tells; hurt = hurt_old layout told result tells }
 
 -- the state that is found stands for what the machine begins with
 pub stands_old : (layout : Layout) (t : Told) (s : State) (view : View) → s.file.layout ≡ layout → (IsImage t.shown → IsOpenedAs 1 layout t.shown s) → IsImage t.shown → IsFound (shape s.file) (unit_at s.file.layout s.file.cluster t.shown) view → Represents s (first_state s.file t view)

@@ -1,7 +1,8 @@
 -- The superblock with which a file of version 1 becomes one of version 2.
-use Rattle.std.specs.Prelude.{◌<◌, Option, Some, None}
+use Rattle.std.specs.Prelude.{◌≡◌, ◌<◌, Option, Some, None}
 use Rattle.df_base.specs.Image.{IsImage}
 use Rattle.df_disk.specs.Told.{Told}
+use Rattle.df_format.specs.SuperRules.{fault_of}
 use Rattle.df_format.specs.Copies.{Content, content_at, content_with, rank_of_copy}
 use Rattle.df_format.specs.declared.superblock.SuperFields.{SuperFields}
 use Rattle.df_quorum.specs.Quorum.{IsChosenContent}
@@ -15,3 +16,9 @@ base_fields s = recorded s (record s.fields { version = 2; boot = 1 })
 abbrev pub IsAbove : Option Told → SuperFields → Type 0
 IsAbove None f = Unit {0}
 IsAbove (Some t) f = IsImage t.shown → (c : Content) → IsChosenContent (content_at t.shown) c → rank_of_copy c < rank_of_copy (content_with f)
+
+-- a file on this disk may get this superblock: it is of version 2, passes its tests, and is above the chosen one
+pub record MayUpgradeTo (told : Option Told) (f : SuperFields) : Type 0 where
+  pub version : f.version ≡ 2
+  pub rules : fault_of f ≡ None
+  pub above : IsAbove told f

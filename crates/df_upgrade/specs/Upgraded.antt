@@ -3,7 +3,7 @@ use Rattle.std.specs.Prelude.{◌≡◌, ◌⊎◌, ℕ, List, Option, Some, Res
 use Rattle.df_base.specs.Image.{IsImage}
 use Rattle.df_base.specs.Log.{Event, Sync}
 use Rattle.df_base.specs.Moments.{EachMoment}
-use Rattle.df_disk.specs.Told.{Told, did}
+use Rattle.df_disk.specs.Told.{Told, after, did}
 use Rattle.df_layout.specs.declared.layout.Layout.{Layout}
 use Rattle.df_theory.specs.Found.{IsFound}
 use Rattle.df_theory.specs.Next.{IsSameBare}
@@ -11,12 +11,14 @@ use Rattle.df_theory.specs.Upgrades.{as_version}
 use Rattle.df_theory.specs.View.{View}
 use Rattle.df_units.specs.Bytes.{unit_at}
 use Rattle.df_model.specs.declared.errors.OpenError.{OpenError}
+use Rattle.df_model.specs.declared.errors.OpenError.TheVariants.{DiskFault}
 use Rattle.df_damage.specs.Anew.{restarted, told_after}
 use Rattle.df_damage.specs.Below.{State, shape}
+use Rattle.df_rooms.specs.declared.rooms.Rooms.{Rooms}
 use Rattle.df_damage.specs.Plan.{AreDistinctUnits}
 use Rattle.df_damage.specs.Surveying.{TellsSurveyAs}
 use Rattle.df_damage.specs.Surveys.{IsOpenedAs}
-use Rattle.df_opening.specs.Opened.{AreRaisingTo, BeginsRaisingTo, Mends}
+use Rattle.df_opening.specs.Opened.{AreRaisingTo, BeginsRaisingTo, Mends, ToldBy}
 use Rattle.df_upgrade.specs.Base.{base_fields}
 use Rattle.df_upgrade.specs.Old.{TellsHurtOld}
 use Rattle.df_upgrade.specs.Upgrading.{UpgradeStaysBare, UpgradesAnew, upgraded}
@@ -26,6 +28,11 @@ use Rattle.df_upgrade.specs.declared.upgraded.Upgraded.{Upgraded}
 abbrev pub sequence_of : {R : Type 0} → Result Upgraded (R × OpenError) → Result ℕ OpenError
 sequence_of (Ok x) = Ok x.sequence
 sequence_of (Err refused) = Err refused.1
+
+-- the rooms, which come back either way
+abbrev pub rooms_of : {E : Type 0} → Result Upgraded (Rooms × E) → Rooms
+rooms_of (Ok x) = x.rooms
+rooms_of (Err refused) = refused.0
 
 -- ---- the answer
 
@@ -38,6 +45,11 @@ TellsUpgraded layout told (Err e) = TellsSurveyAs 1 layout told (Err e)
 abbrev pub TellsHurtUpgraded : Layout → Option Told → Result ℕ OpenError → Type 0
 TellsHurtUpgraded layout told (Ok sequence) = (found : State) × (sequence ≡ found.fields.sequence) × TellsHurtOld layout told (Ok found)
 TellsHurtUpgraded layout told (Err e) = TellsHurtOld layout told (Err e)
+
+-- both
+pub record AnswersUpgrade (layout : Layout) (told : Option Told) (result : Result ℕ OpenError) : Type 0 where
+  pub answer : TellsUpgraded layout told result
+  pub hurt : TellsHurtUpgraded layout told result
 
 -- ---- what it leaves
 
@@ -69,3 +81,17 @@ pub record UpgradesPartly (layout : Layout) (t : Told) (later : Option Told) : T
 -- it failed in the barrier, which added a sync or nothing, or in a read after it; or within the upgrade
 abbrev pub StopsUpgrading : Layout → Told → Option Told → Type 0
 StopsUpgrading layout t later = (later ≡ Some t) ⊎ (later ≡ Some (did Sync t)) ⊎ UpgradesPartly layout t later
+
+-- what is told where it is done: the device calls alone after the barrier, by which the file is upgraded
+pub record LeavesUpgraded (layout : Layout) (old new : Option Told) (sequence : ℕ) : Type 0 where
+  pub told : ToldBy (after Sync old) new
+  pub upgraded : (t : Told) → old ≡ Some t → UpgradesAll layout t sequence new
+
+-- and with this refusal: the barrier alone, unless the disk failed, and then as much of all that as was done
+pub record LeavesUnupgraded (layout : Layout) (old new : Option Told) (e : OpenError) : Type 0 where
+  pub refused : (e ≡ DiskFault → ⊥) → new ≡ after Sync old
+  pub stopped : (t : Told) → old ≡ Some t → IsImage t.shown → e ≡ DiskFault → StopsUpgrading layout t new
+
+abbrev pub LeavesUpgrade : Layout → (old new : Option Told) → Result ℕ OpenError → Type 0
+LeavesUpgrade layout old new (Ok sequence) = LeavesUpgraded layout old new sequence
+LeavesUpgrade layout old new (Err e) = LeavesUnupgraded layout old new e

@@ -1,13 +1,18 @@
 -- What an upgrade does after its survey, and what it leaves at each moment of that and at its end: of a log that is restarted at the barrier, whatever the copies showed there.
-use Rattle.std.specs.Prelude.{◌≡◌, ◌⊎◌, List}
-use Rattle.df_base.specs.Image.{Image}
+use Rattle.std.specs.Prelude.{◌≡◌, ◌⊎◌, List, Option, Result, OnOk}
+use Rattle.df_base.specs.Image.{Image, IsImage}
 use Rattle.df_base.specs.Log.{Event, IsLeft, Log, now}
 use Rattle.df_base.specs.Moments.{EachMoment}
 use Rattle.df_disk.specs.Told.{Told}
 use Rattle.df_format.specs.Copies.{content_with}
 use Rattle.df_format.specs.declared.superblock.SuperFields.{SuperFields}
+use Rattle.df_superblock.specs.Calls.{AddsUpdate, EndsEqual, IsJudged, IsUndamaged, ShowsEqual}
 use Rattle.df_superblock.specs.Copies.{AreEqual}
-use Rattle.df_theory.specs.Device.{NoChanceOf}
+use Rattle.df_superblock.specs.Events.{update_events}
+use Rattle.df_superblock.specs.Steps.{AreStepsOfCopies}
+use Rattle.df_superblock.specs.declared.updates.UpdateError.{UpdateError}
+use Rattle.df_theory.specs.CopyPuts.{update_steps}
+use Rattle.df_theory.specs.Device.{AreSteps, NoChanceOf}
 use Rattle.df_theory.specs.Found.{IsClean, IsFound}
 use Rattle.df_theory.specs.Holds.{IsWhole}
 use Rattle.df_theory.specs.Next.{IsSameBare, booted}
@@ -17,10 +22,13 @@ use Rattle.df_theory.specs.View.{View}
 use Rattle.df_model.specs.Result.{AgreeReads}
 use Rattle.df_units.specs.Bytes.{unit_at}
 use Rattle.df_units.specs.Meaning.{content_of}
-use Rattle.df_damage.specs.Anew.{IsStill, told_after}
-use Rattle.df_damage.specs.Below.{DataFile, State, shape}
+use Rattle.df_units.specs.Puts.{put_copies}
+use Rattle.df_damage.specs.Anew.{IsStill, restarted, told_after}
+use Rattle.df_damage.specs.Below.{DataFile, Represents, State, shape}
+use Rattle.df_damage.specs.Plan.{AreDistinctUnits}
 use Rattle.df_opening.specs.Keeping.{format}
-use Rattle.df_opening.specs.Mending.{mending_events, mending_steps, raising_events, raising_steps}
+use Rattle.df_opening.specs.Mending.{first_state, mending_events, mending_steps, raising_events, raising_steps}
+use Rattle.df_opening.specs.Raising.{IsPlannedOf}
 use Rattle.df_opening.specs.Survey.{Survey}
 use Rattle.df_upgrade.specs.Base.{base_fields}
 
@@ -39,6 +47,16 @@ upgrading_events s = raising_events s.state.file.layout s.state.headers s.mends 
 
 abbrev pub upgrading_steps : Survey → List Step
 upgrading_steps s = raising_steps s.state.file.layout s.state.headers s.mends s.state.fields s.chosen.members (base_fields s.state)
+
+-- What the update with this superblock does: its device calls, which in the words of the theory put the four copies; what it reads back, of which a disk that tells what it shows is told of no damage;
+-- and where it is done, the four copies are shown and left as they were written.
+pub record UpdatesTo {T : Type 0} (f : SuperFields) (old new : Option Told) (result : Result T UpdateError) : Type 0 where
+  pub events : AddsUpdate (update_events f) old new result
+  pub steps : AreStepsOfCopies (update_events f) (update_steps (put_copies f))
+  pub read_back : IsJudged new f result
+  pub undamaged : IsUndamaged new result
+  pub shown : OnOk result (ShowsEqual f new)
+  pub equal : OnOk result (EndsEqual f new)
 
 -- ---- what is left
 
@@ -75,3 +93,9 @@ pub record UpgradesAnew (view : View) (found : State) (events : List Event) (bas
   pub moments : EachMoment base.log (told_after events base).log (UpgradeStaysBare found.file view (base_fields found))
   pub bare : IsSameBare (as_version 2 view) (upgraded view (base_fields found))
   pub ends : EndsUpgraded found.file view (base_fields found) (told_after events base).log
+
+-- What an upgrade is in the words of the theory, and what it leaves of each log that is restarted at what was shown, and which the survey's list is planned of.
+pub record UpgradesEach (s : Survey) : Type 0 where
+  pub steps : AreSteps (format s.state.file) (upgrading_events s) (upgrading_steps s)
+  pub anew : (base : Told) (view : View) → IsPlannedOf s (restarted base) → IsImage base.shown → IsFound (shape s.state.file) (unit_at s.state.file.layout s.state.file.cluster base.shown) view
+      → AreDistinctUnits (unit_at s.state.file.layout s.state.file.cluster base.shown) → Represents s.state (first_state s.state.file base view) → UpgradesAnew view s.state (upgrading_events s) (restarted base)

@@ -1,7 +1,8 @@
 // What is listed of a surveyed file of version 1 is written again, as an open mends a file, and nothing else.
-ghost use Rattle.std.specs.Prelude.{◌≡◌, IfOk, IfErr, length};
+ghost use Rattle.std.specs.Prelude.{◌≡◌, length};
 ghost use Rattle.df_opening.specs.Held.{AreLogRoomsOf};
-ghost use Rattle.df_upgrade.specs.Below.{Adds, AreSteps, HasCause, IsUsable, format, mending_events, mending_steps};
+ghost use Rattle.df_upgrade.specs.Below.{AddsSteps, HasCause, IsUsable, format, mending_events, mending_steps};
+ghost use Rattle.df_upgrade.specs.Old.{IsSoundSurvey, rooms_in};
 ghost use Rattle.df_upgrade.specs.Upgrading.{restoring_events, restoring_steps};
 
 use crate::{Rooms, Surveyed};
@@ -24,9 +25,8 @@ fn restore_rooms<D: Disk>(
 ) -> Result<(), Failed>
     requires rooms { AreLogRoomsOf file.now.layout file.now.cluster rooms.old }
     requires content { found.now.content ≡ found.now.chosen.content }
-    ensures events { Adds (mending_events file.now.layout rooms.old.headers rooms.old.mends.items found.now.content found.now.chosen.members) (D.told disk.old) (D.told disk.new) result }
-    ensures steps { AreSteps (format file.now) (mending_events file.now.layout rooms.old.headers rooms.old.mends.items found.now.content found.now.chosen.members)
-        (mending_steps file.now.layout rooms.old.headers rooms.old.mends.items found.now.content found.now.chosen.members) }
+    ensures does { AddsSteps (format file.now) (mending_events file.now.layout rooms.old.headers rooms.old.mends.items found.now.content found.now.chosen.members)
+        (mending_steps file.now.layout rooms.old.headers rooms.old.mends.items found.now.content found.now.chosen.members) (D.told disk.old) (D.told disk.new) result }
     ensures size { length found.now.chosen.members ≡ 4 }
     ensures usable { IsUsable found.now.content }
     ensures layout { rooms.new.layout ≡ rooms.old.layout }
@@ -52,12 +52,9 @@ impl Surveyed {
     /// there was such a sector, then the copies that aren't members of the choice, each durable before the next one. After a fault the
     /// file may be mended in part.
     pub fn restore<D: Disk>(self, disk: &mut D) -> Result<Rooms, (Rooms, Failed)>
-        ensures rooms { IfOk result (λ rooms. rooms.layout ≡ self.state.file.layout) }
-        ensures given_back { IfErr result (λ refused. refused.0.layout ≡ self.state.file.layout) }
-        ensures events { Adds (restoring_events self) (D.told disk.old) (D.told disk.new) result }
-        ensures steps { AreSteps (format self.state.file) (restoring_events self) (restoring_steps self) }
-        ensures size { length self.chosen.members ≡ 4 }
-        ensures usable { IsUsable self.state.fields }
+        ensures rooms { (rooms_in result).layout ≡ self.state.file.layout }
+        ensures does { AddsSteps (format self.state.file) (restoring_events self) (restoring_steps self) (D.told disk.old) (D.told disk.new) result }
+        ensures sound { IsSoundSurvey self }
         ensures cause { HasCause (D.faults disk.old) (D.faults disk.new) result }
     {
         let Surveyed { found } = self;

@@ -1,9 +1,9 @@
 // A file of version 1 that was surveyed, and the superblock of version 2 that records it. No call may be made on its state: a replica
 // is of version 2 alone, and so this is a type of its own.
-ghost use Rattle.std.specs.Prelude.{◌≡◌, IfOk, IfErr, Some};
+ghost use Rattle.std.specs.Prelude.{◌≡◌, IfOk, IfErr};
 ghost use Rattle.df_upgrade.specs.Base.{base_fields};
-ghost use Rattle.df_upgrade.specs.Below.{IsBlamed, IsPlannedOf, IsUsable, Syncs, TellsMends, TellsSurveyAs, Told, is_open_fault, state_of};
-ghost use Rattle.df_upgrade.specs.Old.{TellsHurtOld};
+ghost use Rattle.df_upgrade.specs.Below.{IsBlamed, IsSurveyed, IsUsable, Syncs, is_open_fault, state_of};
+ghost use Rattle.df_upgrade.specs.Old.{AnswersOld};
 
 use crate::base::base_of;
 use crate::{OpenError, Rooms};
@@ -58,14 +58,11 @@ impl Surveyed {
 /// version 1, why it isn't upgraded, and the rooms. It syncs once and reads what a survey reads, and writes nothing. Where sectors of
 /// the file were damaged, lost or swapped before, it finds a state that the file had, or refuses it because of a sector that is hurt.
 pub fn survey<D: Disk>(disk: &mut D, rooms: Rooms) -> Result<Surveyed, (Rooms, OpenError)>
-    ensures kept { IfOk result (λ survey. survey.state.file.layout ≡ rooms.layout) }
+    ensures surveyed { IfOk result (IsSurveyed rooms.layout (D.told disk.old) (D.told disk.new)) }
     ensures version { IfOk result (λ survey. survey.state.file.version ≡ 1) }
     ensures given_back { IfErr result (λ refused. refused.0.layout ≡ rooms.layout) }
-    ensures answer { TellsSurveyAs 1 rooms.layout (D.told disk.old) (state_of result) }
-    ensures hurt { TellsHurtOld rooms.layout (D.told disk.old) (state_of result) }
-    ensures mends { IfOk result (TellsMends rooms.layout (D.told disk.old)) }
+    ensures answers { AnswersOld rooms.layout (D.told disk.old) (state_of result) }
     ensures barrier { Syncs (D.told disk.old) (D.told disk.new) (state_of result) }
-    ensures planned { (t : Told) → D.told disk.new ≡ Some t → IfOk result (λ survey. IsPlannedOf survey t) }
     ensures cause { IsBlamed is_open_fault (D.faults disk.old) (D.faults disk.new) (state_of result) }
 {
     match survey_version(disk, rooms, VERSION) {

@@ -1,9 +1,10 @@
 // A file of version 1 becomes one of version 2: it is surveyed, mended, and gets its superblock.
-ghost use Rattle.std.specs.Prelude.{◌≡◌, IfOk, IfErr, None, Some};
-ghost use Rattle.df_upgrade.specs.Base.{IsAbove, base_fields};
-ghost use Rattle.df_upgrade.specs.Below.{AddsRaising, AreDistinctUnits, AreSteps, IsBlamed, IsFound, IsImage, IsPlannedOf, IsReadBack, IsUnharmed, Represents, Sync, Told, ToldBy, View, after, fault_of, first_state, format, is_mend_fault, is_open_fault, restarted, shape, unit_at, update_events, without_rooms};
-ghost use Rattle.df_upgrade.specs.Upgraded.{StopsUpgrading, TellsHurtUpgraded, TellsUpgraded, UpgradesAll, sequence_of};
-ghost use Rattle.df_upgrade.specs.Upgrading.{UpgradesAnew, upgrading_events, upgrading_steps};
+ghost use Rattle.std.specs.Prelude.{◌≡◌, Some};
+ghost use Rattle.df_upgrade.specs.Base.{MayUpgradeTo, base_fields};
+ghost use Rattle.df_upgrade.specs.Below.{AddsUpdating, IsBlamed, IsPlannedOf, Told, is_mend_fault, is_open_fault, update_events, without_rooms};
+ghost use Rattle.df_upgrade.specs.Old.{rooms_in};
+ghost use Rattle.df_upgrade.specs.Upgraded.{AnswersUpgrade, LeavesUpgrade, rooms_of, sequence_of};
+ghost use Rattle.df_upgrade.specs.Upgrading.{UpgradesEach, upgrading_events};
 
 use crate::{MendError, OpenError, Rooms, Surveyed, UpdateError, survey, upgrade};
 use df_damage::LogRooms;
@@ -33,13 +34,9 @@ fn upgrade_in<D: Disk>(
     rooms: &mut LogRooms,
     base: &SuperFields,
 ) -> Result<(), MendError>
-    requires above { IsAbove (D.told disk.old) base.now }
-    requires version { base.now.version ≡ 2 }
-    requires rules { fault_of base.now ≡ None }
+    requires may { MayUpgradeTo (D.told disk.old) base.now }
     ensures layout { rooms.new.layout ≡ rooms.old.layout }
-    ensures events { AddsRaising (update_events base.now) (D.told disk.old) (D.told disk.new) result }
-    ensures read_back { IsReadBack base.now (D.told disk.new) result }
-    ensures unharmed { IsUnharmed (D.told disk.new) result }
+    ensures does { AddsUpdating (update_events base.now) base.now (D.told disk.old) (D.told disk.new) result }
     ensures cause { IsBlamed is_mend_fault (D.faults disk.old) (D.faults disk.new) result }
 {
     match upgrade(disk, &mut rooms.superblock, base) {
@@ -58,14 +55,9 @@ pub fn upgrade_surveyed<D: Disk>(
 ) -> Result<Rooms, (Rooms, MendError)>
     requires planned { (t : Told) → D.told disk.old ≡ Some t → IsPlannedOf surveyed t }
     requires version { surveyed.state.file.version ≡ 1 }
-    ensures rooms { IfOk result (λ rooms. rooms.layout ≡ surveyed.state.file.layout) }
-    ensures given_back { IfErr result (λ refused. refused.0.layout ≡ surveyed.state.file.layout) }
-    ensures events { AddsRaising (upgrading_events surveyed) (D.told disk.old) (D.told disk.new) (without_rooms result) }
-    ensures steps { AreSteps (format surveyed.state.file) (upgrading_events surveyed) (upgrading_steps surveyed) }
-    ensures read_back { IsReadBack (base_fields surveyed.state) (D.told disk.new) (without_rooms result) }
-    ensures unharmed { IsUnharmed (D.told disk.new) (without_rooms result) }
-    ensures anew { (base : Told) (view : View) → IsPlannedOf surveyed (restarted base) → IsImage base.shown → IsFound (shape surveyed.state.file) (unit_at surveyed.state.file.layout surveyed.state.file.cluster base.shown) view
-        → AreDistinctUnits (unit_at surveyed.state.file.layout surveyed.state.file.cluster base.shown) → Represents surveyed.state (first_state surveyed.state.file base view) → UpgradesAnew view surveyed.state (upgrading_events surveyed) (restarted base) }
+    ensures rooms { (rooms_in result).layout ≡ surveyed.state.file.layout }
+    ensures does { AddsUpdating (upgrading_events surveyed) (base_fields surveyed.state) (D.told disk.old) (D.told disk.new) (without_rooms result) }
+    ensures leaves { UpgradesEach surveyed }
     ensures cause { IsBlamed is_mend_fault (D.faults disk.old) (D.faults disk.new) (without_rooms result) }
 {
     let base = surveyed.base();
@@ -85,14 +77,9 @@ pub fn upgrade_surveyed<D: Disk>(
 /// mending, within it or within the update, and where a disk lies the update answers `Damaged`; every other refusal has written nothing.
 /// The rooms come back.
 pub fn upgrade_file<D: Disk>(disk: &mut D, rooms: Rooms) -> Result<Upgraded, (Rooms, OpenError)>
-    ensures rooms { IfOk result (λ upgraded. upgraded.rooms.layout ≡ rooms.layout) }
-    ensures given_back { IfErr result (λ refused. refused.0.layout ≡ rooms.layout) }
-    ensures answer { TellsUpgraded rooms.layout (D.told disk.old) (sequence_of result) }
-    ensures hurt { TellsHurtUpgraded rooms.layout (D.told disk.old) (sequence_of result) }
-    ensures upgraded { (t : Told) → D.told disk.old ≡ Some t → IfOk (sequence_of result) (λ sequence. UpgradesAll rooms.layout t sequence (D.told disk.new)) }
-    ensures told { IfOk result (λ _. ToldBy (after Sync (D.told disk.old)) (D.told disk.new)) }
-    ensures refused { IfErr result (λ refused. (refused.1 ≡ OpenError.DiskFault → ⊥) → D.told disk.new ≡ after Sync (D.told disk.old)) }
-    ensures stopped { (t : Told) → D.told disk.old ≡ Some t → IfErr result (λ refused. IsImage t.shown → refused.1 ≡ OpenError.DiskFault → StopsUpgrading rooms.layout t (D.told disk.new)) }
+    ensures rooms { (rooms_of result).layout ≡ rooms.layout }
+    ensures answers { AnswersUpgrade rooms.layout (D.told disk.old) (sequence_of result) }
+    ensures leaves { LeavesUpgrade rooms.layout (D.told disk.old) (D.told disk.new) (sequence_of result) }
     ensures cause { IsBlamed is_open_fault (D.faults disk.old) (D.faults disk.new) (sequence_of result) }
 {
     let surveyed = match survey(disk, rooms) {

@@ -1,7 +1,8 @@
 // The four copies of version 2.
-ghost use Rattle.std.specs.Prelude.{◌≡◌, None, OnOk};
-ghost use Rattle.df_upgrade.specs.Base.{IsAbove};
-ghost use Rattle.df_upgrade.specs.Below.{AddsUpdate, AreStepsOfCopies, EndsEqual, IsBlamed, IsJudged, IsUndamaged, ShowsEqual, fault_of, is_update_fault, put_copies, update_events, update_steps};
+ghost use Rattle.std.specs.Prelude.{◌≡◌, None};
+ghost use Rattle.df_upgrade.specs.Base.{MayUpgradeTo};
+ghost use Rattle.df_upgrade.specs.Below.{IsBlamed, fault_of, is_update_fault};
+ghost use Rattle.df_upgrade.specs.Upgrading.{UpdatesTo};
 
 use df_buffers::ProbeRoom;
 use df_disk::Disk;
@@ -27,15 +28,8 @@ pub fn upgrade<D: Disk>(
     room: &mut ProbeRoom,
     base: &SuperFields,
 ) -> Result<(), UpdateError>
-    requires version { base.now.version ≡ 2 }
-    requires rules { fault_of base.now ≡ None }
-    requires above { IsAbove (D.told disk.old) base.now }
-    ensures events { AddsUpdate (update_events base.now) (D.told disk.old) (D.told disk.new) result }
-    ensures steps { AreStepsOfCopies (update_events base.now) (update_steps (put_copies base.now)) }
-    ensures read_back { IsJudged (D.told disk.new) base.now result }
-    ensures undamaged { IsUndamaged (D.told disk.new) result }
-    ensures shown { OnOk result (ShowsEqual base.now (D.told disk.new)) }
-    ensures equal { OnOk result (EndsEqual base.now (D.told disk.new)) }
+    requires may { MayUpgradeTo (D.told disk.old) base.now }
+    ensures does { UpdatesTo base.now (D.told disk.old) (D.told disk.new) result }
     ensures cause { IsBlamed is_update_fault (D.faults disk.old) (D.faults disk.new) result }
 {
     let content = passed(base);

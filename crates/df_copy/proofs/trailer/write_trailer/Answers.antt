@@ -30,7 +30,7 @@ write_pieces-requires-clause-begun g c =
     let boot = c.fields.result.now.boot in
     let whole : c.capture.new.self ≡ begun_grid t.grid boot c.args.plan.blocks =
     c.capture.ensures ∙ ap (λ (h : GridState). with_blocks h (blocks_captured h.blocks (take c.args.plan.blocks (free_addresses h)))) c.set_boot.ensures in
-    let few = c.chains_have_room.ensures t.layout (trailer_size t.layout (memory s)) (trailer_blocks t.layout (memory s)) (size_to t.layout s c.fields.ensures.state.root c.requires.fits c.requires.room) (trailer_count t.layout s) in
+    let few = c.chains_have_room.ensures t.layout (trailer_size t.layout (memory s)) (trailer_blocks t.layout (memory s)) (size_to t.layout s c.fields.ensures.state.root c.requires.ready.fits c.requires.room) (trailer_count t.layout s) in
     record {
       left =
           own_left t.layout s us t.grid c.capture.new.self c.capture_of-capture.result boot c.args.plan.blocks whole c.requires.begun.2.grid (ap (λ (f : SuperFields). f.boot) c.fields.ensures.value) c.requires.plan.blocks c.capture_of-capture.ensures.sequence

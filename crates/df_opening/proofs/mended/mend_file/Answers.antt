@@ -1,83 +1,75 @@
 -- What is planned is mended and raised: its device calls are steps, so what they leave at each moment and at their end is the machine's, whether all of them were made or a part.
-use Rattle.std.proofs.Common.{◌∙◌, ◌<◌, ◌^◌, ap, subst, sym}
+use Rattle.std.proofs.Common.{◌≡◌, ◌∙◌, ◌<◌, ◌^◌, List, length, ap, subst, sym}
 use Rattle.std.specs.Prelude.{Ok, Err}
-use Rattle.df_disk.proofs.Laws.{part_then}
+use Rattle.df_base.specs.Log.{Event}
 use Rattle.df_format.specs.SuperRules.{IsUsable}
 use Rattle.df_format.specs.declared.superblock.SuperFields.{SuperFields}
 use Rattle.df_superblock.proofs.Laws.{update_is_steps}
-use Rattle.df_damage.specs.Below.{State, boot_fields}
+use Rattle.df_theory.specs.Device.{AreSteps}
+use Rattle.df_damage.specs.Below.{IsState, State, boot_fields}
 use Rattle.df_opening.specs.Below.{update_events}
-use Rattle.df_opening.specs.Mending.{AddsRaising, IsReadBack, mending_events, raised_state}
-use Rattle.df_opening.specs.Raising.{opening_events}
+use Rattle.df_opening.specs.Keeping.{format}
+use Rattle.df_opening.specs.Mending.{AddsUpdating, mending_events, mending_steps, raised_state}
+use Rattle.df_opening.specs.Raising.{RaisesEach, opening_events}
 use Rattle.df_opening.specs.Survey.{Survey, survey_in}
 use Rattle.df_opening.proofs.RaiseAnew.{raises_anew}
 use Rattle.df_opening.proofs.RaiseSteps.{opening_is_steps, raises_over}
-use Rattle.df_opening.proofs.Refused.{adds_error, raising_then, read_error, unharmed_error, unharmed_fault, unharmed_ok}
+use Rattle.df_opening.proofs.Refused.{updating_error, updating_fault, updating_ok, updating_then}
 use Rattle.df_opening.proofs.mended.mend_file.Goals as goal
+
+-- the device calls of the mending
+abbrev mending : Survey → List Event
+mending s = mending_events s.state.file.layout s.state.headers s.mends s.state.fields s.chosen.members
 
 -- ---- the calls are steps, and what they leave
 
-pub returns-in-Err-clause-steps : goal.returns-in-Err-clause-steps
-returns-in-Err-clause-steps g c =
-    let s : Survey = survey_in c.args.surveyed in
-    opening_is_steps s c.mend_parts.ensures.steps (update_is_steps (boot_fields s.state) (subst IsUsable c.next_superblock-content.ensures c.fields-fields.ensures.usable))
+raises_each : (s : Survey) → length s.chosen.members ≡ 4 → IsState s.state → s.state.fields.boot < 2 ^ 62 → IsUsable (boot_fields s.state)
+    → AreSteps (format s.state.file) (mending s) (mending_steps s.state.file.layout s.state.headers s.mends s.state.fields s.chosen.members) → RaisesEach s
+raises_each s four is unspent usable are =
+    let steps = opening_is_steps s are (update_is_steps (boot_fields s.state) usable) in
+    record {
+      steps = steps;
+      over = λ base grade view plan on stands. raises_over grade view s base four is unspent plan on stands steps;
+      anew = λ base grade view plan whole found distinct shown stands. raises_anew grade view s base four (sym is.version ∙ is.second.rules.version) is unspent plan whole found distinct shown stands steps;
+    }
 
-pub returns-in-Ok-raise_parts-clause-steps : goal.returns-in-Ok-raise_parts-clause-steps
-returns-in-Ok-raise_parts-clause-steps g c =
-    let s : Survey = survey_in c.args.surveyed in
-    opening_is_steps s c.mend_parts.ensures.steps (update_is_steps (boot_fields s.state) (subst IsUsable c.next_superblock-content.ensures c.fields-fields.ensures.usable))
+pub returns-in-Err-clause-leaves : goal.returns-in-Err-clause-leaves
+returns-in-Err-clause-leaves g c =
+    raises_each (survey_in c.args.surveyed) c.mend_parts.ensures.size c.requires.found.whole.state c.requires.found.unspent (subst IsUsable c.next_superblock-content.ensures c.fields-fields.ensures.usable) c.mend_parts.ensures.does.steps
 
-pub returns-in-Err-raise_parts-clause-steps : goal.returns-in-Err-raise_parts-clause-steps
-returns-in-Err-raise_parts-clause-steps g c =
-    let s : Survey = survey_in c.args.surveyed in
-    opening_is_steps s c.mend_parts.ensures.steps (update_is_steps (boot_fields s.state) (subst IsUsable c.next_superblock-content.ensures c.fields-fields.ensures.usable))
+pub returns-in-Ok-raise_parts-clause-leaves : goal.returns-in-Ok-raise_parts-clause-leaves
+returns-in-Ok-raise_parts-clause-leaves g c =
+    raises_each (survey_in c.args.surveyed) c.mend_parts.ensures.size c.requires.found.whole.state c.requires.found.unspent (subst IsUsable c.next_superblock-content.ensures c.fields-fields.ensures.usable) c.mend_parts.ensures.does.steps
 
-pub returns-in-Err-clause-over : goal.returns-in-Err-clause-over
-returns-in-Err-clause-over g c = λ base grade view plan on stands.
-    raises_over grade view (survey_in c.args.surveyed) base c.mend_parts.ensures.size c.requires.found.whole.state c.requires.found.unspent plan on stands (returns-in-Err-clause-steps g c)
-
-pub returns-in-Ok-raise_parts-clause-over : goal.returns-in-Ok-raise_parts-clause-over
-returns-in-Ok-raise_parts-clause-over g c = λ base grade view plan on stands.
-    raises_over grade view (survey_in c.args.surveyed) base c.mend_parts.ensures.size c.requires.found.whole.state c.requires.found.unspent plan on stands (returns-in-Ok-raise_parts-clause-steps g c)
-
-pub returns-in-Err-raise_parts-clause-over : goal.returns-in-Err-raise_parts-clause-over
-returns-in-Err-raise_parts-clause-over g c = λ base grade view plan on stands.
-    raises_over grade view (survey_in c.args.surveyed) base c.mend_parts.ensures.size c.requires.found.whole.state c.requires.found.unspent plan on stands (returns-in-Err-raise_parts-clause-steps g c)
-
-pub returns-in-Err-clause-anew : goal.returns-in-Err-clause-anew
-returns-in-Err-clause-anew g c = λ base grade view plan whole found distinct shown stands.
-    let is = c.requires.found.whole.state in
-    raises_anew grade view (survey_in c.args.surveyed) base c.mend_parts.ensures.size (sym is.version ∙ is.second.rules.version) is c.requires.found.unspent plan whole found distinct shown stands (returns-in-Err-clause-steps g c)
-
-pub returns-in-Ok-raise_parts-clause-anew : goal.returns-in-Ok-raise_parts-clause-anew
-returns-in-Ok-raise_parts-clause-anew g c = λ base grade view plan whole found distinct shown stands.
-    let is = c.requires.found.whole.state in
-    raises_anew grade view (survey_in c.args.surveyed) base c.mend_parts.ensures.size (sym is.version ∙ is.second.rules.version) is c.requires.found.unspent plan whole found distinct shown stands (returns-in-Ok-raise_parts-clause-steps g c)
-
-pub returns-in-Err-raise_parts-clause-anew : goal.returns-in-Err-raise_parts-clause-anew
-returns-in-Err-raise_parts-clause-anew g c = λ base grade view plan whole found distinct shown stands.
-    let is = c.requires.found.whole.state in
-    raises_anew grade view (survey_in c.args.surveyed) base c.mend_parts.ensures.size (sym is.version ∙ is.second.rules.version) is c.requires.found.unspent plan whole found distinct shown stands (returns-in-Err-raise_parts-clause-steps g c)
+pub returns-in-Err-raise_parts-clause-leaves : goal.returns-in-Err-raise_parts-clause-leaves
+returns-in-Err-raise_parts-clause-leaves g c =
+    raises_each (survey_in c.args.surveyed) c.mend_parts.ensures.size c.requires.found.whole.state c.requires.found.unspent (subst IsUsable c.next_superblock-content.ensures c.fields-fields.ensures.usable) c.mend_parts.ensures.does.steps
 
 -- ---- which calls were made
 
-pub returns-in-Err-clause-events : goal.returns-in-Err-clause-events
-returns-in-Err-clause-events g c =
+pub returns-in-Err-clause-does : goal.returns-in-Err-clause-does
+returns-in-Err-clause-does g c =
     let s : Survey = survey_in c.args.surveyed in
-    part_then (mending_events s.state.file.layout s.state.headers s.mends s.state.fields s.chosen.members) (update_events (boot_fields s.state)) (g.D.Disk.told c.args.disk.now) (g.D.Disk.told c.mend_parts.new.disk) c.in-Err.ensures.events
+    updating_fault _ (mending s) (update_events (boot_fields s.state)) (boot_fields s.state) (g.D.Disk.told c.args.disk.now) (g.D.Disk.told c.mend_parts.new.disk) c.in-Err.ensures.does.events
 
-pub returns-in-Ok-raise_parts-clause-events : goal.returns-in-Ok-raise_parts-clause-events
-returns-in-Ok-raise_parts-clause-events g c =
+pub returns-in-Ok-raise_parts-clause-does : goal.returns-in-Ok-raise_parts-clause-does
+returns-in-Ok-raise_parts-clause-does g c =
     let s : Survey = survey_in c.args.surveyed in
-    raising_then {T = Unit {0}} (mending_events s.state.file.layout s.state.headers s.mends s.state.fields s.chosen.members) (update_events (boot_fields s.state)) (g.D.Disk.told c.args.disk.now) (g.D.Disk.told c.mend_parts.new.disk) (g.D.Disk.told c.raise_parts.new.disk) (Ok tt)
-    c.in-Ok.ensures.events (subst (λ (f : SuperFields). AddsRaising {T = Unit {0}} (update_events f) (g.D.Disk.told c.mend_parts.new.disk) (g.D.Disk.told c.raise_parts.new.disk) (Ok tt)) c.next_superblock-content.ensures c.in-Ok-raise_parts.ensures.events)
+    let old = g.D.Disk.told c.args.disk.now in
+    let mid = g.D.Disk.told c.mend_parts.new.disk in
+    let new = g.D.Disk.told c.raise_parts.new.disk in
+    let does = subst (λ (f : SuperFields). AddsUpdating {T = Unit {0}} (update_events f) f mid new (Ok tt)) c.next_superblock-content.ensures c.in-Ok-raise_parts.ensures.does in
+    updating_ok (opening_events s) (boot_fields s.state) old new tt c.raise_parts.new.parts (updating_then {T = Unit {0}} (mending s) (update_events (boot_fields s.state)) (boot_fields s.state) old mid new (Ok tt) c.in-Ok.ensures.does.events does)
 
-pub returns-in-Err-raise_parts-clause-events : goal.returns-in-Err-raise_parts-clause-events
-returns-in-Err-raise_parts-clause-events g c =
+pub returns-in-Err-raise_parts-clause-does : goal.returns-in-Err-raise_parts-clause-does
+returns-in-Err-raise_parts-clause-does g c =
     let s : Survey = survey_in c.args.surveyed in
-    adds_error (Unit {0}) (Unit {0}) (opening_events s) (g.D.Disk.told c.args.disk.now) (g.D.Disk.told c.raise_parts.new.disk) c.in-Err-raise_parts.error
-    (raising_then {T = Unit {0}} (mending_events s.state.file.layout s.state.headers s.mends s.state.fields s.chosen.members) (update_events (boot_fields s.state)) (g.D.Disk.told c.args.disk.now) (g.D.Disk.told c.mend_parts.new.disk) (g.D.Disk.told c.raise_parts.new.disk) (Err c.in-Err-raise_parts.error)
-    c.in-Ok.ensures.events (subst (λ (f : SuperFields). AddsRaising {T = Unit {0}} (update_events f) (g.D.Disk.told c.mend_parts.new.disk) (g.D.Disk.told c.raise_parts.new.disk) (Err c.in-Err-raise_parts.error)) c.next_superblock-content.ensures c.in-Err-raise_parts.ensures.events))
+    let old = g.D.Disk.told c.args.disk.now in
+    let mid = g.D.Disk.told c.mend_parts.new.disk in
+    let new = g.D.Disk.told c.raise_parts.new.disk in
+    let error = c.in-Err-raise_parts.error in
+    let does = subst (λ (f : SuperFields). AddsUpdating {T = Unit {0}} (update_events f) f mid new (Err error)) c.next_superblock-content.ensures c.in-Err-raise_parts.ensures.does in
+    updating_error (Unit {0}) _ (opening_events s) (boot_fields s.state) old new error (updating_then {T = Unit {0}} (mending s) (update_events (boot_fields s.state)) (boot_fields s.state) old mid new (Err error) c.in-Ok.ensures.does.events does)
 
 -- ---- the superblock that is written is that of the state as it was found
 
@@ -87,22 +79,5 @@ raise_parts-requires-clause-content g c = c.next_superblock-content.ensures ∙ 
 pub raise_parts-requires-clause-unspent : goal.raise_parts-requires-clause-unspent
 raise_parts-requires-clause-unspent g c = subst (λ (s : State). s.fields.boot < 2 ^ 62) (sym c.mend_parts.ensures.state) c.requires.found.unspent
 
-pub returns-in-Ok-raise_parts-clause-state : goal.returns-in-Ok-raise_parts-clause-state
-returns-in-Ok-raise_parts-clause-state g c = c.in-Ok-raise_parts.ensures.state ∙ ap raised_state c.mend_parts.ensures.state
-
-pub returns-in-Ok-raise_parts-clause-read_back : goal.returns-in-Ok-raise_parts-clause-read_back
-returns-in-Ok-raise_parts-clause-read_back g c = subst (λ (f : SuperFields). IsReadBack {T = Unit {0}} f (g.D.Disk.told c.raise_parts.new.disk) (Ok tt)) c.next_superblock-content.ensures c.in-Ok-raise_parts.ensures.read_back
-
-pub returns-in-Err-raise_parts-clause-read_back : goal.returns-in-Err-raise_parts-clause-read_back
-returns-in-Err-raise_parts-clause-read_back g c =
-    read_error (Unit {0}) (Unit {0}) (boot_fields (survey_in c.args.surveyed).state) (g.D.Disk.told c.raise_parts.new.disk) c.in-Err-raise_parts.error
-    (subst (λ (f : SuperFields). IsReadBack {T = Unit {0}} f (g.D.Disk.told c.raise_parts.new.disk) (Err c.in-Err-raise_parts.error)) c.next_superblock-content.ensures c.in-Err-raise_parts.ensures.read_back)
-
-pub returns-in-Err-clause-unharmed : goal.returns-in-Err-clause-unharmed
-returns-in-Err-clause-unharmed g c = unharmed_fault _ (g.D.Disk.told c.mend_parts.new.disk)
-
-pub returns-in-Ok-raise_parts-clause-unharmed : goal.returns-in-Ok-raise_parts-clause-unharmed
-returns-in-Ok-raise_parts-clause-unharmed g c = unharmed_ok (g.D.Disk.told c.raise_parts.new.disk) c.raise_parts.new.parts
-
-pub returns-in-Err-raise_parts-clause-unharmed : goal.returns-in-Err-raise_parts-clause-unharmed
-returns-in-Err-raise_parts-clause-unharmed g c = unharmed_error (Unit {0}) _ (g.D.Disk.told c.raise_parts.new.disk) c.in-Err-raise_parts.error c.in-Err-raise_parts.ensures.unharmed
+pub returns-in-Ok-raise_parts-clause-raised : goal.returns-in-Ok-raise_parts-clause-raised
+returns-in-Ok-raise_parts-clause-raised g c = record { whole = c.raise_parts.ensures.whole; state = c.in-Ok-raise_parts.ensures.state ∙ ap raised_state c.mend_parts.ensures.state }

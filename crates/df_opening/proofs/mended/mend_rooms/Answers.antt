@@ -1,11 +1,13 @@
 -- The list that is written is the rooms'.
 use Rattle.std.proofs.Common.{List, subst}
 use Rattle.df_layout.specs.declared.damage.Mend.{Mend}
-use Rattle.df_theory.specs.Device.{AreSteps}
-use Rattle.df_opening.specs.Mending.{mending_events, mending_steps}
+use Rattle.df_opening.specs.Mending.{AddsSteps, mending_events, mending_steps}
 use Rattle.df_opening.specs.Keeping.{format}
 use Rattle.df_opening.proofs.mended.mend_rooms.Goals as goal
 
-pub returns-clause-steps : goal.returns-clause-steps
-returns-clause-steps g c =
-    subst (λ (list : List Mend). AreSteps (format c.args.file.now) (mending_events c.args.file.now.layout c.args.rooms.now.headers list c.args.content.now c.args.members) (mending_steps c.args.file.now.layout c.args.rooms.now.headers list c.args.content.now c.args.members)) c.deref.ensures.value c.write_mends.ensures.steps
+pub returns-clause-does : goal.returns-clause-does
+returns-clause-does g c =
+    let file = c.args.file.now in
+    let table = c.args.rooms.now.headers in
+    let f = c.args.content.now in
+    subst (λ (list : List Mend). AddsSteps (format file) (mending_events file.layout table list f c.args.members) (mending_steps file.layout table list f c.args.members) (g.D.Disk.told c.args.disk.now) (g.D.Disk.told c.write_mends.new.disk) c.write_mends.result) c.deref.ensures.value c.write_mends.ensures.does

@@ -30,12 +30,23 @@ returns-clause-whole g c =
       grid = subst (λ (x : GridState). FitsGrid s.file x.layout x.cluster) (sym c.set_boot.ensures) old.grid;
     }
 
-pub returns-clause-unharmed : goal.returns-clause-unharmed
-returns-clause-unharmed g c = unharmed_ok {T = Unit {0}} (g.D.Disk.told c.update.new.disk) tt
+pub returns-clause-does : goal.returns-clause-does
+returns-clause-does g c = record {
+  events = c.in-Ok.ensures.events;
+  read_back = c.in-Ok.ensures.read_back;
+  unharmed = unharmed_ok {T = Unit {0}} (g.D.Disk.told c.update.new.disk) tt;
+}
 
-pub returns-in-Err-Damaged-clause-unharmed : goal.returns-in-Err-Damaged-clause-unharmed
-returns-in-Err-Damaged-clause-unharmed g c =
-    unharmed_of (Unit {0}) _ (g.D.Disk.told c.update.new.disk) c.in-Err-Damaged.field-0 c.in-Err-Damaged.place _ c.in-Err-Damaged.class _ c.in-Err-Damaged.field-0-is c.in-Err-Damaged.ensures.undamaged
+pub returns-in-Err-Damaged-clause-does : goal.returns-in-Err-Damaged-clause-does
+returns-in-Err-Damaged-clause-does g c = record {
+  events = grind arith;
+  read_back = grind arith;
+  unharmed = unharmed_of (Unit {0}) _ (g.D.Disk.told c.update.new.disk) c.in-Err-Damaged.field-0 c.in-Err-Damaged.place _ c.in-Err-Damaged.class _ c.in-Err-Damaged.field-0-is c.in-Err-Damaged.ensures.undamaged;
+}
 
-pub returns-in-Err-DiskFault-clause-unharmed : goal.returns-in-Err-DiskFault-clause-unharmed
-returns-in-Err-DiskFault-clause-unharmed g c = unharmed_fault _ (g.D.Disk.told c.update.new.disk)
+pub returns-in-Err-DiskFault-clause-does : goal.returns-in-Err-DiskFault-clause-does
+returns-in-Err-DiskFault-clause-does g c = record {
+  events = grind arith;
+  read_back = tt;
+  unharmed = unharmed_fault _ (g.D.Disk.told c.update.new.disk);
+}

@@ -13,7 +13,11 @@ returns-clause-turns g c = λ left bound.
     let new : SessionState = state (record { told = g.D.Disk.told c.pass.new.disk; left = left; written = g.W.Sink.written c.pass.new.sink }) c.pass.new.session in
     passes_turns c.args.session.now.pace bound old new c.args.piece (ap (λ (r : ReaderParts). unread r.reading.held left) c.pass.ensures.leaves.lines) (ap (λ (r : ReaderParts). r.reading.budget) c.pass.ensures.leaves.lines) c.pass.ensures.leaves.count c.requires.next c.pass.result c.pass.ensures.passes
 
-pub returns-clause-fewer : goal.returns-clause-fewer
-returns-clause-fewer g c =
-    fewer_behind c.args.piece (command_of_piece c.args.piece c.args.session.now.replica.root) c.args.session.now.replica c.pass.new.session.replica (g.D.Disk.told c.args.disk.now) (g.D.Disk.told c.pass.new.disk) (g.W.Sink.written c.args.sink.now) (g.W.Sink.written c.pass.new.sink)
-    c.args.session.now.beat c.pass.new.session.beat c.pass.result c.requires.next c.pass.ensures.passes
+pub returns-clause-does : goal.returns-clause-does
+returns-clause-does g c = record {
+  leaves = c.pass.ensures.leaves;
+  live = c.pass.ensures.live;
+  fewer =
+      fewer_behind c.args.piece (command_of_piece c.args.piece c.args.session.now.replica.root) c.args.session.now.replica c.pass.new.session.replica (g.D.Disk.told c.args.disk.now) (g.D.Disk.told c.pass.new.disk) (g.W.Sink.written c.args.sink.now) (g.W.Sink.written c.pass.new.sink)
+      c.args.session.now.beat c.pass.new.session.beat c.pass.result c.requires.next c.pass.ensures.passes;
+}

@@ -25,8 +25,8 @@ loop-piece-preserved g c =
           let mid : SessionState = state (record { told = g.D.Disk.told now.disk; left = left; written = g.W.Sink.written now.sink }) now.session in
           let new : SessionState = state (record { told = g.D.Disk.told c.do_next.new.disk; left = left; written = g.W.Sink.written c.do_next.new.sink }) c.do_next.new.session in
           on_more c.args.session.now.pace bound old mid new (now.invariant.turns left bound) (subst (λ (p : Pace). SessionGoesOn p bound mid new) now.invariant.leaves.pace (c.in-GoesOn.ensures.turns left bound));
-      leaves = leaves_on now.invariant.leaves c.do_next.ensures.leaves;
-      live = c.in-GoesOn.ensures.live;
+      leaves = leaves_on now.invariant.leaves c.do_next.ensures.does.leaves;
+      live = c.in-GoesOn.ensures.does.live;
       disk_faults = c.in-GoesOn.ensures.disk ∙ now.invariant.disk_faults;
       sink_faults = c.in-GoesOn.ensures.sink ∙ now.invariant.sink_faults;
     }
@@ -40,4 +40,4 @@ returns-in-Ends-clause-turns g c = λ left bound.
     on_ends c.args.session.now.pace bound old mid new c.in-Ends.status (now.invariant.turns left bound) (subst (λ (p : Pace). EndsIn p bound mid new c.in-Ends.status) now.invariant.leaves.pace (c.in-Ends.ensures.turns left bound))
 
 pub returns-in-Ends-clause-leaves : goal.returns-in-Ends-clause-leaves
-returns-in-Ends-clause-leaves g c = leaves_on c.loop-piece.invariant.leaves c.do_next.ensures.leaves
+returns-in-Ends-clause-leaves g c = leaves_on c.loop-piece.invariant.leaves c.do_next.ensures.does.leaves

@@ -31,15 +31,15 @@ loop-status-preserved g c =
     let taken : SessionState = state (around (g.D.Disk.told c.take_line.new.disk) (g.S.Source.left c.take_line.new.source) (g.W.Sink.written c.take_line.new.sink)) c.take_line.new.session in
     let after : SessionState = state (around (g.D.Disk.told c.work.new.disk) (g.S.Source.left c.take_line.new.source) (g.W.Sink.written c.work.new.sink)) c.work.new.session in
     let line = subst (λ (p : Pace). SessionGoesOn p bound before taken) now.invariant.pace (subst (λ (n : ℕ). SessionGoesOn now.session.pace n before taken) now.invariant.bound c.in-GoesOn.ensures.turns) in
-    let work = subst (λ (p : Pace). SessionGoesOn p bound taken after) (c.take_line.ensures.pace ∙ now.invariant.pace) (c.in-GoesOn-work.ensures.turns (g.S.Source.left c.take_line.new.source) bound) in
+    let work = subst (λ (p : Pace). SessionGoesOn p bound taken after) (c.take_line.ensures.takes.pace ∙ now.invariant.pace) (c.in-GoesOn-work.ensures.turns (g.S.Source.left c.take_line.new.source) bound) in
     let done = now.invariant.so_far in
     let more = on_more c.args.session.now.pace bound before taken after line work _ done.0 done.1 in
     record {
       so_far = (done.0 ++ more.0, more.1);
-      ready = worked_ready c.in-GoesOn.ensures.ready c.work.ensures.leaves c.in-GoesOn-work.ensures.live;
+      ready = worked_ready c.in-GoesOn.ensures.takes.ready c.work.ensures.leaves c.in-GoesOn-work.ensures.live;
       idle = c.in-GoesOn-work.ensures.idle;
-      bound = ap (λ (r : ReaderParts). r.reading.bound) c.work.ensures.leaves.lines ∙ c.take_line.ensures.bound ∙ now.invariant.bound;
-      pace = c.work.ensures.leaves.pace ∙ c.take_line.ensures.pace ∙ now.invariant.pace;
+      bound = ap (λ (r : ReaderParts). r.reading.bound) c.work.ensures.leaves.lines ∙ c.take_line.ensures.takes.bound ∙ now.invariant.bound;
+      pace = c.work.ensures.leaves.pace ∙ c.take_line.ensures.takes.pace ∙ now.invariant.pace;
       disk_faults = c.in-GoesOn-work.ensures.disk ∙ c.in-GoesOn.ensures.disk ∙ now.invariant.disk_faults;
       source_faults = c.in-GoesOn.ensures.source ∙ now.invariant.source_faults;
       sink_faults = c.in-GoesOn-work.ensures.sink ∙ c.in-GoesOn.ensures.sink ∙ now.invariant.sink_faults;
@@ -62,6 +62,6 @@ returns-in-Ends-work-clause-session g c =
     let taken : SessionState = state (around (g.D.Disk.told c.take_line.new.disk) (g.S.Source.left c.take_line.new.source) (g.W.Sink.written c.take_line.new.sink)) c.take_line.new.session in
     let after : SessionState = state (around (g.D.Disk.told c.work.new.disk) (g.S.Source.left c.take_line.new.source) (g.W.Sink.written c.work.new.sink)) c.work.new.session in
     let line = subst (λ (p : Pace). SessionGoesOn p bound before taken) now.invariant.pace (subst (λ (n : ℕ). SessionGoesOn now.session.pace n before taken) now.invariant.bound c.in-GoesOn.ensures.turns) in
-    let work = subst (λ (p : Pace). EndsIn p bound taken after status) (c.take_line.ensures.pace ∙ now.invariant.pace) (c.in-Ends-work.ensures.turns (g.S.Source.left c.take_line.new.source) bound) in
+    let work = subst (λ (p : Pace). EndsIn p bound taken after status) (c.take_line.ensures.takes.pace ∙ now.invariant.pace) (c.in-Ends-work.ensures.turns (g.S.Source.left c.take_line.new.source) bound) in
     let done = now.invariant.so_far in
     on_ends c.args.session.now.pace bound before taken after status line work _ done.0 done.1

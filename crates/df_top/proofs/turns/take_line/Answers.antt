@@ -14,7 +14,7 @@ returns-in-Ok-Line-clause-turns g c =
     let after : Outside = record { told = g.D.Disk.told c.serve_line.new.disk; left = g.S.Source.left c.next.new.source; written = g.W.Sink.written c.serve_line.new.sink } in
     line_turns before after c.args.session.now c.next.new.self c.in-Ok-Line.line c.requires.ready.at_end
     (λ text tells. subst (GivesNext script_lines c.args.session.now.lines c.next.new.self text (g.S.Source.left c.next.new.source)) c.in-Ok-Line.field-0-is (c.in-Ok-Line.ensures.gives text tells))
-    c.serve_line.new.session c.serve_line.ensures.lines c.args.session.now.pace c.requires.idle c.serve_line.result c.serve_line.ensures.answers c.serve_line.ensures.count c.serve_line.ensures.beat
+    c.serve_line.new.session c.serve_line.ensures.serves.lines c.args.session.now.pace c.requires.idle c.serve_line.result c.serve_line.ensures.answers c.serve_line.ensures.serves.count c.serve_line.ensures.serves.beat
 
 pub returns-in-Ok-Refused-clause-turns : goal.returns-in-Ok-Refused-clause-turns
 returns-in-Ok-Refused-clause-turns g c =

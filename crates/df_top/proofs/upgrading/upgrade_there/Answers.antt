@@ -8,13 +8,13 @@ use Rattle.df_top.proofs.Upgrades.{not_upgraded}
 use Rattle.df_top.proofs.upgrading.upgrade_there.Goals as goal
 
 pub returns-in-Ok-clause-upgrades : goal.returns-in-Ok-clause-upgrades
-returns-in-Ok-clause-upgrades g c = λ left t told whole. inr (inr (record { sequence = c.in-Ok.upgraded.sequence; upgraded = c.in-Ok.ensures.upgraded t told; prints = c.tell_upgraded.ensures.line; unread = refl }))
+returns-in-Ok-clause-upgrades g c = λ left t told whole. inr (inr (record { sequence = c.in-Ok.upgraded.sequence; upgraded = c.in-Ok.ensures.leaves.upgraded t told; prints = c.tell_upgraded.ensures.line; unread = refl }))
 
 pub returns-clause-upgrades : goal.returns-clause-upgrades
 returns-clause-upgrades g c = λ left t told whole.
     let old : Outside = record { told = g.D.Disk.told c.args.disk.now; left = left; written = g.W.Sink.written c.args.sink.now } in
     let new : Outside = record { told = g.D.Disk.told c.upgrade_file.new.disk; left = left; written = g.W.Sink.written c.refuse_file.new.sink } in
-    not_upgraded c.args.rooms.layout t old new c.refuse_file.result c.in-Err.error whole told c.in-Err.ensures.answer refl c.in-Err.ensures.refused (c.in-Err.ensures.stopped t told) c.refuse_file.ensures.prints
+    not_upgraded c.args.rooms.layout t old new c.refuse_file.result c.in-Err.error whole told c.in-Err.ensures.answers.answer refl c.in-Err.ensures.leaves.refused (c.in-Err.ensures.leaves.stopped t told) c.refuse_file.ensures.prints
 
 pub returns-in-Ok-clause-causes : goal.returns-in-Ok-clause-causes
 returns-in-Ok-clause-causes g c = λ source.

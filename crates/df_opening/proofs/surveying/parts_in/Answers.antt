@@ -1,0 +1,79 @@
+-- The parts make sense by themselves: what was found is in its ranges, and the table is one of the file.
+use Rattle.std.proofs.Common.{◌≡◌, ◌∙◌, ℕ, List, refl, sym, ◌<◌, ◌^◌, ap, subst}
+use Rattle.std.specs.Prelude.{None, false, true}
+use Rattle.df_format.specs.SuperRules.{IsUsable}
+use Rattle.df_damage.specs.Below.{ScrubState, Staged}
+use Rattle.df_damage.specs.Types.{Surveyed}
+use Rattle.df_model.specs.Work.{Request}
+use Rattle.df_opening.specs.Survey.{Survey}
+use Rattle.df_damage.proofs.Laws.{found_awaits, found_ends, found_staging, second_super}
+use Rattle.df_opening.proofs.surveying.parts_in.Goals as goal
+
+pub returns-clause-found : goal.returns-clause-found
+returns-clause-found c =
+    let found = c.requires.found in
+    let s : Surveyed = record { scanned = c.args.scanned; traces = c.args.traces; waiting = c.args.waiting } in
+    let f = c.args.scanned.copies.found.content in
+    let usable : IsUsable f = c.fields-fields.ensures.usable in
+    let cluster = subst (λ (n : ℕ). n < 2 ^ 128) (sym found.read.named) usable.fits.cluster in
+    record {
+      whole = record {
+        state = record {
+          in_file = record {
+            cluster = cluster;
+            version = sym found.read.version;
+            second = second_super c.args.scanned.file f (sym found.read.version ∙ c.requires.version) usable found.read.fields;
+            sequence = usable.rules.sequence;
+            root = c.root_fits.ensures;
+            ring = c.requires.planned.plan.is_table;
+          };
+          booted = λ live. absurd (let none : false ≡ true = live in cc);
+          ends = found_ends s found usable.rules;
+          awaits = found_awaits s found;
+          staging = found_staging s c.clear.new.self.requests (ap (λ (x : Staged). x.requests) c.clear.ensures) found;
+          captured = tt;
+          course = found.read.idle;
+        };
+        rooms = record {
+          rooms_fit = c.args.scanned.rooms.log_fits ∙ c.args.scanned.rooms_fit;
+          trailer_fits = c.args.scanned.rooms.trailer_fits ∙ c.args.scanned.rooms_fit;
+          scrub_fits = c.cleared-scrub.ensures.layout ∙ c.args.scanned.rooms.scrub_fits ∙ c.args.scanned.rooms_fit;
+          staging_fits = ap (λ (x : Staged). x.layout) c.clear.ensures ∙ c.args.scanned.rooms.staging_fits ∙ c.args.scanned.rooms_fit;
+        };
+        grid = record { grid_fits = c.args.scanned.rooms.grid_fits ∙ c.args.scanned.rooms_fit; grid_named = c.args.scanned.grid_named };
+      };
+      dead = refl;
+      unspent = found.ends.unspent;
+      unbooted = c.args.scanned.grid_unbooted;
+      unstaged = ap (λ (x : Staged). x.requests) c.clear.ensures;
+      idle = refl;
+      fresh = c.cleared-scrub.ensures.cleared;
+    }
+
+pub returns-clause-seen : goal.returns-clause-seen
+returns-clause-seen c =
+    let s = c.args.scanned in
+    let traces = c.args.traces in
+    let seen : List Request → ScrubState → ℕ → Survey = λ requests x boot. record {
+      state = record {
+        file = s.file;
+        fields = s.copies.found.content;
+        root = s.root.items;
+        head = traces.tail.op;
+        head_checksum = traces.tail.checksum;
+        replies = traces.replies;
+        table = s.sessions;
+        waiting = c.args.waiting.items;
+        staged = requests;
+        headers = s.rooms.log.headers;
+        blocks = s.rooms.grid.blocks;
+        running = None;
+        tour = x.tour;
+        findings = x.findings;
+        boot = boot;
+        live = false;
+      };
+      chosen = s.copies.found.chosen;
+      mends = s.rooms.log.mends.items;
+    } in
+    (λ i. seen (c.clear.ensures i).requests (c.cleared-scrub.ensures.cleared i) (s.grid_unbooted i))
