@@ -166,7 +166,7 @@ module _ (b : Superblock) (slots : Scan) (table : Table) (k : ℕ) (t o : Told) 
     one_more : (answer : Result ℕ Ending) → MendsRecorded b k check t o old new answer → (u : Told) → new.first ≡ Some u → OnOk answer (ShowsKnownReplies b (superblock_units b u.shown) slots table (k + 1))
     one_more (Err e) mends u is = tt
     one_more (Ok count) mends u is =
-        let alike : AreAlike k (superblock_units b t.shown) (superblock_units b u.shown) = λ place apart. other_place b.file (content_of_superblock b) t o u new.first old.written new.written tell.whole is place Reply (ReplyPlace k) count (mends.answers known first) (λ same. apart (sym same)) in
+        let alike : AreAlike k (superblock_units b t.shown) (superblock_units b u.shown) = λ place apart. other_place b.file (content_of_superblock b) t o u new.first old.written new.written tell.whole is place Reply (ReplyPlace k) count (mends.answers known first shows.has.grid.passes) (λ same. apart (sym same)) in
         let back : AreAlike k (superblock_units b u.shown) (superblock_units b t.shown) = λ place apart. sym (alike place apart) in
         record {
           has = head_there b k (superblock_units b t.shown) (superblock_units b u.shown) alike slots table shows.has;
@@ -183,7 +183,7 @@ module _ (b : Superblock) (slots : Scan) (table : Table) (k : ℕ) (t o : Told) 
         }
 
     pub reply_mended : (answer : Result ℕ Ending) → MendsRecorded b k check t o old new answer → Mended b (AreOfKind Reply) t o old new answer (λ image. ShowsKnownReplies b image slots table (k + 1))
-    reply_mended answer mends = of_one b Reply (ReplyPlace k) t o old new answer (λ image. ShowsKnownReplies b image slots table (k + 1)) (mends.answers known first) (one_more answer mends)
+    reply_mended answer mends = of_one b Reply (ReplyPlace k) t o old new answer (λ image. ShowsKnownReplies b image slots table (k + 1)) (mends.answers known first shows.has.grid.passes) (one_more answer mends)
 
 -- ---- all of them
 

@@ -1,11 +1,12 @@
 -- The chain: what was read of it is shown, no block of it is written over, and each link takes the walk one block further.
-use Rattle.std.proofs.Common.{◌≡◌, ℕ, ◌-◌, ◌<◌, ◌==◌, ◌||◌, Bool, true, false, List, [], ◌∷◌, length, map, Option, Some, refl, sym, ◌∙◌, ap, subst, arith, inl, inr, eq-eqb, eqb-true}
+use Rattle.std.proofs.Common.{◌≡◌, ℕ, ◌+◌, ◌-◌, ◌<◌, ◌==◌, ◌||◌, Bool, true, false, List, [], ◌∷◌, length, map, Option, Some, refl, sym, ◌∙◌, ap, subst, arith, inl, inr, eq-eqb, eqb-true}
+use Rattle.std.proofs.lemmas.Bool.{cases_order}
 use Rattle.std.specs.Prelude.{Ok}
 use Rattle.std.specs.List.{list_any}
 use Rattle.df_layout.specs.declared.damage.Class.TheVariants.{Stale}
 use Rattle.df_format.specs.declared.kind.Kind.{Kind}
 use Rattle.df_format.specs.declared.kind.Kind.TheVariants.{Block as AsBlock, Prepare, Reply, Trailer}
-use Rattle.df_theory.specs.Opens.{AreLinks, Arrives, IsShown, ReadsTo}
+use Rattle.df_theory.specs.Opens.{AreLinks, Arrives, IsLink, IsShown, ReadsTo}
 use Rattle.df_theory.specs.Shape.{Shape}
 use Rattle.df_theory.specs.Trailer.{InChain, IsCount}
 use Rattle.df_theory.specs.Units.{AnyUnit, Block, BlockPlace, BlockUnit, Content, CopyUnit, HeaderUnit, Place, PreparePlace, PrepareUnit, ReplyPlace, ReplyUnit, Units}
@@ -64,6 +65,23 @@ shown_before image (x ∷ xs) (y ∷ ys) address sum a k e m one two less =
     let same : y.1 ≡ x.1 = one_block image address x.1 y.1 one.3 two.3 in
     shown_before image xs ys x.1.before x.1.before_checksum a k e m one.5 (subst (λ (b : Block). Arrives image ys b.before b.before_checksum e m) same two.5) (omega (arith, less))
 
+-- walks of one length come to one block
+same_walk : (image : Units) (xs ys : List (ℕ × Block)) (address sum a k e m : ℕ) → Arrives image xs address sum a k → Arrives image ys address sum e m → length xs ≡ length ys → (a ≡ e) × (k ≡ m)
+same_walk image [] [] address sum a k e m one two size = (one.0 ∙ sym two.0, one.1 ∙ sym two.1)
+same_walk image [] (y ∷ ys) address sum a k e m one two size = absurd (omega (arith, size))
+same_walk image (x ∷ xs) [] address sum a k e m one two size = absurd (omega (arith, size))
+same_walk image (x ∷ xs) (y ∷ ys) address sum a k e m one two size =
+    let same : y.1 ≡ x.1 = one_block image address x.1 y.1 one.3 two.3 in
+    same_walk image xs ys x.1.before x.1.before_checksum a k e m one.5 (subst (λ (b : Block). Arrives image ys b.before b.before_checksum e m) same two.5) (omega (arith, size))
+
+-- so one block that is wanted isn't shown
+pub one_wanted : (sh : Shape) (image : Units) (c : Content) (a k e m : ℕ) → ReadsTo sh image c a k → ReadsTo sh image c e m → (IsShown image a k → ⊥) → (IsShown image e m → ⊥) → (a ≡ e) × (k ≡ m)
+one_wanted sh image c a k e m one two lacks missing = elim (cases_order (length one.read) (length two.read)) [
+  | inl same ↦ same_walk image one.read two.read c.trailer c.trailer_checksum a k e m one.arrives two.arrives same
+  | inr (inl less) ↦ absurd (lacks (shown_before image two.read one.read c.trailer c.trailer_checksum e m a k two.arrives one.arrives less))
+  | inr (inr more) ↦ absurd (missing (shown_before image one.read two.read c.trailer c.trailer_checksum a k e m one.arrives two.arrives more))
+]
+
 -- an address that isn't among those that were read is none of theirs
 pub not_among : (chain : List (ℕ × Block)) (a e : ℕ) (b : Block) → list_any (λ other. other == a) (map (λ x. x.0) chain) ≡ false → InChain e b chain → e ≡ a → ⊥
 not_among [] a e b none at same = absurd at
@@ -82,6 +100,33 @@ among (x ∷ xs) a some = by (x.0 == a) refl some (λ later. among xs a later)
     by : (t : Bool) → (x.0 == a) ≡ t → (t || list_any (λ other. other == a) (map (λ y. y.0) xs)) ≡ true → (list_any (λ other. other == a) (map (λ y. y.0) xs) ≡ true → (b : Block) × InChain a b xs) → (b : Block) × InChain a b (x ∷ xs)
     by true test all rest = (x.1, inl (sym (eqb-true x.0 a test), refl))
     by false test all rest = let there = rest all in (there.0, inr there.1)
+
+-- where a block is wanted, a trailer is named
+pub chain_named : (image : Units) (xs : List (ℕ × Block)) (address sum a k : ℕ) → Arrives image xs address sum a k → 0 < a → 0 < address
+chain_named image [] address sum a k arrives above = omega (arith, above, arrives.0)
+chain_named image (x ∷ xs) address sum a k arrives above = arrives.0
+
+-- a block that was read is shown
+pub read_shown : (image : Units) (xs : List (ℕ × Block)) (address sum a k e : ℕ) (b : Block) → Arrives image xs address sum a k → InChain e b xs → (image (BlockPlace e) ≡ Some (BlockUnit b)) × (b.kind ≡ 0)
+read_shown image [] address sum a k e b arrives at = absurd at
+read_shown image (x ∷ xs) address sum a k e b arrives (inl here) =
+    (ap (λ (n : ℕ). image (BlockPlace n)) (here.0 ∙ arrives.1) ∙ arrives.3 ∙ ap (λ (d : Block). Some (BlockUnit d)) (sym here.1), ap (λ (d : Block). d.kind) here.1 ∙ arrives.4)
+read_shown image (x ∷ xs) address sum a k e b arrives (inr later) = read_shown image xs x.1.before x.1.before_checksum a k e b arrives.5 later
+
+-- and isn't the link that is wanted next
+pub not_wanted : (sh : Shape) (c : Content) (n index : ℕ) (xs : List (ℕ × Block)) (e : ℕ) (b : Block) → AreLinks sh c n xs → InChain e b xs → n ≡ length xs + (index + 1) → IsLink sh c index b → ⊥
+not_wanted sh c n index [] e b links at count is = at
+not_wanted sh c n index (x ∷ xs) e b links (inl here) count is = omega (arith, ap (λ (d : Block). d.index) here.1, links.2.place, is.place, links.1, count)
+not_wanted sh c n index (x ∷ xs) e b links (inr later) count is = not_wanted sh c links.0 index xs e b links.3 later (omega (arith, links.1, count)) is
+
+-- it was wanted when those before it were read
+pub read_known : (image : Units) (sh : Shape) (c : Content) (n : ℕ) (xs : List (ℕ × Block)) (address sum a k e : ℕ) (b : Block) → Arrives image xs address sum a k → AreLinks sh c n xs → InChain e b xs
+    → (ys : List (ℕ × Block)) × Arrives image ys address sum e b.checksum × AreLinks sh c n ys × (length ys < length xs)
+read_known image sh c n [] address sum a k e b arrives links at = absurd at
+read_known image sh c n (x ∷ xs) address sum a k e b arrives links (inl here) = ([], (here.0 ∙ arrives.1, ap (λ (d : Block). d.checksum) here.1 ∙ arrives.2), tt, omega arith)
+read_known image sh c n (x ∷ xs) address sum a k e b arrives links (inr later) =
+    let rest = read_known image sh c links.0 xs x.1.before x.1.before_checksum a k e b arrives.5 links.3 later in
+    (x ∷ rest.0, (arrives.0, arrives.1, arrives.2, arrives.3, arrives.4, rest.1), (links.0, links.1, links.2, rest.2), omega (arith, rest.3))
 
 -- what was read is read of another image that shows these blocks
 pub arrives_there : (image other : Units) (xs : List (ℕ × Block)) (address sum a k : ℕ) → Arrives image xs address sum a k → ((e : ℕ) (b : Block) → InChain e b xs → other (BlockPlace e) ≡ image (BlockPlace e)) → Arrives other xs address sum a k

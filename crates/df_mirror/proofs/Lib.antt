@@ -1,3 +1,4 @@
+pub mod Cited
 pub mod Loaded
 pub mod Joined
 pub mod OpenedFiles
@@ -27,3 +28,7 @@ pub mod RingSeen
 pub mod Recorded
 pub mod Runs
 pub mod Stays
+pub mod Spelled
+pub mod Firsts
+pub mod Refused
+pub mod Outcomes

@@ -1,5 +1,6 @@
 -- One link of the chain, as a step of the walk.
 use Rattle.std.proofs.Common.{◌≡◌, ℕ, ◌+◌, ◌-◌, ◌<◌, ◌==◌, ◌||◌, Bool, true, false, List, [], ◌∷◌, ◌++◌, length, map, Option, Some, None, refl, sym, ◌∙◌, ap, subst, arith, inl, inr}
+use Rattle.std.proofs.lemmas.Bool.{cases_eq}
 use Rattle.std.proofs.lemmas.List.{length-map, map-append}
 use Rattle.std.proofs.lemmas.Option.{same_Some}
 use Rattle.std.specs.Prelude.{Result, Ok, Err, IfOk}
@@ -28,10 +29,10 @@ use Rattle.df_mirror.specs.declared.superblock.Superblock.{Superblock}
 use Rattle.df_mirror.specs.Known.{IsDue}
 use Rattle.df_mirror.specs.Mends.{AreOfKind}
 use Rattle.df_mirror.specs.Outside.{Outside, Tell}
-use Rattle.df_mirror.specs.Refusals.{ComesAgain, RefusesFirstTrailer}
+use Rattle.df_mirror.specs.Refusals.{RefusesFirstTrailer}
 use Rattle.df_mirror.specs.Taking.{HoldsShown, MendsUnit, ShowsUnit}
 use Rattle.df_mirror.specs.Walks.{HasWalkedChain, Mended, WalkGoesOn, broken_at, content_of_superblock, superblock_units}
-use Rattle.df_mirror.proofs.Chains.{among, arrives_there, asked_shown, chain_spare, not_among}
+use Rattle.df_mirror.proofs.Chains.{among, arrives_there, asked_shown, chain_named, chain_spare, not_among, not_wanted, read_shown}
 use Rattle.df_mirror.proofs.Frames.{other_place}
 use Rattle.df_mirror.proofs.Joined.{came_with, kind_at, none_came}
 use Rattle.df_mirror.proofs.Orders.{before_trailer}
@@ -71,13 +72,34 @@ module _ (b : Superblock) (n index : ℕ) (walk : Walk) (t o : Told) (counts : I
   among_walked : (read : List Link) → read ≡ walk.read.items → is_among walk.at.address read ≡ list_any (λ other. other == walk.at.address) (map (λ x. x.0) walked.chain)
   among_walked read same = ap (is_among walk.at.address) same ∙ among_map walk.at.address walk.read.items ∙ ap (λ (l : List ℕ). list_any (λ other. other == walk.at.address) l) walked.addresses
 
-  -- the chain comes to an address again
-  pub link_again : (read : List Link) → read ≡ walk.read.items → is_among walk.at.address read ≡ true → (old : Outside) (e : Ending) (Shows : Units → Type 0) → Tell t o old → e ≡ broken_at walk.at.address → Mended b (AreOfKind Trailer) t o old old (Err e) Shows
-  link_again read same some old e Shows tell is =
+  -- the chain comes to an address again: with the checksum of the block there it isn't the link that is wanted, and with another one it can't be shown
+  comes_again : (x : Block) → InChain walk.at.address x walked.chain → 0 < walk.at.address → RefusesFirstTrailer b.file t.shown (content_of_superblock b) (BadField TrailerChain walk.at.address)
+  comes_again x at above = (
+    chain_named (superblock_units b t.shown) walked.chain (content_of_superblock b).trailer (content_of_superblock b).trailer_checksum walk.at.address (number_of walk.at.checksum) walked.arrives above,
+    elim (cases_eq x.checksum (number_of walk.at.checksum)) [
+      | inl one ↦
+          let there = read_shown (superblock_units b t.shown) walked.chain (content_of_superblock b).trailer (content_of_superblock b).trailer_checksum walk.at.address (number_of walk.at.checksum) walk.at.address x walked.arrives at in
+          inl (inl (
+            refl,
+            record {
+              sum = number_of walk.at.checksum;
+              reads = Its;
+              index = index;
+              at = counted;
+              block = x;
+              is = asked_shown (shown_of b.file.layout b.file.cluster t.shown) walk.at.address (number_of walk.at.checksum) x there.0 one there.1;
+              broken = not_wanted (shape b.file) (content_of_superblock b) n index walked.chain walk.at.address x walked.links at counted;
+            },
+          ))
+      | inr other ↦ inr (refl, record { sum = number_of walk.at.checksum; reads = Its; block = x; chained = at; other = other })
+    ],
+  )
+
+  pub link_again : (read : List Link) → read ≡ walk.read.items → is_among walk.at.address read ≡ true → 0 < walk.at.address → (old : Outside) (e : Ending) (Shows : Units → Type 0) → Tell t o old → e ≡ broken_at walk.at.address → Mended b (AreOfKind Trailer) t o old old (Err e) Shows
+  link_again read same some above old e Shows tell is =
       let there = among walked.chain walk.at.address (sym (among_walked read same) ∙ some) in
-      let again : ComesAgain (shape b.file) (superblock_units b t.shown) (content_of_superblock b) walk.at.address = record { sum = number_of walk.at.checksum; reads = Its; block = there.0; chained = there.1 } in
       subst (λ (x : Ending). Mended b (AreOfKind Trailer) t o old old (Err x) Shows) (sym is) (record {
-        answers = none_came b.file (content_of_superblock b) (AreOfKind Trailer) tt t o old.first old.written old.written tell.first refl (λ ms m. AreOfKind Trailer ms × RefusesFirstTrailer b.file m.shown (content_of_superblock b) (BadField TrailerChain walk.at.address)) (tt, inr (refl, again));
+        answers = none_came b.file (content_of_superblock b) (AreOfKind Trailer) tt t o old.first old.written old.written tell.first refl (λ ms m. AreOfKind Trailer ms × RefusesFirstTrailer b.file m.shown (content_of_superblock b) (BadField TrailerChain walk.at.address)) (tt, comes_again there.0 there.1 above);
         shown = λ u is. tt;
       })
 
@@ -89,6 +111,7 @@ module _ (b : Superblock) (n index : ℕ) (walk : Walk) (t o : Told) (counts : I
     link_due = record {
       known = Its;
       first = before_trailer (shape b.file) (superblock_units b t.shown) (content_of_superblock b) (BlockPlace walk.at.address);
+      trailer = tt;
       spare = λ lacks. chain_spare (shape b.file) (superblock_units b t.shown) (content_of_superblock b) n walked.chain walk.at.address (number_of walk.at.checksum) counts walked.arrives walked.links some_more apart lacks;
     }
 
@@ -127,26 +150,29 @@ module _ (b : Superblock) (n index : ℕ) (walk : Walk) (t o : Told) (counts : I
                 links = links_more (shape b.file) (content_of_superblock b) n index walked.chain d walked.links counted goes.0;
               }
 
-          breaks : (IsLink (shape b.file) (content_of_superblock b) index (block_of held.unit) → ⊥) → RefusesFirstTrailer b.file m.shown (content_of_superblock b) (BadField TrailerChain walk.at.address)
-          breaks broken = inl (inl (
-            refl,
-            record {
-              sum = number_of walk.at.checksum;
-              reads = record { count = n; read = walked.chain; counts = counts; arrives = arrives; links = walked.links; more = some_more };
-              index = index;
-              at = counted;
-              block = block_of held.unit;
-              is = asked_shown (shown_of b.file.layout b.file.cluster m.shown) walk.at.address (number_of walk.at.checksum) (block_of held.unit) there.shown there.sum there.kind;
-              broken = broken;
-            },
-          ))
+          breaks : 0 < walk.at.address → (IsLink (shape b.file) (content_of_superblock b) index (block_of held.unit) → ⊥) → RefusesFirstTrailer b.file m.shown (content_of_superblock b) (BadField TrailerChain walk.at.address)
+          breaks above broken = (
+            chain_named (superblock_units b m.shown) walked.chain (content_of_superblock b).trailer (content_of_superblock b).trailer_checksum walk.at.address (number_of walk.at.checksum) arrives above,
+            inl (inl (
+              refl,
+              record {
+                sum = number_of walk.at.checksum;
+                reads = record { count = n; read = walked.chain; counts = counts; arrives = arrives; links = walked.links; more = some_more };
+                index = index;
+                at = counted;
+                block = block_of held.unit;
+                is = asked_shown (shown_of b.file.layout b.file.cluster m.shown) walk.at.address (number_of walk.at.checksum) (block_of held.unit) there.shown there.sum there.kind;
+                broken = broken;
+              },
+            )),
+          )
 
         pub link_on : (next : Walk) → 0 < walk.at.address → WalkGoesOn b walk.at walk.read.items index held.unit (Ok next) → Mended b (AreOfKind Trailer) t o old new (Ok more) (λ image. HasWalkedChain b image n next)
         link_on next above goes = of_one b Trailer (BlockPlace walk.at.address) t o old new (Ok more) (λ image. HasWalkedChain b image n next) it.answers (λ m is. walks_on m is next above goes)
 
-        pub link_broken : (e : Ending) (Shows : Units → Type 0) → WalkGoesOn b walk.at walk.read.items index held.unit (Err e) → Mended b (AreOfKind Trailer) t o old new (Err e) Shows
-        link_broken e Shows goes = subst (λ (x : Ending). Mended b (AreOfKind Trailer) t o old new (Err x) Shows) (sym goes.0) (record {
+        pub link_broken : (e : Ending) (Shows : Units → Type 0) → 0 < walk.at.address → WalkGoesOn b walk.at walk.read.items index held.unit (Err e) → Mended b (AreOfKind Trailer) t o old new (Err e) Shows
+        link_broken e Shows above goes = subst (λ (x : Ending). Mended b (AreOfKind Trailer) t o old new (Err x) Shows) (sym goes.0) (record {
           answers = came_with b.file (content_of_superblock b) _ (AreOfKind Trailer) t o new.first old.written new.written _ (λ ms m. AreOfKind Trailer ms × RefusesFirstTrailer b.file m.shown (content_of_superblock b) (BadField TrailerChain walk.at.address)) (kind_at Trailer (BlockPlace walk.at.address))
-              (λ ms m is of last. (kind_at Trailer (BlockPlace walk.at.address) ms of, breaks m is goes.1)) it.answers;
+              (λ ms m is of last. (kind_at Trailer (BlockPlace walk.at.address) ms of, breaks m is above goes.1)) it.answers;
           shown = λ m is. tt;
         })

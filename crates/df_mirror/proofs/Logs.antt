@@ -18,7 +18,7 @@ use Rattle.df_sessions.specs.declared.session.Session.{Session}
 use Rattle.df_sessions.specs.Requests.{sessions_of}
 use Rattle.df_sessions.specs.Table.{Table}
 use Rattle.df_theory.specs.Opens.{AreKnown, named_by}
-use Rattle.df_theory.specs.Sessions.{Has, sessions_after}
+use Rattle.df_theory.specs.Sessions.{sessions_after}
 use Rattle.df_theory.specs.Units as model
 use Rattle.df_theory.specs.Units.{BlockPlace, Message, Parts, Place, PreparePlace, PrepareUnit, ReplyPlace, Units}
 use Rattle.df_theory.proofs.Laws.{known_one}
@@ -33,7 +33,6 @@ use Rattle.df_mirror.specs.Refusals.{RefusesFirstTrailer}
 use Rattle.df_mirror.specs.Walks.{HasHead, HasTrailerText, HasWaiting, Mended, ReadsChainText, ShowsAll, ShowsBlocks, ShowsGrid, ShowsLog, ShowsNamed, content_of_superblock, superblock_units}
 use Rattle.df_mirror.proofs.Frames.{other_kind}
 use Rattle.df_mirror.proofs.Joined.{answers_with, more, none_came, none_failed}
-use Rattle.df_mirror.proofs.Ones.{trailer_there}
 use Rattle.df_mirror.proofs.Orders.{grid_shown, grid_there}
 use Rattle.df_mirror.proofs.Turns.{none_read, read_behind, shows_more, then_mended}
 
@@ -72,7 +71,7 @@ refused_here b rank m o old e Shows tell reads = record { answers = by e reads; 
 
 -- ---- the prepares that are named
 
-named_shown : (n : ℕ) (image : Units) (sum pin op a : ℕ) (ps later : List Message) → AreKnown n image (op + 1) sum ps → op + length ps ≡ pin → op < a → AreKnown n image (a + 1) sum later → a + length later ≡ pin
+pub named_shown : (n : ℕ) (image : Units) (sum pin op a : ℕ) (ps later : List Message) → AreKnown n image (op + 1) sum ps → op + length ps ≡ pin → op < a → AreKnown n image (a + 1) sum later → a + length later ≡ pin
     → (p : Message) × (image (PreparePlace (a % n)) ≡ Some (PrepareUnit p)) × (p.header.checksum ≡ named_by sum later)
 named_shown n image sum pin op a [] later known count above also size = absurd (omega (arith, count, above, size))
 named_shown n image sum pin op a (p ∷ ps) later known count above also size = elim (cases_eq a (op + 1)) [
@@ -163,14 +162,8 @@ module _ (b : Superblock) (t o : Told) (old mid : Outside) (a : ℕ) (tell : Tel
 
 -- ---- all of it
 
-pub all_shown : (b : Superblock) (grid : GridState) (ss : List Session) (image now : Units) → ShowsBlocks b image grid ss b.file.layout.blocks → HasWaiting b ss → ShowsLog b image now → ShowsAll b now
-all_shown b grid ss image now blocks waiting log = record {
-  all = by;
-  trailer = record {
-    says = trailer_there (shape b.file) image now (content_of_superblock b) blocks.has.says (λ e x at. log.blocks e);
-    pending = λ n above within. subst (λ (l : List model.Session). Has l n) (sym blocks.has.sessions_are) (waiting n above within);
-  };
-}
+pub all_shown : (b : Superblock) (grid : GridState) (ss : List Session) (image now : Units) → ShowsBlocks b image grid ss b.file.layout.blocks → ShowsLog b image now → ShowsAll b now
+all_shown b grid ss image now blocks log = record { all = by; trailer = there.passes }
   where
     there : ShowsGrid b now
     there = grid_there b image now log.blocks (grid_shown b grid ss image blocks)
@@ -188,11 +181,11 @@ all_shown b grid ss image now blocks waiting log = record {
 pub all_mended : {b : Superblock} {t o : Told} {old mid late new : Outside} {told : Option Told} {a k : ℕ} (grid : GridState) (ss : List Session) → Tell t o old
     → Mended b (AreOfKind Trailer) t o old mid (Ok a) (λ image. AreShown (shape b.file) image (content_of_superblock b) Trailer) → mid.second ≡ old.second
     → told ≡ mid.first → ((m : Told) → mid.first ≡ Some m → IsImage m.shown → AreShown (shape b.file) (superblock_units b m.shown) (content_of_superblock b) Trailer → HasTrailerText b (superblock_units b m.shown) grid ss × HasWaiting b ss)
-    → ((m : Told) → Tell m o (around told mid.second mid.written) → HasTrailerText b (superblock_units b m.shown) grid ss → Mended b (AreOfKind AsBlock) m o (around told mid.second mid.written) late (Ok k) (λ image. ShowsBlocks b image grid ss b.file.layout.blocks)) → late.second ≡ mid.second
+    → ((m : Told) → Tell m o (around told mid.second mid.written) → HasTrailerText b (superblock_units b m.shown) grid ss × HasWaiting b ss → Mended b (AreOfKind AsBlock) m o (around told mid.second mid.written) late (Ok k) (λ image. ShowsBlocks b image grid ss b.file.layout.blocks)) → late.second ≡ mid.second
     → (result : Result ℕ Ending) → (IsRefusal result → ⊥) → ((m : Told) → Tell m o late → ShowsGrid b (superblock_units b m.shown) → (says : ShowsTrailer (shape b.file) (superblock_units b m.shown) (content_of_superblock b)) → says.parts.sessions ≡ sessions_of ss → Mended b AreLate m o late new result (ShowsLog b (superblock_units b m.shown)))
     → Mended b AreInOrder t o old new (more a (more k result)) (ShowsAll b)
 all_mended {b = b} {k = k} grid ss tell chain same read has blocks also result never log =
     walk_then 0 1 Trailer (omega arith) (omega arith) tell chain same read (more k result) (λ refusal ms are. are) (λ m on shown.
     let text = has m (sym read ∙ on.first) on.whole shown in
-    walk_then 1 3 AsBlock (omega arith) (omega arith) on (blocks m on text.0) also refl result (λ refusal. absurd (never refusal)) (λ n then shows.
-    shows_more (λ image shown. all_shown b grid ss (superblock_units b n.shown) image shows text.1 shown) (log n then (grid_shown b grid ss (superblock_units b n.shown) shows) shows.has.says shows.has.sessions_are)))
+    walk_then 1 3 AsBlock (omega arith) (omega arith) on (blocks m on text) also refl result (λ refusal. absurd (never refusal)) (λ n then shows.
+    shows_more (λ image shown. all_shown b grid ss (superblock_units b n.shown) image shows shown) (log n then (grid_shown b grid ss (superblock_units b n.shown) shows) shows.has.says shows.has.sessions_are)))

@@ -94,7 +94,7 @@ module _ (b : Superblock) where
         at_kind kind at k known shown same = absurd known
 
     named_due : IsDue (shape b.file) (superblock_units b t.shown) (content_of_superblock b) Prepare (PreparePlace (op % b.file.layout.slots)) sum
-    named_due = record { known = record { op = op; above = above; slot_is = refl; later = from.later; known = from.known; count = from.count; sum_is = from.sum_is }; first = before_prepare b (superblock_units b t.shown) (PreparePlace (op % b.file.layout.slots)) from.grid; spare = spare }
+    named_due = record { known = record { op = op; above = above; slot_is = refl; later = from.later; known = from.known; count = from.count; sum_is = from.sum_is }; first = before_prepare b (superblock_units b t.shown) (PreparePlace (op % b.file.layout.slots)) from.grid; trailer = from.grid.passes; spare = spare }
 
   -- the prepare that is named is mended, and names the one before it
   module _ (usable : IsUsable b.content) (op : ℕ) (check : List ℕ) (above : b.content.op < op) (identity : Identity) (for : IsFor b.file Prepare (PreparePlace (op % b.file.layout.slots)) check identity) (t o : Told) (old new : Outside) (tell : Tell t o old)

@@ -1,19 +1,26 @@
 -- An image shows one trailer, and each block that is wanted of it is one of its chain.
 use Rattle.std.proofs.Common.{◌≡◌, ℕ, ◌-◌, ◌<◌, List, [], ◌∷◌, length, Some, refl, sym, ◌∙◌, subst, arith, inl, inr}
+use Rattle.df_sessions.specs.declared.session.Session.{Session}
+use Rattle.df_grid.specs.Grid.{GridState}
 use Rattle.df_theory.specs.Opens.{Arrives, ReadsTo}
+use Rattle.df_theory.specs.Sessions.{Has}
 use Rattle.df_theory.specs.Shape.{Shape}
 use Rattle.df_theory.specs.Trailer.{InChain, Links, Says}
+use Rattle.df_theory.specs.Units as model
 use Rattle.df_theory.specs.Units.{Block, BlockPlace, BlockUnit, Content, Units}
 use Rattle.df_theory.proofs.Laws.{same_says}
 use Rattle.df_model.proofs.Laws.{count_le}
 use Rattle.df_checkpoint.proofs.Laws.{one_block}
-use Rattle.df_mirror.specs.Known.{ShowsTrailer}
+use Rattle.df_opening.specs.Below.{shape}
+use Rattle.df_mirror.specs.declared.superblock.Superblock.{Superblock}
+use Rattle.df_mirror.specs.Known.{PassesTrailer, ShowsTrailer}
+use Rattle.df_mirror.specs.Walks.{HasTrailerText, HasWaiting, content_of_superblock}
 
 abbrev Shown : Units → List (ℕ × Block) → Type 0
 Shown image xs = (a : ℕ) (b : Block) → InChain a b xs → image (BlockPlace a) ≡ Some (BlockUnit b)
 
 -- chains from one reference that an image shows are one
-one_chain : (image : Units) (room : ℕ) (c : Content) (xs ys : List (ℕ × Block)) (address sum : ℕ) → Links room c xs address sum → Links room c ys address sum → Shown image xs → Shown image ys → xs ≡ ys
+pub one_chain : (image : Units) (room : ℕ) (c : Content) (xs ys : List (ℕ × Block)) (address sum : ℕ) → Links room c xs address sum → Links room c ys address sum → Shown image xs → Shown image ys → xs ≡ ys
 one_chain image room c [] [] address sum one two shown also = refl
 one_chain image room c [] (y ∷ ys) address sum one two shown also = absurd (omega (arith, one, two.0))
 one_chain image room c (x ∷ xs) [] address sum one two shown also = absurd (omega (arith, two, one.0))
@@ -47,3 +54,11 @@ wanted_block sh image c says a k reads =
 -- a trailer is shown wherever its chain is
 abbrev pub trailer_there : (sh : Shape) (image other : Units) (c : Content) (says : ShowsTrailer sh image c) → ((a : ℕ) (b : Block) → InChain a b says.chain → other (BlockPlace a) ≡ image (BlockPlace a)) → ShowsTrailer sh other c
 trailer_there sh image other c says same = record { chain = says.chain; parts = says.parts; trailer = says.trailer; shown = λ a b at. same a b at ∙ says.shown a b at }
+
+-- a trailer that is read, and each of whose waiting ops is that of a session, passes the tests of an open
+pub trailer_passes : (b : Superblock) (image : Units) (grid : GridState) (ss : List Session) → HasTrailerText b image grid ss → HasWaiting b ss → PassesTrailer (shape b.file) image (content_of_superblock b)
+trailer_passes b image grid ss text waiting = record { says = text.says; pending = λ n above within. subst (λ (l : List model.Session). Has l n) (sym text.sessions_are) (waiting n above within) }
+
+-- and so it does wherever its chain is shown
+pub passes_there : (sh : Shape) (image other : Units) (c : Content) → ((a : ℕ) → other (BlockPlace a) ≡ image (BlockPlace a)) → PassesTrailer sh image c → PassesTrailer sh other c
+passes_there sh image other c same passes = record { says = trailer_there sh image other c passes.says (λ a b at. same a); pending = passes.pending }

@@ -31,7 +31,7 @@ use Rattle.df_mirror.specs.Mends.{units_shown}
 use Rattle.df_mirror.proofs.OpenedKnown.{reply_of}
 use Rattle.df_mirror.proofs.OpenedPasts.{raised_own}
 use Rattle.df_mirror.proofs.OpenedPlaces.{IsMendedAt, known_prepare, known_reply, mends_left, no_copy, no_header, place_left}
-use Rattle.df_mirror.proofs.OpenedViews.{IsNamedSlot, IsRecordedAnew, ShowsLeft, ShowsNoNewer, ShowsOwn, left_holds}
+use Rattle.df_mirror.proofs.OpenedViews.{IsNamedSlot, IsRecordedAnew, ShowsLeft, ShowsOwn, left_holds}
 
 -- after mends a place shows what it did, or a unit that was mended there
 abbrev IsMendedOr : DataFile → Content → (old new : Image) → Place → Type 0
@@ -124,12 +124,12 @@ module _ (file : DataFile) (view : View) (t : Told) (older : List Log) (shown : 
   own_by (before ∷ rest) lived woken holds k r boot pool =
       raised_own (shape file) (histories.unit_log_in file t.log) (histories.unit_log_in file before) (units_logs file rest) view woken lived holds k r boot pool
 
-  module _ (hurt : IsHurtKnown file view.checkpoint.content t) (own : HasWoken file t.log older ⊎ NoneCameBack file view.checkpoint.content (logs.now t.log) shown) (mended : (place : Place) → IsMendedOr file view.checkpoint.content t.shown shown place)
+  module _ (hurt : IsHurtKnown file view.checkpoint.content t) (own : HasWoken file t.log older ⊎ NoneCameBack view (units_shown file shown)) (mended : (place : Place) → IsMendedOr file view.checkpoint.content t.shown shown place)
       (chosen : IsChosen (units_shown file shown) view.checkpoint.content) (all : AllShown (shape file) (units_shown file shown) view.checkpoint.content) where
-    own_replies : ShowsOwn log (units_shown file shown) view ⊎ ShowsNoNewer (now log) (units_shown file shown) view
+    own_replies : ShowsOwn log (units_shown file shown) view ⊎ NoneCameBack view (units_shown file shown)
     own_replies = elim own [
       | inl woken ↦ inl (λ k r at boot. own_by older may.lived woken (stays view.checkpoint.content chosen).1 k r boot (may.chance.pooled (ReplyPlace k) (ReplyUnit r) at))
-      | inr none ↦ inr (λ k r at boot above. ap (λ (was : Units). was (ReplyPlace k)) now_is ∙ none k r at boot above)
+      | inr none ↦ inr none
     ]
 
     pub mended_found : IsFound (shape file) (units_shown file shown) view

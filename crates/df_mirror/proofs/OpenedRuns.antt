@@ -1,27 +1,35 @@
 -- A run that ends as Done or Found mended known units, and shows them all.
-use Rattle.std.proofs.Common.{◌≡◌, ◌⊎◌, inl, inr, ℕ, List, Option, refl, sym, ◌∙◌, subst}
+use Rattle.std.proofs.Common.{◌≡◌, ◌⊎◌, inl, inr, ℕ, List, Option, refl, sym, ◌∙◌, ap, subst}
 use Rattle.std.proofs.lemmas.Option.{same_Some}
 use Rattle.std.specs.Prelude.{Result, Ok, Err}
+use Rattle.df_base.specs.Image.{Image, IsImage}
 use Rattle.df_base.specs.Log.{Sync}
-use Rattle.df_disk.specs.Told.{did}
+use Rattle.df_disk.specs.Told.{Told, did}
 use Rattle.df_format.specs.Copies.{content_with}
 use Rattle.df_theory.specs.Copies.{IsChosen}
+use Rattle.df_theory.specs.Found.{IsFound}
 use Rattle.df_units.proofs.Laws.{choice_chosen}
-use Rattle.df_damage.proofs.Laws.{super_is_written_as}
+use Rattle.df_damage.specs.Anew.{told_after}
+use Rattle.df_damage.specs.Histories.{MayReopen}
+use Rattle.df_damage.specs.Unrefused.{IsNotRefused}
+use Rattle.df_damage.proofs.Laws.{same_goes_on, super_is_written_as}
+use Rattle.df_opening.specs.Below.{shape}
 use Rattle.df_program.proofs.Laws.{refusal_ends, text_ends}
 use Rattle.df_mirror.specs.declared.ending.Ending.{Ending}
 use Rattle.df_mirror.specs.declared.ending.Ending.TheVariants.{First, Neither, Second, Sink, Unopened}
 use Rattle.df_mirror.specs.declared.status.Status.{Status}
 use Rattle.df_mirror.specs.declared.status.Status.TheVariants as ends
-use Rattle.df_mirror.specs.Laws.{MendedIsOpened}
-use Rattle.df_mirror.specs.Mends.{AnswersMending, AreInOrder, Came, units_shown}
+use Rattle.df_mirror.specs.Known.{AllShown}
+use Rattle.df_mirror.specs.Laws.{HasWoken, MendedIsOpened, NoneCameBack}
+use Rattle.df_mirror.specs.Mends.{AnswersMending, AreInOrder, Came, mirrored_events, units_shown}
 use Rattle.df_mirror.specs.Run.{TellsEnd}
 use Rattle.df_mirror.specs.Texts.{neither_text}
 use Rattle.df_mirror.specs.Walks.{content_of_superblock}
 use Rattle.df_mirror.proofs.OpenedFiles.{mirrored_is_opened}
+use Rattle.df_mirror.proofs.Runs.{mends_alike}
 
 -- the two statuses of a run that came to its end
-abbrev EndsWell : Status → Type 0
+abbrev pub EndsWell : Status → Type 0
 EndsWell status = (status ≡ ends.Done) ⊎ (status ≡ ends.Found)
 
 neither : (status : Status) → EndsWell status → (status ≡ ends.Done → ⊥) → (status ≡ ends.Found → ⊥) → ⊥
@@ -29,7 +37,7 @@ neither status (inl done) one two = one done
 neither status (inr found) one two = two found
 
 -- only of so many units
-ends_well : (result : Result ℕ Ending) (old new : Option (List ℕ)) (status : Status) → TellsEnd result old new status → EndsWell status → (count : ℕ) × (result ≡ Ok count)
+pub ends_well : (result : Result ℕ Ending) (old new : Option (List ℕ)) (status : Status) → TellsEnd result old new status → EndsWell status → (count : ℕ) × (result ≡ Ok count)
 ends_well (Ok count) old new status tells well = (count, refl)
 ends_well (Err (Neither place class)) old new status tells well = absurd (neither status well (text_ends ends.WriteFault (neither_text place class) ends.Refused ends.Done old new status tells (λ no. cc) (λ no. cc))
     (text_ends ends.WriteFault (neither_text place class) ends.Refused ends.Found old new status tells (λ no. cc) (λ no. cc)))
@@ -40,11 +48,17 @@ ends_well (Err Second) old new status tells well = let is = tells.0 in absurd (n
 ends_well (Err Sink) old new status tells well = let is = tells.0 in absurd (neither status well (λ done. cc (is, done)) (λ found. cc (is, found)))
 
 pub mended_is_opened : MendedIsOpened
-mended_is_opened view t o n logs old new status is tell well told found unspent hurt may own =
+mended_is_opened view base t o n logs old new status is tell shows well told found unspent hurt may own =
     let b = is.base in
     let c = content_of_superblock b in
     let end = ends_well is.mirrored.result is.mirrored.text new.written status is.mirrored.tells well in
     let came : Came b.file c AreInOrder (did Sync t) o new.first old.written is.mirrored.text (λ ms after. end.0 ≡ _) = subst (λ (r : Result ℕ Ending). AnswersMending b.file c AreInOrder (did Sync t) o new.first old.written is.mirrored.text r) end.1 is.mirrored.answers in
     let after : came.after ≡ n = same_Some came.after n (sym came.after_is ∙ told) in
+    let m : Told = told_after (mirrored_events b.file came.mends) (did Sync base) in
+    let same : n.shown ≡ m.shown = ap (λ (x : Told). x.shown) (sym after ∙ came.does.told) ∙ sym (same_goes_on (mirrored_events b.file came.mends) (did Sync t) (did Sync base) shows) in
     let chosen : IsChosen (units_shown b.file t.shown) c = choice_chosen b.file.layout b.file.cluster t.shown (content_with b.content) tell.whole (super_is_written_as b.file.version t.shown b.content tell.whole is.has.super) in
-    mirrored_is_opened b.file view c o.shown t n logs came.mends found unspent hurt may own tell.whole chosen came.does.are (sym after ∙ came.does.told) (is.mirrored.shown end.0 n end.1 told)
+    let opened : IsFound (shape b.file) (units_shown b.file m.shown) view × IsNotRefused b.file m.shown =
+    mirrored_is_opened b.file view c o.shown base m logs came.mends found unspent hurt (subst (λ (image : Image). MayReopen b.file base.log logs image) same may)
+    (subst (λ (image : Image). HasWoken b.file base.log logs ⊎ NoneCameBack view (units_shown b.file image)) same own) (subst (λ (image : Image). IsImage image) (sym shows) tell.whole) (subst (λ (image : Image). IsChosen (units_shown b.file image) c) (sym shows) chosen)
+    (mends_alike b.file c o.shown (did Sync t) (did Sync base) came.mends shows came.does.are) refl (subst (λ (image : Image). AllShown (shape b.file) (units_shown b.file image) c) same (is.mirrored.shown end.0 n end.1 told)) in
+    subst (λ (image : Image). IsFound (shape b.file) (units_shown b.file image) view × IsNotRefused b.file image) (sym same) opened

@@ -1,6 +1,7 @@
 -- An image that shows each known unit holds the view that was left, where what else it shows was left so or is of what is recorded.
 use Rattle.std.proofs.Common.{◌≡◌, ◌⊎◌, inl, inr, ℕ, ◌+◌, ◌-◌, ◌%◌, ◌<◌, ◌≤◌, List, ◌∷◌, slice_index, Some, refl, sym, ◌∙◌, ap, subst, arith}
 use Rattle.std.proofs.lemmas.Bool.{cases_lt}
+use Rattle.std.proofs.lemmas.Option.{same_Some}
 use Rattle.df_format.specs.declared.kind.Kind.TheVariants.{Reply as AsReply}
 use Rattle.df_theory.specs.Units.{AnyUnit, BlockPlace, BlockUnit, Content, CopyPlace, HeaderPlace, Message, Place, PreparePlace, PrepareUnit, ReplyPlace, ReplyUnit, Units}
 use Rattle.df_theory.specs.Copies.{IsChosen}
@@ -16,6 +17,7 @@ use Rattle.df_units.specs.Wanted.{checksum_of}
 use Rattle.df_history.specs.Histories.{IsLived, MayStart}
 use Rattle.df_history.proofs.Laws.{choice_stays_law, history_pools}
 use Rattle.df_mirror.specs.Known.{AllShown, IsRecordedReply, ShowsTrailer}
+use Rattle.df_mirror.specs.Laws.{FoundHasNoneBack, LeftIsNoneBack, NoneCameBack}
 use Rattle.df_mirror.proofs.OpenedKnown.{chain_shown, front_shown, reply_of}
 use Rattle.df_mirror.proofs.OpenedMarks.{agrees_as, all_counted, same_reply}
 use Rattle.df_mirror.proofs.OpenedPasts.{Rises, newest_rises, old_replies, pooled_settled, reply_low}
@@ -44,15 +46,28 @@ pub record ShowsLeft (sh : Shape) (was image : Units) (c : Content) : Type 0 whe
 abbrev pub ShowsOwn : UnitLog → Units → View → Type 0
 ShowsOwn log image v = (k : ℕ) (r : Message) → image (ReplyPlace k) ≡ Some (ReplyUnit r) → r.header.boot ≡ boot_of v → InPool log (ReplyPlace k) (ReplyUnit r)
 
--- each that is above those recorded was left there
-abbrev pub ShowsNoNewer : (was image : Units) → View → Type 0
-ShowsNoNewer was image v = (k : ℕ) (r : Message) → image (ReplyPlace k) ≡ Some (ReplyUnit r) → r.header.boot ≡ boot_of v → v.checkpoint.content.replies < r.header.op → was (ReplyPlace k) ≡ Some (ReplyUnit r)
+-- where an open finds the view none came back
+pub found_has_none : FoundHasNoneBack
+found_has_none sh image v found k r at boot above = (
+  found.replies.reply k r at boot,
+  (found.not_lost.reply k r at boot).1,
+  λ q is.
+      let s = found.stored.no_more k q is in
+      let there = found.stored.shown k s.0 s.1 s.2 in
+      let stored : there.0 ≡ q = same_Some _ _ (sym there.1 ∙ is) in
+      let both : Some (ReplyUnit r) ≡ Some (ReplyUnit there.0) = sym at ∙ there.2 in
+      let mine : r ≡ there.0 = cc in
+      mine ∙ stored,
+)
+
+pub left_is_none : LeftIsNoneBack
+left_is_none sh was image v found left k r at boot above = found_has_none sh was v found k r (left k r at boot above) boot above
 
 -- ---- pools
 
 module _ (sh : Shape) (second : sh.version ≡ 2) (log : UnitLog) (logs : List UnitLog) (v : View) (image : Units) (lived : IsLived sh (log ∷ logs)) (may : MayStart log logs image) (holds : Holds sh (now log) v)
     (places : AreOfPlaces sh image) (chosen : IsChosen image v.checkpoint.content) (all : AllShown sh image v.checkpoint.content) (left : ShowsLeft sh (now log) image v.checkpoint.content)
-    (own : ShowsOwn log image v ⊎ ShowsNoNewer (now log) image v) where
+    (own : ShowsOwn log image v ⊎ NoneCameBack v image) where
   abbrev c : Content
   c = v.checkpoint.content
 
@@ -96,23 +111,30 @@ module _ (sh : Shape) (second : sh.version ≡ 2) (log : UnitLog) (logs : List U
   own_agrees : (k : ℕ) (r : Message) → image (ReplyPlace k) ≡ Some (ReplyUnit r) → r.header.boot ≡ boot_of v → AgreesReply v r
   own_agrees k r at boot = elim own [
     | inl are ↦ agrees_as sh (settled log) v rises k r (pooled_settled log may.settled_is (ReplyPlace k) (ReplyUnit r) (are k r at boot))
-    | inr none ↦ elim (cases_lt c.replies r.header.op) [
-      | inl above ↦
-          let a = holds.bears.agrees (ReplyPlace k) (ReplyUnit r) (none k r at boot above) in
-          subst (λ (q : Message). AgreesReply v q) (same_reply r a.0 a.1) a.2
-      | inr not ↦
-          let pool = may.chance.pooled (ReplyPlace k) (ReplyUnit r) at in
-          let old = old_replies sh log logs v lived may.settled_is holds k (ReplyUnit r) pool in
-          let low : r.header.op ≤ c.replies = omega arith in
-          let mark = all_counted sh log logs v lived may.settled_is holds k r pool boot low in
-          subst (λ (q : Message). AgreesReply v q) (same_reply r old.0 old.1) (record {
-            op = λ own. omega (arith, low, holds.bears.sound.replies_from.0, ap (λ (q : Message). q.header.op) (same_reply r old.0 old.1));
-            mark = λ own. omega (arith, mark, holds.bears.sound.head_from, ap (λ (q : Message). q.header.mark) (same_reply r old.0 old.1));
-            checkpoint = old.2.checkpoint;
-            boot = old.2.boot;
-            alone = old.2.alone;
-          })
-    ]
+    | inr none ↦
+        let pool = may.chance.pooled (ReplyPlace k) (ReplyUnit r) at in
+        let old = old_replies sh log logs v lived may.settled_is holds k (ReplyUnit r) pool in
+        elim (cases_lt c.replies r.header.op) [
+          | inl above ↦
+              let is = none k r at boot above in
+              subst (λ (q : Message). AgreesReply v q) (same_reply r old.0 old.1) (record {
+                op = λ own. omega (arith, is.0, ap (λ (q : Message). q.header.op) (same_reply r old.0 old.1));
+                mark = λ own. omega (arith, is.1, ap (λ (q : Message). q.header.mark) (same_reply r old.0 old.1));
+                checkpoint = old.2.checkpoint;
+                boot = old.2.boot;
+                alone = old.2.alone;
+              })
+          | inr not ↦
+              let low : r.header.op ≤ c.replies = omega arith in
+              let mark = all_counted sh log logs v lived may.settled_is holds k r pool boot low in
+              subst (λ (q : Message). AgreesReply v q) (same_reply r old.0 old.1) (record {
+                op = λ own. omega (arith, low, holds.bears.sound.replies_from.0, ap (λ (q : Message). q.header.op) (same_reply r old.0 old.1));
+                mark = λ own. omega (arith, mark, holds.bears.sound.head_from, ap (λ (q : Message). q.header.mark) (same_reply r old.0 old.1));
+                checkpoint = old.2.checkpoint;
+                boot = old.2.boot;
+                alone = old.2.alone;
+              })
+        ]
   ]
 
   -- where the stored reply is recorded, what is shown in its slot is
@@ -122,10 +144,7 @@ module _ (sh : Shape) (second : sh.version ≡ 2) (log : UnitLog) (logs : List U
         let s = holds.bears.sound.answered k q is in
         omega (arith, reply_low sh (settled log) v rises k s.0 (inl s.1) r (pooled_settled log may.settled_is (ReplyPlace k) (ReplyUnit r) (are k r at boot)) boot, s.3.op, low)
     | inr none ↦ elim (cases_lt c.replies r.header.op) [
-      | inl above ↦
-          let had : was (ReplyPlace k) ≡ Some (ReplyUnit q) = holds.bears.needs (ReplyPlace k) (ReplyUnit q) (q, is, refl) in
-          let same : r ≡ q = (let both : Some (ReplyUnit r) ≡ Some (ReplyUnit q) = sym (none k r at boot above) ∙ had in cc) in
-          absurd (omega (arith, above, low, ap (λ (m : Message). m.header.op) same))
+      | inl above ↦ let same = (none k r at boot above).2 q is in absurd (omega (arith, above, low, ap (λ (m : Message). m.header.op) same))
       | inr not ↦ omega arith
     ]
   ]

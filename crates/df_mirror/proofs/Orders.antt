@@ -1,6 +1,5 @@
 -- Which known units come before others, and the known blocks of an image whose grid is as it was.
 use Rattle.std.proofs.Common.{◌≡◌, ◌<◌, ℕ, List, Some, sym, ◌∙◌, ap, arith}
-use Rattle.df_format.specs.declared.kind.Kind.{Kind}
 use Rattle.df_format.specs.declared.kind.Kind.TheVariants.{Block as AsBlock, Prepare, Reply, Reserved, Trailer}
 use Rattle.df_sessions.specs.declared.session.Session.{Session}
 use Rattle.df_grid.specs.Grid.{GridState}
@@ -9,10 +8,10 @@ use Rattle.df_theory.specs.Shape.{Shape}
 use Rattle.df_theory.specs.Units.{BlockPlace, Content, Parts, Place, Units}
 use Rattle.df_opening.specs.Below.{shape}
 use Rattle.df_mirror.specs.declared.superblock.Superblock.{Superblock}
-use Rattle.df_mirror.specs.Known.{AreShown, AreShownBefore, ComesBefore, IsKnownAt, IsShownAs}
+use Rattle.df_mirror.specs.Known.{AreShownBefore, IsKnownAt, IsShownAs}
 use Rattle.df_mirror.specs.Walks.{ShowsBlocks, ShowsGrid, content_of_superblock}
 use Rattle.df_mirror.proofs.Chains.{all_of_it, arrives_there, shown_block}
-use Rattle.df_mirror.proofs.Ones.{one_trailer, trailer_there}
+use Rattle.df_mirror.proofs.Ones.{one_trailer, passes_there, trailer_passes, trailer_there}
 use Rattle.df_mirror.proofs.Referenced.{shown_there}
 
 -- nothing comes before the trailer
@@ -58,7 +57,7 @@ module _ (b : Superblock) (image other : Units) (same : (a : ℕ) → other (Blo
 
   -- they are shown wherever the grid is as it was
   pub grid_there : ShowsGrid b other
-  grid_there = record { trailer = trailer_on; blocks = blocks_on }
+  grid_there = record { trailer = trailer_on; passes = passes_there (shape b.file) image other c same grid.passes; blocks = blocks_on }
 
 module _ (b : Superblock) (grid : GridState) (ss : List Session) (image : Units) (blocks : ShowsBlocks b image grid ss b.file.layout.blocks) where
   trailer_is : (place : Place) (sum : ℕ) → IsKnownAt (shape b.file) image (content_of_superblock b) Trailer place sum → IsShownAs image Trailer place sum
@@ -74,4 +73,4 @@ module _ (b : Superblock) (grid : GridState) (ss : List Session) (image : Units)
 
   -- so they are where the walk over the addresses has come to its end
   pub grid_shown : ShowsGrid b image
-  grid_shown = record { trailer = trailer_is; blocks = blocks_are }
+  grid_shown = record { trailer = trailer_is; passes = trailer_passes b image grid ss blocks.has blocks.waiting; blocks = blocks_are }

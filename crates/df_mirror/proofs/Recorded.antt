@@ -23,7 +23,7 @@ use Rattle.df_opening.specs.Below.{shape}
 use Rattle.df_mirror.specs.declared.ending.Ending.{Ending}
 use Rattle.df_mirror.specs.declared.ending.Ending.TheVariants.{First}
 use Rattle.df_mirror.specs.declared.superblock.Superblock.{Superblock}
-use Rattle.df_mirror.specs.Known.{AreShownBefore, IsDue, IsKnownAt, IsRecordedReply, IsShownAs}
+use Rattle.df_mirror.specs.Known.{AreShownBefore, IsDue, IsKnownAt, IsRecordedReply, IsShownAs, PassesTrailer}
 use Rattle.df_mirror.specs.Mends.{AreAt}
 use Rattle.df_mirror.specs.Outside.{Outside, Tell, around}
 use Rattle.df_mirror.specs.Taking.{HoldsShown, IsFor, MendsUnit, ShowsHeld}
@@ -63,9 +63,9 @@ recorded_sum b k check at =
     ap (λ (v : ℕ). slice_index (if v == 2 then map number_of b.content.reply_checksums else []) k) b.second
     ∙ get_or_from_slice_get (map number_of b.content.reply_checksums) k (number_of check) 0 (slice_get-map number_of b.content.reply_checksums k ∙ ap (option_map number_of) at)
 
-pub reply_due : (b : Superblock) (t : Told) (k sum : ℕ) → IsRecordedReply (shape b.file) (superblock_units b t.shown) (content_of_superblock b) k sum → AreShownBefore (shape b.file) (superblock_units b t.shown) (content_of_superblock b) Reply (ReplyPlace k)
+pub reply_due : (b : Superblock) (t : Told) (k sum : ℕ) → IsRecordedReply (shape b.file) (superblock_units b t.shown) (content_of_superblock b) k sum → AreShownBefore (shape b.file) (superblock_units b t.shown) (content_of_superblock b) Reply (ReplyPlace k) → PassesTrailer (shape b.file) (superblock_units b t.shown) (content_of_superblock b)
     → IsDue (shape b.file) (superblock_units b t.shown) (content_of_superblock b) Reply (ReplyPlace k) sum
-reply_due b t k sum recorded first = record { known = recorded; first = first; spare = λ lacks. at_kind lacks }
+reply_due b t k sum recorded first passes = record { known = recorded; first = first; trailer = passes; spare = λ lacks. at_kind lacks }
   where
     at_kind : (IsShownAs (superblock_units b t.shown) Reply (ReplyPlace k) sum → ⊥) → (kind : Kind) (at : Place) (other : ℕ) → IsKnownAt (shape b.file) (superblock_units b t.shown) (content_of_superblock b) kind at other → IsShownAs (superblock_units b t.shown) kind at other → at ≡ ReplyPlace k → ⊥
     at_kind lacks Reply (ReplyPlace p) other known shown same =
@@ -83,7 +83,7 @@ module _ (b : Superblock) (k : ℕ) (check : List ℕ) (t o : Told) (old : Outsi
 
   -- the place can't be read
   pub recorded_unread : MendsRecorded b k check t o old mid (Err First)
-  recorded_unread = record { answers = λ known first. none_failed b.file (content_of_superblock b) (AreAt Reply (ReplyPlace k)) tt t o told old.written old.written First (same ∙ tell.first, refl); shown = λ u is. tt }
+  recorded_unread = record { answers = λ known first passes. none_failed b.file (content_of_superblock b) (AreAt Reply (ReplyPlace k)) tt t o told old.written old.written First (same ∙ tell.first, refl); shown = λ u is. tt }
 
   module _ (identity : Identity) (is : identity ≡ record { layout = b.file.layout; cluster = b.file.cluster; place = place_of (ReplyPlace k); wanted = Checksum check }) (seen : Result Header Class)
       (sees : IsSeen b.file.layout b.file.cluster old.first identity.place seen) where
@@ -95,7 +95,7 @@ module _ (b : Superblock) (k : ℕ) (check : List ℕ) (t o : Told) (old : Outsi
     -- something newer is shown
     pub recorded_newer : IsNewer b seen → MendsRecorded b k check t o old mid (Ok 0)
     recorded_newer newer = record {
-      answers = λ known first. none_came b.file (content_of_superblock b) (AreAt Reply (ReplyPlace k)) tt t o told old.written old.written (same ∙ tell.first) refl (λ ms n. 0 ≡ length ms) refl;
+      answers = λ known first passes. none_came b.file (content_of_superblock b) (AreAt Reply (ReplyPlace k)) tt t o told old.written old.written (same ∙ tell.first) refl (λ ms n. 0 ≡ length ms) refl;
       shown = λ u there. inl (subst (λ (x : Told). HasNewer b (superblock_units b x.shown) k) (same_Some _ _ (sym (same ∙ tell.first) ∙ there)) (newer_shown b t k seen seen_is newer));
     }
 
@@ -114,6 +114,6 @@ module _ (b : Superblock) (k : ℕ) (check : List ℕ) (t o : Told) (old : Outsi
       -- nothing newer is, and it is mended
       pub recorded_mended : (shelf : Option Holding) (result : Result ℕ Ending) → MendsUnit Reply identity mid new result → IfOk result (λ n. HoldsShown Reply identity told new.first shelf) → MendsRecorded b k check t o old new result
       recorded_mended shelf result mends shown = record {
-        answers = λ known first. mends b.file (content_of_superblock b) (ReplyPlace k) check t o for on (reply_due b t k (number_of check) (known (λ newer. none (newer_seen b t k seen seen_is newer))) first);
+        answers = λ known first passes. mends b.file (content_of_superblock b) (ReplyPlace k) check t o for on (reply_due b t k (number_of check) (known (λ newer. none (newer_seen b t k seen seen_is newer))) first passes);
         shown = λ m there. is_shown m shelf result (holds b Reply (ReplyPlace k) check identity for t o mid new on shelf result shown m there);
       }

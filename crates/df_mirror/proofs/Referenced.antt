@@ -23,10 +23,10 @@ use Rattle.df_mirror.specs.Known.{ComesBefore, IsDue, IsKnownAt, IsShownAs, IsSp
 use Rattle.df_mirror.specs.Mends.{AreOfKind}
 use Rattle.df_mirror.specs.Outside.{Outside, Tell}
 use Rattle.df_mirror.specs.Taking.{HoldsShown, MendsUnit}
-use Rattle.df_mirror.specs.Walks.{HasTrailerText, Mended, ShowsBlocks, content_of_superblock, superblock_units}
+use Rattle.df_mirror.specs.Walks.{HasTrailerText, HasWaiting, Mended, ShowsBlocks, content_of_superblock, superblock_units}
 use Rattle.df_mirror.proofs.Chains.{all_of_it, shown_block}
 use Rattle.df_mirror.proofs.Frames.{other_place}
-use Rattle.df_mirror.proofs.Ones.{one_trailer, trailer_there, wanted_block}
+use Rattle.df_mirror.proofs.Ones.{one_trailer, trailer_passes, trailer_there, wanted_block}
 use Rattle.df_mirror.proofs.Turns.{MendsDue, due_mended, none_mended, of_one}
 
 -- a place that is as it was shows what it did
@@ -38,6 +38,7 @@ module _ (b : Superblock) (grid : GridState) (ss : List Session) (before : ℕ) 
   pub block_none : (old new : Outside) → Tell t o old → sum_at (before + 1) grid.blocks.live ≡ None → new.first ≡ old.first → new.written ≡ old.written → Mended b (AreOfKind AsBlock) t o old new (Ok 0) (λ image. ShowsBlocks b image grid ss (before + 1))
   block_none old new tell none same silent = none_mended b (AreOfKind AsBlock) tt t o old new tell same silent (λ image. ShowsBlocks b image grid ss (before + 1)) (record {
     has = shows.has;
+    waiting = shows.waiting;
     shown = λ a sum to known. elim (cases_eq a (before + 1)) [
       | inl here ↦ absurd (let no : None ≡ Some sum = sym none ∙ ap (λ (n : ℕ). sum_at n grid.blocks.live) (sym here) ∙ known in cc)
       | inr other ↦ shows.shown a sum (omega (arith, to, other)) known
@@ -72,7 +73,7 @@ module _ (b : Superblock) (grid : GridState) (ss : List Session) (before : ℕ) 
         at_kind kind at sum known shown same = absurd known
 
     block_due : IsDue (shape b.file) (superblock_units b t.shown) (content_of_superblock b) AsBlock (BlockPlace (before + 1)) (number_of check)
-    block_due = record { known = record { says = shows.has.says; reference = referenced }; first = first; spare = spare }
+    block_due = record { known = record { says = shows.has.says; reference = referenced }; first = first; trailer = trailer_passes b (superblock_units b t.shown) grid ss shows.has shows.waiting; spare = spare }
       where
         -- the trailer, and the blocks at lower addresses
         first : (kind : Kind) (at : Place) (sum : ℕ) → ComesBefore kind AsBlock at (BlockPlace (before + 1)) → IsKnownAt (shape b.file) (superblock_units b t.shown) (content_of_superblock b) kind at sum → IsShownAs (superblock_units b t.shown) kind at sum
@@ -98,6 +99,7 @@ module _ (b : Superblock) (grid : GridState) (ss : List Session) (before : ℕ) 
               live = shows.has.live;
               sessions_are = shows.has.sessions_are;
             };
+            waiting = shows.waiting;
             shown = λ a sum to known. elim (cases_eq a (before + 1)) [
               | inl here ↦
                   let it = (mends.shows m is).2 in
@@ -115,8 +117,9 @@ module _ (b : Superblock) (grid : GridState) (ss : List Session) (before : ℕ) 
           of_one b AsBlock (BlockPlace (before + 1)) t o old new result (λ image. ShowsBlocks b image grid ss (before + 1)) due.answers (one_more result due)
 
 -- no address is 0
-pub none_yet : (b : Superblock) (grid : GridState) (ss : List Session) (t : Told) → HasTrailerText b (superblock_units b t.shown) grid ss → ShowsBlocks b (superblock_units b t.shown) grid ss 0
+pub none_yet : (b : Superblock) (grid : GridState) (ss : List Session) (t : Told) → HasTrailerText b (superblock_units b t.shown) grid ss × HasWaiting b ss → ShowsBlocks b (superblock_units b t.shown) grid ss 0
 none_yet b grid ss t has = record {
-  has = has;
-  shown = λ a sum to known. absurd (let above = (has.inside a sum (sym (has.live a) ∙ known)).0 in omega (arith, above, to));
+  has = has.0;
+  waiting = has.1;
+  shown = λ a sum to known. absurd (let above = (has.0.inside a sum (sym (has.0.live a) ∙ known)).0 in omega (arith, above, to));
 }

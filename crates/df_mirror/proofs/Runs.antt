@@ -21,7 +21,7 @@ use Rattle.df_mirror.proofs.Joined.{after_told, events_append, told_append}
 use Rattle.df_mirror.proofs.Stays.{known_stays, told_extends}
 
 -- mends of what a disk shows are mends of what another one shows that shows the same
-mends_alike : (file : DataFile) (c : Content) (second : Image) (t u : Told) (ms : List Mend) → u.shown ≡ t.shown → AreMends file c second t ms → AreMends file c second u ms
+pub mends_alike : (file : DataFile) (c : Content) (second : Image) (t u : Told) (ms : List Mend) → u.shown ≡ t.shown → AreMends file c second t ms → AreMends file c second u ms
 mends_alike file c second t u [] same are = tt
 mends_alike file c second t u (m ∷ ms) same are = (
   subst (λ (image : Image). IsMend file c image second m) (sym same) are.0,

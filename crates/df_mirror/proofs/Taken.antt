@@ -1,6 +1,6 @@
 -- One unit is mended, or isn't: as a list of mends.
-use Rattle.std.proofs.Common.{◌≡◌, ℕ, List, [], ◌∷◌, length, take, Option, Some, None, refl, sym, ◌∙◌, ap, subst, arith}
-use Rattle.std.proofs.lemmas.List.{append-nil}
+use Rattle.std.proofs.Common.{◌≡◌, ◌≢◌, ℕ, List, [], ◌∷◌, length, take, Option, Some, None, refl, sym, ◌∙◌, ap, subst, arith}
+use Rattle.std.proofs.lemmas.List.{append-nil, length-take}
 use Rattle.std.proofs.lemmas.Option.{same_Some}
 use Rattle.std.specs.Prelude.{Result, Ok, Err}
 use Rattle.df_base.specs.Image.{IsImage}
@@ -10,14 +10,18 @@ use Rattle.df_inspect.proofs.Laws.{appends_none}
 use Rattle.df_disk.specs.Told.{Told, did}
 use Rattle.df_layout.specs.declared.damage.Class.{Class}
 use Rattle.df_layout.specs.declared.places.Place.{Place as FilePlace}
+use Rattle.df_layout.specs.declared.places.Zone.TheVariants.{ClientReplies, Grid, WalHeaders, WalPrepares}
 use Rattle.df_format.specs.declared.kind.Kind.{Kind}
-use Rattle.df_format.specs.Message.{sectors_end}
+use Rattle.df_format.specs.declared.kind.Kind.TheVariants.{Block, Prepare, Reply, Trailer}
+use Rattle.df_format.specs.Brings.{Brings}
+use Rattle.df_format.specs.Message.{sectors_end, sectors_of}
 use Rattle.df_buffers.specs.declared.identity.Identity.{Identity}
+use Rattle.df_buffers.specs.declared.identity.Wanted.TheVariants.{Checksum}
 use Rattle.df_buffers.specs.Sounds.{Holding, IsTidy}
 use Rattle.df_places.specs.Shelves.{IsFoundUnit, IsRead, shown_at}
 use Rattle.df_theory.specs.Device.{IsPut}
 use Rattle.df_theory.specs.UnitLog.{put_one}
-use Rattle.df_theory.specs.Units.{AnyUnit, Content, Place, or_else}
+use Rattle.df_theory.specs.Units.{AnyUnit, BlockPlace, Content, Place, PreparePlace, ReplyPlace, or_else}
 use Rattle.df_theory.proofs.Laws.{put_one_law}
 use Rattle.df_units.specs.Bytes.{first_at}
 use Rattle.df_units.specs.Format.{format_of}
@@ -30,8 +34,10 @@ use Rattle.df_mirror.specs.Mends.{AnswersMending, AreAt, Came, Failed, IsMend, I
 use Rattle.df_mirror.specs.Outside.{Outside}
 use Rattle.df_mirror.specs.Taking.{IsFor, PutsUnit, ShowsUnit, TakesUnit, WritesUnit}
 use Rattle.df_mirror.specs.Texts.{mended_text}
+use Rattle.df_mirror.proofs.Frames.{IsPlaceOf, known_place}
 use Rattle.df_mirror.proofs.Joined.{none_came, none_failed}
 use Rattle.df_mirror.proofs.Loaded.{IsUnitOf, class_is, found_unit, lacks_unit, shows_unit}
+use Rattle.df_mirror.proofs.Spelled.{exact_sectors}
 
 -- ---- one
 
@@ -45,6 +51,14 @@ takes_all kind identity class old new shelf held (Err Second) is found shown put
 takes_all kind identity class old new shelf held (Err (Unopened e)) is found shown puts tidy writes = absurd writes
 takes_all kind identity class old new shelf held (Err (Neither place other)) is found shown puts tidy writes = absurd writes
 
+-- a known unit stands in no header ring
+no_ring : (kind : Kind) (at : Place) → IsPlaceOf kind at → (place_of at).zone ≡ WalHeaders → ⊥
+no_ring Trailer (BlockPlace a) is same = let both : Grid ≡ WalHeaders = same in cc
+no_ring Block (BlockPlace a) is same = let both : Grid ≡ WalHeaders = same in cc
+no_ring Prepare (PreparePlace s) is same = let both : WalPrepares ≡ WalHeaders = same in cc
+no_ring Reply (ReplyPlace k) is same = let both : ClientReplies ≡ WalHeaders = same in cc
+no_ring kind at is same = absurd is
+
 abbrev bytes_of : Holding → List ℕ
 bytes_of held = take (sectors_end held.unit.header.size) held.bytes
 
@@ -56,7 +70,15 @@ module _ (file : DataFile) (kind : Kind) (at : Place) (check : List ℕ) (identi
   put =
       let steps : PutsUnit file.layout (place_of at) held = subst (λ (i : Identity). PutsUnit i.layout i.place held) for.is puts in
       let owner : held.unit.header.cluster ≡ file.cluster = found.is.owner ∙ ap (λ (i : Identity). i.cluster) for.is in
-      subst (λ (k : ℕ). IsPut (format_of file.layout k) (first_at file.layout at) (bytes_of held) (put_one at there.unit)) owner (steps at there.unit refl there.unit_is).0
+      subst (λ (k : ℕ). IsPut (format_of file.layout k) (first_at file.layout at) (bytes_of held) (put_one at there.unit)) owner (steps.0 at there.unit refl there.unit_is).0
+
+  -- the bytes are the unit's sectors
+  its_sectors : (place_of at).zone ≢ WalHeaders → bytes_of held ≡ sectors_of held.unit
+  its_sectors other =
+      let own : IsFoundUnit kind (record { layout = file.layout; cluster = file.cluster; place = place_of at; wanted = Checksum check }) held.unit = subst (λ (i : Identity). IsFoundUnit kind i held.unit) for.is found in
+      let brings : PutsUnit file.layout (place_of at) held = subst (λ (i : Identity). PutsUnit i.layout i.place held) for.is puts in
+      exact_sectors file.layout file.cluster (place_of at) held.unit (bytes_of held) other own.is (subst (λ (k : ℕ). Brings file.layout k (place_of at) held.unit (bytes_of held)) own.is.owner brings.1)
+      (omega (arith, length-take (sectors_end held.unit.header.size) held.bytes)) tidy
 
   the_mend : Mend
   the_mend = record { kind = kind; place = at; unit = there.unit; bytes = bytes_of held }
@@ -89,12 +111,13 @@ module _ (file : DataFile) (kind : Kind) (at : Place) (check : List ℕ) (identi
             known = subst (λ (n : ℕ). IsKnownAt (shape file) (units_shown file t.shown) c kind at n) sum due.known;
             lacks = subst (λ (n : ℕ). IsShownAs (units_shown file t.shown) kind at n → ⊥) sum lacks;
             first = due.first;
+            trailer = due.trailer;
           };
           spare = due.spare lacks;
           of_kind = there.of_kind;
           from = from.shown ∙ sym from.unit_is ∙ there.unit_is;
           puts = put;
-          filled = (held.unit, there.unit_is, tidy);
+          sectors = (held.unit, there.unit_is, subst (λ (i : Identity). shown_at i o.shown ≡ Some held.unit) for.is shown, its_sectors (no_ring kind at (known_place (shape file) (units_shown file t.shown) c kind at (number_of check) due.known)));
         }
 
     pub one_mended : (new : Option Told) (old text : Option (List ℕ)) → WritesUnit identity.layout identity.place held (Some t) new old text {T = Unit {0}} (Ok tt) → Came file c (AreAt kind at) t o new old text (λ ms n. 1 ≡ length ms)
@@ -140,7 +163,8 @@ module _ (file : DataFile) (c : Content) (kind : Kind) (at : Place) (check : Lis
     at = at;
     sum = number_of check;
     place_is = is ∙ ap (λ (i : Identity). i.place) for.is;
-    next = record { known = due.known; lacks = lacks; first = due.first };
+    next = record { known = due.known; lacks = lacks; first = due.first; trailer = due.trailer };
+    spare = due.spare lacks;
     other = lacks_unit file kind at check identity for o.shown whole second.judges.0;
     class_is = class_is file kind at check identity for t.shown class first.judges.1;
   }

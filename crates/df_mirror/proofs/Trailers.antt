@@ -1,5 +1,5 @@
 -- What is read of the trailer, in the theory's words.
-use Rattle.std.proofs.Common.{◌≡◌, ◌≢◌, inl, inr, ℕ, zero, ◌-◌, ◌<◌, ◌≤◌, List, [], Option, Some, None, refl, sym, ◌∙◌, ap, subst, arith}
+use Rattle.std.proofs.Common.{◌≡◌, ◌≢◌, inl, inr, ℕ, ◌-◌, ◌<◌, ◌≤◌, List, [], Option, Some, None, refl, sym, ◌∙◌, ap, subst, arith}
 use Rattle.std.specs.Prelude.{◌^◌, min, Result, Ok, Err}
 use Rattle.df_base.specs.Fields.{AreBytes}
 use Rattle.df_base.specs.Image.{Image, IsImage}
@@ -89,12 +89,12 @@ module _ (b : Superblock) (usable : IsSuper b.content) (t : Told) (whole : IsIma
 
 -- ---- why it isn't read
 
-pub named_refused : (b : Superblock) (image : Image) (g h : GridState) (reader : Reader) (e : TrailerFault) → ChainAnswer (shape b.file) (shown_of b.file.layout b.file.cluster image) (content_of_superblock b) g reader (Err e) → ReadsNamed b image h (Err (ending_of e))
-named_refused b image g h reader (trailer.Damaged address class) answer = (address, answer)
-named_refused b image g h reader (trailer.BadField field value) (inl broken) = inl (inl broken)
-named_refused b image g h reader (trailer.BadField field value) (inr (inl text)) = inl (inr (inl text))
-named_refused b image g h reader (trailer.BadField field value) (inr (inr referenced)) = inl (inr (inr (inl referenced)))
-named_refused b image g h reader trailer.DiskFault answer = tt
+pub named_refused : (b : Superblock) (image : Image) (g h : GridState) (reader : Reader) (e : TrailerFault) → b.content.trailer_address ≢ 0 → ChainAnswer (shape b.file) (shown_of b.file.layout b.file.cluster image) (content_of_superblock b) g reader (Err e) → ReadsNamed b image h (Err (ending_of e))
+named_refused b image g h reader (trailer.Damaged address class) named answer = (address, answer)
+named_refused b image g h reader (trailer.BadField field value) named (inl broken) = (some_number b.content.trailer_address named, inl (inl broken))
+named_refused b image g h reader (trailer.BadField field value) named (inr (inl text)) = (some_number b.content.trailer_address named, inl (inr (inl text)))
+named_refused b image g h reader (trailer.BadField field value) named (inr (inr referenced)) = (some_number b.content.trailer_address named, inl (inr (inr (inl referenced))))
+named_refused b image g h reader trailer.DiskFault named answer = tt
 
 -- where each block that is wanted is shown, none is refused as damaged
 pub text_refused : (b : Superblock) (image : Image) (g : GridState) (e : Ending) → AreShown (shape b.file) (superblock_units b image) (content_of_superblock b) Trailer → ReadsNamed b image g (Err e) → ReadsChainText b image (Err e)
@@ -124,20 +124,23 @@ told_answer b h g reader result told same answer t is =
 -- ---- the ops that wait
 
 pub text_untracked : (b : Superblock) (image : Image) (g : GridState) (ss : List Session) (n : ℕ) → b.content.trailer_address ≢ 0 → HasTrailerText b (superblock_units b image) g ss → IsPendingReply ss b.content.replies b.content.op (Some n) → RefusesFirstTrailer b.file image (content_of_superblock b) (BadField Pending n)
-text_untracked b image g ss n named text lacking = inl (inr (inr (inr (
-  refl,
-  record {
-    chain = text.says.chain;
-    whole = record { links = text.says.trailer.links; count = text.says.trailer.count; inside = text.says.trailer.inside; size = text.says.trailer.size; shows = text.says.shown };
-    parts = text.says.parts;
-    says = its_text (shape b.file) b.content.op text.says.chain text.says.parts (some_chain (b.file.layout.block_size - 256) (content_of_superblock b) text.says.chain (some_number b.content.trailer_address named) text.says.trailer.links) text.says.trailer.says;
-    spare = text.says.trailer.spare;
-    above = lacking.above;
-    reached = lacking.reached;
-    lacks = λ has. has_not n ss lacking.lacks (subst (λ (l : List model.Session). Has l n) text.sessions_are has);
-    least = λ m above less. subst (λ (l : List model.Session). Has l m) (sym text.sessions_are) (has_is m ss (lacking.least m above less));
-  },
-))))
+text_untracked b image g ss n named text lacking = (
+  some_number b.content.trailer_address named,
+  inl (inr (inr (inr (
+    refl,
+    record {
+      chain = text.says.chain;
+      whole = record { links = text.says.trailer.links; count = text.says.trailer.count; inside = text.says.trailer.inside; size = text.says.trailer.size; shows = text.says.shown };
+      parts = text.says.parts;
+      says = its_text (shape b.file) b.content.op text.says.chain text.says.parts (some_chain (b.file.layout.block_size - 256) (content_of_superblock b) text.says.chain (some_number b.content.trailer_address named) text.says.trailer.links) text.says.trailer.says;
+      spare = text.says.trailer.spare;
+      above = lacking.above;
+      reached = lacking.reached;
+      lacks = λ has. has_not n ss lacking.lacks (subst (λ (l : List model.Session). Has l n) text.sessions_are has);
+      least = λ m above less. subst (λ (l : List model.Session). Has l m) (sym text.sessions_are) (has_is m ss (lacking.least m above less));
+    },
+  )))),
+)
 
 -- ---- no trailer
 

@@ -105,14 +105,21 @@ ComesBefore kind later place at = rank_of_kind kind < rank_of_kind later
 abbrev pub AreShownBefore : Shape → Units → Content → Kind → Place → Type 0
 AreShownBefore sh image c kind place = (before : Kind) (at : Place) (sum : ℕ) → ComesBefore before kind at place → IsKnownAt sh image c before at sum → IsShownAs image before at sum
 
--- the first known unit that isn't shown
+-- where the unit is no block of the trailer, that passes the tests of an open
+abbrev pub PassesBefore : Shape → Units → Content → Kind → Type 0
+PassesBefore sh image c AsTrailer = Unit {0}
+PassesBefore sh image c kind = PassesTrailer sh image c
+
+-- the first known unit that isn't shown, where the trailer isn't refused before it
 pub record IsNext (sh : Shape) (image : Units) (c : Content) (kind : Kind) (place : Place) (sum : ℕ) : Type 0 where
   pub known : IsKnownAt sh image c kind place sum
   pub lacks : IsShownAs image kind place sum → ⊥
   pub first : AreShownBefore sh image c kind place
+  pub trailer : PassesBefore sh image c kind
 
 -- the unit is the next to be proved: it is known, all that come before it are shown, and where it isn't shown it may be written at its place
 pub record IsDue (sh : Shape) (image : Units) (c : Content) (kind : Kind) (place : Place) (sum : ℕ) : Type 0 where
   pub known : IsKnownAt sh image c kind place sum
   pub first : AreShownBefore sh image c kind place
+  pub trailer : PassesBefore sh image c kind
   pub spare : (IsShownAs image kind place sum → ⊥) → IsSparePlace sh image c place

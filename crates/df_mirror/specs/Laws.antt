@@ -9,8 +9,9 @@ use Rattle.df_format.specs.declared.kind.Kind.{Kind}
 use Rattle.df_theory.specs.Chance.{Distinct}
 use Rattle.df_theory.specs.Copies.{IsChosen}
 use Rattle.df_theory.specs.Found.{IsFound}
-use Rattle.df_theory.specs.Units.{AnyUnit, Content, Message, Place, ReplyPlace, ReplyUnit}
-use Rattle.df_theory.specs.View.{View}
+use Rattle.df_theory.specs.Shape.{Shape}
+use Rattle.df_theory.specs.Units.{AnyUnit, Content, Message, Place, ReplyPlace, ReplyUnit, Units}
+use Rattle.df_theory.specs.View.{View, boot_of, head}
 use Rattle.df_history.specs.Histories.{InHistoryPool, InHistoryPools, NoChanceOver}
 use Rattle.df_units.specs.Bytes.{has}
 use Rattle.df_damage.specs.Anew.{IsStill, restarted, told_after}
@@ -90,9 +91,23 @@ abbrev pub HasWoken : DataFile → Log → List Log → Type 0
 HasWoken file log [] = Unit {0}
 HasWoken file log (before ∷ logs) = HasRaised file log before logs
 
--- No reply above those that the superblock records came back: each of its boot that is shown was left there.
-abbrev pub NoneCameBack : DataFile → Content → (was shown : Image) → Type 0
-NoneCameBack file c was shown = (k : ℕ) (r : Message) → units_shown file shown (ReplyPlace k) ≡ Some (ReplyUnit r) → r.header.boot ≡ c.boot → c.replies < r.header.op → units_shown file was (ReplyPlace k) ≡ Some (ReplyUnit r)
+-- No reply above those that the superblock records came back: each of its boot that is shown is of an op that the view has answered, no later than its head, and where the reply of its slot's session is stored it is that one. More isn't asked of
+-- the slot of a session that still waits for its reply.
+abbrev pub NoneCameBack : View → Units → Type 0
+NoneCameBack view shown =
+    (k : ℕ) (r : Message) → shown (ReplyPlace k) ≡ Some (ReplyUnit r) → r.header.boot ≡ boot_of view → view.checkpoint.content.replies < r.header.op
+    → (r.header.op ≤ view.replies) × (r.header.mark ≤ head view) × ((stored : Message) → view.stored k ≡ Some stored → r ≡ stored)
+
+-- that is necessary: it is so wherever an open finds the view
+abbrev pub FoundHasNoneBack : Type 0
+FoundHasNoneBack = (sh : Shape) (shown : Units) (view : View) → IsFound sh shown view → NoneCameBack view shown
+
+-- and it is so where the view was found, and each reply of its boot above the recorded ones was left there
+abbrev pub LeftIsNoneBack : Type 0
+LeftIsNoneBack =
+    (sh : Shape) (was shown : Units) (view : View) → IsFound sh was view
+    → ((k : ℕ) (r : Message) → shown (ReplyPlace k) ≡ Some (ReplyUnit r) → r.header.boot ≡ boot_of view → view.checkpoint.content.replies < r.header.op → was (ReplyPlace k) ≡ Some (ReplyUnit r))
+    → NoneCameBack view shown
 
 -- Over a lived history nothing was hurt but the sectors of known units and what of the superblock an open may miss, and no unit of what is shown at the end came about by chance. Then the next open, with rooms of the file's layout, finds the view that the log
 -- left, and isn't refused. So it is where the last open had come to its end. Where it was stopped before it raised the boot, a reply may come back that it hadn't found, of the superblock's boot and above those that are recorded: it hides the recorded one of
@@ -101,14 +116,15 @@ abbrev pub MirroredIsOpened : Type 0
 MirroredIsOpened =
     (file : DataFile) (view : View) (c : Content) (second : Image) (t n : Told) (logs : List Log) (ms : List Mend)
     → IsFound (shape file) (units_shown file (now t.log)) view → IsUnspent 2 view → IsHurtKnown file view.checkpoint.content t → MayReopen file t.log logs n.shown
-    → HasWoken file t.log logs ⊎ NoneCameBack file view.checkpoint.content (now t.log) n.shown
+    → HasWoken file t.log logs ⊎ NoneCameBack view (units_shown file n.shown)
     → IsImage t.shown → IsChosen (units_shown file t.shown) c → AreMends file c second (did Sync t) ms → n ≡ told_after (mirrored_events file ms) (did Sync t) → AllShown (shape file) (units_shown file n.shown) c
     → IsFound (shape file) (units_shown file n.shown) view × IsNotRefused file n.shown
 
--- So it is after each run of the program that ends as Done or Found, of the file that the first file's superblock names.
+-- So it is after each run of the program that ends as Done or Found, of the file that the first file's superblock names, by any lived history of it. The history's newest log shows what the disk shows, whatever the disk tells beside it: it may be
+-- the told one, or one that was restarted where the file was last opened after damage.
 abbrev pub MendedIsOpened : Type 0
 MendedIsOpened =
-    (view : View) (t o n : Told) (logs : List Log) (old new : Outside) (status : Status) (is : Mirrors t o old new status) → Tell t o old → (status ≡ Done) ⊎ (status ≡ Found) → new.first ≡ Some n
-    → IsFound (shape is.base.file) (units_shown is.base.file (now t.log)) view → IsUnspent 2 view → IsHurtKnown is.base.file view.checkpoint.content t → MayReopen is.base.file t.log logs n.shown
-    → HasWoken is.base.file t.log logs ⊎ NoneCameBack is.base.file view.checkpoint.content (now t.log) n.shown
+    (view : View) (base t o n : Told) (logs : List Log) (old new : Outside) (status : Status) (is : Mirrors t o old new status) → Tell t o old → base.shown ≡ t.shown → (status ≡ Done) ⊎ (status ≡ Found) → new.first ≡ Some n
+    → IsFound (shape is.base.file) (units_shown is.base.file (now base.log)) view → IsUnspent 2 view → IsHurtKnown is.base.file view.checkpoint.content base → MayReopen is.base.file base.log logs n.shown
+    → HasWoken is.base.file base.log logs ⊎ NoneCameBack view (units_shown is.base.file n.shown)
     → IsFound (shape is.base.file) (units_shown is.base.file n.shown) view × IsNotRefused is.base.file n.shown

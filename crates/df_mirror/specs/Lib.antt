@@ -8,4 +8,5 @@ pub mod Taking
 pub mod Laws
 pub mod Run
 pub mod Walks
+pub mod Outcome
 pub mod Trailers

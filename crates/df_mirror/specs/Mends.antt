@@ -1,5 +1,5 @@
 -- Units that are mended one after the other, what that writes and prints, and how it ends.
-use Rattle.std.specs.Prelude.{◌≡◌, ◌≤◌, ◌+◌, ℕ, List, [], ◌∷◌, ◌++◌, length, Option, Some, None, Result, Ok, Err}
+use Rattle.std.specs.Prelude.{◌≡◌, ◌≤◌, ℕ, List, [], ◌∷◌, ◌++◌, length, Option, Some, None, Result, Ok, Err}
 use Rattle.df_base.specs.Image.{Image}
 use Rattle.df_base.specs.Log.{Event, Sync, Write}
 use Rattle.df_base.specs.Streams.{Appends, AppendsPart}
@@ -7,8 +7,8 @@ use Rattle.df_disk.specs.Adds.{AddsPart}
 use Rattle.df_disk.specs.Told.{Told}
 use Rattle.df_format.specs.declared.kind.Kind.{Kind}
 use Rattle.df_format.specs.declared.kind.Kind.TheVariants.{Trailer}
-use Rattle.df_format.specs.Message.{Message}
-use Rattle.df_buffers.specs.Sounds.{EndsInZeros}
+use Rattle.df_format.specs.Message.{Message, sectors_of}
+use Rattle.df_format.specs.Shown
 use Rattle.df_layout.specs.declared.damage.Class.{Class}
 use Rattle.df_layout.specs.declared.places.Place.{Place as FilePlace}
 use Rattle.df_theory.specs.Device.{IsPut}
@@ -39,7 +39,7 @@ pub record Mend : Type 0 where
   pub unit : AnyUnit
   pub bytes : List ℕ
 
--- it is the first known unit that isn't shown, no known unit that is shown stands at its place, the second file shows it there, its sectors bring it and touch no other place, and hold zeros after its header and its body
+-- it is the first known unit that isn't shown, no known unit that is shown stands at its place, the second file shows it there, its sectors bring it and touch no other place; they are those of the unit whole, its header and its body, and zeros after them
 pub record IsMend (file : DataFile) (c : Content) (shown second : Image) (m : Mend) : Type 0 where
   pub next : IsNext (shape file) (units_shown file shown) c m.kind m.place (checksum_of m.unit)
   pub open next use *
@@ -47,7 +47,7 @@ pub record IsMend (file : DataFile) (c : Content) (shown second : Image) (m : Me
   pub of_kind : IsOfKind m.kind m.unit
   pub from : units_shown file second m.place ≡ Some m.unit
   pub puts : IsPut (format_of file.layout file.cluster) (first_at file.layout m.place) m.bytes (put_one m.place m.unit)
-  pub filled : (u : Message) × (unit_of m.place u ≡ Some m.unit) × EndsInZeros (256 + length u.body) m.bytes
+  pub sectors : (u : Message) × (unit_of m.place u ≡ Some m.unit) × (Shown.unit_at file.layout file.cluster second (place_of m.place) ≡ Some u) × (m.bytes ≡ sectors_of u)
 
 -- ---- all of them
 
@@ -109,7 +109,7 @@ FailsAt file First (Some m) mid new said text = AddsPart (mirrored_events file (
 FailsAt file Sink (Some m) mid new said text = (new ≡ Some (told_after (mirrored_events file (m ∷ [])) mid)) × AppendsPart said text (mended_text (place_of m.place))
 FailsAt file e one mid new said text = ⊥
 
--- the first known unit that isn't shown is shown by neither file, and this is the class of what the first one shows
+-- the first known unit that isn't shown is shown by neither file, no known unit that is shown stands at its place, and this is the class of what the first one shows
 pub record IsNeither (file : DataFile) (c : Content) (shown second : Image) (place : FilePlace) (class : Class) : Type 0 where
   pub kind : Kind
   pub at : Place
@@ -117,6 +117,7 @@ pub record IsNeither (file : DataFile) (c : Content) (shown second : Image) (pla
   pub place_is : place ≡ place_of at
   pub next : IsNext (shape file) (units_shown file shown) c kind at sum
   pub open next use *
+  pub spare : IsSparePlace (shape file) (units_shown file shown) c at
   pub other : IsShownAs (units_shown file second) kind at sum → ⊥
   pub class_is : class ≡ class_at file.layout file.cluster shown at
 

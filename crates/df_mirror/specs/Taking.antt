@@ -1,11 +1,12 @@
 -- What it does to mend one unit, by what a room holds of each file.
-use Rattle.std.specs.Prelude.{◌≡◌, ℕ, List, Option, Some, None, Result, Ok, Err}
+use Rattle.std.specs.Prelude.{◌≡◌, ℕ, List, take, Option, Some, None, Result, Ok, Err}
 use Rattle.df_base.specs.Image.{Image, IsImage}
 use Rattle.df_base.specs.Streams.{Appends, AppendsPart}
 use Rattle.df_disk.specs.Adds.{AddsPart, after_all}
 use Rattle.df_disk.specs.Told.{Told}
 use Rattle.df_format.specs.declared.kind.Kind.{Kind}
-use Rattle.df_format.specs.Message.{Message}
+use Rattle.df_format.specs.Brings.{Brings}
+use Rattle.df_format.specs.Message.{Message, sectors_end}
 use Rattle.df_format.specs.Spelling.{IsCheck}
 use Rattle.df_layout.specs.declared.damage.Class.{Class}
 use Rattle.df_layout.specs.declared.layout.Layout.{Layout}
@@ -38,9 +39,11 @@ WritesUnit layout place held told new old text (Err First) = AddsPart (unit_even
 WritesUnit layout place held told new old text (Err Sink) = (new ≡ after_all (unit_events layout place held) told) × AppendsPart old text (mended_text place)
 WritesUnit layout place held told new old text (Err e) = ⊥
 
--- in the words of the theory the unit is put into its place, and synced
+-- in the words of the theory the unit is put into its place, and synced; the sectors that are written bring it there
 abbrev pub PutsUnit : Layout → FilePlace → Holding → Type 0
-PutsUnit layout place held = (at : Place) (x : AnyUnit) → place_of at ≡ place → unit_of at held.unit ≡ Some x → AreSteps (format_of layout held.unit.header.cluster) (unit_events layout place held) (unit_steps at x)
+PutsUnit layout place held =
+    ((at : Place) (x : AnyUnit) → place_of at ≡ place → unit_of at held.unit ≡ Some x → AreSteps (format_of layout held.unit.header.cluster) (unit_events layout place held) (unit_steps at x))
+    × Brings layout held.unit.header.cluster place held.unit (take (sectors_end held.unit.header.size) held.bytes)
 
 -- nothing is written or printed
 abbrev pub IsSame : Outside → Outside → Type 0

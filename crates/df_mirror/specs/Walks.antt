@@ -97,14 +97,16 @@ ReadsChainText b image (Err e) = ⊥
 
 -- ---- the blocks that it references
 
--- those up to this address are shown
+-- the trailer isn't refused, and those up to this address are shown
 pub record ShowsBlocks (b : Superblock) (image : Units) (grid : GridState) (sessions : List Session) (to : ℕ) : Type 0 where
   pub has : HasTrailerText b image grid sessions
+  pub waiting : HasWaiting b sessions
   pub shown : (a sum : ℕ) → a ≤ to → sum_at a grid.blocks.live ≡ Some sum → IsShownAs image AsBlock (BlockPlace a) sum
 
--- the blocks of the trailer are shown, and those that it references
+-- the blocks of the trailer are shown, it isn't refused, and the blocks that it references are shown
 pub record ShowsGrid (b : Superblock) (image : Units) : Type 0 where
   pub trailer : AreShown (shape b.file) image (content_of_superblock b) Trailer
+  pub passes : PassesTrailer (shape b.file) image (content_of_superblock b)
   pub blocks : AreShown (shape b.file) image (content_of_superblock b) AsBlock
 
 -- ---- the prepares
@@ -148,9 +150,9 @@ IsNewer b (Err class) = ⊥
 abbrev pub HasNewer : Superblock → Units → ℕ → Type 0
 HasNewer b image k = (r : Message) × (image (ReplyPlace k) ≡ Some (ReplyUnit r)) × (r.header.boot ≡ (content_of_superblock b).boot) × ((content_of_superblock b).replies < r.header.op)
 
--- the reply with this checksum is mended, where it is known if its slot shows nothing newer, and all that come before it are shown: it is shown then, or something newer is
+-- the reply with this checksum is mended, where it is known if its slot shows nothing newer, all that come before it are shown, and the trailer isn't refused: it is shown then, or something newer is
 pub record MendsRecorded (b : Superblock) (k : ℕ) (check : List ℕ) (t o : Told) (old new : Outside) (answer : Result ℕ Ending) : Type 0 where
-  pub answers : ((HasNewer b (superblock_units b t.shown) k → ⊥) → IsRecordedReply (shape b.file) (superblock_units b t.shown) (content_of_superblock b) k (number_of check)) → AreShownBefore (shape b.file) (superblock_units b t.shown) (content_of_superblock b) Reply (ReplyPlace k) → AnswersMending b.file (content_of_superblock b) (AreAt Reply (ReplyPlace k)) t o new.first old.written new.written answer
+  pub answers : ((HasNewer b (superblock_units b t.shown) k → ⊥) → IsRecordedReply (shape b.file) (superblock_units b t.shown) (content_of_superblock b) k (number_of check)) → AreShownBefore (shape b.file) (superblock_units b t.shown) (content_of_superblock b) Reply (ReplyPlace k) → PassesTrailer (shape b.file) (superblock_units b t.shown) (content_of_superblock b) → AnswersMending b.file (content_of_superblock b) (AreAt Reply (ReplyPlace k)) t o new.first old.written new.written answer
   pub shown : (u : Told) → new.first ≡ Some u → OnOk answer (HasNewer b (superblock_units b u.shown) k ⊎ IsShownAs (superblock_units b u.shown) Reply (ReplyPlace k) (number_of check))
 
 -- a prepare of the superblock's boot above its head, of this client

@@ -6,7 +6,7 @@ ghost use Rattle.df_sessions.specs.declared.session.Session.{Session};
 ghost use Rattle.df_mirror.specs.Mends.{AreOfKind, IsRefusal};
 ghost use Rattle.df_mirror.specs.Outside.{Tell, around, counts};
 ghost use Rattle.df_mirror.specs.Statuses.{AreBlamed};
-ghost use Rattle.df_mirror.specs.Walks.{HasTrailerText, Mended, ShowsBlocks, superblock_units};
+ghost use Rattle.df_mirror.specs.Walks.{HasTrailerText, HasWaiting, Mended, ShowsBlocks, superblock_units};
 
 use crate::ending::Ending;
 use crate::superblock::Superblock;
@@ -56,7 +56,7 @@ pub(crate) fn mend_blocks<A: Disk, B: Disk, W: Sink>(
     shelf: &mut Shelf<Block>,
 ) -> Result<u64, Ending>
     requires layout { shelf.old.layout ≡ base.now.file.layout }
-    ensures mends { (sessions : List Session) (t o : Told) → Tell t o (around (A.told first.old) (B.told second.old) (W.written sink.old)) → HasTrailerText base.now (superblock_units base.now t.shown) grid.now sessions
+    ensures mends { (sessions : List Session) (t o : Told) → Tell t o (around (A.told first.old) (B.told second.old) (W.written sink.old)) → HasTrailerText base.now (superblock_units base.now t.shown) grid.now sessions × HasWaiting base.now sessions
         → Mended base.now (AreOfKind AsBlock) t o (around (A.told first.old) (B.told second.old) (W.written sink.old)) (around (A.told first.new) (B.told second.new) (W.written sink.new)) result (λ image. ShowsBlocks base.now image grid.now sessions base.now.file.layout.blocks) }
     ensures unrefused { IsRefusal result → ⊥ }
     ensures few { IfOk result (λ mended. mended ≤ base.now.file.layout.blocks) }

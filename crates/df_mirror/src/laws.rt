@@ -1,5 +1,6 @@
 // What a list of mends leaves true: laws, each the clause of a function that does nothing.
-ghost use Rattle.df_mirror.specs.Laws.{KnownStays, MendedIsOpened, MendedWasWritten, MendsGoOn, MirroredIsOpened, RunKeepsKnown, UnitsComeInOrder};
+ghost use Rattle.df_mirror.specs.Outcome.{OutcomeIsOne, RunStopsBefore};
+ghost use Rattle.df_mirror.specs.Laws.{FoundHasNoneBack, KnownStays, LeftIsNoneBack, MendedIsOpened, MendedWasWritten, MendsGoOn, MirroredIsOpened, RunKeepsKnown, UnitsComeInOrder};
 
 /// Mends go on with mends of what they left.
 pub fn mends_go_on()
@@ -26,4 +27,12 @@ pub fn a_mended_unit_was_written()
 pub fn a_mended_file_is_opened()
     ensures mends { MirroredIsOpened }
     ensures run { MendedIsOpened }
+    ensures necessary { FoundHasNoneBack }
+    ensures left { LeftIsNoneBack }
+{}
+
+/// What a run mends, prints and ends with is one outcome of what both files show, where no call fails; and a run that a failing call ends stops on its way to that.
+pub fn the_outcome_is_one()
+    ensures whole { OutcomeIsOne }
+    ensures any { RunStopsBefore }
 {}

@@ -21,7 +21,7 @@ pub use ending::Ending;
 pub use engine::mirror;
 pub use laws::{
     a_mended_file_is_opened, a_mended_unit_was_written, known_units_stay, mends_go_on,
-    units_come_in_order,
+    the_outcome_is_one, units_come_in_order,
 };
 pub use status::Status;
 pub use telling::USAGE;

@@ -101,7 +101,6 @@ fn mend_reply<A: Disk, B: Disk, W: Sink>(
     place: u64,
 ) -> Result<u64, Ending>
     requires place { (place < length sessions.now.sessions) × (place < base.now.file.layout.clients) }
-    requires places { sessions.now.max ≡ base.now.file.layout.clients }
     requires table { length slots.now.slots ≡ base.now.file.layout.slots }
     requires layout { shelf.old.layout ≡ base.now.file.layout }
     ensures mends { (t o : Told) → Tell t o (around (A.told first.old) (B.told second.old) (W.written sink.old)) → ShowsKnownReplies base.now (superblock_units base.now t.shown) slots.now sessions.now place

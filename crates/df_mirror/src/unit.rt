@@ -83,8 +83,7 @@ pub(crate) fn mend_unit<A: Disk, B: Disk, W: Sink, K: UnitKind>(
     identity: &Identity,
 ) -> Result<u64, Ending>
     requires layout { identity.now.layout ≡ shelf.old.layout }
-    requires place { HasPlace identity.now.layout identity.now.place }
-    requires zone { identity.now.place.zone ≡ K.ZONE }
+    requires place { HasPlace identity.now.layout identity.now.place × (identity.now.place.zone ≡ K.ZONE) }
     ensures unit { IfOk result (λ count. (shelf.new.layout ≡ shelf.old.layout) × HoldsFound K.KIND identity.now None shelf.new.held × (count ≤ 1)) }
     ensures shown { IfOk result (λ _. HoldsShown K.KIND identity.now (A.told first.old) (A.told first.new) shelf.new.held) }
     ensures mends { MendsUnit K.KIND identity.now

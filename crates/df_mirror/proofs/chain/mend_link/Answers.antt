@@ -7,7 +7,7 @@ use Rattle.df_mirror.proofs.chain.mend_link.Goals as goal
 
 pub returns-then-is_among-clause-mends : goal.returns-then-is_among-clause-mends
 returns-then-is_among-clause-mends g c = λ t o n tell counts size walked.
-    link_again c.args.base.now n c.args.index c.args.walk t o counts size walked c.deref.result.now c.deref.ensures.0 (sym c.is_among.ensures ∙ c.if-is_among.true) _ c.broken.result _ tell c.broken.ensures
+    link_again c.args.base.now n c.args.index c.args.walk t o counts size walked c.deref.result.now c.deref.ensures.0 (sym c.is_among.ensures ∙ c.if-is_among.true) c.requires.inside.0 _ c.broken.result _ tell c.broken.ensures
 
 pub returns-in-Ok-go_on-clause-mends : goal.returns-in-Ok-go_on-clause-mends
 returns-in-Ok-go_on-clause-mends g c = λ t o n tell counts size walked.
@@ -17,7 +17,7 @@ returns-in-Ok-go_on-clause-mends g c = λ t o n tell counts size walked.
 pub returns-in-Err-go_on-clause-mends : goal.returns-in-Err-go_on-clause-mends
 returns-in-Err-go_on-clause-mends g c = λ t o n tell counts size walked.
     link_broken c.args.base.now n c.args.index c.args.walk t o counts size walked c.deref.result.now c.deref.ensures.0 (sym c.is_among.ensures ∙ c.if-is_among.false) c.known_at-wanted.result c.known_at-wanted.ensures.identity c.known_at-wanted.ensures.check _ _ tell
-    c.unit.result.now c.mend_unit.new.shelf.held c.unit.ensures c.in-Ok.more c.in-Ok.ensures.mends c.in-Ok.ensures.shown c.in-Err-go_on.ending _ c.in-Err-go_on.ensures.goes
+    c.unit.result.now c.mend_unit.new.shelf.held c.unit.ensures c.in-Ok.more c.in-Ok.ensures.mends c.in-Ok.ensures.shown c.in-Err-go_on.ending _ c.requires.inside.0 c.in-Err-go_on.ensures.goes
 
 pub returns-in-Err-clause-mends : goal.returns-in-Err-clause-mends
 returns-in-Err-clause-mends g c = λ t o n tell counts size walked.

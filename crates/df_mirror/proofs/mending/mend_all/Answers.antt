@@ -21,7 +21,7 @@ pub returns-in-Err-mend_blocks-clause-mends : goal.returns-in-Err-mend_blocks-cl
 returns-in-Err-mend_blocks-clause-mends g c = λ t o tell.
     let read = c.in-Ok-read_trailer in
     walk_then 0 1 Trailer (omega arith) (omega arith) tell (c.in-Ok.ensures.mends t o tell) c.in-Ok.ensures.same read.ensures.same (Err c.in-Err-mend_blocks.ending) (λ refusal ms are. are)
-    (λ m on shown. ends_so (λ ms are. from_kind 1 AsBlock ms (omega arith) are) (c.in-Err-mend_blocks.ensures.mends read.found.sessions.sessions m o on (read.ensures.reads m (sym read.ensures.same ∙ on.first) on.whole shown).0))
+    (λ m on shown. ends_so (λ ms are. from_kind 1 AsBlock ms (omega arith) are) (c.in-Err-mend_blocks.ensures.mends read.found.sessions.sessions m o on (read.ensures.reads m (sym read.ensures.same ∙ on.first) on.whole shown)))
 
 pub returns-clause-mends : goal.returns-clause-mends
 returns-clause-mends g c = λ t o tell.

@@ -25,7 +25,7 @@ returns-clause-reads g c = λ t told whole.
     let b = c.args.base.now in
     let layout = ap (λ (x : GridState). x.layout) c.requires.grid in
     subst (λ (e : Ending). ReadsNamed b t.shown c.read_chain.new.grid (Err e)) (sym c.ending_of.ensures)
-    (named_refused b t.shown c.read_chain.new.grid c.read_chain.new.grid c.read_chain.new.reader c.in-Err.fault
+    (named_refused b t.shown c.read_chain.new.grid c.read_chain.new.grid c.read_chain.new.reader c.in-Err.fault c.requires.named
     (told_answer b c.args.grid.now c.read_chain.new.grid c.read_chain.new.reader (Err c.in-Err.fault) (g.A.Disk.told c.args.first.now) c.requires.grid (c.in-Err.ensures.answer (shape b.file) (ap layout_of (sym layout)) refl) t told))
 
 pub returns-in-Ok-clause-fits : goal.returns-in-Ok-clause-fits
