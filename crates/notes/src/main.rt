@@ -1,20 +1,11 @@
-//! Notes in a data file, a small program over a replica: each line of standard input becomes a note of FILE; its op is printed, and at
-//! the end all notes that stand there. Below stands its edge alone; the modules open the file, keep notes and print them.
+//! Notes in a data file: each line of standard input becomes a note of FILE, its op is printed, and at the end all notes that stand there.
+//! Below stands the edge alone; the run is `keep_notes` of `df_notes`.
 #![tactic(auto)]
-
-mod ended;
-mod keeping;
-mod opening;
-mod printing;
-mod staying;
 
 use df_base::ToWrite;
 use df_filedisk::FileDisk;
+use df_notes::{Ended, keep_notes};
 use df_program::Ends;
-use ended::Ended;
-use keeping::keep;
-use opening::{catch_up, open_notes};
-use printing::print_notes;
 use std::env;
 use std::io::{self, BufRead, BufReader};
 use std::process::ExitCode;
@@ -37,14 +28,11 @@ fn notes(rt: &HostRuntime) -> io::Result<Vec<String>> {
     Ok(notes)
 }
 
-// Opens the file, keeps the notes and prints what stands there.
+// Keeps the notes in the file of this path.
 fn act(rt: &HostRuntime, path: String, notes: &[String]) -> Result<(), Ended> {
     let mut disk = FileDisk::new(rt, path);
     let mut sink = ToWrite::new(rt.stdout());
-    let mut replica = open_notes(rt.alloc(), &mut disk)?;
-    catch_up(&mut disk, &mut replica)?;
-    keep(&mut disk, &mut sink, &mut replica, notes)?;
-    print_notes(&mut disk, &mut sink, &mut replica)
+    keep_notes(rt.alloc(), notes, &mut sink, &mut disk)
 }
 
 fn main(rt: HostRuntime) -> ExitCode {

@@ -1,0 +1,110 @@
+-- What each call comes to, by what is heard of its answer.
+use Rattle.std.proofs.Common.{◌≡◌, ℕ, Bool, true, false, List, [], Option, Some, None, Result, Ok, Err, refl, sym, subst}
+use Rattle.std.specs.Prelude.{if◌then◌else◌}
+use Rattle.df_base.specs.Causes.{IsBlamed}
+use Rattle.df_disk.specs.Told.{Told}
+use Rattle.df_model.specs.Commands.{Advance, Answer as Answered, Append, Command, ReadPrepare, Reply, ToAppend, ToReadPrepare, ToReply}
+use Rattle.df_model.specs.Faults.{is_append_fault, is_reply_fault}
+use Rattle.df_model.specs.declared.answers.Receipt.{Receipt}
+use Rattle.df_model.specs.declared.commands.Answer.{Answer}
+use Rattle.df_model.specs.declared.commands.Answer.TheVariants as answers
+use Rattle.df_model.specs.declared.errors.AppendError.{AppendError}
+use Rattle.df_model.specs.declared.errors.ReplyError.{ReplyError}
+use Rattle.df_session.specs.Answering.{ServesRead, as_append, as_reply}
+use Rattle.df_session.specs.Below.{State as Replica}
+use Rattle.df_session.specs.Calls.{machine_answer}
+use Rattle.df_session.specs.Endings.{EndsBy, GivesAnswer}
+use Rattle.df_session.specs.Links.{Makes}
+use Rattle.df_session.specs.Reading.{IsReadPrepare}
+use Rattle.df_session.proofs.Laws.{reads_prepare}
+use Rattle.df_theory.specs.Units.{Message}
+use Rattle.df_notes.specs.Showing.{IsNoteRead}
+use Rattle.df_session.specs.declared.hearing.Fault.{Fault}
+use Rattle.df_session.specs.declared.hearing.Fault.TheVariants as faults
+use Rattle.df_notes.specs.Calling.{EndsIn, Fails, IsRefusal, IsRefused}
+use Rattle.df_notes.specs.Ending.{ended_at, ended_by, is_disk_at_fault}
+use Rattle.df_notes.specs.Keeping.{AppendsNote, StoresReply, receipt_in, stored_in}
+
+-- what is told of an answer, where the disk didn't fail
+told_if : (b : Bool) (x y : Answered) → (if b then None else Some x) ≡ Some y → x ≡ y
+told_if true x y is = absurd (let apart : None ≡ Some y = is in cc)
+told_if false x y is = let same : Some x ≡ Some y = is in cc
+
+-- what is refused, or an answer that isn't there, ends the program
+pub ended_so : (command : Command) (s t : Replica) (old new : Option Told) (b : Bool) (x : Answered) → IsRefused x → Makes command s t old new (if b then None else Some x) → EndsIn command s t old new (ended_by b)
+ended_so command s t old new true x refused makes = Fails makes
+ended_so command s t old new false x refused makes = IsRefusal x refused makes
+
+-- a call that isn't heard ends it
+pub ended_here : (command : Command) (s t : Replica) (old new : Option Told) (fault : Fault) → (command ≡ Advance → ⊥) → Makes command s t old new None → EndsBy fault command new → EndsIn command s t old new (ended_at fault)
+ended_here command s t old new faults.Disk other makes by = Fails makes
+ended_here command s t old new (faults.Damaged place class) other makes by = absurd (other by.step)
+
+module _ (s t : Replica) (old new : Option Told) where
+  -- the answer in the words of the machine
+  told_of : (command : Command) (a b : Answer) (gives : GivesAnswer command s t old new a) → a ≡ b → machine_answer b ≡ Some gives.told
+  told_of command a b gives is = subst (λ (y : Answer). machine_answer y ≡ Some gives.told) is gives.in_words
+
+  makes_so : (command : Command) (a : Answer) (x : Answered) (gives : GivesAnswer command s t old new a) → x ≡ gives.told → Makes command s t old new (Some x)
+  makes_so command a x gives is = subst (λ (y : Answered). Makes command s t old new (Some y)) (sym is) gives.makes
+
+  -- ---- an append
+
+  appended_by : (request : ℕ) (note : List ℕ) (a : Answer) (gives : GivesAnswer (Append 1 request note) s t old new a) (r : Result Receipt AppendError) → a ≡ answers.Append r → AppendsNote note s t old new (receipt_in (answers.Append r))
+  appended_by request note a gives (Ok receipt) is =
+      (request, makes_so (Append 1 request note) a (as_append (Ok receipt)) gives (told_if false (as_append (Ok receipt)) gives.told (told_of (Append 1 request note) a (answers.Append (Ok receipt)) gives is)))
+  appended_by request note a gives (Err e) is =
+      (request, IsRefusal (ToAppend (Err e)) tt (makes_so (Append 1 request note) a (ToAppend (Err e)) gives (told_if (is_append_fault e) (ToAppend (Err e)) gives.told (told_of (Append 1 request note) a (answers.Append (Err e)) gives is))))
+
+  pub appended : (request : ℕ) (note : List ℕ) (a : Answer) → GivesAnswer (Append 1 request note) s t old new a → AppendsNote note s t old new (receipt_in a)
+  appended request note a gives =
+      subst (λ (y : Answer). AppendsNote note s t old new (receipt_in y)) (sym gives.exact.1) (appended_by request note a gives gives.exact.0 gives.exact.1)
+
+  -- ---- a reply
+
+  stored_by : (op : ℕ) (a : Answer) (gives : GivesAnswer (Reply op []) s t old new a) (r : Result (List ℕ) ReplyError) → a ≡ answers.Reply r → StoresReply op s t old new (stored_in (answers.Reply r))
+  stored_by op a gives (Ok check) is = (check, makes_so (Reply op []) a (as_reply (Ok check)) gives (told_if false (as_reply (Ok check)) gives.told (told_of (Reply op []) a (answers.Reply (Ok check)) gives is)))
+  stored_by op a gives (Err e) is = IsRefusal (ToReply (Err e)) tt (makes_so (Reply op []) a (ToReply (Err e)) gives (told_if (is_reply_fault e) (ToReply (Err e)) gives.told (told_of (Reply op []) a (answers.Reply (Err e)) gives is)))
+
+  pub stored : (op : ℕ) (a : Answer) → GivesAnswer (Reply op []) s t old new a → StoresReply op s t old new (stored_in a)
+  stored op a gives = subst (λ (y : Answer). StoresReply op s t old new (stored_in y)) (sym gives.exact.1) (stored_by op a gives gives.exact.0 gives.exact.1)
+
+-- ---- what they blame, where the disk didn't fail
+
+pub receipt_blames : (a : Answer) (before now : ℕ) → now ≡ before → IsBlamed is_disk_at_fault before now (receipt_in a)
+receipt_blames (answers.Append (Ok receipt)) before now same = same
+receipt_blames (answers.Append (Err e)) before now same = same
+receipt_blames (answers.Stage r) before now same = same
+receipt_blames (answers.Flush r) before now same = same
+receipt_blames (answers.Reply r) before now same = same
+receipt_blames (answers.WriteBlock r) before now same = same
+receipt_blames (answers.Release r) before now same = same
+receipt_blames (answers.Begin r) before now same = same
+receipt_blames (answers.Advance r) before now same = same
+receipt_blames (answers.ReadPrepare r) before now same = same
+receipt_blames (answers.ReadReply r) before now same = same
+receipt_blames (answers.ReadBlock r) before now same = same
+receipt_blames (answers.Scrub r) before now same = same
+receipt_blames answers.Recent before now same = same
+
+pub stored_blames : (a : Answer) (before now : ℕ) → now ≡ before → IsBlamed is_disk_at_fault before now (stored_in a)
+stored_blames (answers.Reply (Ok check)) before now same = same
+stored_blames (answers.Reply (Err e)) before now same = same
+stored_blames (answers.Append r) before now same = same
+stored_blames (answers.Stage r) before now same = same
+stored_blames (answers.Flush r) before now same = same
+stored_blames (answers.WriteBlock r) before now same = same
+stored_blames (answers.Release r) before now same = same
+stored_blames (answers.Begin r) before now same = same
+stored_blames (answers.Advance r) before now same = same
+stored_blames (answers.ReadPrepare r) before now same = same
+stored_blames (answers.ReadReply r) before now same = same
+stored_blames (answers.ReadBlock r) before now same = same
+stored_blames (answers.Scrub r) before now same = same
+stored_blames answers.Recent before now same = same
+
+-- ---- a read
+
+-- a prepare that was read
+abbrev pub note_read : (op : ℕ) (s : Replica) (told : Option Told) (message : Message) → IsReadPrepare op s told (Ok message) → ServesRead (ReadPrepare op) s s told (Some (Ok message)) (Some (ToReadPrepare (Ok message))) → IsNoteRead op s told
+note_read op s told message exact serves = record { message = message; read = exact; call = reads_prepare s s told told refl op (Some (Ok message)) (Some (ToReadPrepare (Ok message))) serves }

@@ -1,4 +1,0 @@
-mod Blame
-mod Shows
-mod Stays
-mod Steps
