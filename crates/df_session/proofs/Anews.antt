@@ -39,7 +39,7 @@ synced_for Whole sh spell log w by = (
   record { standing = record { shown = by.1.standing.shown; firm = λ a c is. refl }; live = by.1.live; captured = by.1.captured },
 )
 
-kept_synced : (g : Grade) (s : Replica) (w : Work) (t : Told) → IsKept g s w t.log → IsKept g s w (did Sync t).log
+pub kept_synced : (g : Grade) (s : Replica) (w : Work) (t : Told) → IsKept g s w t.log → IsKept g s w (did Sync t).log
 kept_synced g s w t k = record {
   log_is = record { start = k.log_is.start; events = k.log_is.events };
   stands = k.stands;

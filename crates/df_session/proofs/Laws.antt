@@ -1,5 +1,6 @@
 -- What the proofs above cite of this crate: that calls on an open file keep it, what follows from a call that is exact, and that a read is one.
 pub use Rattle.df_session.proofs.Acknowledged.{keeps_answered}
+pub use Rattle.df_session.proofs.Anews.{kept_synced}
 pub use Rattle.df_session.proofs.Exact.{append_moves, flush_moves, on_running, reply_moves, write_moves}
 pub use Rattle.df_session.proofs.Joins.{adds_none, calls_join, made, part_told}
 pub use Rattle.df_session.proofs.Kept.{answers_alone, ends_add, ends_told, keeps_over}

@@ -14,6 +14,7 @@ pub mod Owning
 pub mod Resulting
 pub mod Anew
 pub mod Laws
+pub mod Programs
 pub mod Below
 pub use Rattle.df_replica.specs.Formatting
 pub use Rattle.df_replica.specs.WrittenFor

@@ -18,7 +18,7 @@ use Rattle.df_session.specs.Below.{State as Replica}
 use Rattle.df_session.specs.Links.{list_of}
 use Rattle.df_session.specs.Session.{Act, Exchange, acts_in, command_in}
 use Rattle.df_table.specs.declared.ending.Ending.{Ending}
-use Rattle.df_table.specs.Keeping.{AreChanges, Changes, IsPending}
+use Rattle.df_table.specs.Keeping.{AreChanges, AreClients, Changes, IsClients, IsPending}
 use Rattle.df_table.specs.Policy.{block_reads, checkpoint, line_commands, opening, prepare_reads, releases, replies, request, room_for, the_client, writes}
 use Rattle.df_table.specs.Turns.{AreAccepted, AreFit, EndIn, WasAccepted}
 use Rattle.df_table.proofs.Executed.{put_may}
@@ -77,6 +77,18 @@ CallsHave (x ∷ xs) = HasChange x.act.command × CallsHave xs
 abbrev pub FailHas : Option Act → Type 0
 FailHas None = Unit {0}
 FailHas (Some a) = HasChange a.command
+
+-- so it is one of the one client
+has_clients : (c : Command) → HasChange c → IsClients c
+has_clients (Append client request body) has = has.3
+has_clients (Stage client request body) has = has
+has_clients Flush has = has
+has_clients c has = tt
+
+pub clients_in : (xs : List Exchange) (failed : Option Act) → CallsHave xs → FailHas failed → AreClients (acts_in xs ++ list_of failed)
+clients_in [] None have fails = tt
+clients_in [] (Some a) have fails = (has_clients a.command fails, tt)
+clients_in (x ∷ xs) failed have fails = (has_clients x.act.command have.0, clients_in xs failed have.1 fails)
 
 next_has : (c : Command) (f : Option Act) → HasChange c → IsNext c f → FailHas f
 next_has c None has is = tt

@@ -108,7 +108,7 @@ module _ (layout : Layout) (w : Work) (s : Replica) (begun : IsBegun layout w s)
 
 -- ---- sessions
 
-own_all : (m : Memory) → NoneIsOther m (length m.sessions) → AreOwn m.sessions
+pub own_all : (m : Memory) → NoneIsOther m (length m.sessions) → AreOwn m.sessions
 own_all m none place x is = go (x.client == the_client) refl
   where
     go : (b : Bool) → (x.client == the_client) ≡ b → x.client ≡ the_client

@@ -1,5 +1,5 @@
 -- After a line the table has no more rows than it may, and the session may take the next line.
-use Rattle.std.proofs.Common.{◌≡◌, inl, inr, ℕ, ◌+◌, ◌-◌, ◌*◌, ◌<◌, ◌≤◌, Bool, true, false, IsTrue, List, [], ◌∷◌, length, Option, Some, None, Result, Ok, Err, cond, refl, sym, ◌∙◌, ap, subst, arith}
+use Rattle.std.proofs.Common.{◌≡◌, inl, inr, ℕ, ◌+◌, ◌-◌, ◌*◌, ◌<◌, ◌≤◌, Bool, true, false, IsTrue, List, [], ◌∷◌, length, Option, Some, None, Ok, Err, cond, refl, sym, ◌∙◌, ap, subst, arith}
 use Rattle.std.specs.FinMap as map
 use Rattle.std.specs.FinMap.{len-insert, len-remove}
 use Rattle.std.specs.Cmp.{nat_cmp_total}
@@ -10,7 +10,6 @@ use Rattle.df_rows.specs.declared.line.Line.TheVariants as lines
 use Rattle.df_rows.specs.declared.refusal.Refusal.{Refusal}
 use Rattle.df_rows.specs.Answers.{refusal_of}
 use Rattle.df_rows.specs.Grammar.{Count, Drop, Get, Put, Said}
-use Rattle.df_inspect.specs.Prints.{Prints}
 use Rattle.df_rows.specs.Commands.{IsCommand}
 use Rattle.df_rows.specs.Limits.{most_rows, rows_in_block}
 use Rattle.df_rows.specs.Lines.{accepted, line_of_turn, table_after, unless_refused}
@@ -26,7 +25,7 @@ use Rattle.df_session.specs.Below.{State as Replica}
 use Rattle.df_table.specs.Calls.{IsChanged}
 use Rattle.df_table.specs.Outside.{WritesTableText}
 use Rattle.df_table.specs.Ready.{IsReadyReplica, IsSteady, LeavesScript}
-use Rattle.df_table.specs.Serving.{ExecutesLine, IsServing, OnGoing, TellsLine}
+use Rattle.df_table.specs.Serving.{ExecutesLine, IsReadyForNext, IsServing, OnGoing, TellsLine}
 use Rattle.df_table.specs.Statuses.{ending_text, status_of}
 use Rattle.df_table.proofs.Blamed.{on_going, tells_line, told_line}
 use Rattle.df_table.proofs.Executed.{changed_answers, changed_ends, get_none, put_may, told_answers}
@@ -113,9 +112,13 @@ module _ (layout : Layout) (s : Session) (left more : Option (List ℕ)) (servin
       at_end = subst (λ (r : ReaderParts). IsTrue r.ended → IsAtEnd more) (sym leaves.lines) (at_end serving.at_end);
     }
 
-    pub executed_serving : (turn : Step) → OnGoing turn (now.replica.live ≡ true) → OnGoing turn (IsServing layout (record now { count = now.count + 1 }) more)
-    executed_serving Goes live = executed_on live
-    executed_serving (Ends status) live = tt
+    pub ready_next : s.layout ≡ layout → (turn : Step) → OnGoing turn (now.replica.live ≡ true) → OnGoing turn (IsReadyForNext s (record now { count = now.count + 1 }) more)
+    ready_next of Goes live = record {
+      layout = leaves.layout;
+      serving = subst (λ (l : Layout). IsServing l (record now { count = now.count + 1 }) more) (sym of) (executed_on live);
+      budget = subst (λ (r : ReaderParts). r.reading.budget < s.lines.reading.budget) (sym leaves.lines) less;
+    }
+    ready_next of (Ends status) live = tt
 
 -- a line with a command was executed
 module _ (layout : Layout) (said : Said) (c : Command) (old new : Session) (told later : Option Told) (written took : Option (List ℕ)) (asks : accepted old.table said ≡ c ∷ []) (fits : IsCommand c) (leaves : LeavesScript old new) where

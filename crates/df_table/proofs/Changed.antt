@@ -1,5 +1,6 @@
 -- The commands of a put or a drop: those that make room, the append, and the reply to it.
 use Rattle.std.proofs.Common.{◌≡◌, ℕ, ◌+◌, Bool, true, false, if◌then◌else◌, List, [], ◌∷◌, Option, Result, Ok, Err, sym, ◌∙◌, ap, subst}
+use Rattle.std.specs.Prelude.{IfErr, OnOk}
 use Rattle.df_disk.specs.Told.{Told}
 use Rattle.df_layout.specs.declared.layout.Layout.{Layout}
 use Rattle.df_theory.specs.Units.{Session}
@@ -9,10 +10,10 @@ use Rattle.df_rows.specs.declared.command.Command.{Command as Change}
 use Rattle.df_rows.specs.Commands.{Map, body_of}
 use Rattle.df_session.specs.Below.{State as Replica, memory}
 use Rattle.df_table.specs.declared.ending.Ending.{Ending}
-use Rattle.df_table.specs.Calls.{Changes, Checkpoints, Comes, MakesRoom}
+use Rattle.df_table.specs.Calls.{Changes, Checkpoints, Comes, GoesOrEnds, MakesRoom}
 use Rattle.df_table.specs.Policy.{checkpoint, is_full, request, room_for, the_client}
 use Rattle.df_table.specs.Ready.{HasRingRoom}
-use Rattle.df_table.specs.Turns.{EndIn, MakeAll}
+use Rattle.df_table.specs.Turns.{EndIn, IsOfCall, MakeAll}
 use Rattle.df_table.proofs.Joined.{comes_more, end_front, end_more, make_more, make_none}
 
 -- ---- room
@@ -68,3 +69,8 @@ module _ (layout : Layout) (rows : Map) (c : Change) (s : Replica) where
   pub change_comes : {T : Type 0} (u t : Replica) (old one new : Option Told) (r : Result T Ending) → MakesRoom {T = Unit {0}} layout rows s u old one (Ok tt) → HasRingRoom layout s u → Comes (request (memory u) c) u t one new r → Changes layout rows c s t old new r
   change_comes u t old one new r makes room comes =
       (makes.0, comes_more (room_for layout (memory s) rows makes.0) (request (memory s) c) s u t old one new makes.1 r (subst (λ (l : List Command). Comes l u t one new r) (same_request u room) comes))
+
+-- calls may go on, or not: as it ended
+pub goes_or_ends : {T : Type 0} (result : Result T Ending) (t : Replica) (new : Option Told) → OnOk result (t.live ≡ true) → IfErr result (IsOfCall new) → GoesOrEnds result t new
+goes_or_ends (Ok x) t new live ends = live
+goes_or_ends (Err ending) t new live ends = ends

@@ -1,5 +1,5 @@
 -- A line that isn't refused, one that is, and one that asks for no command: what each comes to.
-use Rattle.std.proofs.Common.{◌≡◌, inl, inr, ◌+◌, ◌≤◌, ◌&&◌, not, nat_le, nat_lt, ℕ, Bool, true, false, if◌then◌else◌, List, [], ◌∷◌, length, take, Option, Some, None, Result, Ok, Err, refl, sym, ◌∙◌, ap, subst, arith}
+use Rattle.std.proofs.Common.{◌≡◌, inl, inr, ◌+◌, ◌≤◌, ◌&&◌, not, nat_le, nat_lt, ℕ, Bool, true, false, if◌then◌else◌, List, [], ◌∷◌, length, take, Option, Some, None, Ok, Err, refl, sym, ◌∙◌, ap, subst, arith}
 use Rattle.std.specs.FinMap as map
 use Rattle.std.specs.Prelude.{decimal, is_some}
 use Rattle.std.proofs.lemmas.Bool.Decides.{nat_tests}
@@ -8,7 +8,6 @@ use Rattle.std.proofs.lemmas.List.Elements.{All-nil}
 use Rattle.df_base.specs.Streams.{Appends, AppendsPart}
 use Rattle.df_base.proofs.Laws.{plus_zero}
 use Rattle.df_disk.specs.Told.{Told}
-use Rattle.df_inspect.specs.Prints.{Prints}
 use Rattle.df_script_model.specs.Texts.{body_text, line_of, spaced}
 use Rattle.df_layout.specs.declared.layout.Layout.{Layout}
 use Rattle.df_rows.specs.declared.command.Command.{Command}
@@ -26,7 +25,6 @@ use Rattle.df_session.specs.Below.{State as Replica, memory}
 use Rattle.df_session.specs.Links.{NoCalls}
 use Rattle.df_table.specs.declared.ending.Ending.{Ending}
 use Rattle.df_table.specs.declared.status.Status.{Status}
-use Rattle.df_table.specs.declared.status.Status.TheVariants.{DiskFault, Done, Memory, ReadFault, Refused, Script, Words, WriteFault}
 use Rattle.df_table.specs.Outside.{Step}
 use Rattle.df_program.specs.declared.turn.Turn.TheVariants.{Ends, GoesOn as Goes}
 use Rattle.df_table.specs.Outside.{WritesTableText}

@@ -4,9 +4,10 @@ use Rattle.std.specs.List.{range_with_len, slice_get}
 use Rattle.df_base.proofs.Laws.{zero_plus, not_zero}
 use Rattle.df_disk.specs.Told.{Told}
 use Rattle.df_layout.specs.declared.damage.Class.{Class}
+use Rattle.df_layout.specs.declared.layout.Layout.{Layout}
 use Rattle.df_layout.specs.declared.damage.Class.TheVariants.{Stale}
 use Rattle.df_theory.specs.Found.{IsFound}
-use Rattle.df_theory.specs.Sessions.{noted}
+use Rattle.df_theory.specs.Sessions.{noted, sessions_after}
 use Rattle.df_theory.specs.Tails.{Chain, In}
 use Rattle.df_theory.specs.Units.{AnyUnit, Block, BlockPlace, BlockUnit, Message, PreparePlace, PrepareUnit, Session}
 use Rattle.df_theory.specs.View.{View}
@@ -22,10 +23,12 @@ use Rattle.df_session.specs.Begun.{begun_work}
 use Rattle.df_session.specs.Below.{DataFile, shape, spelling}
 use Rattle.df_session.specs.Reading.{shown_of}
 use Rattle.df_table.specs.Laws.{FindsIn}
-use Rattle.df_table.specs.Opening.{ArePrepares, AreReadBlocks, Found}
+use Rattle.df_table.specs.Opening.{ArePrepares, AreReadBlocks, FindsTable, Found}
+use Rattle.df_table.specs.Policy.{the_client}
 use Rattle.df_table.specs.Table.{IsObjectTable, ShowsBodies, ShowsBody}
+use Rattle.df_table.proofs.Begun.{own_all}
 use Rattle.df_table.proofs.FoundTable.{as_many}
-use Rattle.df_table.proofs.Owned.{OwnView, after_own, own_at}
+use Rattle.df_table.proofs.Owned.{OwnView, after_mine, after_own, each_own, own_at}
 
 -- ---- what is given, where the unit is shown
 
@@ -97,3 +100,13 @@ table_is_found file t v table found own is =
       follow = is.tail;
       is = is.is;
     })
+
+-- and where one is found, all sessions of the file are the client's
+found_table_own : (layout : Layout) (shown : Shown) (m : Memory) (table : Table) → FindsTable layout shown m (Ok table) → (k : ℕ) (s : Session) → slice_get m.sessions k ≡ Some s → s.client ≡ the_client
+found_table_own layout shown m table (Found _ followed) = own_all m followed.blocks.own
+
+pub found_own : (file : DataFile) (t : Told) (v : View) (table : Table) → FindsIn file t v table → OwnView v
+found_own file t v table finds =
+    let m : Memory = memory_of (shape file) (spelling file) (begun_work file t.shown v) in
+    let both = after_mine v.tail v.checkpoint.parts.sessions (each_own (sessions_after v.checkpoint.parts.sessions v.tail) (found_table_own file.layout (shown_of file t.shown) m table finds)) in
+    record { parts = both.0; tail = both.1 }

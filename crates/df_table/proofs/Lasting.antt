@@ -72,7 +72,7 @@ none_taken t (c ∷ changes) = refl
 
 module _ (file : DataFile) where
   -- an image that is left has it, where it has the view with each block that it references
-  has_table : (log : Log) (image : Image) (v : View) (t : Table) → NoChanceOf (format file) log image → Held (shape file) ((format file).unit_at image) v → Stands ((format file).unit_at image) v → IsTableIn file (units_log (format file) log) v t
+  pub has_table : (log : Log) (image : Image) (v : View) (t : Table) → NoChanceOf (format file) log image → Held (shape file) ((format file).unit_at image) v → Stands ((format file).unit_at image) v → IsTableIn file (units_log (format file) log) v t
       → HasTable file t image
   has_table log image v t chance held stands is = record { view = v; held = held; table = table_shown (units_log (format file) log) ((format file).unit_at image) chance file v t stands is }
 

@@ -5,6 +5,7 @@ use Rattle.df_base.specs.Log.{Event, Log}
 use Rattle.df_base.specs.Log as logs
 use Rattle.df_base.specs.Moments.{EachMoment, adds}
 use Rattle.df_base.proofs.Laws.{now_is_image}
+use Rattle.df_damage.specs.Written.{IsWritten}
 use Rattle.df_disk.specs.Told.{Told, did}
 use Rattle.df_disk.specs.Adds.{after_all}
 use Rattle.df_theory.specs.Device.{IsGoodWholeDisk, units_log}
@@ -24,7 +25,6 @@ use Rattle.df_session.specs.Leaving.{image_after}
 use Rattle.df_session.specs.Serving.{EachIsGood, IsCall, IsKept, Keeps, Whole, format, next}
 use Rattle.df_session.specs.Session.{Act}
 use Rattle.df_session.proofs.Laws.{added_is_told}
-use Rattle.df_table.specs.Written.{WasUnitWritten}
 
 -- ---- what is told
 
@@ -73,10 +73,10 @@ module _ (file : DataFile) (a : Act) (s u : Replica) (old mid : Option Told) (x 
   memory_is = subst (λ (f : DataFile). memory s ≡ memory_of (shape f) (spelling f) w) same kept_is.stands
 
   -- what is shown at the end was written
-  pub shown_written : (address : ℕ) (b : Block) → unit_at file.layout file.cluster (logs.now behind.log) (BlockPlace address) ≡ Some (BlockUnit b) → WasUnitWritten (units_log (format file) behind.log) (BlockPlace address) (BlockUnit b)
+  pub shown_written : (address : ℕ) (b : Block) → unit_at file.layout file.cluster (logs.now behind.log) (BlockPlace address) ≡ Some (BlockUnit b) → IsWritten (units_log (format file) behind.log) (BlockPlace address) (BlockUnit b)
   shown_written address b is =
       let units = units_log (format file) behind.log in
-      let by = subst (λ (f : DataFile). now (units_log (format f) behind.log) (BlockPlace address) ≡ Some (BlockUnit b) → WasUnitWritten (units_log (format f) behind.log) (BlockPlace address) (BlockUnit b)) same_behind
+      let by = subst (λ (f : DataFile). now (units_log (format f) behind.log) (BlockPlace address) ≡ Some (BlockUnit b) → IsWritten (units_log (format f) behind.log) (BlockPlace address) (BlockUnit b)) same_behind
       (λ at. let log = units_log (format u.file) behind.log in pool_pools log.start log.events (BlockPlace address) (BlockUnit b) (kept_behind.kept_by.0.tidy.rests.pooled (BlockPlace address) (BlockUnit b) at)) in
       by ((λ i. now_units (format file) behind.log.start behind.log.events i (BlockPlace address)) ∙ is)
 
@@ -88,7 +88,7 @@ module _ (file : DataFile) (a : Act) (s u : Replica) (old mid : Option Told) (x 
 
   -- a block that it writes is written
   pub block_written : (body : List ℕ) → a.command ≡ WriteBlock 1 body → first_refusal (block_refusals (memory s) 1 body) ≡ None
-      → WasUnitWritten (units_log (format file) behind.log) (BlockPlace (next_address (memory s))) (BlockUnit (block_of (memory s).content.boot (supplied_sum a.given) 1 body))
+      → IsWritten (units_log (format file) behind.log) (BlockPlace (next_address (memory s))) (BlockUnit (block_of (memory s).content.boot (supplied_sum a.given) 1 body))
   block_written body is fine =
       let address = next_address (memory s) in
       let sums = supplied_sums a.given in

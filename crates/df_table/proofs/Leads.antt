@@ -2,6 +2,7 @@
 use Rattle.std.proofs.Common.{◌≡◌, ◌≤◌, ℕ, List, [], ◌∷◌, ◌++◌, length, refl, sym, ◌∙◌, ap, subst, arith}
 use Rattle.std.specs.FinMap as map
 use Rattle.std.specs.Prelude.{All}
+use Rattle.df_damage.specs.Written.{IsWritten}
 use Rattle.df_rows.specs.declared.command.Command.{Command}
 use Rattle.df_rows.specs.Blocks.{TakesAll, bodies_of}
 use Rattle.df_rows.specs.Limits.{blocks_of_table, most_rows, rows_in_block}
@@ -11,9 +12,9 @@ use Rattle.df_rows.proofs.Laws.{blocks_are_table, commands_more, some_rows}
 use Rattle.df_model.specs.Blocks.{addresses, entries}
 use Rattle.df_session.specs.Below.{DataFile, shape}
 use Rattle.df_theory.specs.UnitLog.{UnitLog}
-use Rattle.df_theory.specs.Units.{Message, Parts}
+use Rattle.df_theory.specs.Units.{AnyUnit, Message, Parts, Place}
 use Rattle.df_theory.specs.View.{Checkpoint, View}
-use Rattle.df_table.specs.Table.{CommandFollows, FollowAll, references_of}
+use Rattle.df_table.specs.Table.{CommandFollows, FollowAll, HaveBodies, IsTableBy, references_of}
 use Rattle.df_table.specs.Written.{IsTableIn, WroteBodies}
 
 -- one prepare more
@@ -36,11 +37,11 @@ table_appended file log v u t p c same longer follows is = record {
   is = ap (with_command c) is.is ∙ sym (commands_more is.commands (c ∷ []) is.base);
 }
 
--- of a view with the same parts and tail
-pub table_bare : (file : DataFile) (log : UnitLog) (v u : View) (t : Table) → u.checkpoint.parts ≡ v.checkpoint.parts → u.tail ≡ v.tail → IsTableIn file log v t → IsTableIn file log u t
-table_bare file log v u t parts tail is = record {
+-- of a view with the same parts and tail, wherever its blocks are said to be
+pub bare_by : (At : Place → AnyUnit → Type 0) (file : DataFile) (v u : View) (t : Table) → u.checkpoint.parts ≡ v.checkpoint.parts → u.tail ≡ v.tail → IsTableBy At file v t → IsTableBy At file u t
+bare_by At file v u t parts tail is = record {
   bodies = is.bodies;
-  there = subst (λ (l : List (ℕ × ℕ)). WroteBodies log l is.bodies) (sym (ap (λ (p : Parts). entries p.references (addresses (shape file).layout)) parts)) is.there;
+  there = subst (λ (l : List (ℕ × ℕ)). HaveBodies At l is.bodies) (sym (ap (λ (p : Parts). entries p.references (addresses (shape file).layout)) parts)) is.there;
   few = is.few;
   base = is.base;
   rows = is.rows;
@@ -48,6 +49,9 @@ table_bare file log v u t parts tail is = record {
   tail = subst (λ (l : List Message). FollowAll is.base l is.commands) (sym tail) is.tail;
   is = is.is;
 }
+
+pub table_bare : (file : DataFile) (log : UnitLog) (v u : View) (t : Table) → u.checkpoint.parts ≡ v.checkpoint.parts → u.tail ≡ v.tail → IsTableIn file log v t → IsTableIn file log u t
+table_bare file log v u t parts tail is = bare_by (IsWritten log) file v u t parts tail is
 
 -- after a call that leaves the checkpoint and the tail
 pub table_stays : (file : DataFile) (log : UnitLog) (v u : View) (t : Table) → u.checkpoint ≡ v.checkpoint → u.tail ≡ v.tail → IsTableIn file log v t → IsTableIn file log u t

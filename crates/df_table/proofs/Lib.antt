@@ -41,6 +41,7 @@ pub mod FoundTable
 pub mod Asking
 pub mod Tabled
 pub mod Started
+pub mod Leaving
 pub mod Sessioned
 pub mod Owned
 pub mod Finding
@@ -48,5 +49,5 @@ pub mod Served
 pub mod Ordered
 pub mod OneFile
 pub mod Coming
-pub mod Lives
+pub mod Laws
 pub mod SafelyRun

@@ -1,7 +1,6 @@
 -- What an open finds of a disk that may be opened is the file, and what the opening finds is the one table.
 use Rattle.std.proofs.Common.{◌≡◌, ◌⊎◌, inl, inr, ◌∙◌, Ok, Err, sym, subst}
 use Rattle.df_base.specs.Image.{Image}
-use Rattle.df_base.specs.Log.{now}
 use Rattle.df_disk.specs.Told.{Told}
 use Rattle.df_layout.specs.declared.layout.Layout.{Layout}
 use Rattle.df_theory.specs.Found.{IsFound}
@@ -11,7 +10,6 @@ use Rattle.df_model.specs.Memory.{Memory, memory_of}
 use Rattle.df_rows.specs.Tables.{Table}
 use Rattle.df_session.specs.Begun.{begun_work}
 use Rattle.df_session.specs.Below.{DataFile, IsOpened, State as Replica, memory, shape, spelling}
-use Rattle.df_session.specs.Following.{MayOpen}
 use Rattle.df_session.specs.Found.{FoundFile}
 use Rattle.df_session.specs.Reading.{shown_of}
 use Rattle.df_session.proofs.Laws.{file_there, found_file, layout_there}
@@ -28,20 +26,16 @@ use Rattle.df_table.proofs.OneFound.{finds_one}
 pub one_file : (file : DataFile) (layout : Layout) (image : Image) (view : View) (s : Replica) → IsFound (shape file) (unit_at file.layout file.cluster image) view → IsOpened layout image s → s.file ≡ file
 one_file file layout image view s found is = found_file file s.file layout image view is.view found is.found
 
-module _ (file : DataFile) (view : View) (t : Told) (may : MayOpen file view t) where
-  pub shown_now : now t.log ≡ t.shown
-  shown_now = λ i sector. sym (may.honest.shows sector) i
-
-  pub found_here : IsFound (shape file) (unit_at file.layout file.cluster t.shown) view
-  found_here = subst (λ (image : Image). IsFound (shape file) (unit_at file.layout file.cluster image) view) shown_now may.found
-
-  pub found_one : (layout : Layout) (found : FoundFile layout t) → found.replica.file ≡ file
+module _ (file : DataFile) (view : View) (t : Told) (found_here : IsFound (shape file) (unit_at file.layout file.cluster t.shown) view) where
+  found_one : (layout : Layout) (found : FoundFile layout t) → found.replica.file ≡ file
   found_one layout found = file_there layout t found ∙ one_file file layout t.shown view found.found found_here found.is_opened
 
   -- ---- its table
 
-  pub found_of : (table : Table) → FindsIn file t view table → (layout : Layout) (old new : Outside) (status : Status) (found : FoundFile layout t) (serves : ServesTable layout t found old new status) → (serves.opened ≡ Err Disk) ⊎ (serves.opened ≡ Ok table)
-  found_of table is layout old new status found serves = elim serves.finds [
+  -- what its opening finds is that of what is shown, by the view that is found in it
+  pub serves_finds : (layout : Layout) (old new : Outside) (status : Status) (found : FoundFile layout t) (serves : ServesTable layout t found old new status)
+      → (serves.opened ≡ Err Disk) ⊎ FindsTable file.layout (shown_of file t.shown) (memory_of (shape file) (spelling file) (begun_work file t.shown view)) serves.opened
+  serves_finds layout old new status found serves = elim serves.finds [
     | inl disk ↦ inl disk
     | inr finds ↦
         let s = found.replica in
@@ -49,7 +43,12 @@ module _ (file : DataFile) (view : View) (t : Told) (may : MayOpen file view t) 
         let own : FindsTable s.file.layout (shown_of s.file t.shown) (memory_of (shape s.file) (spelling s.file) (begun_work s.file t.shown view)) serves.opened =
         subst (λ (m : Memory). FindsTable s.file.layout (shown_of s.file t.shown) m serves.opened) (serves.calls.stands view there).1
         (subst (λ (l : Layout). FindsTable l (shown_of s.file t.shown) (memory s) serves.opened) (sym (layout_there layout t found)) finds) in
-        let mine : FindsTable file.layout (shown_of file t.shown) (memory_of (shape file) (spelling file) (begun_work file t.shown view)) serves.opened =
-        subst (λ (f : DataFile). FindsTable f.layout (shown_of f t.shown) (memory_of (shape f) (spelling f) (begun_work f t.shown view)) serves.opened) (found_one layout found) own in
-        inr (finds_one file.layout (shown_of file t.shown) (memory_of (shape file) (spelling file) (begun_work file t.shown view)) serves.opened (Ok table) mine is)
+        inr (subst (λ (f : DataFile). FindsTable f.layout (shown_of f t.shown) (memory_of (shape f) (spelling f) (begun_work f t.shown view)) serves.opened) (found_one layout found) own)
+  ]
+
+  -- so it is the one table that is found there
+  pub found_of : (table : Table) → FindsIn file t view table → (layout : Layout) (old new : Outside) (status : Status) (found : FoundFile layout t) (serves : ServesTable layout t found old new status) → (serves.opened ≡ Err Disk) ⊎ (serves.opened ≡ Ok table)
+  found_of table is layout old new status found serves = elim (serves_finds layout old new status found serves) [
+    | inl disk ↦ inl disk
+    | inr mine ↦ inr (finds_one file.layout (shown_of file t.shown) (memory_of (shape file) (spelling file) (begun_work file t.shown view)) serves.opened (Ok table) mine is)
   ]

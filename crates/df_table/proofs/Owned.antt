@@ -1,26 +1,34 @@
 -- Of each view that the calls of a table's session leave all sessions are the client's.
-use Rattle.std.proofs.Common.{◌≡◌, inl, inr, ℕ, zero, suc, ◌==◌, Bool, true, false, if◌then◌else◌, List, [], ◌∷◌, ◌++◌, drop, Option, Some, None, sym, subst}
+use Rattle.std.proofs.Common.{◌≡◌, inl, inr, ℕ, zero, suc, ◌==◌, Bool, true, false, if◌then◌else◌, List, [], ◌∷◌, ◌++◌, drop, Option, Some, None, refl, sym, ◌∙◌, subst, eqb-true}
 use Rattle.std.specs.List.{slice_get}
 use Rattle.df_base.specs.Image.{Image}
-use Rattle.df_base.specs.Log.{IsLeft, Log}
+use Rattle.df_base.specs.Log.{IsLeft, Log, Sync}
+use Rattle.df_base.specs.Moments.{EachMoment, Extends}
+use Rattle.df_base.proofs.Laws.{one_some, weaker}
+use Rattle.df_disk.specs.Told.{Told, did}
 use Rattle.df_theory.specs.Device.{NoChanceOf}
 use Rattle.df_theory.specs.Holds.{Held, Stands}
 use Rattle.df_theory.specs.Next.{IsSameBare}
 use Rattle.df_theory.specs.Sessions.{noted, session_of_header, sessions_after}
 use Rattle.df_theory.specs.Units.{Header, Message, Parts, Session}
 use Rattle.df_theory.specs.View.{View}
-use Rattle.df_model.specs.Change.{Appends, Begins, Change, Ends, LetsGo, Lives, One, Replies, Stays, Writes}
-use Rattle.df_model.specs.Commands.{Command, Given, supplied_sum}
+use Rattle.df_model.specs.After.{with_verdict}
+use Rattle.df_model.specs.Change.{Appends, Begins, Change, Checks, Ends, LetsGo, Lives, One, Replies, Staged, Stages, Stays, TourEnds, Writes}
+use Rattle.df_model.specs.Commands.{Command, Given, supplied_sum, supplied_verdict}
 use Rattle.df_model.specs.Making.{prepare_of}
 use Rattle.df_model.specs.Memory.{memory_of}
 use Rattle.df_model.specs.Work.{Running, Work, kept}
+use Rattle.df_model.specs.declared.answers.Verdict.{Verdict}
+use Rattle.df_model.specs.declared.answers.Verdict.TheVariants.{Failing, Sound}
 use Rattle.df_model.proofs.Laws.{one_thing_law}
+use Rattle.df_session.specs.Begun.{begun_work}
 use Rattle.df_session.specs.Below.{DataFile, shape, spelling}
+use Rattle.df_session.specs.Keeping.{KeepsFile}
 use Rattle.df_session.specs.Links.{list_of}
 use Rattle.df_session.specs.Serving.{Whole, format, next}
-use Rattle.df_session.specs.Session.{Act, Exchange, HasView, HoldsSome, acts_in}
+use Rattle.df_session.specs.Session.{Act, Exchange, HasView, HoldsSome, IsMidway, acts_in}
+use Rattle.df_table.specs.Keeping.{AreClients, IsClients}
 use Rattle.df_table.specs.Policy.{the_client}
-use Rattle.df_table.proofs.Asking.{CallsHave, FailHas, HasChange}
 
 -- ---- sessions and prepares
 
@@ -49,6 +57,27 @@ noted_own h (s ∷ ss) mine own = go (noted_own h ss mine own.1) (s.client == h.
 pub after_own : (ps : List Message) (ss : List Session) → AllOwn ss → AllFrom ps → AllOwn (sessions_after ss ps)
 after_own [] ss own from = own
 after_own (p ∷ ps) ss own from = after_own ps (noted p.header ss) (noted_own p.header ss from.0 own) from.1
+
+-- and where all are that come of it, all were
+noted_mine : (h : Header) (ss : List Session) → AllOwn (noted h ss) → (h.client ≡ the_client) × AllOwn ss
+noted_mine h [] own = (own.0, tt)
+noted_mine h (s ∷ ss) own = go (λ all. noted_mine h ss all) (s.client == h.client) refl own
+  where
+    go : (AllOwn (noted h ss) → (h.client ≡ the_client) × AllOwn ss) → (b : Bool) → (s.client == h.client) ≡ b → AllOwn (if b then session_of_header h ∷ ss else s ∷ noted h ss) → (h.client ≡ the_client) × AllOwn (s ∷ ss)
+    go more true same all = (all.0, (eqb-true s.client h.client same ∙ all.0, all.1))
+    go more false other all = let rest = more all.1 in (rest.0, (all.0, rest.1))
+
+pub after_mine : (ps : List Message) (ss : List Session) → AllOwn (sessions_after ss ps) → AllOwn ss × AllFrom ps
+after_mine [] ss own = (own, tt)
+after_mine (p ∷ ps) ss own =
+    let rest = after_mine ps (noted p.header ss) own in
+    let one = noted_mine p.header ss rest.0 in
+    (one.1, (one.0, rest.1))
+
+-- all are, where each is
+pub each_own : (ss : List Session) → ((k : ℕ) (s : Session) → slice_get ss k ≡ Some s → s.client ≡ the_client) → AllOwn ss
+each_own [] each = tt
+each_own (s ∷ ss) each = (each 0 s refl, each_own ss (λ k x at. each (suc k) x at))
 
 more_from : (ps : List Message) (p : Message) → AllFrom ps → p.header.client ≡ the_client → AllFrom (ps ++ p ∷ [])
 more_from [] p from one = (one, tt)
@@ -79,10 +108,14 @@ module _ (file : DataFile) where
   unsome : (r q : Running) → Some r ≡ Some q → r ≡ q
   unsome r q is = cc
 
-  changed_own : (w : Work) (given : Given) (c : Command) (u : Work) → HasChange c → OwnWork w → Change (shape file) (spelling file) w given c u → OwnWork u
+  checked_own : (w : Work) (a : ℕ) (v : Verdict) → OwnWork w → OwnWork (with_verdict w a v)
+  checked_own w a Sound own = record { view = own.view; captured = own.captured }
+  checked_own w a (Failing class) own = record { view = own.view; captured = own.captured }
+
+  changed_own : (w : Work) (given : Given) (c : Command) (u : Work) → IsClients c → OwnWork w → Change (shape file) (spelling file) w given c u → OwnWork u
   changed_own w given c u has own (Stays _ idle) = own
   changed_own w given c u has own (Appends _ ps (One client request body none staged)) =
-      record { view = record { parts = own.view.parts; tail = more_from w.view.tail (prepare_of (memory_of (shape file) (spelling file) w) (supplied_sum given) client request body) own.view.tail has.3 }; captured = own.captured }
+      record { view = record { parts = own.view.parts; tail = more_from w.view.tail (prepare_of (memory_of (shape file) (spelling file) w) (supplied_sum given) client request body) own.view.tail has }; captured = own.captured }
   changed_own w given c u has own (Replies op body none) = record { view = record { parts = own.view.parts; tail = own.view.tail }; captured = own.captured }
   changed_own w given c u has own (Lives kind body none) = record { view = own.view; captured = own.captured }
   changed_own w given c u has own (LetsGo address none) = record { view = own.view; captured = own.captured }
@@ -91,9 +124,12 @@ module _ (file : DataFile) where
   changed_own w given c u has own (Writes r a more running left) = record { view = own.view; captured = λ q at. subst (λ (x : Running). AllOwn x.parts.sessions) (unsome _ q at) (own.captured r running) }
   changed_own w given c u has own (Ends r running left) =
       record { view = record { parts = own.captured r running; tail = drop_from _ w.view.tail own.view.tail }; captured = λ q at. absurd (let none : None ≡ Some q = at in cc) }
-  changed_own w given c u has own change = absurd has
+  changed_own w given c u has own (Appends _ ps (Staged none)) = absurd has
+  changed_own w given c u has own (Stages client request body none) = absurd has
+  changed_own w given c u has own (Checks x more list) = checked_own w x.0 (supplied_verdict given) own
+  changed_own w given c u has own (TourEnds none) = record { view = own.view; captured = own.captured }
 
-  next_own : (w : Work) (given : Given) (c : Command) → HasChange c → OwnWork w → OwnWork (next file w given c).0
+  next_own : (w : Work) (given : Given) (c : Command) → IsClients c → OwnWork w → OwnWork (next file w given c).0
   next_own w given c has own = changed_own w given c (next file w given c).0 has own (one_thing_law (shape file) (spelling file) w given c)
 
   -- ---- what is left
@@ -111,17 +147,27 @@ module _ (file : DataFile) where
   view_seen : (w : Work) (image : Image) → OwnWork w → HasView file Whole w image → Seen image
   view_seen w image own has = record { view = has.0; held = has.2.0; stands = has.2.1; own = own_bare (kept w) has.0 has.1 own.view }
 
-  abbrev ActsHave : List Act → Type 0
-  ActsHave [] = Unit {0}
-  ActsHave (a ∷ acts) = HasChange a.command × ActsHave acts
-
   -- after some of these acts
-  pub some_seen : (acts : List Act) (w : Work) (image : Image) → ActsHave acts → OwnWork w → HoldsSome file Whole w acts image → Seen image
+  pub some_seen : (acts : List Act) (w : Work) (image : Image) → AreClients acts → OwnWork w → HoldsSome file Whole w acts image → Seen image
   some_seen [] w image have own has = view_seen w image own has
   some_seen (a ∷ acts) w image have own (inl has) = view_seen w image own has
   some_seen (a ∷ acts) w image have own (inr more) = some_seen acts (next file w a.given a.command).0 image have.1 (next_own w a.given a.command have.0 own) more
 
-  pub all_have : (xs : List Exchange) (failed : Option Act) → CallsHave xs → FailHas failed → ActsHave (acts_in xs ++ list_of failed)
-  all_have [] None have fails = tt
-  all_have [] (Some a) have fails = (fails, tt)
-  all_have (x ∷ xs) failed have fails = (have.0, all_have xs failed have.1 fails)
+-- ---- what is kept of calls
+
+-- a file as an open begins it
+pub own_begun : (file : DataFile) (image : Image) (v : View) → OwnView v → OwnWork (begun_work file image v)
+own_begun file image v own = record { view = record { parts = own.parts; tail = own.tail }; captured = λ r none. absurd (cc (none)) }
+
+module _ (file : DataFile) (w : Work) (b : Told) (xs : List Exchange) (failed : Option Act) (end : Told) (keeps : KeepsFile file Whole w b xs failed (Some end)) where
+  same_end : keeps.after ≡ end
+  same_end = one_some (Some end) keeps.after end keeps.is refl
+
+  pub kept_barrier : Extends end.log (did Sync b).log
+  kept_barrier = subst (λ (x : Told). Extends x.log (did Sync b).log) same_end keeps.barrier
+
+  -- at each moment, where they are the client's
+  pub kept_seen : OwnWork w → AreClients (acts_in xs ++ list_of failed) → EachMoment (did Sync b).log end.log (EachSeen file)
+  kept_seen own clients =
+      weaker (did Sync b).log end.log (IsMidway file Whole w (acts_in xs ++ list_of failed)) (EachSeen file) (λ log mid image left no. some_seen file (acts_in xs ++ list_of failed) w image clients own (mid.left image left no))
+      (subst (λ (x : Told). EachMoment (did Sync b).log x.log (IsMidway file Whole w (acts_in xs ++ list_of failed))) same_end keeps.moments)

@@ -29,6 +29,7 @@ use Rattle.df_table.specs.Session.{EndsAs, Halt, HaltsIn, NotOpened, Served, Ser
 use Rattle.df_table.specs.Statuses.{status_of}
 use Rattle.df_table.specs.Turns.{IsOfCall, table_said}
 use Rattle.df_table.proofs.OneFile.{found_of}
+use Rattle.df_table.proofs.Started.{shown_there}
 use Rattle.df_table.proofs.Sessioned.{called_told}
 
 -- ---- a text that is whole has no line that is refused
@@ -108,7 +109,7 @@ module _ (file : DataFile) (view : View) (table : Table) (t : Told) (text : List
       let c = serves.1.made in
       let told = called_told file.layout found.replica found.mended old new status serves.1.opened serves.1.serves c serves.1.of in
       let es = found.mending.events in
-      serves_end found.replica found.mended serves.1.opened serves.1.serves (found_of file view t may table finds file.layout old new status found serves.1)
+      serves_end found.replica found.mended serves.1.opened serves.1.serves (found_of file view t (shown_there file view t t refl may) table finds file.layout old new status found serves.1)
       (_, sym told.1 ∙ serves.1.calls.adds ∙ ap (after_all (events_made c)) (found.mending.told ∙ added_is_told es (did Sync t)) ∙ added_is_told (events_made c) _)
 
   pub outcome_ends : old.told ≡ Some t → TableOutcome t old new status → Ends

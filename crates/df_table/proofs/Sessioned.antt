@@ -1,20 +1,23 @@
 -- What is kept of a table by the calls of a session, by each log by which the file might be opened: so it is of a session, whatever ended it.
-use Rattle.std.proofs.Common.{◌≡◌, inl, inr, ℕ, true, List, ◌++◌, take, drop, Option, Some, None, Result, Ok, Err, refl, sym, ◌∙◌, subst}
+use Rattle.std.proofs.Common.{◌≡◌, inl, inr, ℕ, true, List, [], ◌++◌, take, drop, Option, Some, None, Result, Ok, Err, refl, sym, ◌∙◌, ap, subst}
 use Rattle.df_base.specs.Image.{IsImage}
-use Rattle.df_base.specs.Log.{Log, Sync}
+use Rattle.df_base.specs.Log.{Event, Log, Sync}
 use Rattle.df_base.specs.Moments.{EachMoment, Extends}
+use Rattle.df_base.proofs.Laws.{started}
 use Rattle.df_disk.specs.Told.{Told, did}
 use Rattle.df_layout.specs.declared.layout.Layout.{Layout}
+use Rattle.df_theory.specs.Found.{IsFound}
 use Rattle.df_theory.specs.View.{View}
 use Rattle.df_units.specs.Bytes.{unit_at}
 use Rattle.df_model.specs.Memory.{Memory}
 use Rattle.df_model.specs.Work.{Work}
 use Rattle.df_rows.specs.declared.command.Command.{Command as Change}
 use Rattle.df_rows.specs.Tables.{Table, with_commands}
-use Rattle.df_session.specs.Acknowledging.{HadAnswers}
+use Rattle.df_session.specs.Acknowledging.{HadAnswers, WereAnswered}
+use Rattle.df_session.specs.Anew.{begun_after}
 use Rattle.df_session.specs.Begun.{begun_work}
-use Rattle.df_session.specs.Below.{DataFile, State as Replica, memory, told_after}
-use Rattle.df_session.specs.Following.{MayOpen}
+use Rattle.df_session.specs.Below.{DataFile, State as Replica, memory, shape, told_after}
+use Rattle.df_session.specs.Found.{FoundFile}
 use Rattle.df_session.specs.Links.{CallsMade, EndsCalls, call_events, events_made, events_to}
 use Rattle.df_session.specs.Opened.{MendsAll}
 use Rattle.df_session.specs.Reading.{shown_of}
@@ -25,17 +28,18 @@ use Rattle.df_session.proofs.Laws.{joined}
 use Rattle.df_table.specs.declared.ending.Ending.{Ending}
 use Rattle.df_table.specs.declared.ending.Ending.TheVariants.{Disk}
 use Rattle.df_table.specs.declared.status.Status.{Status}
-use Rattle.df_table.specs.Keeping.{AreChanges, IsPending, IsTableMidway, KeepsTable}
+use Rattle.df_table.specs.Keeping.{AreChanges, IsPending, IsTableMidway, KeepsFrom, KeepsTable}
 use Rattle.df_table.specs.Opening.{FindsOf, FindsTable}
 use Rattle.df_table.specs.Outside.{Outside}
 use Rattle.df_table.specs.Policy.{opening}
+use Rattle.df_table.specs.Run.{ServesTable}
 use Rattle.df_table.specs.Session.{AreCallsOf, NotOpened, Served, ServesFoundTable, halted_exchanges, halted_failed}
 use Rattle.df_table.specs.Table.{IsObjectTable}
 use Rattle.df_table.specs.Turns.{table_exchanges}
-use Rattle.df_table.proofs.Asking.{CallsHave, FailHas, asked_have, asks_ends, asks_made, calls_have, changes_there, opening_has, pending_there}
+use Rattle.df_table.proofs.Asking.{CallsHave, FailHas, asked_have, asks_ends, asks_made, calls_have, changes_there, clients_in, opening_has, pending_there}
 use Rattle.df_table.proofs.FoundTable.{found_is_table}
-use Rattle.df_table.proofs.Lasting.{At, at_end, each_moment, from_answer, grew}
-use Rattle.df_table.proofs.Started.{at_begin, found_there, mending_moments}
+use Rattle.df_table.proofs.Lasting.{At, at_end, each_moment, from_answer, grew, mid_kept}
+use Rattle.df_table.proofs.Started.{at_anew, at_begin, found_there, mending_moments}
 use Rattle.df_table.proofs.Tabled.{acts_stand, lines_have, lines_kept, opening_then, opening_to_end}
 use Rattle.df_table.proofs.Tables.{table_is_one}
 use Rattle.df_table.proofs.Walked.{KeptAll}
@@ -77,8 +81,8 @@ module _ (t : Told) (s : Replica) (mended : Option Told) (over : MendsAll t s me
   -- these calls, however they were made, leave the table or change it by their commands
   abbrev EachKept : List Exchange → Option Act → Type 0
   EachKept xs failed =
-      (u : Replica) (mid : Option Told) (view : View) (base : Told) (table : Table) → base.shown ≡ t.shown → MayOpen s.file view base → IsObjectTable s.file (unit_at s.file.layout s.file.cluster t.shown) view table
-      → KeptAll s.file failed u mid s mended (begun_work s.file t.shown view) (begins base) table xs
+      (u : Replica) (mid : Option Told) (view : View) (n : Told) (table : Table) → IsFound (shape s.file) (unit_at s.file.layout s.file.cluster t.shown) view → IsObjectTable s.file (unit_at s.file.layout s.file.cluster t.shown) view table
+      → At s.file s (begun_work s.file t.shown view) n table → KeptAll s.file failed u mid s mended (begun_work s.file t.shown view) n table xs
 
   module _ (made : CallsMade) (xs : List Exchange) (failed : Option Act) (from_is : made.from ≡ s) (old_is : made.old ≡ mended) (exchanges_is : made.exchanges ≡ xs) (failed_is : made.failed ≡ failed)
       (have : CallsHave made.exchanges × FailHas made.failed) (each : EachKept xs failed) where
@@ -95,28 +99,53 @@ module _ (t : Told) (s : Replica) (mended : Option Told) (over : MendsAll t s me
         (subst (λ (o : Option Told). KeptAll s.file failed u mid s o w n table made.exchanges) (sym old_is)
         (subst (KeptAll s.file failed u mid s mended w n table) (sym exchanges_is) kept)))
 
+    -- from what the table is there on, whatever was told before
+    module _ (view : View) (n : Told) (table : Table) (found : IsFound (shape s.file) (unit_at s.file.layout s.file.cluster t.shown) view) (is : IsObjectTable s.file (unit_at s.file.layout s.file.cluster t.shown) view table)
+        (begun : At s.file s (begun_work s.file t.shown view) n table) where
+      abbrev w : Work
+      w = begun_work s.file t.shown view
+
+      abbrev pub after : Told
+      after = told_after (events_made made) n
+
+      at : At s.file made.from w n table
+      at = subst (λ (r : Replica). At s.file r w n table) (sym from_is) begun
+
+      kept : (u : Replica) (mid : Option Told) → KeptAll s.file made.failed u mid made.from made.old w n table made.exchanges
+      kept u mid = made_kept u mid w n table (each u mid view n table found is begun)
+
+      pub kept_from : (base : Told) (mending : List Event) → told_after mending (did Sync base) ≡ n → EachMoment (did Sync base).log n.log (IsTableMidway s.file table (there.0 ++ pends.0)) → KeepsFrom s.file table base mending made there.0 pends.0 after
+      kept_from base mending same opens = record {
+        is = ap (λ (o : Told). Some (told_after (events_made made) o)) same;
+        moments =
+            joined (did Sync base).log n.log after.log (IsTableMidway s.file table (there.0 ++ pends.0)) (grew (events_made made) n) opens
+            (moments_all s.file made.from made.to made.old made.new made.exchanges w n table at there.0 pends.0 there.1 made.failed made.calls kept pends.1);
+        answered = λ k log some more before behind had until.
+            answered_all s.file made.from made.to made.old made.new made.exchanges w n table at there.0 pends.0 there.1 made.failed made.calls kept pends.1 k log some more before behind
+            (subst (λ (o : Told). WereAnswered k (Some o) log made) same had) until;
+        end_safe = end_all s.file made.from made.to made.old made.new made.exchanges w n table at there.0 pends.0 there.1 made.failed made.calls kept pends.1;
+      }
+
     pub keeps_table : KeepsTable t s over.mending.events made
     keeps_table = record {
       changes = there.0;
       pending = pends.0;
       are = there.1;
       is_pending = pends.1;
+      own = clients_in made.exchanges made.failed have.0 have.1;
       keeps = λ view base table same may is.
-          let w = begun_work s.file t.shown view in
           let n = begins base in
-          let at : At s.file made.from w n table = subst (λ (r : Replica). At s.file r w n table) (sym from_is) (at_begin t s mended over whole live view base table same may is) in
-          let kept : (u : Replica) (mid : Option Told) → KeptAll s.file made.failed u mid made.from made.old w n table made.exchanges = λ u mid. made_kept u mid w n table (each u mid view base table same may is) in
-          let after = told_after (events_made made) n in (
-            after,
-            record {
-              is = refl;
-              moments =
-                  joined (did Sync base).log n.log after.log (IsTableMidway s.file table (there.0 ++ pends.0)) (grew (events_made made) n) (mending_moments t s mended over whole live view base table same may is (there.0 ++ pends.0))
-                  (moments_all s.file made.from made.to made.old made.new made.exchanges w n table at there.0 pends.0 there.1 made.failed made.calls kept pends.1);
-              answered = λ k log some more before behind had until.
-                  answered_all s.file made.from made.to made.old made.new made.exchanges w n table at there.0 pends.0 there.1 made.failed made.calls kept pends.1 k log some more before behind had until;
-              end_safe = end_all s.file made.from made.to made.old made.new made.exchanges w n table at there.0 pends.0 there.1 made.failed made.calls kept pends.1;
-            },
+          let found = found_there t s mended over whole live view base table same may is in
+          let at = at_begin t s mended over whole live view base table same may is in (
+            after view n table found is at,
+            kept_from view n table found is at base over.mending.events refl (mending_moments t s mended over whole live view base table same may is (there.0 ++ pends.0)),
+          );
+      anew = λ view table image found distinct is.
+          let base = begun_after over.mending.events t in
+          let n = did Sync base in
+          let at = at_anew t s mended over whole live view table found distinct is in (
+            after view n table found is at,
+            kept_from view n table found is at base [] refl (started n.log (IsTableMidway s.file table (there.0 ++ pends.0)) (mid_kept s.file s (begun_work s.file t.shown view) n table (there.0 ++ pends.0) at)),
           );
     }
 
@@ -126,6 +155,18 @@ module _ (t : Told) (s : Replica) (mended : Option Told) (over : MendsAll t s me
 pub called_told : (layout : Layout) (s : Replica) (told : Option Told) (old new : Outside) (status : Status) (opened : Result Table Ending) (serves : ServesFoundTable layout s told old new status opened) (c : CallsMade) → AreCallsOf layout s told old new status opened serves c → (c.old ≡ told) × (c.new ≡ new.told)
 called_told layout s told old new status opened (NotOpened ending last ends unread writes) c are = (are.1, are.2)
 called_told layout s told old new status opened (Served found r mid opens lines) c are = (are.1, are.2)
+
+-- and the replica on which they were made
+called_from : (layout : Layout) (s : Replica) (told : Option Told) (old new : Outside) (status : Status) (opened : Result Table Ending) (serves : ServesFoundTable layout s told old new status opened) (c : CallsMade) → AreCallsOf layout s told old new status opened serves c → c.from ≡ s
+called_from layout s told old new status opened (NotOpened ending last ends unread writes) c are = are.0
+called_from layout s told old new status opened (Served found r mid opens lines) c are = are.0
+
+-- so the calls of a run of the table were made on what was found
+pub made_on_found : (layout : Layout) (t : Told) (found : FoundFile layout t) (old new : Outside) (status : Status) (serves : ServesTable layout t found old new status)
+    → (serves.made.from ≡ found.replica) × (serves.made.old ≡ found.mended) × (serves.made.new ≡ new.told)
+made_on_found layout t found old new status serves =
+    let told = called_told layout found.replica found.mended old new status serves.opened serves.serves serves.made serves.of in
+    (called_from layout found.replica found.mended old new status serves.opened serves.serves serves.made serves.of, told.0, told.1)
 
 -- a table's program asks for each of them
 pub called_have : (layout : Layout) (s : Replica) (told : Option Told) (old new : Outside) (status : Status) (opened : Result Table Ending) (serves : ServesFoundTable layout s told old new status opened) (c : CallsMade) → AreCallsOf layout s told old new status opened serves c → CallsHave c.exchanges × FailHas c.failed
@@ -151,19 +192,15 @@ pub sessions_keep : SessionsKeepTable
 sessions_keep layout t s mended over old new status opened (NotOpened ending last ends unread writes) made whole live own finds are =
     let asks = asks_ends (opening (memory s)) s last mended new.told ending ends in
     keeps_table t s mended over whole live made ends.exchanges ends.failed are.0 are.1 are.3 are.4 (called_have layout s mended old new status opened (NotOpened ending last ends unread writes) made are)
-    (λ u mid view base table same may is.
-    opening_to_end s.file ends.failed u mid s mended (begun_work s.file t.shown view) (told_after over.mending.events (did Sync base)) table (at_begin t s mended over whole live view base table same may is) ends.exchanges (memory s) asks)
+    (λ u mid view n table there is at. opening_to_end s.file ends.failed u mid s mended (begun_work s.file t.shown view) n table at ends.exchanges (memory s) asks)
 sessions_keep layout t s mended over old new status opened (Served found r mid opens lines) made whole live own finds are =
     let halted = halted_exchanges layout lines.replica lines.mid lines.table lines.halt lines.last new.told lines.halts in
     let failed = halted_failed layout lines.replica lines.mid lines.table lines.halt lines.last new.told lines.halts in
     let asks = asks_made (opening (memory s)) opens.exchanges opens.are opens.accepted in
     keeps_table t s mended over whole live made (opens.exchanges ++ (table_exchanges lines.turns ++ halted)) failed are.0 are.1 are.3 are.4
     (called_have layout s mended old new status opened (Served found r mid opens lines) made are)
-    (λ u new_told view base table same may is.
+    (λ u new_told view n table there is at.
     let w = begun_work s.file t.shown view in
-    let n = told_after over.mending.events (did Sync base) in
-    let at = at_begin t s mended over whole live view base table same may is in
-    let there = found_there t s mended over whole live view base table same may is in
     let stands : Keeps Firm s w None = begun_here t s mended over view whole there in
     let one : table ≡ found = elim finds [
       | inl disk ↦ absurd (no_disk found disk)

@@ -7,40 +7,44 @@ use Rattle.df_base.specs.Log as logs
 use Rattle.df_base.specs.Log.{Sync}
 use Rattle.df_base.specs.Moments.{EachMoment}
 use Rattle.df_base.proofs.Laws.{one_some}
+use Rattle.df_damage.specs.Written.{IsWritten}
 use Rattle.df_disk.specs.Told.{Told, did}
 use Rattle.df_theory.specs.Chance.{NoChance}
 use Rattle.df_theory.specs.Device.{units_log}
 use Rattle.df_theory.specs.Found.{IsFound}
 use Rattle.df_theory.specs.Holds.{Stands}
 use Rattle.df_theory.specs.UnitLog.{UnitLog}
-use Rattle.df_theory.specs.Units.{AnyUnit, Block, BlockPlace, BlockUnit, Place, Units}
+use Rattle.df_theory.specs.Units.{Block, BlockPlace, BlockUnit, Units}
 use Rattle.df_theory.specs.View.{View}
+use Rattle.df_theory.proofs.Laws.{pool_pools}
 use Rattle.df_units.specs.Bytes.{unit_at}
 use Rattle.df_model.specs.Blocks.{entries, entry}
 use Rattle.df_model.specs.Work.{Work, is_captured, is_known, is_of, kept}
 use Rattle.df_rows.specs.declared.command.Command.{Command as Change}
 use Rattle.df_rows.specs.Tables.{Table}
+use Rattle.df_session.specs.Anew.{begun_after}
 use Rattle.df_session.specs.Begun.{begun_work}
-use Rattle.df_session.specs.Below.{DataFile, State as Replica, shape, told_after}
+use Rattle.df_session.specs.Below.{AreDistinctUnits, DataFile, State as Replica, shape, told_after}
 use Rattle.df_session.specs.Following.{MayOpen}
-use Rattle.df_session.specs.Opened.{MendsAll, begun_state}
-use Rattle.df_session.specs.Serving.{Whole, format}
-use Rattle.df_session.proofs.Laws.{calls_keep}
+use Rattle.df_session.specs.Leaving.{image_after}
+use Rattle.df_session.specs.Opened.{Mends, MendsAll, begun_state}
+use Rattle.df_session.specs.Serving.{Firm, Keeps, Whole, format}
+use Rattle.df_session.proofs.Laws.{calls_keep, kept_synced, shown_after}
 use Rattle.df_session.specs.Links.{NoCalls}
 use Rattle.df_table.specs.Keeping.{IsTableMidway}
 use Rattle.df_table.specs.Table.{IsObjectTable, ShowsBodies, references_of}
-use Rattle.df_table.specs.Written.{IsTableIn, WasUnitWritten}
+use Rattle.df_table.specs.Written.{IsTableIn}
 use Rattle.df_table.proofs.Lasting.{At, grew, mid_of, none_taken, table_later}
 use Rattle.df_table.proofs.Leads.{table_bare}
-use Rattle.df_table.proofs.Written.{bodies_as, in_pools, table_as}
+use Rattle.df_table.proofs.Written.{bodies_as, table_as}
 
 -- ---- what is shown was written
 
 module _ (log : UnitLog) (image : Units) (chance : NoChance log image) where
   pub table_written : (file : DataFile) (v : View) (t : Table) → IsObjectTable file image v t → IsTableIn file log v t
   table_written file v t is =
-      let written : (place : Place) (x : AnyUnit) → image place ≡ Some x → WasUnitWritten log place x = λ place x there. in_pools log.start log.events place x (chance.pooled place x there) in
-      table_as (λ place unit. image place ≡ Some unit) (WasUnitWritten log) file v t (bodies_as (λ place unit. image place ≡ Some unit) (WasUnitWritten log) written (references_of file v)) is
+      let written : (a : ℕ) (b : Block) → image (BlockPlace a) ≡ Some (BlockUnit b) → IsWritten log (BlockPlace a) (BlockUnit b) = λ a b there. pool_pools log.start log.events (BlockPlace a) (BlockUnit b) (chance.pooled (BlockPlace a) (BlockUnit b) there) in
+      table_as (λ place unit. image place ≡ Some unit) (IsWritten log) file v t (bodies_as (λ place unit. image place ≡ Some unit) (IsWritten log) written (references_of file v)) is
 
 -- ---- each block is shown that is referenced
 
@@ -62,6 +66,23 @@ module _ (image : Units) (f : ℕ → Option ℕ) where
   all_shown s (suc n) bodies shown a c from to is =
       shown_case s a c (entries f (range_with_len (s + 1) n)) is (f s) refl bodies shown (λ apart more there. all_shown (s + 1) n more there a c (omega (arith, from, apart)) (omega (arith, to)) is) (cases_eq s a)
 
+-- so it is of a view for which a replica stands, where its table is there
+pub stands_shown : (s : Replica) (t : Told) (view : View) (table : Table) → Keeps Firm s (begun_work s.file t.shown view) None → IsObjectTable s.file (unit_at s.file.layout s.file.cluster t.shown) view table → Stands (unit_at s.file.layout s.file.cluster t.shown) view
+stands_shown s t view table here is a c referenced =
+    let w = begun_work s.file t.shown view in
+    let inside = here.0.grid a (ap (λ (o : Option ℕ). is_known o || (is_captured a w.running || (is_known (w.view.checkpoint.parts.references a) || is_of a w.view.checkpoint.chain))) referenced) in
+    all_shown (unit_at s.file.layout s.file.cluster t.shown) view.checkpoint.parts.references 1 s.file.layout.blocks is.bodies is.there a c inside.0 (omega (arith, inside.1)) referenced
+
+-- by a base that shows what was shown, and by which the file may be opened, the view is found in it, and its table is that of what was written before the barrier
+pub shown_there : (file : DataFile) (view : View) (base t : Told) → base.shown ≡ t.shown → MayOpen file view base → IsFound (shape file) (unit_at file.layout file.cluster t.shown) view
+shown_there file view base t same may = subst (λ (image : Image). IsFound (shape file) (unit_at file.layout file.cluster image) view) ((λ i sector. sym (may.honest.shows sector) i) ∙ same) may.found
+
+pub table_at : (file : DataFile) (view : View) (base t : Told) (table : Table) → base.shown ≡ t.shown → MayOpen file view base → IsObjectTable file (unit_at file.layout file.cluster t.shown) view table → IsTableIn file (units_log (format file) (did Sync base).log) view table
+table_at file view base t table same may is =
+    table_later file base.log (did Sync base).log view table (Sync ∷ [], refl, refl)
+    (table_written (units_log (format file) base.log) ((format file).unit_at (logs.now base.log)) may.no_chance file view table
+    (subst (λ (image : Image). IsObjectTable file (unit_at file.layout file.cluster image) view table) (sym ((λ i sector. sym (may.honest.shows sector) i) ∙ same)) is))
+
 -- ---- an open
 
 module _ (t : Told) (s : Replica) (mended : Option Told) (over : MendsAll t s mended) (whole : IsImage t.shown) (live : s.live ≡ true) (view : View) (base : Told) (table : Table) (same : base.shown ≡ t.shown) (may : MayOpen s.file view base)
@@ -69,28 +90,17 @@ module _ (t : Told) (s : Replica) (mended : Option Told) (over : MendsAll t s me
   abbrev pub behind : Told
   behind = told_after over.mending.events (did Sync base)
 
-  shows : logs.now base.log ≡ t.shown
-  shows = (λ i sector. sym (may.honest.shows sector) i) ∙ same
-
   pub found_there : IsFound (shape s.file) (unit_at s.file.layout s.file.cluster t.shown) view
-  found_there = subst (λ (image : Image). IsFound (shape s.file) (unit_at s.file.layout s.file.cluster image) view) shows may.found
+  found_there = shown_there s.file view base t same may
 
   abbrev pub work : Work
   work = begun_work s.file t.shown view
 
   stands : Stands (unit_at s.file.layout s.file.cluster t.shown) view
-  stands a c referenced =
-      let sense = ((calls_keep t s mended over s mended [] None NoCalls whole live).stands view found_there).0 in
-      let inside = sense.grid a (ap (λ (o : Option ℕ). is_known o || (is_captured a work.running || (is_known (work.view.checkpoint.parts.references a) || is_of a work.view.checkpoint.chain))) referenced) in
-      all_shown (unit_at s.file.layout s.file.cluster t.shown) view.checkpoint.parts.references 1 s.file.layout.blocks is.bodies is.there a c inside.0 (omega (arith, inside.1)) referenced
-
-  at_base : IsTableIn s.file (units_log (format s.file) base.log) view table
-  at_base =
-      table_written (units_log (format s.file) base.log) ((format s.file).unit_at (logs.now base.log)) may.no_chance s.file view table
-      (subst (λ (image : Image). IsObjectTable s.file (unit_at s.file.layout s.file.cluster image) view table) (sym shows) is)
+  stands = stands_shown s t view table ((calls_keep t s mended over s mended [] None NoCalls whole live).stands view found_there) is
 
   at_barrier : IsTableIn s.file (units_log (format s.file) (did Sync base).log) view table
-  at_barrier = table_later s.file base.log (did Sync base).log view table (Sync ∷ [], refl, refl) at_base
+  at_barrier = table_at s.file view base t table same may is
 
   -- after the open the table is there
   pub at_begin : At s.file s work behind table
@@ -109,3 +119,33 @@ module _ (t : Told) (s : Replica) (mended : Option Told) (over : MendsAll t s me
       let here = table_later s.file (did Sync base).log log view table moment.since at_barrier in
       mid_of s.file log view later table changes 0 here
       (subst (λ (x : Table). IsTableIn s.file (units_log (format s.file) log) later x) (sym (none_taken table changes)) (table_bare s.file (units_log (format s.file) log) view later table opens.bare.parts opens.bare.tail here)) (opens.moments log moment)
+
+-- ---- after an open, whatever was done to the disk before
+
+-- what was shown of a table is written in the log that is begun at the end of an open
+module _ (file : DataFile) (t : Told) (mended : Option Told) (mending : Mends file (Some (did Sync t)) mended) (whole : IsImage t.shown) where
+  abbrev begun : Told
+  begun = begun_after mending.events t
+
+  pub table_anew : (v u : View) (table : Table) → u.checkpoint.parts ≡ v.checkpoint.parts → u.tail ≡ v.tail → IsObjectTable file (unit_at file.layout file.cluster t.shown) v table → IsTableIn file (units_log (format file) (did Sync begun).log) u table
+  table_anew v u table parts tail is =
+      let shows : begun.shown ≡ image_after mending.events t.shown = shown_after mending.events (did Sync t) in
+      let written : (a : ℕ) (b : Block) → unit_at file.layout file.cluster t.shown (BlockPlace a) ≡ Some (BlockUnit b) → IsWritten (units_log (format file) begun.log) (BlockPlace a) (BlockUnit b) =
+      λ a b there. inl (inl (ap (λ (i : Image). unit_at file.layout file.cluster i (BlockPlace a)) shows ∙ (mending.spares t.shown whole).units.block a ∙ there)) in
+      let at : IsTableIn file (units_log (format file) begun.log) v table =
+      table_as (λ place unit. unit_at file.layout file.cluster t.shown place ≡ Some unit) (IsWritten (units_log (format file) begun.log)) file v table
+      (bodies_as (λ place unit. unit_at file.layout file.cluster t.shown place ≡ Some unit) (IsWritten (units_log (format file) begun.log)) written (references_of file v)) is in
+      table_bare file (units_log (format file) (did Sync begun).log) v u table parts tail (table_later file begun.log (did Sync begun).log v table (Sync ∷ [], refl, refl) at)
+
+-- so the table is there, where calls begin
+pub at_anew : (t : Told) (s : Replica) (mended : Option Told) (over : MendsAll t s mended) → IsImage t.shown → s.live ≡ true → (view : View) (table : Table) → IsFound (shape s.file) (unit_at s.file.layout s.file.cluster t.shown) view
+    → AreDistinctUnits (unit_at s.file.layout s.file.cluster t.shown) → IsObjectTable s.file (unit_at s.file.layout s.file.cluster t.shown) view table → At s.file s (begun_work s.file t.shown view) (did Sync (begun_after over.mending.events t)) table
+at_anew t s mended over whole live view table found distinct is =
+    let none = calls_keep t s mended over s mended [] None NoCalls whole live in
+    let w = begun_work s.file t.shown view in
+    record {
+      same = refl;
+      live = live;
+      kept_is = kept_synced Whole s w (begun_after over.mending.events t) (none.anew Whole view found distinct (stands_shown s t view table (none.stands view found) is)).kept;
+      table = table_anew s.file t mended over.mending whole view (kept w) table refl refl is;
+    }

@@ -1,8 +1,8 @@
 -- What a command makes of the view: no other one than an append or a checkpoint's last step changes its checkpoint or its tail.
 use Rattle.std.proofs.Common.{◌≡◌, ◌≤◌, ◌-◌, ℕ, zero, suc, List, [], ◌∷◌, length, drop, Option, Some, None, refl, arith}
-use Rattle.df_model.specs.After.{outcome, with_live, with_running, begun}
+use Rattle.df_model.specs.After.{outcome, with_live, with_running, with_verdict, begun}
 use Rattle.df_model.specs.Change.{Appends, Change, Checks, Ends, One, Staged, Writes}
-use Rattle.df_model.specs.Commands.{Advance, Append, Begin, Command, Flush, Given, Release, Scrub, ToBegin, ToRelease, ToWriteBlock, WriteBlock, supplied_sum}
+use Rattle.df_model.specs.Commands.{Advance, Append, Begin, Command, Flush, Given, Release, ToBegin, ToRelease, ToWriteBlock, WriteBlock, supplied_sum, supplied_verdict}
 use Rattle.df_model.specs.Making.{needed_of, next_address}
 use Rattle.df_model.specs.Memory.{Memory, memory_of}
 use Rattle.df_model.specs.Refusals.{begin_refusals, block_refusals, first_refusal, release_refusals}
@@ -10,6 +10,8 @@ use Rattle.df_model.specs.Work.{Work}
 use Rattle.df_model.specs.declared.errors.BeginError.{BeginError}
 use Rattle.df_model.specs.declared.errors.BlockError.{BlockError}
 use Rattle.df_model.specs.declared.errors.NotLive.{NotLive}
+use Rattle.df_model.specs.declared.answers.Verdict.{Verdict}
+use Rattle.df_model.specs.declared.answers.Verdict.TheVariants.{Failing, Sound}
 use Rattle.df_model.proofs.Laws.{one_thing_law}
 use Rattle.df_session.specs.Below.{DataFile, shape, spelling}
 use Rattle.df_session.specs.Serving.{next}
@@ -23,15 +25,18 @@ pub record Stays (w u : Work) : Type 0 where
   pub checkpoint : u.view.checkpoint ≡ w.view.checkpoint
   pub tail : u.view.tail ≡ w.view.tail
 
--- neither an append, nor a step, nor a check
+-- neither an append nor a step
 abbrev pub IsPlain : Command → Type 0
 IsPlain (Append client request body) = ⊥
 IsPlain Flush = ⊥
 IsPlain Advance = ⊥
-IsPlain Scrub = ⊥
 IsPlain command = Unit {0}
 
 module _ (file : DataFile) (w : Work) (given : Given) where
+  checked : (a : ℕ) (v : Verdict) → Stays w (with_verdict w a v)
+  checked a Sound = record { checkpoint = refl; tail = refl }
+  checked a (Failing class) = record { checkpoint = refl; tail = refl }
+
   abbrev m : Memory
   m = memory_of (shape file) (spelling file) w
 
@@ -40,7 +45,7 @@ module _ (file : DataFile) (w : Work) (given : Given) where
   changed_stays c u plain (Appends _ ps (Staged none)) = absurd plain
   changed_stays c u plain (Writes r a more running left) = absurd plain
   changed_stays c u plain (Ends r running left) = absurd plain
-  changed_stays c u plain (Checks x more list) = absurd plain
+  changed_stays c u plain (Checks x more list) = checked x.0 (supplied_verdict given)
   changed_stays c u plain change = record { checkpoint = refl; tail = refl }
 
   pub plain_stays : (c : Command) → IsPlain c → Stays w (next file w given c).0

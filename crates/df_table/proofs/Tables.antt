@@ -5,29 +5,34 @@ use Rattle.df_rows.specs.declared.command.Command.{Command}
 use Rattle.df_rows.specs.Blocks.{TakesAll}
 use Rattle.df_rows.specs.Tables.{Table, with_command, with_commands}
 use Rattle.df_rows.proofs.Laws.{one_command, one_table}
-use Rattle.df_session.specs.Below.{shape}
-use Rattle.df_theory.specs.Units.{Block, BlockUnit, Message, Units}
+use Rattle.df_session.specs.Below.{DataFile, shape}
+use Rattle.df_theory.specs.Units.{AnyUnit, Block, BlockPlace, BlockUnit, Message, Place}
+use Rattle.df_theory.specs.View.{View}
 use Rattle.df_table.specs.Laws.{FirstIsEmpty, TableIsOne}
-use Rattle.df_table.specs.Table.{FollowAll, ShowsBodies, ShowsBody, empty_table, references_of}
+use Rattle.df_table.specs.Table.{FollowAll, HasBlockBody, HaveBodies, IsTableBy, ShowsBodies, empty_table, references_of}
 
 -- ---- blocks
 
-one_block : (a b : Block) → Some (BlockUnit a) ≡ Some (BlockUnit b) → a.body ≡ b.body
-one_block a b is = let same : Some (BlockUnit a) ≡ Some (BlockUnit b) = is in let blocks : a ≡ b = cc in ap (λ (x : Block). x.body) blocks
+-- where one checksum at an address is one block
+abbrev pub OneBlock : (Place → AnyUnit → Type 0) → Type 0
+OneBlock At = (a : ℕ) (b c : Block) → At (BlockPlace a) (BlockUnit b) → At (BlockPlace a) (BlockUnit c) → b.checksum ≡ c.checksum → b ≡ c
 
-one_shown : (image : Units) (x : ℕ × ℕ) (a b : List ℕ) → ShowsBody image x a → ShowsBody image x b → a ≡ b
-one_shown image x a b one two = sym one.body_is ∙ one_block one.block two.block (sym one.there ∙ two.there) ∙ two.body_is
+one_block : (b c : Block) → Some (BlockUnit b) ≡ Some (BlockUnit c) → b ≡ c
+one_block b c is = cc
+
+one_shown : (At : Place → AnyUnit → Type 0) → OneBlock At → (x : ℕ × ℕ) (a b : List ℕ) → HasBlockBody At x a → HasBlockBody At x b → a ≡ b
+one_shown At alone x a b one two = sym one.body_is ∙ ap (λ (c : Block). c.body) (alone x.0 one.block two.block one.there two.there (one.sum ∙ sym two.sum)) ∙ two.body_is
 
 same_bodies : (a b : List ℕ) (one other : List (List ℕ)) → a ≡ b → one ≡ other → a ∷ one ≡ b ∷ other
 same_bodies a b one other same more = cc
 
-one_bodies : (image : Units) (references : List (ℕ × ℕ)) (one other : List (List ℕ)) → ShowsBodies image references one → ShowsBodies image references other → one ≡ other
-one_bodies image [] [] [] first second = refl
-one_bodies image [] [] (b ∷ other) first second = absurd second
-one_bodies image [] (a ∷ one) other first second = absurd first
-one_bodies image (x ∷ more) [] other first second = absurd first
-one_bodies image (x ∷ more) (a ∷ one) [] first second = absurd second
-one_bodies image (x ∷ more) (a ∷ one) (b ∷ other) first second = same_bodies a b one other (one_shown image x a b first.0 second.0) (one_bodies image more one other first.1 second.1)
+one_bodies : (At : Place → AnyUnit → Type 0) → OneBlock At → (references : List (ℕ × ℕ)) (one other : List (List ℕ)) → HaveBodies At references one → HaveBodies At references other → one ≡ other
+one_bodies At alone [] [] [] first second = refl
+one_bodies At alone [] [] (b ∷ other) first second = absurd second
+one_bodies At alone [] (a ∷ one) other first second = absurd first
+one_bodies At alone (x ∷ more) [] other first second = absurd first
+one_bodies At alone (x ∷ more) (a ∷ one) [] first second = absurd second
+one_bodies At alone (x ∷ more) (a ∷ one) (b ∷ other) first second = same_bodies a b one other (one_shown At alone x a b first.0 second.0) (one_bodies At alone more one other first.1 second.1)
 
 -- ---- commands
 
@@ -46,12 +51,15 @@ one_list t (p ∷ ps) (c ∷ one) (d ∷ other) first second =
 
 -- ---- the table
 
-pub table_is_one : TableIsOne
-table_is_one file image v t u one two =
-    let bodies = one_bodies image (references_of file v) one.bodies two.bodies one.there two.there in
+pub one_table_by : (At : Place → AnyUnit → Type 0) → OneBlock At → (file : DataFile) (v : View) (t u : Table) → IsTableBy At file v t → IsTableBy At file v u → t ≡ u
+one_table_by At alone file v t u one two =
+    let bodies = one_bodies At alone (references_of file v) one.bodies two.bodies one.there two.there in
     let base = one_table (empty_table file.layout) one.base two.base one.bodies one.rows (subst (λ (l : List (List ℕ)). TakesAll (empty_table file.layout) l two.base) (sym bodies) two.rows) in
     let commands = one_list one.base v.tail one.commands two.commands one.tail (subst (λ (b : Table). FollowAll b v.tail two.commands) (sym base) two.tail) in
     one.is ∙ ap (λ (l : List Command). with_commands l one.base) commands ∙ ap (λ (b : Table). with_commands two.commands b) base ∙ sym two.is
+
+pub table_is_one : TableIsOne
+table_is_one file image v t u one two = one_table_by (λ place unit. image place ≡ Some unit) (λ a b c first second sum. one_block b c (sym first ∙ second)) file v t u one two
 
 -- nothing is referenced
 none_referenced : (xs : List ℕ) → entries (λ a. None) xs ≡ []

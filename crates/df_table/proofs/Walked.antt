@@ -3,6 +3,7 @@ use Rattle.std.proofs.Common.{◌≡◌, ◌⊎◌, inl, inr, ℕ, zero, suc, �
 use Rattle.std.specs.FinMap as maps
 use Rattle.std.specs.Prelude.{replicate}
 use Rattle.df_base.proofs.Laws.{no_some}
+use Rattle.df_damage.specs.Written.{IsWritten}
 use Rattle.df_disk.specs.Told.{Told}
 use Rattle.df_theory.specs.Device.{units_log}
 use Rattle.df_theory.specs.UnitLog.{UnitLog}
@@ -31,7 +32,7 @@ use Rattle.df_session.specs.Session.{Act, Exchange, acts_in, work_after}
 use Rattle.df_table.specs.Keeping.{Changes}
 use Rattle.df_table.specs.Policy.{checkpoint, is_full, releases, request, room_for, the_client, writes}
 use Rattle.df_table.specs.Turns.{IsAccepted, WasAccepted}
-use Rattle.df_table.specs.Written.{IsTableIn, WasUnitWritten, WroteBodies, WroteBody}
+use Rattle.df_table.specs.Written.{IsTableIn, WroteBodies, WroteBody}
 use Rattle.df_table.proofs.Lasting.{AreKept, At, FailKept, at_behind, bodies_later, grew, none_taken}
 use Rattle.df_table.proofs.Later.{answer_is, block_written, memory_is}
 use Rattle.df_table.proofs.Leads.{table_appended, table_finished, table_stays}
@@ -180,7 +181,7 @@ module _ (file : DataFile) where
         let its = block_written file a s r old mid x w n at.same at.kept_is call.call body is (subst (λ (k : Memory). first_refusal (block_refusals k 1 body) ≡ None) (sym own) did.0) in
         let block : WroteBody (log_of behind) (address, sum) body = record {
           block = block_of m.content.boot sum 1 body;
-          there = subst (λ (k : Memory). WasUnitWritten (log_of behind) (BlockPlace (next_address k)) (BlockUnit (block_of k.content.boot sum 1 body))) own its;
+          there = subst (λ (k : Memory). IsWritten (log_of behind) (BlockPlace (next_address k)) (BlockUnit (block_of k.content.boot sum 1 body))) own its;
           sum = refl;
           own = omega arith;
           body_is = refl;

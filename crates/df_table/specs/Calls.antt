@@ -11,11 +11,13 @@ use Rattle.df_model.specs.declared.errors.AppendError.TheVariants as append
 use Rattle.df_model.specs.declared.errors.BeginError.TheVariants as begin
 use Rattle.df_rows.specs.declared.command.Command.{Command as Change}
 use Rattle.df_rows.specs.Commands.{Map}
+use Rattle.df_rows.specs.Tables.{with_command}
 use Rattle.df_session.specs.Beginning.{begin_refusal}
 use Rattle.df_session.specs.Below.{State as Replica, memory}
 use Rattle.df_session.specs.Stepping.{OfRunning, advanced, finished}
 use Rattle.df_table.specs.declared.ending.Ending.{Ending}
 use Rattle.df_table.specs.declared.ending.Ending.TheVariants.{OpsSpent}
+use Rattle.df_table.specs.declared.session.Session.{Session}
 use Rattle.df_table.specs.Policy.{checkpoint, line_commands, opening, room_for, the_client, writes}
 use Rattle.df_table.specs.Ready.{IsReadyReplica}
 use Rattle.df_table.specs.Turns.{EndIn, IsOfCall, MakeAll}
@@ -24,6 +26,11 @@ use Rattle.df_table.specs.Turns.{EndIn, IsOfCall, MakeAll}
 abbrev pub Comes : {T : Type 0} → List Command → (s t : Replica) → (old new : Option Told) → Result T Ending → Type 0
 Comes commands s t old new (Ok x) = MakeAll commands s t old new
 Comes commands s t old new (Err ending) = EndIn commands s t old new ending
+
+-- calls may go on; or it ended, as a call of a line may end it
+abbrev pub GoesOrEnds : {T : Type 0} → Result T Ending → (t : Replica) → (new : Option Told) → Type 0
+GoesOrEnds (Ok x) t new = t.live ≡ true
+GoesOrEnds (Err ending) t new = IsOfCall new ending
 
 -- ---- what may be refused
 
@@ -98,6 +105,11 @@ pub record IsChanged (layout : Layout) (rows : Map) (c : Change) (s t : Replica)
   pub head : OnOk result (t.head ≡ s.head + 1)
   pub ready : OnOk result (IsReadyReplica layout t)
   pub ends : IfErr result (IsOfCall new)
+
+-- calls may go on, and the table is changed
+pub record HasApplied (c : Change) (old new : Session) : Type 0 where
+  pub live : new.replica.live ≡ true
+  pub table : new.table ≡ with_command c old.table
 
 -- those of the opening
 abbrev pub OpensTable : {T : Type 0} → (s t : Replica) → (old new : Option Told) → Result T Ending → Type 0

@@ -1,8 +1,9 @@
--- What holds of tables of files: an image and a view have one, an opening finds one thing, a table that it finds is the file's, and rows stand in their order in blocks.
-use Rattle.std.specs.Prelude.{◌≡◌, ℕ, None, Some, Result, Ok}
+-- What holds of tables of files: an image and a view have one, an opening finds one thing, a table that it finds is the file's, rows stand in their order in blocks, and a session that appends nothing leaves the table.
+use Rattle.std.specs.Prelude.{◌≡◌, ℕ, [], ◌++◌, Option, None, Some, Result, Ok}
 use Rattle.std.specs.FinMap as map
 use Rattle.df_base.specs.Image.{IsImage}
-use Rattle.df_disk.specs.Told.{Told}
+use Rattle.df_base.specs.Log.{Sync}
+use Rattle.df_disk.specs.Told.{Told, did}
 use Rattle.df_layout.specs.declared.layout.Layout.{Layout}
 use Rattle.df_theory.specs.Found.{IsFound}
 use Rattle.df_theory.specs.Units.{Units}
@@ -18,9 +19,14 @@ use Rattle.df_model.specs.Supply.{Shown}
 use Rattle.df_model.specs.Work.{Work, kept}
 use Rattle.df_session.specs.Begun.{begun_work}
 use Rattle.df_session.specs.Below.{DataFile, State as Replica, memory, shape, spelling}
+use Rattle.df_session.specs.Laws.{CallsKeep}
+use Rattle.df_session.specs.Links.{CallsMade, list_of}
+use Rattle.df_session.specs.Opened.{Mends}
 use Rattle.df_session.specs.Reading.{shown_of}
 use Rattle.df_session.specs.Serving.{Firm, Keeps}
+use Rattle.df_session.specs.Session.{acts_in}
 use Rattle.df_table.specs.declared.ending.Ending.{Ending}
+use Rattle.df_table.specs.Keeping.{KeepsTable, LeaveTable}
 use Rattle.df_table.specs.Opening.{FindsTable}
 use Rattle.df_table.specs.Policy.{checkpoint}
 use Rattle.df_table.specs.Ready.{IsReadyReplica}
@@ -59,3 +65,11 @@ abbrev pub RowsInOrder : Type 0
 RowsInOrder =
     (layout : Layout) (s t : Replica) (o n : Told) (rows : Map) (steps : ℕ) (w : Work) → IsReadyReplica layout s → IsImage o.shown → MakeAll (checkpoint layout (memory s) rows steps) s t (Some o) (Some n) → (memory t).running ≡ None → Keeps Firm t w None
     → ShowsBodies (unit_at t.file.layout t.file.cluster n.shown) (references_of t.file (kept w)) (bodies_of (rows_in_block layout) (map.entries rows))
+
+-- ---- sessions that leave the table
+
+-- Calls of which neither a prepare nor a step of a checkpoint comes, as reads alone, or none at all, keep the table of an open file, whichever program made them: nothing of it changes.
+abbrev pub LeavingKeepsTable : Type 0
+LeavingKeepsTable =
+    (t : Told) (s : Replica) (mended : Option Told) (mending : Mends s.file (Some (did Sync t)) mended) (c : CallsMade) → CallsKeep t s mended mending c → LeaveTable (acts_in c.exchanges ++ list_of c.failed)
+    → (keeps : KeepsTable t s mending.events c) × (keeps.changes ≡ []) × (keeps.pending ≡ [])

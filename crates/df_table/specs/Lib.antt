@@ -12,5 +12,4 @@ pub mod Written
 pub mod Keeping
 pub mod Run
 pub mod Laws
-pub mod Lives
 pub mod Completeness

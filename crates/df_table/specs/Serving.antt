@@ -1,5 +1,5 @@
 -- How far a session over a script has come, and what its functions say of it.
-use Rattle.std.specs.Prelude.{◌≡◌, ◌⊎◌, ◌≤◌, ◌+◌, ◌*◌, ◌^◌, ℕ, Bool, true, IsTrue, List, ◌++◌, length, map, vec_len, All, Option, Some}
+use Rattle.std.specs.Prelude.{◌≡◌, ◌⊎◌, ◌<◌, ◌≤◌, ◌+◌, ◌*◌, ◌^◌, ℕ, Bool, true, IsTrue, List, ◌++◌, length, map, vec_len, All, Option, Some}
 use Rattle.df_base.specs.Streams.{Appends, AppendsPart}
 use Rattle.df_disk.specs.Told.{Told}
 use Rattle.df_layout.specs.declared.layout.Layout.{Layout}
@@ -48,6 +48,12 @@ pub record IsServing (layout : Layout) (s : Session) (left : Option (List ℕ)) 
   pub bound : s.lines.reading.bound ≡ line_bound layout
   pub count : s.count + s.lines.reading.budget ≤ 2 ^ 33
   pub at_end : IsTrue s.lines.ended → IsAtEnd left
+
+-- after a turn it is ready for the next one: of the same layout, with fewer bytes that may be taken
+pub record IsReadyForNext (old new : Session) (left : Option (List ℕ)) : Type 0 where
+  pub layout : new.layout ≡ old.layout
+  pub serving : IsServing old.layout new left
+  pub budget : new.lines.reading.budget < old.lines.reading.budget
 
 -- from origin to now these lines were executed, the first ones of the text, and what a map answers to them is written
 pub record ServingExecuted (layout : Layout) (origin now : ServingState) (turns : List TableTurn) : Type 0 where

@@ -1,18 +1,17 @@
 // A put or a drop: room in the ring, the append, the empty reply to it, and then the table.
-ghost use Rattle.std.specs.Prelude.{◌≡◌, ◌+◌, ◌*◌, ◌≤◌, true, false, vec_len, IfErr, IfOk, OnOk};
+ghost use Rattle.std.specs.Prelude.{◌≡◌, ◌+◌, ◌*◌, ◌≤◌, true, false, vec_len, IfOk, OnOk};
 ghost use Rattle.std.specs.FinMap as map;
 ghost use Rattle.df_base.specs.Causes.{IsBlamed};
 ghost use Rattle.df_layout.specs.declared.layout.Layout.{Layout as Shape};
 ghost use Rattle.df_model.specs.Refusals.{next_request, session_of_client};
 ghost use Rattle.df_rows.specs.Commands.{IsCommand};
 ghost use Rattle.df_rows.specs.Limits as limits;
-ghost use Rattle.df_rows.specs.Tables.{CanApply, with_command};
+ghost use Rattle.df_rows.specs.Tables.{CanApply};
 ghost use Rattle.df_session.specs.Below.{memory};
-ghost use Rattle.df_table.specs.Calls.{Comes, IsChanged, MakesRoom};
+ghost use Rattle.df_table.specs.Calls.{Comes, GoesOrEnds, HasApplied, IsChanged, MakesRoom};
 ghost use Rattle.df_table.specs.Policy.{is_full, request, the_client};
 ghost use Rattle.df_table.specs.Ready.{HasRingRoom, IsReadyReplica, LeavesScript};
 ghost use Rattle.df_table.specs.Statuses.{is_disk};
-ghost use Rattle.df_table.specs.Turns.{IsOfCall};
 
 use crate::calls::{append, reply};
 use crate::checkpointing::{checkpoint, is_full};
@@ -40,10 +39,9 @@ fn make_room<D: Disk>(disk: &mut D, session: &mut Session) -> Result<(), Ending>
         → MakesRoom session.old.layout session.old.table.rows session.old.replica session.new.replica (D.told disk.old) (D.told disk.new) result }
     ensures room { IsReadyReplica session.old.layout session.old.replica → map.len session.old.table.rows ≤ limits.most_rows session.old.layout
         → OnOk result (HasRingRoom session.old.layout session.old.replica session.new.replica) }
-    ensures live { OnOk result (session.new.replica.live ≡ true) }
+    ensures goes { GoesOrEnds result session.new.replica (D.told disk.new) }
     ensures table { session.new.table ≡ session.old.table }
     ensures leaves { LeavesScript session.old session.new }
-    ensures ends { IfErr result (IsOfCall (D.told disk.new)) }
     ensures disk { IsBlamed is_disk (D.faults disk.old) (D.faults disk.new) result }
 {
     if is_full(&session.replica) {
@@ -68,8 +66,7 @@ fn store<D: Disk>(disk: &mut D, replica: &mut Replica, command: &Command) -> Res
     ensures op { IfOk result (λ op. op ≡ replica.old.head + 1) }
     ensures head { OnOk result (replica.new.head ≡ replica.old.head + 1) }
     ensures ready { (layout : Shape) → IsReadyReplica layout replica.old → is_full (memory replica.old) ≡ false → OnOk result (IsReadyReplica layout replica.new) }
-    ensures live { OnOk result (replica.new.live ≡ true) }
-    ensures ends { IfErr result (IsOfCall (D.told disk.new)) }
+    ensures goes { GoesOrEnds result replica.new (D.told disk.new) }
     ensures disk { IsBlamed is_disk (D.faults disk.old) (D.faults disk.new) result }
 {
     let number = next_request(replica);
@@ -95,8 +92,7 @@ pub(crate) fn change<D: Disk>(
     requires room { CanApply session.old.table command }
     ensures changed { IsReadyReplica session.old.layout session.old.replica → map.len session.old.table.rows ≤ limits.most_rows session.old.layout
         → IsChanged session.old.layout session.old.table.rows command session.old.replica session.new.replica (D.told disk.old) (D.told disk.new) result }
-    ensures table { OnOk result (session.new.table ≡ with_command command session.old.table) }
-    ensures live { OnOk result (session.new.replica.live ≡ true) }
+    ensures applied { OnOk result (HasApplied command session.old session.new) }
     ensures leaves { LeavesScript session.old session.new }
     ensures disk { IsBlamed is_disk (D.faults disk.old) (D.faults disk.new) result }
 {

@@ -8,7 +8,7 @@ ghost use Rattle.df_rows.specs.Limits as limits;
 ghost use Rattle.df_session.specs.Beginning.{captured, with_checkpoint_begun};
 ghost use Rattle.df_session.specs.Below.{RunningState, State as Standing, memory};
 ghost use Rattle.df_session.specs.Blocks.{released};
-ghost use Rattle.df_table.specs.Calls.{Advances, Checkpoints, Comes, Concludes, Fills, IsCheckpointing, MayBegin};
+ghost use Rattle.df_table.specs.Calls.{Advances, Checkpoints, Comes, Concludes, Fills, GoesOrEnds, IsCheckpointing, MayBegin};
 ghost use Rattle.df_table.specs.Policy.{body_at, is_full, releases, releases_at, writes};
 ghost use Rattle.df_table.specs.Ready.{HasFree, HasRingRoom, IsEmptied, IsFinished, IsReadyReplica, WroteBlocks, without_live};
 ghost use Rattle.df_table.specs.Statuses.{is_disk};
@@ -81,9 +81,8 @@ fn write_rows<D: Disk>(
     ensures makes { replica.old.file.layout ≡ layout.now → HasFree layout.now replica.old.blocks 1
         → Comes (WriteBlock 1 (body_at layout.now table.now.rows block) ∷ []) replica.old replica.new (D.told disk.old) (D.told disk.new) result }
     ensures wrote { OnOk result (WroteBlocks 1 replica.old replica.new) }
-    ensures live { OnOk result (replica.new.live ≡ true) }
+    ensures goes { GoesOrEnds result replica.new (D.told disk.new) }
     ensures buffer { length buffer.new ≡ length buffer.old }
-    ensures ends { IfErr result (IsOfCall (D.told disk.new)) }
     ensures disk { IsBlamed is_disk (D.faults disk.old) (D.faults disk.new) result }
 {
     let size = table.put_block(layout, block, buffer);

@@ -7,7 +7,7 @@ mod calls;
 mod checkpointing;
 mod ending;
 mod engine;
-mod laws;
+mod meaning;
 mod opening;
 mod serving;
 mod session;
@@ -16,8 +16,8 @@ mod turns;
 
 pub use ending::Ending;
 pub use engine::{USAGE, run_table};
-pub use laws::{
+pub use meaning::{
     a_safe_table_is_served, a_table_is_one, an_opening_finds_one_thing, rows_are_in_order,
-    runs_compose, what_is_found_is_the_table,
+    sessions_may_leave_the_table, what_is_found_is_the_table,
 };
 pub use status::Status;

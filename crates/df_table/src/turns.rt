@@ -7,7 +7,7 @@ ghost use Rattle.df_rows.specs.declared.line.Line.TheVariants as lines;
 ghost use Rattle.df_rows.specs.Grammar.{Count, Drop, Get, Put, said_with, value_length};
 ghost use Rattle.df_table.specs.Outside.{Blames, EndsWithFile, around};
 ghost use Rattle.df_table.specs.Ready.{IsSteady};
-ghost use Rattle.df_table.specs.Serving.{BlamesIfEnds, EndsTurn, ExecutesLine, IsServing, OnGoing, ServingEnded, TableTurns, TellsLine, state};
+ghost use Rattle.df_table.specs.Serving.{BlamesIfEnds, EndsTurn, ExecutesLine, IsReadyForNext, IsServing, OnGoing, ServingEnded, TableTurns, TellsLine, state};
 
 use crate::appending::change;
 use crate::ending::tell_ending;
@@ -134,10 +134,8 @@ fn take_turn<D: Disk, S: Source, W: Sink>(
         (state (around (D.told disk.old) (S.left source.old) (W.written sink.old)) session.old)
         (state (around (D.told disk.new) (S.left source.new) (W.written sink.new)) session.new) result }
     ensures steady { IsSteady session.old.layout session.old.replica session.old.table → OnGoing result (IsSteady session.old.layout session.new.replica session.new.table) }
-    ensures serving { OnGoing result (IsServing session.old.layout session.new (S.left source.new)) }
-    ensures layout { OnGoing result (session.new.layout ≡ session.old.layout) }
+    ensures next { OnGoing result (IsReadyForNext session.old session.new (S.left source.new)) }
     ensures never { EndsTurn result }
-    ensures budget { OnGoing result (session.new.lines.reading.budget < session.old.lines.reading.budget) }
     ensures disk { BlamesIfEnds Status.DiskFault (D.faults disk.old) (D.faults disk.new) result }
     ensures source { BlamesIfEnds Status.ReadFault (S.faults source.old) (S.faults source.new) result }
     ensures sink { BlamesIfEnds Status.WriteFault (W.faults sink.old) (W.faults sink.new) result }

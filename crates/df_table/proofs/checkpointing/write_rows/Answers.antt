@@ -4,6 +4,7 @@ use Rattle.std.proofs.lemmas.List.{length-take-le}
 use Rattle.df_model.specs.Commands.{WriteBlock}
 use Rattle.df_session.specs.Blocks.{next_block}
 use Rattle.df_table.specs.Calls.{Comes}
+use Rattle.df_table.proofs.Changed.{goes_or_ends}
 use Rattle.df_table.proofs.Wrote.{may_put, wrote_one}
 use Rattle.df_table.proofs.checkpointing.write_rows.Goals as goal
 
@@ -15,3 +16,6 @@ returns-clause-makes g c = λ is free.
 
 pub returns-clause-wrote : goal.returns-clause-wrote
 returns-clause-wrote g c = wrote_one c.args.replica.now c.write.new.replica (next_block c.args.replica.now 1 (take c.put_block-size.result c.put_block-size.new.into)).header c.write.result c.write.ensures.state
+
+pub returns-clause-goes : goal.returns-clause-goes
+returns-clause-goes g c = goes_or_ends c.write.result c.write.new.replica (g.D.Disk.told c.write.new.disk) c.write.ensures.live c.write.ensures.ends

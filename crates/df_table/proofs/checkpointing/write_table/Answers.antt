@@ -39,7 +39,7 @@ loop-block-preserved g c =
           writing_more c.args.layout.now c.args.table.now.rows n now.block less c.args.replica.now now.replica (g.D.Disk.told c.args.disk.now) (g.D.Disk.told now.disk) writing
           c.write_rows.new.replica (g.D.Disk.told c.write_rows.new.disk) c.in-Ok.ensures.wrote
           (c.in-Ok.ensures.makes (now.invariant.layout ∙ is) (free_next c.args.layout.now c.args.table.now.rows n now.block less c.args.replica.now now.replica (g.D.Disk.told c.args.disk.now) (g.D.Disk.told now.disk) writing free));
-      live = c.in-Ok.ensures.live;
+      live = c.in-Ok.ensures.goes;
       layout = ap (λ (r : Replica). r.file.layout) c.in-Ok.ensures.wrote.same ∙ now.invariant.layout;
       wrote = wrote_more now.block c.args.replica.now now.replica c.write_rows.new.replica now.invariant.wrote c.in-Ok.ensures.wrote;
       buffer = omega (arith, now.invariant.buffer, c.in-Ok.ensures.buffer);

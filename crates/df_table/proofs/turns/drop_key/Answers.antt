@@ -1,5 +1,5 @@
 -- The command is the drop of the key.
-use Rattle.std.proofs.Common.{◌∙◌, ℕ, ap, sym, subst}
+use Rattle.std.proofs.Common.{◌∙◌, ℕ, ap, sym}
 use Rattle.std.specs.Prelude.{codes}
 use Rattle.df_rows.specs.declared.command.Command.TheVariants as commands
 use Rattle.df_script_model.specs.Texts.{line_of, numbered}
@@ -28,7 +28,7 @@ pub returns-in-Ok-clause-executes : goal.returns-in-Ok-clause-executes
 returns-in-Ok-clause-executes g c =
     let s = c.args.session.now in
     done_executes s.layout (Drop c.args.key) (commands.Drop c.args.key) s c.change.new.session (g.D.Disk.told c.args.disk.now) (g.D.Disk.told c.change.new.disk) (g.W.Sink.written c.args.sink.now) (g.W.Sink.written c.print_answer.new.sink) (drop_asks s.table c.args.key c.requires.fine)
-    c.ranges.key.fits c.in-Ok.ensures.leaves c.in-Ok.op (line_of (numbered (codes "dropped") c.in-Ok.op)) c.printed.result c.in-Ok.ensures.changed c.in-Ok.ensures.table c.in-Ok.ensures.live
+    c.ranges.key.fits c.in-Ok.ensures.leaves c.in-Ok.op (line_of (numbered (codes "dropped") c.in-Ok.op)) c.printed.result c.in-Ok.ensures.changed c.in-Ok.ensures.applied.table c.in-Ok.ensures.applied.live
     (λ op. drop_text s.table s.replica.head c.args.key c.requires.fine ∙ ap (λ (n : ℕ). line_of (numbered (codes "dropped") n)) (sym op)) (c.printed.ensures.prints _ _ _ c.print_answer.ensures.prints)
 
 pub returns-in-Ok-clause-disk : goal.returns-in-Ok-clause-disk

@@ -41,7 +41,7 @@ returns-in-Ok-clause-executes g c =
     (put_asks s.table c.args.key c.args.size s.lines.body c.requires.size c.requires.fine) (record { key = c.ranges.key.fits; value = put_short s.table c.args.key c.args.size s.lines.body c.requires.size c.requires.fine }) c.in-Ok.ensures.leaves c.in-Ok.op
     (line_of (numbered (codes "put") c.in-Ok.op)) c.printed.result
     (λ ready few. subst (λ (k : Command). IsChanged s.layout s.table.rows k s.replica c.change.new.session.replica (g.D.Disk.told c.args.disk.now) (g.D.Disk.told c.change.new.disk) (Ok c.in-Ok.op)) asked (c.in-Ok.ensures.changed ready few))
-    (c.in-Ok.ensures.table ∙ ap (λ (k : Command). with_command k s.table) asked) c.in-Ok.ensures.live (λ op. put_text s.table s.replica.head c.args.key c.args.size s.lines.body c.requires.size c.requires.fine ∙ ap (λ (n : ℕ). line_of (numbered (codes "put") n)) (sym op))
+    (c.in-Ok.ensures.applied.table ∙ ap (λ (k : Command). with_command k s.table) asked) c.in-Ok.ensures.applied.live (λ op. put_text s.table s.replica.head c.args.key c.args.size s.lines.body c.requires.size c.requires.fine ∙ ap (λ (n : ℕ). line_of (numbered (codes "put") n)) (sym op))
     (c.printed.ensures.prints _ _ _ c.print_answer.ensures.prints)
 
 pub returns-in-Err-clause-executes : goal.returns-in-Err-clause-executes

@@ -35,8 +35,8 @@ loop-status-preserved g c =
       steady = λ steady.
           let here = subst (λ (k : Layout). IsSteady k now.session.replica now.session.table) (sym at) (now.invariant.steady steady) in
           subst (λ (k : Layout). IsSteady k c.take_turn.new.session.replica c.take_turn.new.session.table) at (c.in-GoesOn.ensures.steady here);
-      layout = c.in-GoesOn.ensures.layout ∙ at;
-      serving = subst (λ (k : Layout). IsServing k c.take_turn.new.session (g.S.Source.left c.take_turn.new.source)) at c.in-GoesOn.ensures.serving;
+      layout = c.in-GoesOn.ensures.next.layout ∙ at;
+      serving = subst (λ (k : Layout). IsServing k c.take_turn.new.session (g.S.Source.left c.take_turn.new.source)) at c.in-GoesOn.ensures.next.serving;
       disk_faults = c.in-GoesOn.ensures.disk ∙ now.invariant.disk_faults;
       source_faults = c.in-GoesOn.ensures.source ∙ now.invariant.source_faults;
       sink_faults = c.in-GoesOn.ensures.sink ∙ now.invariant.sink_faults;
@@ -55,3 +55,6 @@ returns-in-Ends-clause-session g c = λ steady.
 
 pub returns-in-Ends-clause-ends : goal.returns-in-Ends-clause-ends
 returns-in-Ends-clause-ends g c = c.in-Ends.ensures.never
+
+pub loop-status-smaller : goal.loop-status-smaller
+loop-status-smaller g c = c.in-GoesOn.ensures.next.budget

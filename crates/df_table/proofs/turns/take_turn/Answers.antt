@@ -1,13 +1,12 @@
 -- Each arm is one way in which a line ends or goes on.
-use Rattle.std.proofs.Common.{◌≡◌, ◌<◌, ◌+◌, ℕ, ap, arith, refl, sym, subst}
-use Rattle.df_lines.specs.Room.{ReaderParts}
+use Rattle.std.proofs.Common.{◌+◌, ℕ, ap, arith, refl, subst}
 use Rattle.df_lines.specs.Reads.{GivesNext, Spends}
 use Rattle.df_lines.specs.declared.next.Next.TheVariants as nexts
 use Rattle.df_rows.specs.Grammar.{table_lines}
 use Rattle.df_table.specs.Outside.{Outside}
 use Rattle.df_table.specs.declared.status.Status.TheVariants as status
-use Rattle.df_table.proofs.Behind.{executed_serving, taken_line}
-use Rattle.df_table.proofs.Blamed.{line_turn, on_going, unread_source}
+use Rattle.df_table.proofs.Behind.{ready_next, taken_line}
+use Rattle.df_table.proofs.Blamed.{line_turn, unread_source}
 use Rattle.df_program.proofs.Laws.{no_blame, text_ends}
 use Rattle.df_inspect.specs.Opening.{script_text}
 use Rattle.df_table.proofs.TurnEnds.{by_turn, ends_done, ends_read, ends_refused}
@@ -61,19 +60,11 @@ execute-turn-requires g c =
 pub returns-in-Ok-Line-clause-steady : goal.returns-in-Ok-Line-clause-steady
 returns-in-Ok-Line-clause-steady g c = c.execute-turn.ensures.executes.steady
 
-pub returns-in-Ok-Line-clause-serving : goal.returns-in-Ok-Line-clause-serving
-returns-in-Ok-Line-clause-serving g c =
+pub returns-in-Ok-Line-clause-next : goal.returns-in-Ok-Line-clause-next
+returns-in-Ok-Line-clause-next g c =
     let spends : Spends table_lines c.args.session.now.lines c.next.new.self (nexts.Line c.in-Ok-Line.line) = subst (Spends table_lines c.args.session.now.lines c.next.new.self) c.in-Ok-Line.field-0-is c.in-Ok-Line.ensures.spends in
-    executed_serving c.args.session.now.layout c.args.session.now (g.S.Source.left c.args.source.now) (g.S.Source.left c.next.new.source) c.requires.serving c.next.new.self c.next.ensures.bound c.next.ensures.at_end spends.0
-    c.execute-turn.new.session c.execute-turn.ensures.executes.leaves c.execute-turn.result c.execute-turn.ensures.executes.live
-
-pub returns-in-Ok-Line-clause-layout : goal.returns-in-Ok-Line-clause-layout
-returns-in-Ok-Line-clause-layout g c = on_going c.execute-turn.result (c.execute-turn.new.session.layout ≡ c.args.session.now.layout) c.execute-turn.ensures.executes.leaves.layout
-
-pub returns-in-Ok-Line-clause-budget : goal.returns-in-Ok-Line-clause-budget
-returns-in-Ok-Line-clause-budget g c =
-    let spends : Spends table_lines c.args.session.now.lines c.next.new.self (nexts.Line c.in-Ok-Line.line) = subst (Spends table_lines c.args.session.now.lines c.next.new.self) c.in-Ok-Line.field-0-is c.in-Ok-Line.ensures.spends in
-    on_going c.execute-turn.result (c.execute-turn.new.session.lines.reading.budget < c.args.session.now.lines.reading.budget) (subst (λ (r : ReaderParts). r.reading.budget < c.args.session.now.lines.reading.budget) (sym c.execute-turn.ensures.executes.leaves.lines) spends.0)
+    ready_next c.args.session.now.layout c.args.session.now (g.S.Source.left c.args.source.now) (g.S.Source.left c.next.new.source) c.requires.serving c.next.new.self c.next.ensures.bound c.next.ensures.at_end spends.0
+    c.execute-turn.new.session c.execute-turn.ensures.executes.leaves refl c.execute-turn.result c.execute-turn.ensures.executes.live
 
 pub returns-in-Ok-Line-clause-source : goal.returns-in-Ok-Line-clause-source
 returns-in-Ok-Line-clause-source g c =
