@@ -1,5 +1,5 @@
 -- Views that are the same but for the boot are one for a life: what a file has come to, and what was acknowledged, is there in each of them.
-use Rattle.std.proofs.Common.{◌≡◌, inl, inr, ℕ, List, [], ◌∷◌, sym, ◌∙◌, ap, subst, arith, refl}
+use Rattle.std.proofs.Common.{◌≡◌, inl, inr, ℕ, List, [], ◌∷◌, ◌++◌, sym, ◌∙◌, ap, subst, arith, refl}
 use Rattle.std.specs.Prelude.{drop, length, Ok}
 use Rattle.std.specs.List.{slice_get}
 use Rattle.df_base.specs.Image.{Image}
@@ -11,14 +11,14 @@ use Rattle.df_model.specs.Commands as commands
 use Rattle.df_model.specs.Commands.{Answer, Command, Given, ToAdvance, ToAppend, ToFlush, ToReply, supplied_sums}
 use Rattle.df_model.specs.Making.{first_of}
 use Rattle.df_model.specs.Views.{KeepsView}
-use Rattle.df_model.specs.Work.{kept}
+use Rattle.df_model.specs.Work.{Work, kept}
 use Rattle.df_model.specs.declared.answers.Progress.TheVariants.{Done}
 use Rattle.df_session.specs.Below.{DataFile}
-use Rattle.df_session.specs.Session.{Exchange, work_after}
+use Rattle.df_session.specs.Session.{Act, Exchange, acts_in, work_after}
 use Rattle.df_session.proofs.Laws.{keeps_on}
 use Rattle.df_session.specs.Begun.{begun_work}
 use Rattle.df_lifetime.specs.Acknowledged.{AreThere}
-use Rattle.df_lifetime.specs.Life.{Chapter, LeadsTo, MayHave}
+use Rattle.df_lifetime.specs.Life.{Chapter, IdleSessionsLeaveIt, LeadsTo, MayHave}
 use Rattle.df_lifetime.specs.There.{HasPrepare, HasReply, HavePrepares, IsAnswerThere, Promised, promised_by}
 
 -- ---- what a file may have come to
@@ -36,6 +36,20 @@ had_on file first (c ∷ chapters) u x had keeps = (had.0, had.1, leads_on file 
 -- a boot update keeps the view
 pub begun_bare : (file : DataFile) (image : Image) (view : View) → KeepsView view (kept (begun_work file image view))
 begun_bare file image view = record { content = record { file = (refl, refl, refl, refl); sequence = refl; op = (refl, refl); trailer = (refl, refl, refl) }; chain = refl; parts = refl; tail = refl; replies = refl; stored = λ k. refl }
+
+-- a session in which no call was made leaves what the file may have come to
+none_more : (more rest : List Act) → [] ≡ more ++ rest → more ≡ []
+none_more [] rest are = refl
+none_more (a ∷ more) rest are = absurd (let no = are in cc)
+
+pub idle_sessions_leave_it : IdleSessionsLeaveIt
+idle_sessions_leave_it file first chapters c view answered perhaps (v, had, inl same) = had_on file first chapters v view had same.same
+idle_sessions_leave_it file first chapters c view answered perhaps (v, had, inr (acts, goes)) =
+    let none : acts ≡ [] =
+    goes.came.are ∙ ap (λ (xs : List Exchange). acts_in xs ++ goes.came.more) answered ∙ none_more goes.came.more goes.came.rest (sym perhaps ∙ goes.came.some) in
+    let begun : Work = begun_work file c.shown v in
+    let same : KeepsView (kept begun) view = subst (λ (l : List Act). KeepsView (kept (work_after file begun l)) view) none goes.view in
+    had_on file first chapters v view had (keeps_on v (kept begun) view (begun_bare file c.shown v) same)
 
 -- ---- what was acknowledged
 

@@ -27,17 +27,13 @@ use Rattle.df_session.specs.Session.{Act, Exchange, HasView, HoldsFor, IsMidway,
 use Rattle.df_session.proofs.Laws.{added_is_told, begun_may_open, same_goes_on, stopped_may_open}
 use Rattle.df_session.specs.Anew.{begun_after}
 use Rattle.df_session.specs.Begun.{begun_work}
-use Rattle.df_session.specs.Found.{FoundFile}
-use Rattle.df_session.specs.Laws.{CallsKeep}
 use Rattle.df_session.specs.Links.{CallsMade, events_made, list_of}
 use Rattle.df_session.specs.Acknowledging.{IsUntil, KeepsAnswered}
 use Rattle.df_session.proofs.Laws.{file_there}
-use Rattle.df_top.specs.Acknowledging.{run_calls, script_calls}
 use Rattle.df_session.specs.Keeping.{KeepsFile, LeavesAll, over}
-use Rattle.df_top.specs.Outside.{Outside}
+use Rattle.df_session.specs.Programs.{ServedFile}
 use Rattle.df_lifetime.specs.Acknowledged.{AreThere}
-use Rattle.df_lifetime.specs.Hurt.{AreAnswered, HurtRunsKeep, HurtScriptsKeep, KeepsOn, NextFinds, RunsKeepAnew, RunsKeepOn, ScriptsKeepAnew, ScriptsKeepOn, at_end}
-use Rattle.df_lifetime.specs.Life.{ShowsFile}
+use Rattle.df_lifetime.specs.Hurt.{AreAnswered, HurtRunsKeep, KeepsOn, NextFinds, RunsKeepAnew, RunsKeepOn, at_end}
 use Rattle.df_lifetime.specs.There.{promised_in}
 use Rattle.df_lifetime.proofs.Acts.{ends_inputs, first_answers, front_and_rest, has_front, work_on}
 use Rattle.df_lifetime.proofs.Bases.{AnsweredOver, KeepsOver, told_over}
@@ -173,45 +169,35 @@ shows_begun mending c t from to n is =
 
 -- ---- the laws
 
--- calls on what was found, by what they keep
-calls_keep_on : (g : Grade) (file : DataFile) (view : View) (t base : Told) (found : FoundFile file.layout t) (c : CallsMade) → CallsKeep t found.replica found.mended found.mending c → c.old ≡ found.mended → c.new ≡ after_all (events_made c) c.old → base.shown ≡ t.shown
-    → MayOpen file view base → StandsFor g (unit_at file.layout file.cluster t.shown) view → KeepsOn file g (begun_work file t.shown view) base found.mending.events c
-calls_keep_on g file view t base found c calls from adds same may stands =
-    let here = found_shown file view t base same may in
-    let one : found.replica.file ≡ file = file_there file.layout t found ∙ one_file 2 file file.layout t.shown view found.found here found.is_opened in
-    let there = subst (λ (f : DataFile). IsFound (shape f) (unit_at f.layout f.cluster t.shown) view) (sym one) here in
-    let work : IsWork (shape file) (spelling file) (begun_work file t.shown view) = subst (λ (f : DataFile). IsWork (shape f) (spelling f) (begun_work f t.shown view)) one (calls.stands view there).0 in
-    keeps_on file g view t base may.version work found.mending.events c (subst (λ (f : DataFile). KeepsOver f t c.exchanges c.failed found.mending.events (events_made c)) one calls.keeps g view base same may stands)
-    (subst (λ (f : DataFile). AnsweredOver f t found.mending.events c) one calls.acknowledged g view base same may stands) (shows_over found.mending.events c t base same (from ∙ found.mending.told) adds)
-
-pub scripts_keep_on : ScriptsKeepOn
-scripts_keep_on g file view t base old new status pace found serves same may stands = calls_keep_on g file view t base found (script_calls serves.session) serves.calls refl (ap (λ (o : Outside). o.told) serves.last_is ∙ serves.adds) same may stands
+-- what was told after the calls of a run
+pub served_adds : (t n : Told) (served : ServedFile t n) → served.made.new ≡ after_all (events_made served.made) served.made.old
+served_adds t n served = served.keep.adds ∙ ap (after_all (events_made served.made)) (sym served.after)
 
 pub runs_keep_on : RunsKeepOn
-runs_keep_on g file view t base old new status seed count found works same may stands = calls_keep_on g file view t base found (run_calls works.worked) works.calls refl works.calls.adds same may stands
+runs_keep_on g file view t n base served same may stands =
+    let found = served.found in
+    let c : CallsMade = served.made in
+    let here = found_shown file view t base same may in
+    let one : found.replica.file ≡ file = file_there served.layout t found ∙ one_file 2 file served.layout t.shown view found.found here found.is_opened in
+    let there = subst (λ (f : DataFile). IsFound (shape f) (unit_at f.layout f.cluster t.shown) view) (sym one) here in
+    let work : IsWork (shape file) (spelling file) (begun_work file t.shown view) = subst (λ (f : DataFile). IsWork (shape f) (spelling f) (begun_work f t.shown view)) one (served.keep.stands view there).0 in
+    keeps_on file g view t base may.version work found.mending.events c (subst (λ (f : DataFile). KeepsOver f t c.exchanges c.failed found.mending.events (events_made c)) one served.keep.keeps g view base same may stands)
+    (subst (λ (f : DataFile). AnsweredOver f t found.mending.events c) one served.keep.acknowledged g view base same may stands)
+    (shows_over found.mending.events c t base same (served.after ∙ found.mending.told) (served_adds t n served))
 
 -- the file of what was opened is of its version
 of_one : (file : DataFile) (s : State) → s.file ≡ file → s.file.version ≡ 2 → file.version ≡ 2
 of_one file s same version = ap (λ (f : DataFile). f.version) (sym same) ∙ version
 
-pub hurt_scripts_keep : HurtScriptsKeep
-hurt_scripts_keep g file view t old new status pace found serves had same stands =
-    scripts_keep_on g file had.found t (restarted t) old new status pace found serves refl (begun_may_open file had.found t (of_one file found.found had.of found.is_opened.of.version_is) (had.begins same)) stands
-
 pub hurt_runs_keep : HurtRunsKeep
-hurt_runs_keep g file view t old new status seed count found works had same stands =
-    runs_keep_on g file had.found t (restarted t) old new status seed count found works refl (begun_may_open file had.found t (of_one file found.found had.of found.is_opened.of.version_is) (had.begins same)) stands
+hurt_runs_keep g file view t n served had same stands =
+    runs_keep_on g file had.found t n (restarted t) served refl (begun_may_open file had.found t (of_one file served.found.found had.of served.found.is_opened.of.version_is) (had.begins same)) stands
 
 -- ---- whatever was done before
 
-calls_keep_anew : (g : Grade) (file : DataFile) (view : View) (t : Told) (found : FoundFile file.layout t) (c : CallsMade) → CallsKeep t found.replica found.mended found.mending c → c.old ≡ found.mended → c.new ≡ after_all (events_made c) c.old → ShowsFile g file view t.shown
-    → KeepsOn file g (begun_work file t.shown view) (begun_after found.mending.events t) [] c
-calls_keep_anew g file view t found c calls from adds shows =
-    keeps_on file g view t (begun_after found.mending.events t) shows.version (work_begun g file view t file.layout found c shows calls) [] c (keeps_begun g file view t file.layout found c shows calls) (answers_begun g file view t file.layout found c shows calls)
-    (shows_begun found.mending.events c t (from ∙ found.mending.told) adds)
-
-pub scripts_keep_anew : ScriptsKeepAnew
-scripts_keep_anew g file view t old new status pace found serves shows = calls_keep_anew g file view t found (script_calls serves.session) serves.calls refl (ap (λ (o : Outside). o.told) serves.last_is ∙ serves.adds) shows
-
 pub runs_keep_anew : RunsKeepAnew
-runs_keep_anew g file view t old new status seed count found works shows = calls_keep_anew g file view t found (run_calls works.worked) works.calls refl works.calls.adds shows
+runs_keep_anew g file view t n served shows =
+    let found = served.found in
+    let c : CallsMade = served.made in
+    keeps_on file g view t (begun_after found.mending.events t) shows.version (work_begun g file view t served.layout found c shows served.keep) [] c (keeps_begun g file view t served.layout found c shows served.keep)
+    (answers_begun g file view t served.layout found c shows served.keep) (shows_begun found.mending.events c t (served.after ∙ found.mending.told) (served_adds t n served))

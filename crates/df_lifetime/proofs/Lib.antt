@@ -26,3 +26,14 @@ mod Fronts
 mod OneRun
 mod OneTour
 mod RunTexts
+mod Makings
+mod WordRuns
+mod OtherRuns
+mod MendedLives
+mod TableLives
+mod TablesSince
+mod NoteRuns
+mod Records
+mod KnownUnits
+mod MirrorRuns
+mod OpenedRecords

@@ -26,37 +26,31 @@ use Rattle.df_session.specs.Below.{IsOpened, State as Replica, boot_fields, shap
 use Rattle.df_session.specs.Following.{MayOpen}
 use Rattle.df_session.specs.HeldBlocks.{AreInputs}
 use Rattle.df_session.specs.Making.{file_of}
-use Rattle.df_session.specs.Opened.{Mends, MendsPartly, StopsOpening, begun_state}
+use Rattle.df_session.specs.Opened.{MendsPartly, StopsOpening, begun_state}
 use Rattle.df_session.specs.Serving.{Grade, IsGoodFor, StandsFor, Whole, format}
 use Rattle.df_session.specs.Session.{Act, Exchange, HasView, IsMidway, acts_in, work_after}
 use Rattle.df_session.proofs.Laws.{added_is_told, found_is_usable, good_left, good_safe, honest_stays, keeps_on, keeps_self}
 use Rattle.df_session.specs.Begun.{begun_work}
-use Rattle.df_session.specs.Found.{FoundFile, no_calls}
-use Rattle.df_session.specs.Laws.{CallsKeep}
 use Rattle.df_session.specs.Links.{CallsMade, events_made, list_of}
+use Rattle.df_session.specs.Programs.{FileRun, LooksOnly, Serves, ServedFile, StopsInOpen, calls_in_run}
 use Rattle.df_session.specs.Acknowledging.{IsUntil, KeepsAnswered, WereAnswered}
 use Rattle.df_session.proofs.Laws.{file_there}
 use Rattle.df_top.proofs.Laws.{second_is_left}
-use Rattle.df_top.specs.Acknowledging.{run_calls, script_calls}
 use Rattle.df_top.specs.Formats.{Formats}
 use Rattle.df_session.specs.Keeping.{KeepsFile, LeavesAll, over}
-use Rattle.df_top.specs.Opening.{RefusesFile, StopsBefore}
-use Rattle.df_top.specs.Outside.{Outside}
-use Rattle.df_top.specs.Run.{ComesTo, Does, Works}
-use Rattle.df_top.specs.declared.mode.Mode.{Mode}
-use Rattle.df_top.specs.declared.mode.Mode.TheVariants.{Format, Run, Recover, Inspect, Scrub, Workload, Upgrade, Paced}
 use Rattle.df_top.specs.declared.status.Status.{Status}
 use Rattle.df_top.specs.declared.status.Status.TheVariants.{Done, Found, Words, Script, Refused, DiskFault, ReadFault, WriteFault, Memory}
-use Rattle.df_lifetime.specs.Life.{Chapter, EveryLifeGoesOn, EveryLifeIsInOrder, EveryWordGoesAlong, GoesAlong, HaveAnswers, IsInOrder, MayHave, OtherWord, Outcome, ToAMoment, ToItsEnd, Word, calls_in, calls_made, calls_of, calls_to, chapter_of, chapters_of, outcome_of, sessions_in, word_calls}
+use Rattle.df_lifetime.specs.Life.{Chapter, EveryLifeGoesOn, EveryLifeIsInOrder, EveryRunGoesAlong, GoesAlong, HaveAnswers, IsInOrder, MayHave, ToAMoment, ToItsEnd, chapter_of, chapters_of, sessions_in}
 use Rattle.df_lifetime.specs.Life.Life.{Begun, Ended, Made, Opened, Ran, Spared, Stopped, Taken}
-use Rattle.df_lifetime.specs.Life.OtherWord.{ToFormat, ToUpgrade}
+use Rattle.df_lifetime.specs.Words.{OtherWord}
+use Rattle.df_lifetime.specs.Words.OtherWord.{ToFormat, ToUpgrade}
 use Rattle.df_lifetime.proofs.Bases.{AnsweredOver, KeepsOver, told_over}
 use Rattle.df_lifetime.proofs.Along.{after_along, along_on, answered_along, extends_along, grows, moment_along, one_end}
 use Rattle.df_lifetime.proofs.Acts.{HasFront, ends_inputs, first_answers, front_and_rest, has_front, work_on}
 use Rattle.df_lifetime.proofs.Files.{one_file}
-use Rattle.df_lifetime.proofs.Haves.{begun_bare, had_on}
+use Rattle.df_lifetime.proofs.Haves.{had_on}
 use Rattle.df_lifetime.proofs.Openings.{opened_in_order}
-use Rattle.df_lifetime.proofs.Orders.{Has, Order, after_barrier, goes_on, here, in_order, made_in_order, made_safe, may, none_referenced, order_of, same_moments, shows, stands_shown, synced, synced_moments, taken_in_order}
+use Rattle.df_lifetime.proofs.Orders.{Has, Order, after_barrier, goes_on, here, in_order, made_in_order, may, none_referenced, order_of, same_moments, shows, stands_shown, synced, synced_moments, taken_in_order}
 
 -- the word `format` leaves a disk as it is whose superblock isn't blank
 pub format_spares : (layout : Layout) (cluster : ℕ) (t n : Told) (old new : Option (List ℕ)) (status : Status) → (IsUnformatted t.shown → ⊥) → Formats layout cluster (Some t) (Some n) old new status → t ≡ n
@@ -71,7 +65,7 @@ format_spares layout cluster t n old new Words formatted none = absurd none
 format_spares layout cluster t n old new Script formatted none = absurd none
 format_spares layout cluster t n old new ReadFault formatted none = absurd none
 
--- what a word leaves of a file's log that goes along with the disk, where it made these calls: it is honest, and in order at the end, and at each moment, by what was answered by then
+-- what a run leaves of a file's log that goes along with the disk, where it made these calls: it is honest, and in order at the end, and at each moment, by what was answered by then
 pub record Comes (file : DataFile) (first : View) (chapters : List Chapter) (calls : Option CallsMade) (t n b : Told) : Type 0 where
   pub end : Told
   pub along : GoesAlong t n b end
@@ -180,10 +174,6 @@ module _ (file : DataFile) (first : View) (chapters : List Chapter) (b : Told) (
   stops_comes layout new n to (inl none) = same_comes n (one_some new t n none to)
   stops_comes layout new n to (inr (inl all)) = sync_comes n (one_some new (did Sync t) n all to)
   stops_comes layout new n to (inr (inr mends)) = mends_comes layout new n to mends
-
-  -- it was refused after the barrier, as one of another layout is
-  refused_comes : (layout : Layout) (old new : Outside) (status : Status) (n : Told) → new.told ≡ Some n → RefusesFile layout t old new status → Comes file first chapters None t n b
-  refused_comes layout old new status n to refuses = sync_comes n (one_some new.told (did Sync t) n refuses.barrier to)
 
   -- ---- the file was opened, and kept
 
@@ -327,85 +317,24 @@ module _ (file : DataFile) (first : View) (chapters : List Chapter) (b : Told) (
             moments = λ k p m later part had. all_moments k p m later part had from;
           })
 
-  -- ---- nothing was asked of it
+  -- ---- a run
 
-  idle_order : (log : Log) → IsMidway file Whole start [] log → Order file first chapters log
-  idle_order log mid = record {
-    safe = mid.safe;
-    left = λ image left no.
-        let has : HasView file Whole start image = mid.left image left no in
-        record { view = has.0; had = had_on file first chapters view has.0 had (keeps_on view (kept start) has.0 (begun_bare file t.shown view) has.1); held = has.2.0; stands = has.2.1 };
-  }
+  -- the file was found, and these calls were made on it
+  served_run : (n : Told) (served : ServedFile t n) → Comes file first chapters (Some served.made) t n b
+  served_run n served =
+      let found = served.found in
+      let c : CallsMade = served.made in
+      let es : List Event = found.mending.events in
+      let one : found.replica.file ≡ file = file_there served.layout t found ∙ one_opened served.layout found.found found.is_opened in
+      served_comes c es (one_unspent served.layout found.found found.is_opened) (ends_inputs c.from c.to c.old c.new c.exchanges c.failed c.calls) (keeps_as found.replica c.exchanges c.failed es (events_made c) one served.keep.keeps)
+      (answered_as found.replica c es one served.keep.acknowledged) n
+      (one_some c.new (told_after (events_made c) (told_after es (did Sync t))) n (told_over es (events_made c) t found.mended c.new found.mending.told served.keep.adds) served.to)
+      (served.after ∙ told_over es [] t found.mended found.mended found.mending.told refl)
 
-  idle_comes : (mending : List Event) (n : Told) → KeepsFile file Whole start b [] None (over mending [] b) → told_after mending (did Sync t) ≡ n → Comes file first chapters None t n b
-  idle_comes mending n keeps same =
-      let end : Told = told_after mending (did Sync b) in
-      let idle : EachMoment (did Sync b).log end.log (Order file first chapters) = weaker (did Sync b).log end.log (IsMidway file Whole start []) (Order file first chapters) idle_order (midway [] None end keeps) in
-      let grew : Extends end.log (did Sync b).log = barrier [] None end keeps in
-      quiet_comes (Sync ∷ mending) n same (idle end.log (record { since = grew; until = extends_self end.log })) (after_barrier file first chapters b is chance end.log grew idle)
-
-  -- ---- a word
-
-  module _ (layout : Layout) (old new : Outside) (status : Status) (n : Told) (to : new.told ≡ Some n) where
-    -- calls after an open and what it mended
-    calls_come : (replica : Replica) (c : CallsMade) (mending : Mends replica.file (Some (did Sync t)) c.old) → replica.file ≡ file → boot_of view < 2 ^ 62 → new.told ≡ after_all (events_made c) c.old
-        → KeepsOver replica.file t c.exchanges c.failed mending.events (events_made c) → AnsweredOver replica.file t mending.events c → Comes file first chapters (Some c) t n b
-    calls_come replica c mending one unspent adds keeps acknowledged =
-        let inputs : AreInputs (acts_in c.exchanges ++ list_of c.failed) = ends_inputs c.from c.to c.old c.new c.exchanges c.failed c.calls in
-        let told : Told = told_after (events_made c) (told_after mending.events (did Sync t)) in
-        served_comes c mending.events unspent inputs (keeps_as replica c.exchanges c.failed mending.events (events_made c) one keeps) (answered_as replica c mending.events one acknowledged) n
-        (one_some new.told told n (told_over mending.events (events_made c) t c.old new.told mending.told adds) to) (told_over mending.events [] t c.old c.old mending.told refl)
-
-    -- what was found is the file
-    found_one : (found : FoundFile layout t) → found.replica.file ≡ file
-    found_one found = file_there layout t found ∙ one_opened layout found.found found.is_opened
-
-    found_unspent : (found : FoundFile layout t) → boot_of view < 2 ^ 62
-    found_unspent found = one_unspent layout found.found found.is_opened
-
-    -- no call was made on it
-    idles : (found : FoundFile layout t) → new.told ≡ found.mended → CallsKeep t found.replica found.mended found.mending (no_calls found) → Comes file first chapters None t n b
-    idles found told calls =
-        idle_comes found.mending.events n (keeps_as found.replica [] None found.mending.events [] (found_one found) calls.keeps)
-        (one_some new.told (told_after found.mending.events (did Sync t)) n (told ∙ told_over found.mending.events [] t found.mended found.mended found.mending.told refl) to)
-
-    works_come : (mode : Mode) (found : FoundFile layout t) (works : Works mode layout t found old new status) → Comes file first chapters (word_calls mode layout t found old new status works) t n b
-    works_come (Format shape cluster) found works = absurd works
-    works_come Upgrade found works = absurd works
-    works_come Run found serves = calls_come found.replica (script_calls serves.session) found.mending (found_one found) (found_unspent found) serves.adds serves.calls.keeps serves.calls.acknowledged
-    works_come (Paced pace) found serves = calls_come found.replica (script_calls serves.session) found.mending (found_one found) (found_unspent found) serves.adds serves.calls.keeps serves.calls.acknowledged
-    works_come Recover found recovers = idles found recovers.told recovers.calls
-    works_come Inspect found inspects = sync_comes n (one_some new.told (did Sync t) n inspects.barrier to)
-    works_come Scrub found scrubs = idles found (scrubs.told ∙ sym scrubs.is_mended) scrubs.calls
-    works_come (Workload seed count) found works = calls_come found.replica (run_calls works.worked) found.mending (found_one found) (found_unspent found) works.calls.adds works.calls.keeps works.calls.acknowledged
-
-    -- the disk failed before that
-    before_comes : (mode : Mode) → StopsBefore mode layout t new.told → Comes file first chapters None t n b
-    before_comes (Format shape cluster) stops = stops_comes layout new.told n to stops
-    before_comes Upgrade stops = stops_comes layout new.told n to stops
-    before_comes Run stops = stops_comes layout new.told n to stops
-    before_comes Recover stops = stops_comes layout new.told n to stops
-    before_comes Inspect stops = part_comes new.told n to stops
-    before_comes Scrub stops = stops_comes layout new.told n to stops
-    before_comes (Paced pace) stops = stops_comes layout new.told n to stops
-    before_comes (Workload seed count) stops = stops_comes layout new.told n to stops
-
-    comes_so : (mode : Mode) (comes : ComesTo mode layout t old new status) → Comes file first chapters (calls_to mode layout t old new status comes) t n b
-    comes_so mode (inl refuses) = refused_comes layout old new status n to refuses
-    comes_so mode (inr (inl fails)) = before_comes mode fails.disk
-    comes_so mode (inr (inr works)) = works_come mode works.0 works.1
-
-    does_comes : (mode : Mode) (does : Does mode layout t old new status) → Comes file first chapters (calls_of mode layout t old new status does) t n b
-    does_comes mode does = comes_so mode does.1
-
-  outcome_comes : (mode : Mode) (old new : Outside) (status : Status) (n : Told) → old.told ≡ Some t → new.told ≡ Some n → (outcome : Outcome mode t old new status)
-      → Comes file first chapters (calls_in mode t old new status outcome) t n b
-  outcome_comes mode old new status n from to (inl nothing) = same_comes n (one_some new.told t n (nothing.without.same ∙ from) to)
-  outcome_comes mode old new status n from to (inr (inl refuses)) = same_comes n (one_some new.told t n (refuses.same ∙ from) to)
-  outcome_comes mode old new status n from to (inr (inr does)) = does_comes does.0 old new status n to mode does.1
-
-  pub word_comes : (n : Told) (word : Word t n) → Comes file first chapters (calls_made t n word) t n b
-  word_comes n word = outcome_comes word.mode word.old word.new word.status n word.from word.to (outcome_of word.mode t word.old word.new word.status word.carried word.from word.whole)
+  pub run_comes : (n : Told) (run : FileRun t n) → Comes file first chapters (calls_in_run run) t n b
+  run_comes n (LooksOnly part) = part_comes (Some n) n refl part
+  run_comes n (StopsInOpen layout stops) = stops_comes layout (Some n) n refl stops
+  run_comes n (Serves served) = served_run n served
 
   -- ---- the other words
 
@@ -448,22 +377,21 @@ ended_order : (file : DataFile) (first : View) (chapters : List Chapter) (m e : 
 ended_order file first chapters m e version same honest order = subst (IsInOrder file first chapters) same (in_order file first chapters e version honest order)
 
 pub every_life_is_in_order : EveryLifeIsInOrder
-every_life_is_in_order _ _ _ _ (Made layout cluster t n makable honest word) = made_in_order layout cluster t n makable honest word
-every_life_is_in_order _ _ _ _ (Begun layout cluster t n m status changes makable honest word wanting moment there loose chance held) =
+every_life_is_in_order _ _ _ _ (Made layout cluster t n makable made) = made_in_order layout cluster t n makable made
+every_life_is_in_order _ _ _ _ (Begun layout cluster t n m result changes makable made moment there loose chance held) =
     let file = file_of layout cluster makable.named in
-    let safe = made_safe layout cluster t n makable honest status word wanting m.log moment in
-    stopped_order file (first_view layout cluster) [] m refl safe there changes loose chance
+    stopped_order file (first_view layout cluster) [] m refl (made.leaves.moments m.log moment) there changes loose chance
     (record { view = first_view layout cluster; had = keeps_self (first_view layout cluster); held = held; stands = none_referenced file (changed changes (now m.log)) })
 every_life_is_in_order _ _ _ _ (Taken file first t may) = taken_in_order file first t may
 every_life_is_in_order _ _ _ _ (Opened file first t m layout found c extent shows calls made) = opened_in_order file first t m layout found c extent shows calls made
-every_life_is_in_order _ _ _ _ (Ran file first b m t n chapters word life chance along) =
+every_life_is_in_order _ _ _ _ (Ran file first b m t n chapters run life chance along) =
     let is = every_life_is_in_order file first b chapters life in
-    let comes = word_comes file first chapters b is chance t along.shown n word in
-    ended_order file first (sessions_in ToItsEnd t n word ++ chapters) m comes.end is.version (one_end t n b m comes.end comes.along along) comes.honest comes.at_end
-every_life_is_in_order _ _ _ _ (Ended file first b m t p n chapters word answered life chance until along honest had) =
+    let comes = run_comes file first chapters b is chance t along.shown n run in
+    ended_order file first (sessions_in ToItsEnd run ++ chapters) m comes.end is.version (one_end t n b m comes.end comes.along along) comes.honest comes.at_end
+every_life_is_in_order _ _ _ _ (Ended file first b m t p n chapters run answered life chance until along honest had) =
     let is = every_life_is_in_order file first b chapters life in
-    let comes = word_comes file first chapters b is chance t along.shown n word in
-    in_order file first (sessions_in (ToAMoment answered) t n word ++ chapters) m is.version honest (comes.moments answered p m until along had)
+    let comes = run_comes file first chapters b is chance t along.shown n run in
+    in_order file first (sessions_in (ToAMoment answered) run ++ chapters) m is.version honest (comes.moments answered p m until along had)
 every_life_is_in_order _ _ _ _ (Spared file first b m t p n chapters word life chance until along honest) =
     let is = every_life_is_in_order file first b chapters life in
     let comes = same_comes file first chapters b is chance t along.shown n (other_same file first chapters b is chance t along.shown n word) in
@@ -475,10 +403,10 @@ every_life_is_in_order _ _ _ _ (Stopped file first b chapters changes life loose
 pub every_life_goes_on : EveryLifeGoesOn
 every_life_goes_on file first t chapters life chance = goes_on file first chapters t (every_life_is_in_order file first t chapters life) chance
 
-pub every_word_goes_along : EveryWordGoesAlong
-every_word_goes_along file first b t n chapters life chance shown word =
+pub every_run_goes_along : EveryRunGoesAlong
+every_run_goes_along file first b t n chapters life chance shown run =
     let is = every_life_is_in_order file first b chapters life in
-    elim word [
-      | inl carried ↦ let comes = word_comes file first chapters b is chance t shown n carried in (comes.end, comes.along, comes.own)
+    elim run [
+      | inl over ↦ let comes = run_comes file first chapters b is chance t shown n over in (comes.end, comes.along, comes.own)
       | inr other ↦ let comes = same_comes file first chapters b is chance t shown n (other_same file first chapters b is chance t shown n other) in (comes.end, comes.along, comes.own)
     ]

@@ -51,7 +51,7 @@ module _ (sh : Shape) (op sum client request : ℕ) (body : List ℕ) where
 -- ---- replies
 
 -- a session with an older op stood there before
-old_session : (ps : List Message) (op parent high : ℕ) (ss : List Session) → AreInTurn op parent ps → high < op → (k : ℕ) (s : Session) → slice_get (sessions_after ss ps) k ≡ Some s → s.op ≤ high → slice_get ss k ≡ Some s
+pub old_session : (ps : List Message) (op parent high : ℕ) (ss : List Session) → AreInTurn op parent ps → high < op → (k : ℕ) (s : Session) → slice_get (sessions_after ss ps) k ≡ Some s → s.op ≤ high → slice_get ss k ≡ Some s
 old_session [] op parent high ss turn low k s at old = at
 old_session (p ∷ ps) op parent high ss turn low k s at old =
     elim (noted_get p.header ss k s (old_session ps (op + 1) p.header.checksum high (noted p.header ss) turn.2 (omega (arith, low)) k s at old)) [
@@ -65,7 +65,7 @@ kept_case s op old low = grind (arith, nat_tests)
 kept_is : (o : Option Session) (s : Session) (op : ℕ) (old : Option Message) → o ≡ Some s → s.op ≤ op → kept o op old ≡ old
 kept_is o s op old is low = ap (λ (x : Option Session). kept x op old) is ∙ kept_case s op old low
 
-same_op : (s t : Session) → Some s ≡ Some t → s.op ≡ t.op
+pub same_op : (s t : Session) → Some s ≡ Some t → s.op ≡ t.op
 same_op s t is = let same : s ≡ t = cc in ap (λ (x : Session). x.op) same
 
 module _ (sh : Shape) (op sum : ℕ) (body : List ℕ) where

@@ -1,12 +1,10 @@
 -- A file in order: as it was made or taken, as it is opened, and after a barrier.
-use Rattle.std.proofs.Common.{◌≡◌, ℕ, List, [], Some, None, refl, sym, ◌∙◌, ap, subst}
+use Rattle.std.proofs.Common.{◌≡◌, ℕ, List, [], Some, None, Ok, refl, sym, subst}
 use Rattle.df_base.specs.Image.{Image}
 use Rattle.df_base.specs.Log.{IsLeft, IsLog, Log, Sync, add, now}
 use Rattle.df_base.specs.Moments.{EachMoment, Extends}
-use Rattle.df_base.proofs.Laws.{adds_extends, extends_self, from_before, now_is_image, started, one_some}
-use Rattle.df_disk.specs.Adds.{after_all}
+use Rattle.df_base.proofs.Laws.{extends_self, from_before, now_is_image, started}
 use Rattle.df_disk.specs.Told.{IsHonest, Told}
-use Rattle.df_disk.proofs.Laws.{told_log}
 use Rattle.df_layout.specs.declared.layout.Layout.{Layout}
 use Rattle.df_theory.specs.Device.{IsSafeDisk, NoChanceOf, units_log}
 use Rattle.df_theory.specs.Holds.{Held, Stands}
@@ -20,13 +18,10 @@ use Rattle.df_units.proofs.Laws.{is_format, of_places}
 use Rattle.df_trailer.specs.Text.{parse_of}
 use Rattle.df_session.specs.Below.{shape, DataFile, restarted}
 use Rattle.df_session.specs.Following.{MayOpen}
-use Rattle.df_session.specs.Making.{MayMakeOn, file_of, making_events}
+use Rattle.df_session.specs.Making.{MayMakeOn, file_of}
 use Rattle.df_session.specs.Serving.{format}
 use Rattle.df_session.proofs.Laws.{begun_may_open, keeps_self}
-use Rattle.df_top.specs.Formats.{MakesOn}
-use Rattle.df_top.specs.declared.status.Status.{Status}
-use Rattle.df_top.specs.declared.status.Status.TheVariants.{Done, Memory}
-use Rattle.df_lifetime.specs.Life.{Chapter, FormatWord, IsInOrder, MayBeOpened, MayHave, MayTake}
+use Rattle.df_lifetime.specs.Life.{Chapter, IsInOrder, MadeOn, MayBeOpened, MayHave, MayTake}
 
 -- what is there now is one of the images that a stop may leave
 pub now_left : (log : Log) → IsLog log → IsLeft log (now log)
@@ -119,38 +114,10 @@ tidy_order file log safe tidy = record {
   };
 }
 
-module _ (layout : Layout) (cluster : ℕ) (t n : Told) (may : MayMakeOn layout cluster t) (honest : IsHonest t) (status : Status) (word : FormatWord layout cluster t n status) (wanting : status ≡ Memory → ⊥) where
-  abbrev made : DataFile
-  made = file_of layout cluster may.named
-
-  makes : MakesOn layout cluster t may (Some n) status
-  makes = word.makes t may wanting refl honest
-
-  same : makes.after ≡ n
-  same = one_some (Some n) makes.after n makes.is refl
-
-  -- the log is safe at each moment of a making
-  pub made_safe : EachMoment t.log n.log (IsSafeDisk (format made) (shape made))
-  made_safe = subst (λ (x : Told). EachMoment t.log x.log (IsSafeDisk (format made) (shape made))) same makes.moments
-
-  made_honest : IsHonest n
-  made_honest = subst IsHonest same makes.honest
-
-  made_tidy : status ≡ Done → IsTidy (shape made) (units_log (format made) n.log) (first_view layout cluster)
-  made_tidy done = subst (λ (x : Told). IsTidy (shape made) (units_log (format made) x.log) (first_view layout cluster)) same (makes.made done).tidy
-
-pub made_grew : (layout : Layout) (cluster : ℕ) (t n : Told) → Some n ≡ after_all (making_events layout cluster) (Some t) → Extends n.log t.log
-made_grew layout cluster t n events =
-    let all = told_log (making_events layout cluster) t in
-    let is : n ≡ all.0 = one_some (Some n) n all.0 refl (events ∙ all.1) in
-    subst (λ (l : Log). Extends l t.log) (sym (ap (λ (x : Told). x.log) is ∙ all.2)) (adds_extends (making_events layout cluster) t.log)
-
-pub made_in_order : (layout : Layout) (cluster : ℕ) (t n : Told) (may : MayMakeOn layout cluster t) → IsHonest t → FormatWord layout cluster t n Done → IsInOrder (file_of layout cluster may.named) (first_view layout cluster) [] n
-made_in_order layout cluster t n may honest word =
+pub made_in_order : (layout : Layout) (cluster : ℕ) (t n : Told) (may : MayMakeOn layout cluster t) → MadeOn layout cluster t n may (Ok tt) → IsInOrder (file_of layout cluster may.named) (first_view layout cluster) [] n
+made_in_order layout cluster t n may made =
     let file = file_of layout cluster may.named in
-    let grew : Extends n.log t.log = made_grew layout cluster t n word.formats.0.events in
-    let safe = made_safe layout cluster t n may honest Done word (λ no. cc) n.log (record { since = grew; until = extends_self n.log }) in
-    in_order file (first_view layout cluster) [] n refl (made_honest layout cluster t n may honest Done word (λ no. cc)) (tidy_order file n.log safe (made_tidy layout cluster t n may honest Done word (λ no. cc) refl))
+    in_order file (first_view layout cluster) [] n refl made.honest (tidy_order file n.log (made.leaves.moments n.log (record { since = made.grew; until = extends_self n.log })) made.leaves.made.tidy)
 
 -- ---- as it was taken
 

@@ -26,8 +26,8 @@ use Rattle.df_upgrade.specs.Below.{IsLayoutShownAs}
 use Rattle.df_upgrade.proofs.Laws.{super_as}
 use Rattle.df_layout.specs.declared.layout.Layout.{Layout}
 use Rattle.df_lifetime.specs.Again.{IsSpared, OtherWordsLeaveIt}
-use Rattle.df_lifetime.specs.Life.{OtherWord}
-use Rattle.df_lifetime.specs.Life.OtherWord.{ToFormat, ToUpgrade}
+use Rattle.df_lifetime.specs.Words.{OtherWord}
+use Rattle.df_lifetime.specs.Words.OtherWord.{ToFormat, ToUpgrade}
 use Rattle.df_lifetime.proofs.Agains.{IsSound, every_life_is_lived, may_reopen}
 use Rattle.df_lifetime.proofs.Lives.{format_spares}
 use Rattle.df_lifetime.proofs.Orders.{now_left}
@@ -83,4 +83,4 @@ module _ (file : DataFile) (older : List Log) (b t : Told) (is : IsSound file ol
   ]
 
 pub other_words_leave_it : OtherWordsLeaveIt
-other_words_leave_it file older b t n life spared chance word = spares file older b t (every_life_is_lived file older b life) spared chance n word
+other_words_leave_it file older b t n life spared chance word = spares file older b t (every_life_is_lived file older b t.shown life) spared chance n word

@@ -28,9 +28,10 @@ use Rattle.df_upgrade.specs.Upgrading.{IsLeftByUpgrade, UpgradeStaysBare, Upgrad
 use Rattle.df_top.specs.Upgrading.{ComesToUpgrade, UpgradesOwn}
 use Rattle.df_top.specs.declared.status.Status.{Status}
 use Rattle.df_top.specs.declared.status.Status.TheVariants.{Done}
-use Rattle.df_lifetime.specs.Life.{GoesAlong, UpgradeWord}
+use Rattle.df_lifetime.specs.Life.{GoesAlong}
 use Rattle.df_lifetime.specs.Life.Life.{Taken}
 use Rattle.df_lifetime.specs.Upgraded.{DoneIsUpgraded, IsOld, IsUpgraded, StoppedIsUpgraded, UpgradedBegins}
+use Rattle.df_lifetime.specs.Words.{UpgradeWord}
 use Rattle.df_lifetime.proofs.Along.{after_along, moment_along}
 use Rattle.df_lifetime.proofs.Reborn.{begins_history}
 use Rattle.df_lifetime.proofs.Files.{one_file}

@@ -52,7 +52,7 @@ pub record IsCopiedImage (layout : Layout) (file : DataFile) (source : Image) (v
 -- where a life begins, and one with damage before any number of opens
 abbrev pub CopiedBegins : Type 0
 CopiedBegins =
-    (layout : Layout) (file : DataFile) (source : Image) (v : View) (t : Told) (new : IsCopiedImage layout file source v t.shown) → Life (file_in layout file) new.first (restarted t) [] × Again (file_in layout file) [] (restarted t)
+    (layout : Layout) (file : DataFile) (source : Image) (v : View) (t : Told) (new : IsCopiedImage layout file source v t.shown) → Life (file_in layout file) new.first (restarted t) [] × Again (file_in layout file) [] (restarted t) t.shown
 
 -- a copy that was made on a target on which nothing had been written leaves that, where the target's disk is honest and no two units have one checksum
 abbrev pub MadeIsCopied : Type 0

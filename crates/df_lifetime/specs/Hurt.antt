@@ -1,4 +1,4 @@
--- What a session keeps by any log by which its file may be opened: on a hurt disk by the one that is restarted at what its open found. So sessions compose there, too. And that
+-- What a run of any program keeps by any log by which its file may be opened: on a hurt disk by the one that is restarted at what its open found. So sessions compose there, too. And that
 -- whatever life a file has had, it may be hurt.
 use Rattle.std.specs.Prelude.{◌≡◌, ℕ, zero, suc, List, [], ◌++◌, take, drop, Some}
 use Rattle.df_base.specs.Image.{Image, IsImage, blank, changed}
@@ -21,13 +21,8 @@ use Rattle.df_session.specs.Found.{FoundFile}
 use Rattle.df_session.specs.Laws.{CallsKeep}
 use Rattle.df_session.specs.Links.{CallsMade, events_made, list_of}
 use Rattle.df_session.specs.Acknowledging.{KeepsAnswered, WereAnswered}
-use Rattle.df_top.specs.Acknowledging.{run_calls, script_calls}
 use Rattle.df_session.specs.Keeping.{KeepsFile, over}
-use Rattle.df_top.specs.Outside.{Outside}
-use Rattle.df_pace.specs.declared.pace.Pace.{Pace}
-use Rattle.df_top.specs.Run.{ServesScript}
-use Rattle.df_top.specs.Working.{WorksThrough}
-use Rattle.df_top.specs.declared.status.Status.{Status}
+use Rattle.df_session.specs.Programs.{ServedFile}
 use Rattle.df_lifetime.specs.Acknowledged.{AreThere}
 use Rattle.df_lifetime.specs.Life.{Chapter, Life, MayHave, ShowsFile}
 use Rattle.df_lifetime.specs.There.{promised_in}
@@ -52,7 +47,7 @@ abbrev pub AreAnswered : ℕ → List Event → Told → Log → CallsMade → T
 AreAnswered zero mending base log c = Unit {0}
 AreAnswered (suc k) mending base log c = WereAnswered (suc k) (over mending [] base) log c
 
--- What a session keeps by a base, after this mending of its open and from this state of the machine on: what `run` promises of a disk that may be opened. The disk shows at
+-- What a session keeps by a base, after this mending of its open and from this state of the machine on: what is promised of a disk that may be opened. The disk shows at
 -- the end what the base tells, and so the next open goes on from there, or after a stop at any moment, with all that was answered by then.
 pub record KeepsOn (file : DataFile) (g : Grade) (w : Work) (base : Told) (mending : List Event) (c : CallsMade) : Type 0 where
   pub keeps : KeepsFile file g w base c.exchanges c.failed (over mending (events_made c) base)
@@ -62,39 +57,24 @@ pub record KeepsOn (file : DataFile) (g : Grade) (w : Work) (base : Told) (mendi
   pub stopped : (k : ℕ) (m : Told) (changes : List (ℕ × List ℕ)) → IsMoment (did Sync base).log (at_end mending c base).log m.log → AreAnswered k mending base m.log c → IsHonest m → AreLoose m.log.events changes
       → NoChanceOf (format file) m.log (changed changes (now m.log)) → NextFinds file g w (take k c.exchanges) (acts_in (drop k c.exchanges) ++ list_of c.failed) (did (Stop changes) m)
 
--- so does each session, whatever was done to the disk before: by each log that shows what it shows, and by which the file may be opened
-abbrev pub ScriptsKeepOn : Type 0
-ScriptsKeepOn =
-    (g : Grade) (file : DataFile) (view : View) (t base : Told) (old new : Outside) (status : Status) (pace : Pace) (found : FoundFile file.layout t) (serves : ServesScript pace file.layout t found old new status) → base.shown ≡ t.shown → MayOpen file view base
-    → StandsFor g (unit_at file.layout file.cluster t.shown) view → KeepsOn file g (begun_work file t.shown view) base found.mending.events (script_calls serves.session)
-
+-- So does each run of any program that found its file, whatever was done to the disk before: by each log that shows what it shows, and by which the file may be opened.
 abbrev pub RunsKeepOn : Type 0
 RunsKeepOn =
-    (g : Grade) (file : DataFile) (view : View) (t base : Told) (old new : Outside) (status : Status) (seed count : ℕ) (found : FoundFile file.layout t) (works : WorksThrough seed count file.layout t found old new status) → base.shown ≡ t.shown → MayOpen file view base
-    → StandsFor g (unit_at file.layout file.cluster t.shown) view → KeepsOn file g (begun_work file t.shown view) base found.mending.events (run_calls works.worked)
+    (g : Grade) (file : DataFile) (view : View) (t n base : Told) (served : ServedFile t n) → base.shown ≡ t.shown → MayOpen file view base → StandsFor g (unit_at file.layout file.cluster t.shown) view
+    → KeepsOn file g (begun_work file t.shown view) base served.found.mending.events served.made
 
--- A session on a hurt disk keeps it by the log that is restarted, where its open finds the file's own checkpoint, as it does where the four copies were equal and two stand.
-abbrev pub HurtScriptsKeep : Type 0
-HurtScriptsKeep =
-    (g : Grade) (file : DataFile) (view : View) (t : Told) (old new : Outside) (status : Status) (pace : Pace) (found : FoundFile file.layout t) (serves : ServesScript pace file.layout t found old new status) (had : FindsHad file view t found.found) → (had.found.checkpoint ≡ view.checkpoint)
-    → StandsFor g (unit_at file.layout file.cluster t.shown) had.found → KeepsOn file g (begun_work file t.shown had.found) (restarted t) found.mending.events (script_calls serves.session)
-
+-- On a hurt disk it keeps it by the log that is restarted, where its open finds the file's own checkpoint, as it does where the four copies were equal and two stand.
 abbrev pub HurtRunsKeep : Type 0
 HurtRunsKeep =
-    (g : Grade) (file : DataFile) (view : View) (t : Told) (old new : Outside) (status : Status) (seed count : ℕ) (found : FoundFile file.layout t) (works : WorksThrough seed count file.layout t found old new status) (had : FindsHad file view t found.found) → (had.found.checkpoint ≡ view.checkpoint)
-    → StandsFor g (unit_at file.layout file.cluster t.shown) had.found → KeepsOn file g (begun_work file t.shown had.found) (restarted t) found.mending.events (run_calls works.worked)
+    (g : Grade) (file : DataFile) (view : View) (t n : Told) (served : ServedFile t n) (had : FindsHad file view t served.found.found) → (had.found.checkpoint ≡ view.checkpoint) → StandsFor g (unit_at file.layout file.cluster t.shown) had.found
+    → KeepsOn file g (begun_work file t.shown had.found) (restarted t) served.found.mending.events served.made
 
 -- Whatever was done to the disk before, and whatever its copies show: where an open answered, all that is answered after it is kept by the log that is restarted at its end. Nothing is asked of the start but that the
 -- file is found, and that one checksum is one unit.
-abbrev pub ScriptsKeepAnew : Type 0
-ScriptsKeepAnew =
-    (g : Grade) (file : DataFile) (view : View) (t : Told) (old new : Outside) (status : Status) (pace : Pace) (found : FoundFile file.layout t) (serves : ServesScript pace file.layout t found old new status) → ShowsFile g file view t.shown
-    → KeepsOn file g (begun_work file t.shown view) (begun_after found.mending.events t) [] (script_calls serves.session)
-
 abbrev pub RunsKeepAnew : Type 0
 RunsKeepAnew =
-    (g : Grade) (file : DataFile) (view : View) (t : Told) (old new : Outside) (status : Status) (seed count : ℕ) (found : FoundFile file.layout t) (works : WorksThrough seed count file.layout t found old new status) → ShowsFile g file view t.shown
-    → KeepsOn file g (begun_work file t.shown view) (begun_after found.mending.events t) [] (run_calls works.worked)
+    (g : Grade) (file : DataFile) (view : View) (t n : Told) (served : ServedFile t n) → ShowsFile g file view t.shown
+    → KeepsOn file g (begun_work file t.shown view) (begun_after served.found.mending.events t) [] served.made
 
 -- And a stop within such an open leaves the view that was found, but for its boot, by the log that is restarted at its barrier: so the next open starts over.
 abbrev pub StoppedOpensBegin : Type 0
@@ -106,12 +86,12 @@ StoppedOpensBegin =
 
 -- what the disk of a life held at first: as its making began, the start of the log; or as the file was taken, or at the end of its open
 abbrev pub began_with : (file : DataFile) (first : View) (t : Told) (chapters : List Chapter) → Life file first t chapters → Image
-began_with _ _ _ _ (Made layout cluster t n makable honest word) = t.log.start
-began_with _ _ _ _ (Begun layout cluster t n m status changes makable honest word wanting moment there loose chance held) = t.log.start
+began_with _ _ _ _ (Made layout cluster t n makable made) = t.log.start
+began_with _ _ _ _ (Begun layout cluster t n m result changes makable made moment honest loose chance held) = t.log.start
 began_with _ _ _ _ (Taken file first t may) = t.shown
 began_with _ _ _ _ (Opened file first t m layout found c extent shows calls made) = (begun_after found.mending.events t).shown
-began_with _ _ _ _ (Ran file first b m t n chapters word life chance along) = began_with file first b chapters life
-began_with _ _ _ _ (Ended file first b m t p n chapters word answered life chance until along honest had) = began_with file first b chapters life
+began_with _ _ _ _ (Ran file first b m t n chapters run life chance along) = began_with file first b chapters life
+began_with _ _ _ _ (Ended file first b m t p n chapters run answered life chance until along honest had) = began_with file first b chapters life
 began_with _ _ _ _ (Spared file first b m t p n chapters word life chance until along honest) = began_with file first b chapters life
 began_with _ _ _ _ (Stopped file first b chapters changes life loose chance) = began_with file first b chapters life
 

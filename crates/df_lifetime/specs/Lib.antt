@@ -1,10 +1,16 @@
+pub mod Words
 pub mod Life
 pub mod There
 pub mod Acknowledged
 pub mod NewDisks
 pub mod Reads
+pub mod Programs
 pub mod Hurt
 pub mod Upgraded
 pub mod Printed
 pub mod Again
 pub mod Copied
+pub mod Mending
+pub mod Mirrored
+pub mod Tables
+pub mod Since

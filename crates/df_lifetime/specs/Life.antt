@@ -1,6 +1,5 @@
--- The life of a file: it is made, or taken as it is found, words are run over it one after the other, each to its end or up to a moment, and the machine may stop at any time.
-use Rattle.std.specs.Prelude.{◌≡◌, ◌⊎◌, ◌<◌, ◌^◌, ℕ, zero, suc, List, [], ◌∷◌, ◌++◌, take, drop, Option, Some, None}
-use Rattle.std.proofs.Common.{inl, inr}
+-- The life of a file: it is made, or taken as it is found, programs are run over it one after the other, whichever they are, each to its end or up to a moment, and the machine may stop at any time.
+use Rattle.std.specs.Prelude.{◌≡◌, ◌⊎◌, ◌<◌, ◌^◌, ℕ, zero, suc, List, [], ◌∷◌, ◌++◌, take, drop, Option, Some, None, Result, Ok}
 use Rattle.df_base.specs.Image.{Image, IsImage, changed}
 use Rattle.df_base.specs.Log.{AreLoose, Event, IsLeft, Log, Stop, Sync, now}
 use Rattle.df_base.specs.Moments.{Extends, IsMoment}
@@ -15,10 +14,11 @@ use Rattle.df_units.specs.Format.{format_of}
 use Rattle.df_units.specs.Making.{first_view}
 use Rattle.df_model.specs.Views.{KeepsView}
 use Rattle.df_model.specs.Work.{kept}
+use Rattle.df_model.specs.declared.errors.FormatError.{FormatError}
 use Rattle.df_session.specs.Below.{AreDistinctUnits, DataFile, restarted, shape, told_after}
 use Rattle.df_session.specs.Following.{MayOpen}
 use Rattle.df_session.specs.HeldBlocks.{AreInputs}
-use Rattle.df_session.specs.Making.{MayMakeOn, file_of}
+use Rattle.df_session.specs.Making.{MakingLeaves, MayMakeOn, file_of}
 use Rattle.df_session.specs.Serving.{Grade, StandsFor, Whole, format}
 use Rattle.df_session.specs.Session.{Act, Exchange, acts_in, answers_in, answers_of, work_after}
 use Rattle.df_session.specs.Begun.{begun_work}
@@ -28,16 +28,9 @@ use Rattle.df_session.specs.Keeping.{over}
 use Rattle.df_session.specs.Laws.{CallsKeep}
 use Rattle.df_session.specs.Links.{CallsMade, events_made, list_of}
 use Rattle.df_session.specs.Acknowledging.{WereAnswered}
-use Rattle.df_top.specs.Acknowledging.{run_calls, script_calls}
-use Rattle.df_top.specs.Formats.{Formats, MakesFile}
-use Rattle.df_top.specs.Outside.{Outside}
+use Rattle.df_session.specs.Programs.{FileRun, ServedFile, calls_in_run}
 use Rattle.df_upgrade.specs.Below.{MayRestart}
-use Rattle.df_top.specs.Upgrading.{RunsUpgrade}
-use Rattle.df_top.specs.Run.{ComesTo, DidNothing, Does, RefusesSuperblock, Runs, ServesIn, ServesOwn, Works}
-use Rattle.df_top.specs.declared.mode.Mode.{Mode}
-use Rattle.df_top.specs.declared.mode.Mode.TheVariants.{Run, Workload, Paced}
-use Rattle.df_top.specs.declared.status.Status.{Status}
-use Rattle.df_top.specs.declared.status.Status.TheVariants.{Done, Memory}
+use Rattle.df_lifetime.specs.Words.{OtherWord}
 
 -- ---- what a session leaves of a file
 
@@ -80,7 +73,7 @@ MayHave file first (c ∷ chapters) u = (v : View) × MayHave file first chapter
 
 -- ---- what happens to a file
 
--- a word is run to its end, or up to a moment before which this many of its calls were answered
+-- a program is run to its end, or up to a moment before which this many of its calls were answered
 pub data Extent : Type 0 where
   ToItsEnd : Extent
   ToAMoment : (answered : ℕ) → Extent
@@ -101,80 +94,9 @@ HaveAnswers zero log calls = Unit {0}
 HaveAnswers (suc k) log None = ⊥
 HaveAnswers (suc k) log (Some c) = WereAnswered (suc k) c.old log c
 
--- what a word did with the file that it found is a session where it served a script, with work beside it or with none, or carried out a generated run
-abbrev pub word_calls : (mode : Mode) → (layout : Layout) → (t : Told) → (found : FoundFile layout t) → (old new : Outside) → (status : Status) → Works mode layout t found old new status → Option CallsMade
-word_calls Run layout t found old new status serves = Some (script_calls serves.session)
-word_calls (Paced pace) layout t found old new status serves = Some (script_calls serves.session)
-word_calls (Workload seed count) layout t found old new status works = Some (run_calls works.worked)
-word_calls mode layout t found old new status works = None
-
-abbrev pub calls_to : (mode : Mode) → (layout : Layout) → (t : Told) → (old new : Outside) → (status : Status) → ComesTo mode layout t old new status → Option CallsMade
-calls_to mode layout t old new status (inl refuses) = None
-calls_to mode layout t old new status (inr (inl fails)) = None
-calls_to mode layout t old new status (inr (inr works)) = word_calls mode layout t works.0 old new status works.1
-
-abbrev pub calls_of : (mode : Mode) (layout : Layout) (t : Told) (old new : Outside) (status : Status) → Does mode layout t old new status → Option CallsMade
-calls_of mode layout t old new status does = calls_to mode layout t old new status does.1
-
--- a word on a file was carried out: by `run`, in rooms that it took, or by `serve`, in rooms of any layout
-abbrev pub IsCarried : Mode → Outside → Outside → Status → Type 0
-IsCarried mode old new status = Runs mode old new status ⊎ ((layout : Layout) × ServesIn mode layout old new status)
-
--- what either promises of it
-abbrev pub Outcome : Mode → Told → Outside → Outside → Status → Type 0
-Outcome mode t old new status = DidNothing old new status ⊎ RefusesSuperblock t old new status ⊎ ((layout : Layout) × Does mode layout t old new status)
-
-abbrev pub did_of : (mode : Mode) (t : Told) (old new : Outside) (status : Status) → DidNothing old new status ⊎ RefusesSuperblock t old new status ⊎ ServesOwn mode t old new status → Outcome mode t old new status
-did_of mode t old new status (inl nothing) = inl nothing
-did_of mode t old new status (inr (inl refuses)) = inr (inl refuses)
-did_of mode t old new status (inr (inr own)) = inr (inr (own.layout, own.serves))
-
-abbrev pub outcome_of : (mode : Mode) (t : Told) (old new : Outside) (status : Status) → IsCarried mode old new status → old.told ≡ Some t → IsImage t.shown → Outcome mode t old new status
-outcome_of mode t old new status (inl runs) from whole = did_of mode t old new status (runs t from whole)
-outcome_of mode t old new status (inr serves) from whole = inr (inr (serves.0, serves.1 t from whole))
-
-abbrev pub calls_in : (mode : Mode) (t : Told) (old new : Outside) (status : Status) → Outcome mode t old new status → Option CallsMade
-calls_in mode t old new status (inl nothing) = None
-calls_in mode t old new status (inr (inl refuses)) = None
-calls_in mode t old new status (inr (inr does)) = calls_of mode does.0 t old new status does.1
-
--- a word on a file, with its status, over a disk that told this before and that after it
-pub record Word (t n : Told) : Type 0 where
-  pub mode : Mode
-  pub old : Outside
-  pub new : Outside
-  pub status : Status
-  pub from : old.told ≡ Some t
-  pub to : new.told ≡ Some n
-  pub whole : IsImage t.shown
-  pub carried : IsCarried mode old new status
-
--- the calls of its session, if it is one
-abbrev pub calls_made : (t n : Told) → Word t n → Option CallsMade
-calls_made t n word = calls_in word.mode t word.old word.new word.status (outcome_of word.mode t word.old word.new word.status word.carried word.from word.whole)
-
-abbrev pub sessions_in : Extent → (t n : Told) → Word t n → List Chapter
-sessions_in extent t n word = chapters_of extent t.shown (calls_made t n word)
-
--- the word `format`
-pub record FormatWord (layout : Layout) (cluster : ℕ) (t n : Told) (status : Status) : Type 0 where
-  pub old : Option (List ℕ)
-  pub new : Option (List ℕ)
-  pub formats : Formats layout cluster (Some t) (Some n) old new status
-  pub makes : MakesFile layout cluster (Some t) (Some n) status
-
--- the word `upgrade`
-pub record UpgradeWord (t n : Told) (status : Status) : Type 0 where
-  pub old : Outside
-  pub new : Outside
-  pub from : old.told ≡ Some t
-  pub to : new.told ≡ Some n
-  pub runs : RunsUpgrade old new status
-
--- a word that isn't for a file of version 2 that is there
-pub data OtherWord (t n : Told) : Type 0 where
-  ToFormat : (layout : Layout) (cluster : ℕ) (status : Status) → FormatWord layout cluster t n status → OtherWord t n
-  ToUpgrade : (status : Status) → UpgradeWord t n status → OtherWord t n
+-- the session of a run, if the file was found in it
+abbrev pub sessions_in : Extent → {t n : Told} → FileRun t n → List Chapter
+sessions_in extent {t = t} run = chapters_of extent t.shown (calls_in_run run)
 
 -- The file's log goes along with the disk: both show the same, the same events come to both, the newest first, and then they show the same again. The disk may tell more than the
 -- log of the file, of what was there before.
@@ -205,12 +127,18 @@ abbrev pub AreMade : Extent → (b : Told) → CallsMade → (m : Told) → Type
 AreMade ToItsEnd b c m = m ≡ told_after (events_made c) (did Sync b)
 AreMade (ToAMoment k) b c m = WereAnswered k (over [] [] b) m.log c × Extends (told_after (events_made c) (did Sync b)).log m.log × IsHonest m
 
+-- A making, whichever program did it, on a disk on which a file may be made: the log goes on from what was told, is safe at each moment, and the disk is honest; where the file was made it has its first view.
+pub record MadeOn (layout : Layout) (cluster : ℕ) (t n : Told) (makable : MayMakeOn layout cluster t) (result : Result (Unit {0}) FormatError) : Type 0 where
+  pub grew : Extends n.log t.log
+  pub honest : IsHonest n
+  pub leaves : MakingLeaves layout cluster t makable n result
+
 -- The life of a file so far: which file it is, with which view it began, its log since then and what that shows, and the sessions that served it, the newest first.
 pub data Life : DataFile → (first : View) → Told → List Chapter → Type 0 where
-  -- it was made, on an honest disk on which a file may be made, as on one that was never written: it is the file of this layout and cluster that the word makes
-  Made : (layout : Layout) (cluster : ℕ) (t n : Told) (makable : MayMakeOn layout cluster t) → IsHonest t → FormatWord layout cluster t n Done → Life (file_of layout cluster makable.named) (first_view layout cluster) n []
+  -- it was made, on a disk on which a file may be made, as on one that was never written: it is the file of this layout and cluster
+  Made : (layout : Layout) (cluster : ℕ) (t n : Told) (makable : MayMakeOn layout cluster t) → MadeOn layout cluster t n makable (Ok tt) → Life (file_of layout cluster makable.named) (first_view layout cluster) n []
   -- or its making was cut off at a moment, and a stop left its first view all the same
-  Begun : (layout : Layout) (cluster : ℕ) (t n m : Told) (status : Status) (changes : List (ℕ × List ℕ)) (makable : MayMakeOn layout cluster t) → IsHonest t → FormatWord layout cluster t n status → (status ≡ Memory → ⊥)
+  Begun : (layout : Layout) (cluster : ℕ) (t n m : Told) (result : Result (Unit {0}) FormatError) (changes : List (ℕ × List ℕ)) (makable : MayMakeOn layout cluster t) → MadeOn layout cluster t n makable result
       → IsMoment t.log n.log m.log → IsHonest m → AreLoose m.log.events changes → NoChanceOf (format_of layout cluster) m.log (changed changes (now m.log))
       → Held (shape (file_of layout cluster makable.named)) ((format_of layout cluster).unit_at (changed changes (now m.log))) (first_view layout cluster)
       → Life (file_of layout cluster makable.named) (first_view layout cluster) (did (Stop changes) m) []
@@ -219,15 +147,15 @@ pub data Life : DataFile → (first : View) → Told → List Chapter → Type 0
   -- or it was opened, whatever was done to its disk before, and calls were made on it, to their end or up to a moment: its log begins with what the disk shows at the end of that open
   Opened : (file : DataFile) (first : View) (t m : Told) (layout : Layout) (found : FoundFile layout t) (c : CallsMade) (extent : Extent) → ShowsFile Whole file first t.shown → CallsKeep t found.replica found.mended found.mending c
       → AreMade extent (begun_after found.mending.events t) c m → Life file first m (chapter_of extent t.shown c ∷ [])
-  -- then a word was run to its end, whatever its status; what was shown as it began did not come about by chance
-  Ran : (file : DataFile) (first : View) (b m t n : Told) (chapters : List Chapter) (word : Word t n) → Life file first b chapters → NoChanceOf (format file) b.log (now b.log) → GoesAlong t n b m → Life file first m (sessions_in ToItsEnd t n word ++ chapters)
-  -- or the program was ended at a moment of it, before or within any call of the disk, when so many of its calls were answered, and the disk goes on telling
+  -- then a program was run to its end, whatever its status; what was shown as it began did not come about by chance
+  Ran : (file : DataFile) (first : View) (b m t n : Told) (chapters : List Chapter) (run : FileRun t n) → Life file first b chapters → NoChanceOf (format file) b.log (now b.log) → GoesAlong t n b m → Life file first m (sessions_in ToItsEnd run ++ chapters)
+  -- or it was ended at a moment, before or within any call of the disk, when so many of its calls were answered, and the disk goes on telling
   -- what was done up to there
-  Ended : (file : DataFile) (first : View) (b m t p n : Told) (chapters : List Chapter) (word : Word t n) (answered : ℕ) → Life file first b chapters → NoChanceOf (format file) b.log (now b.log) → Extends n.log p.log → GoesAlong t p b m → IsHonest m
-      → HaveAnswers answered p.log (calls_made t n word) → Life file first m (sessions_in (ToAMoment answered) t n word ++ chapters)
+  Ended : (file : DataFile) (first : View) (b m t p n : Told) (chapters : List Chapter) (run : FileRun t n) (answered : ℕ) → Life file first b chapters → NoChanceOf (format file) b.log (now b.log) → Extends n.log p.log → GoesAlong t p b m → IsHonest m
+      → HaveAnswers answered p.log (calls_in_run run) → Life file first m (sessions_in (ToAMoment answered) run ++ chapters)
   -- or the word `format` was run over it again, or the word `upgrade`, to its end, whatever its status, or up to a moment
   Spared : (file : DataFile) (first : View) (b m t p n : Told) (chapters : List Chapter) → OtherWord t n → Life file first b chapters → NoChanceOf (format file) b.log (now b.log) → Extends n.log p.log → GoesAlong t p b m → IsHonest m → Life file first m chapters
-  -- or the machine stopped, after the end of a word or at the moment of which one is told, and left any bytes in the sectors that were loose
+  -- or the machine stopped, after the end of a run or at the moment of which one is told, and left any bytes in the sectors that were loose
   Stopped : (file : DataFile) (first : View) (b : Told) (chapters : List Chapter) (changes : List (ℕ × List ℕ)) → Life file first b chapters → AreLoose b.log.events changes → NoChanceOf (format file) b.log (changed changes (now b.log))
       → Life file first (did (Stop changes) b) chapters
 
@@ -257,15 +185,19 @@ EveryLifeIsInOrder = (file : DataFile) (first : View) (t : Told) (chapters : Lis
 abbrev pub EveryLifeGoesOn : Type 0
 EveryLifeGoesOn = (file : DataFile) (first : View) (t : Told) (chapters : List Chapter) → Life file first t chapters → NoChanceOf (format file) t.log (now t.log) → MayBeOpened file first chapters t
 
--- A word that is run over a disk which shows what the file's log tells adds events to what the disk tells, so the log goes along with it; and where it is that log that the disk tells, it
+-- A program that is run over a disk which shows what the file's log tells adds events to what the disk tells, so the log goes along with it; and where it is that log that the disk tells, it
 -- comes to what the disk tells then.
-abbrev pub EveryWordGoesAlong : Type 0
-EveryWordGoesAlong =
-    (file : DataFile) (first : View) (b t n : Told) (chapters : List Chapter) → Life file first b chapters → NoChanceOf (format file) b.log (now b.log) → b.shown ≡ t.shown → Word t n ⊎ OtherWord t n
+abbrev pub EveryRunGoesAlong : Type 0
+EveryRunGoesAlong =
+    (file : DataFile) (first : View) (b t n : Told) (chapters : List Chapter) → Life file first b chapters → NoChanceOf (format file) b.log (now b.log) → b.shown ≡ t.shown → FileRun t n ⊎ OtherWord t n
     → (m : Told) × GoesAlong t n b m × (b ≡ t → m ≡ n)
 
--- A life begins at the end of any open that answered, whatever was done to the disk before, with the calls that the word made on it; and its log shows what the disk shows.
+-- A life begins at the end of any open that answered, whatever was done to the disk before, with the calls that the program made on it, if any; and its log shows what the disk shows.
 abbrev pub EveryOpenBegins : Type 0
 EveryOpenBegins =
-    (file : DataFile) (first : View) (t n : Told) (word : Word t n) (c : CallsMade) → ShowsFile Whole file first t.shown → calls_made t n word ≡ Some c
-    → (m : Told) × Life file first m (chapter_of ToItsEnd t.shown c ∷ []) × (m.shown ≡ n.shown)
+    (file : DataFile) (first : View) (t n : Told) (served : ServedFile t n) → ShowsFile Whole file first t.shown
+    → (m : Told) × Life file first m (chapter_of ToItsEnd t.shown served.made ∷ []) × (m.shown ≡ n.shown)
+
+-- A session in which no call was made leaves what the file may have come to, as one of `recover`, of `scrub` or of a copy of which the file is the source.
+abbrev pub IdleSessionsLeaveIt : Type 0
+IdleSessionsLeaveIt = (file : DataFile) (first : View) (chapters : List Chapter) (c : Chapter) (view : View) → c.answered ≡ [] → c.perhaps ≡ [] → MayHave file first (c ∷ chapters) view → MayHave file first chapters view

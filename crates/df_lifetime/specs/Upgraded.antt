@@ -17,7 +17,8 @@ use Rattle.df_session.specs.Serving.{format}
 use Rattle.df_upgrade.specs.Upgrading.{second}
 use Rattle.df_top.specs.declared.status.Status.{Status}
 use Rattle.df_top.specs.declared.status.Status.TheVariants.{Done}
-use Rattle.df_lifetime.specs.Life.{GoesAlong, Life, MayTake, UpgradeWord}
+use Rattle.df_lifetime.specs.Life.{GoesAlong, Life, MayTake}
+use Rattle.df_lifetime.specs.Words.{UpgradeWord}
 
 -- A file of version 1: an open that asks for that finds this view in the image, each block is there that it references, and no two units have one checksum.
 pub record IsOld (file : DataFile) (view : View) (image : Image) : Type 0 where

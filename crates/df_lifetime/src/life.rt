@@ -1,20 +1,21 @@
 // The laws by which sessions compose, and where a life begins.
-ghost use Rattle.df_lifetime.specs.Life.{EveryLifeGoesOn, EveryLifeIsInOrder, EveryOpenBegins, EveryWordGoesAlong};
+ghost use Rattle.df_lifetime.specs.Life.{EveryLifeGoesOn, EveryLifeIsInOrder, EveryOpenBegins, EveryRunGoesAlong, IdleSessionsLeaveIt};
 ghost use Rattle.df_lifetime.specs.Acknowledged.{AcknowledgedIsFound};
 ghost use Rattle.df_lifetime.specs.Copied.{CopiedBegins, MadeIsCopied, StoppedIsCopied};
 ghost use Rattle.df_lifetime.specs.Upgraded.{DoneIsUpgraded, StoppedIsUpgraded, UpgradedBegins};
 ghost use Rattle.df_lifetime.specs.NewDisks.{NewDisksAreMadeOn};
 
-/// A life begins on a disk that was never written; and at the end of any open that answered, whatever was done to the disk before. Whatever life a file has had, it is in order, and the next open finds what it has
-/// come to: in it is all that was acknowledged in any of its sessions. Its log goes along with what the disk tells of each word, also
-/// where the disk told more before that log began.
+/// A life begins on a disk that was never written; and at the end of any open that answered, whatever was done to the disk before. Whatever life a file has had, of runs of any programs, it is in order, and the next open finds what it has
+/// come to: in it is all that was acknowledged in any session of any program. Its log goes along with what the disk tells of each run, also
+/// where the disk told more before that log began. A session in which no call was made leaves what it has come to.
 pub fn sessions_compose()
     ensures begins { NewDisksAreMadeOn }
     ensures order { EveryLifeIsInOrder }
     ensures goes_on { EveryLifeGoesOn }
     ensures acknowledged { AcknowledgedIsFound }
-    ensures along { EveryWordGoesAlong }
+    ensures along { EveryRunGoesAlong }
     ensures opened { EveryOpenBegins }
+    ensures idle { IdleSessionsLeaveIt }
 {}
 
 /// A life begins, too, where a file of version 1 was upgraded, with the view that this had, but for the boot: where `upgrade` ended Done,

@@ -1,5 +1,5 @@
 -- The laws are proved.
-use Rattle.df_lifetime.proofs.Agains.{every_life_is_lived, every_open_finds_since, life_begins_anew, runs_keep_since, scripts_keep_since, upgraded_may_be_damaged}
+use Rattle.df_lifetime.proofs.Agains.{every_life_is_lived, every_open_finds_since, life_begins_anew, runs_keep_since, upgraded_may_be_damaged}
 use Rattle.df_lifetime.proofs.Others.{other_words_leave_it}
 use Rattle.df_lifetime.proofs.again.a_damaged_life_goes_on.Goals as goal
 
@@ -14,9 +14,6 @@ returns-clause-since c = every_open_finds_since
 
 pub returns-clause-anew : goal.returns-clause-anew
 returns-clause-anew c = life_begins_anew
-
-pub returns-clause-scripts : goal.returns-clause-scripts
-returns-clause-scripts c = scripts_keep_since
 
 pub returns-clause-runs : goal.returns-clause-runs
 returns-clause-runs c = runs_keep_since

@@ -1,7 +1,8 @@
 -- The laws are proved.
 use Rattle.df_lifetime.proofs.Blank.{new_disks_are_made_on}
 use Rattle.df_lifetime.proofs.Found.{acknowledged_is_found}
-use Rattle.df_lifetime.proofs.Lives.{every_life_goes_on, every_life_is_in_order, every_word_goes_along}
+use Rattle.df_lifetime.proofs.Haves.{idle_sessions_leave_it}
+use Rattle.df_lifetime.proofs.Lives.{every_life_goes_on, every_life_is_in_order, every_run_goes_along}
 use Rattle.df_lifetime.proofs.OpenLives.{every_open_begins}
 use Rattle.df_lifetime.proofs.life.sessions_compose.Goals as goal
 
@@ -18,7 +19,10 @@ pub returns-clause-acknowledged : goal.returns-clause-acknowledged
 returns-clause-acknowledged c = acknowledged_is_found
 
 pub returns-clause-along : goal.returns-clause-along
-returns-clause-along c = every_word_goes_along
+returns-clause-along c = every_run_goes_along
 
 pub returns-clause-opened : goal.returns-clause-opened
 returns-clause-opened c = every_open_begins
+
+pub returns-clause-idle : goal.returns-clause-idle
+returns-clause-idle c = idle_sessions_leave_it

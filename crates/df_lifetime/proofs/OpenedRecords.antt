@@ -1,0 +1,45 @@
+-- The superblock that an open wrote records the replies that the file had.
+use Rattle.std.proofs.Common.{◌≡◌, ◌<◌, ◌^◌, inl, subst}
+use Rattle.df_base.specs.Image.{Image, IsImage}
+use Rattle.df_theory.specs.Found.{IsFound}
+use Rattle.df_theory.specs.Holds.{Holds}
+use Rattle.df_theory.specs.View.{View, boot_of}
+use Rattle.df_theory.proofs.Laws.{holds_found, one_found_law}
+use Rattle.df_units.specs.Bytes.{unit_at}
+use Rattle.df_units.specs.Meaning.{layout_of}
+use Rattle.df_units.proofs.Laws.{of_places}
+use Rattle.df_trailer.specs.Text.{parse_of}
+use Rattle.df_model.specs.Memory.{memory_of}
+use Rattle.df_model.specs.Sense.{IsWork}
+use Rattle.df_model.specs.Supply.{boot_sum}
+use Rattle.df_model.specs.Work.{Work, kept, opened}
+use Rattle.df_model.proofs.Laws.{found_law, raised_law}
+use Rattle.df_session.specs.Anew.{begun_after}
+use Rattle.df_session.specs.Begun.{begun_work}
+use Rattle.df_session.specs.Below.{DataFile, shape, spelling}
+use Rattle.df_session.specs.Codec.{codec}
+use Rattle.df_session.specs.Serving.{Whole}
+use Rattle.df_session.proofs.Laws.{codec_of, second_found}
+use Rattle.df_lifetime.specs.Mirrored.{OpenedShowsRecords, RecordsReplies}
+use Rattle.df_lifetime.proofs.Openings.{anew, one, unspent_begun}
+use Rattle.df_lifetime.proofs.Records.{recorded_low}
+
+-- the boot update of an open that finds a view records its replies
+begun_records : (file : DataFile) (image : Image) (view : View) → file.version ≡ 2 → IsImage image → IsFound (shape file) (unit_at file.layout file.cluster image) view → boot_of view < 2 ^ 62 → RecordsReplies (kept (begun_work file image view))
+begun_records file image view version whole found unspent =
+    let w : Work = opened (shape file) (unit_at file.layout file.cluster image) view in
+    let before : IsWork (shape file) (spelling file) w =
+    found_law (shape file) (spelling file) (unit_at file.layout file.cluster image) view (codec_of file) (second_found file image view whole version found)
+    (of_places file.layout file.cluster file.named (parse_of (layout_of file.layout)) image whole) found in
+    let raise = raised_law (shape file) (spelling file) w (boot_sum (codec file) (memory_of (shape file) (spelling file) w)) before unspent in
+    λ k s at some. inl (recorded_low (shape file) view (kept (begun_work file image view)).checkpoint.content before.view raise.may.is.records k s at some)
+
+pub opened_shows_records : OpenedShowsRecords
+opened_shows_records file first t layout found c shows calls v there =
+    let keeps = anew Whole file first t layout found c shows calls in
+    let held : Holds (shape file) (unit_at file.layout file.cluster (begun_after found.mending.events t).shown) (kept (begun_work file t.shown first)) =
+    subst (λ (f : DataFile). Holds (shape f) (unit_at f.layout f.cluster (begun_after found.mending.events t).shown) (kept (begun_work f t.shown first))) (one Whole file first t layout found c shows calls) keeps.kept.kept_by.0.tidy.rests.holds in
+    let view_is : kept (begun_work file t.shown first) ≡ v =
+    one_found_law (shape file) (unit_at file.layout file.cluster (begun_after found.mending.events t).shown) (kept (begun_work file t.shown first)) v
+    (holds_found (shape file) (unit_at file.layout file.cluster (begun_after found.mending.events t).shown) (kept (begun_work file t.shown first)) held) there in
+    subst (λ (u : View). RecordsReplies u) view_is (begun_records file t.shown first shows.version shows.whole shows.found (unspent_begun Whole file first t layout found c shows calls))
