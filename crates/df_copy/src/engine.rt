@@ -60,8 +60,10 @@ fn copy_opened<A: Disk, B: Disk, W: Sink>(
     rooms: Rooms,
 ) -> Status
     requires live { replica.live ≡ true }
-    ensures copies { (t : Told) → IsImage t.shown → MendsAll t replica (A.told from.old) → CopiesFile rooms.layout t (around (Some t) (B.told to.old) (W.written sink.old)) (around (A.told from.new) (B.told to.new) (W.written sink.new)) result }
-    ensures causes { HasCausesOfTwo Status.DiskFault Status.WriteFault (counts (A.faults from.old) (B.faults to.old) (W.faults sink.old)) (counts (A.faults from.new) (B.faults to.new) (W.faults sink.new)) result }
+    ensures copies { (t : Told) → IsImage t.shown → MendsAll t replica (A.told from.old)
+        → CopiesFile rooms.layout t (around (Some t) (B.told to.old) (W.written sink.old)) (around (A.told from.new) (B.told to.new) (W.written sink.new)) result }
+    ensures causes { HasCausesOfTwo Status.DiskFault Status.WriteFault
+        (counts (A.faults from.old) (B.faults to.old) (W.faults sink.old)) (counts (A.faults from.new) (B.faults to.new) (W.faults sink.new)) result }
     ensures ends { EndsWithFiles result }
 {
     let mut replica = replica;
@@ -82,8 +84,11 @@ fn copy_reserved<A: Disk, B: Disk, W: Sink>(
     to: &mut B,
     sink: &mut W,
 ) -> Status
-    ensures does { (t : Told) → A.told from.old ≡ Some t → IsImage t.shown → DoesCopy reserved.target.layout reserved.source.layout t (around (A.told from.old) (B.told to.old) (W.written sink.old)) (around (A.told from.new) (B.told to.new) (W.written sink.new)) result }
-    ensures causes { HasCausesOfTwo Status.DiskFault Status.WriteFault (counts (A.faults from.old) (B.faults to.old) (W.faults sink.old)) (counts (A.faults from.new) (B.faults to.new) (W.faults sink.new)) result }
+    ensures does { (t : Told) → A.told from.old ≡ Some t → IsImage t.shown
+        → DoesCopy reserved.target.layout reserved.source.layout t
+        (around (A.told from.old) (B.told to.old) (W.written sink.old)) (around (A.told from.new) (B.told to.new) (W.written sink.new)) result }
+    ensures causes { HasCausesOfTwo Status.DiskFault Status.WriteFault
+        (counts (A.faults from.old) (B.faults to.old) (W.faults sink.old)) (counts (A.faults from.new) (B.faults to.new) (W.faults sink.new)) result }
     ensures ends { EndsWithFiles result }
 {
     let Reserved { source, target } = reserved;
@@ -102,7 +107,8 @@ fn copy_file<A: Disk, B: Disk, W: Sink>(
     sink: &mut W,
 ) -> Status
     ensures runs { RunsCopy layout.now (around (A.told from.old) (B.told to.old) (W.written sink.old)) (around (A.told from.new) (B.told to.new) (W.written sink.new)) result }
-    ensures causes { HasCausesOfTwo Status.DiskFault Status.WriteFault (counts (A.faults from.old) (B.faults to.old) (W.faults sink.old)) (counts (A.faults from.new) (B.faults to.new) (W.faults sink.new)) result }
+    ensures causes { HasCausesOfTwo Status.DiskFault Status.WriteFault
+        (counts (A.faults from.old) (B.faults to.old) (W.faults sink.old)) (counts (A.faults from.new) (B.faults to.new) (W.faults sink.new)) result }
     ensures memory { result ≡ Status.Memory → around (A.told from.new) (B.told to.new) (W.written sink.new) ≡ around (A.told from.old) (B.told to.old) (W.written sink.old) }
     ensures words { result ≡ Status.Words → ⊥ }
 {
@@ -118,8 +124,9 @@ fn copy_file<A: Disk, B: Disk, W: Sink>(
     }
 }
 
-/// Copies the data file that `from` shows to the layout that the one word names, into `to`, whose superblock is blank. The source is opened, which mends it and raises its boot, and has to be at rest: a
-/// checkpoint reaches its head, and each prepare is replied to. All memory is taken before the first write to a disk or to the sink, but for the usage line and a refusal that come before any is taken.
+/// Copies the data file that `from` shows to the layout that the one word names, into `to`, whose superblock is blank. The source is opened, which mends
+/// it and raises its boot, and has to be at rest: a checkpoint reaches its head, and each prepare is replied to. All memory is taken before the first
+/// write to a disk or to the sink, but for the usage line and a refusal that come before any is taken.
 pub fn copy<A: Disk, B: Disk, W: Sink>(
     alloc: Global,
     words: &[String],
@@ -132,13 +139,15 @@ pub fn copy<A: Disk, B: Disk, W: Sink>(
     ensures untouched { MeansNoLayout (map string_bytes words.now) → (A.told from.new ≡ A.told from.old) × (B.told to.new ≡ B.told to.old) }
     ensures words { result ≡ Status.Words → MeansNoLayout (map string_bytes words.now) }
 
-    // The source is refused as any open of it refuses it, or for the first of the tests of a copy that holds; else the target holds its state in the new layout. What is written of the target is exact, its superblock comes last,
-    // and the source is kept as an open keeps it.
-    ensures runs { (layout : Shape) → MeansLayout (map string_bytes words.now) layout → RunsCopy layout (around (A.told from.old) (B.told to.old) (W.written sink.old)) (around (A.told from.new) (B.told to.new) (W.written sink.new)) result }
+    // The source is refused as any open of it refuses it, or for the first of the tests of a copy that holds; else the target holds its state in the new
+    // layout. What is written of the target is exact, its superblock comes last, and the source is kept as an open keeps it.
+    ensures runs { (layout : Shape) → MeansLayout (map string_bytes words.now) layout
+        → RunsCopy layout (around (A.told from.old) (B.told to.old) (W.written sink.old)) (around (A.told from.new) (B.told to.new) (W.written sink.new)) result }
 
     // A call ends at its first fault: of the three counts one at most rises, once, that of what the status blames; want of memory
     // comes before anything was written.
-    ensures causes { HasCausesOfTwo Status.DiskFault Status.WriteFault (counts (A.faults from.old) (B.faults to.old) (W.faults sink.old)) (counts (A.faults from.new) (B.faults to.new) (W.faults sink.new)) result }
+    ensures causes { HasCausesOfTwo Status.DiskFault Status.WriteFault
+        (counts (A.faults from.old) (B.faults to.old) (W.faults sink.old)) (counts (A.faults from.new) (B.faults to.new) (W.faults sink.new)) result }
     ensures memory { result ≡ Status.Memory → around (A.told from.new) (B.told to.new) (W.written sink.new) ≡ around (A.told from.old) (B.told to.old) (W.written sink.old) }
 {
     a_name_is_of_one_layout();

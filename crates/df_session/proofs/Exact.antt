@@ -6,18 +6,16 @@ use Rattle.df_disk.specs.Adds.{AddsPart, after_all}
 use Rattle.df_disk.specs.Told.{Told}
 use Rattle.df_disk.proofs.Laws.{all_is_part}
 use Rattle.df_format.specs.declared.reference.Reference.{Reference}
-use Rattle.df_model.specs.Called.{command_of}
 use Rattle.df_model.specs.Changing.{unless_refused}
 use Rattle.df_model.specs.Refusals.{append_refusals, block_refusals, first_refusal, flush_refusals, reply_refusals}
 use Rattle.df_layout.specs.declared.damage.Class.{Class}
 use Rattle.df_layout.specs.declared.places.Place.{Place}
-use Rattle.df_model.specs.Commands.{Advance, Append, Begin, Command, Flush, ForAdvance, ForAppend, ForBegin, ForFlush, ForRelease, ForReply, ForStage, ForWriteBlock, ReadBlock, ReadPrepare, ReadReply, Recent, Release, Reply, Scrub, Stage, WriteBlock}
+use Rattle.df_model.specs.Commands.{Advance, Append, Begin, Command, Flush, ForAdvance, ForAppend, ForBegin, ForFlush, ForRelease, ForReply, ForStage, ForWriteBlock, ReadBlock, ReadPrepare, ReadReply, Recent, Release, Reply, Stage, WriteBlock}
 use Rattle.df_model.specs.declared.answers.Progress.{Progress}
 use Rattle.df_model.specs.declared.answers.Progress.TheVariants.{Done, Working}
 use Rattle.df_model.specs.declared.answers.Receipt.{Receipt}
 use Rattle.df_model.specs.declared.commands.Answer.{Answer}
 use Rattle.df_model.specs.declared.commands.Answer.TheVariants as answers
-use Rattle.df_model.specs.declared.commands.Command.{Command as Asked}
 use Rattle.df_model.specs.declared.errors.AppendError.{AppendError}
 use Rattle.df_model.specs.declared.errors.AppendError.TheVariants as append
 use Rattle.df_model.specs.declared.errors.BeginError.{BeginError}
@@ -41,9 +39,10 @@ use Rattle.df_replica.specs.Stepping.{IsStepCall, OfRunning, TellsImage, block_e
 use Rattle.df_units.specs.Meaning.{number_of}
 use Rattle.df_model.specs.Faults.{is_append_fault, is_block_fault, is_flush_fault, is_reply_fault, is_step_fault}
 use Rattle.df_session.specs.Calls.{IsExact, LendsNothing, blames, is_fault, machine_answer}
-use Rattle.df_session.specs.Endings.{IsDamagedStep}
+use Rattle.df_session.specs.Endings.{IsDamagedStep, KeepsTour}
 use Rattle.df_session.specs.Links.{Makes}
 use Rattle.df_session.specs.Own.{AddsOwn, running_events}
+use Rattle.df_session.specs.declared.hearing.Fault.{Fault}
 use Rattle.df_session.proofs.Joins.{adds_none, made}
 
 -- ---- a running checkpoint
@@ -180,10 +179,7 @@ pub record Called (command : Command) (s t : Replica) (old new : Option Told) (b
   pub exact : IsExact command s t old new answer
   pub makes : Makes command s t old new (machine_answer answer)
   pub cause : Blamed (is_fault answer) before now
-
--- of a command that was asked in other words
-pub for_command : {x y : Asked} {s t : Replica} {old new : Option Told} {before now : ℕ} {answer : Answer} → x ≡ y → Called (command_of y) s t old new before now answer → Called (command_of x) s t old new before now answer
-for_command {x} {y} {s} {t} {old} {new} {before} {now} {answer} is called = subst (λ (c : Asked). Called (command_of c) s t old new before now answer) (sym is) called
+  pub no_check : (r : Result Answer Fault) → KeepsTour command s t r
 
 cause_of : {T E : Type 0} (is_fault : E → Bool) (before now : ℕ) (r : Result T E) → IsBlamed is_fault before now r → Blamed (blames is_fault r) before now
 cause_of is_fault before now (Ok x) is = is
@@ -198,6 +194,7 @@ module _ (s t : Replica) (old new : Option Told) (before now : ℕ) where
         made (Append client request body) (ForAppend (number_of (next_unit s client request body).header.checksum ∷ [])) s t old new (machine_answer (answers.Append r)) refl
         serves (append_moves s t old new client request body r is).0;
     cause = cause_of is_append_fault before now r blamed;
+    no_check = λ r. tt;
   }
 
   pub flush_called : (r : Result ℕ FlushError) → IsFlush s t old new r → Serves Flush s t old new (machine_answer (answers.Flush r)) → IsBlamed is_flush_fault before now r → Called Flush s t old new before now (answers.Flush r)
@@ -205,6 +202,7 @@ module _ (s t : Replica) (old new : Option Told) (before now : ℕ) where
     exact = (r, refl, is);
     makes = made Flush (ForFlush (sums_of (flush_units s))) s t old new (machine_answer (answers.Flush r)) refl serves (flush_moves s t old new r is).0;
     cause = cause_of is_flush_fault before now r blamed;
+    no_check = λ r. tt;
   }
 
   pub reply_called : (op : ℕ) (body : List ℕ) (r : Result (List ℕ) ReplyError) → IsReplyCall op body s t old new r → Serves (Reply op body) s t old new (machine_answer (answers.Reply r)) → IsBlamed is_reply_fault before now r
@@ -215,6 +213,7 @@ module _ (s t : Replica) (old new : Option Told) (before now : ℕ) where
         made (Reply op body) (ForReply (number_of (next_reply s body).header.checksum ∷ [])) s t old new (machine_answer (answers.Reply r)) refl
         serves (reply_moves s t old new op body r is).0;
     cause = cause_of is_reply_fault before now r blamed;
+    no_check = λ r. tt;
   }
 
   pub write_called : (kind : ℕ) (body : List ℕ) (r : Result Reference BlockError) → IsWriteBlock kind body s t old new r → Serves (WriteBlock kind body) s t old new (machine_answer (answers.WriteBlock r)) → IsBlamed is_block_fault before now r
@@ -225,6 +224,7 @@ module _ (s t : Replica) (old new : Option Told) (before now : ℕ) where
         made (WriteBlock kind body) (ForWriteBlock (number_of (next_block s kind body).header.checksum ∷ [])) s t old new (machine_answer (answers.WriteBlock r)) refl
         serves (write_moves s t old new kind body r is).0;
     cause = cause_of is_block_fault before now r blamed;
+    no_check = λ r. tt;
   }
 
   pub step_called : (r : Result Progress StepError) → IsStepCall s t old new r → Serves Advance s t old new (machine_answer (answers.Advance r)) → IsBlamed is_step_fault before now r → Called Advance s t old new before now (answers.Advance r)
@@ -234,6 +234,7 @@ module _ (s t : Replica) (old new : Option Told) (before now : ℕ) where
         made Advance (ForAdvance (made_by s s.running ∷ [])) s t old new (machine_answer (answers.Advance r)) refl serves
         (step_own s t old new r is);
     cause = cause_of is_step_fault before now r blamed;
+    no_check = λ r. tt;
   }
 
 -- those that touch no disk
@@ -243,6 +244,7 @@ module _ (s t : Replica) (told : Option Told) (faults : ℕ) where
     exact = (r, refl, is, refl);
     makes = made (Release address) ForRelease s t told told (machine_answer (answers.Release r)) refl serves (adds_none (Release address) s told told (release_answer r) refl refl);
     cause = refl;
+    no_check = λ r. tt;
   }
 
   pub stage_called : (client request : ℕ) (body : List ℕ) (r : Result ℕ AppendError) → IsStage client request body s t r → Serves (Stage client request body) s t told told (stage_answer r) → Called (Stage client request body) s t told told faults faults (answers.Stage r)
@@ -250,6 +252,7 @@ module _ (s t : Replica) (told : Option Told) (faults : ℕ) where
     exact = (r, refl, is, refl);
     makes = made (Stage client request body) ForStage s t told told (machine_answer (answers.Stage r)) refl serves refl;
     cause = refl;
+    no_check = λ r. tt;
   }
 
   pub begin_called : (root : List ℕ) (r : Result ℕ BeginError) → IsBegin root s t r → Serves (Begin root) s t told told (begin_answer r) → Called (Begin root) s t told told faults faults (answers.Begin r)
@@ -257,6 +260,7 @@ module _ (s t : Replica) (told : Option Told) (faults : ℕ) where
     exact = (r, refl, is, refl);
     makes = made (Begin root) ForBegin s t told told (machine_answer (answers.Begin r)) refl serves refl;
     cause = refl;
+    no_check = λ r. tt;
   }
 
 -- ---- its answer
@@ -267,7 +271,6 @@ module _ (s t : Replica) (old new : Option Told) (answer : Answer) where
   exact_lends (ReadPrepare op) is = absurd is
   exact_lends (ReadReply client) is = absurd is
   exact_lends (ReadBlock address) is = absurd is
-  exact_lends Scrub is = absurd is
   exact_lends Recent is = absurd is
   exact_lends command is = subst LendsNothing (sym is.1) tt
 
@@ -284,6 +287,5 @@ module _ (s t : Replica) (old new : Option Told) (answer : Answer) where
   exact_damaged (ReadPrepare op) is place class damaged = absurd is
   exact_damaged (ReadReply client) is place class damaged = absurd is
   exact_damaged (ReadBlock address) is place class damaged = absurd is
-  exact_damaged Scrub is place class damaged = absurd is
   exact_damaged Recent is other class damaged = absurd is
   exact_damaged command is place class damaged = absurd (cc (is.1, damaged))

@@ -5,18 +5,20 @@ use Rattle.df_base.specs.Causes.{Blamed, IsBlamed}
 use Rattle.df_disk.specs.Told.{Told}
 use Rattle.df_model.specs.Commands.{Answer as Answered, Command, ToAdvance, ToAppend, ToBegin, ToFlush, ToReadBlock, ToReadPrepare, ToReadReply, ToRelease, ToReply, ToScrub, ToStage, ToWriteBlock}
 use Rattle.df_model.specs.declared.answers.Progress.TheVariants.{Done, Working}
+use Rattle.df_model.specs.Called.{command_of}
 use Rattle.df_model.specs.declared.commands.Answer.{Answer}
 use Rattle.df_model.specs.declared.commands.Answer.TheVariants as answers
+use Rattle.df_model.specs.declared.commands.Command.{Command as Asked}
 use Rattle.df_model.specs.declared.errors.StepError.TheVariants as step
 use Rattle.df_model.specs.Faults.{is_append_fault, is_block_fault, is_flush_fault, is_lookup_fault, is_prepare_fault, is_read_fault, is_reply_fault}
 use Rattle.df_replica.specs.Below.{State as Replica}
 use Rattle.df_units.specs.Meaning.{number_of}
 use Rattle.df_session.specs.Calls.{IsExact, LendsNothing, is_fault, machine_answer}
-use Rattle.df_session.specs.Endings.{MakesTo, heard, is_disk_fault, unless_damaged}
+use Rattle.df_session.specs.Endings.{KeepsTour, MakesTo, heard, is_disk_fault, unless_damaged}
 use Rattle.df_session.specs.Links.{Makes}
 use Rattle.df_session.specs.declared.hearing.Fault.{Fault}
 use Rattle.df_session.specs.declared.hearing.Fault.TheVariants.{Disk, Damaged}
-use Rattle.df_session.proofs.Exact.{exact_damaged, exact_lends}
+use Rattle.df_session.proofs.Exact.{Called, exact_damaged, exact_lends}
 
 -- ---- in the machine's words
 
@@ -75,6 +77,7 @@ module _ (before now : ℕ) where
 pub record Made (command : Command) (s t : Replica) (old new : Option Told) (before now : ℕ) (r : Result Answer Fault) : Type 0 where
   pub makes : MakesTo command s t old new r
   pub live : OnOk r (t.live ≡ true)
+  pub tour : KeepsTour command s t r
   pub disk : IsBlamed is_disk_fault before now r
 
 module _ (command : Command) (s t : Replica) (old new : Option Told) where
@@ -90,11 +93,17 @@ module _ (command : Command) (s t : Replica) (old new : Option Told) where
       (subst (λ (x : Option Answered). Makes command s t old new x) is.1 makes, exact_damaged s t old new a command exact place class is.0)
 
   -- a replica that answered lives on
-  lives : (r : Result Answer Fault) → MakesTo command s t old new r → OnOk r (t.live ≡ true)
+  pub lives : (r : Result Answer Fault) → MakesTo command s t old new r → OnOk r (t.live ≡ true)
   lives (Ok a) made = made.makes.calls.call.live
   lives (Err fault) made = tt
 
-  pub heard_made : (before now : ℕ) (a : Answer) → IsExact command s t old new a → Makes command s t old new (machine_answer a) → Blamed (is_fault a) before now → Made command s t old new before now (heard a)
-  heard_made before now a exact makes blamed =
-      let made = makes_to a exact makes (heard a) (in_words a (exact_lends s t old new a command exact)) in
-      record { makes = made; live = lives (heard a) made; disk = blamed_as before now a (is_fault a) blamed }
+  pub heard_made : (before now : ℕ) (a : Answer) → Called command s t old new before now a → Made command s t old new before now (heard a)
+  heard_made before now a called =
+      let made = makes_to a called.exact called.makes (heard a) (in_words a (exact_lends s t old new a command called.exact)) in
+      record { makes = made; live = lives (heard a) made; tour = called.no_check (heard a); disk = blamed_as before now a (is_fault a) called.cause }
+
+-- of a command that was asked in other words
+pub heard_so : {x y : Asked} {s t : Replica} {old new : Option Told} {before now : ℕ} {a : Answer} {r : Result Answer Fault} → x ≡ y → Called (command_of y) s t old new before now a → r ≡ heard a → Made (command_of x) s t old new before now r
+heard_so {x} {y} {s} {t} {old} {new} {before} {now} {a} {r} is called heard_is =
+    subst (λ (c : Asked). Made (command_of c) s t old new before now r) (sym is)
+    (subst (λ (h : Result Answer Fault). Made (command_of y) s t old new before now h) (sym heard_is) (heard_made (command_of y) s t old new before now a called))

@@ -1,7 +1,8 @@
--- What the proofs above cite of this crate: that calls on an open file keep it, what follows from a call that is exact, and that a read is one.
+-- What the proofs above cite of this crate: that calls on an open file keep it, what follows from a call that is exact, so that a caller by its own name has it as one of a list, and that a read is one.
 pub use Rattle.df_session.proofs.Acknowledged.{keeps_answered}
 pub use Rattle.df_session.proofs.Anews.{kept_synced}
-pub use Rattle.df_session.proofs.Exact.{append_moves, flush_moves, on_running, reply_moves, write_moves}
+pub use Rattle.df_session.proofs.Exact.{append_called, append_moves, begin_called, flush_called, flush_moves, on_running, release_called, reply_called, reply_moves, stage_called, step_called, write_called, write_moves}
+pub use Rattle.df_session.proofs.InWords.{heard_made}
 pub use Rattle.df_session.proofs.Joins.{adds_none, calls_join, made, part_told}
 pub use Rattle.df_session.proofs.Kept.{answers_alone, ends_add, ends_told, keeps_over}
 pub use Rattle.df_session.proofs.Resulted.{opened_agrees, opened_answers, unit_spared, agree_self}

@@ -1,15 +1,20 @@
--- A read that is made: what it is rightly supplied with, and the call that it is. It does nothing to the disk.
-use Rattle.std.proofs.Common.{◌≡◌, ℕ, Option, Some, None, Result, Err, [], refl, sym, subst}
+-- A read or a check that is made: what it is rightly supplied with, and the call that it is. It does nothing to the disk.
+use Rattle.std.proofs.Common.{◌≡◌, ℕ, Option, Some, None, Result, Ok, Err, [], refl, sym, subst}
 use Rattle.df_base.specs.Image.{Image}
+use Rattle.df_base.specs.declared.Failed.{Failed}
 use Rattle.df_disk.specs.Told.{Told}
 use Rattle.df_layout.specs.declared.damage.Class.{Class}
 use Rattle.df_layout.specs.declared.damage.Class.TheVariants.{Blank}
 use Rattle.df_theory.specs.Units.{Block, Message}
-use Rattle.df_model.specs.Commands.{Answer, Command, ForReadBlock, ForReadPrepare, ForReadReply, Given, ReadBlock, ReadPrepare, ReadReply}
-use Rattle.df_replica.specs.Answering.{GivesBlock, GivesFound, ServesBlockRead, ServesRead}
-use Rattle.df_replica.specs.Below.{State as Replica}
+use Rattle.df_model.specs.Commands.{Answer, Command, ForReadBlock, ForReadPrepare, ForReadReply, ForScrub, Given, ReadBlock, ReadPrepare, ReadReply, Scrub}
+use Rattle.df_model.specs.declared.answers.Scrubbed.{Scrubbed}
+use Rattle.df_model.specs.declared.answers.Verdict.{Verdict}
+use Rattle.df_model.specs.declared.answers.Verdict.TheVariants.{Sound}
+use Rattle.df_replica.specs.Answering.{GivesBlock, GivesFound, GivesVerdict, ServesBlockRead, ServesRead, ServesScrub, scrub_answer}
+use Rattle.df_replica.specs.Below.{verdict_in, State as Replica}
 use Rattle.df_replica.specs.BlockReads.{block_found}
 use Rattle.df_replica.specs.Reading.{message_at}
+use Rattle.df_replica.specs.Scrubbing.{IsCheckFound, check_found}
 use Rattle.df_replica.specs.Serving.{IsCall}
 use Rattle.df_replica.specs.Supply.{IsSupplied}
 use Rattle.df_session.specs.Links.{Makes}
@@ -49,3 +54,26 @@ module _ (s t : Replica) (old new : Option Told) (same : new ≡ old) where
 
   pub reads_block : (address : ℕ) (found : Option (Result Block Class)) (answer : Option Answer) → ServesBlockRead (ReadBlock address) s t old found answer → Makes (ReadBlock address) s t old new answer
   reads_block address = reads (ReadBlock address) ForReadBlock (block_found s address) GivesBlock s t old new (record { told = λ t found. ((refl, refl), tt); found = λ unit. ((refl, tt), refl); nothing = ((refl, tt), tt); quiet = refl }) same
+
+-- ---- a check
+
+abbrev verdict_for : Replica → Option Told → Result Scrubbed Failed → Verdict
+verdict_for s (Some t) r = check_found s t.shown
+verdict_for s None (Ok scrubbed) = verdict_in scrubbed
+verdict_for s None (Err e) = Sound
+
+found_by : (s : Replica) (told : Option Told) (r : Result Scrubbed Failed) → IsCheckFound s told (verdict_for s told r)
+found_by s (Some t) r = refl
+found_by s None (Ok scrubbed) = tt
+found_by s None (Err e) = tt
+
+gives : (s : Replica) (told : Option Told) (r : Result Scrubbed Failed) → GivesVerdict told r (ForScrub (verdict_for s told r))
+gives s (Some t) (Ok scrubbed) = tt
+gives s (Some t) (Err e) = tt
+gives s None (Ok scrubbed) = refl
+gives s None (Err e) = tt
+
+pub checks : (s t : Replica) (old new : Option Told) (r : Result Scrubbed Failed) → new ≡ old → ServesScrub s t old r → Makes Scrub s t old new (scrub_answer r)
+checks s t old new r same serves =
+    let given = ForScrub (verdict_for s old r) in
+    made_with Scrub given s t old new (scrub_answer r) same refl (serves given (refl, found_by s old r) (gives s old r))

@@ -5,6 +5,7 @@ use Rattle.df_format.specs.declared.reference.Reference.{Reference}
 use Rattle.df_model.specs.Commands.{Advance, Answer as Answered, Append, Begin, Command, Flush, ReadBlock, ReadPrepare, ReadReply, Recent, Release, Reply, Scrub, Stage, ToAdvance, ToReadBlock, ToReadPrepare, ToReadReply, ToScrub, WriteBlock}
 use Rattle.df_model.specs.declared.answers.Progress.{Progress}
 use Rattle.df_model.specs.declared.answers.Receipt.{Receipt}
+use Rattle.df_model.specs.declared.answers.Scrubbed.{Scrubbed}
 use Rattle.df_model.specs.declared.commands.Answer.{Answer}
 use Rattle.df_model.specs.declared.commands.Answer.TheVariants as answers
 use Rattle.df_model.specs.declared.errors.AppendError.{AppendError}
@@ -22,14 +23,14 @@ use Rattle.df_replica.specs.Below.{State as Replica}
 use Rattle.df_replica.specs.Blocks.{IsRelease, IsWriteBlock}
 use Rattle.df_replica.specs.Flushing.{IsFlush, IsStage}
 use Rattle.df_replica.specs.Replying.{IsReplyCall}
+use Rattle.df_replica.specs.Scrubbing.{IsScrub}
 use Rattle.df_replica.specs.Stepping.{IsStepCall}
 
--- an answer tells all of it: a read lends its unit and the ring its findings, and a check has none that tells of a failing disk
+-- an answer tells all of it: a read lends its unit, and the ring its findings
 abbrev pub HasAnswer : Command → Type 0
 HasAnswer (ReadPrepare op) = ⊥
 HasAnswer (ReadReply client) = ⊥
 HasAnswer (ReadBlock address) = ⊥
-HasAnswer Scrub = ⊥
 HasAnswer Recent = ⊥
 HasAnswer command = Unit {0}
 
@@ -68,6 +69,7 @@ IsExact (WriteBlock kind body) s t old new answer = (r : Result Reference BlockE
 IsExact (Release address) s t old new answer = (r : Result (Unit {0}) NotLive) × (answer ≡ answers.Release r) × IsRelease address s t r × (new ≡ old)
 IsExact (Begin root) s t old new answer = (r : Result ℕ BeginError) × (answer ≡ answers.Begin r) × IsBegin root s t r × (new ≡ old)
 IsExact Advance s t old new answer = (r : Result Progress StepError) × (answer ≡ answers.Advance r) × IsStepCall s t old new r
+IsExact Scrub s t old new answer = (r : Scrubbed) × (answer ≡ answers.Scrub r) × IsScrub s t old (Ok r) × (new ≡ old)
 IsExact command s t old new answer = ⊥
 
 -- the machine's answer: none where the disk failed, or where a step found the superblock damaged that it wrote; a unit that was read is no part of an answer, nor is what the ring holds

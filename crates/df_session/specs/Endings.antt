@@ -4,7 +4,7 @@ use Rattle.df_disk.specs.Told.{Told}
 use Rattle.df_layout.specs.declared.damage.Class.{Class}
 use Rattle.df_layout.specs.declared.places.Place.{Place}
 use Rattle.df_layout.specs.declared.places.Zone.TheVariants.{Superblock}
-use Rattle.df_model.specs.Commands.{Advance, Answer as Answered, Command}
+use Rattle.df_model.specs.Commands.{Advance, Answer as Answered, Command, Scrub}
 use Rattle.df_model.specs.declared.commands.Answer.{Answer}
 use Rattle.df_model.specs.declared.commands.Answer.TheVariants as answers
 use Rattle.df_model.specs.declared.errors.StepError.TheVariants as step
@@ -56,3 +56,8 @@ pub record GivesAnswer (command : Command) (s t : Replica) (old new : Option Tol
 abbrev pub MakesTo : Command → (s t : Replica) → (old new : Option Told) → Result Answer Fault → Type 0
 MakesTo command s t old new (Ok answer) = GivesAnswer command s t old new answer
 MakesTo command s t old new (Err fault) = Makes command s t old new None × EndsBy fault command new
+
+-- a check in which the disk failed leaves the scrubber's tour where it was
+abbrev pub KeepsTour : Command → (s t : Replica) → Result Answer Fault → Type 0
+KeepsTour Scrub s t (Err fault) = t.tour ≡ s.tour
+KeepsTour command s t result = Unit {0}

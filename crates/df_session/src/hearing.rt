@@ -1,16 +1,11 @@
-// What is heard of a call: its answer, or why no call may follow it.
-ghost use Rattle.std.specs.Prelude.{◌≡◌, true, OnOk};
-ghost use Rattle.df_base.specs.Causes.{IsBlamed};
-ghost use Rattle.df_model.specs.Called.{command_of};
-ghost use Rattle.df_session.specs.Calls.{HasAnswer, blames, is_fault};
-ghost use Rattle.df_session.specs.Endings.{MakesTo, heard, is_disk_fault, unless_damaged};
+// What is heard of an answer: the answer itself, or why no call may follow it.
+ghost use Rattle.std.specs.Prelude.{◌≡◌};
+ghost use Rattle.df_session.specs.Calls.{blames, is_fault};
+ghost use Rattle.df_session.specs.Endings.{heard, unless_damaged};
 
-use crate::calls::call;
 use df_base::BlamesDisk;
-use df_disk::Disk;
 use df_layout::{Class, Place};
-use df_model::{Answer, Command, StepError};
-use df_replica::Replica;
+use df_model::{Answer, StepError};
 
 /// Why a list of calls ends before its last one was answered.
 #[derive(Clone, Copy, Debug, PartialEq, Eq)]
@@ -68,17 +63,4 @@ pub fn hear(answer: Answer) -> Result<Answer, Fault>
         return Err(Fault::Disk);
     }
     unless_damaged(answer)
-}
-
-/// Makes the call that a command asks for, and answers what is heard of it. What a read reads is lent by the call itself, so no
-/// read is made here.
-pub fn make<D: Disk>(disk: &mut D, replica: &mut Replica, command: Command) -> Result<Answer, Fault>
-    requires live { replica.old.live ≡ true }
-    requires answer { HasAnswer (command_of command) }
-    ensures makes { MakesTo (command_of command.entry) replica.old replica.new (D.told disk.old) (D.told disk.new) result }
-    ensures live { OnOk result (replica.new.live ≡ true) }
-    ensures disk { IsBlamed is_disk_fault (D.faults disk.old) (D.faults disk.new) result }
-{
-    let answer = call(disk, replica, command);
-    hear(answer)
 }

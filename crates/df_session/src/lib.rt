@@ -8,10 +8,11 @@ mod hearing;
 mod keeping;
 mod results;
 
+pub use calls::make;
 pub use checksums::units_have_their_checksums;
 pub use df_replica::{
     FormatError, OpenError, Replica, Rooms, Scrubbed, Surveyed, Verdict, format, probe, survey,
 };
-pub use hearing::{Fault, hear, make};
+pub use hearing::{Fault, hear};
 pub use keeping::calls_on_an_open_file_keep_it;
 pub use results::{a_call_answers_the_result, what_agrees_is_not_told_apart};

@@ -1,5 +1,5 @@
 -- What each call of a session comes to, by what is heard of its answer.
-use Rattle.std.proofs.Common.{◌≡◌, inl, inr, ◌+◌, ℕ, Bool, true, not, List, [], ◌∷◌, Option, Some, None, Result, Ok, Err, refl, sym, ◌∙◌, ap, subst}
+use Rattle.std.proofs.Common.{◌≡◌, ◌⊎◌, inl, inr, ℕ, Bool, true, false, not, List, [], ◌∷◌, Option, Some, None, Result, Ok, Err, refl, sym, ◌∙◌, ap, subst}
 use Rattle.std.specs.Prelude.{IfErr, IfOk, OnOk}
 use Rattle.std.proofs.lemmas.Option.{none-some}
 use Rattle.df_disk.specs.Told.{Told}
@@ -7,6 +7,7 @@ use Rattle.df_format.specs.declared.reference.Reference.{Reference}
 use Rattle.df_base.specs.Causes.{Blamed, IsBlamed}
 use Rattle.df_model.specs.Blocks.{sum_at}
 use Rattle.df_model.specs.Commands.{Advance, Answer as Answered, Append, Begin, Command, Release, Reply, ToAdvance, ToAppend, ToBegin, ToRelease, WriteBlock}
+use Rattle.df_model.specs.Faults.{is_append_fault, is_block_fault, is_reply_fault, is_step_fault}
 use Rattle.df_model.specs.Refusals.{append_refusals, block_refusals, first_refusal, reply_refusals}
 use Rattle.df_model.specs.Work.{is_known}
 use Rattle.df_model.specs.declared.answers.Progress.{Progress}
@@ -25,7 +26,7 @@ use Rattle.df_model.specs.declared.errors.ReplyError.{ReplyError}
 use Rattle.df_model.specs.declared.errors.ReplyError.TheVariants as reply
 use Rattle.df_model.specs.declared.errors.StepError.{StepError}
 use Rattle.df_model.specs.declared.errors.StepError.TheVariants as step
-use Rattle.df_session.specs.Answering.{as_append, as_reply, as_write_block}
+use Rattle.df_session.specs.Answering.{Serves, as_append, as_reply, as_write_block}
 use Rattle.df_session.specs.Appending.{IsAppendCall, next_unit, with_prepare_appended}
 use Rattle.df_session.specs.Beginning.{IsBegin, begin_refusal, with_checkpoint_begun}
 use Rattle.df_session.specs.Below.{State as Replica, RunningState, memory}
@@ -37,13 +38,14 @@ use Rattle.df_session.specs.declared.hearing.Fault.{Fault}
 use Rattle.df_session.specs.declared.hearing.Fault.TheVariants as faults
 use Rattle.df_session.specs.Replying.{IsReplyCall, next_reply, with_stored_reply}
 use Rattle.df_session.specs.Stepping.{IsStepCall, OfRunning}
-use Rattle.df_session.proofs.Laws.{on_running}
-use Rattle.df_table.specs.Calls.{CheckpointStepped, Comes, IsCheckpointing, MayAppendCommand, MayBegin, accepted_or, done_of, op_of}
+use Rattle.df_session.proofs.Laws.{heard_made, on_running, step_called}
+use Rattle.df_table.specs.Calls.{CheckpointStepped, Comes, IsCheckpointing, MayAppendCommand, MayBegin, stepped, taken}
+use Rattle.df_table.specs.declared.ending.Ending.{Ending}
 use Rattle.df_table.specs.declared.ending.Ending.TheVariants.{Disk, OpsSpent, SequenceSpent}
 use Rattle.df_table.specs.Policy.{the_client}
 use Rattle.df_table.specs.Statuses.{ended_by, is_disk}
-use Rattle.df_table.specs.Turns.{IsAccepted, IsOfCall, MakeAll}
-use Rattle.df_table.proofs.Joined.{one_made, one_spent}
+use Rattle.df_table.specs.Turns.{EndsFor, IsAccepted, IsOfCall, MakeAll}
+use Rattle.df_table.proofs.Joined.{one_failed, one_made, one_spent}
 
 -- ---- small
 
@@ -56,11 +58,6 @@ accepted_by x y is accepted = subst IsAccepted (some_same x y is) accepted
 pub on_ok : {T E P : Type 0} (r : Result T E) → P → OnOk r P
 on_ok (Ok x) p = p
 on_ok (Err e) p = tt
-
--- a reply fails with the disk alone
-pub reply_fails : (op : ℕ) (new : Option Told) (fault : Fault) → EndsBy fault (Reply op []) new → ended_by fault ≡ Disk
-reply_fails op new faults.Disk ends = refl
-reply_fails op new (faults.Damaged place class) ends = absurd (let apart : Reply op [] ≡ Advance = ends.step in cc)
 
 -- the disk is blamed as it was
 pub blamed_so : (fault : Fault) (before now : ℕ) → Blamed (by_fault fault) before now → Blamed (is_disk (ended_by fault)) before now
@@ -90,172 +87,116 @@ module _ (s t : Replica) (old new : Option Told) where
       let parts = release_accepted address gives.exact.0 gives.exact.2 known gives.told (told_of (Release address) a (answers.Release gives.exact.0) gives gives.exact.1) in
       (one_made (Release address) s t old new gives.told gives.makes parts.0, parts.1)
 
-  -- ---- a reply
+  -- ---- the others, each by its own name
 
-  -- by what is taken of the answer
-  pub record Replies (op : ℕ) (a : Answer) : Type 0 where
-    pub comes : first_refusal (reply_refusals (memory s) op []) ≡ None → Comes (Reply op [] ∷ []) s t old new (accepted_or a OpsSpent)
-    pub state : OnOk (accepted_or a OpsSpent) (t ≡ with_stored_reply s (next_reply s []).header)
-    pub fails : first_refusal (reply_refusals (memory s) op []) ≡ None → IfErr (accepted_or a OpsSpent) (λ e. e ≡ Disk)
-    pub blames : (before now : ℕ) → now ≡ before → IsBlamed is_disk before now (accepted_or a OpsSpent)
-    pub ends : IfErr (accepted_or a OpsSpent) (IsOfCall new)
+  -- what a call comes to: it was made and accepted, and this is the state after it; it is refused; or it has no answer
+  pub record Takes {T : Type 0} (before now : ℕ) (May : Type 0) (command : Command) (u : Replica) (r : Result T Ending) : Type 0 where
+    pub comes : May → Comes (command ∷ []) s t old new r
+    pub state : OnOk r (t ≡ u)
+    pub live : OnOk r (t.live ≡ true)
+    pub ends : IfErr r (IsOfCall new)
+    pub disk : IsBlamed is_disk before now r
 
-  module _ (op : ℕ) where
-    reply_refused : (e : ReplyError) → first_refusal (reply_refusals (memory s) op []) ≡ Some e → Replies op (answers.Reply (Err e))
-    reply_refused e is = record { comes = λ may. absurd (none-some e (sym may ∙ is)); state = tt; fails = λ may. absurd (none-some e (sym may ∙ is)); blames = λ before now same. same; ends = tt }
+  module _ (before now : ℕ) {T : Type 0} (May : Type 0) (command : Command) (u : Replica) where
+    took : (x : Answered) → Makes command s t old new (Some x) → IsAccepted x → t ≡ u → now ≡ before → (y : T) → Takes before now May command u (Ok y)
+    took x makes accepted state same y = record { comes = λ may. one_made command s t old new x makes accepted; state = state; live = makes.calls.call.live; ends = tt; disk = same }
 
-    reply_answered : (r : Result (List ℕ) ReplyError) → IsReplyCall op [] s t old new r → (x : Answered) → Makes (Reply op []) s t old new (Some x) → machine_answer (answers.Reply r) ≡ Some x → Replies op (answers.Reply r)
-    reply_answered (Ok check) is x makes told = record { comes = λ may. one_made (Reply op []) s t old new x makes (accepted_by (as_reply (Ok check)) x told tt); state = is.2; fails = λ may. tt; blames = λ before now same. same; ends = tt }
-    reply_answered (Err reply.DiskFault) is x makes told = absurd (none-some x told)
-    reply_answered (Err (reply.NothingPending a)) is x makes told = reply_refused (reply.NothingPending a) is.0
-    reply_answered (Err (reply.ReplyOrder a)) is x makes told = reply_refused (reply.ReplyOrder a) is.0
-    reply_answered (Err (reply.BodyTooLong a)) is x makes told = reply_refused (reply.BodyTooLong a) is.0
+    no_answer : Makes command s t old new None → Blamed true before now → Takes {T = T} before now May command u (Err Disk)
+    no_answer makes blamed = record { comes = λ may. one_failed command s t old new faults.Disk (makes, tt); state = tt; live = tt; ends = tt; disk = blamed }
 
-    pub reply_comes : (a : Answer) → GivesAnswer (Reply op []) s t old new a → Replies op a
-    reply_comes a gives =
-        subst (Replies op) (sym gives.exact.1)
-        (reply_answered gives.exact.0 gives.exact.2 gives.told gives.makes (told_of (Reply op []) a (answers.Reply gives.exact.0) gives gives.exact.1))
+    -- of a session that is ready it isn't refused so
+    never_refused : (May → ⊥) → now ≡ before → (e : Ending) → IsOfCall new e → Blamed (is_disk e) before before → Takes {T = T} before now May command u (Err e)
+    never_refused never same e of blamed = record { comes = λ may. absurd (never may); state = tt; live = tt; ends = of; disk = subst (Blamed (is_disk e) before) (sym same) blamed }
 
-  -- ---- a block
+    -- and this is the one refusal that may come
+    spent : (x : Answered) → Makes command s t old new (Some x) → (e : Ending) → EndsFor e new (x ∷ []) None → now ≡ before → IsOfCall new e → Blamed (is_disk e) before before → Takes {T = T} before now May command u (Err e)
+    spent x makes e why same of blamed =
+        record { comes = λ may. one_spent command s t old new x e makes why; state = tt; live = tt; ends = of; disk = subst (Blamed (is_disk e) before) (sym same) blamed }
 
-  pub record Writes (body : List ℕ) (a : Answer) : Type 0 where
-    pub comes : first_refusal (block_refusals (memory s) 1 body) ≡ None → Comes (WriteBlock 1 body ∷ []) s t old new (accepted_or a SequenceSpent)
-    pub state : OnOk (accepted_or a SequenceSpent) (t ≡ written s (next_block s 1 body).header)
-    pub blames : (before now : ℕ) → now ≡ before → IsBlamed is_disk before now (accepted_or a SequenceSpent)
-    pub ends : IfErr (accepted_or a SequenceSpent) (IsOfCall new)
+  module _ (before now : ℕ) where
+    module _ (op : ℕ) where
+      pub reply_takes : (r : Result (List ℕ) ReplyError) → IsReplyCall op [] s t old new r → Makes (Reply op []) s t old new (machine_answer (answers.Reply r)) → IsBlamed is_reply_fault before now r
+          → Takes before now (first_refusal (reply_refusals (memory s) op []) ≡ None) (Reply op []) (with_stored_reply s (next_reply s []).header) (taken {U = Unit {0}} (λ (x : List ℕ). tt) is_reply_fault OpsSpent r)
+      reply_takes (Ok check) is makes blamed = took before now _ (Reply op []) _ (as_reply (Ok check)) makes tt is.2 blamed tt
+      reply_takes (Err reply.DiskFault) is makes blamed = no_answer before now _ (Reply op []) _ makes blamed
+      reply_takes (Err (reply.NothingPending a)) is makes blamed = never_refused before now _ (Reply op []) _ (λ may. none-some (reply.NothingPending a) (sym may ∙ is.0)) blamed OpsSpent tt refl
+      reply_takes (Err (reply.ReplyOrder a)) is makes blamed = never_refused before now _ (Reply op []) _ (λ may. none-some (reply.ReplyOrder a) (sym may ∙ is.0)) blamed OpsSpent tt refl
+      reply_takes (Err (reply.BodyTooLong a)) is makes blamed = never_refused before now _ (Reply op []) _ (λ may. none-some (reply.BodyTooLong a) (sym may ∙ is.0)) blamed OpsSpent tt refl
 
-  module _ (body : List ℕ) where
-    write_refused : (e : BlockError) → first_refusal (block_refusals (memory s) 1 body) ≡ Some e → Writes body (answers.WriteBlock (Err e))
-    write_refused e is = record { comes = λ may. absurd (none-some e (sym may ∙ is)); state = tt; blames = λ before now same. same; ends = tt }
+      -- it fails with the disk alone
+      pub reply_fails : (r : Result (List ℕ) ReplyError) → IsReplyCall op [] s t old new r → first_refusal (reply_refusals (memory s) op []) ≡ None → IfErr (taken {U = Unit {0}} (λ (x : List ℕ). tt) is_reply_fault OpsSpent r) (λ e. e ≡ Disk)
+      reply_fails (Ok check) is may = tt
+      reply_fails (Err reply.DiskFault) is may = refl
+      reply_fails (Err (reply.NothingPending a)) is may = absurd (none-some (reply.NothingPending a) (sym may ∙ is.0))
+      reply_fails (Err (reply.ReplyOrder a)) is may = absurd (none-some (reply.ReplyOrder a) (sym may ∙ is.0))
+      reply_fails (Err (reply.BodyTooLong a)) is may = absurd (none-some (reply.BodyTooLong a) (sym may ∙ is.0))
 
-    write_answered : (r : Result Reference BlockError) → IsWriteBlock 1 body s t old new r → (x : Answered) → Makes (WriteBlock 1 body) s t old new (Some x) → machine_answer (answers.WriteBlock r) ≡ Some x → Writes body (answers.WriteBlock r)
-    write_answered (Ok reference) is x makes told =
-        record { comes = λ may. one_made (WriteBlock 1 body) s t old new x makes (accepted_by (as_write_block (Ok reference)) x told tt); state = is.2; blames = λ before now same. same; ends = tt }
-    write_answered (Err block.DiskFault) is x makes told = absurd (none-some x told)
-    write_answered (Err block.KindZero) is x makes told = write_refused block.KindZero is.0
-    write_answered (Err (block.BodyTooLong a)) is x makes told = write_refused (block.BodyTooLong a) is.0
-    write_answered (Err (block.GridFull a)) is x makes told = write_refused (block.GridFull a) is.0
+    module _ (body : List ℕ) where
+      pub write_takes : (r : Result Reference BlockError) → IsWriteBlock 1 body s t old new r → Makes (WriteBlock 1 body) s t old new (machine_answer (answers.WriteBlock r)) → IsBlamed is_block_fault before now r
+          → Takes before now (first_refusal (block_refusals (memory s) 1 body) ≡ None) (WriteBlock 1 body) (written s (next_block s 1 body).header) (taken {U = Unit {0}} (λ (x : Reference). tt) is_block_fault SequenceSpent r)
+      write_takes (Ok reference) is makes blamed = took before now _ (WriteBlock 1 body) _ (as_write_block (Ok reference)) makes tt is.2 blamed tt
+      write_takes (Err block.DiskFault) is makes blamed = no_answer before now _ (WriteBlock 1 body) _ makes blamed
+      write_takes (Err block.KindZero) is makes blamed = never_refused before now _ (WriteBlock 1 body) _ (λ may. none-some block.KindZero (sym may ∙ is.0)) blamed SequenceSpent tt refl
+      write_takes (Err (block.BodyTooLong a)) is makes blamed = never_refused before now _ (WriteBlock 1 body) _ (λ may. none-some (block.BodyTooLong a) (sym may ∙ is.0)) blamed SequenceSpent tt refl
+      write_takes (Err (block.GridFull a)) is makes blamed = never_refused before now _ (WriteBlock 1 body) _ (λ may. none-some (block.GridFull a) (sym may ∙ is.0)) blamed SequenceSpent tt refl
 
-    pub write_comes : (a : Answer) → GivesAnswer (WriteBlock 1 body) s t old new a → Writes body a
-    write_comes a gives =
-        subst (Writes body) (sym gives.exact.1)
-        (write_answered gives.exact.0 gives.exact.2 gives.told gives.makes (told_of (WriteBlock 1 body) a (answers.WriteBlock gives.exact.0) gives gives.exact.1))
+    -- nothing but want of what is spent refuses it
+    other_refusal : {E : Type 0} (o : Option E) (e spent_so : E) → (e ≡ spent_so → ⊥) → o ≡ Some e → (o ≡ None) ⊎ (o ≡ Some spent_so) → ⊥
+    other_refusal o e spent_so other is (inl none) = none-some e (sym none ∙ is)
+    other_refusal o e spent_so other is (inr so) = other (let same : Some e ≡ Some spent_so = sym is ∙ so in cc)
 
-  -- ---- a begin
+    module _ (request : ℕ) (body : List ℕ) where
+      abbrev Appended : AppendError → Type 0
+      Appended e = Takes {T = ℕ} before now (MayAppendCommand s request body) (Append the_client request body) (with_prepare_appended s (next_unit s the_client request body)) (Err OpsSpent)
 
-  pub record Begins (a : Answer) : Type 0 where
-    pub comes : MayBegin s → Comes (Begin [] ∷ []) s t old new (accepted_or a SequenceSpent)
-    pub state : OnOk (accepted_or a SequenceSpent) (t ≡ with_checkpoint_begun s [])
-    pub blames : (before now : ℕ) → now ≡ before → IsBlamed is_disk before now (accepted_or a SequenceSpent)
-    pub ends : IfErr (accepted_or a SequenceSpent) (IsOfCall new)
+      append_refused : (e : AppendError) → (e ≡ append.OpsSpent → ⊥) → first_refusal (append_refusals (memory s) the_client request body) ≡ Some e → now ≡ before → Appended e
+      append_refused e other is same = never_refused before now _ (Append the_client request body) _ (other_refusal (first_refusal (append_refusals (memory s) the_client request body)) e append.OpsSpent other is) same OpsSpent tt refl
 
-  begin_refused : (e : BeginError) → (e ≡ begin.SequenceSpent → ⊥) → begin_refusal s [] ≡ Some e → Begins (answers.Begin (Err e))
-  begin_refused e other is = record {
-    comes = λ may. absurd (elim may [
-      | inl none ↦ none-some e (sym none ∙ is)
-      | inr spent ↦ other (let same : Some e ≡ Some begin.SequenceSpent = sym is ∙ spent in cc)
-    ]);
-    state = tt;
-    blames = λ before now same. same;
-    ends = tt;
-  }
+      pub append_takes : (r : Result Receipt AppendError) → IsAppendCall the_client request body s t old new r → Makes (Append the_client request body) s t old new (machine_answer (answers.Append r)) → IsBlamed is_append_fault before now r
+          → Takes before now (MayAppendCommand s request body) (Append the_client request body) (with_prepare_appended s (next_unit s the_client request body)) (taken (λ (x : Receipt). x.op) is_append_fault OpsSpent r)
+      append_takes (Ok receipt) is makes blamed = took before now _ (Append the_client request body) _ (as_append (Ok receipt)) makes tt is.2 blamed receipt.op
+      append_takes (Err append.DiskFault) is makes blamed = no_answer before now _ (Append the_client request body) _ makes blamed
+      append_takes (Err append.OpsSpent) is makes blamed = spent before now _ (Append the_client request body) _ (ToAppend (Err append.OpsSpent)) makes OpsSpent (refl, ([], refl)) blamed tt refl
+      append_takes (Err append.ClientZero) is makes blamed = append_refused append.ClientZero (λ no. cc) is.0 blamed
+      append_takes (Err (append.BodyTooLong a)) is makes blamed = append_refused (append.BodyTooLong a) (λ no. cc) is.0 blamed
+      append_takes (Err (append.ClientsFull a)) is makes blamed = append_refused (append.ClientsFull a) (λ no. cc) is.0 blamed
+      append_takes (Err (append.Repeated a)) is makes blamed = append_refused (append.Repeated a) (λ no. cc) is.0 blamed
+      append_takes (Err (append.ReplyPending a)) is makes blamed = append_refused (append.ReplyPending a) (λ no. cc) is.0 blamed
+      append_takes (Err (append.RequestOrder a)) is makes blamed = append_refused (append.RequestOrder a) (λ no. cc) is.0 blamed
+      append_takes (Err (append.PipelineFull a)) is makes blamed = append_refused (append.PipelineFull a) (λ no. cc) is.0 blamed
+      append_takes (Err (append.Staged a)) is makes blamed = append_refused (append.Staged a) (λ no. cc) is.0 blamed
+      append_takes (Err (append.WalFull a b)) is makes blamed = append_refused (append.WalFull a b) (λ no. cc) is.0 blamed
 
-  begin_answered : (r : Result ℕ BeginError) → IsBegin [] s t r → (x : Answered) → Makes (Begin []) s t old new (Some x) → Some (ToBegin r) ≡ Some x → Begins (answers.Begin r)
-  begin_answered (Ok blocks) is x makes told = record {
-    comes = λ may. one_made (Begin []) s t old new x makes (accepted_by (ToBegin (Ok blocks)) x told tt);
-    state = is.2;
-    blames = λ before now same. same;
-    ends = tt;
-  }
-  begin_answered (Err begin.SequenceSpent) is x makes told = record {
-    comes = λ may. one_spent (Begin []) s t old new x SequenceSpent makes (refl, ([], ap (λ (y : Answered). y ∷ []) (sym (some_same (ToBegin (Err begin.SequenceSpent)) x told))));
-    state = tt;
-    blames = λ before now same. same;
-    ends = tt;
-  }
-  begin_answered (Err (begin.Running a)) is x makes told = begin_refused (begin.Running a) (λ no. cc) is.0
-  begin_answered (Err (begin.RootTooLong a)) is x makes told = begin_refused (begin.RootTooLong a) (λ no. cc) is.0
-  begin_answered (Err (begin.GridFull a b)) is x makes told = begin_refused (begin.GridFull a b) (λ no. cc) is.0
+    begin_refused : (e : BeginError) → (e ≡ begin.SequenceSpent → ⊥) → begin_refusal s [] ≡ Some e → now ≡ before → Takes {T = Unit {0}} before now (MayBegin s) (Begin []) (with_checkpoint_begun s []) (Err SequenceSpent)
+    begin_refused e other is same = never_refused before now _ (Begin []) _ (other_refusal (begin_refusal s []) e begin.SequenceSpent other is) same SequenceSpent tt refl
 
-  pub begin_comes : (a : Answer) → GivesAnswer (Begin []) s t old new a → Begins a
-  begin_comes a gives =
-      subst Begins (sym gives.exact.1)
-      (begin_answered gives.exact.0 gives.exact.2 gives.told gives.makes (told_of (Begin []) a (answers.Begin gives.exact.0) gives gives.exact.1))
+    pub begin_takes : (r : Result ℕ BeginError) → IsBegin [] s t r → Makes (Begin []) s t old new (machine_answer (answers.Begin r)) → now ≡ before
+        → Takes before now (MayBegin s) (Begin []) (with_checkpoint_begun s []) (taken {U = Unit {0}} (λ (n : ℕ). tt) (λ (e : BeginError). false) SequenceSpent r)
+    begin_takes (Ok blocks) is makes same = took before now _ (Begin []) _ (ToBegin (Ok blocks)) makes tt is.2 same tt
+    begin_takes (Err begin.SequenceSpent) is makes same = spent before now _ (Begin []) _ (ToBegin (Err begin.SequenceSpent)) makes SequenceSpent (refl, ([], refl)) same tt refl
+    begin_takes (Err (begin.Running a)) is makes same = begin_refused (begin.Running a) (λ no. cc) is.0 same
+    begin_takes (Err (begin.RootTooLong a)) is makes same = begin_refused (begin.RootTooLong a) (λ no. cc) is.0 same
+    begin_takes (Err (begin.GridFull a b)) is makes same = begin_refused (begin.GridFull a b) (λ no. cc) is.0 same
 
-  -- ---- an append
+    -- a step
+    pub record Stepped (r : Result Progress StepError) : Type 0 where
+      pub comes : Comes (Advance ∷ []) s t old new (stepped r)
+      pub state : IfOk (stepped r) (λ done. CheckpointStepped done s t)
+      pub live : OnOk (stepped r) (t.live ≡ true)
+      pub ends : IfErr (stepped r) (IsOfCall new)
+      pub disk : IsBlamed is_disk before now (stepped r)
 
-  pub record Appends (request : ℕ) (body : List ℕ) (a : Answer) : Type 0 where
-    pub comes : MayAppendCommand s request body → Comes (Append the_client request body ∷ []) s t old new (op_of a)
-    pub state : OnOk (op_of a) (t ≡ with_prepare_appended s (next_unit s the_client request body))
-    pub op : IfOk (op_of a) (λ op. op ≡ s.head + 1)
-    pub blames : (before now : ℕ) → now ≡ before → IsBlamed is_disk before now (op_of a)
-    pub ends : IfErr (op_of a) (IsOfCall new)
-
-  module _ (request : ℕ) (body : List ℕ) where
-    append_refused : (e : AppendError) → (e ≡ append.OpsSpent → ⊥) → first_refusal (append_refusals (memory s) the_client request body) ≡ Some e → Appends request body (answers.Append (Err e))
-    append_refused e other is = record {
-      comes = λ may. absurd (elim may [
-        | inl none ↦ none-some e (sym none ∙ is)
-        | inr spent ↦ other (let same : Some e ≡ Some append.OpsSpent = sym is ∙ spent in cc)
-      ]);
-      state = tt;
-      op = tt;
-      blames = λ before now same. same;
-      ends = tt;
-    }
-
-    append_answered : (r : Result Receipt AppendError) → IsAppendCall the_client request body s t old new r → (x : Answered) → Makes (Append the_client request body) s t old new (Some x) → machine_answer (answers.Append r) ≡ Some x → Appends request body (answers.Append r)
-    append_answered (Ok receipt) is x makes told = record {
-      comes = λ may. one_made (Append the_client request body) s t old new x makes (accepted_by (as_append (Ok receipt)) x told tt);
-      state = is.2;
-      op = ap (λ (r : Receipt). r.op) is.1;
-      blames = λ before now same. same;
-      ends = tt;
-    }
-    append_answered (Err append.OpsSpent) is x makes told = record {
-      comes = λ may. one_spent (Append the_client request body) s t old new x OpsSpent makes (refl, ([], ap (λ (y : Answered). y ∷ []) (sym (some_same (ToAppend (Err append.OpsSpent)) x told))));
-      state = tt;
-      op = tt;
-      blames = λ before now same. same;
-      ends = tt;
-    }
-    append_answered (Err append.DiskFault) is x makes told = absurd (none-some x told)
-    append_answered (Err append.ClientZero) is x makes told = append_refused append.ClientZero (λ no. cc) is.0
-    append_answered (Err (append.BodyTooLong a)) is x makes told = append_refused (append.BodyTooLong a) (λ no. cc) is.0
-    append_answered (Err (append.ClientsFull a)) is x makes told = append_refused (append.ClientsFull a) (λ no. cc) is.0
-    append_answered (Err (append.Repeated a)) is x makes told = append_refused (append.Repeated a) (λ no. cc) is.0
-    append_answered (Err (append.ReplyPending a)) is x makes told = append_refused (append.ReplyPending a) (λ no. cc) is.0
-    append_answered (Err (append.RequestOrder a)) is x makes told = append_refused (append.RequestOrder a) (λ no. cc) is.0
-    append_answered (Err (append.PipelineFull a)) is x makes told = append_refused (append.PipelineFull a) (λ no. cc) is.0
-    append_answered (Err (append.Staged a)) is x makes told = append_refused (append.Staged a) (λ no. cc) is.0
-    append_answered (Err (append.WalFull a b)) is x makes told = append_refused (append.WalFull a b) (λ no. cc) is.0
-
-    pub append_comes : (a : Answer) → GivesAnswer (Append the_client request body) s t old new a → Appends request body a
-    append_comes a gives =
-        subst (Appends request body) (sym gives.exact.1)
-        (append_answered gives.exact.0 gives.exact.2 gives.told gives.makes (told_of (Append the_client request body) a (answers.Append gives.exact.0) gives gives.exact.1))
-
-  -- ---- a step
-
-  pub record Steps (a : Answer) : Type 0 where
-    pub comes : MakeAll (Advance ∷ []) s t old new
-    pub state : CheckpointStepped (done_of a) s t
-
-  module _ (runs : IsCheckpointing s) where
-    step_answered : (r : Result Progress StepError) → IsStepCall s t old new r → (x : Answered) → Makes Advance s t old new (Some x) → machine_answer (answers.Advance r) ≡ Some x → Steps (answers.Advance r)
-    step_answered (Ok (progress.Working left)) is x makes told = record {
-      comes = one_made Advance s t old new x makes (accepted_by (ToAdvance (Ok (progress.Working left))) x told tt);
-      state = on_running s.running (λ r i. (i.0, i.2)) is;
-    }
-    step_answered (Ok (progress.Done sequence)) is x makes told = record {
-      comes = one_made Advance s t old new x makes (accepted_by (ToAdvance (Ok (progress.Done sequence))) x told tt);
-      state = on_running s.running (λ r i. (i.0, i.2)) is;
-    }
-    step_answered (Err step.NotRunning) is x makes told = absurd (subst (λ (r : Option RunningState). OfRunning r (λ c. Unit {0})) is.0 runs)
-    step_answered (Err (step.Damaged place class)) is x makes told = absurd (none-some x told)
-    step_answered (Err step.DiskFault) is x makes told = absurd (none-some x told)
-
-    pub step_comes : (a : Answer) → GivesAnswer Advance s t old new a → Steps a
-    step_comes a gives =
-        subst Steps (sym gives.exact.1)
-        (step_answered gives.exact.0 gives.exact.2 gives.told gives.makes (told_of Advance a (answers.Advance gives.exact.0) gives gives.exact.1))
+    pub step_takes : IsCheckpointing s → (r : Result Progress StepError) → IsStepCall s t old new r → Serves Advance s t old new (machine_answer (answers.Advance r)) → IsBlamed is_step_fault before now r → Stepped r
+    step_takes runs (Ok (progress.Working left)) is serves blamed =
+        let makes = (step_called s t old new before now (Ok (progress.Working left)) is serves blamed).makes in
+        record { comes = one_made Advance s t old new (ToAdvance (Ok (progress.Working left))) makes tt; state = on_running s.running (λ r i. (i.0, i.2)) is; live = makes.calls.call.live; ends = tt; disk = blamed }
+    step_takes runs (Ok (progress.Done sequence)) is serves blamed =
+        let makes = (step_called s t old new before now (Ok (progress.Done sequence)) is serves blamed).makes in
+        record { comes = one_made Advance s t old new (ToAdvance (Ok (progress.Done sequence))) makes tt; state = on_running s.running (λ r i. (i.0, i.2)) is; live = makes.calls.call.live; ends = tt; disk = blamed }
+    step_takes runs (Err step.NotRunning) is serves blamed = absurd (subst (λ (r : Option RunningState). OfRunning r (λ c. Unit {0})) is.0 runs)
+    step_takes runs (Err (step.Damaged place class)) is serves blamed =
+        let made = (heard_made Advance s t old new before now (answers.Advance (Err (step.Damaged place class))) (step_called s t old new before now (Err (step.Damaged place class)) is serves blamed)).makes in
+        record { comes = one_failed Advance s t old new (faults.Damaged place class) made; state = tt; live = tt; ends = made.1.untold; disk = blamed }
+    step_takes runs (Err step.DiskFault) is serves blamed =
+        let makes = (step_called s t old new before now (Err step.DiskFault) is serves blamed).makes in
+        record { comes = one_failed Advance s t old new faults.Disk (makes, tt); state = tt; live = tt; ends = tt; disk = blamed }

@@ -1,14 +1,15 @@
 -- What each call of a session comes to, where nothing refuses it but want of ops or of sequences.
-use Rattle.std.specs.Prelude.{◌≡◌, ◌≢◌, ◌⊎◌, ◌+◌, ℕ, Bool, true, false, List, [], ◌∷◌, ◌++◌, replicate, Option, Some, None, Result, Ok, Err, IfErr, IfOk, OnOk}
+use Rattle.std.specs.Prelude.{◌≡◌, ◌≢◌, ◌⊎◌, ◌+◌, ℕ, Bool, true, false, List, [], ◌∷◌, ◌++◌, if◌then◌else◌, replicate, Option, Some, None, Result, Ok, Err, IfErr, IfOk, OnOk}
 use Rattle.df_disk.specs.Told.{Told}
 use Rattle.df_layout.specs.declared.layout.Layout.{Layout}
 use Rattle.df_model.specs.Commands.{Advance, Begin, Command}
 use Rattle.df_model.specs.Refusals.{append_refusals, first_refusal}
+use Rattle.df_model.specs.declared.answers.Progress.{Progress}
 use Rattle.df_model.specs.declared.answers.Progress.TheVariants as progress
-use Rattle.df_model.specs.declared.commands.Answer.{Answer}
-use Rattle.df_model.specs.declared.commands.Answer.TheVariants as answers
 use Rattle.df_model.specs.declared.errors.AppendError.TheVariants as append
 use Rattle.df_model.specs.declared.errors.BeginError.TheVariants as begin
+use Rattle.df_model.specs.declared.errors.StepError.{StepError}
+use Rattle.df_model.specs.declared.errors.StepError.TheVariants as step
 use Rattle.df_rows.specs.declared.command.Command.{Command as Change}
 use Rattle.df_rows.specs.Commands.{Map}
 use Rattle.df_rows.specs.Tables.{with_command}
@@ -16,7 +17,7 @@ use Rattle.df_session.specs.Beginning.{begin_refusal}
 use Rattle.df_session.specs.Below.{State as Replica, memory}
 use Rattle.df_session.specs.Stepping.{OfRunning, advanced, finished}
 use Rattle.df_table.specs.declared.ending.Ending.{Ending}
-use Rattle.df_table.specs.declared.ending.Ending.TheVariants.{OpsSpent}
+use Rattle.df_table.specs.declared.ending.Ending.TheVariants.{Damaged, Disk, OpsSpent}
 use Rattle.df_table.specs.declared.session.Session.{Session}
 use Rattle.df_table.specs.Policy.{checkpoint, line_commands, opening, room_for, the_client, writes}
 use Rattle.df_table.specs.Ready.{IsReadyReplica}
@@ -50,20 +51,21 @@ IsCheckpointing s = OfRunning s.running (λ r. Unit {0})
 
 -- ---- answers
 
--- what is taken of an answer: the op; whether a reply was stored, a block written or a checkpoint begun; and whether it is done
-abbrev pub op_of : Answer → Result ℕ Ending
-op_of (answers.Append (Ok receipt)) = Ok receipt.op
-op_of answer = Err OpsSpent
+-- why a session ends by an error of a call: the disk failed, or this
+abbrev pub ended_or : {E : Type 0} → (is_fault : E → Bool) → Ending → E → Ending
+ended_or is_fault otherwise e = if is_fault e then Disk else otherwise
 
-abbrev pub accepted_or : Answer → Ending → Result (Unit {0}) Ending
-accepted_or (answers.Reply (Ok check)) otherwise = Ok tt
-accepted_or (answers.WriteBlock (Ok reference)) otherwise = Ok tt
-accepted_or (answers.Begin (Ok blocks)) otherwise = Ok tt
-accepted_or answer otherwise = Err otherwise
+-- what is taken of an answer, or why the session ends
+abbrev pub taken : {T U E : Type 0} → (of : T → U) → (is_fault : E → Bool) → Ending → Result T E → Result U Ending
+taken of is_fault otherwise (Ok x) = Ok (of x)
+taken of is_fault otherwise (Err e) = Err (ended_or is_fault otherwise e)
 
-abbrev pub done_of : Answer → Bool
-done_of (answers.Advance (Ok (progress.Done sequence))) = true
-done_of answer = false
+-- of a step whether the checkpoint is done
+abbrev pub stepped : Result Progress StepError → Result Bool Ending
+stepped (Ok (progress.Done sequence)) = Ok true
+stepped (Ok (progress.Working left)) = Ok false
+stepped (Err (step.Damaged place class)) = Err (Damaged place class)
+stepped (Err e) = Err Disk
 
 -- ---- states
 

@@ -1,6 +1,7 @@
-// The calls of a session, each by one command: of a session that is ready none is refused but for want of ops or of sequences.
-ghost use Rattle.std.specs.Prelude.{◌≡◌, ◌+◌, [], ◌∷◌, true, None, IfErr, IfOk, OnOk};
+// The calls of a session: of a session that is ready none is refused but for want of ops or of sequences.
+ghost use Rattle.std.specs.Prelude.{◌≡◌, ◌+◌, [], ◌∷◌, true, Option, None, IfErr, IfOk, OnOk};
 ghost use Rattle.df_base.specs.Causes.{IsBlamed};
+ghost use Rattle.df_disk.specs.Told.{Told};
 ghost use Rattle.df_model.specs.Blocks.{sum_at};
 ghost use Rattle.df_model.specs.Commands.{Advance, Append, Begin, Release, Reply, WriteBlock};
 ghost use Rattle.df_model.specs.Refusals.{block_refusals, first_refusal, reply_refusals};
@@ -10,27 +11,28 @@ ghost use Rattle.df_session.specs.Beginning.{with_checkpoint_begun};
 ghost use Rattle.df_session.specs.Below.{memory};
 ghost use Rattle.df_session.specs.Blocks.{next_block, released, written};
 ghost use Rattle.df_session.specs.Replying.{next_reply, with_stored_reply};
-ghost use Rattle.df_table.specs.Calls.{CheckpointStepped, Comes, IsCheckpointing, MayAppendCommand, MayBegin, accepted_or, done_of, op_of};
+ghost use Rattle.df_table.specs.Calls.{CheckpointStepped, Comes, IsCheckpointing, MayAppendCommand, MayBegin, ended_or, stepped};
 ghost use Rattle.df_table.specs.Policy.{the_client};
 ghost use Rattle.df_table.specs.Statuses.{is_disk};
 ghost use Rattle.df_table.specs.Turns.{IsOfCall};
 
 use crate::ending::{Ending, ended_by};
+use df_base::BlamesDisk;
 use df_disk::Disk;
-use df_model::{Answer, Command as Call, Progress};
+use df_model::{Command as Call, Progress, StepError};
 use df_session::{Replica, make};
 
 /// The client whose requests the puts and drops are.
 pub(crate) const CLIENT: u128 = 1;
 
-// The op of an append, or that none is left: nothing else refuses an append of a session that is ready.
-fn op_in(answer: &Answer) -> Result<u64, Ending>
-    ensures { result ≡ op_of answer.now }
+// Why a session ends by an error of a call: the disk failed, or this.
+fn ended_or<E: BlamesDisk>(error: &E, otherwise: Ending) -> Ending
+    ensures { result ≡ ended_or E.is_fault otherwise error.now }
 {
-    match answer {
-        Answer::Append(Ok(receipt)) => Ok(receipt.op),
-        _ => Err(Ending::OpsSpent),
+    if error.is_fault() {
+        return Ending::Disk;
     }
+    otherwise
 }
 
 /// Appends a body as the client's next request, and answers its op.
@@ -48,24 +50,9 @@ pub(crate) fn append<D: Disk>(
     ensures ends { IfErr result (IsOfCall (D.told disk.new)) }
     ensures disk { IsBlamed is_disk (D.faults disk.old) (D.faults disk.new) result }
 {
-    let call = Call::Append {
-        client: CLIENT,
-        request,
-        body,
-    };
-    match make(disk, replica, call) {
-        Ok(answer) => op_in(&answer),
-        Err(fault) => Err(ended_by(fault)),
-    }
-}
-
-// Whether a reply was stored, a block written or a checkpoint begun. Of a session that is ready only a begin is refused, where no sequence is left.
-fn accepted_or(answer: &Answer, otherwise: Ending) -> Result<(), Ending>
-    ensures { result ≡ accepted_or answer.now otherwise }
-{
-    match answer {
-        Answer::Reply(Ok(_)) | Answer::WriteBlock(Ok(_)) | Answer::Begin(Ok(_)) => Ok(()),
-        _ => Err(otherwise),
+    match replica.append(disk, CLIENT, request, body) {
+        Ok(receipt) => Ok(receipt.op),
+        Err(error) => Err(ended_or(&error, Ending::OpsSpent)),
     }
 }
 
@@ -79,9 +66,9 @@ pub(crate) fn reply<D: Disk>(disk: &mut D, replica: &mut Replica, op: u64) -> Re
     ensures ends { IfErr result (IsOfCall (D.told disk.new)) }
     ensures disk { IsBlamed is_disk (D.faults disk.old) (D.faults disk.new) result }
 {
-    match make(disk, replica, Call::Reply { op, body: &[] }) {
-        Ok(answer) => accepted_or(&answer, Ending::OpsSpent),
-        Err(fault) => Err(ended_by(fault)),
+    match replica.reply(disk, op, &[]) {
+        Ok(_) => Ok(()),
+        Err(error) => Err(ended_or(&error, Ending::OpsSpent)),
     }
 }
 
@@ -114,32 +101,36 @@ pub(crate) fn write<D: Disk>(disk: &mut D, replica: &mut Replica, body: &[u8]) -
     ensures ends { IfErr result (IsOfCall (D.told disk.new)) }
     ensures disk { IsBlamed is_disk (D.faults disk.old) (D.faults disk.new) result }
 {
-    match make(disk, replica, Call::WriteBlock { kind: 1, body }) {
-        Ok(answer) => accepted_or(&answer, Ending::SequenceSpent),
-        Err(fault) => Err(ended_by(fault)),
+    match replica.write_block(disk, 1, body) {
+        Ok(_) => Ok(()),
+        Err(error) => Err(ended_or(&error, Ending::SequenceSpent)),
     }
 }
 
-/// Begins a checkpoint without a root.
-pub(crate) fn begin<D: Disk>(disk: &mut D, replica: &mut Replica) -> Result<(), Ending>
+/// Begins a checkpoint without a root. Of a session that is ready it is refused only where no sequence is left.
+pub(crate) fn begin(replica: &mut Replica) -> Result<(), Ending>
     requires live { replica.old.live ≡ true }
-    ensures makes { MayBegin replica.old → Comes (Begin [] ∷ []) replica.old replica.new (D.told disk.old) (D.told disk.new) result }
+    ensures makes { (told : Option Told) → MayBegin replica.old → Comes (Begin [] ∷ []) replica.old replica.new told told result }
     ensures state { OnOk result (replica.new ≡ with_checkpoint_begun replica.old []) }
     ensures live { OnOk result (replica.new.live ≡ true) }
-    ensures ends { IfErr result (IsOfCall (D.told disk.new)) }
-    ensures disk { IsBlamed is_disk (D.faults disk.old) (D.faults disk.new) result }
+    ensures spent { IfErr result (λ ending. ending ≡ Ending.SequenceSpent) }
 {
-    match make(disk, replica, Call::Begin { root: &[] }) {
-        Ok(answer) => accepted_or(&answer, Ending::SequenceSpent),
-        Err(fault) => Err(ended_by(fault)),
+    match replica.checkpoint_begin(&[]) {
+        Ok(_) => Ok(()),
+        Err(_) => Err(Ending::SequenceSpent),
     }
 }
 
-// Whether the checkpoint is done by a step that answered so.
-fn is_done(answer: &Answer) -> bool
-    ensures { result ≡ done_of answer.now }
+// Whether the checkpoint is done by a step, or why the session ends with it.
+fn stepped(answer: Result<Progress, StepError>) -> Result<bool, Ending>
+    ensures { result ≡ stepped answer }
 {
-    matches!(answer, Answer::Advance(Ok(Progress::Done { sequence: _ })))
+    match answer {
+        Ok(Progress::Done { sequence: _ }) => Ok(true),
+        Ok(Progress::Working { left: _ }) => Ok(false),
+        Err(StepError::Damaged { place, class }) => Err(Ending::Damaged { place, class }),
+        Err(_) => Err(Ending::Disk),
+    }
 }
 
 /// Takes a step of the checkpoint that runs, and says whether it is done.
@@ -152,8 +143,5 @@ pub(crate) fn step<D: Disk>(disk: &mut D, replica: &mut Replica) -> Result<bool,
     ensures ends { IfErr result (IsOfCall (D.told disk.new)) }
     ensures disk { IsBlamed is_disk (D.faults disk.old) (D.faults disk.new) result }
 {
-    match make(disk, replica, Call::Advance) {
-        Ok(answer) => Ok(is_done(&answer)),
-        Err(fault) => Err(ended_by(fault)),
-    }
+    stepped(replica.checkpoint_step(disk))
 }

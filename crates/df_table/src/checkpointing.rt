@@ -146,7 +146,7 @@ fn conclude<D: Disk>(disk: &mut D, replica: &mut Replica) -> Result<(), Ending>
     ensures ends { IfErr result (IsOfCall (D.told disk.new)) }
     ensures disk { IsBlamed is_disk (D.faults disk.old) (D.faults disk.new) result }
 {
-    match begin(disk, replica) {
+    match begin(replica) {
         Ok(()) => finish(disk, replica),
         Err(ending) => Err(ending),
     }

@@ -7,8 +7,9 @@ mod SameWords
 mod Answered
 mod Passed
 mod BlockReadTurns
-mod ScrubTurns
+mod RingTurns
 mod Checks
+mod Taken
 mod Tours
 mod Resulted
 mod Served

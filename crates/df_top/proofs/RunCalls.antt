@@ -120,6 +120,7 @@ module _ (s t : Replica) (old new : Option Told) (a : Answer) (x : Answered) (sa
   exact_on (Release address) is = release_on s t (release_running s t address is.0 is.2) address (outcome_in a)
   exact_on (Begin root) is = subst (λ (y : Answer). StillRuns (Begin root) s t (Ok (outcome_in y))) (sym is.1) (begin_on s t root is.0 is.2)
   exact_on Advance is = subst (λ (y : Answer). StillRuns Advance s t (Ok (outcome_in y))) (sym is.1) (step_on s t old new is.0 is.2 x (subst (λ (y : Answer). machine_answer y ≡ Some x) is.1 said))
+  exact_on Scrub is = stays s t (ap (λ (r : Replica). r.running) is.2.0)
   exact_on command is = absurd is
 
   exact_steps : (command : Command) → IsExact command s t old new a → command ≡ Advance → StepsOn s t (Ok (outcome_in a))

@@ -207,6 +207,6 @@ pub found_told : (s : Replica) (t : Told) (u v : Replica) (told : Option Told) (
 found_told s t u v told old mid new so (inl (x, is, tells)) = absurd (calm x mid new DiskFault tells refl)
 found_told s t u v told old mid new so (inr failed) = (
   so.listed,
-  sym so.failing ∙ sym (ap (λ (r : Replica). r.tour.failing) failed.2),
+  sym so.failing ∙ sym (ap (λ (x : Tour). x.failing) failed.2),
   subst (λ (o : Option (List ℕ)). Appends old o (failing_texts so.listed)) (sym failed.1) so.printed,
 )

@@ -1,5 +1,5 @@
 -- What the functions of a tour say of their steps.
-use Rattle.std.specs.Prelude.{◌≡◌, ◌⊎◌, ℕ, List, [], Option, Ok, false, length}
+use Rattle.std.specs.Prelude.{◌≡◌, ◌⊎◌, ℕ, List, [], Option, Ok, length}
 use Rattle.df_base.specs.Streams.{Appends, AppendsPart}
 use Rattle.df_disk.specs.Told.{Told}
 use Rattle.df_inspect.specs.Reports.{failing_texts}
@@ -32,7 +32,7 @@ TellsStep x old new turn = ((turn ≡ step_turn x) × Appends old new (step_text
 
 -- a step of the scrubber was taken and told; or the disk failed in it, and the tour is where it was
 abbrev pub TakesStep : (s t : Replica) → Option Told → (old new : Option (List ℕ)) → Turn → Type 0
-TakesStep s t told old new turn = ((x : Scrubbed) × IsScrub s t told (Ok x) × TellsStep x old new turn) ⊎ ((turn ≡ Ends DiskFault) × (new ≡ old) × (t ≡ record s { live = false }))
+TakesStep s t told old new turn = ((x : Scrubbed) × IsScrub s t told (Ok x) × TellsStep x old new turn) ⊎ ((turn ≡ Ends DiskFault) × (new ≡ old) × (t.tour ≡ s.tour))
 
 -- a tour has found so many failing blocks, and each of them has its line
 abbrev pub TellsTourFound : ℕ → (old new : Option (List ℕ)) → Type 0

@@ -2,10 +2,11 @@
 ghost use Rattle.std.specs.Prelude.{◌≡◌, Option, List, ℕ, Some, true};
 ghost use Rattle.df_base.specs.Causes.{IsBlamed};
 ghost use Rattle.df_inspect.specs.Answers.{command_of as call_of};
-ghost use Rattle.df_model.specs.Commands.{Begin, Scrub};
+ghost use Rattle.df_model.specs.Commands.{Begin};
 ghost use Rattle.df_pace.specs.Beats.{command_of_piece, is_begun, next_piece};
 ghost use Rattle.df_session.specs.Calls.{HasAnswer};
 ghost use Rattle.df_session.specs.Endings.{is_disk_fault};
+ghost use Rattle.df_top.specs.Outside.{around};
 ghost use Rattle.df_top.specs.Pacing.{IsIdleBeat, runs};
 ghost use Rattle.df_top.specs.Session.{state};
 ghost use Rattle.df_top.specs.Step.{Passes, Turns};
@@ -65,18 +66,6 @@ fn begin<D: Disk>(disk: &mut D, replica: &mut Replica) -> Result<bool, Fault>
     make_piece(disk, replica, Command::Begin { root })
 }
 
-// Takes a step of the scrubber, which begins none.
-fn scrub<D: Disk>(disk: &mut D, replica: &mut Replica) -> Result<bool, Fault>
-    requires live { replica.old.live ≡ true }
-    ensures does { DoesPiece Scrub replica.old replica.new (D.told disk.old) (D.told disk.new) result }
-    ensures disk { IsBlamed is_disk_fault (D.faults disk.old) (D.faults disk.new) result }
-{
-    match replica.scrub_step(disk) {
-        Ok(_) => Ok(false),
-        Err(_) => Err(Fault::Disk),
-    }
-}
-
 // Makes the call of a piece, and says whether a checkpoint was begun by it.
 fn do_piece<D: Disk>(disk: &mut D, replica: &mut Replica, piece: Piece) -> Result<bool, Fault>
     requires live { replica.old.live ≡ true }
@@ -86,7 +75,7 @@ fn do_piece<D: Disk>(disk: &mut D, replica: &mut Replica, piece: Piece) -> Resul
     match piece {
         Piece::Begin => begin(disk, replica),
         Piece::Step => make_piece(disk, replica, Command::Advance),
-        Piece::Scrub => scrub(disk, replica),
+        Piece::Scrub => make_piece(disk, replica, Command::Scrub),
     }
 }
 
@@ -98,7 +87,8 @@ fn pass<D: Disk, W: Sink>(
     piece: Piece,
 ) -> Turn<Status>
     requires live { session.old.replica.live ≡ true }
-    ensures passes { Passes piece (command_of_piece piece session.old.replica.root) session.old.replica session.new.replica (D.told disk.old) (D.told disk.new) (W.written sink.old) (W.written sink.new) session.old.beat session.new.beat result }
+    ensures passes { Passes piece (command_of_piece piece session.old.replica.root) session.old.replica session.new.replica
+        (D.told disk.old) (D.told disk.new) (W.written sink.old) (W.written sink.new) session.old.beat session.new.beat result }
     ensures live { OnGoing result (session.new.replica.live ≡ true) }
     ensures leaves { LeavesReader session.old session.new }
     ensures disk { BlamesIfEnds Status.DiskFault (D.faults disk.old) (D.faults disk.new) result }
@@ -125,8 +115,8 @@ fn do_next<D: Disk, W: Sink>(
     requires live { session.old.replica.live ≡ true }
     requires next { next_piece session.old.beat.due (runs session.old.replica) ≡ Some piece }
     ensures turns { (left : Option (List ℕ)) (bound : ℕ) → Turns session.old.pace bound
-        (state (record { told = D.told disk.old; left = left; written = W.written sink.old }) session.old)
-        (state (record { told = D.told disk.new; left = left; written = W.written sink.new }) session.new) result }
+        (state (around (D.told disk.old) left (W.written sink.old)) session.old)
+        (state (around (D.told disk.new) left (W.written sink.new)) session.new) result }
     ensures does { DoesNext session.old session.new result }
     ensures disk { BlamesIfEnds Status.DiskFault (D.faults disk.old) (D.faults disk.new) result }
     ensures source { (faults : ℕ) → BlamesIfEnds Status.ReadFault faults faults result }
@@ -146,8 +136,8 @@ fn next(session: &Session) -> Option<Piece>
 pub fn work<D: Disk, W: Sink>(disk: &mut D, sink: &mut W, session: &mut Session) -> Turn<Status>
     requires live { session.old.replica.live ≡ true }
     ensures turns { (left : Option (List ℕ)) (bound : ℕ) → Turns session.old.pace bound
-        (state (record { told = D.told disk.old; left = left; written = W.written sink.old }) session.old)
-        (state (record { told = D.told disk.new; left = left; written = W.written sink.new }) session.new) result }
+        (state (around (D.told disk.old) left (W.written sink.old)) session.old)
+        (state (around (D.told disk.new) left (W.written sink.new)) session.new) result }
     ensures idle { OnGoing result (IsIdleBeat session.new.beat session.new.replica) }
     ensures leaves { LeavesReader session.old session.new }
     ensures live { OnGoing result (session.new.replica.live ≡ true) }

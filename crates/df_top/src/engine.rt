@@ -104,12 +104,14 @@ pub fn run<D: Disk, S: Source, W: Sink>(
     // whose boot is raised, as each word does it but `inspect`, which prints the report of what it finds, and adds nothing but the sync of its barrier; `scrub` prints
     // the referenced blocks that fail; `workload` carries out a generated run as the machine does, keeps what was answered, and
     // prints what it did.
-    ensures runs { (mode : Mode) → AsksForFile mode → Means (map string_bytes words.now) mode → Runs mode (around (D.told disk.old) (S.left source.old) (W.written sink.old)) (around (D.told disk.new) (S.left source.new) (W.written sink.new)) result }
+    ensures runs { (mode : Mode) → AsksForFile mode → Means (map string_bytes words.now) mode
+        → Runs mode (around (D.told disk.old) (S.left source.old) (W.written sink.old)) (around (D.told disk.new) (S.left source.new) (W.written sink.new)) result }
     ensures inspects { Means (map string_bytes words.now) Mode.Inspect → AddsPart (Sync ∷ []) (D.told disk.old) (D.told disk.new) }
 
     // `upgrade` asks for version 1: it refuses a file by the first reason of the order of open, or makes it one of version 2 and prints its
     // sequence. At each moment whatever is left has the state that was found, by the version of its own superblock.
-    ensures upgrades { Means (map string_bytes words.now) Mode.Upgrade → RunsUpgrade (around (D.told disk.old) (S.left source.old) (W.written sink.old)) (around (D.told disk.new) (S.left source.new) (W.written sink.new)) result }
+    ensures upgrades { Means (map string_bytes words.now) Mode.Upgrade
+        → RunsUpgrade (around (D.told disk.old) (S.left source.old) (W.written sink.old)) (around (D.told disk.new) (S.left source.new) (W.written sink.new)) result }
 
     // Every write lies within the zones of the file: of the one that is made, or of the one whose superblock is shown.
     ensures made_within { (layout : Layout) (cluster : ℕ) → Means (map string_bytes words.now) (Mode.Format layout cluster) → AddsWithin layout (D.told disk.old) (D.told disk.new) }
@@ -118,13 +120,16 @@ pub fn run<D: Disk, S: Source, W: Sink>(
 
     // Where sectors of the file were damaged, lost or swapped before, they find a state that the file really had, or refuse it
     // because of a sector that is hurt; and a read of a script gives what is the state's own, as it was written.
-    ensures hurt { (mode : Mode) → AsksForFile mode → Means (map string_bytes words.now) mode → RunsOverHurt mode (around (D.told disk.old) (S.left source.old) (W.written sink.old)) (around (D.told disk.new) (S.left source.new) (W.written sink.new)) result }
+    ensures hurt { (mode : Mode) → AsksForFile mode → Means (map string_bytes words.now) mode
+        → RunsOverHurt mode (around (D.told disk.old) (S.left source.old) (W.written sink.old)) (around (D.told disk.new) (S.left source.new) (W.written sink.new)) result }
 
     // Where they were before other opens, too, while two superblock copies were spared before each, the state is one that the file had
     // since the last open that raised its boot; and from the barrier on the history stays such a one at each moment.
-    ensures lived { (mode : Mode) → AsksForFile mode → Means (map string_bytes words.now) mode → RunsOverHistory mode (around (D.told disk.old) (S.left source.old) (W.written sink.old)) (around (D.told disk.new) (S.left source.new) (W.written sink.new)) result }
+    ensures lived { (mode : Mode) → AsksForFile mode → Means (map string_bytes words.now) mode
+        → RunsOverHistory mode (around (D.told disk.old) (S.left source.old) (W.written sink.old)) (around (D.told disk.new) (S.left source.new) (W.written sink.new)) result }
 
-    ensures upgraded_hurt { Means (map string_bytes words.now) Mode.Upgrade → UpgradesOverHurt (around (D.told disk.old) (S.left source.old) (W.written sink.old)) (around (D.told disk.new) (S.left source.new) (W.written sink.new)) result }
+    ensures upgraded_hurt { Means (map string_bytes words.now) Mode.Upgrade
+        → UpgradesOverHurt (around (D.told disk.old) (S.left source.old) (W.written sink.old)) (around (D.told disk.new) (S.left source.new) (W.written sink.new)) result }
 
     // A call ends at its first fault: of the three counts one at most rises, once, that of what the status blames; want of memory
     // comes before anything was read or written.

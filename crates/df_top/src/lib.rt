@@ -9,7 +9,7 @@ mod mode;
 mod reads;
 mod reporting;
 mod resulting;
-mod scrub_calls;
+mod ring;
 mod scrubbing;
 mod serving;
 mod session;

@@ -17,8 +17,9 @@ use df_base::Sink;
 use df_disk::Disk;
 use df_inspect::{print_failing, print_tour};
 use df_layout::Finding;
+use df_model::{Answer, Command};
 use df_program::{Turn, printed, refuse_file};
-use df_session::{Replica, Rooms, Scrubbed, Verdict};
+use df_session::{Replica, Rooms, Scrubbed, Verdict, make};
 
 // How a tour ends that listed so many blocks.
 fn listed(failing: u64) -> Status
@@ -68,8 +69,9 @@ fn check_next<D: Disk, W: Sink>(disk: &mut D, sink: &mut W, replica: &mut Replic
     ensures disk { BlamesIfEnds Status.DiskFault (D.faults disk.old) (D.faults disk.new) result }
     ensures sink { BlamesIfEnds Status.WriteFault (W.faults sink.old) (W.faults sink.new) result }
 {
-    match replica.scrub_step(disk) {
-        Ok(scrubbed) => tell(sink, scrubbed),
+    match make(disk, replica, Command::Scrub) {
+        Ok(Answer::Scrub(scrubbed)) => tell(sink, scrubbed),
+        Ok(_) => unreachable!(),
         Err(_) => Turn::Ends(Status::DiskFault),
     }
 }

@@ -35,7 +35,8 @@ fn serve_file<D: Disk, S: Source, W: Sink>(
     disk: &mut D,
 ) -> Status
     requires lines { IsFresh (line_bound rooms.layout) lines }
-    ensures serves { (mode : Mode) → Executes mode pace → ServesIn mode rooms.layout (around (D.told disk.old) (S.left source.old) (W.written sink.old)) (around (D.told disk.new) (S.left source.new) (W.written sink.new)) result }
+    ensures serves { (mode : Mode) → Executes mode pace
+        → ServesIn mode rooms.layout (around (D.told disk.old) (S.left source.old) (W.written sink.old)) (around (D.told disk.new) (S.left source.new) (W.written sink.new)) result }
     ensures causes { HasCauses (counts (D.faults disk.old) (S.faults source.old) (W.faults sink.old)) (counts (D.faults disk.new) (S.faults source.new) (W.faults sink.new)) result }
     ensures ends { EndsWithFile result }
 {
@@ -109,10 +110,13 @@ pub fn serve<D: Disk, S: Source, W: Sink>(
 ) -> Status
     requires words { AsksOfFile (map string_bytes words.now) }
     requires lines { IsFresh (line_bound rooms.layout) lines }
-    ensures serves { (mode : Mode) → Means (map string_bytes words.now) mode → ServesIn mode rooms.layout (around (D.told disk.old) (S.left source.old) (W.written sink.old)) (around (D.told disk.new) (S.left source.new) (W.written sink.new)) result }
+    ensures serves { (mode : Mode) → Means (map string_bytes words.now) mode
+        → ServesIn mode rooms.layout (around (D.told disk.old) (S.left source.old) (W.written sink.old)) (around (D.told disk.new) (S.left source.new) (W.written sink.new)) result }
     ensures inspects { Means (map string_bytes words.now) Mode.Inspect → AddsPart (Sync ∷ []) (D.told disk.old) (D.told disk.new) }
-    ensures hurt { (mode : Mode) → Means (map string_bytes words.now) mode → ServesOverHurt mode rooms.layout (around (D.told disk.old) (S.left source.old) (W.written sink.old)) (around (D.told disk.new) (S.left source.new) (W.written sink.new)) result }
-    ensures lived { (mode : Mode) → Means (map string_bytes words.now) mode → ServesOverHistory mode rooms.layout (around (D.told disk.old) (S.left source.old) (W.written sink.old)) (around (D.told disk.new) (S.left source.new) (W.written sink.new)) result }
+    ensures hurt { (mode : Mode) → Means (map string_bytes words.now) mode
+        → ServesOverHurt mode rooms.layout (around (D.told disk.old) (S.left source.old) (W.written sink.old)) (around (D.told disk.new) (S.left source.new) (W.written sink.new)) result }
+    ensures lived { (mode : Mode) → Means (map string_bytes words.now) mode
+        → ServesOverHistory mode rooms.layout (around (D.told disk.old) (S.left source.old) (W.written sink.old)) (around (D.told disk.new) (S.left source.new) (W.written sink.new)) result }
     ensures within { WritesIn rooms.layout (D.told disk.old) (D.told disk.new) }
     ensures unread { (AsksScript (map string_bytes words.now) → ⊥) → S.left source.new ≡ S.left source.old }
     ensures causes { HasCauses (counts (D.faults disk.old) (S.faults source.old) (W.faults sink.old)) (counts (D.faults disk.new) (S.faults source.new) (W.faults sink.new)) result }

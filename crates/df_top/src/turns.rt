@@ -4,7 +4,7 @@ ghost use Rattle.df_inspect.specs.Answers.{command_of as call_of};
 ghost use Rattle.df_lines.specs.Grammar.{body_length, said_with};
 ghost use Rattle.df_pace.specs.Beats.{beat_after_line};
 ghost use Rattle.df_top.specs.Lines.{command_of_line};
-ghost use Rattle.df_top.specs.Outside.{Blames};
+ghost use Rattle.df_top.specs.Outside.{Blames, around};
 ghost use Rattle.df_top.specs.Pacing.{IsIdleBeat, runs};
 ghost use Rattle.df_top.specs.Session.{Ended, state};
 ghost use Rattle.df_top.specs.Step.{AnswersCommand, Turns};
@@ -12,7 +12,7 @@ ghost use Rattle.df_top.specs.Turning.{BlamesIfEnds, IsReadySession, LeavesReade
 
 use crate::background::work;
 use crate::reads::read;
-use crate::scrub_calls::{recent, scrub};
+use crate::ring::recent;
 use crate::session::Session;
 use crate::status::Status;
 use crate::telling::serve;
@@ -78,7 +78,8 @@ fn execute<D: Disk, W: Sink>(
 ) -> Turn<Status>
     requires live { session.old.replica.live ≡ true }
     requires size { body_length line ≤ length session.old.lines.body }
-    ensures answers { AnswersCommand (command_of_line (said_with session.old.lines.body line)) session.old.replica session.new.replica (D.told disk.old) (D.told disk.new) (W.written sink.old) (W.written sink.new) result }
+    ensures answers { AnswersCommand (command_of_line (said_with session.old.lines.body line)) session.old.replica session.new.replica
+        (D.told disk.old) (D.told disk.new) (W.written sink.old) (W.written sink.new) result }
     ensures leaves { LeavesReader session.old session.new }
     ensures beat { session.new.beat ≡ session.old.beat }
     ensures disk { BlamesIfEnds Status.DiskFault (D.faults disk.old) (D.faults disk.new) result }
@@ -90,7 +91,6 @@ fn execute<D: Disk, W: Sink>(
         Command::ReadPrepare { op: _ }
         | Command::ReadReply { client: _ }
         | Command::ReadBlock { address: _ } => read(disk, sink, replica, command),
-        Command::Scrub => scrub(disk, sink, replica),
         Command::Recent => recent(sink, replica),
         _ => serve(disk, sink, replica, command),
     }
@@ -115,7 +115,8 @@ fn serve_line<D: Disk, W: Sink>(
     requires live { session.old.replica.live ≡ true }
     requires room { session.old.count < 2 ^ 33 }
     requires size { body_length line ≤ length session.old.lines.body }
-    ensures answers { AnswersCommand (command_of_line (said_with session.old.lines.body line)) session.old.replica session.new.replica (D.told disk.old) (D.told disk.new) (W.written sink.old) (W.written sink.new) result }
+    ensures answers { AnswersCommand (command_of_line (said_with session.old.lines.body line)) session.old.replica session.new.replica
+        (D.told disk.old) (D.told disk.new) (W.written sink.old) (W.written sink.new) result }
     ensures serves { ServesLine session.old session.new result }
     ensures disk { BlamesIfEnds Status.DiskFault (D.faults disk.old) (D.faults disk.new) result }
     ensures sink { BlamesIfEnds Status.WriteFault (W.faults sink.old) (W.faults sink.new) result }
@@ -136,8 +137,8 @@ fn take_line<D: Disk, S: Source, W: Sink>(
     requires idle { IsIdleBeat session.old.beat session.old.replica }
     requires ready { IsReadySession session.old (S.left source.old) }
     ensures turns { Turns session.old.pace session.old.lines.reading.bound
-        (state (record { told = D.told disk.old; left = S.left source.old; written = W.written sink.old }) session.old)
-        (state (record { told = D.told disk.new; left = S.left source.new; written = W.written sink.new }) session.new) result }
+        (state (around (D.told disk.old) (S.left source.old) (W.written sink.old)) session.old)
+        (state (around (D.told disk.new) (S.left source.new) (W.written sink.new)) session.new) result }
     ensures takes { TakesLine session.old session.new (S.left source.new) result }
     ensures disk { BlamesIfEnds Status.DiskFault (D.faults disk.old) (D.faults disk.new) result }
     ensures source { BlamesIfEnds Status.ReadFault (S.faults source.old) (S.faults source.new) result }
@@ -161,8 +162,8 @@ pub fn serve_script<D: Disk, S: Source, W: Sink>(
     requires ready { IsReadySession session.old (S.left source.old) }
     requires idle { IsIdleBeat session.old.beat session.old.replica }
     ensures session { Ended session.old.pace session.old.lines.reading.bound
-        (state (record { told = D.told disk.old; left = S.left source.old; written = W.written sink.old }) session.old)
-        (state (record { told = D.told disk.new; left = S.left source.new; written = W.written sink.new }) session.new) result }
+        (state (around (D.told disk.old) (S.left source.old) (W.written sink.old)) session.old)
+        (state (around (D.told disk.new) (S.left source.new) (W.written sink.new)) session.new) result }
     ensures disk { Blames Status.DiskFault (D.faults disk.old) (D.faults disk.new) result }
     ensures source { Blames Status.ReadFault (S.faults source.old) (S.faults source.new) result }
     ensures sink { Blames Status.WriteFault (W.faults sink.old) (W.faults sink.new) result }

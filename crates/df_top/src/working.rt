@@ -139,7 +139,8 @@ pub fn workload_file<D: Disk, W: Sink>(
 ) -> Status
     requires some { 1 ≤ count }
     requires million { count ≤ 1000000 }
-    ensures works { (left : Option (List ℕ)) → ServesIn (Mode.Workload seed count) rooms.layout (around (D.told disk.old) left (W.written sink.old)) (around (D.told disk.new) left (W.written sink.new)) result }
+    ensures works { (left : Option (List ℕ))
+        → ServesIn (Mode.Workload seed count) rooms.layout (around (D.told disk.old) left (W.written sink.old)) (around (D.told disk.new) left (W.written sink.new)) result }
     ensures causes { (source : ℕ) → HasCauses (counts (D.faults disk.old) source (W.faults sink.old)) (counts (D.faults disk.new) source (W.faults sink.new)) result }
     ensures ends { EndsWithFile result }
 {

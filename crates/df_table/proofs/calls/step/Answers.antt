@@ -1,33 +1,29 @@
 -- The step was taken, or the call has no answer.
-use Rattle.std.proofs.Common.{subst, sym, Bool, [], ◌∷◌, Err}
-use Rattle.df_base.specs.Causes.{Blamed}
+use Rattle.std.proofs.Common.{subst, sym, Bool, [], ◌∷◌, ◌≡◌, true, Result}
+use Rattle.std.specs.Prelude.{IfErr, IfOk, OnOk}
+use Rattle.df_base.specs.Causes.{IsBlamed}
 use Rattle.df_model.specs.Commands.{Advance}
 use Rattle.df_table.specs.declared.ending.Ending.{Ending}
 use Rattle.df_table.specs.Calls.{CheckpointStepped, Comes}
 use Rattle.df_table.specs.Statuses.{is_disk}
 use Rattle.df_table.specs.Turns.{IsOfCall}
-use Rattle.df_table.proofs.Called.{blamed_so, fault_ends, step_comes}
-use Rattle.df_table.proofs.Joined.{one_failed}
+use Rattle.df_table.proofs.Called.{step_takes}
 use Rattle.df_table.proofs.calls.step.Goals as goal
 
-pub returns-in-Ok : goal.returns-in-Ok
-returns-in-Ok g c =
-    let comes = step_comes c.args.replica.now c.make.new.replica (g.D.Disk.told c.args.disk.now) (g.D.Disk.told c.make.new.disk) c.requires.runs c.in-Ok.answer c.in-Ok.ensures.makes in
+pub returns : goal.returns
+returns g c =
+    let s = c.args.replica.now in
+    let t = c.checkpoint_step.new.self in
+    let old = g.D.Disk.told c.args.disk.now in
+    let new = g.D.Disk.told c.checkpoint_step.new.disk in
+    let before = g.D.Disk.faults c.args.disk.now in
+    let now = g.D.Disk.faults c.checkpoint_step.new.disk in
+    let steps = step_takes s t old new before now c.requires.runs c.checkpoint_step.result c.checkpoint_step.ensures.exact c.checkpoint_step.ensures.call c.checkpoint_step.ensures.cause in
+    let is = sym c.stepped.ensures in
     record {
-      makes = comes.comes;
-      state = subst (λ (done : Bool). CheckpointStepped done c.args.replica.now c.make.new.replica) (sym c.is_done.ensures) comes.state;
-      live = c.in-Ok.ensures.live;
-      ends = tt;
-      disk = c.in-Ok.ensures.disk;
-    }
-
-pub returns-in-Err : goal.returns-in-Err
-returns-in-Err g c =
-    let ends = one_failed Advance c.args.replica.now c.make.new.replica (g.D.Disk.told c.args.disk.now) (g.D.Disk.told c.make.new.disk) c.in-Err.fault c.in-Err.ensures.makes in
-    record {
-      makes = subst (λ (e : Ending). Comes {T = Bool} (Advance ∷ []) c.args.replica.now c.make.new.replica (g.D.Disk.told c.args.disk.now) (g.D.Disk.told c.make.new.disk) (Err e)) (sym c.ended_by.ensures) ends;
-      state = tt;
-      live = tt;
-      ends = subst (IsOfCall (g.D.Disk.told c.make.new.disk)) (sym c.ended_by.ensures) (fault_ends Advance (g.D.Disk.told c.make.new.disk) c.in-Err.fault c.in-Err.ensures.makes.1);
-      disk = subst (λ (e : Ending). Blamed (is_disk e) (g.D.Disk.faults c.args.disk.now) (g.D.Disk.faults c.make.new.disk)) (sym c.ended_by.ensures) (blamed_so c.in-Err.fault (g.D.Disk.faults c.args.disk.now) (g.D.Disk.faults c.make.new.disk) c.in-Err.ensures.disk);
+      makes = subst (λ (r : Result Bool Ending). Comes (Advance ∷ []) s t old new r) is steps.comes;
+      state = subst (λ (r : Result Bool Ending). IfOk r (λ done. CheckpointStepped done s t)) is steps.state;
+      live = subst (λ (r : Result Bool Ending). OnOk r (t.live ≡ true)) is steps.live;
+      ends = subst (λ (r : Result Bool Ending). IfErr r (IsOfCall new)) is steps.ends;
+      disk = subst (λ (r : Result Bool Ending). IsBlamed is_disk before now r) is steps.disk;
     }

@@ -1,35 +1,37 @@
--- The call was made and accepted, it was refused, or it has no answer.
-use Rattle.std.proofs.Common.{◌≡◌, subst, sym, [], ◌∷◌, Err, Result}
-use Rattle.std.specs.Prelude.{IfErr, OnOk}
-use Rattle.df_base.specs.Causes.{Blamed, IsBlamed}
+-- The block was written, or the call has no answer.
+use Rattle.std.proofs.Common.{◌≡◌, subst, sym, Err, None, Ok}
 use Rattle.df_model.specs.Commands.{WriteBlock}
+use Rattle.df_model.specs.Refusals.{block_refusals, first_refusal}
+use Rattle.df_session.specs.Below.{memory}
 use Rattle.df_session.specs.Blocks.{next_block, written}
+use Rattle.df_session.proofs.Laws.{write_called}
 use Rattle.df_table.specs.declared.ending.Ending.{Ending}
-use Rattle.df_table.specs.Calls.{Comes}
-use Rattle.df_table.specs.Statuses.{is_disk}
-use Rattle.df_table.specs.Turns.{IsOfCall}
-use Rattle.df_table.proofs.Called.{blamed_so, fault_ends, on_ok, write_comes}
-use Rattle.df_table.proofs.Joined.{one_failed}
+use Rattle.df_table.proofs.Called.{Takes, write_takes}
 use Rattle.df_table.proofs.calls.write.Goals as goal
 
 pub returns-in-Ok : goal.returns-in-Ok
 returns-in-Ok g c =
-    let comes = write_comes c.args.replica.now c.make.new.replica (g.D.Disk.told c.args.disk.now) (g.D.Disk.told c.make.new.disk) c.args.body.now c.in-Ok.answer c.in-Ok.ensures.makes in
-    record {
-      makes = λ may. subst (λ (r : Result (Unit {0}) Ending). Comes (WriteBlock 1 c.args.body.now ∷ []) c.args.replica.now c.make.new.replica (g.D.Disk.told c.args.disk.now) (g.D.Disk.told c.make.new.disk) r) (sym c.accepted_or.ensures) (comes.comes may);
-      state = subst (λ (r : Result (Unit {0}) Ending). OnOk r (c.make.new.replica ≡ written c.args.replica.now (next_block c.args.replica.now 1 c.args.body.now).header)) (sym c.accepted_or.ensures) comes.state;
-      live = on_ok c.accepted_or.result c.in-Ok.ensures.live;
-      ends = subst (λ (r : Result (Unit {0}) Ending). IfErr r (IsOfCall (g.D.Disk.told c.make.new.disk))) (sym c.accepted_or.ensures) comes.ends;
-      disk = subst (λ (r : Result (Unit {0}) Ending). IsBlamed is_disk (g.D.Disk.faults c.args.disk.now) (g.D.Disk.faults c.make.new.disk) r) (sym c.accepted_or.ensures) (comes.blames (g.D.Disk.faults c.args.disk.now) (g.D.Disk.faults c.make.new.disk) c.in-Ok.ensures.disk);
-    }
+    let s = c.args.replica.now in
+    let t = c.write_block.new.self in
+    let old = g.D.Disk.told c.args.disk.now in
+    let new = g.D.Disk.told c.write_block.new.disk in
+    let before = g.D.Disk.faults c.args.disk.now in
+    let now = g.D.Disk.faults c.write_block.new.disk in
+    let r = Ok c.in-Ok.field-0 in
+    let called = write_called s t old new before now 1 c.args.body.now r c.in-Ok.ensures.exact c.in-Ok.ensures.call c.in-Ok.ensures.cause in
+    let takes = write_takes s t old new before now c.args.body.now r c.in-Ok.ensures.exact called.makes c.in-Ok.ensures.cause in
+    record { makes = takes.comes; state = takes.state; live = takes.live; ends = takes.ends; disk = takes.disk }
 
 pub returns-in-Err : goal.returns-in-Err
 returns-in-Err g c =
-    let ends = one_failed (WriteBlock 1 c.args.body.now) c.args.replica.now c.make.new.replica (g.D.Disk.told c.args.disk.now) (g.D.Disk.told c.make.new.disk) c.in-Err.fault c.in-Err.ensures.makes in
-    record {
-      makes = λ may. subst (λ (e : Ending). Comes {T = Unit {0}} (WriteBlock 1 c.args.body.now ∷ []) c.args.replica.now c.make.new.replica (g.D.Disk.told c.args.disk.now) (g.D.Disk.told c.make.new.disk) (Err e)) (sym c.ended_by.ensures) ends;
-      state = tt;
-      live = tt;
-      ends = subst (IsOfCall (g.D.Disk.told c.make.new.disk)) (sym c.ended_by.ensures) (fault_ends (WriteBlock 1 c.args.body.now) (g.D.Disk.told c.make.new.disk) c.in-Err.fault c.in-Err.ensures.makes.1);
-      disk = subst (λ (e : Ending). Blamed (is_disk e) (g.D.Disk.faults c.args.disk.now) (g.D.Disk.faults c.make.new.disk)) (sym c.ended_by.ensures) (blamed_so c.in-Err.fault (g.D.Disk.faults c.args.disk.now) (g.D.Disk.faults c.make.new.disk) c.in-Err.ensures.disk);
-    }
+    let s = c.args.replica.now in
+    let t = c.write_block.new.self in
+    let old = g.D.Disk.told c.args.disk.now in
+    let new = g.D.Disk.told c.write_block.new.disk in
+    let before = g.D.Disk.faults c.args.disk.now in
+    let now = g.D.Disk.faults c.write_block.new.disk in
+    let r = Err c.in-Err.error in
+    let called = write_called s t old new before now 1 c.args.body.now r c.in-Err.ensures.exact c.in-Err.ensures.call c.in-Err.ensures.cause in
+    let takes = write_takes s t old new before now c.args.body.now r c.in-Err.ensures.exact called.makes c.in-Err.ensures.cause in
+    let ended = subst (λ (e : Ending). Takes s t old new {T = Unit {0}} before now (first_refusal (block_refusals (memory s) 1 c.args.body.now) ≡ None) (WriteBlock 1 c.args.body.now) (written s (next_block s 1 c.args.body.now).header) (Err e)) (sym c.ended_or.ensures) takes in
+    record { makes = ended.comes; state = tt; live = tt; ends = ended.ends; disk = ended.disk }

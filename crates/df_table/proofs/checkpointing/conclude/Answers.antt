@@ -1,10 +1,14 @@
 -- The checkpoint is begun, and then finished.
-use Rattle.std.proofs.Common.{[], subst, sym, ap}
+use Rattle.std.proofs.Common.{[], refl, subst, sym, ap}
 use Rattle.std.specs.Prelude.{OnOk}
+use Rattle.df_base.specs.Causes.{Blamed}
 use Rattle.df_session.specs.Beginning.{captured}
 use Rattle.df_session.specs.Below.{State as Replica}
+use Rattle.df_table.specs.declared.ending.Ending.{Ending}
 use Rattle.df_table.specs.Calls.{IsCheckpointing}
 use Rattle.df_table.specs.Ready.{IsFinished}
+use Rattle.df_table.specs.Statuses.{is_disk}
+use Rattle.df_table.specs.Turns.{IsOfCall}
 use Rattle.df_table.proofs.Finished.{concluded}
 use Rattle.df_table.proofs.checkpointing.conclude.Goals as goal
 
@@ -13,7 +17,7 @@ finish-requires g c = record { live = c.in-Ok.ensures.live; runs = subst (λ (r 
 
 pub returns-in-Ok-clause-makes : goal.returns-in-Ok-clause-makes
 returns-in-Ok-clause-makes g c = λ may.
-    concluded c.args.replica.now c.begin.new.replica c.finish.new.replica (g.D.Disk.told c.args.disk.now) (g.D.Disk.told c.begin.new.disk) (g.D.Disk.told c.finish.new.disk) c.finish.result (c.in-Ok.ensures.makes may) c.finish.ensures.makes
+    concluded c.args.replica.now c.begin.new.replica c.finish.new.replica (g.D.Disk.told c.args.disk.now) (g.D.Disk.told c.args.disk.now) (g.D.Disk.told c.finish.new.disk) c.finish.result (c.in-Ok.ensures.makes (g.D.Disk.told c.args.disk.now) may) c.finish.ensures.makes
 
 pub returns-in-Ok-clause-finished : goal.returns-in-Ok-clause-finished
 returns-in-Ok-clause-finished g c =
@@ -21,4 +25,10 @@ returns-in-Ok-clause-finished g c =
     subst (λ (u : Replica). OnOk c.finish.result (IsFinished r u c.finish.new.replica)) c.in-Ok.ensures.state (c.finish.ensures.finished r (ap (λ (u : Replica). u.running) c.in-Ok.ensures.state))
 
 pub returns-in-Err-clause-makes : goal.returns-in-Err-clause-makes
-returns-in-Err-clause-makes g c = λ may. (0, c.in-Err.ensures.makes may)
+returns-in-Err-clause-makes g c = λ may. (0, c.in-Err.ensures.makes (g.D.Disk.told c.args.disk.now) may)
+
+pub returns-in-Err-clause-ends : goal.returns-in-Err-clause-ends
+returns-in-Err-clause-ends g c = subst (IsOfCall (g.D.Disk.told c.args.disk.now)) (sym c.in-Err.ensures.spent) tt
+
+pub returns-in-Err-clause-disk : goal.returns-in-Err-clause-disk
+returns-in-Err-clause-disk g c = let faults = g.D.Disk.faults c.args.disk.now in subst (λ (e : Ending). Blamed (is_disk e) faults faults) (sym c.in-Err.ensures.spent) refl

@@ -3,14 +3,15 @@ use Rattle.std.proofs.Common.{ap}
 use Rattle.df_lines.specs.Room.{ReaderParts}
 use Rattle.df_lines.specs.Text.{unread}
 use Rattle.df_pace.specs.Beats.{command_of_piece}
+use Rattle.df_top.specs.Outside.{around}
 use Rattle.df_top.specs.Session.{SessionState, state}
 use Rattle.df_top.proofs.Passed.{fewer_behind, passes_turns}
 use Rattle.df_top.proofs.background.do_next.Goals as goal
 
 pub returns-clause-turns : goal.returns-clause-turns
 returns-clause-turns g c = λ left bound.
-    let old : SessionState = state (record { told = g.D.Disk.told c.args.disk.now; left = left; written = g.W.Sink.written c.args.sink.now }) c.args.session.now in
-    let new : SessionState = state (record { told = g.D.Disk.told c.pass.new.disk; left = left; written = g.W.Sink.written c.pass.new.sink }) c.pass.new.session in
+    let old : SessionState = state (around (g.D.Disk.told c.args.disk.now) left (g.W.Sink.written c.args.sink.now)) c.args.session.now in
+    let new : SessionState = state (around (g.D.Disk.told c.pass.new.disk) left (g.W.Sink.written c.pass.new.sink)) c.pass.new.session in
     passes_turns c.args.session.now.pace bound old new c.args.piece (ap (λ (r : ReaderParts). unread r.reading.held left) c.pass.ensures.leaves.lines) (ap (λ (r : ReaderParts). r.reading.budget) c.pass.ensures.leaves.lines) c.pass.ensures.leaves.count c.requires.next c.pass.result c.pass.ensures.passes
 
 pub returns-clause-does : goal.returns-clause-does

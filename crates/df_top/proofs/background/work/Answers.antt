@@ -1,6 +1,7 @@
 -- Each turn goes on with one piece more, or ends the session.
 use Rattle.std.proofs.Common.{◌∙◌, refl, subst}
 use Rattle.df_pace.specs.declared.pace.Pace.{Pace}
+use Rattle.df_top.specs.Outside.{around}
 use Rattle.df_top.specs.Session.{SessionState, state}
 use Rattle.df_top.specs.Step.{EndsIn, SessionGoesOn}
 use Rattle.df_top.proofs.Passed.{leaves_on}
@@ -9,7 +10,7 @@ use Rattle.df_top.proofs.background.work.Goals as goal
 
 pub loop-piece-init : goal.loop-piece-init
 loop-piece-init g c = record {
-  turns = λ left bound. let here : SessionState = state (record { told = g.D.Disk.told c.args.disk.now; left = left; written = g.W.Sink.written c.args.sink.now }) c.args.session.now in on_none c.args.session.now.pace bound here here refl;
+  turns = λ left bound. let here : SessionState = state (around (g.D.Disk.told c.args.disk.now) left (g.W.Sink.written c.args.sink.now)) c.args.session.now in on_none c.args.session.now.pace bound here here refl;
   leaves = record { lines = refl; count = refl; pace = refl };
   live = c.requires.live;
   disk_faults = refl;
@@ -21,9 +22,9 @@ loop-piece-preserved g c =
     let now = c.loop-piece in
     record {
       turns = λ left bound.
-          let old : SessionState = state (record { told = g.D.Disk.told c.args.disk.now; left = left; written = g.W.Sink.written c.args.sink.now }) c.args.session.now in
-          let mid : SessionState = state (record { told = g.D.Disk.told now.disk; left = left; written = g.W.Sink.written now.sink }) now.session in
-          let new : SessionState = state (record { told = g.D.Disk.told c.do_next.new.disk; left = left; written = g.W.Sink.written c.do_next.new.sink }) c.do_next.new.session in
+          let old : SessionState = state (around (g.D.Disk.told c.args.disk.now) left (g.W.Sink.written c.args.sink.now)) c.args.session.now in
+          let mid : SessionState = state (around (g.D.Disk.told now.disk) left (g.W.Sink.written now.sink)) now.session in
+          let new : SessionState = state (around (g.D.Disk.told c.do_next.new.disk) left (g.W.Sink.written c.do_next.new.sink)) c.do_next.new.session in
           on_more c.args.session.now.pace bound old mid new (now.invariant.turns left bound) (subst (λ (p : Pace). SessionGoesOn p bound mid new) now.invariant.leaves.pace (c.in-GoesOn.ensures.turns left bound));
       leaves = leaves_on now.invariant.leaves c.do_next.ensures.does.leaves;
       live = c.in-GoesOn.ensures.does.live;
@@ -34,9 +35,9 @@ loop-piece-preserved g c =
 pub returns-in-Ends-clause-turns : goal.returns-in-Ends-clause-turns
 returns-in-Ends-clause-turns g c = λ left bound.
     let now = c.loop-piece in
-    let old : SessionState = state (record { told = g.D.Disk.told c.args.disk.now; left = left; written = g.W.Sink.written c.args.sink.now }) c.args.session.now in
-    let mid : SessionState = state (record { told = g.D.Disk.told now.disk; left = left; written = g.W.Sink.written now.sink }) now.session in
-    let new : SessionState = state (record { told = g.D.Disk.told c.do_next.new.disk; left = left; written = g.W.Sink.written c.do_next.new.sink }) c.do_next.new.session in
+    let old : SessionState = state (around (g.D.Disk.told c.args.disk.now) left (g.W.Sink.written c.args.sink.now)) c.args.session.now in
+    let mid : SessionState = state (around (g.D.Disk.told now.disk) left (g.W.Sink.written now.sink)) now.session in
+    let new : SessionState = state (around (g.D.Disk.told c.do_next.new.disk) left (g.W.Sink.written c.do_next.new.sink)) c.do_next.new.session in
     on_ends c.args.session.now.pace bound old mid new c.in-Ends.status (now.invariant.turns left bound) (subst (λ (p : Pace). EndsIn p bound mid new c.in-Ends.status) now.invariant.leaves.pace (c.in-Ends.ensures.turns left bound))
 
 pub returns-in-Ends-clause-leaves : goal.returns-in-Ends-clause-leaves

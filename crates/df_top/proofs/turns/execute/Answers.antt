@@ -12,9 +12,6 @@ use Rattle.df_top.proofs.turns.execute.Goals as goal
 served : (line asked : Command) (s t : Replica) (old new : Option Told) (written took : Option (List ℕ)) (turn : Turn) → asked ≡ line → AnswersCommand asked s t old new written took turn → AnswersCommand line s t old new written took turn
 served line asked s t old new written took turn is did = subst (λ (c : Command). AnswersCommand c s t old new written took turn) is did
 
-pub returns-in-Scrub-clause-answers : goal.returns-in-Scrub-clause-answers
-returns-in-Scrub-clause-answers g c = served _ _ _ _ _ _ _ _ _ (sym (ap command_of c.in-Scrub.is) ∙ c.asked-command.ensures) c.scrub.ensures.answers
-
 pub returns-in-Recent-clause-answers : goal.returns-in-Recent-clause-answers
 returns-in-Recent-clause-answers g c = served _ _ _ _ _ _ _ _ _ (sym (ap command_of c.in-Recent.is) ∙ c.asked-command.ensures) (c.recent.ensures.answers (g.D.Disk.told c.args.disk.now))
 

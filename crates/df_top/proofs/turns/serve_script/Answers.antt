@@ -11,7 +11,7 @@ use Rattle.df_top.proofs.turns.serve_script.Goals as goal
 
 pub loop-status-init : goal.loop-status-init
 loop-status-init g c =
-    let outside : Outside = record { told = g.D.Disk.told c.args.disk.now; left = g.S.Source.left c.args.source.now; written = g.W.Sink.written c.args.sink.now } in
+    let outside : Outside = around (g.D.Disk.told c.args.disk.now) (g.S.Source.left c.args.source.now) (g.W.Sink.written c.args.sink.now) in
     record {
       so_far = ([], executed_none c.args.session.now.pace c.args.session.now.lines.reading.bound (state outside c.args.session.now));
       ready = c.requires.ready;

@@ -2,6 +2,7 @@
 use Rattle.std.proofs.Common.{◌≡◌, List}
 use Rattle.df_top.specs.Lines.{Turned}
 use Rattle.df_top.specs.Pacing.{IsIdleBeat}
+use Rattle.df_top.specs.Outside.{around}
 use Rattle.df_top.specs.Session.{Executed, state}
 use Rattle.df_top.specs.Turning.{IsReadySession}
 use Rattle.df_top.proofs.turns.serve_script.Given as goal
@@ -9,8 +10,8 @@ use Rattle.df_top.proofs.turns.serve_script.Given as goal
 abbrev pub invariant-loop-status : goal.invariant-loop-status
 invariant-loop-status g l = record {
   so_far : (turns : List Turned) × Executed l.fn.session.pace l.fn.session.lines.reading.bound
-      (state (record { told = g.D.Disk.told l.initial.disk; left = g.S.Source.left l.initial.source; written = g.W.Sink.written l.initial.sink }) l.initial.session)
-      (state (record { told = g.D.Disk.told l.disk; left = g.S.Source.left l.source; written = g.W.Sink.written l.sink }) l.session) turns;
+      (state (around (g.D.Disk.told l.initial.disk) (g.S.Source.left l.initial.source) (g.W.Sink.written l.initial.sink)) l.initial.session)
+      (state (around (g.D.Disk.told l.disk) (g.S.Source.left l.source) (g.W.Sink.written l.sink)) l.session) turns;
   ready : IsReadySession l.session (g.S.Source.left l.source);
   idle : IsIdleBeat l.session.beat l.session.replica;
   bound : l.session.lines.reading.bound ≡ l.fn.session.lines.reading.bound;

@@ -1,19 +1,16 @@
-// One line of a script on the scrubber: the call that it asks for, and the line that its answer prints.
+// The line of a script that asks for the ring of what the scrubber found last, and what it prints.
 ghost use Rattle.std.specs.Prelude.{◌≡◌, ◌<◌, ◌≤◌, ◌+◌, ◌++◌, ℕ, length, take, Option, Some, true};
 ghost use Rattle.df_disk.specs.Told.{Told};
-ghost use Rattle.df_model.specs.Commands.{Recent, Scrub, ToRecent};
+ghost use Rattle.df_model.specs.Commands.{Recent, ToRecent};
 ghost use Rattle.df_session.specs.Answering.{Serves};
 ghost use Rattle.df_top.specs.Findings.{items_of};
 ghost use Rattle.df_top.specs.Step.{AnswersCommand};
 ghost use Rattle.df_top.specs.Turning.{BlamesIfEnds};
 
 use crate::status::Status;
-use crate::telling::tell;
 use df_base::Sink;
-use df_disk::Disk;
 use df_inspect::print_recent;
 use df_layout::{Class, Finding};
-use df_model::{Answer, Command};
 use df_program::{Turn, printed};
 use df_session::Replica;
 
@@ -25,19 +22,6 @@ const UNUSED: Finding = Finding {
     address: 0,
     class: Class::Blank,
 };
-
-/// Takes a step of the scrubber's tour, and prints what it found.
-pub fn scrub<D: Disk, W: Sink>(disk: &mut D, sink: &mut W, replica: &mut Replica) -> Turn<Status>
-    requires live { replica.old.live ≡ true }
-    ensures answers { AnswersCommand Scrub replica.old replica.new (D.told disk.old) (D.told disk.new) (W.written sink.old) (W.written sink.new) result }
-    ensures disk { BlamesIfEnds Status.DiskFault (D.faults disk.old) (D.faults disk.new) result }
-    ensures sink { BlamesIfEnds Status.WriteFault (W.faults sink.old) (W.faults sink.new) result }
-{
-    match replica.scrub_step(disk) {
-        Ok(scrubbed) => tell(sink, &Command::Scrub, Ok(Answer::Scrub(scrubbed))),
-        Err(_) => Turn::Ends(Status::DiskFault),
-    }
-}
 
 // Puts a finding after the first `count` ones, where there is one, and says how many there are then.
 fn keep(row: &mut [Finding], count: usize, found: Option<Finding>) -> usize

@@ -3,7 +3,7 @@ use Rattle.std.proofs.Common.{◌≡◌, ◌≤◌, ◌<◌, ◌-◌, Option, So
 use Rattle.df_disk.specs.Told.{Told}
 use Rattle.df_model.specs.Commands.{Recent, ToRecent}
 use Rattle.df_session.specs.Answering.{Serves}
-use Rattle.df_top.proofs.scrub_calls.fill.Given as goal
+use Rattle.df_top.proofs.ring.fill.Given as goal
 
 abbrev pub invariant-loop-place : goal.invariant-loop-place
 invariant-loop-place l = record {

@@ -6,8 +6,8 @@ use Rattle.df_model.specs.Commands.{Recent}
 use Rattle.df_script_model.specs.Texts.{recent_text}
 use Rattle.df_top.specs.Step.{AnswersCommand}
 use Rattle.df_top.specs.Outside.{Turn}
-use Rattle.df_top.proofs.ScrubTurns.{ring_printed}
-use Rattle.df_top.proofs.scrub_calls.recent.Goals as goal
+use Rattle.df_top.proofs.RingTurns.{ring_printed}
+use Rattle.df_top.proofs.ring.recent.Goals as goal
 
 pub returns-clause-answers : goal.returns-clause-answers
 returns-clause-answers g c = λ told.

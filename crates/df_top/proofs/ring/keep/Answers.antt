@@ -2,8 +2,8 @@
 use Rattle.std.proofs.Common.{◌++◌, ◌∙◌, Option, ap, sym, take}
 use Rattle.df_layout.specs.declared.damage.Finding.{Finding}
 use Rattle.df_top.specs.Findings.{items_of}
-use Rattle.df_top.proofs.ScrubTurns.{take_set}
-use Rattle.df_top.proofs.scrub_calls.keep.Goals as goal
+use Rattle.df_top.proofs.RingTurns.{take_set}
+use Rattle.df_top.proofs.ring.keep.Goals as goal
 
 pub returns-in-Some-clause-kept : goal.returns-in-Some-clause-kept
 returns-in-Some-clause-kept c =

@@ -2,8 +2,8 @@
 use Rattle.std.proofs.Common.{◌≡◌, ◌≤◌, ◌<◌, ◌++◌, ◌∙◌, refl, sym, length, arith}
 use Rattle.std.proofs.lemmas.List.{take_all}
 use Rattle.df_top.specs.Findings.{items_of}
-use Rattle.df_top.proofs.ScrubTurns.{items_few, take_more}
-use Rattle.df_top.proofs.scrub_calls.fill.Goals as goal
+use Rattle.df_top.proofs.RingTurns.{items_few, take_more}
+use Rattle.df_top.proofs.ring.fill.Goals as goal
 
 pub loop-place-init : goal.loop-place-init
 loop-place-init c = record { within = omega arith; few = omega arith; room = c.requires.room; so_far = refl; ring = λ no. absurd (omega (arith, no)); call = λ no. absurd (omega (arith, no)) }
