@@ -1,5 +1,6 @@
 -- Filled rooms: rooms with a body after the place of a header.
 use Rattle.std.specs.Prelude.{◌+◌, ◌≤◌, ℕ, List, take, drop}
+use Rattle.df_base.specs.declared.TheConstants.{HEADER}
 use Rattle.df_layout.specs.declared.layout.Layout.{Layout}
 use Rattle.df_layout.specs.declared.places.Zone.{Zone}
 use Rattle.df_format.specs.Whole.{greatest_size}
@@ -12,9 +13,9 @@ pub record Filling : Type 0 where
 
 -- the body of so many bytes that follows the place of a header
 abbrev pub filling_of : Layout → ℕ → List ℕ → Filling
-filling_of layout count bytes = record { layout = layout; body = take count (drop 256 bytes) }
+filling_of layout count bytes = record { layout = layout; body = take count (drop HEADER bytes) }
 
 -- the room has the length of its layout's, and a unit with the body fits a place of the zone
 pub record IsFilled (zone : Zone) (layout : Layout) (count : ℕ) (bytes : List ℕ) : Type 0 where
   pub fills : FillsRoom layout zone bytes
-  pub fits : 256 + count ≤ greatest_size layout zone
+  pub fits : HEADER + count ≤ greatest_size layout zone

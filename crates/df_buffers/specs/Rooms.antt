@@ -1,5 +1,6 @@
 -- Rooms: the bytes of one place of a layout.
 use Rattle.std.specs.Prelude.{◌≡◌, ◌*◌, ℕ, List, length, take, drop}
+use Rattle.df_base.specs.declared.TheConstants.{HEADER, SECTOR}
 use Rattle.df_layout.specs.declared.layout.Layout.{Layout}
 use Rattle.df_layout.specs.declared.places.Zone.{Zone}
 use Rattle.df_layout.specs.declared.places.Zone.TheVariants.{WalPrepares, ClientReplies, Grid}
@@ -17,7 +18,7 @@ StandsIn kind zone = ⊥
 
 -- the bytes of the sectors of a place of the zone
 abbrev pub room_size : Layout → Zone → ℕ
-room_size layout zone = 4096 * place_sectors layout zone
+room_size layout zone = SECTOR * place_sectors layout zone
 
 -- the bytes fill a room of the zone
 abbrev pub FillsRoom : Layout → Zone → List ℕ → Type 0
@@ -30,4 +31,4 @@ pub record Room : Type 0 where
 
 -- the bytes of one of the sixteen headers of a sector
 abbrev pub header_bytes : ℕ → List ℕ → List ℕ
-header_bytes place bytes = take 256 (drop (256 * place) bytes)
+header_bytes place bytes = take HEADER (drop (HEADER * place) bytes)

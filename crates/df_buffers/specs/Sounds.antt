@@ -1,5 +1,6 @@
 -- Sound rooms: rooms whose bytes are a unit that is valid at its own place.
 use Rattle.std.specs.Prelude.{◌≡◌, ◌-◌, ◌%◌, ◌<◌, ◌≤◌, ◌+◌, ℕ, List, length, replicate, take, drop, Some}
+use Rattle.df_base.specs.declared.TheConstants.{HEADER, SECTOR}
 use Rattle.df_layout.specs.declared.layout.Layout.{Layout}
 use Rattle.df_layout.specs.declared.places.Place.{Place}
 use Rattle.df_layout.specs.declared.places.Zone.{Zone}
@@ -19,7 +20,7 @@ pub record Holding : Type 0 where
 
 -- the unit of a header, whose body follows the header's 256 bytes
 abbrev pub unit_with : Header → List ℕ → Message
-unit_with header bytes = record { header = header; body = take (header.size - 256) (drop 256 bytes) }
+unit_with header bytes = record { header = header; body = take (header.size - HEADER) (drop HEADER bytes) }
 
 -- the bytes of a room that hold the unit of a header
 abbrev pub holding_of : Layout → Header → List ℕ → Holding
@@ -37,7 +38,7 @@ pub record IsSound (zone : Zone) (kind : Kind) (holding : Holding) : Type 0 wher
 -- the bytes are whole sectors, one at least, and no more than a room of the zone has
 pub record AreWholeSectors (zone : Zone) (layout : Layout) (bytes : List ℕ) : Type 0 where
   pub some : 0 < length bytes
-  pub whole : length bytes % 4096 ≡ 0
+  pub whole : length bytes % SECTOR ≡ 0
   pub fits : length bytes ≤ room_size layout zone
 
 -- the bytes bring the room's unit to its own place in the zone
@@ -53,4 +54,4 @@ EndsInZeros size bytes = drop size bytes ≡ replicate (length bytes - size) 0
 
 -- the sectors of the unit hold zeros after it
 abbrev pub IsTidy : Holding → Type 0
-IsTidy holding = EndsInZeros (256 + length holding.unit.body) (take (sectors_end holding.unit.header.size) holding.bytes)
+IsTidy holding = EndsInZeros (HEADER + length holding.unit.body) (take (sectors_end holding.unit.header.size) holding.bytes)

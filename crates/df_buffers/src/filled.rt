@@ -1,5 +1,6 @@
 // Rooms with a body in them: the header that is to stand before it is made later, so that the body is copied once.
 ghost use Rattle.std.specs.Prelude.{◌≡◌, ◌≤◌, ◌+◌, length, take, drop, IsSome};
+ghost use Rattle.df_base.specs.declared.TheConstants.{HEADER};
 ghost use Rattle.df_buffers.specs.Below.{sealed, ObeysRules, sectors_of, sectors_end, own_place, greatest_size, for_body, MadeIsUnit};
 
 use crate::{Raw, Sound, UnitKind};
@@ -29,8 +30,8 @@ impl<K: UnitKind> Model for Filled<K> {
 
 // Copies a body after the place of a header.
 fn put_body(bytes: &mut [u8], body: &[u8])
-    requires { 256 + length body.now ≤ length bytes.old }
-    ensures body { take (length body.now) (drop 256 bytes.new) ≡ body.now }
+    requires { HEADER + length body.now ≤ length bytes.old }
+    ensures body { take (length body.now) (drop HEADER bytes.new) ≡ body.now }
     ensures size { length bytes.new ≡ length bytes.old }
 {
     bytes[HEADER..HEADER + body.len()].copy_from_slice(body);
@@ -39,7 +40,7 @@ fn put_body(bytes: &mut [u8], body: &[u8])
 impl<K: UnitKind> Raw<K> {
     /// Puts a body into the room, after the place of its header.
     pub fn fill(self, body: &[u8]) -> Filled<K>
-        requires { 256 + length body.now ≤ greatest_size self.layout K.ZONE }
+        requires { HEADER + length body.now ≤ greatest_size self.layout K.ZONE }
         ensures { result ≡ record { layout = self.layout; body = body.now } }
     {
         let Raw {
@@ -73,7 +74,7 @@ impl<K: UnitKind> Filled<K> {
         requires own { IsSome (own_place self.layout K.ZONE header) }
         ensures unit { result.unit ≡ record { header = sealed (for_body header self.body); body = self.body } }
         ensures valid { MadeIsUnit result.unit }
-        ensures sectors { take (sectors_end (256 + length self.body)) result.bytes ≡ sectors_of result.unit }
+        ensures sectors { take (sectors_end (HEADER + length self.body)) result.bytes ≡ sectors_of result.unit }
         ensures layout { result.layout ≡ self.layout }
     {
         let Filled {

@@ -1,5 +1,6 @@
 // The sixteen headers of a sector of the header ring.
 ghost use Rattle.std.specs.Prelude.{◌≡◌, ◌<◌, [], length, IfOk, IfErr};
+ghost use Rattle.df_base.specs.declared.TheConstants.{HEADER, SECTOR};
 ghost use Rattle.df_buffers.specs.Below.{Message};
 ghost use Rattle.df_buffers.specs.Rooms.{header_bytes};
 ghost use Rattle.df_buffers.specs.Found.{FindsUnit, IsValidUnit, class_for, shown_in};
@@ -12,10 +13,10 @@ use df_layout::{Class, Zone};
 
 // The bytes of one of a sector's headers.
 fn header_bytes(bytes: &[u8], place: u64) -> &[u8]
-    requires sector { length bytes.now ≡ 4096 }
+    requires sector { length bytes.now ≡ SECTOR }
     requires place { place < 16 }
     ensures value { result.now ≡ header_bytes place bytes.now }
-    ensures size { length result.now ≡ 256 }
+    ensures size { length result.now ≡ HEADER }
 {
     let at = HEADER * place as usize;
     &bytes[at..at + HEADER]
@@ -23,7 +24,7 @@ fn header_bytes(bytes: &[u8], place: u64) -> &[u8]
 
 // The header wanted, from its own bytes.
 fn find_header(identity: &Identity, bytes: &[u8]) -> Result<Header, Class>
-    requires size { length bytes.now ≡ 256 }
+    requires size { length bytes.now ≡ HEADER }
     requires zone { identity.now.place.zone ≡ Zone.WalHeaders }
     ensures found { IfOk result (λ h. FindsUnit identity.now bytes.now (record { header = h; body = [] })) }
     ensures there { IfOk result (λ h. IsValidUnit identity.now (record { header = h; body = [] })) }

@@ -1,5 +1,6 @@
 // Units as they are made in a room.
 ghost use Rattle.std.specs.Prelude.{◌≡◌, ◌≤◌, ◌+◌, length, take, drop, IsSome};
+ghost use Rattle.df_base.specs.declared.TheConstants.{HEADER};
 ghost use Rattle.df_buffers.specs.Below.{sealed, ObeysRules, sectors_of, sectors_end, own_place, greatest_size, for_body, MadeIsUnit};
 
 use crate::{Raw, Sound, UnitKind};
@@ -12,11 +13,11 @@ impl<K: UnitKind> Raw<K> {
         requires rules { ObeysRules (for_body header body.now) }
         requires kind { header.kind ≡ K.KIND }
         requires own { IsSome (own_place self.layout K.ZONE header) }
-        requires fits { 256 + length body.now ≤ greatest_size self.layout K.ZONE }
+        requires fits { HEADER + length body.now ≤ greatest_size self.layout K.ZONE }
         ensures unit { result.unit ≡ record { header = sealed (for_body header body.now); body = body.now } }
         ensures valid { MadeIsUnit result.unit }
-        ensures sectors { take (sectors_end (256 + length body.now)) result.bytes ≡ sectors_of result.unit }
-        ensures rest { drop (sectors_end (256 + length body.now)) result.bytes ≡ drop (sectors_end (256 + length body.now)) self.bytes }
+        ensures sectors { take (sectors_end (HEADER + length body.now)) result.bytes ≡ sectors_of result.unit }
+        ensures rest { drop (sectors_end (HEADER + length body.now)) result.bytes ≡ drop (sectors_end (HEADER + length body.now)) self.bytes }
         ensures layout { result.layout ≡ self.layout }
     {
         let Raw {

@@ -1,5 +1,6 @@
 // The rooms that the superblock is read into before the layout of its file is known.
 ghost use Rattle.std.specs.Prelude.{◌≡◌, ◌<◌, Some, length, replicate, slice_get, All, IfOk};
+ghost use Rattle.df_base.specs.declared.TheConstants.{SECTOR};
 ghost use Rattle.df_buffers.specs.Below.{Superblock};
 ghost use Rattle.df_buffers.specs.Rooms.{room_size};
 
@@ -54,7 +55,7 @@ impl ProbeRoom {
     pub fn sector(&self, number: u8) -> &Raw<SuperSector>
         requires { number < 4 }
         ensures value { slice_get self.now number ≡ Some result.now }
-        ensures size { length result.now.bytes ≡ 4096 }
+        ensures size { length result.now.bytes ≡ SECTOR }
     {
         let sector = &self.copies[usize::from(number)];
         let _ = &sector.bytes;
@@ -65,7 +66,7 @@ impl ProbeRoom {
     pub fn sector_mut(&mut self, number: u8) -> &mut Raw<SuperSector>
         requires { number < 4 }
         ensures value { slice_get self.old number ≡ Some result.now }
-        ensures size { length result.now.bytes ≡ 4096 }
+        ensures size { length result.now.bytes ≡ SECTOR }
     {
         let sector = &mut self.copies[usize::from(number)];
         let _ = &sector.bytes;

@@ -1,5 +1,6 @@
 // Sound rooms: their bytes are a unit that is valid at its own place. They lend its parts without copying.
 ghost use Rattle.std.specs.Prelude.{◌≡◌, ◌≤◌, ◌-◌, ◌++◌, length, replicate, take, drop};
+ghost use Rattle.df_base.specs.declared.TheConstants.{HEADER};
 ghost use Rattle.df_buffers.specs.Below.{AreBytes, sectors_end};
 ghost use Rattle.df_buffers.specs.Sounds.{AreWholeSectors, BringsOwn, IsSound, IsTidy};
 
@@ -31,8 +32,8 @@ impl<K: UnitKind> Model for Sound<K> {
 
 // What follows the header in a unit of this size.
 fn body_in(bytes: &[u8], size: u32) -> &[u8]
-    requires { (256 ≤ size) × (size ≤ length bytes.now) }
-    ensures { result.now ≡ take (size - 256) (drop 256 bytes.now) }
+    requires { (HEADER ≤ size) × (size ≤ length bytes.now) }
+    ensures { result.now ≡ take (size - HEADER) (drop HEADER bytes.now) }
 {
     &bytes[HEADER..size as usize]
 }

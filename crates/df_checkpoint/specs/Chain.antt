@@ -1,6 +1,7 @@
 -- The chain of a checkpoint's trailer: what is asked for, what is shown of it, and where it breaks.
 use Rattle.std.specs.Prelude.{◌≡◌, ◌==◌, ◌&&◌, ◌||◌, ◌+◌, ◌-◌, ℕ, Bool, true, false, nat_le, List, [], ◌∷◌, length, Option, Some, None, Result, Ok, Err}
 use Rattle.std.specs.List.{list_any}
+use Rattle.df_base.specs.declared.TheConstants.{HEADER}
 use Rattle.arrayvec.specs.ArrayVec.{ArrayVec}
 use Rattle.df_disk.specs.Told.{Told}
 use Rattle.df_layout.specs.declared.damage.Class.{Class}
@@ -55,7 +56,7 @@ error_of DiskFault = opens.DiskFault
 -- the tests of a link: sequence, index, size, and a block of the grid before it, but for the first one
 abbrev pub is_link : Layout → SuperFields → ℕ → Header → ℕ → Bool
 is_link layout f index h size =
-    (h.checkpoint == f.sequence) && ((h.mark == index) && ((size == piece_size (layout.block_size - 256) f.trailer_size index) && ((index == 0) || (nat_le 1 h.request && nat_le h.request layout.blocks))))
+    (h.checkpoint == f.sequence) && ((h.mark == index) && ((size == piece_size (layout.block_size - HEADER) f.trailer_size index) && ((index == 0) || (nat_le 1 h.request && nat_le h.request layout.blocks))))
 
 -- the reference that a block has to the one before
 abbrev pub before_of : Message → Link

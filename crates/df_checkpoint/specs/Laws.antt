@@ -1,5 +1,6 @@
 -- What a refusal of a trailer says of the theory's checkpoint.
 use Rattle.std.specs.Prelude.{◌≡◌, ◌<◌, ◌≤◌, ◌^◌, ℕ, List}
+use Rattle.df_base.specs.declared.TheConstants.{GREATEST}
 use Rattle.df_layout.specs.declared.damage.Class.{Class}
 use Rattle.df_layout.specs.declared.fields.Field.{Field}
 use Rattle.df_theory.specs.Units.{Block, Content}
@@ -25,7 +26,7 @@ DamageIsMissed = (sh : Shape) (shown : Shown) (c : Content) (a : ℕ) (class : C
 
 -- a text that is refused is that of no checkpoint that can be read
 abbrev pub BadTextIsUnreadable : Type 0
-BadTextIsUnreadable = (sh : Shape) (shown : Shown) (c : Content) (field : Field) (value : ℕ) → sh.parse ≡ parse_of sh.layout → 0 < c.trailer → c.op ≤ 2 ^ 62 → IsBadText sh shown c field value → (b : Checkpoint) → b.content ≡ c → IsReadable sh shown.units b → ⊥
+BadTextIsUnreadable = (sh : Shape) (shown : Shown) (c : Content) (field : Field) (value : ℕ) → sh.parse ≡ parse_of sh.layout → 0 < c.trailer → c.op ≤ GREATEST → IsBadText sh shown c field value → (b : Checkpoint) → b.content ≡ c → IsReadable sh shown.units b → ⊥
 
 -- and so is a chain that is refused, for a link or for an address that is referenced
 abbrev pub ReferencedIsUnreadable : Type 0
@@ -39,7 +40,7 @@ UntrackedIsUnreadable = (sh : Shape) (shown : Shown) (c : Content) (n : ℕ) →
 
 -- what is shown of a trailer fails one test first, which tells one value
 abbrev pub OneTestFails : Type 0
-OneTestFails = (sh : Shape) (shown : Shown) (c : Content) (field other : Field) (value number : ℕ) → sh.parse ≡ parse_of sh.layout → c.op ≤ 2 ^ 62 → FailsTest sh shown c field value → FailsTest sh shown c other number → (field ≡ other) × (value ≡ number)
+OneTestFails = (sh : Shape) (shown : Shown) (c : Content) (field other : Field) (value number : ℕ) → sh.parse ≡ parse_of sh.layout → c.op ≤ GREATEST → FailsTest sh shown c field value → FailsTest sh shown c other number → (field ≡ other) × (value ≡ number)
 
 -- each block that is wanted is shown
 abbrev pub AllChainShown : Shape → Shown → Content → Type 0

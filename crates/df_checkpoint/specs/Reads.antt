@@ -1,5 +1,6 @@
 -- What is read of a checkpoint's trailer: all of it, or where the reading ends.
 use Rattle.std.specs.Prelude.{◌≡◌, ◌⊎◌, ◌-◌, ◌<◌, ◌≤◌, ℕ, true, List, [], length, map, Some, None, Result, Ok, Err}
+use Rattle.df_base.specs.declared.TheConstants.{HEADER}
 use Rattle.df_layout.specs.declared.fields.Field.{Field}
 use Rattle.df_layout.specs.declared.fields.Field.TheVariants.{TrailerChain}
 use Rattle.df_theory.specs.Units.{Block, BlockPlace, BlockUnit, Content, Layout, Parts}
@@ -20,8 +21,8 @@ use Rattle.df_checkpoint.specs.Chain.{IsBroken, IsLacking, Names}
 
 -- the chain that the superblock names is shown whole, each block a link of it
 pub record IsWholeChain (sh : Shape) (shown : Shown) (c : Content) (chain : List (ℕ × Block)) : Type 0 where
-  pub links : Links (sh.layout.block_size - 256) c chain c.trailer c.trailer_checksum
-  pub count : IsCount (sh.layout.block_size - 256) c.trailer_size (length chain)
+  pub links : Links (sh.layout.block_size - HEADER) c chain c.trailer c.trailer_checksum
+  pub count : IsCount (sh.layout.block_size - HEADER) c.trailer_size (length chain)
   pub inside : (a : ℕ) (b : Block) → InChain a b chain → a ≤ sh.layout.blocks
   pub size : length (text_of chain) ≡ c.trailer_size
   pub shows : (a : ℕ) (b : Block) → InChain a b chain → shown.units (BlockPlace a) ≡ Some (BlockUnit b)

@@ -1,5 +1,6 @@
 -- The piece of a checkpoint's text that is written next, and the trailer block over it.
 use Rattle.std.specs.Prelude.{ℕ, ◌-◌, List}
+use Rattle.df_base.specs.declared.TheConstants.{HEADER}
 use Rattle.df_format.specs.Message.{Message}
 use Rattle.df_model.specs.Blocks.{sum_at}
 use Rattle.df_units.specs.Meaning.{layout_of}
@@ -15,7 +16,7 @@ text_in g capture = spell (layout_of g.layout) (captured_parts capture.root.item
 
 -- the piece with an index: a block's body, or what is left for the last one
 abbrev pub piece_in : GridState → Capture → ℕ → List ℕ
-piece_in g capture index = piece_of (g.layout.block_size - 256) index (text_in g capture)
+piece_in g capture index = piece_of (g.layout.block_size - HEADER) index (text_in g capture)
 
 -- the running trailer's next block over it
 abbrev pub unit_in : GridState → Capture → ℕ → Message

@@ -1,5 +1,6 @@
 // The walk from the last block of the chain, which the superblock refers to, back to index 0.
 ghost use Rattle.std.specs.Prelude.{◌≡◌, ◌+◌, ◌-◌, ◌≤◌, ◌<◌, ℕ, length, IfOk, OnOk};
+ghost use Rattle.df_base.specs.declared.TheConstants.{HEADER};
 ghost use Rattle.df_checkpoint.specs.Below.{array_vec_len, IsBlamed, Shape, IsCount, layout_of, AreFieldsOf, HasAddress};
 ghost use Rattle.df_checkpoint.specs.Chain.{AreDistinctLinks, HasWalked, OfTold, StepAnswer, WalkAnswer, content_in, is_among, is_trailer_fault};
 
@@ -33,7 +34,7 @@ fn take_link<D: Disk>(
     requires file { AreFieldsOf grid.old.layout grid.old.cluster content.now }
     requires apart { AreDistinctLinks grid.old blocks.old.items }
     ensures step { (sh : Shape) → sh.layout ≡ layout_of grid.old.layout → OfTold grid.old (D.told disk.old) (λ shown. (n : ℕ)
-        → IsCount (grid.old.layout.block_size - 256) content.now.trailer_size n → n ≡ length blocks.old.items + (index + 1)
+        → IsCount (grid.old.layout.block_size - HEADER) content.now.trailer_size n → n ≡ length blocks.old.items + (index + 1)
         → HasWalked sh shown (content_in content.now) n blocks.old.items at → StepAnswer sh shown (content_in content.now) n index blocks.new.items result) }
     ensures inside { IfOk result (λ before. 0 < index → HasAddress grid.old before.address) }
     ensures apart { OnOk result (AreDistinctLinks grid.old blocks.new.items) }
@@ -62,7 +63,7 @@ pub(crate) fn walk<D: Disk>(
 ) -> Result<ArrayVec<Link, LINKS>, TrailerFault>
     requires inside { HasAddress grid.old content.now.trailer_address }
     requires few { (0 < count) × (count ≤ 70) }
-    requires count { IsCount (grid.old.layout.block_size - 256) content.now.trailer_size count }
+    requires count { IsCount (grid.old.layout.block_size - HEADER) content.now.trailer_size count }
     requires file { AreFieldsOf grid.old.layout grid.old.cluster content.now }
     ensures walked { (sh : Shape) → sh.layout ≡ layout_of grid.old.layout → OfTold grid.old (D.told disk.old) (λ shown. WalkAnswer sh shown (content_in content.now) count result) }
     ensures apart { IfOk result (λ blocks. AreDistinctLinks grid.old blocks.items) }

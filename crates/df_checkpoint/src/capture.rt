@@ -1,5 +1,6 @@
 // What a checkpoint captured, and how a piece of its trailer's text is written: one block, which refers to the one before.
 ghost use Rattle.std.specs.Prelude.{◌≡◌, ◌≢◌, ◌-◌, ◌≤◌, ◌<◌, ◌^◌, [], length, OnErr, OnOk};
+ghost use Rattle.df_base.specs.declared.TheConstants.{GREATEST, HEADER};
 ghost use Rattle.df_checkpoint.specs.Below.{HasCause, Adds, AreSteps, format_of, block_of, number_of, with_blocks, next_written, block_steps, made_events, next_block};
 ghost use Rattle.df_checkpoint.specs.Writing.{piece_in, unit_in};
 
@@ -33,8 +34,8 @@ pub fn write_piece<D: Disk>(
 ) -> Result<(), Failed>
     requires next { grid.old.blocks.left ≢ [] }
     requires index { (index ≡ length grid.old.blocks.written) × (index < 70) }
-    requires sequence { (2 ≤ capture.now.sequence) × (capture.now.sequence ≤ 2 ^ 62) }
-    requires room { grid.old.layout.block_size - 256 ≤ length room.old }
+    requires sequence { (2 ≤ capture.now.sequence) × (capture.now.sequence ≤ GREATEST) }
+    requires room { grid.old.layout.block_size - HEADER ≤ length room.old }
     ensures events { Adds (made_events grid.old.layout (unit_in grid.old capture.now index)) (D.told disk.old) (D.told disk.new) result }
     ensures steps { AreSteps (format_of grid.old.layout grid.old.cluster) (made_events grid.old.layout (unit_in grid.old capture.now index)) (block_steps (unit_in grid.old capture.now index)) }
     ensures unit { block_of (unit_in grid.old capture.now index) ≡ next_block grid.old capture.now.sequence (piece_in grid.old capture.now index) (number_of (unit_in grid.old capture.now index).header.checksum) }

@@ -1,5 +1,6 @@
 // The text of the chain, from its first block to its last one: each is shown again, and its body given to the reader.
 ghost use Rattle.std.specs.Prelude.{◌≡◌, ◌+◌, ◌-◌, ◌≤◌, ◌<◌, ◌^◌, [], ℕ, length, get_or};
+ghost use Rattle.df_base.specs.declared.TheConstants.{GREATEST};
 ghost use Rattle.df_checkpoint.specs.Below.{IsBlamed, HasAddress, HasRead, bytes_read};
 ghost use Rattle.df_checkpoint.specs.Chain.{AreDistinctLinks, is_trailer_fault};
 ghost use Rattle.df_checkpoint.specs.Texts.{FeedAnswer, FedAnswer, Feeds, TextAnswer, bad_of};
@@ -25,7 +26,7 @@ fn as_bad(answer: Result<(), Fault>) -> Result<(), TrailerFault>
 
 // Gives the reader the next piece of the text.
 fn feed(reader: &mut Reader, piece: &[u8]) -> Result<(), TrailerFault>
-    requires { bytes_read reader.old + length piece.now < 2 ^ 62 }
+    requires { bytes_read reader.old + length piece.now < GREATEST }
     ensures feeds { Feeds reader.old reader.new piece.now result }
     ensures layout { reader.new.layout ≡ reader.old.layout }
 {

@@ -1,5 +1,6 @@
 // One link of the chain: the block that is asked for, and the reference that it has to the one before.
 ghost use Rattle.std.specs.Prelude.{◌≡◌, ◌-◌, ◌<◌, ◌≤◌, IfNone, IfOk, IfSome};
+ghost use Rattle.df_base.specs.declared.TheConstants.{HEADER};
 ghost use Rattle.df_checkpoint.specs.Below.{IsBlamed, TrailerChain, Shape, piece_size, layout_of, AreFieldsOf, HasAddress};
 ghost use Rattle.df_checkpoint.specs.Chain.{IsLinkOf, IsNoLink, LinkAnswer, OfTold, before_of, content_in, is_link, is_trailer_fault};
 
@@ -34,7 +35,7 @@ impl Link {
 // Bytes of the piece with an index: a block's body, or what is left for the last one.
 fn piece_size(layout: &Layout, content: &SuperFields, index: u64) -> u64
     requires { index < 70 }
-    ensures { result ≡ piece_size (layout.now.block_size - 256) content.now.trailer_size index }
+    ensures { result ≡ piece_size (layout.now.block_size - HEADER) content.now.trailer_size index }
 {
     let room = u64::from(layout.block_size - HEADER as u32);
     room.min(content.trailer_size.saturating_sub(room * index))

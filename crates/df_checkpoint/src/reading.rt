@@ -1,5 +1,6 @@
 // A checkpoint's trailer is read: the chain backwards, the text forwards, and what both name into the grid.
 ghost use Rattle.std.specs.Prelude.{◌≡◌, ◌≢◌, ◌-◌, ◌≤◌, ◌<◌, [], IfOk, OnErr, OnOk};
+ghost use Rattle.df_base.specs.declared.TheConstants.{HEADER};
 ghost use Rattle.df_checkpoint.specs.Below.{array_vec_len, IsBlamed, IsSuper, Shape, IsCount, layout_of, AreFieldsOf, HasRead, parse_of, IsIdle, no_blocks};
 ghost use Rattle.df_checkpoint.specs.Adopting.{SameFile};
 ghost use Rattle.df_checkpoint.specs.Chain.{AreDistinctLinks, OfTold, content_in, is_trailer_fault};
@@ -20,7 +21,7 @@ use df_trailer::Reader;
 
 /// How many blocks the trailer has that a superblock names; none where it names none.
 pub fn block_count(layout: &Layout, content: &SuperFields) -> u64
-    ensures { IsCount (layout.now.block_size - 256) content.now.trailer_size result }
+    ensures { IsCount (layout.now.block_size - HEADER) content.now.trailer_size result }
 {
     content
         .trailer_size

@@ -1,5 +1,6 @@
 -- What each act of a copy does: a reply or a block that is read and written, all of them, the trailer, and the superblock.
 use Rattle.std.specs.Prelude.{◌≡◌, ◌<◌, ◌≤◌, ◌+◌, ℕ, Bool, true, List, length, slice_get, slice_set, Option, None, Some, Result, Ok, Err, OnOk}
+use Rattle.df_base.specs.declared.TheConstants.{HEADER}
 use Rattle.df_base.specs.Causes.{IsBlamed}
 use Rattle.df_base.specs.Log.{Event}
 use Rattle.df_disk.specs.Told.{Told}
@@ -81,15 +82,15 @@ pub record HasReplyPlace (layout : Layout) (u : Message) : Type 0 where
 
 -- it is written into its place, and its checksum is kept; or it is too long, and nothing is written; or the disk fails
 abbrev pub PutsReply : {T : Type 0} → Message → (t u : Target) → (old new : Option Told) → Result T Ending → Type 0
-PutsReply r t u old new (Ok x) = (256 + length r.body ≤ t.layout.message_size) × (new ≡ after_all (reply_events t.layout r) old) × (u.checks ≡ slice_set t.checks r.header.slot r.header.checksum)
-PutsReply r t u old new (Err TargetFails) = (256 + length r.body ≤ t.layout.message_size) × AddsPart (reply_events t.layout r) old new
-PutsReply r t u old new (Err (ReplyTooLong place n)) = (place ≡ r.header.slot) × (n ≡ 256 + length r.body) × (t.layout.message_size < n) × (new ≡ old)
+PutsReply r t u old new (Ok x) = (HEADER + length r.body ≤ t.layout.message_size) × (new ≡ after_all (reply_events t.layout r) old) × (u.checks ≡ slice_set t.checks r.header.slot r.header.checksum)
+PutsReply r t u old new (Err TargetFails) = (HEADER + length r.body ≤ t.layout.message_size) × AddsPart (reply_events t.layout r) old new
+PutsReply r t u old new (Err (ReplyTooLong place n)) = (place ≡ r.header.slot) × (n ≡ HEADER + length r.body) × (t.layout.message_size < n) × (new ≡ old)
 PutsReply r t u old new (Err e) = ⊥
 
 -- a stored reply that fits the layout
 pub record FitsReply (layout : Layout) (s : State) (told : Option Told) (place : ℕ) (u : Message) : Type 0 where
   pub is : IsReplyAt s told place u
-  pub fits : 256 + length u.body ≤ layout.message_size
+  pub fits : HEADER + length u.body ≤ layout.message_size
 
 -- the reply of the session at a place: it is read and written; or one of the two disks fails; or the test of what is found of it ends the copy, and nothing is written
 abbrev pub CopiesReply : {T : Type 0} → Layout → (place : ℕ) → State → (before behind : List (List ℕ)) → (from old new : Option Told) → Result T Ending → Type 0
@@ -106,7 +107,7 @@ pub record SetsCheck (sessions : ℕ) (before behind : List (List ℕ)) : Type 0
 -- the replies of the first places, each of which fits
 pub record FitReplies (layout : Layout) (s : State) (told : Option Told) (us : List Message) : Type 0 where
   pub are : AreReplies s told us
-  pub fit : (k : ℕ) (u : Message) → slice_get us k ≡ Some u → 256 + length u.body ≤ layout.message_size
+  pub fit : (k : ℕ) (u : Message) → slice_get us k ≡ Some u → HEADER + length u.body ≤ layout.message_size
 
 -- those of all places, and no test holds; or of the first of them, where one of the two disks fails, or a test ends the copy after them
 abbrev pub CopiesReplies : {T : Type 0} → Layout → State → (checks : List (List ℕ)) → (from old new : Option Told) → Result T Ending → Type 0
@@ -141,15 +142,15 @@ pub record HasNext (u : Message) (t n : Target) : Type 0 where
 
 -- it is written to the next address; or it is too long, and nothing is written; or the disk fails
 abbrev pub PutsBlock : {T : Type 0} → (address : ℕ) → Message → (t n : Target) → (old new : Option Told) → Result T Ending → Type 0
-PutsBlock address b t n old new (Ok x) = (256 + length b.body ≤ t.layout.block_size) × (new ≡ after_all (made_events t.layout (moved (t.copied + 1) b)) old) × HasNext b t n
-PutsBlock address b t n old new (Err TargetFails) = (256 + length b.body ≤ t.layout.block_size) × AddsPart (made_events t.layout (moved (t.copied + 1) b)) old new
-PutsBlock address b t n old new (Err (BlockTooLong a size)) = (a ≡ address) × (size ≡ 256 + length b.body) × (t.layout.block_size < size) × (new ≡ old)
+PutsBlock address b t n old new (Ok x) = (HEADER + length b.body ≤ t.layout.block_size) × (new ≡ after_all (made_events t.layout (moved (t.copied + 1) b)) old) × HasNext b t n
+PutsBlock address b t n old new (Err TargetFails) = (HEADER + length b.body ≤ t.layout.block_size) × AddsPart (made_events t.layout (moved (t.copied + 1) b)) old new
+PutsBlock address b t n old new (Err (BlockTooLong a size)) = (a ≡ address) × (size ≡ HEADER + length b.body) × (t.layout.block_size < size) × (new ≡ old)
 PutsBlock address b t n old new (Err e) = ⊥
 
 -- a live block that fits the layout
 pub record FitsBlock (layout : Layout) (s : State) (told : Option Told) (address : ℕ) (u : Message) : Type 0 where
   pub is : IsBlockAt s told address u
-  pub fits : 256 + length u.body ≤ layout.block_size
+  pub fits : HEADER + length u.body ≤ layout.block_size
 
 -- the block at a live address: it is read, and written to the next one; or one of the two disks fails; or the test of what is found of it ends the copy, and nothing is written
 abbrev pub CopiesBlock : {T : Type 0} → Layout → (address : ℕ) → State → (t n : Target) → (from old new : Option Told) → Result T Ending → Type 0
@@ -166,7 +167,7 @@ CopiesAt layout address (Some sum) s t n from old new result = CopiesBlock layou
 -- the first of the live blocks, each of which fits
 pub record FitBlocks (layout : Layout) (s : State) (told : Option Told) (us : List Message) : Type 0 where
   pub are : AreLiveBlocks s told us
-  pub fit : (i : ℕ) (u : Message) → slice_get us i ≡ Some u → 256 + length u.body ≤ layout.block_size
+  pub fit : (i : ℕ) (u : Message) → slice_get us i ≡ Some u → HEADER + length u.body ≤ layout.block_size
 
 -- all of them, and no test holds; or the first of them, where one of the two disks fails, or a test ends the copy after them
 abbrev pub CopiesBlocks : {T : Type 0} → Layout → State → List Message → Target → (from old new : Option Told) → Result T Ending → Type 0

@@ -1,5 +1,6 @@
 -- Where the life of a copied file begins: at an image that shows the copy.
 use Rattle.std.specs.Prelude.{◌≡◌}
+use Rattle.df_base.specs.declared.TheConstants.{VERSION}
 use Rattle.df_base.specs.Image.{Image}
 use Rattle.df_layout.specs.declared.layout.Layout.{Layout}
 use Rattle.df_theory.specs.Holds.{Stands}
@@ -13,7 +14,7 @@ use Rattle.df_copy.specs.Views.{ShowsCopy, file_in}
 -- The image may be taken as that of a file: it is of version 2, a log may be restarted there, and each block that is referenced is shown. And a history begins there: all that it shows, blocks aside, is of earlier boots than its
 -- superblock, which counts all that there is.
 pub record MayGoOn (file : DataFile) (view : View) (image : Image) : Type 0 where
-  pub version : file.version ≡ 2
+  pub version : file.version ≡ VERSION
   pub begins : MayRestart file view image
   pub stands : Stands (unit_at file.layout file.cluster image) view
   pub history : BeginsHistory (shape file) (unit_at file.layout file.cluster image)

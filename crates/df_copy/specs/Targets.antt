@@ -1,6 +1,7 @@
 -- The target: what its grid knows of the blocks that were written, its trailer, its superblock, and all that is written of it, in order.
 use Rattle.std.specs.Prelude.{◌≡◌, ℕ, zero, suc, ◌+◌, ◌-◌, max, List, [], ◌∷◌, ◌++◌, length, map, slice_get, take, Option, Some, None}
 use Rattle.std.specs.List.{range_with_len}
+use Rattle.df_base.specs.declared.TheConstants.{HEADER}
 use Rattle.df_base.specs.Log.{Event, Sync}
 use Rattle.df_layout.specs.declared.layout.Layout.{Layout}
 use Rattle.df_format.specs.declared.superblock.SuperFields.{SuperFields}
@@ -103,7 +104,7 @@ begun_grid g boot blocks = with_blocks (with_boot g boot) (blocks_captured g.blo
 
 -- the next block of a trailer, over its piece of the text, and the grid after it
 abbrev pub next_piece : GridState → (sequence : ℕ) → List ℕ → Message
-next_piece g sequence text = next_unit g sequence (piece_of (g.layout.block_size - 256) (length g.blocks.written) text)
+next_piece g sequence text = next_unit g sequence (piece_of (g.layout.block_size - HEADER) (length g.blocks.written) text)
 
 abbrev pub grid_after_piece : GridState → (sequence : ℕ) → List ℕ → GridState
 grid_after_piece g sequence text = with_blocks g (next_written g.blocks (number_of (next_piece g sequence text).header.checksum))

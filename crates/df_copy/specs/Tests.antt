@@ -2,6 +2,7 @@
 use Rattle.std.specs.Prelude.{ℕ, ◌+◌, ◌-◌, ◌==◌, nat_lt, Bool, true, ◌&&◌, not, if◌then◌else◌, List, [], ◌∷◌, ◌++◌, length, map, Result, Ok, Err}
 use Rattle.std.specs.Int.{div_ceil}
 use Rattle.std.specs.List.{range_with_len}
+use Rattle.df_base.specs.declared.TheConstants.{HEADER}
 use Rattle.df_base.specs.Image.{Image}
 use Rattle.df_layout.specs.declared.damage.Class.{Class}
 use Rattle.df_layout.specs.declared.layout.Layout.{Layout}
@@ -48,7 +49,7 @@ pieces room size = div_ceil size room
 
 -- how many blocks the copy's trailer has
 abbrev pub trailer_blocks : Layout → Memory → ℕ
-trailer_blocks layout m = pieces (layout.block_size - 256) (trailer_size layout m)
+trailer_blocks layout m = pieces (layout.block_size - HEADER) (trailer_size layout m)
 
 -- how many blocks the copy has
 abbrev pub needed : Layout → Memory → ℕ
@@ -70,7 +71,7 @@ blank_tests image = map (λ n. (not (is_blank_copy (image n)), NotBlank n)) (ran
 
 -- what is found of the reply of a session: one that is shown has to fit
 abbrev pub reply_test : Layout → (place : ℕ) → Result Message Class → Bool × Ending
-reply_test layout place (Ok r) = (nat_lt layout.message_size (256 + length r.body), ReplyTooLong place (256 + length r.body))
+reply_test layout place (Ok r) = (nat_lt layout.message_size (HEADER + length r.body), ReplyTooLong place (HEADER + length r.body))
 reply_test layout place (Err class) = (true, Damaged (place_in ClientReplies place) class)
 
 -- of the replies of n places from this one on, in order
@@ -82,7 +83,7 @@ reply_tests layout shown m = reply_tests_from layout shown m 0 (length m.session
 
 -- what is found of a block: one that is shown has to fit
 abbrev pub block_test : Layout → (address : ℕ) → Result Block Class → Bool × Ending
-block_test layout address (Ok b) = (nat_lt layout.block_size (256 + length b.body), BlockTooLong address (256 + length b.body))
+block_test layout address (Ok b) = (nat_lt layout.block_size (HEADER + length b.body), BlockTooLong address (HEADER + length b.body))
 block_test layout address (Err class) = (true, Damaged (place_in Grid address) class)
 
 -- of these live blocks, in order

@@ -1,5 +1,6 @@
 -- The view of a copy, beside that of its source: the same state in another layout, with the k-th referenced block at address k.
 use Rattle.std.specs.Prelude.{◌≡◌, ◌↔◌, ◌<◌, ◌≤◌, ◌+◌, ℕ, List, [], length, map, slice_get, Some, None}
+use Rattle.df_base.specs.declared.TheConstants.{VERSION}
 use Rattle.df_base.specs.Image.{Image, IsImage, blank}
 use Rattle.df_layout.specs.declared.layout.Layout.{Layout}
 use Rattle.df_theory.specs.Found.{IsClean, IsFound}
@@ -80,7 +81,7 @@ pub record ShowsCopy (layout : Layout) (file : DataFile) (source : Image) (v : V
   pub stands : Stands (unit_at layout file.cluster target) view
   pub older : IsOlder (unit_at layout file.cluster target) view
   pub image : IsImage target
-  pub version : file.version ≡ 2
+  pub version : file.version ≡ VERSION
 
 -- and it holds it whole: nothing is to be mended
 pub record HoldsCopy (layout : Layout) (file : DataFile) (source : Image) (v : View) (target : Image) : Type 0 where

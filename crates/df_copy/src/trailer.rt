@@ -1,5 +1,6 @@
 // The trailer: what the source's says, with the new addresses and checksums, in blocks after the copied ones.
 ghost use Rattle.std.specs.Prelude.{◌≡◌, ◌<◌, ◌≤◌, ◌-◌, ◌^◌, List, length, IfErr, OnOk};
+ghost use Rattle.df_base.specs.declared.TheConstants.{GREATEST, HEADER};
 ghost use Rattle.df_base.specs.Causes.{HasCause, IsBlamed};
 ghost use Rattle.df_disk.specs.Adds.{Adds};
 ghost use Rattle.df_format.specs.Message.{Message};
@@ -61,7 +62,7 @@ fn capture_of(replica: &Replica) -> Capture
     ensures root { result.root.items ≡ replica.now.root }
     ensures sessions { result.sessions.items ≡ replica.now.table.sessions }
     ensures sequence { result.sequence ≡ sequence_of replica.now }
-    ensures bounds { (2 ≤ result.sequence) × (result.sequence ≤ 2 ^ 62) }
+    ensures bounds { (2 ≤ result.sequence) × (result.sequence ≤ GREATEST) }
 {
     Capture {
         root: root_of(replica.root()),
@@ -79,8 +80,8 @@ fn write_pieces<B: Disk>(
     blocks: u64,
 ) -> Result<(), Failed>
     requires begun { IsBegunGrid blocks grid.old }
-    requires sequence { (2 ≤ capture.now.sequence) × (capture.now.sequence ≤ 2 ^ 62) }
-    requires room { grid.old.layout.block_size - 256 ≤ length room.old }
+    requires sequence { (2 ≤ capture.now.sequence) × (capture.now.sequence ≤ GREATEST) }
+    requires room { grid.old.layout.block_size - HEADER ≤ length room.old }
     ensures events { Adds (all_events (made_events grid.old.layout) (pieces_from grid.old capture.now.sequence (text_in grid.old capture.now) blocks)) (B.told to.old) (B.told to.new) result }
     ensures grid { OnOk result (grid.new ≡ grid_behind grid.old capture.now.sequence (text_in grid.old capture.now) blocks) }
     ensures layout { grid.new.layout ≡ grid.old.layout }

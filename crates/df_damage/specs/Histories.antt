@@ -1,5 +1,6 @@
 -- A file that was damaged before any number of opens: its logs, each restarted at what an open found, and what an open finds then.
 use Rattle.std.specs.Prelude.{◌≡◌, ℕ, List, [], ◌∷◌, Option, Some, Result, Ok, Err}
+use Rattle.df_base.specs.declared.TheConstants.{VERSION}
 use Rattle.df_base.specs.Image.{Image, IsImage, changed}
 use Rattle.df_base.specs.Log.{AreLoose, Log, Stop, Sync, add, now}
 use Rattle.df_base.specs.Moments.{EachMoment, Extends}
@@ -39,7 +40,7 @@ HasLived file logs = IsLived (shape file) (units_logs file logs)
 -- What a disk shows after these logs, at the barrier of an open, is what a next log may start with: no unit came about by chance, and at most two superblock copies are hurt, none where the four weren't equal. What else is
 -- hurt doesn't matter.
 pub record MayReopen (file : DataFile) (log : Log) (logs : List Log) (image : Image) : Type 0 where
-  pub version : file.version ≡ 2
+  pub version : file.version ≡ VERSION
   pub lived : HasLived file (add Sync log ∷ logs)
   pub whole : IsImage image
   pub chance : NoChanceOver (units_logs file (add Sync log ∷ logs)) (unit_at file.layout file.cluster image)

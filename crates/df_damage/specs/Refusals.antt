@@ -1,6 +1,7 @@
 -- Why an open refuses a disk that may be hurt.
 use Rattle.std.specs.Prelude.{◌≡◌, ◌⊎◌, ◌<◌, ◌+◌, ◌%◌, ◌^◌, ℕ, List, length, Some, Err}
 use Rattle.std.specs.List.{slice_get}
+use Rattle.df_base.specs.declared.TheConstants.{FIRST_VERSION, GREATEST}
 use Rattle.df_disk.specs.Told.{Told}
 use Rattle.df_layout.specs.declared.layout.Layout.{Layout}
 use Rattle.df_layout.specs.declared.places.Zone.{Zone}
@@ -39,7 +40,7 @@ RefusalsAreOfDamage =
 
 -- where a boot is said to be spent it is the file's own that is: damage raises none
 abbrev pub SpentIsTheFiles : Type 0
-SpentIsTheFiles = (version : ℕ) (file : DataFile) (view : View) (t : Told) → MayBeHurtAs version file view t → SurveysAs version file.layout t.shown (Err BootSpent) → boot_of view ≡ 2 ^ 62
+SpentIsTheFiles = (version : ℕ) (file : DataFile) (view : View) (t : Told) → MayBeHurtAs version file view t → SurveysAs version file.layout t.shown (Err BootSpent) → boot_of view ≡ GREATEST
 
 -- the refusals that name the superblock: it shows nothing, no two of its copies agree, or a unit is of a later checkpoint or boot than the choice
 abbrev pub NamesSuperblock : OpenError → Type 0
@@ -76,7 +77,7 @@ pub record LacksLater (file : DataFile) (view : View) (t : Told) (k : ℕ) : Typ
   pub lost : Message
   pub lost_in_tail : In lost view.tail
   pub group : lost.header.group ≡ prepare.header.group
-  pub alone : file.version ≡ 1 → lost ≡ prepare
+  pub alone : file.version ≡ FIRST_VERSION → lost ≡ prepare
   pub hurt : IsHurtPlace file.layout t (PreparePlace (lost.header.op % file.layout.slots))
 
 -- what is blamed is hurt: a block, the slot of a prepare, that of a reply or one of a later prepare of its client; never a copy or a header

@@ -1,5 +1,6 @@
 -- What a disk tells: its log, and what a read gives.
 use Rattle.std.specs.Prelude.{◌≡◌, ◌≤◌, ◌<◌, ◌+◌, ◌/◌, ◌%◌, ◌^◌, ℕ, List, length, Option, Some, None}
+use Rattle.df_base.specs.declared.TheConstants.{SECTOR}
 use Rattle.df_base.specs.Image.{Image, bytes_at}
 use Rattle.df_base.specs.Log.{Event, Log, add, now, after_event}
 
@@ -22,10 +23,10 @@ after e (Some t) = Some (did e t)
 -- a buffer of n bytes from sector at on is one sector or more, all of them whole and within the disk
 pub record AreSectors (at n : ℕ) : Type 0 where
   pub some : 0 < n
-  pub whole : n % 4096 ≡ 0
-  pub last : at + n / 4096 ≤ 2 ^ 40
+  pub whole : n % SECTOR ≡ 0
+  pub last : at + n / SECTOR ≤ 2 ^ 40
 
 -- these bytes are what is shown from sector at on, where the disk tells it
 abbrev pub Shows : Option Told → ℕ → List ℕ → Type 0
 Shows None at bytes = Unit {0}
-Shows (Some t) at bytes = bytes ≡ bytes_at t.shown at (length bytes / 4096)
+Shows (Some t) at bytes = bytes ≡ bytes_at t.shown at (length bytes / SECTOR)

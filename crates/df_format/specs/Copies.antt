@@ -2,6 +2,7 @@
 use Rattle.std.specs.Prelude.{◌+◌, ◌-◌, ◌*◌, ◌==◌, ◌&&◌, ℕ, zero, suc, Bool, not, nat_lt, if◌then◌else◌, List, [], ◌∷◌, take, drop, replicate, position, option_map, Option, Some, None, Result, Ok, Err}
 use Rattle.std.specs.Option.{option_or}
 use Rattle.std.specs.Str.{bytes_eq}
+use Rattle.df_base.specs.declared.TheConstants.{SECTOR, VERSION}
 use Rattle.df_base.specs.Fields.{field_at, check_of}
 use Rattle.df_base.specs.Image.{Image}
 use Rattle.df_layout.specs.declared.damage.Class.{Class}
@@ -19,7 +20,7 @@ nonzero_between at end bytes = option_map (λ i. at + i) (position (λ b. not (b
 -- the offset of the first byte that isn't zero where the version has no fields: in version 2 between the checksum of the head's
 -- prepare and those of the replies, and after these; in any other after the boot
 abbrev pub first_nonzero_of : ℕ → List ℕ → Option ℕ
-first_nonzero_of version bytes = if version == 2 then option_or (nonzero_between 176 192 bytes) (nonzero_between 1216 4096 bytes) else nonzero_between 160 4096 bytes
+first_nonzero_of version bytes = if version == VERSION then option_or (nonzero_between 176 192 bytes) (nonzero_between 1216 SECTOR bytes) else nonzero_between 160 SECTOR bytes
 
 -- so many checksums, one after the other from an offset on
 unfoldable pub checks_at : ℕ → ℕ → List ℕ → List (List ℕ)
@@ -98,7 +99,7 @@ rank_of_copy c = 18446744073709551616 * c.fields.sequence + c.fields.boot
 
 -- all bytes of the sector are zero, as one that was never written shows
 unfoldable pub is_blank_copy : List ℕ → Bool
-is_blank_copy bytes = bytes_eq bytes (replicate 4096 0)
+is_blank_copy bytes = bytes_eq bytes (replicate SECTOR 0)
 
 -- the class of a sector that is no copy
 abbrev pub class_of_no_copy : List ℕ → Class

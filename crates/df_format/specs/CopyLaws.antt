@@ -1,5 +1,6 @@
 -- What holds of every copy of the superblock, sector and image: what the layers above rest on.
 use Rattle.std.specs.Prelude.{◌≡◌, ◌≢◌, ◌↔◌, ◌<◌, ℕ, List, replicate, Some, None}
+use Rattle.df_base.specs.declared.TheConstants.{VERSION}
 use Rattle.df_base.specs.Fields.{check_of}
 use Rattle.df_base.specs.Image.{Image, IsSector, IsPiece, blank, written}
 use Rattle.df_layout.specs.declared.damage.Class.TheVariants.{Stale}
@@ -13,7 +14,7 @@ use Rattle.df_format.specs.declared.superblock.SuperCopy.{SuperCopy}
 pub record IsWrittenCopy (copy : SuperCopy) : Type 0 where
   pub number : copy.number < 4
   pub fits : FitsSuper copy.fields
-  pub named : copy.fields.version ≢ 2 → NamesNone copy.fields
+  pub named : copy.fields.version ≢ VERSION → NamesNone copy.fields
   pub checksum : copy.checksum ≡ check_of (covered_bytes copy.fields)
 
 -- a sector is read as a copy with zeros where its version has no fields exactly where it is that copy's spelling

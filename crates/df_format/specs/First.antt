@@ -1,5 +1,6 @@
 -- The fields that a superblock has by its file alone, and the first superblock of a file, which every copy of a new file says.
 use Rattle.std.specs.Prelude.{ℕ, None}
+use Rattle.df_base.specs.declared.TheConstants.{VERSION}
 use Rattle.df_layout.specs.declared.layout.Layout.{Layout}
 use Rattle.df_format.specs.Spelling.{no_checksum}
 use Rattle.df_format.specs.Super.{no_checksums}
@@ -9,7 +10,7 @@ use Rattle.df_format.specs.declared.superblock.SuperFields.{SuperFields}
 -- the fields of a file of this layout and cluster, of version 2 and with nothing else
 abbrev pub blank_super : Layout → ℕ → SuperFields
 blank_super layout cluster = record {
-  version = 2;
+  version = VERSION;
   slots = layout.slots;
   message_size = layout.message_size;
   clients = layout.clients;

@@ -1,5 +1,6 @@
 -- What the maker of a unit says of it: what its kind names, and nothing else; and what follows from the body.
 use Rattle.std.specs.Prelude.{◌+◌, ℕ, List, length}
+use Rattle.df_base.specs.declared.TheConstants.{FIRST_VERSION, HEADER}
 use Rattle.df_base.specs.Fields.{check_of}
 use Rattle.df_format.specs.declared.header.Header.{Header}
 use Rattle.df_format.specs.declared.kind.Kind.{Kind}
@@ -22,7 +23,7 @@ blank_header kind cluster = record {
   slot = 0;
   kind = kind;
   block_kind = 0;
-  version = 1;
+  version = FIRST_VERSION;
   boot = 0;
   group = 0;
   group_last = 0;
@@ -68,4 +69,4 @@ of_kind Trailer cluster h = record (blank_header Trailer cluster) {
 
 -- a header with the fields that follow from the body
 abbrev pub for_body : Header → List ℕ → Header
-for_body h body = record h { checksum_body = check_of body; size = 256 + length body }
+for_body h body = record h { checksum_body = check_of body; size = HEADER + length body }

@@ -1,5 +1,6 @@
 -- A unit of the file, and the bytes that it is written as.
 use Rattle.std.specs.Prelude.{◌+◌, ◌-◌, ◌*◌, ◌/◌, ℕ, List, ◌++◌, length, replicate}
+use Rattle.df_base.specs.declared.TheConstants.{HEADER, SECTOR}
 use Rattle.df_format.specs.declared.header.Header.{Header}
 use Rattle.df_format.specs.Spelling.{spelling}
 
@@ -14,8 +15,8 @@ unit_bytes u = spelling u.header ++ u.body
 
 -- how many bytes of whole sectors n bytes cover
 abbrev pub sectors_end : ℕ → ℕ
-sectors_end n = 4096 * ((n + 4095) / 4096)
+sectors_end n = SECTOR * ((n + 4095) / SECTOR)
 
 -- the whole sectors of a unit, filled with zeros
 unfoldable pub sectors_of : Message → List ℕ
-sectors_of u = unit_bytes u ++ replicate (sectors_end (256 + length u.body) - (256 + length u.body)) 0
+sectors_of u = unit_bytes u ++ replicate (sectors_end (HEADER + length u.body) - (HEADER + length u.body)) 0

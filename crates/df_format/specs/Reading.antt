@@ -1,6 +1,7 @@
 -- The fields of a header at their offsets, and the tests that its bytes have to pass.
 use Rattle.std.specs.Prelude.{◌+◌, ◌^◌, ◌==◌, ℕ, List, [], Bool, ◌&&◌, ◌||◌, not, nat_lt, nat_le, if◌then◌else◌, take, drop, replicate, slice_index, Option, Some, None}
 use Rattle.std.specs.Str.{bytes_eq}
+use Rattle.df_base.specs.declared.TheConstants.{FIRST_VERSION, GREATEST, HEADER, VERSION}
 use Rattle.df_base.specs.Fields.{field_at, check_of}
 use Rattle.df_format.specs.declared.header.Header.{Header}
 use Rattle.df_format.specs.declared.kind.Kind.{Kind}
@@ -37,7 +38,7 @@ fields_of kind bytes = record {
 
 -- a number from 1 to 2 ^ 62
 abbrev pub is_counter : ℕ → Bool
-is_counter n = nat_lt 0 n && nat_le n (2 ^ 62)
+is_counter n = nat_lt 0 n && nat_le n GREATEST
 
 -- no parent
 abbrev pub has_no_parent : Header → Bool
@@ -61,7 +62,7 @@ is_reply h =
     && is_counter h.op
     && is_counter h.request
     && nat_le h.op h.mark
-    && nat_le h.mark (2 ^ 62)
+    && nat_le h.mark GREATEST
     && is_counter h.checkpoint
     && (h.block_kind == 0)
 
@@ -71,7 +72,7 @@ is_bare h = has_no_parent h && (h.client == 0) && (h.request == 0) && (h.mark ==
 
 -- of a reserved header
 unfoldable pub is_reserved : Header → Bool
-is_reserved h = is_bare h && bytes_eq h.checksum_body (check_of []) && (h.op == 0) && (h.size == 256) && (h.block_kind == 0)
+is_reserved h = is_bare h && bytes_eq h.checksum_body (check_of []) && (h.op == 0) && (h.size == HEADER) && (h.block_kind == 0)
 
 -- of a block's
 unfoldable pub is_block : Header → Bool
@@ -88,7 +89,7 @@ is_trailer h =
     && (h.client == 0)
     && nat_lt 0 h.op
     && nat_le 2 h.checkpoint
-    && nat_le h.checkpoint (2 ^ 62)
+    && nat_le h.checkpoint GREATEST
     && (h.slot == 0)
     && (h.block_kind == 0)
 
@@ -110,7 +111,7 @@ is_grouped h = nat_lt 0 h.group && nat_le h.group h.op && nat_le h.op h.group_la
 
 -- neither a boot nor a group, as in version 1
 unfoldable pub is_first : Header → Bool
-is_first h = (h.version == 1) && (h.boot == 0) && is_ungrouped h
+is_first h = (h.version == FIRST_VERSION) && (h.boot == 0) && is_ungrouped h
 
 -- the boot of version 2
 abbrev pub has_boot : Kind → Header → Bool
@@ -130,7 +131,7 @@ has_group Trailer h = is_ungrouped h
 
 -- what a header says as one of version 2
 unfoldable pub is_second : Kind → Header → Bool
-is_second kind h = (h.version == 2) && has_boot kind h && has_group kind h
+is_second kind h = (h.version == VERSION) && has_boot kind h && has_group kind h
 
 -- one of the two versions
 abbrev pub has_version : Header → Bool
@@ -138,7 +139,7 @@ has_version h = is_first h || is_second h.kind h
 
 -- the numbers of a header are in their ranges
 abbrev pub has_numbers : Header → Bool
-has_numbers h = nat_lt 0 h.cluster && nat_le 256 h.size && is_of_kind h.kind h && has_version h
+has_numbers h = nat_lt 0 h.cluster && nat_le HEADER h.size && is_of_kind h.kind h && has_version h
 
 -- the bytes after the fields are zero
 abbrev pub ends_in_zeros : List ℕ → Bool

@@ -1,5 +1,6 @@
 -- The rules of each kind's header that need no layout, and those of its version. A field that kind and version don't name is zero.
 use Rattle.std.specs.Prelude.{◌≡◌, ◌↔◌, ◌⊎◌, ◌<◌, ◌≤◌, ◌+◌, ◌^◌, ℕ, []}
+use Rattle.df_base.specs.declared.TheConstants.{FIRST_VERSION, GREATEST, HEADER, VERSION}
 use Rattle.df_base.specs.Fields.{check_of}
 use Rattle.df_format.specs.declared.header.Header.{Header}
 use Rattle.df_format.specs.declared.kind.Kind.{Kind}
@@ -8,7 +9,7 @@ use Rattle.df_format.specs.Spelling.{IsCheck, no_checksum, spelling_rest}
 
 -- ops, requests and sequences count from 1
 abbrev pub IsCounter : ℕ → Type 0
-IsCounter n = (0 < n) × (n ≤ 2 ^ 62)
+IsCounter n = (0 < n) × (n ≤ GREATEST)
 
 -- an empty slot of the header ring: the header names the slot and has no body
 pub record ObeysReserved (h : Header) : Type 0 where
@@ -19,7 +20,7 @@ pub record ObeysReserved (h : Header) : Type 0 where
   pub request : h.request ≡ 0
   pub mark : h.mark ≡ 0
   pub checkpoint : h.checkpoint ≡ 0
-  pub size : h.size ≡ 256
+  pub size : h.size ≡ HEADER
   pub block_kind : h.block_kind ≡ 0
 
 -- an entry of the log: the first has no parent, and fewer replies were stored than there are ops
@@ -37,7 +38,7 @@ pub record ObeysReply (h : Header) : Type 0 where
   pub client : 0 < h.client
   pub op : IsCounter h.op
   pub request : IsCounter h.request
-  pub mark : (h.op ≤ h.mark) × (h.mark ≤ 2 ^ 62)
+  pub mark : (h.op ≤ h.mark) × (h.mark ≤ GREATEST)
   pub checkpoint : IsCounter h.checkpoint
   pub block_kind : h.block_kind ≡ 0
 
@@ -58,7 +59,7 @@ pub record ObeysTrailer (h : Header) : Type 0 where
   pub client : h.client ≡ 0
   pub op : 0 < h.op
   pub request : (h.request ≡ 0) ↔ (h.mark ≡ 0)
-  pub checkpoint : (2 ≤ h.checkpoint) × (h.checkpoint ≤ 2 ^ 62)
+  pub checkpoint : (2 ≤ h.checkpoint) × (h.checkpoint ≤ GREATEST)
   pub slot : h.slot ≡ 0
   pub block_kind : h.block_kind ≡ 0
 
@@ -72,7 +73,7 @@ ObeysKind Trailer h = ObeysTrailer h
 
 -- a header of version 1: it says nothing of boots and groups
 pub record ObeysFirst (h : Header) : Type 0 where
-  pub version : h.version ≡ 1
+  pub version : h.version ≡ FIRST_VERSION
   pub boot : h.boot ≡ 0
   pub group : h.group ≡ 0
   pub group_last : h.group_last ≡ 0
@@ -105,7 +106,7 @@ HasGroup Trailer op first last = IsUngrouped first last
 
 -- a header of version 2
 pub record ObeysSecond (kind : Kind) (h : Header) : Type 0 where
-  pub version : h.version ≡ 2
+  pub version : h.version ≡ VERSION
   pub boot : HasBoot kind h.boot
   pub group : HasGroup kind h.op h.group h.group_last
 
@@ -135,7 +136,7 @@ pub record FitsFields (h : Header) : Type 0 where
 pub record ObeysRules (h : Header) : Type 0 where
   pub fits : FitsFields h
   pub cluster : 0 < h.cluster
-  pub size : 256 ≤ h.size
+  pub size : HEADER ≤ h.size
   pub kind : ObeysKind h.kind h
   pub version : ObeysVersion h.kind h
 

@@ -2,6 +2,7 @@
 -- are no messages: a place of that zone shows no unit here, and its class isn't said here.
 use Rattle.std.specs.Prelude.{◌%◌, ◌*◌, ◌==◌, ℕ, List, Bool, true, false, ◌&&◌, if◌then◌else◌, take, drop, replicate, Option, Some, None, Result, Ok, Err}
 use Rattle.std.specs.Str.{bytes_eq}
+use Rattle.df_base.specs.declared.TheConstants.{HEADER}
 use Rattle.df_base.specs.Image.{Image, bytes_at}
 use Rattle.df_layout.specs.declared.layout.Layout.{Layout}
 use Rattle.df_layout.specs.declared.damage.Class.{Class}
@@ -38,7 +39,7 @@ unit_in layout cluster place bytes = if_own place (whole_in layout cluster place
 
 -- 256 zeros at the front, as a place that was never written has
 unfoldable pub is_blank : List ℕ → Bool
-is_blank bytes = bytes_eq (take 256 bytes) (replicate 256 0)
+is_blank bytes = bytes_eq (take HEADER bytes) (replicate HEADER 0)
 
 -- the class of bytes that are no whole unit
 abbrev pub class_of_none : List ℕ → Class
@@ -55,7 +56,7 @@ class_of layout cluster place bytes = if is_blank bytes then Blank else class_of
 
 -- what of its sectors belongs to a place: a header has 256 bytes of a sector of sixteen, any other unit has them all
 abbrev pub part_in : Zone → ℕ → List ℕ → List ℕ
-part_in WalHeaders index bytes = take 256 (drop (256 * (index % 16)) bytes)
+part_in WalHeaders index bytes = take HEADER (drop (HEADER * (index % 16)) bytes)
 part_in zone index bytes = bytes
 
 -- the bytes of a place

@@ -1,6 +1,7 @@
 -- The rules of a superblock's fields, and which of them is the first that is broken.
 use Rattle.std.specs.Prelude.{◌≡◌, ◌≢◌, ◌↔◌, ◌⊎◌, ◌<◌, ◌≤◌, ◌+◌, ◌*◌, ◌/◌, ◌%◌, ◌^◌, ◌==◌, ◌&&◌, ◌||◌, ℕ, Bool, not, nat_le, nat_lt, is_none, if◌then◌else◌, List, [], ◌∷◌, ◌++◌, drop, position, option_map, Option, Some, None}
 use Rattle.std.specs.Str.{bytes_eq}
+use Rattle.df_base.specs.declared.TheConstants.{FIRST_VERSION, GREATEST, SECTOR, VERSION}
 use Rattle.df_base.specs.Fields.{field_at}
 use Rattle.df_layout.specs.Limits.{AreWithinLimits}
 use Rattle.df_layout.specs.declared.fields.Field.{Field}
@@ -17,14 +18,14 @@ greatest_trailer f = 4 + 1024 + 4 + 32 * f.clients + (f.blocks + 7) / 8 + 16 * f
 
 -- version 1 has no boots, and names neither the head's prepare nor a reply
 pub record IsFirstSuper (f : SuperFields) : Type 0 where
-  pub version : f.version ≡ 1
+  pub version : f.version ≡ FIRST_VERSION
   pub boot : f.boot ≡ 0
   pub named : NamesNone f
 
 -- version 2 has a boot, 0 before the first one, and names the head's prepare, if there is one, and replies of sessions alone
 pub record IsSecondSuper (f : SuperFields) : Type 0 where
-  pub version : f.version ≡ 2
-  pub boot : f.boot ≤ 2 ^ 62
+  pub version : f.version ≡ VERSION
+  pub boot : f.boot ≤ GREATEST
   pub no_head : f.head ≡ 0 → f.head_checksum ≡ no_checksum
   pub head_is_op : f.head ≡ f.op → f.head_checksum ≡ f.op_checksum
   pub spare : AreNone (drop f.clients f.reply_checksums)
@@ -35,10 +36,10 @@ pub record IsSuper (f : SuperFields) : Type 0 where
   pub version : IsFirstSuper f ⊎ IsSecondSuper f
   pub layout : AreWithinLimits f.slots f.message_size f.clients f.block_size f.blocks
   pub cluster : 0 < f.cluster
-  pub sequence : (0 < f.sequence) × (f.sequence ≤ 2 ^ 62)
-  pub op : f.op ≤ 2 ^ 62
+  pub sequence : (0 < f.sequence) × (f.sequence ≤ GREATEST)
+  pub op : f.op ≤ GREATEST
   pub op_checksum : f.op ≡ 0 → f.op_checksum ≡ no_checksum
-  pub head : (f.op ≤ f.head) × (f.head ≤ f.op + f.slots) × (f.head ≤ 2 ^ 62)
+  pub head : (f.op ≤ f.head) × (f.head ≤ f.op + f.slots) × (f.head ≤ GREATEST)
   pub replies : (f.replies ≤ f.head) × (f.head ≤ f.replies + 8)
   pub trailer : (f.trailer_address ≤ f.blocks) × (f.op ≢ 0 → f.trailer_address ≢ 0)
   pub trailer_checksum : f.trailer_address ≡ 0 → f.trailer_checksum ≡ no_checksum
@@ -82,9 +83,9 @@ offset_of (Some offset) = offset
 abbrev pub size_tests : SuperFields → List Test
 size_tests f =
     test (is_whole_between 16 16 1024 f.slots) Slots f.slots
-    ∷ test (is_whole_between 4096 4096 1048576 f.message_size) MessageSize f.message_size
+    ∷ test (is_whole_between SECTOR SECTOR 1048576 f.message_size) MessageSize f.message_size
     ∷ test (is_between 1 64 f.clients) Clients f.clients
-    ∷ test (is_whole_between 4096 4096 524288 f.block_size) BlockSize f.block_size
+    ∷ test (is_whole_between SECTOR SECTOR 524288 f.block_size) BlockSize f.block_size
     ∷ test (is_between 8 16384 f.blocks) Blocks f.blocks
     ∷ []
 
@@ -92,15 +93,15 @@ size_tests f =
 abbrev pub checkpoint_tests : SuperFields → List Test
 checkpoint_tests f =
     test (nat_lt 0 f.cluster) Cluster f.cluster
-    ∷ test (is_between 1 (2 ^ 62) f.sequence) Sequence f.sequence
-    ∷ test (nat_le f.op (2 ^ 62)) Op f.op
+    ∷ test (is_between 1 GREATEST f.sequence) Sequence f.sequence
+    ∷ test (nat_le f.op GREATEST) Op f.op
     ∷ test (not (f.op == 0) || is_zero_check f.op_checksum) OpChecksum (field_at 16 0 f.op_checksum)
     ∷ []
 
 -- how far the file had come
 abbrev pub progress_tests : SuperFields → List Test
 progress_tests f =
-    test (is_between f.op (f.op + f.slots) f.head && nat_le f.head (2 ^ 62)) Head f.head
+    test (is_between f.op (f.op + f.slots) f.head && nat_le f.head GREATEST) Head f.head
     ∷ test (nat_le f.replies f.head && nat_le f.head (f.replies + 8)) Replies f.replies
     ∷ []
 
@@ -135,7 +136,7 @@ has_head_checksum f = (not (f.head == 0) || is_zero_check f.head_checksum) && (n
 -- the boot of version 2, what it names, and what it leaves empty
 abbrev pub second_tests : SuperFields → List Test
 second_tests f =
-    test (nat_le f.boot (2 ^ 62)) Boot f.boot
+    test (nat_le f.boot GREATEST) Boot f.boot
     ∷ test (has_head_checksum f) Head (field_at 16 0 f.head_checksum)
     ∷ test (is_none (first_spare f)) Replies (offset_of (first_spare f))
     ∷ test (is_none f.first_nonzero) Zero (offset_of f.first_nonzero)
@@ -143,7 +144,7 @@ second_tests f =
 
 -- the tests of one version
 abbrev pub version_tests : SuperFields → List Test
-version_tests f = if f.version == 1 then first_tests f else second_tests f
+version_tests f = if f.version == FIRST_VERSION then first_tests f else second_tests f
 
 abbrev pub field_tests : SuperFields → List Test
 field_tests f = size_tests f ++ (checkpoint_tests f ++ (progress_tests f ++ (trailer_tests f ++ version_tests f)))
@@ -155,7 +156,7 @@ first_failing (t ∷ ts) = if t.passes then first_failing ts else Some (BadField
 
 -- one of the two versions
 abbrev pub is_known_version : ℕ → Bool
-is_known_version version = (version == 1) || (version == 2)
+is_known_version version = (version == FIRST_VERSION) || (version == VERSION)
 
 -- why a superblock can't be used: its version, or else the first field that is out of its range
 unfoldable pub fault_of : SuperFields → Option SuperFault

@@ -1,5 +1,6 @@
 -- What holds of every header, and of every unit, place and image of a layout: what the layers above rest on.
 use Rattle.std.specs.Prelude.{◌≡◌, ◌≢◌, ◌↔◌, ◌<◌, ◌≤◌, ◌+◌, ◌-◌, ◌*◌, ◌/◌, ◌%◌, ℕ, false, List, [], ◌∷◌, ◌++◌, length, take, drop, replicate, slice_get, Some, None}
+use Rattle.df_base.specs.declared.TheConstants.{HEADER, SECTOR}
 use Rattle.df_base.specs.Fields.{AreBytes, spelled}
 use Rattle.df_base.specs.Image.{Image, IsImage, IsPiece, blank, bytes_at, written}
 use Rattle.df_base.specs.Log.{Log, Write, IsLeft, add, loose, now}
@@ -22,7 +23,7 @@ use Rattle.df_format.specs.Valid.{IsUnit, BeginsWithUnit, Belongs}
 
 -- 256 bytes are read as a header exactly where it is sealed and they are its spelling
 abbrev pub HeadersHaveOneSpelling : Type 0
-HeadersHaveOneSpelling = (bytes : List ℕ) (h : Header) → length bytes ≡ 256 → AreBytes bytes → (header_in bytes ≡ Some h) ↔ (IsSealed h × (bytes ≡ spelling h))
+HeadersHaveOneSpelling = (bytes : List ℕ) (h : Header) → length bytes ≡ HEADER → AreBytes bytes → (header_in bytes ≡ Some h) ↔ (IsSealed h × (bytes ≡ spelling h))
 
 -- after its version a header of version 1 ends in zeros
 abbrev pub FirstVersionEndsInZeros : Type 0
@@ -30,8 +31,8 @@ FirstVersionEndsInZeros = (h : Header) → ObeysFirst h → tail_of h ≡ spelle
 
 -- how many bytes a place of a zone has; a header has its part of a sector
 abbrev pub place_size : Layout → Zone → ℕ
-place_size layout WalHeaders = 256
-place_size layout zone = 4096 * place_sectors layout zone
+place_size layout WalHeaders = HEADER
+place_size layout zone = SECTOR * place_sectors layout zone
 
 -- a place shows a unit exactly where its bytes begin with one that is valid there
 abbrev pub UnitsHaveOneSpelling : Type 0
@@ -64,7 +65,7 @@ ValidBelongs = (layout : Layout) (cluster : ℕ) (place : Place) (u : Message) �
 abbrev pub BodyFollows : Type 0
 BodyFollows =
     (layout : Layout) (cluster : ℕ) (place : Place) (bytes : List ℕ) (u : Message) → place.zone ≢ WalHeaders → unit_in layout cluster place bytes ≡ Some u
-    → u.body ≡ take (u.header.size - 256) (drop 256 bytes)
+    → u.body ≡ take (u.header.size - HEADER) (drop HEADER bytes)
 
 -- in the header ring a unit has no body
 abbrev pub RingHasNoBody : Type 0
@@ -114,7 +115,7 @@ WrittenIsShown =
 -- the bytes can be written, and are no longer than the sectors of the place
 pub record AreForPlace (layout : Layout) (place : Place) (bytes : List ℕ) : Type 0 where
   pub piece : IsPiece bytes
-  pub fits : length bytes ≤ 4096 * (span_of layout place).count
+  pub fits : length bytes ≤ SECTOR * (span_of layout place).count
 
 -- the sectors of a unit are for its place
 abbrev pub SectorsFitPlace : Type 0
@@ -130,12 +131,12 @@ pub record IsOther (layout : Layout) (place other : Place) : Type 0 where
 abbrev pub WrittenIsApart : Type 0
 WrittenIsApart =
     (layout : Layout) (cluster : ℕ) (image : Image) (place other : Place) (bytes : List ℕ) → HasPlace layout place → IsOther layout place other
-    → length bytes ≤ 4096 * (span_of layout place).count → ShowSameAt layout cluster other (put layout place bytes image) image
+    → length bytes ≤ SECTOR * (span_of layout place).count → ShowSameAt layout cluster other (put layout place bytes image) image
 
 -- a header sector that is written shows at each of its sixteen slots what its part of the bytes says
 abbrev pub SectorIsShown : Type 0
 SectorIsShown =
-    (layout : Layout) (cluster : ℕ) (image : Image) (index slot : ℕ) (bytes : List ℕ) → length bytes ≡ 4096 → index / 16 ≡ slot / 16
+    (layout : Layout) (cluster : ℕ) (image : Image) (index slot : ℕ) (bytes : List ℕ) → length bytes ≡ SECTOR → index / 16 ≡ slot / 16
     → unit_at layout cluster (put layout (place_in WalHeaders index) bytes image) (place_in WalHeaders slot) ≡ unit_in layout cluster (place_in WalHeaders slot) (part_in WalHeaders slot bytes)
 
 -- headers one after the other
@@ -170,7 +171,7 @@ IsQuietPlace layout log place = (k : ℕ) → k < (span_of layout place).count �
 abbrev pub LeftIsApart : Type 0
 LeftIsApart =
     (layout : Layout) (cluster : ℕ) (log : Log) (image : Image) (place other : Place) (bytes : List ℕ) → HasPlace layout place → IsOther layout place other
-    → length bytes ≤ 4096 * (span_of layout place).count → IsQuietPlace layout log other → IsLeft (add (Write (span_of layout place).first bytes) log) image
+    → length bytes ≤ SECTOR * (span_of layout place).count → IsQuietPlace layout log other → IsLeft (add (Write (span_of layout place).first bytes) log) image
     → ShowSameAt layout cluster other image (now log)
 
 -- a unit that was made is valid at its own place, where it fits that; in the header ring it has no body

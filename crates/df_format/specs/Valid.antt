@@ -1,5 +1,6 @@
 -- What a unit valid at a place is, said of the unit and not of bytes; and which bytes show it.
 use Rattle.std.specs.Prelude.{◌≡◌, ◌⊎◌, ◌≤◌, ◌+◌, ◌%◌, ℕ, List, [], ◌++◌, length, Some}
+use Rattle.df_base.specs.declared.TheConstants.{HEADER}
 use Rattle.df_base.specs.Fields.{AreBytes, check_of}
 use Rattle.df_layout.specs.declared.layout.Layout.{Layout}
 use Rattle.df_layout.specs.declared.places.Place.{Place}
@@ -14,7 +15,7 @@ use Rattle.df_format.specs.Whole.{greatest_size}
 
 -- the body is bytes, of the length and with the checksum that the header says
 pub record IsBodyOf (h : Header) (body : List ℕ) : Type 0 where
-  pub size : h.size ≡ 256 + length body
+  pub size : h.size ≡ HEADER + length body
   pub checksum : h.checksum_body ≡ check_of body
   pub each : AreBytes body
 

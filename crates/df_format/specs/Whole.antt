@@ -1,6 +1,7 @@
 -- The whole unit that the bytes of a place are, wherever it belongs.
 use Rattle.std.specs.Prelude.{◌-◌, ◌==◌, ℕ, List, [], Bool, true, ◌&&◌, nat_le, if◌then◌else◌, take, drop, Option, Some, None}
 use Rattle.std.specs.Str.{bytes_eq}
+use Rattle.df_base.specs.declared.TheConstants.{HEADER}
 use Rattle.df_base.specs.Fields.{check_of}
 use Rattle.df_layout.specs.declared.layout.Layout.{Layout}
 use Rattle.df_layout.specs.declared.places.Place.{Place}
@@ -27,12 +28,12 @@ greatest_size layout Grid = layout.block_size
 -- the body of a unit that is read in a zone: in the header ring there is none
 abbrev pub body_in : Zone → ℕ → List ℕ → List ℕ
 body_in WalHeaders size bytes = []
-body_in zone size bytes = take (size - 256) (drop 256 bytes)
+body_in zone size bytes = take (size - HEADER) (drop HEADER bytes)
 
 -- its checksum is right; in the header ring the body isn't tested
 abbrev pub has_body : Zone → Header → List ℕ → Bool
 has_body WalHeaders h bytes = true
-has_body zone h bytes = bytes_eq h.checksum_body (check_of (take (h.size - 256) (drop 256 bytes)))
+has_body zone h bytes = bytes_eq h.checksum_body (check_of (take (h.size - HEADER) (drop HEADER bytes)))
 
 -- the tests of a header by the file's cluster, the zone that it is read in, and the body
 abbrev pub is_unit : Layout → ℕ → Zone → List ℕ → Header → Bool
@@ -50,7 +51,7 @@ if_unit layout cluster zone bytes (Some h) = if is_unit layout cluster zone byte
 
 -- the whole unit that bytes are, which are read in a zone
 unfoldable pub whole_in : Layout → ℕ → Zone → List ℕ → Option Whole
-whole_in layout cluster zone bytes = if_unit layout cluster zone bytes (header_in (take 256 bytes))
+whole_in layout cluster zone bytes = if_unit layout cluster zone bytes (header_in (take HEADER bytes))
 
 -- its header, and where it belongs
 abbrev pub owner_of : Option Whole → Option (Header × Place)

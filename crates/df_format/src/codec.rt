@@ -1,5 +1,6 @@
 // The 256 bytes of a header: how they are written, and how they are tested and read. A header has one spelling.
 ghost use Rattle.std.specs.Prelude.{◌≡◌, ◌+◌, ◌≤◌, ◌++◌, ◌∷◌, [], length, take, drop};
+ghost use Rattle.df_base.specs.declared.TheConstants.{HEADER};
 ghost use Rattle.df_format.specs.Spelling.{sealed, spelling, spelling_rest, code_of, tail_of};
 ghost use Rattle.df_format.specs.Rules.{ObeysRules, IsSealed};
 ghost use Rattle.df_format.specs.Reading.{kind_of, fields_of, ends_in_zeros, is_spelled, header_in};
@@ -44,7 +45,7 @@ fn code_of(kind: Kind) -> u8
 
 // Writes the kind, and what its owner says of a block.
 fn put_kind(into: &mut [u8], kind: Kind, block_kind: u8)
-    requires { length into.old ≡ 256 }
+    requires { length into.old ≡ HEADER }
     ensures { take 122 into.new ≡ take 120 into.old ++ (code_of kind ∷ block_kind ∷ []) }
 {
     put_bytes(into, KIND, &[code_of(kind), block_kind]);
@@ -52,7 +53,7 @@ fn put_kind(into: &mut [u8], kind: Kind, block_kind: u8)
 
 // Writes the version with what it says of boot and group, and the zeros after them.
 fn put_tail(into: &mut [u8], header: &Header)
-    requires { length into.old ≡ 256 }
+    requires { length into.old ≡ HEADER }
     ensures { into.new ≡ take 122 into.old ++ tail_of header.now }
 {
     put_u16(into, 122, header.version);
@@ -64,7 +65,7 @@ fn put_tail(into: &mut [u8], header: &Header)
 
 // Writes all that the checksum covers.
 fn put_fields(into: &mut [u8], header: &Header)
-    requires { length into.old ≡ 256 }
+    requires { length into.old ≡ HEADER }
     ensures { into.new ≡ take 16 into.old ++ spelling_rest header.now }
 {
     put_check(into, 16, &header.checksum_body);
@@ -98,7 +99,7 @@ pub fn seal_header(header: Header) -> Header
 /// Writes the 256 bytes of a sealed header over `into`.
 pub fn encode_header(header: &Header, into: &mut [u8])
     requires header { IsSealed header.now }
-    requires room { length into.old ≡ 256 }
+    requires room { length into.old ≡ HEADER }
     ensures { into.new ≡ spelling header.now }
 {
     put_check(into, 0, &header.checksum);
@@ -116,7 +117,7 @@ pub(crate) fn check_at(bytes: &[u8], at: usize) -> Check
 
 #[tactic(auto, unfolding(crate::specs::Reading::fields_of))]
 fn fields_of(kind: Kind, bytes: &[u8]) -> Header
-    requires { length bytes.now ≡ 256 }
+    requires { length bytes.now ≡ HEADER }
     ensures { result ≡ fields_of kind bytes.now }
 {
     Header {
@@ -157,7 +158,7 @@ fn kind_of(code: u8) -> Option<Kind>
 
 // Whether the bytes after the fields are zero.
 fn ends_in_zeros(bytes: &[u8]) -> bool
-    requires { length bytes.now ≡ 256 }
+    requires { length bytes.now ≡ HEADER }
     ensures { result ≡ ends_in_zeros bytes.now }
 {
     bytes[END..HEADER] == [0; 108]
@@ -165,7 +166,7 @@ fn ends_in_zeros(bytes: &[u8]) -> bool
 
 #[tactic(auto, unfolding(crate::specs::Reading::is_spelled))]
 fn is_spelled(bytes: &[u8]) -> bool
-    requires { length bytes.now ≡ 256 }
+    requires { length bytes.now ≡ HEADER }
     ensures { result ≡ is_spelled bytes.now }
 {
     &bytes[..SUMMED] == check(&bytes[SUMMED..HEADER]).as_slice() && ends_in_zeros(bytes)
@@ -175,7 +176,7 @@ fn is_spelled(bytes: &[u8]) -> bool
 /// rules of its kind and its version. The rules that need a layout aren't tested.
 #[tactic(auto, unfolding(crate::specs::Reading::header_in))]
 pub fn decode_header(bytes: &[u8]) -> Option<Header>
-    requires { length bytes.now ≡ 256 }
+    requires { length bytes.now ≡ HEADER }
     ensures { result ≡ header_in bytes.now }
 {
     let kind = kind_of(bytes[KIND])?;

@@ -1,5 +1,6 @@
 // The unit that the bytes of a place show, or the class of what stands there.
 ghost use Rattle.std.specs.Prelude.{◌≡◌, ◌≢◌, ◌≤◌, ◌↔◌, length, IsTrue};
+ghost use Rattle.df_base.specs.declared.TheConstants.{HEADER};
 ghost use Rattle.df_format.specs.Whole.{greatest_size, has_body, is_unit, whole_in, owner_of};
 ghost use Rattle.df_format.specs.Shown.{is_blank, class_of_none, unit_in, class_of, header_or_class};
 ghost use Rattle.df_format.specs.UnitLaws.{place_size};
@@ -21,7 +22,7 @@ fn greatest_size(layout: &Layout, zone: Zone) -> u32
 
 // Whether the checksum of the body is right; in the header ring there is no body to test.
 fn has_body(zone: Zone, bytes: &[u8], header: &Header) -> bool
-    requires least { 256 ≤ header.now.size }
+    requires least { HEADER ≤ header.now.size }
     requires fits { zone ≢ Zone.WalHeaders → header.now.size ≤ length bytes.now }
     ensures { result ≡ has_body zone header.now bytes.now }
 {
@@ -36,7 +37,7 @@ fn has_body(zone: Zone, bytes: &[u8], header: &Header) -> bool
 // The tests of a header by the file's cluster, the zone that it is read in, and the body.
 fn is_unit(layout: &Layout, cluster: u128, zone: Zone, bytes: &[u8], header: &Header) -> bool
     requires size { length bytes.now ≡ place_size layout.now zone }
-    requires least { 256 ≤ header.now.size }
+    requires least { HEADER ≤ header.now.size }
     ensures { result ≡ is_unit layout.now cluster zone bytes.now header.now }
 {
     header.cluster == cluster
@@ -60,7 +61,7 @@ fn whole_in(layout: &Layout, cluster: u128, zone: Zone, bytes: &[u8]) -> Option<
 
 #[tactic(auto, unfolding(crate::specs::Shown::is_blank))]
 fn is_blank(bytes: &[u8]) -> bool
-    requires { 256 ≤ length bytes.now }
+    requires { HEADER ≤ length bytes.now }
     ensures { result ≡ is_blank bytes.now }
 {
     bytes[..HEADER] == [0; HEADER]
@@ -68,7 +69,7 @@ fn is_blank(bytes: &[u8]) -> bool
 
 // The class of bytes that are no whole unit.
 fn class_of_none(bytes: &[u8]) -> Class
-    requires { 256 ≤ length bytes.now }
+    requires { HEADER ≤ length bytes.now }
     ensures { result ≡ class_of_none bytes.now }
 {
     if is_blank(bytes) {

@@ -3,13 +3,16 @@ ghost use Rattle.std.specs.Prelude.{◌≡◌};
 ghost use Rattle.df_format.specs.Making.{blank_header};
 
 use crate::Kind;
-use df_base::Check;
+use df_base::{Check, FIRST_VERSION, VERSION};
 
 /// What stands in place of a checksum where there is none, or where it is set later.
 pub const NO_CHECKSUM: Check = [0; 16];
 
 /// What stands in place of the checksums of the replies where none is named.
 pub const NO_CHECKSUMS: [Check; 64] = [NO_CHECKSUM; 64];
+
+/// The version of a header of a unit that is made today.
+pub const HEADER_VERSION: u16 = VERSION as u16;
 
 /// The header of a unit, 256 bytes in the file.
 #[derive(Clone, Copy, Debug, PartialEq, Eq)]
@@ -70,7 +73,7 @@ impl Header {
             slot: 0,
             kind,
             block_kind: 0,
-            version: 1,
+            version: FIRST_VERSION as u16,
             boot: 0,
             group: 0,
             group_last: 0,

@@ -22,7 +22,7 @@ pub use copy_laws::{
     same_sector_same_copy, valid_copy_is_stale, written_copy_is_shown,
 };
 pub use decode::decode_unit;
-pub use header::{Header, NO_CHECKSUM, NO_CHECKSUMS};
+pub use header::{HEADER_VERSION, Header, NO_CHECKSUM, NO_CHECKSUMS};
 pub use kind::Kind;
 pub use make::{Made, make_unit, seal_unit};
 pub use own::own_place;

@@ -1,5 +1,6 @@
 // Units as they are made at the front of a buffer: header, body, and zeros up to the last whole sector.
 ghost use Rattle.std.specs.Prelude.{◌≡◌, ◌+◌, ◌-◌, ◌*◌, ◌/◌, ◌≤◌, length, take, drop};
+ghost use Rattle.df_base.specs.declared.TheConstants.{HEADER};
 ghost use Rattle.df_base.specs.Fields.{AreBytes};
 ghost use Rattle.df_format.specs.Spelling.{spelling, sealed};
 ghost use Rattle.df_format.specs.Rules.{IsSealed, ObeysRules};
@@ -30,9 +31,9 @@ fn sectors_end(size: usize) -> usize
 // Writes the header over the first 256 bytes.
 fn put_header(into: &mut [u8], header: &Header)
     requires header { IsSealed header.now }
-    requires room { 256 ≤ length into.old }
-    ensures front { take 256 into.new ≡ spelling header.now }
-    ensures rest { drop 256 into.new ≡ drop 256 into.old }
+    requires room { HEADER ≤ length into.old }
+    ensures front { take HEADER into.new ≡ spelling header.now }
+    ensures rest { drop HEADER into.new ≡ drop HEADER into.old }
 {
     encode_header(header, &mut into[..HEADER]);
 }
@@ -40,10 +41,10 @@ fn put_header(into: &mut [u8], header: &Header)
 // Writes the header before a body of this length that stands after its place, and zeros up to the end of a sector, and gives that end.
 fn write_ends(header: &Header, count: usize, into: &mut [u8]) -> usize
     requires header { IsSealed header.now }
-    requires room { sectors_end (256 + count) ≤ length into.old }
-    requires size { 256 + count ≤ 1048576 }
-    ensures length { result ≡ sectors_end (256 + count) }
-    ensures sectors { take result into.new ≡ sectors_of (record { header = header.now; body = take count (drop 256 into.old) }) }
+    requires room { sectors_end (HEADER + count) ≤ length into.old }
+    requires size { HEADER + count ≤ 1048576 }
+    ensures length { result ≡ sectors_end (HEADER + count) }
+    ensures sectors { take result into.new ≡ sectors_of (record { header = header.now; body = take count (drop HEADER into.old) }) }
     ensures rest { drop result into.new ≡ drop result into.old }
 {
     let size = HEADER + count;
@@ -55,8 +56,8 @@ fn write_ends(header: &Header, count: usize, into: &mut [u8]) -> usize
 
 // The body that stands after the place of a header.
 fn body_in(bytes: &[u8], count: usize) -> &[u8]
-    requires { 256 + count ≤ length bytes.now }
-    ensures { result.now ≡ take count (drop 256 bytes.now) }
+    requires { HEADER + count ≤ length bytes.now }
+    ensures { result.now ≡ take count (drop HEADER bytes.now) }
 {
     &bytes[HEADER..HEADER + count]
 }
@@ -68,7 +69,7 @@ fn are_bytes(bytes: &[u8])
 
 // The header with the fields that follow from the body.
 fn for_body(header: Header, body: &[u8]) -> Header
-    requires { 256 + length body.now ≤ 1048576 }
+    requires { HEADER + length body.now ≤ 1048576 }
     ensures { result ≡ for_body header body.now }
 {
     Header {
@@ -82,14 +83,14 @@ fn for_body(header: Header, body: &[u8]) -> Header
 /// size and checksums, writes the header, and zeros up to the last whole sector, and leaves the rest of the buffer. The body has
 /// `count` bytes.
 pub fn seal_unit(header: Header, count: usize, into: &mut [u8]) -> Made
-    requires rules { ObeysRules (for_body header (take count (drop 256 into.old))) }
-    requires size { 256 + count ≤ 1048576 }
-    requires room { sectors_end (256 + count) ≤ length into.old }
-    ensures header { result.header ≡ sealed (for_body header (take count (drop 256 into.old))) }
-    ensures length { result.length ≡ sectors_end (256 + count) }
+    requires rules { ObeysRules (for_body header (take count (drop HEADER into.old))) }
+    requires size { HEADER + count ≤ 1048576 }
+    requires room { sectors_end (HEADER + count) ≤ length into.old }
+    ensures header { result.header ≡ sealed (for_body header (take count (drop HEADER into.old))) }
+    ensures length { result.length ≡ sectors_end (HEADER + count) }
     ensures sealed { IsSealed result.header }
-    ensures unit { MadeIsUnit (record { header = result.header; body = take count (drop 256 into.old) }) }
-    ensures sectors { take result.length into.new ≡ sectors_of (record { header = result.header; body = take count (drop 256 into.old) }) }
+    ensures unit { MadeIsUnit (record { header = result.header; body = take count (drop HEADER into.old) }) }
+    ensures sectors { take result.length into.new ≡ sectors_of (record { header = result.header; body = take count (drop HEADER into.old) }) }
     ensures rest { drop result.length into.new ≡ drop result.length into.old }
 {
     let body = body_in(into, count);
@@ -103,10 +104,10 @@ pub fn seal_unit(header: Header, count: usize, into: &mut [u8]) -> Made
 /// header, body and zeros up to the last whole sector, and leaves the rest of the buffer.
 pub fn make_unit(header: Header, body: &[u8], into: &mut [u8]) -> Made
     requires rules { ObeysRules (for_body header body.now) }
-    requires size { 256 + length body.now ≤ 1048576 }
-    requires room { sectors_end (256 + length body.now) ≤ length into.old }
+    requires size { HEADER + length body.now ≤ 1048576 }
+    requires room { sectors_end (HEADER + length body.now) ≤ length into.old }
     ensures header { result.header ≡ sealed (for_body header body.now) }
-    ensures length { result.length ≡ sectors_end (256 + length body.now) }
+    ensures length { result.length ≡ sectors_end (HEADER + length body.now) }
     ensures sealed { IsSealed result.header }
     ensures unit { MadeIsUnit (record { header = result.header; body = body.now }) }
     ensures sectors { take result.length into.new ≡ sectors_of (record { header = result.header; body = body.now }) }

@@ -4,18 +4,10 @@ ghost use Rattle.std.specs.Prelude.{◌≡◌};
 ghost use Rattle.df_format.specs.Reading.{is_counter, has_no_parent, is_prepare, is_reply, is_bare, is_reserved, is_block, is_linked, is_trailer, is_of_kind, is_ungrouped, is_grouped, is_first, has_boot, has_group, is_second, has_version, has_numbers};
 
 use crate::{Header, Kind, NO_CHECKSUM};
-use df_base::{HEADER, check};
-
-// The greatest op, request, sequence and boot.
-const GREATEST: u64 = 1 << 62;
+use df_base::{FIRST_VERSION, GREATEST, HEADER, VERSION, check};
 
 // The greatest distance from the first op of a group to its last.
 const GROUP: u64 = 7;
-
-// The two versions.
-const FIRST: u16 = 1;
-
-const SECOND: u16 = 2;
 
 fn is_counter(n: u64) -> bool
     ensures { result ≡ is_counter n }
@@ -144,7 +136,7 @@ fn is_grouped(header: &Header) -> bool
 fn is_first(header: &Header) -> bool
     ensures { result ≡ is_first header.now }
 {
-    header.version == FIRST && header.boot == 0 && is_ungrouped(header)
+    u32::from(header.version) == FIRST_VERSION && header.boot == 0 && is_ungrouped(header)
 }
 
 fn has_boot(header: &Header) -> bool
@@ -169,7 +161,7 @@ fn has_group(header: &Header) -> bool
 fn is_second(header: &Header) -> bool
     ensures { result ≡ is_second header.now.kind header.now }
 {
-    header.version == SECOND && has_boot(header) && has_group(header)
+    u32::from(header.version) == VERSION && has_boot(header) && has_group(header)
 }
 
 // Whether the header is one of version 1 or one of version 2.

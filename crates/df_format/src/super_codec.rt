@@ -1,5 +1,6 @@
 // The sector of a copy of the superblock: how it is written, and how it is tested and read.
 ghost use Rattle.std.specs.Prelude.{◌≡◌, ◌<◌, ◌≤◌, ◌+◌, ◌++◌, ◌==◌, not, length, take, drop, replicate, position, IfSome, IsTrue};
+ghost use Rattle.df_base.specs.declared.TheConstants.{SECTOR};
 ghost use Rattle.df_base.specs.Fields.{field_at, spelled};
 ghost use Rattle.df_format.specs.Super.{checks_bytes, fields_bytes, named_bytes, covered_bytes, copy_bytes};
 ghost use Rattle.df_format.specs.SuperRules.{IsUsable};
@@ -9,7 +10,7 @@ ghost use Rattle.df_format.specs.Copies.{nonzero_between, first_nonzero_of, chec
 use crate::codec::{check_at, put_check};
 use crate::pieces::put_zeros;
 use crate::{NO_CHECKSUMS, Super, SuperCopy, SuperFields};
-use df_base::{Check, SECTOR, check, put_u32, put_u64, put_u128, u32_at, u64_at, u128_at};
+use df_base::{Check, SECTOR, VERSION, check, put_u32, put_u64, put_u128, u32_at, u64_at, u128_at};
 use df_layout::{Class, Place, Zone};
 
 // Copies of the superblock.
@@ -36,12 +37,9 @@ const SUM: usize = 16;
 
 const PLACES: usize = 64;
 
-// The version that names the head's prepare and the replies.
-const SECOND: u32 = 2;
-
 // Writes the fields of both versions, each at its offset.
 fn put_fields(into: &mut [u8], fields: &SuperFields)
-    requires { length into.old ≡ 4096 }
+    requires { length into.old ≡ SECTOR }
     ensures { take 160 into.new ≡ take 32 into.old ++ fields_bytes fields.now }
 {
     put_u32(into, 32, fields.version);
@@ -64,7 +62,7 @@ fn put_fields(into: &mut [u8], fields: &SuperFields)
 
 // Writes the checksums of the replies, one after the other.
 fn put_checks(into: &mut [u8], checks: &[Check; 64])
-    requires { length into.old ≡ 4096 }
+    requires { length into.old ≡ SECTOR }
     ensures { take 1216 into.new ≡ take 192 into.old ++ checks_bytes checks.now }
 {
     let mut place = 0;
@@ -76,7 +74,7 @@ fn put_checks(into: &mut [u8], checks: &[Check; 64])
 
 // Writes what version 2 names after the fields of both versions, and the zeros between and after it.
 fn put_named(into: &mut [u8], fields: &SuperFields)
-    requires { length into.old ≡ 4096 }
+    requires { length into.old ≡ SECTOR }
     ensures { into.new ≡ take 160 into.old ++ named_bytes fields.now }
 {
     put_check(into, NAMED, &fields.head_checksum);
@@ -87,7 +85,7 @@ fn put_named(into: &mut [u8], fields: &SuperFields)
 
 // Writes all that the checksum covers.
 fn put_covered(into: &mut [u8], fields: &SuperFields)
-    requires { length into.old ≡ 4096 }
+    requires { length into.old ≡ SECTOR }
     ensures { drop 32 into.new ≡ covered_bytes fields.now }
 {
     put_fields(into, fields);
@@ -96,7 +94,7 @@ fn put_covered(into: &mut [u8], fields: &SuperFields)
 
 // Writes what the checksum doesn't cover: itself, the number and the zeros after it.
 fn put_front(into: &mut [u8], sum: &Check, number: u8)
-    requires { length into.old ≡ 4096 }
+    requires { length into.old ≡ SECTOR }
     ensures front { take 32 into.new ≡ sum.now ++ (spelled 4 number ++ replicate 12 0) }
     ensures rest { drop 32 into.new ≡ drop 32 into.old }
 {
@@ -108,7 +106,7 @@ fn put_front(into: &mut [u8], sum: &Check, number: u8)
 /// Writes the sector of the copy with this number, 0 to 3, over `into`.
 pub fn encode_copy(content: &Super, number: u8, into: &mut [u8])
     requires number { number < 4 }
-    requires room { length into.old ≡ 4096 }
+    requires room { length into.old ≡ SECTOR }
     ensures bytes { into.new ≡ copy_bytes number content.now }
     ensures usable { IsUsable content.now }
 {
@@ -136,10 +134,10 @@ fn nonzero_between(bytes: &[u8], at: usize, end: usize) -> Option<u64>
 
 // The offset of the first byte that isn't zero where the version has no fields.
 fn first_nonzero(version: u32, bytes: &[u8]) -> Option<u64>
-    requires { length bytes.now ≡ 4096 }
+    requires { length bytes.now ≡ SECTOR }
     ensures { result ≡ first_nonzero_of version bytes.now }
 {
-    if version == SECOND {
+    if version == VERSION {
         let between = nonzero_between(bytes, NAMED + SUM, REPLIES);
         between.or(nonzero_between(bytes, END, SECTOR))
     } else {
@@ -149,7 +147,7 @@ fn first_nonzero(version: u32, bytes: &[u8]) -> Option<u64>
 
 // The checksums that stand where version 2 has those of the replies.
 fn checks_of(bytes: &[u8]) -> [Check; 64]
-    requires { length bytes.now ≡ 4096 }
+    requires { length bytes.now ≡ SECTOR }
     ensures { result ≡ checks_at 64 192 bytes.now }
 {
     let mut checks = NO_CHECKSUMS;
@@ -161,7 +159,7 @@ fn checks_of(bytes: &[u8]) -> [Check; 64]
 
 #[tactic(auto, unfolding(crate::specs::Copies::super_fields_of))]
 fn fields_of(bytes: &[u8]) -> SuperFields
-    requires { length bytes.now ≡ 4096 }
+    requires { length bytes.now ≡ SECTOR }
     ensures { result ≡ super_fields_of bytes.now }
 {
     SuperFields {
@@ -188,14 +186,14 @@ fn fields_of(bytes: &[u8]) -> SuperFields
 }
 
 fn has_checksum(bytes: &[u8]) -> bool
-    requires { length bytes.now ≡ 4096 }
+    requires { length bytes.now ≡ SECTOR }
     ensures { result ≡ has_checksum bytes.now }
 {
     &bytes[..NUMBER] == check(&bytes[COVERED..]).as_slice()
 }
 
 fn has_zeros(bytes: &[u8]) -> bool
-    requires { length bytes.now ≡ 4096 }
+    requires { length bytes.now ≡ SECTOR }
     ensures { result ≡ has_zeros bytes.now }
 {
     bytes[ZEROS..COVERED] == [0; 12]
@@ -204,7 +202,7 @@ fn has_zeros(bytes: &[u8]) -> bool
 // Whether the bytes are a copy's, with the number that stands in them.
 #[tactic(auto, unfolding(crate::specs::Copies::is_copy))]
 fn is_copy(number: u32, bytes: &[u8]) -> bool
-    requires size { length bytes.now ≡ 4096 }
+    requires size { length bytes.now ≡ SECTOR }
     requires number { number ≡ field_at 4 16 bytes.now }
     ensures copy { result ≡ is_copy bytes.now }
     ensures number { IsTrue result → number < 4 }
@@ -216,7 +214,7 @@ fn is_copy(number: u32, bytes: &[u8]) -> bool
 /// wrong, the number isn't that of a copy, or a byte after the number isn't zero. What the fields say isn't tested.
 #[tactic(auto, unfolding(crate::specs::Copies::copy_in))]
 pub fn decode_copy(bytes: &[u8]) -> Option<SuperCopy>
-    requires { length bytes.now ≡ 4096 }
+    requires { length bytes.now ≡ SECTOR }
     ensures { result ≡ copy_in bytes.now }
 {
     let number = u32_at(bytes, NUMBER);
@@ -233,7 +231,7 @@ pub fn decode_copy(bytes: &[u8]) -> Option<SuperCopy>
 
 #[tactic(auto, unfolding(crate::specs::Copies::is_blank_copy))]
 fn is_blank(bytes: &[u8]) -> bool
-    requires { length bytes.now ≡ 4096 }
+    requires { length bytes.now ≡ SECTOR }
     ensures { result ≡ is_blank_copy bytes.now }
 {
     bytes.iter().all(|b| *b == 0)
@@ -241,7 +239,7 @@ fn is_blank(bytes: &[u8]) -> bool
 
 // The class of a sector that is no copy.
 fn class_of_none(bytes: &[u8]) -> Class
-    requires { length bytes.now ≡ 4096 }
+    requires { length bytes.now ≡ SECTOR }
     ensures { result ≡ class_of_no_copy bytes.now }
 {
     if is_blank(bytes) {
@@ -263,7 +261,7 @@ fn elsewhere(copy: &SuperCopy) -> Class
 /// The copy with this number, 0 to 3, where the 4,096 bytes of its sector are that copy; else the class of what they are.
 #[tactic(auto, unfolding(crate::specs::Copies::class_of_copy))]
 pub fn decode_own_copy(number: u8, bytes: &[u8]) -> Result<SuperCopy, Class>
-    requires { length bytes.now ≡ 4096 }
+    requires { length bytes.now ≡ SECTOR }
     ensures { result ≡ own_copy number bytes.now }
 {
     match decode_copy(bytes) {

@@ -6,17 +6,9 @@ ghost use Rattle.df_format.specs.Super.{AreChecks};
 ghost use Rattle.df_format.specs.SuperRules.{IsSuper, IsUsable, FaultsAreBrokenRules, is_whole_between, is_zero_check, greatest_trailer, has_trailer_size, test, size_tests, checkpoint_tests, progress_tests, trailer_tests, first_named, first_spare, names_none, first_tests, has_head_checksum, second_tests, version_tests, field_tests, first_failing, is_known_version, fault_of};
 
 use crate::{NO_CHECKSUM, SuperFault, SuperFields};
-use df_base::{Check, u128_at};
+use df_base::{Check, FIRST_VERSION, GREATEST, VERSION, u128_at};
 use df_layout::{Field, Layout};
 use std::marker::Model;
-
-// The two versions.
-const FIRST: u32 = 1;
-
-const SECOND: u32 = 2;
-
-// The greatest op, the greatest sequence and the greatest boot.
-const GREATEST: u64 = 1 << 62;
 
 // The places of the checksums of replies.
 const PLACES: usize = 64;
@@ -278,7 +270,7 @@ fn test_second(fields: &SuperFields) -> Result<(), SuperFault>
 fn test_by_version(fields: &SuperFields) -> Result<(), SuperFault>
     ensures { result_err result ≡ first_failing (version_tests fields.now) }
 {
-    if fields.version == FIRST {
+    if fields.version == FIRST_VERSION {
         test_first(fields)
     } else {
         test_second(fields)
@@ -299,7 +291,7 @@ fn test_each(fields: &SuperFields) -> Result<(), SuperFault>
 fn test_version(version: u32) -> Result<(), SuperFault>
     ensures { result_err result ≡ (if is_known_version version then None else Some (SuperFault.Version version)) }
 {
-    if version == FIRST || version == SECOND {
+    if version == FIRST_VERSION || version == VERSION {
         Ok(())
     } else {
         Err(SuperFault::Version { found: version })

@@ -3,7 +3,7 @@ ghost use Rattle.std.specs.Prelude.{◌≡◌};
 ghost use Rattle.df_format.specs.First.{blank_super};
 
 use crate::{NO_CHECKSUM, NO_CHECKSUMS};
-use df_base::Check;
+use df_base::{Check, VERSION};
 use df_layout::{Field, Layout};
 
 /// What a copy of the superblock says, its number aside.
@@ -55,7 +55,7 @@ impl SuperFields {
         ensures { result ≡ blank_super layout.now cluster }
     {
         SuperFields {
-            version: 2,
+            version: VERSION,
             slots: layout.slots,
             message_size: layout.message_size,
             clients: layout.clients,

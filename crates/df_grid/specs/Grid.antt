@@ -1,5 +1,6 @@
 -- The grid as its callers see it: the file's layout and cluster, the boot, and what the machine knows of the blocks.
 use Rattle.std.specs.Prelude.{◌≡◌, ◌<◌, ◌≤◌, ◌^◌, ℕ, false, Option, Some, List}
+use Rattle.df_base.specs.declared.TheConstants.{GREATEST}
 use Rattle.df_layout.specs.declared.layout.Layout.{Layout}
 use Rattle.df_layout.specs.declared.places.Zone.TheVariants.{Grid}
 use Rattle.df_format.specs.declared.kind.Kind.{Kind}
@@ -44,7 +45,7 @@ pub record IsUnheld (g : GridState) (a : ℕ) : Type 0 where
 pub record IsGrid (layout : Layout) (cluster boot size : ℕ) (of_block of_trailer : Layout) : Type 0 where
   pub named : 0 < cluster
   pub fits : cluster < 2 ^ 128
-  pub boots : boot ≤ 2 ^ 62
+  pub boots : boot ≤ GREATEST
   pub size_is : size ≡ layout.blocks
   pub block : of_block ≡ layout
   pub trailer : of_trailer ≡ layout

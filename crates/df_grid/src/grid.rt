@@ -1,6 +1,7 @@
 // The grid: which addresses are held and why, and what a new block, a release and a checkpoint make of that.
 ghost use Rattle.std.specs.Prelude.{◌≡◌, ◌≢◌, ◌*◌, ◌^◌, ◌<◌, ◌≤◌, false, [], length, map, take, replicate, slice_get, All, IfSome, IsSome, nat_lt};
 ghost use Rattle.std.specs.List.{filter};
+ghost use Rattle.df_base.specs.declared.TheConstants.{GREATEST};
 ghost use Rattle.df_grid.specs.Below.{block_released, blocks_captured, capture_finished, sum_at, is_known, number_in, is_referenced, ones, captured_blocks, referenced_among, number_of};
 ghost use Rattle.df_grid.specs.Grid.{GridState, HasAddress, IsUnheld, free_addresses, referenced_of, with_blocks, with_boot};
 ghost use Rattle.df_grid.specs.Table.{IsIdle, adopted, last_trailer_block, no_blocks, pair_in};
@@ -111,7 +112,7 @@ impl Grid {
 
     /// From now on trailer blocks are sealed in this boot, 1 to 2^62, and of version 2.
     pub fn set_boot(&mut self, boot: u64)
-        requires boot { (1 ≤ boot) × (boot ≤ 2 ^ 62) }
+        requires boot { (1 ≤ boot) × (boot ≤ GREATEST) }
         ensures { self.new ≡ with_boot self.old boot }
     {
         self.boot = boot;

@@ -1,5 +1,6 @@
 // Writes of blocks: each is one write into a place that isn't held, or into the place of the running trailer's next block.
 ghost use Rattle.std.specs.Prelude.{◌≡◌, ◌≢◌, ◌+◌, ◌≤◌, ◌<◌, ◌^◌, false, [], length, IfOk, IsSome, OnErr, OnOk};
+ghost use Rattle.df_base.specs.declared.TheConstants.{GREATEST, HEADER};
 ghost use Rattle.df_grid.specs.Below.{HasCause, Adds, for_body, own_place, ObeysRules, IsCheck, greatest_size, block_written, is_held_in, AreSteps, format_of, block_of, number_of};
 ghost use Rattle.df_grid.specs.Grid.{HasAddress, with_blocks};
 ghost use Rattle.df_grid.specs.Table.{next_written};
@@ -64,11 +65,11 @@ fn trailer_header(
     piece: &[u8],
 ) -> Header
     requires cluster { 0 < cluster }
-    requires boot { boot ≤ 2 ^ 62 }
+    requires boot { boot ≤ GREATEST }
     requires address { 0 < address }
-    requires sequence { (2 ≤ sequence) × (sequence ≤ 2 ^ 62) }
+    requires sequence { (2 ≤ sequence) × (sequence ≤ GREATEST) }
     requires before { IsBefore index before }
-    requires size { 256 + length piece.now < 2 ^ 32 }
+    requires size { HEADER + length piece.now < 2 ^ 32 }
     ensures header { result ≡ header_with cluster boot address index sequence (address_in before) (checksum_in before) }
     ensures parent { IsCheck (checksum_in before) }
     ensures rules { ObeysRules (for_body result piece.now) }
@@ -99,7 +100,7 @@ fn put_made<D: Disk>(
     requires rules { ObeysRules (for_body header piece.now) }
     requires kind { header.kind ≡ Kind.Trailer }
     requires own { IsSome (own_place layout.now Zone.Grid header) }
-    requires fits { 256 + length piece.now ≤ greatest_size layout.now Zone.Grid }
+    requires fits { HEADER + length piece.now ≤ greatest_size layout.now Zone.Grid }
     ensures shelf { shelf.new.layout ≡ layout.now }
     ensures events { Adds (made_events layout.now (made header piece.now)) (D.told disk.old) (D.told disk.new) result }
     ensures steps { AreSteps (format_of layout.now header.cluster) (made_events layout.now (made header piece.now)) (block_steps (made header piece.now)) }
@@ -147,8 +148,8 @@ impl Grid {
     ) -> Result<(), Failed>
         requires next { self.old.blocks.left ≢ [] }
         requires index { index ≡ length self.old.blocks.written }
-        requires sequence { (2 ≤ sequence) × (sequence ≤ 2 ^ 62) }
-        requires fits { 256 + length piece.now ≤ self.old.layout.block_size }
+        requires sequence { (2 ≤ sequence) × (sequence ≤ GREATEST) }
+        requires fits { HEADER + length piece.now ≤ self.old.layout.block_size }
         ensures events { Adds (made_events self.old.layout (next_unit self.old sequence piece.now)) (D.told disk.old) (D.told disk.new) result }
         ensures steps { AreSteps (format_of self.old.layout self.old.cluster) (made_events self.old.layout (next_unit self.old sequence piece.now)) (block_steps (next_unit self.old sequence piece.now)) }
         ensures unit { block_of (next_unit self.old sequence piece.now) ≡ next_block self.old sequence piece.now (number_of (next_unit self.old sequence piece.now).header.checksum) }

@@ -4,7 +4,7 @@ ghost use Rattle.df_headers.specs.Below.{reserved_header};
 ghost use Rattle.df_headers.specs.Ring.{AreReserved};
 
 use df_base::{HEADER, check};
-use df_format::{Header, Kind, seal_header};
+use df_format::{HEADER_VERSION, Header, Kind, seal_header};
 
 /// The header of an empty slot, sealed, for the header ring of a file of this cluster.
 pub fn reserved_header(cluster: u128, slot: u32) -> Header
@@ -15,7 +15,7 @@ pub fn reserved_header(cluster: u128, slot: u32) -> Header
         checksum_body: check(&[]),
         size: HEADER as u32,
         slot,
-        version: 2,
+        version: HEADER_VERSION,
         ..Header::of(Kind::Reserved, cluster)
     })
 }

@@ -1,5 +1,6 @@
 // Where the sectors of the header ring lie, and reads of them.
 ghost use Rattle.std.specs.Prelude.{◌≡◌, ◌<◌, ◌*◌, ◌^◌, length, OnOk};
+ghost use Rattle.df_base.specs.declared.TheConstants.{SECTOR};
 ghost use Rattle.df_headers.specs.Below.{HasCause, Shows, Layout, HeaderPlace, first_at};
 
 use df_base::Failed;
@@ -27,7 +28,7 @@ pub fn read_sector<D: Disk>(
 ) -> Result<(), Failed>
     requires { sector < 64 }
     ensures bytes { (layout : Layout) → OnOk result (Shows (D.told disk.old) (first_at layout (HeaderPlace (16 * sector))) room.new.bytes) }
-    ensures size { length room.new.bytes ≡ 4096 }
+    ensures size { length room.new.bytes ≡ SECTOR }
     ensures room { room.new.layout ≡ room.old.layout }
     ensures same { D.told disk.new ≡ D.told disk.old }
     ensures cause { HasCause (D.faults disk.old) (D.faults disk.new) result }

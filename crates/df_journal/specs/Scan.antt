@@ -1,5 +1,6 @@
 -- What a table of slots is seen as.
 use Rattle.std.specs.Prelude.{◌≤◌, ◌^◌, ℕ, List, length, slice_get, slice_set, Option, Some, None, Err}
+use Rattle.df_base.specs.declared.TheConstants.{GREATEST}
 use Rattle.df_layout.specs.declared.damage.Class.TheVariants.{Blank}
 use Rattle.df_buffers.specs.declared.slots.SlotSeen.{SlotSeen}
 use Rattle.df_journal.specs.declared.table.Start.{Start}
@@ -11,7 +12,7 @@ pub record Scan : Type 0 where
 
 -- within the limits of every layout
 pub record IsScan (scan : Scan) : Type 0 where
-  pub op : scan.start.op ≤ 2 ^ 62
+  pub op : scan.start.op ≤ GREATEST
   pub few : length scan.slots ≤ 1024
 
 abbrev pub with_slot : Scan → ℕ → SlotSeen → Scan

@@ -1,5 +1,6 @@
 -- The table of slots as a disk shows them.
 use Rattle.std.specs.Prelude.{◌≡◌, ◌<◌, ◌%◌, ℕ, List, length, slice_get, Option, Some, None}
+use Rattle.df_base.specs.declared.TheConstants.{SECTOR}
 use Rattle.df_base.specs.Image.{Image}
 use Rattle.df_disk.specs.Told.{Shows, Told}
 use Rattle.df_layout.specs.declared.layout.Layout.{Layout}
@@ -40,7 +41,7 @@ header_first layout slot = (span_of layout (place_in WalHeaders slot)).first
 -- these bytes are a whole sector, the one of a slot's header
 pub record HoldsSector (layout : Layout) (told : Option Told) (slot : ℕ) (bytes : List ℕ) : Type 0 where
   pub shows : Shows told (header_first layout slot) bytes
-  pub size : length bytes ≡ 4096
+  pub size : length bytes ≡ SECTOR
 
 -- unless the slot is the first of its sector, which is to be read then
 abbrev pub IsHeld : Layout → Option Told → ℕ → List ℕ → Type 0

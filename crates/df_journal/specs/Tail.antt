@@ -1,5 +1,6 @@
 -- The tail that a table of slots shows after a checkpoint, and how far taken prepares go on after it.
 use Rattle.std.specs.Prelude.{◌≡◌, ◌≢◌, ◌⊎◌, ◌<◌, ◌^◌, ◌≤◌, ◌+◌, ◌%◌, ℕ, List, length, slice_get, Option, Some, None}
+use Rattle.df_base.specs.declared.TheConstants.{GREATEST}
 use Rattle.df_layout.specs.declared.layout.Layout.{Layout}
 use Rattle.df_format.specs.declared.header.Header.{Header}
 use Rattle.df_format.specs.Spelling.{IsCheck}
@@ -65,14 +66,14 @@ AreUnstored sessions = (k : ℕ) (s : Session) → slice_get sessions k ≡ Some
 
 -- each session's request is within its limit
 abbrev pub AreNumbered : List Session → Type 0
-AreNumbered sessions = (k : ℕ) (s : Session) → slice_get sessions k ≡ Some s → s.request ≤ 2 ^ 62
+AreNumbered sessions = (k : ℕ) (s : Session) → slice_get sessions k ≡ Some s → s.request ≤ GREATEST
 
 -- a walk from this op on, whose prepare has this checksum, stays within the ring and the greatest op, and its tail ends no later
 pub record IsWithinRing (op slots : ℕ) (sum : List ℕ) (reach : Reach) : Type 0 where
   pub from : op ≤ reach.tail.op
   pub order : reach.tail.op ≤ reach.op
   pub within : reach.op ≤ op + slots
-  pub most : reach.op ≤ 2 ^ 62
+  pub most : reach.op ≤ GREATEST
   pub checksum : IsCheck reach.tail.checksum
   pub start : reach.tail.op ≡ op → reach.tail.checksum ≡ sum
 
@@ -92,5 +93,5 @@ pub record CanBeNoted (sessions : Table) (h : Header) : Type 0 where
   pub client : h.client ≢ 0
   pub room : IsKnownClient h.client sessions.sessions ⊎ (length sessions.sessions < sessions.max)
   pub checksum : IsCheck h.checksum
-  pub request : h.request ≤ 2 ^ 62
-  pub op : h.op ≤ 2 ^ 62
+  pub request : h.request ≤ GREATEST
+  pub op : h.op ≤ GREATEST

@@ -1,6 +1,7 @@
 // The walk of an open: from the checkpoint on, the prepares that the superblock names and then those that are taken, as long as each
 // fits what precedes it. The tail ends where the last whole group does.
 ghost use Rattle.std.specs.Prelude.{◌≡◌, ◌≤◌, ◌<◌, ◌+◌, ◌^◌, IfSome};
+ghost use Rattle.df_base.specs.declared.TheConstants.{GREATEST};
 ghost use Rattle.df_journal.specs.Below.{IsCheck, Units, Shape, Checkpoint};
 ghost use Rattle.df_journal.specs.Known.{AllKnown};
 ghost use Rattle.df_journal.specs.Shows.{IsSeenTable, TellsRings};
@@ -50,7 +51,7 @@ pub fn find_reach(
     sessions: &mut SessionTable,
 ) -> Reach
     requires table { IsSeenTable layout.now found.now.start.cluster found.now.slots }
-    requires op { found.now.start.op ≤ 2 ^ 62 }
+    requires op { found.now.start.op ≤ GREATEST }
     requires checksum { IsCheck checksum.now }
     requires places { sessions.old.max ≡ layout.now.clients }
     ensures reach { (sh : Shape) (image : Units) (b : Checkpoint) → TellsRings layout.now image found.now

@@ -1,5 +1,6 @@
 // The scan: each sector of the header ring and each slot of the ring of prepares is read once, into one room each, which are lent.
 ghost use Rattle.std.specs.Prelude.{◌≡◌, ◌<◌, ◌≤◌, ◌%◌, ◌^◌, length, IfOk, OnOk};
+ghost use Rattle.df_base.specs.declared.TheConstants.{GREATEST};
 ghost use Rattle.df_journal.specs.Below.{HasCause, WalHeaders, place_in, class_of, header_or_class, unit_in, header_bytes};
 ghost use Rattle.df_journal.specs.Shows.{IsHeaderThere, IsSlot};
 ghost use Rattle.df_journal.specs.Scanned.{ClassIsShown, HoldsSector, IsHeld, IsScanned, IsSlotSeen, KeepsScan, RingsAreShown};
@@ -124,7 +125,7 @@ pub fn scan_shelf<D: Disk>(
     sector: &mut Raw<HeaderSector>,
     shelf: &mut Shelf<Prepare>,
 ) -> Result<(), Failed>
-    requires op { start.now.op ≤ 2 ^ 62 }
+    requires op { start.now.op ≤ GREATEST }
     requires table { length found.old.slots ≡ layout.now.slots }
     requires shelf { shelf.old.layout ≡ layout.now }
     ensures scanned { OnOk result (IsScanned layout.now (D.told disk.old) found.new) }
@@ -148,7 +149,7 @@ pub fn scan<D: Disk>(
     sector: &mut Raw<HeaderSector>,
     room: Raw<Prepare>,
 ) -> (Raw<Prepare>, Result<(), Failed>)
-    requires op { start.now.op ≤ 2 ^ 62 }
+    requires op { start.now.op ≤ GREATEST }
     requires table { length found.old.slots ≡ layout.now.slots }
     requires room { room.layout ≡ layout.now }
     ensures scanned { OnOk result.1 (IsScanned layout.now (D.told disk.old) found.new) }

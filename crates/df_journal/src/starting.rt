@@ -4,13 +4,14 @@ ghost use Rattle.df_journal.specs.Below.{pin_of};
 ghost use Rattle.df_journal.specs.Starting.{start_of};
 
 use crate::Start;
+use df_base::VERSION;
 use df_format::SuperFields;
 
 /// The greatest op whose prepare a superblock names: in version 2 its head, in any other its checkpoint's op.
 pub fn pin_of(fields: &SuperFields) -> u64
     ensures { result ≡ pin_of fields.now }
 {
-    if fields.version == 2 {
+    if fields.version == VERSION {
         fields.head
     } else {
         fields.op

@@ -1,5 +1,6 @@
 // The table of slots: what the two rings show, slot by slot, and what is decided of each.
 ghost use Rattle.std.specs.Prelude.{◌≡◌, ◌<◌, ◌≤◌, ◌^◌, ℕ, length, slice_get};
+ghost use Rattle.df_base.specs.declared.TheConstants.{GREATEST};
 ghost use Rattle.df_journal.specs.Below.{Layout as AnyLayout, Units, decision as decided, decision_of};
 ghost use Rattle.df_journal.specs.Scan.{entry, with_slot};
 ghost use Rattle.df_journal.specs.Seen.{IsOpOf, class_of, header_of_seen};
@@ -66,7 +67,7 @@ fn class_in(ring: &Result<Header, Class>) -> Class
 // The op above the checkpoint's that belongs in the slot.
 fn op_of(slots: u64, op: u64, slot: u64) -> u64
     requires few { slots ≤ 1024 }
-    requires op { op ≤ 2 ^ 62 }
+    requires op { op ≤ GREATEST }
     requires slot { slot < slots }
     ensures { IsOpOf slots op slot result }
 {
@@ -109,7 +110,7 @@ impl SlotTable {
 
     /// Begins anew after a checkpoint.
     pub(crate) fn begin(&mut self, start: &Start)
-        requires { start.now.op ≤ 2 ^ 62 }
+        requires { start.now.op ≤ GREATEST }
         ensures start { self.new.start ≡ start.now }
         ensures slots { self.new.slots ≡ self.old.slots }
     {

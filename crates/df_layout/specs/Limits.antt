@@ -1,5 +1,6 @@
 -- The limits of the five numbers of a layout.
 use Rattle.std.specs.Prelude.{◌≡◌, ℕ, ◌≤◌, ◌%◌}
+use Rattle.df_layout.specs.declared.layout.TheConstants.{SECTOR}
 use Rattle.df_layout.specs.declared.fields.Field.{Field}
 use Rattle.df_layout.specs.declared.fields.Field.TheVariants.{Slots, MessageSize, Clients, BlockSize, Blocks}
 
@@ -9,7 +10,7 @@ AreSlots n = (16 ≤ n) × (n ≤ 1024) × (n % 16 ≡ 0)
 
 -- bytes of a prepare or a reply, in whole sectors
 abbrev pub IsMessageSize : ℕ → Type 0
-IsMessageSize n = (4096 ≤ n) × (n ≤ 1048576) × (n % 4096 ≡ 0)
+IsMessageSize n = (SECTOR ≤ n) × (n ≤ 1048576) × (n % SECTOR ≡ 0)
 
 -- sessions
 abbrev pub AreClients : ℕ → Type 0
@@ -17,7 +18,7 @@ AreClients n = (1 ≤ n) × (n ≤ 64)
 
 -- bytes of a block, in whole sectors
 abbrev pub IsBlockSize : ℕ → Type 0
-IsBlockSize n = (4096 ≤ n) × (n ≤ 524288) × (n % 4096 ≡ 0)
+IsBlockSize n = (SECTOR ≤ n) × (n ≤ 524288) × (n % SECTOR ≡ 0)
 
 -- blocks of the grid
 abbrev pub AreBlocks : ℕ → Type 0

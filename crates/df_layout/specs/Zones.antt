@@ -1,17 +1,18 @@
 -- How many sectors each zone has, and where it begins.
 use Rattle.std.specs.Prelude.{ℕ, ◌+◌, ◌*◌, ◌/◌}
 use Rattle.std.specs.Int.{div_ceil}
+use Rattle.df_layout.specs.declared.layout.TheConstants.{SECTOR}
 use Rattle.df_layout.specs.declared.layout.Layout.{Layout}
 use Rattle.df_layout.specs.declared.places.Zone.{Zone}
 use Rattle.df_layout.specs.declared.places.Zone.TheVariants.{Superblock, WalHeaders, WalPrepares, ClientReplies, Grid}
 
 -- sectors of a prepare slot and of a reply slot
 abbrev pub message_sectors : Layout → ℕ
-message_sectors layout = layout.message_size / 4096
+message_sectors layout = layout.message_size / SECTOR
 
 -- sectors of a block
 abbrev pub block_sectors : Layout → ℕ
-block_sectors layout = layout.block_size / 4096
+block_sectors layout = layout.block_size / SECTOR
 
 -- how many sectors a zone has, without the padding before the grid
 unfoldable pub zone_sectors : Layout → Zone → ℕ

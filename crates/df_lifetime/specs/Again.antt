@@ -1,5 +1,6 @@
 -- A life with damage: before any number of opens sectors of the file may be damaged, lost or swapped, and the machine may stop at any time.
 use Rattle.std.specs.Prelude.{◌≡◌, ℕ, List, [], ◌∷◌, Some}
+use Rattle.df_base.specs.declared.TheConstants.{VERSION}
 use Rattle.df_base.specs.Image.{Image, IsImage, changed}
 use Rattle.df_base.specs.Log.{AreLoose, Log, Stop, Sync, add, now}
 use Rattle.df_base.specs.Moments.{Extends}
@@ -61,7 +62,7 @@ UpgradedMayBeDamaged = (file : DataFile) (view : View) (t : Told) → IsUpgraded
 
 -- whatever life a file has had, its log is safe now, whatever a stop leaves of what it tells has a view, and its history is lived
 abbrev pub EveryLifeIsLived : Type 0
-EveryLifeIsLived = (file : DataFile) (older : List Log) (b : Told) (shown : Image) → Again file older b shown → (file.version ≡ 2) × IsHonest b × IsLivedFile file older b.log
+EveryLifeIsLived = (file : DataFile) (older : List Log) (b : Told) (shown : Image) → Again file older b shown → (file.version ≡ VERSION) × IsHonest b × IsLivedFile file older b.log
 
 -- So after any number of sessions, stops, damages and mendings a state that an open finds is one that the file had since the last open that raised its boot, that one's own log included.
 abbrev pub EveryOpenFindsSince : Type 0

@@ -1,5 +1,6 @@
 -- The life of a file: it is made, or taken as it is found, programs are run over it one after the other, whichever they are, each to its end or up to a moment, and the machine may stop at any time.
 use Rattle.std.specs.Prelude.{◌≡◌, ◌⊎◌, ◌<◌, ◌^◌, ℕ, zero, suc, List, [], ◌∷◌, ◌++◌, take, drop, Option, Some, None, Result, Ok}
+use Rattle.df_base.specs.declared.TheConstants.{GREATEST, VERSION}
 use Rattle.df_base.specs.Image.{Image, IsImage, changed}
 use Rattle.df_base.specs.Log.{AreLoose, Event, IsLeft, Log, Stop, Sync, now}
 use Rattle.df_base.specs.Moments.{Extends, IsMoment}
@@ -51,7 +52,7 @@ pub record CameThrough (c : Chapter) (acts : List Act) : Type 0 where
 pub record GoesBy (file : DataFile) (c : Chapter) (acts : List Act) (v u : View) : Type 0 where
   pub whole : IsImage c.shown
   pub found : IsFound (shape file) (unit_at file.layout file.cluster c.shown) v
-  pub unspent : boot_of v < 2 ^ 62
+  pub unspent : boot_of v < GREATEST
   pub inputs : AreInputs (acts_in c.answered ++ c.perhaps)
   pub answers_are : answers_in c.answered ≡ answers_of file (begun_work file c.shown v) (acts_in c.answered)
   pub came : CameThrough c acts
@@ -110,13 +111,13 @@ pub record GoesAlong (t n b m : Told) : Type 0 where
 
 -- A file may be taken as it is found in this image: it is of version 2, an open finds this view, with each block that it references, and a log may be restarted there.
 pub record MayTake (file : DataFile) (view : View) (image : Image) : Type 0 where
-  pub version : file.version ≡ 2
+  pub version : file.version ≡ VERSION
   pub begins : MayRestart file view image
   pub stands : Stands (unit_at file.layout file.cluster image) view
 
 -- A file of version 2 is shown: an open finds this view in the image, at the higher grade with each block that it references, and one checksum is one unit. Nothing is asked of its copies.
 pub record ShowsFile (g : Grade) (file : DataFile) (view : View) (image : Image) : Type 0 where
-  pub version : file.version ≡ 2
+  pub version : file.version ≡ VERSION
   pub whole : IsImage image
   pub found : IsFound (shape file) (unit_at file.layout file.cluster image) view
   pub distinct : AreDistinctUnits (unit_at file.layout file.cluster image)
@@ -164,7 +165,7 @@ pub data Life : DataFile → (first : View) → Told → List Chapter → Type 0
 -- The file is in order: it is of version 2, the disk is honest and its log is safe, and whatever a stop leaves now, under no chance, has a view that the file may have come to, with
 -- each block that it references.
 pub record IsInOrder (file : DataFile) (first : View) (chapters : List Chapter) (t : Told) : Type 0 where
-  pub version : file.version ≡ 2
+  pub version : file.version ≡ VERSION
   pub safe : IsSafeDisk (format file) (shape file) t.log
   pub honest : IsHonest t
   pub left : (image : Image) → IsLeft t.log image → NoChanceOf (format file) t.log image

@@ -1,5 +1,6 @@
 -- A mending in the life of a file: what a life had come to before its file was damaged is found again where known units alone were hurt, and a second file had them.
 use Rattle.std.specs.Prelude.{◌≡◌, ◌⊎◌, ◌<◌, ◌^◌, List, Some}
+use Rattle.df_base.specs.declared.TheConstants.{GREATEST}
 use Rattle.df_base.specs.Image.{Image}
 use Rattle.df_base.specs.Log.{Log, now}
 use Rattle.df_disk.specs.Told.{Told}
@@ -24,7 +25,7 @@ use Rattle.df_lifetime.specs.Life.{Chapter, Life, MayHave}
 -- A file was damaged within known units, and two superblock copies were spared, after the life by which its newest log began had come to this view. The last open came to its end, or no reply came back.
 pub record IsMendable (file : DataFile) (older : List Log) (b : Told) (view : View) (hurt mended : Image) : Type 0 where
   pub found : IsFound (shape file) (unit_at file.layout file.cluster (now b.log)) view
-  pub unspent : boot_of view < 2 ^ 62
+  pub unspent : boot_of view < GREATEST
   pub within : IsHurtKnown file view.checkpoint.content (record { log = b.log; shown = hurt })
   pub spared : IsSpared file b.log older mended
   pub last : HasWoken file b.log older ⊎ NoneCameBack view (unit_at file.layout file.cluster mended)

@@ -1,5 +1,6 @@
 -- A file of version 1 goes on: where the word `upgrade` ends, a life begins; and where it is stopped, one begins, or the file is as it was and the word may be run again.
 use Rattle.std.specs.Prelude.{◌≡◌, ◌⊎◌, []}
+use Rattle.df_base.specs.declared.TheConstants.{FIRST_VERSION, VERSION}
 use Rattle.df_base.specs.Image.{Image, IsImage}
 use Rattle.df_base.specs.Log.{IsLeft, Sync}
 use Rattle.df_base.specs.Moments.{Extends}
@@ -22,7 +23,7 @@ use Rattle.df_lifetime.specs.Words.{UpgradeWord}
 
 -- A file of version 1: an open that asks for that finds this view in the image, each block is there that it references, and no two units have one checksum.
 pub record IsOld (file : DataFile) (view : View) (image : Image) : Type 0 where
-  pub version : file.version ≡ 1
+  pub version : file.version ≡ FIRST_VERSION
   pub whole : IsImage image
   pub found : IsFound (shape file) (unit_at file.layout file.cluster image) view
   pub stands : Stands (unit_at file.layout file.cluster image) view
@@ -31,7 +32,7 @@ pub record IsOld (file : DataFile) (view : View) (image : Image) : Type 0 where
 -- the file is of version 2, and may be taken so: its view is the one that the old file had, but for the boot; and a history begins there, since all units are of earlier boots
 pub record IsUpgraded (file : DataFile) (view : View) (image : Image) : Type 0 where
   pub first : View
-  pub bare : IsSameBare (as_version 2 view) first
+  pub bare : IsSameBare (as_version VERSION view) first
   pub may : MayTake (second file) first image
   pub begins : BeginsHistory (shape (second file)) (unit_at file.layout file.cluster image)
 

@@ -1,5 +1,6 @@
 -- The newest bytes that events gave a sector, which is what a read of the sector shows.
 use Rattle.std.specs.Prelude.{ℕ, ◌==◌, ◌-◌, ◌*◌, List, [], ◌∷◌, take, drop, Option, Some, None, if◌then◌else◌}
+use Rattle.df_base.specs.declared.TheConstants.{SECTOR}
 use Rattle.df_base.specs.Image.{covers}
 use Rattle.df_base.specs.Log.{Event, Write, Sync, Stop}
 
@@ -15,7 +16,7 @@ last_change (c ∷ cs) sector = first_some (last_change cs sector) (if sector ==
 
 -- the bytes that an event gives a sector
 abbrev pub given_by : Event → ℕ → Option (List ℕ)
-given_by (Write at bytes) sector = if covers at bytes sector then Some (take 4096 (drop (4096 * (sector - at)) bytes)) else None
+given_by (Write at bytes) sector = if covers at bytes sector then Some (take SECTOR (drop (SECTOR * (sector - at)) bytes)) else None
 given_by Sync sector = None
 given_by (Stop changes) sector = last_change changes sector
 

@@ -1,5 +1,6 @@
 -- What a strike makes of what a disk tells.
 use Rattle.std.specs.Prelude.{ℕ, ◌≤◌, List, [], ◌∷◌, length, replicate}
+use Rattle.df_base.specs.declared.TheConstants.{SECTOR}
 use Rattle.df_base.specs.Image.{changed}
 use Rattle.df_base.specs.Log.{Event, now_of}
 use Rattle.df_disk.specs.Told.{Told}
@@ -9,7 +10,7 @@ use Rattle.df_memdisk.specs.declared.strike.Strike.TheVariants.{Fill, Earlier, L
 
 -- a sector of equal bytes
 unfoldable pub filled : ℕ → List ℕ
-filled byte = replicate 4096 byte
+filled byte = replicate SECTOR byte
 
 -- the bytes that a strike shows in a sector: equal ones, what the log's first events left there, or what another sector shows
 abbrev pub bytes_by : Strike → ℕ → Told → List ℕ

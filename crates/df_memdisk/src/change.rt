@@ -1,5 +1,6 @@
 // What a stop changes on a disk, and why it is refused.
 ghost use Rattle.std.specs.Prelude.{◌≡◌, length};
+ghost use Rattle.df_base.specs.declared.TheConstants.{SECTOR};
 ghost use Rattle.df_base.specs.Image.{IsSector};
 
 use df_base::SECTOR;
@@ -13,7 +14,7 @@ pub struct Change {
 
 // Bytes of the length of a sector are those of a sector.
 fn is_sector(bytes: &[u8])
-    requires { length bytes.now ≡ 4096 }
+    requires { length bytes.now ≡ SECTOR }
     ensures { IsSector bytes.now }
 {}
 

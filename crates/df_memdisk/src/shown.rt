@@ -1,5 +1,6 @@
 // What a disk shows: what its log left, but for sectors that were struck.
 ghost use Rattle.std.specs.Prelude.{◌≡◌, ◌≤◌, ◌+◌, ◌*◌, ◌/◌, length, reverse, option_copied};
+ghost use Rattle.df_base.specs.declared.TheConstants.{SECTOR};
 ghost use Rattle.df_base.specs.Image.{bytes_at};
 ghost use Rattle.df_disk.specs.Told.{AreSectors};
 ghost use Rattle.df_memdisk.specs.History.{events_of};
@@ -33,10 +34,10 @@ fn since<'a>(past: &'a [Happened], struck: &Struck) -> &'a [Happened]
 
 /// Puts what a sector shows into a buffer of one sector.
 pub fn show_sector(past: &[Happened], strikes: &[Struck], sector: u64, into: &mut [u8])
-    requires buffer { length into.old ≡ 4096 }
+    requires buffer { length into.old ≡ SECTOR }
     requires behind { AreBehind (reverse strikes.now) (length past.now) }
     ensures bytes { into.new ≡ shown_after (reverse strikes.now) (events_of past.now) sector }
-    ensures size { length into.new ≡ 4096 }
+    ensures size { length into.new ≡ SECTOR }
 {
     match newest_strike(strikes, sector) {
         Some(struck) => left_in_sector(since(past, struck), &struck.bytes, sector, into),
@@ -48,7 +49,7 @@ pub fn show_sector(past: &[Happened], strikes: &[Struck], sector: u64, into: &mu
 pub fn show_sectors(past: &[Happened], strikes: &[Struck], at: u64, into: &mut [u8])
     requires buffer { AreSectors at (length into.old) }
     requires behind { AreBehind (reverse strikes.now) (length past.now) }
-    ensures { into.new ≡ bytes_at (shown_after (reverse strikes.now) (events_of past.now)) at (length into.new / 4096) }
+    ensures { into.new ≡ bytes_at (shown_after (reverse strikes.now) (events_of past.now)) at (length into.new / SECTOR) }
 {
     for index in 0..into.len() / SECTOR {
         let from = SECTOR * index;

@@ -1,5 +1,6 @@
 // One write in the past of a disk: whole sectors, from a sector on.
 ghost use Rattle.std.specs.Prelude.{◌≡◌, ◌≤◌, ◌+◌, ◌-◌, ◌*◌, ◌%◌, length, option_copied, IfSome, IsTrue};
+ghost use Rattle.df_base.specs.declared.TheConstants.{SECTOR};
 ghost use Rattle.df_base.specs.Image.{covers};
 ghost use Rattle.df_base.specs.Log.{Write};
 ghost use Rattle.df_memdisk.specs.Newest.{given_by};
@@ -11,7 +12,7 @@ use df_base::SECTOR;
 pub struct Written {
     pub at: u64,
     pub bytes: Vec<u8>,
-    ghost whole: { length bytes.items % 4096 ≡ 0 },
+    ghost whole: { length bytes.items % SECTOR ≡ 0 },
 }
 
 impl Written {
@@ -19,7 +20,7 @@ impl Written {
     pub fn covers(&self, sector: u64) -> bool
         ensures answer { result ≡ covers self.now.at self.now.bytes.items sector }
         ensures from { IsTrue result → self.now.at ≤ sector }
-        ensures to { IsTrue result → 4096 * (sector - self.now.at) + 4096 ≤ length self.now.bytes.items }
+        ensures to { IsTrue result → SECTOR * (sector - self.now.at) + SECTOR ≤ length self.now.bytes.items }
     {
         self.at <= sector && sector - self.at < (self.bytes.as_slice().len() / SECTOR) as u64
     }
@@ -27,7 +28,7 @@ impl Written {
     /// The bytes that the write gave this sector.
     pub fn bytes_for(&self, sector: u64) -> Option<&[u8]>
         ensures bytes { option_copied result ≡ given_by (Write self.now.at self.now.bytes.items) sector }
-        ensures size { IfSome result (λ b. length b.now ≡ 4096) }
+        ensures size { IfSome result (λ b. length b.now ≡ SECTOR) }
     {
         if !self.covers(sector) {
             return None;

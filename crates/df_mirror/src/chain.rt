@@ -1,5 +1,6 @@
 // The chain of trailer blocks: each is mended, from the last to the first, before the one that it names is known.
 ghost use Rattle.std.specs.Prelude.{◌≡◌, ◌+◌, ◌-◌, ◌<◌, ◌≤◌, ℕ, length, IfOk};
+ghost use Rattle.df_base.specs.declared.TheConstants.{HEADER};
 ghost use Rattle.arrayvec.specs.ArrayVec.{array_vec_len};
 ghost use Rattle.df_disk.specs.Told.{Told};
 ghost use Rattle.df_format.specs.declared.kind.Kind.TheVariants.{Trailer as AsTrailer};
@@ -79,7 +80,7 @@ fn mend_link<A: Disk, B: Disk, W: Sink>(
     requires inside { IsInsideGrid base.now walk.at.address }
     requires few { array_vec_len walk.read + index < 70 }
     requires layout { shelf.old.layout ≡ base.now.file.layout }
-    ensures mends { (t o : Told) (n : ℕ) → Tell t o (around (A.told first.old) (B.told second.old) (W.written sink.old)) → IsCount (base.now.file.layout.block_size - 256) base.now.content.trailer_size n
+    ensures mends { (t o : Told) (n : ℕ) → Tell t o (around (A.told first.old) (B.told second.old) (W.written sink.old)) → IsCount (base.now.file.layout.block_size - HEADER) base.now.content.trailer_size n
         → n ≡ length walk.read.items + (index + 1) → HasWalkedChain base.now (superblock_units base.now t.shown) n walk
         → Mended base.now (AreOfKind AsTrailer) t o (around (A.told first.old) (B.told second.old) (W.written sink.old)) (around (A.told first.new) (B.told second.new) (W.written sink.new)) (counted_in result) (WalksTo base.now n result) }
     ensures inside { IfOk result (λ done. 0 < index → IsInsideGrid base.now done.0.at.address) }
@@ -104,7 +105,7 @@ fn mend_link<A: Disk, B: Disk, W: Sink>(
 
 // How many blocks the trailer has.
 fn count_of(base: &Superblock) -> u64
-    ensures count { IsCount (base.now.file.layout.block_size - 256) base.now.content.trailer_size result }
+    ensures count { IsCount (base.now.file.layout.block_size - HEADER) base.now.content.trailer_size result }
     ensures few { result ≤ 70 }
     ensures inside { 0 < result → IsInsideGrid base.now base.now.content.trailer_address }
 {

@@ -1,5 +1,6 @@
 // The program: it has no words, and takes its memory once the first file's layout is known.
 ghost use Rattle.std.specs.Prelude.{◌≡◌, ◌⊎◌, ◌≢◌, [], map, string_bytes, Err, IfNone, IfOk, IfSome};
+ghost use Rattle.df_base.specs.declared.TheConstants.{VERSION};
 ghost use Rattle.df_base.specs.Log.{Sync};
 ghost use Rattle.df_disk.specs.Told.{Told, after};
 ghost use Rattle.df_mirror.specs.Outside.{Blames, HasCausesOfTwo, Tell, Writes, around, counts};
@@ -11,7 +12,7 @@ use crate::mending::{Reserved, mend_all};
 use crate::status::Status;
 use crate::superblock::Superblock;
 use crate::telling::{USAGE, tell_count, tell_neither};
-use df_base::{OutOfMemory, Sink};
+use df_base::{OutOfMemory, Sink, VERSION};
 use df_buffers::{ProbeRoom, Raw};
 use df_disk::Disk;
 use df_format::Super;
@@ -24,18 +25,18 @@ use std::alloc::Global;
 // The file of a superblock, and no file where that isn't of version 2.
 fn superblock_of(content: Super) -> Option<Superblock>
     ensures some { IfSome result (λ base. base.content ≡ content) }
-    ensures none { IfNone result (content.version ≢ 2) }
+    ensures none { IfNone result (content.version ≢ VERSION) }
 {
     let layout = content.layout();
     let fields = content.fields();
-    if fields.version != 2 {
+    if fields.version != VERSION {
         return None;
     }
     Some(Superblock {
         file: DataFile {
             layout,
             cluster: fields.cluster,
-            version: 2,
+            version: VERSION,
         },
         content,
     })

@@ -1,5 +1,6 @@
 -- The boot update of an open: what may be raised, the state after it, and what it does to the device.
 use Rattle.std.specs.Prelude.{◌≡◌, ◌<◌, ◌≤◌, ◌^◌, ℕ, List}
+use Rattle.df_base.specs.declared.TheConstants.{GREATEST, VERSION}
 use Rattle.df_base.specs.Log.{Event, IsLog, Log}
 use Rattle.df_theory.specs.Units.{Content, Header, Parts, Units}
 use Rattle.df_theory.specs.Shape.{Shape, clients}
@@ -28,8 +29,8 @@ use Rattle.df_model.specs.OnDisk.{BacksOnDisk, LeadsOnDisk}
 -- the state that an open finds, in a file of either version: its boot may be raised, in a superblock of version 2 that records the state as it is
 abbrev pub BootMayLaw : Type 0
 BootMayLaw =
-    (sh : Shape) (spell : Parts → List ℕ) (image : Units) (v : View) (sum : ℕ) → IsCodec sh spell → clients sh ≤ named_places → AreOfPlaces sh image → IsFound sh image v → boot_of v < 2 ^ 62
-    → MayBoot (as_version 2 v) (boot_content (memory_of sh spell (opened sh image (as_version 2 v))) sum)
+    (sh : Shape) (spell : Parts → List ℕ) (image : Units) (v : View) (sum : ℕ) → IsCodec sh spell → clients sh ≤ named_places → AreOfPlaces sh image → IsFound sh image v → boot_of v < GREATEST
+    → MayBoot (as_version VERSION v) (boot_content (memory_of sh spell (opened sh image (as_version VERSION v))) sum)
 
 -- the state after a boot update makes sense. Of what is in memory the superblock alone is another one, and the bare view is the one of before
 pub record Raises (sh : Shape) (spell : Parts → List ℕ) (w : Work) (d : Content) : Type 0 where
@@ -40,7 +41,7 @@ pub record Raises (sh : Shape) (spell : Parts → List ℕ) (w : Work) (d : Cont
 
 -- so any state that makes sense may be raised, where boots are left
 abbrev pub RaisedLaw : Type 0
-RaisedLaw = (sh : Shape) (spell : Parts → List ℕ) (w : Work) (sum : ℕ) → IsWork sh spell w → boot_of (kept w) < 2 ^ 62 → Raises sh spell w (boot_content (memory_of sh spell w) sum)
+RaisedLaw = (sh : Shape) (spell : Parts → List ℕ) (w : Work) (sum : ℕ) → IsWork sh spell w → boot_of (kept w) < GREATEST → Raises sh spell w (boot_content (memory_of sh spell w) sum)
 
 -- ---- what it does to the device
 
@@ -59,7 +60,7 @@ pub record IsMendedFor (sh : Shape) (spell : Parts → List ℕ) (log : UnitLog)
 -- in one log: it leads from there to a file that is kept by the state after it
 abbrev pub BootCommandLaw : Type 0
 BootCommandLaw =
-    (sh : Shape) (spell : Parts → List ℕ) (log : UnitLog) (w : Work) (sum : ℕ) (steps : List Step) → IsMendedFor sh spell log w → boot_of (kept w) < 2 ^ 62 → DoesBoot (boot_content (memory_of sh spell w) sum) steps
+    (sh : Shape) (spell : Parts → List ℕ) (log : UnitLog) (w : Work) (sum : ℕ) (steps : List Step) → IsMendedFor sh spell log w → boot_of (kept w) < GREATEST → DoesBoot (boot_content (memory_of sh spell w) sum) steps
     → LeadsOn sh spell log w (raised w (boot_content (memory_of sh spell w) sum)) steps × (IsBacked log w → BacksOn sh log w (raised w (boot_content (memory_of sh spell w) sum)) steps)
 
 -- ---- an open
@@ -80,7 +81,7 @@ pub record MayOpenFor (sh : Shape) (spell : Parts → List ℕ) (log : UnitLog) 
 abbrev pub OpenCommandLaw : Type 0
 OpenCommandLaw =
     (sh : Shape) (spell : Parts → List ℕ) (log : UnitLog) (w : Work) (table : ℕ → Header) (headers : List Units) (copies : List (ℕ × Units)) (sum : ℕ) (steps : List Step)
-    → MayOpenFor sh spell log w table headers copies → boot_of (kept w) < 2 ^ 62 → DoesOpen (boot_content (memory_of sh spell w) sum) headers copies steps
+    → MayOpenFor sh spell log w table headers copies → boot_of (kept w) < GREATEST → DoesOpen (boot_content (memory_of sh spell w) sum) headers copies steps
     → LeadsOn sh spell log w (raised w (boot_content (memory_of sh spell w) sum)) steps × (IsBacked log w → BacksOn sh log w (raised w (boot_content (memory_of sh spell w) sum)) steps)
 
 -- these device calls, in order, are its steps
@@ -92,7 +93,7 @@ pub record DoesOpenOnDisk (f : Format) (d : Content) (headers : List Units) (cop
 abbrev pub DiskOpenLaw : Type 0
 DiskOpenLaw =
     (f : Format) (sh : Shape) (spell : Parts → List ℕ) (log : Log) (w : Work) (table : ℕ → Header) (headers : List Units) (copies : List (ℕ × Units)) (sum : ℕ) (events : List Event)
-    → IsFormat f → IsLog log → MayOpenFor sh spell (units_log f log) w table headers copies → boot_of (kept w) < 2 ^ 62 → DoesOpenOnDisk f (boot_content (memory_of sh spell w) sum) headers copies events
+    → IsFormat f → IsLog log → MayOpenFor sh spell (units_log f log) w table headers copies → boot_of (kept w) < GREATEST → DoesOpenOnDisk f (boot_content (memory_of sh spell w) sum) headers copies events
     → LeadsOnDisk f sh spell log w (raised w (boot_content (memory_of sh spell w) sum)) events × (IsBacked (units_log f log) w → BacksOnDisk f sh log w (raised w (boot_content (memory_of sh spell w) sum)) events)
 
 -- whatever the copies of an image showed in which a view is found: after a mending and the boot update, a log that is restarted there is kept by the state after it

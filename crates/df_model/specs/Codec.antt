@@ -1,6 +1,7 @@
 -- What a trailer may say, and how it is spelled.
 use Rattle.std.specs.Prelude.{◌≡◌, ◌<◌, ◌≤◌, ◌^◌, ℕ, List, [], ◌∷◌, length, Some}
 use Rattle.std.specs.List.{slice_get}
+use Rattle.df_base.specs.declared.TheConstants.{GREATEST, HEADER}
 pub use Rattle.df_base.specs.Fields.{AreBytes}
 use Rattle.df_theory.specs.Units.{Layout, Parts, Session}
 use Rattle.df_theory.specs.Shape.{Shape}
@@ -21,8 +22,8 @@ AreChecksums (c ∷ cs) = IsChecksum c × AreChecksums cs
 -- the fields of a session are in range
 pub record IsLawfulSession (s : Session) : Type 0 where
   pub client : (0 < s.client) × (s.client < 2 ^ 128)
-  pub request : (0 < s.request) × (s.request ≤ 2 ^ 62)
-  pub op : (0 < s.op) × (s.op ≤ 2 ^ 62)
+  pub request : (0 < s.request) × (s.request ≤ GREATEST)
+  pub op : (0 < s.op) × (s.op ≤ GREATEST)
 
 -- no more sessions than there are places, of clients that differ
 pub record AreLawful (places : ℕ) (ss : List Session) : Type 0 where
@@ -44,4 +45,4 @@ pub record IsCodec (sh : Shape) (spell : Parts → List ℕ) : Type 0 where
   pub size : (op : ℕ) (parts : Parts) → IsLawful sh.layout op parts → length (spell parts) ≤ greatest_trailer sh.layout
   pub reads : (op : ℕ) (parts : Parts) → IsLawful sh.layout op parts → sh.parse op (spell parts) ≡ Some parts
   pub lawful : (op : ℕ) (text : List ℕ) (parts : Parts) → AreBytes text → sh.parse op text ≡ Some parts → IsLawful sh.layout op parts
-  pub room : 256 < sh.layout.block_size
+  pub room : HEADER < sh.layout.block_size

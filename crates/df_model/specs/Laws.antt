@@ -1,5 +1,6 @@
 -- The laws of the machine: it keeps its sense, and what a call does to the device leads from the view before to the view after.
 use Rattle.std.specs.Prelude.{◌≡◌, ◌+◌, ◌^◌, ◌%◌, ◌<◌, ◌≤◌, ℕ, length, true, false, List, [], ◌∷◌, Option, Some, None}
+use Rattle.df_base.specs.declared.TheConstants.{GREATEST}
 use Rattle.df_theory.specs.Units.{Block, BlockPlace, BlockUnit, Header, HeaderPlace, HeaderUnit, Message, PreparePlace, PrepareUnit, ReplyPlace, ReplyUnit, Units, Parts, overlay}
 use Rattle.df_theory.specs.Sessions.{session_of_header}
 use Rattle.df_theory.specs.Tails.{In}
@@ -78,13 +79,13 @@ pub record IsLeastFree (sh : Shape) (w : Work) (a : ℕ) : Type 0 where
 -- what may be done isn't refused, where its fields are in range
 abbrev pub AppendExactLaw : Type 0
 AppendExactLaw =
-    (sh : Shape) (spell : Parts → List ℕ) (w : Work) (sum client request : ℕ) (body : List ℕ) → IsWork sh spell w → w.staged ≡ [] → 0 < client → length body ≤ message_room sh.layout → request ≤ 2 ^ 62
+    (sh : Shape) (spell : Parts → List ℕ) (w : Work) (sum client request : ℕ) (body : List ℕ) → IsWork sh spell w → w.staged ≡ [] → 0 < client → length body ≤ message_room sh.layout → request ≤ GREATEST
     → MayAppend sh (kept w) (prepare_of (memory_of sh spell w) sum client request body ∷ []) → first_refusal (append_refusals (memory_of sh spell w) client request body) ≡ None
 
 -- a request is staged where it could be appended after those that are staged
 abbrev pub StageExactLaw : Type 0
 StageExactLaw =
-    (sh : Shape) (spell : Parts → List ℕ) (w : Work) (client request : ℕ) (body : List ℕ) → IsWork sh spell w → 0 < client → length body ≤ message_room sh.layout → request ≤ 2 ^ 62
+    (sh : Shape) (spell : Parts → List ℕ) (w : Work) (client request : ℕ) (body : List ℕ) → IsWork sh spell w → 0 < client → length body ≤ message_room sh.layout → request ≤ GREATEST
     → MayAppend sh (kept w) (group_of (memory_of sh spell (with_staged w (record { client = client; request = request; body = body }))) []) → first_refusal (stage_refusals (memory_of sh spell w) client request body) ≡ None
 
 abbrev pub ReplyExactLaw : Type 0

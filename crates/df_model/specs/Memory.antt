@@ -1,6 +1,7 @@
 -- What a replica keeps in memory of its state: refusals, new units and what reads want are functions of it alone.
 use Rattle.std.specs.Prelude.{ℕ, ◌-◌, List, [], ◌∷◌, length, map, Option, Some, None}
 use Rattle.std.specs.List.{range_with_len, slice_get}
+use Rattle.df_base.specs.declared.TheConstants.{HEADER}
 use Rattle.df_layout.specs.declared.damage.Finding.{Finding}
 use Rattle.df_theory.specs.Units.{Block, Content, Layout, Message, Parts, Session}
 use Rattle.df_theory.specs.Shape.{Shape}
@@ -114,7 +115,7 @@ reply_sum m place = joined (slice_get m.stored place)
 
 -- the longest body of a prepare or a reply, and of a block
 abbrev pub message_room : Layout → ℕ
-message_room l = l.message_size - 256
+message_room l = l.message_size - HEADER
 
 abbrev pub block_room : Layout → ℕ
-block_room l = l.block_size - 256
+block_room l = l.block_size - HEADER

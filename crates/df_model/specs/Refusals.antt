@@ -1,5 +1,6 @@
 -- Why a call is refused: its tests in their order, each with its answer, over what is in memory. The first that holds is answered.
 use Rattle.std.specs.Prelude.{ℕ, ◌+◌, ◌-◌, ◌^◌, ◌==◌, Bool, true, false, ◌&&◌, ◌||◌, nat_lt, nat_le, not, if◌then◌else◌, List, [], ◌∷◌, ◌++◌, length, Option, Some, None}
+use Rattle.df_base.specs.declared.TheConstants.{GREATEST}
 use Rattle.df_theory.specs.Units.{Session}
 use Rattle.df_theory.specs.Sessions.{sessions_after}
 use Rattle.df_model.specs.Work.{is_known}
@@ -67,7 +68,7 @@ request_refusals m client request body =
     ∷ (not (request == next_request session), append.RequestOrder (next_request session))
     ∷ (m.head - m.replies == 8, append.PipelineFull (m.head - m.replies))
     ∷ (nat_lt (m.content.op + m.layout.slots) (m.head + 1), append.WalFull (m.head + 1) m.content.op)
-    ∷ ((m.head == 2 ^ 62) || nat_lt (2 ^ 62) request, append.OpsSpent)
+    ∷ ((m.head == GREATEST) || nat_lt GREATEST request, append.OpsSpent)
     ∷ []
 
 -- as if what is staged were appended, and no reply were stored yet
@@ -119,7 +120,7 @@ begin_refusals m needed root =
     (is_running m.running, begin.Running (steps_left m.running))
     ∷ (nat_lt 1024 (length root), begin.RootTooLong 1024)
     ∷ (nat_lt (length (free_of m)) needed, begin.GridFull needed (length (free_of m)))
-    ∷ (m.content.sequence == 2 ^ 62, begin.SequenceSpent)
+    ∷ (m.content.sequence == GREATEST, begin.SequenceSpent)
     ∷ []
 
 abbrev pub prepare_refusals : Memory → (op : ℕ) → List (Bool × PrepareError)

@@ -1,6 +1,7 @@
 -- A state that makes sense: what each call may rely on, and keeps.
 use Rattle.std.specs.Prelude.{◌≡◌, ◌<◌, ◌≤◌, ◌+◌, ◌-◌, ◌*◌, ◌^◌, ℕ, true, List, [], ◌∷◌, length, take, Option, Some, None}
 use Rattle.std.specs.List.{slice_get}
+use Rattle.df_base.specs.declared.TheConstants.{GREATEST, VERSION}
 use Rattle.df_theory.specs.Units.{Block, BlockPlace, BlockUnit, Content, Message, Units, Parts}
 use Rattle.df_theory.specs.Sessions.{sessions_after}
 use Rattle.df_theory.specs.Tails.{EndsAt, In, last_checksum}
@@ -35,7 +36,7 @@ pub record AreWaiting (v : View) (sums : List ℕ) : Type 0 where
 pub record AreStaged (sh : Shape) (v : View) (ps : List Message) : Type 0 where
   pub room : length v.tail + length ps ≤ slots sh
   pub pipeline : head v + length ps ≤ v.replies + 8
-  pub unspent : head v + length ps ≤ 2 ^ 62
+  pub unspent : head v + length ps ≤ GREATEST
   pub asks : MayAskInTurn (clients sh) (sessions v) ps
   pub sessions : AreLawful (clients sh) (sessions_after (sessions v) ps)
 
@@ -55,7 +56,7 @@ pub record IsCapture (sh : Shape) (spell : Parts → List ℕ) (v : View) (r : R
   pub ends : EndsAt r.op v.tail
   pub op_checksum : r.op_checksum ≡ last_checksum v.checkpoint.content.op_checksum (take (r.op - v.checkpoint.content.op) v.tail)
   pub sessions : r.parts.sessions ≡ sessions_after v.checkpoint.parts.sessions (take (r.op - v.checkpoint.content.op) v.tail)
-  pub unspent : sequence v < 2 ^ 62
+  pub unspent : sequence v < GREATEST
   pub lawful : IsLawful sh.layout r.op r.parts
   pub count : IsCount (block_room sh.layout) (length (spell r.parts)) (length r.written + length r.left)
   pub links : Links (block_room sh.layout) (draft sh spell v r) r.written (last_address r.written) (last_sum r.written)
@@ -83,7 +84,7 @@ AreOne w = (a c d : ℕ) → IsKnown w a c → IsKnown w a d → c ≡ d
 
 -- the file is of version 2: at each place that sessions can have its superblock names a checksum, or zero
 pub record IsVersionTwo (sh : Shape) (v : View) : Type 0 where
-  pub version : sh.version ≡ 2
+  pub version : sh.version ≡ VERSION
   pub places : clients sh ≤ named_places
   pub names : length v.checkpoint.content.reply_checksums ≡ named_places
 

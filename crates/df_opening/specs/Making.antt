@@ -1,6 +1,7 @@
 -- The making of a whole file: its device calls, what they are in the words of the theory, and on what disk a file may be made.
 use Rattle.std.specs.Prelude.{◌≡◌, ◌<◌, ◌+◌, ◌/◌, ℕ, zero, suc, List, [], ◌∷◌, ◌++◌, map, Option, Some, Result, OnOk}
 use Rattle.std.specs.List.{range_with_len}
+use Rattle.df_base.specs.declared.TheConstants.{VERSION}
 use Rattle.df_base.specs.Log.{Event, IsLog, Sync}
 use Rattle.df_base.specs.Moments.{EachMoment}
 use Rattle.df_disk.specs.Told.{Told}
@@ -53,7 +54,7 @@ abbrev pub making_steps : Layout → ℕ → List Step
 making_steps layout cluster = format_steps (header_puts 0 (sectors_in layout (reserved_table layout cluster))) (put_copies (first_super layout cluster))
 
 abbrev pub file_of : (layout : Layout) (cluster : ℕ) → 0 < cluster → DataFile
-file_of layout cluster named = record { layout = layout; cluster = cluster; version = 2; named = named }
+file_of layout cluster named = record { layout = layout; cluster = cluster; version = VERSION; named = named }
 
 -- a file of this layout and cluster may be made on the disk, as on one that was never written
 pub record MayMakeOn (layout : Layout) (cluster : ℕ) (t : Told) : Type 0 where

@@ -1,6 +1,7 @@
 -- The mending of a file: which sectors of the header ring are written, its device calls, what they are in the words of the theory, and what they leave.
 use Rattle.std.specs.Prelude.{◌≡◌, ◌⊎◌, ◌+◌, ◌/◌, ◌==◌, ◌&&◌, ℕ, Bool, true, false, List, [], ◌∷◌, ◌++◌, length, map, Option, Some, Result, Ok, Err}
 use Rattle.std.specs.List.{filter, list_any, range_with_len}
+use Rattle.df_base.specs.declared.TheConstants.{VERSION}
 use Rattle.df_base.specs.Image.{Image, IsImage}
 use Rattle.df_base.specs.Log.{Event, IsLeft, IsLog, Log, Sync, now}
 use Rattle.df_disk.specs.Told.{IsHonest, Told, did}
@@ -124,7 +125,7 @@ pub record IsPlanned (file : DataFile) (table : List Header) (mends : List Mend)
 
 -- an honest disk with a file of version 2, whose log rests on a view and has nothing loose, where no unit came about by chance: what holds of it after the barrier of an open
 pub record RestsOnDisk (g : Grade) (file : DataFile) (view : View) (t : Told) : Type 0 where
-  pub version : file.version ≡ 2
+  pub version : file.version ≡ VERSION
   pub is_log : IsLog t.log
   pub honest : IsHonest t
   pub rests : RestsOn (shape file) (units_log (format file) t.log) view

@@ -1,5 +1,6 @@
 // What the rooms of a surveyed file list is mended, and its boot is raised; then calls may go on.
 ghost use Rattle.std.specs.Prelude.{◌≡◌, ◌<◌, ◌^◌, length, IfErr, IfOk, None, OnErr, OnOk};
+ghost use Rattle.df_base.specs.declared.TheConstants.{GREATEST};
 ghost use Rattle.df_format.specs.SuperRules.{fault_of};
 ghost use Rattle.df_opening.specs.Below.{HasCause, IsBlamed, is_mend_fault, update_events, without_rooms};
 ghost use Rattle.df_opening.specs.Held.{AreAsBefore, AreLogRoomsOf};
@@ -65,7 +66,7 @@ fn mend_parts<D: Disk>(disk: &mut D, parts: &mut Parts, members: [bool; 4]) -> R
 // What the superblock says that an open writes: the state of these parts as it is, with the next boot. It obeys the rules.
 fn next_fields(parts: &Parts) -> SuperFields
     requires whole { AreWhole parts.now }
-    requires unspent { parts.now.content.boot < 2 ^ 62 }
+    requires unspent { parts.now.content.boot < GREATEST }
     ensures fields { result ≡ boot_fields (state_in parts.now) }
     ensures rules { fault_of result ≡ None }
 {
@@ -81,7 +82,7 @@ fn next_fields(parts: &Parts) -> SuperFields
 // That superblock.
 fn next_superblock(parts: &Parts) -> Super
     requires whole { AreWhole parts.now }
-    requires unspent { parts.now.content.boot < 2 ^ 62 }
+    requires unspent { parts.now.content.boot < GREATEST }
     ensures { result ≡ boot_fields (state_in parts.now) }
 {
     match test_fields(&next_fields(parts)) {
@@ -93,7 +94,7 @@ fn next_superblock(parts: &Parts) -> Super
 // Raises the boot of the file of these parts by this superblock; then units are made in it, and calls may go on.
 fn raise_parts<D: Disk>(disk: &mut D, parts: &mut Parts, content: Super) -> Result<(), MendError>
     requires whole { AreWhole parts.old }
-    requires unspent { parts.old.content.boot < 2 ^ 62 }
+    requires unspent { parts.old.content.boot < GREATEST }
     requires content { content ≡ boot_fields (state_in parts.old) }
     ensures state { OnOk result (state_in parts.new ≡ raised_state (state_in parts.old)) }
     ensures kept { OnErr result (state_in parts.new ≡ state_in parts.old) }

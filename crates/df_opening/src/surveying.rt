@@ -1,5 +1,6 @@
 // The survey of a file: what it shows is read, its state is found, and what is to be mended is listed. Nothing is written.
 ghost use Rattle.std.specs.Prelude.{◌≡◌, ◌≤◌, length, IfOk, IfErr};
+ghost use Rattle.df_base.specs.declared.TheConstants.{VERSION};
 ghost use Rattle.df_opening.specs.Below.{IsBlamed, is_open_fault, Syncs};
 ghost use Rattle.df_damage.specs.Below.{AreFound};
 ghost use Rattle.df_damage.specs.Surveying.{IsPlannedFor, IsWellFound};
@@ -35,7 +36,7 @@ fn root_fits(root: &ArrayVec<u8, ROOT>)
 // The parts of a file of version 2 that was scanned and whose traces were found, with nothing staged and the tour at its start.
 fn parts_in(scanned: Scanned, traces: Traces, waiting: ArrayVec<Check, 8>) -> Parts
     requires found { IsWellFound (record { scanned = scanned; traces = traces; waiting = waiting }) }
-    requires version { scanned.file.version ≡ 2 }
+    requires version { scanned.file.version ≡ VERSION }
     requires planned { IsPlannedFor (record { scanned = scanned; traces = traces; waiting = waiting }) }
     ensures found { AreFound result }
     ensures seen { survey_in (record { parts = result; chosen = scanned.copies.found.chosen }) ≡ survey_found (record { scanned = scanned; traces = traces; waiting = waiting }) }
@@ -82,7 +83,7 @@ fn parts_in(scanned: Scanned, traces: Traces, waiting: ArrayVec<Check, 8>) -> Pa
 // What was surveyed, as parts and the choice.
 fn parts_of(surveyed: Surveyed) -> SurveyedFile
     requires found { IsWellFound surveyed }
-    requires version { surveyed.scanned.file.version ≡ 2 }
+    requires version { surveyed.scanned.file.version ≡ VERSION }
     requires planned { IsPlannedFor surveyed }
     ensures found { AreFound result.parts }
     ensures seen { survey_in result ≡ survey_found surveyed }

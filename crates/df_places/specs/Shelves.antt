@@ -1,5 +1,6 @@
 -- A shelf: the room of a kind of unit between two calls, and what is read into it.
 use Rattle.std.specs.Prelude.{◌≡◌, ◌+◌, ℕ, List, length, take, Option, Some, None}
+use Rattle.df_base.specs.declared.TheConstants.{HEADER}
 use Rattle.df_base.specs.Image.{Image}
 use Rattle.df_disk.specs.Told.{Told}
 use Rattle.df_layout.specs.declared.layout.Layout.{Layout}
@@ -69,7 +70,7 @@ pub record IsUnitMade (layout : Layout) (header : Header) (body : List ℕ) (hel
   pub layout_is : held.layout ≡ layout
   pub unit : held.unit ≡ record { header = sealed (for_body header body); body = body }
   pub valid : MadeIsUnit held.unit
-  pub sectors : take (sectors_end (256 + length body)) held.bytes ≡ sectors_of held.unit
+  pub sectors : take (sectors_end (HEADER + length body)) held.bytes ≡ sectors_of held.unit
 
 abbrev pub HoldsMade : Layout → Header → List ℕ → Option Holding → Type 0
 HoldsMade layout header body None = ⊥

@@ -1,5 +1,6 @@
 // The room of a kind of unit, as it lies between two calls: with any bytes, or with a sound unit in it, which it lends.
 ghost use Rattle.std.specs.Prelude.{◌≡◌, ◌≢◌, ◌≤◌, ◌+◌, None, Some, length, IfOk, IsSome};
+ghost use Rattle.df_base.specs.declared.TheConstants.{HEADER};
 ghost use Rattle.df_places.specs.Below.{HasCause, AreBytes, HasPlace, Zone, class_of, for_body, header_or_class, own_place, ObeysRules, greatest_size, place_size, unit_in};
 ghost use Rattle.df_places.specs.Shelves.{HoldsBlanked, HoldsFound, HoldsMade, IsRead, IsShelf};
 ghost use Rattle.df_places.specs.Units.{IsSeen, IsThere};
@@ -168,7 +169,7 @@ impl<K: UnitKind> Shelf<K> {
         requires rules { ObeysRules (for_body header body.now) }
         requires kind { header.kind ≡ K.KIND }
         requires own { IsSome (own_place self.old.layout K.ZONE header) }
-        requires fits { 256 + length body.now ≤ greatest_size self.old.layout K.ZONE }
+        requires fits { HEADER + length body.now ≤ greatest_size self.old.layout K.ZONE }
         ensures layout { self.new.layout ≡ self.old.layout }
         ensures made { HoldsMade self.old.layout header body.now self.new.held }
     {

@@ -1,6 +1,7 @@
 -- What an open finds after a superblock, by what a scan saw of the slots and of the replies: the state, or the first damage in the order of open.
 use Rattle.std.specs.Prelude.{◌≡◌, ◌+◌, ◌-◌, ◌<◌, ◌≤◌, ◌^◌, ℕ, Bool, nat_le, if◌then◌else◌, List, [], length, map, slice_get, position, Option, Some, None, Result, Ok, Err}
 use Rattle.std.specs.List.{range_with_len}
+use Rattle.df_base.specs.declared.TheConstants.{GREATEST}
 use Rattle.df_base.specs.Image.{IsImage}
 use Rattle.df_disk.specs.Told.{Told}
 use Rattle.df_layout.specs.declared.damage.Class.{Class}
@@ -94,7 +95,7 @@ pub record FindsView (sh : Shape) (image : Units.Units) (b : Checkpoint) (traces
   pub ends : EndsAt b view.tail traces.tail sessions
   pub replies : view.replies ≡ traces.replies
   pub found : Found.IsFound sh image view
-  pub unspent : boot_of view < 2 ^ 62
+  pub unspent : boot_of view < GREATEST
 
 -- of each image that was read the open ends so, by the theory
 abbrev pub EachOpens : Read → Refusal → Type 0

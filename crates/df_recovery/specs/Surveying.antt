@@ -1,6 +1,7 @@
 -- What a survey of a file answers where a version is asked for, and what is to be mended.
 use Rattle.std.specs.Prelude.{◌≡◌, ◌<◌, ◌≤◌, ◌+◌, ◌^◌, ℕ, Bool, false, not, List, [], ◌++◌, length, map, get_or, Option, Some, None, Result, Ok, Err}
 use Rattle.std.specs.List.{filter, range_with_len}
+use Rattle.df_base.specs.declared.TheConstants.{GREATEST}
 use Rattle.df_base.specs.Image.{Image, IsImage}
 use Rattle.df_disk.specs.Told.{Told}
 use Rattle.df_layout.specs.declared.damage.Mend.{Mend}
@@ -74,13 +75,13 @@ pub record EndsBehind (layout : Layout) (f : SuperFields) (traces : Traces) : Ty
   -- it has no more prepares than the ring has slots
   pub within : traces.tail.op ≤ f.op + layout.slots
   -- its op is at most the greatest one
-  pub most : traces.tail.op ≤ 2 ^ 62
+  pub most : traces.tail.op ≤ GREATEST
   -- no reply is stored of a later op
   pub order : traces.replies ≤ traces.tail.op
   -- at most eight prepares wait for their replies
   pub few : traces.tail.op ≤ traces.replies + 8
   -- the superblock's boot can be raised
-  pub unspent : f.boot < 2 ^ 62
+  pub unspent : f.boot < GREATEST
 
 -- the sessions after the tail make sense by themselves
 pub record AreAfter (traces : Traces) (sessions : List Session) : Type 0 where

@@ -1,6 +1,7 @@
 -- What an image answers to an open with rooms of a layout: the first refusal of the order of open with all that is told of it, or the state, which
 -- is the machine's. The image is any one, whatever was done to the disk.
 use Rattle.std.specs.Prelude.{◌≡◌, ◌≢◌, ◌⊎◌, ◌<◌, ◌^◌, ℕ, Result, Ok, Err}
+use Rattle.df_base.specs.declared.TheConstants.{GREATEST}
 use Rattle.df_base.specs.Image.{Image}
 use Rattle.df_layout.specs.declared.damage.Class.{Class}
 use Rattle.df_layout.specs.declared.damage.Class.TheVariants.{Stale}
@@ -86,7 +87,7 @@ pub record IsOpenedAs (version : ℕ) (layout : Layout) (image : Image) (s : Sta
   pub of : IsAsked version layout s.file
   pub view : View
   pub found : IsFound (shape s.file) (unit_at layout s.file.cluster image) view
-  pub unspent : boot_of view < 2 ^ 62
+  pub unspent : boot_of view < GREATEST
   pub stands : Represents s (opened (shape s.file) (unit_at layout s.file.cluster image) view)
 
 -- the answer, where this version is asked for; none where the disk failed

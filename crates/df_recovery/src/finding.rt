@@ -10,6 +10,7 @@ ghost use Rattle.df_recovery.specs.Surveying.{AreAfter, EndsBehind};
 
 use crate::known::find_known;
 use crate::{Found, OpenError};
+use df_base::GREATEST;
 use df_journal::{SlotTable, Tail, bound_top, count_rings, is_behind, is_lost, slot_of};
 use df_layout::{Class, Layout, Place, Zone};
 use df_replies::{Lacking, ReplyTable};
@@ -96,9 +97,6 @@ fn bound_of(seen: &Counters, slots: &SlotTable, boot: u64, head: u64) -> Counter
     }
 }
 
-// The greatest boot, above which none can be raised.
-const GREATEST_BOOT: u64 = 1 << 62;
-
 /// The state after the checkpoint of a superblock, which the table of slots and the replies show; the sessions, at first
 /// the checkpoint's, become those after the tail. Or the first refusal of an open: `Superblock` where a unit is of a later
 /// checkpoint or boot, `WalPrepares` where a prepare that the superblock names isn't shown or doesn't fit, or an op above the tail
@@ -146,7 +144,7 @@ pub fn find_state(
     match replies.first_lacking(sessions, stored, content) {
         Some(lacking) => Err(reply_damage(&lacking)),
         None => {
-            if content.boot == GREATEST_BOOT {
+            if content.boot == GREATEST {
                 Err(OpenError::BootSpent)
             } else {
                 Ok(Traces {

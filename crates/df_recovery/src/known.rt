@@ -8,7 +8,7 @@ ghost use Rattle.df_recovery.specs.Below.{Checkpoint, IsWithinRing, KeepsRules, 
 ghost use Rattle.df_recovery.specs.Known.{BlamesKnown, IsBaseOf};
 ghost use Rattle.df_journal.specs.Starting.{start_of};
 
-use df_base::Check;
+use df_base::{Check, VERSION};
 use df_format::SuperFields;
 use df_journal::{Reach, SlotTable, find_reach, lacking_known, pin_of, slot_of};
 use df_layout::Layout;
@@ -18,7 +18,7 @@ use df_sessions::SessionTable;
 fn pin_checksum_of(fields: &SuperFields) -> Check
     ensures { result ≡ pin_checksum_of fields.now }
 {
-    if fields.version == 2 {
+    if fields.version == VERSION {
         fields.head_checksum
     } else {
         fields.op_checksum

@@ -1,5 +1,6 @@
 // Both rings and the reply slots are scanned into the tables of the rooms, which are lent.
 ghost use Rattle.std.specs.Prelude.{◌≡◌, ◌≤◌, ◌^◌, OnOk};
+ghost use Rattle.df_base.specs.declared.TheConstants.{GREATEST};
 ghost use Rattle.df_recovery.specs.Below.{HasCause};
 ghost use Rattle.df_journal.specs.Scanned.{IsScanned};
 ghost use Rattle.df_replies.specs.Shown.{AreRepliesScanned as AreReplies};
@@ -12,7 +13,7 @@ use df_rooms::LogRooms;
 
 // Scans both rings into the table of the rooms.
 fn scan_rings<D: Disk>(disk: &mut D, start: &Start, rooms: &mut LogRooms) -> Result<(), Failed>
-    requires op { start.now.op ≤ 2 ^ 62 }
+    requires op { start.now.op ≤ GREATEST }
     ensures scanned { OnOk result (IsScanned rooms.old.layout (D.told disk.old) rooms.new.slots) }
     ensures start { rooms.new.slots.start ≡ start.now }
     ensures rooms { rooms.new.layout ≡ rooms.old.layout }
@@ -48,7 +49,7 @@ pub(crate) fn scan_zones<D: Disk>(
     start: &Start,
     rooms: &mut LogRooms,
 ) -> Result<(), Failed>
-    requires op { start.now.op ≤ 2 ^ 62 }
+    requires op { start.now.op ≤ GREATEST }
     ensures scanned { OnOk result (AreScanned rooms.old.layout start.now.cluster (D.told disk.old) rooms.new.slots rooms.new.replies) }
     ensures start { rooms.new.slots.start ≡ start.now }
     ensures rooms { rooms.new.layout ≡ rooms.old.layout }

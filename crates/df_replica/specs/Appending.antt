@@ -1,5 +1,6 @@
 -- An append of a replica: what it makes, what it asks of the disk, and the state that it leads to. No state of the machine is in sight.
 use Rattle.std.specs.Prelude.{◌≡◌, ◌⊎◌, ◌<◌, ◌≤◌, ◌+◌, ◌/◌, ◌%◌, ◌^◌, ℕ, List, [], ◌∷◌, ◌++◌, length, Option, Some, None, IsSome, Result, Ok, Err, IfOk, true}
+use Rattle.df_base.specs.declared.TheConstants.{GREATEST, HEADER, VERSION}
 use Rattle.df_base.specs.Log.{Event}
 use Rattle.df_base.specs.declared.Failed.{Failed}
 use Rattle.df_layout.specs.declared.layout.Layout.{Layout}
@@ -45,7 +46,7 @@ pub record MayBeMade (layout : Layout) (zone : Zone) (kind : Kind) (h : Header) 
   -- it names a place that the layout has
   pub own : IsSome (own_place layout zone h)
   -- header and body are no longer than a place of the zone
-  pub fits : 256 + length body ≤ greatest_size layout zone
+  pub fits : HEADER + length body ≤ greatest_size layout zone
 
 -- what the call answers and what it wrote
 pub record IsMadeUnit (layout : Layout) (place : Place) (u : Message) (result : Result Header Failed) : Type 0 where
@@ -66,7 +67,7 @@ header_given s client request = record (blank_header AsPrepare s.file.cluster) {
   request = request;
   mark = s.replies;
   checkpoint = s.fields.sequence;
-  version = 2;
+  version = VERSION;
   boot = s.fields.boot;
   group = s.head + 1;
   group_last = s.head + 1;
@@ -107,9 +108,9 @@ receipt_of h = record { op = h.op; checksum = h.checksum }
 pub record MayNote (s : State) (client asked : ℕ) : Type 0 where
   pub unstaged : s.staged ≡ []
   pub named : 0 < client
-  pub request : (0 < asked) × (asked ≤ 2 ^ 62)
+  pub request : (0 < asked) × (asked ≤ GREATEST)
   pub few : length s.waiting < 8
-  pub op : s.head < 2 ^ 62
+  pub op : s.head < GREATEST
   pub room : s.head + 1 ≤ s.fields.op + s.file.layout.slots
   pub asks : (h : Units.Header) → h.client ≡ client → h.request ≡ asked → h.mark ≡ s.replies → MayAsk s.file.layout.clients h (sessions_of s.table.sessions)
   pub place : IsKnownClient client s.table.sessions ⊎ (length s.table.sessions < s.table.max)
@@ -118,7 +119,7 @@ pub record MayNote (s : State) (client asked : ℕ) : Type 0 where
 pub record MayNext (s : State) (client asked size : ℕ) : Type 0 where
   pub live : s.live ≡ true
   pub note : MayNote s client asked
-  pub fits : 256 + size ≤ s.file.layout.message_size
+  pub fits : HEADER + size ≤ s.file.layout.message_size
   pub first : s.head ≡ 0 → s.head_checksum ≡ no_checksum
 
 -- what an append answers, with the state after it and what the disk then tells: exact for a receipt and for each refusal, and after a fault the replica isn't live, and nothing in memory but the table of headers moved

@@ -1,5 +1,6 @@
 -- The begin of a checkpoint: what it captures, and the state that it leads to. No state of the machine is in sight.
 use Rattle.std.specs.Prelude.{◌≡◌, ◌<◌, ◌≤◌, ◌+◌, ◌-◌, ◌^◌, ℕ, List, length, take, Option, Some, None, Result, Ok, Err}
+use Rattle.df_base.specs.declared.TheConstants.{GREATEST, HEADER}
 use Rattle.df_theory.specs.Trailer.{IsCount, greatest_trailer}
 use Rattle.df_units.specs.Meaning.{layout_of}
 use Rattle.df_model.specs.Blocks.{blocks_captured}
@@ -44,7 +45,7 @@ pub record IsPlan (s : State) (root : List ℕ) (plan : Plan) : Type 0 where
   pub blocks : plan.blocks ≡ needed s root
   pub some : 0 < plan.size
   pub longest : plan.size ≤ greatest_trailer (layout_of s.file.layout)
-  pub count : IsCount (s.file.layout.block_size - 256) plan.size plan.blocks
+  pub count : IsCount (s.file.layout.block_size - HEADER) plan.size plan.blocks
   pub few : plan.blocks ≤ 70
 
 -- a begin that isn't refused, as far as the code needs it
@@ -53,7 +54,7 @@ pub record MayBeginCheckpoint (s : State) (root : List ℕ) (plan : Plan) : Type
   pub idle : s.running ≡ None
   pub short : length root ≤ 1024
   pub free : needed s root ≤ length (free_of (memory s))
-  pub unspent : s.fields.sequence < 2 ^ 62
+  pub unspent : s.fields.sequence < GREATEST
 
 -- what the tests of a begin answer
 abbrev pub IsTested : State → List ℕ → Result Plan BeginError → Type 0

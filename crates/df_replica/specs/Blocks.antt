@@ -1,5 +1,6 @@
 -- The calls that write a block and let one go: what a write makes, what it asks of the disk, and the states that they lead to. No state of the machine is in sight.
 use Rattle.std.specs.Prelude.{◌≡◌, ◌<◌, ◌≤◌, ◌+◌, ℕ, false, List, Option, Some, None, Result, Ok, Err, true}
+use Rattle.df_base.specs.declared.TheConstants.{HEADER, VERSION}
 use Rattle.df_base.specs.Log.{Event}
 use Rattle.df_disk.specs.Told.{Told}
 use Rattle.df_disk.specs.Adds.{AddsPart, after_all}
@@ -27,7 +28,7 @@ use Rattle.df_replica.specs.Stopping.{stopped}
 
 -- what the maker of a block at an address says of it: its cluster, its address, its kind and the boot alone
 abbrev pub block_header_given : State → (address kind : ℕ) → Header
-block_header_given s address kind = record (blank_header AsBlock s.file.cluster) { op = address; block_kind = kind; version = 2; boot = s.fields.boot }
+block_header_given s address kind = record (blank_header AsBlock s.file.cluster) { op = address; block_kind = kind; version = VERSION; boot = s.fields.boot }
 
 -- the next block: it goes to the least address that isn't held
 abbrev pub next_block : State → (kind : ℕ) → List ℕ → Message
@@ -52,7 +53,7 @@ reference_of h = record { address = h.op; checksum = h.checksum }
 pub record MayWriteNext (s : State) (kind size : ℕ) : Type 0 where
   pub live : s.live ≡ true
   pub named : 0 < kind
-  pub fits : 256 + size ≤ s.file.layout.block_size
+  pub fits : HEADER + size ≤ s.file.layout.block_size
   pub free : IsUnheld (grid_with s.file s.boot s.blocks) (next_address (memory s))
 
 -- a block may be made of a header and a body in a room, and written into the grid

@@ -1,5 +1,6 @@
 -- What `stage` and `flush` of a replica do: the prepares of a group, what it asks of the disk, and the state that it leads to. No state of the machine is in sight.
 use Rattle.std.specs.Prelude.{◌≡◌, ◌⊎◌, ◌<◌, ◌≤◌, ◌+◌, ◌%◌, ◌^◌, ℕ, List, [], ◌∷◌, ◌++◌, length, map, slice_get, take, Option, Some, None, Result, Ok, Err}
+use Rattle.df_base.specs.declared.TheConstants.{GREATEST, VERSION}
 use Rattle.df_base.specs.Log.{Event, Write}
 use Rattle.df_disk.specs.Told.{Told}
 use Rattle.df_disk.specs.Adds.{AddsPart, after_all}
@@ -46,7 +47,7 @@ header_in g op parent r = record (blank_header AsPrepare g.file.cluster) {
   request = r.request;
   mark = g.mark;
   checkpoint = g.sequence;
-  version = 2;
+  version = VERSION;
   boot = g.boot;
   group = g.first;
   group_last = g.last;
@@ -138,16 +139,16 @@ IsFlush s t old new (Err e) = (first_refusal (flush_refusals (memory s)) ≡ Som
 
 -- their numbers are in range
 abbrev pub AreSmall : List Request → Type 0
-AreSmall rs = (i : ℕ) (r : Request) → slice_get rs i ≡ Some r → r.request ≤ 2 ^ 62
+AreSmall rs = (i : ℕ) (r : Request) → slice_get rs i ≡ Some r → r.request ≤ GREATEST
 
 -- prepares of the group may be made: of a file with boots, eight at most, of ops that are left
 pub record MayGroup (g : Group) : Type 0 where
   pub cluster : g.file.cluster < 2 ^ 128
-  pub boot : (0 < g.boot) × (g.boot ≤ 2 ^ 62)
-  pub sequence : (0 < g.sequence) × (g.sequence ≤ 2 ^ 62)
+  pub boot : (0 < g.boot) × (g.boot ≤ GREATEST)
+  pub sequence : (0 < g.sequence) × (g.sequence ≤ GREATEST)
   pub mark : g.mark < g.first
   pub few : g.last < g.first + 8
-  pub unspent : g.last ≤ 2 ^ 62
+  pub unspent : g.last ≤ GREATEST
 
 -- the one with this op, after a prepare with this checksum, which is the first prepare's parent only where that is zero
 pub record MayBeIn (g : Group) (op : ℕ) (parent : List ℕ) : Type 0 where

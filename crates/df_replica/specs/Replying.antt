@@ -1,6 +1,7 @@
 -- A reply of a replica: what it makes, what it asks of the disk, and the state that it leads to. No state of the machine is in sight.
 use Rattle.std.specs.Prelude.{◌≡◌, ◌<◌, ◌≤◌, ◌+◌, ℕ, List, [], ◌∷◌, drop, Option, Some, None, Result, Ok, Err, true}
 use Rattle.std.specs.List.{slice_get}
+use Rattle.df_base.specs.declared.TheConstants.{HEADER, VERSION}
 use Rattle.df_base.specs.Log.{Event, Sync, Write}
 use Rattle.df_layout.specs.Spans.{span_of}
 use Rattle.df_layout.specs.declared.layout.Layout.{Layout}
@@ -46,7 +47,7 @@ reply_given s = record (blank_header AsReply s.file.cluster) {
   mark = s.head;
   checkpoint = s.fields.sequence;
   slot = place_waiting s;
-  version = 2;
+  version = VERSION;
   boot = s.fields.boot;
 }
 
@@ -73,7 +74,7 @@ with_stored_reply s h = record s {
 pub record MayReplyNext (s : State) (size : ℕ) : Type 0 where
   pub live : s.live ≡ true
   pub waits : s.replies < s.head
-  pub fits : 256 + size ≤ s.file.layout.message_size
+  pub fits : HEADER + size ≤ s.file.layout.message_size
 
 -- what a reply answers, with the state after it and what the disk then tells: exact for a checksum and for each refusal; after a fault the replica isn't live, and nothing else in memory moved
 abbrev pub IsReplyCall : (op : ℕ) → List ℕ → (s t : State) → (old new : Option Told) → Result (List ℕ) ReplyError → Type 0

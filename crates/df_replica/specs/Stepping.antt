@@ -1,5 +1,6 @@
 -- The steps of a running checkpoint: a trailer block each, and at last the superblock that ends it. No state of the machine is in sight.
 use Rattle.std.specs.Prelude.{◌≡◌, ◌≢◌, ◌+◌, ◌-◌, ℕ, List, [], ◌∷◌, length, Option, Some, None, Result, Ok, Err}
+use Rattle.df_base.specs.declared.TheConstants.{HEADER}
 use Rattle.df_base.specs.Fields.{spelled}
 use Rattle.df_base.specs.Log.{Event, Sync}
 use Rattle.df_disk.specs.Told.{Told}
@@ -34,7 +35,7 @@ OfRunning (Some r) P = P r
 
 -- the next one, over the next piece of the text
 abbrev pub trailer_unit : State → RunningState → Message
-trailer_unit s r = next_unit (grid_with s.file s.boot s.blocks) r.sequence (piece_of (s.file.layout.block_size - 256) r.written (captured_text s.file s.blocks r))
+trailer_unit s r = next_unit (grid_with s.file s.boot s.blocks) r.sequence (piece_of (s.file.layout.block_size - HEADER) r.written (captured_text s.file s.blocks r))
 
 -- it is written, without a sync
 abbrev pub block_events : State → RunningState → List Event
@@ -45,7 +46,7 @@ block_sum s r = number_of (trailer_unit s r).header.checksum
 
 -- in the machine's words, with this checksum
 abbrev pub block_to_write : State → RunningState → (sum : ℕ) → Units.Block
-block_to_write s r sum = next_block (grid_with s.file s.boot s.blocks) r.sequence (piece_of (s.file.layout.block_size - 256) r.written (captured_text s.file s.blocks r)) sum
+block_to_write s r sum = next_block (grid_with s.file s.boot s.blocks) r.sequence (piece_of (s.file.layout.block_size - HEADER) r.written (captured_text s.file s.blocks r)) sum
 
 -- the state with a trailer block more
 abbrev pub advanced : State → RunningState → State

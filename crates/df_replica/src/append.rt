@@ -13,7 +13,7 @@ use crate::refusing::{Counters, request_refusal, session_of, staged_refusal};
 use crate::{DataFile, Replica};
 use df_base::Failed;
 use df_disk::Disk;
-use df_format::{Header, Kind};
+use df_format::{HEADER_VERSION, Header, Kind};
 use df_journal::append;
 use df_model::{AppendError, Receipt};
 use df_opening::LogRooms;
@@ -67,7 +67,7 @@ impl Replica {
             mark: self.parts.replies,
             checkpoint: self.parts.content.fields().sequence,
             slot: ((self.parts.head + 1) % u64::from(self.parts.file.layout.slots)) as u32,
-            version: 2,
+            version: HEADER_VERSION,
             boot: self.parts.content.fields().boot,
             group: self.parts.head + 1,
             group_last: self.parts.head + 1,

@@ -9,15 +9,13 @@ ghost use Rattle.df_replica.specs.Beginning.{IsBegin, IsPlan, IsTested, MayBegin
 use crate::Replica;
 use crate::reply::session_in;
 use arrayvec::ArrayVec;
+use df_base::GREATEST;
 use df_checkpoint::Capture;
 use df_layout::ROOT;
 use df_model::BeginError;
 use df_opening::RunningCheckpoint;
 use df_sessions::{Session, SessionTable};
 use df_trailer::{blocks_needed, trailer_size};
-
-// The greatest sequence.
-const GREATEST: u64 = 1 << 62;
 
 /// How long a trailer is to be.
 #[derive(Clone, Copy)]

@@ -10,7 +10,7 @@ use crate::Replica;
 use df_base::{Check, Failed, HEADER};
 use df_buffers::Block;
 use df_disk::Disk;
-use df_format::{Header, Kind, Reference};
+use df_format::{HEADER_VERSION, Header, Kind, Reference};
 use df_grid::Grid;
 use df_model::{BlockError, NotLive};
 use df_places::Shelf;
@@ -96,7 +96,7 @@ impl Replica {
         Header {
             op: address,
             block_kind: kind,
-            version: 2,
+            version: HEADER_VERSION,
             boot: self.parts.content.fields().boot,
             ..Header::of(Kind::Block, self.parts.file.cluster)
         }

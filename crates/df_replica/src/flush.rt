@@ -1,6 +1,7 @@
 // Requests that are staged, and the flush that appends them as one group. A staged request is in memory alone, its body in the room
 // that its prepare is made in and written from.
 ghost use Rattle.std.specs.Prelude.{◌≡◌, ◌≤◌, ◌<◌, ◌+◌, ◌++◌, ◌^◌, ℕ, List, [], length, option_map, true, Option, IfSome, IsSome, OnErr, OnOk};
+ghost use Rattle.df_base.specs.declared.TheConstants.{GREATEST, HEADER};
 ghost use Rattle.df_replica.specs.Below.{HasCause, IsBlamed, Adds, WalPrepares, for_body, own_place, ObeysRules, Stage, Flush, is_flush_fault, stage_refusals, first_refusal, session_of_client, session_of, IsState, Told, memory, counted_staged};
 ghost use Rattle.df_opening.specs.Below.{AreStaging};
 ghost use Rattle.df_journal.specs.Flush.{AreOwn, held_prepares, with_headers};
@@ -17,7 +18,7 @@ use arrayvec::ArrayVec;
 use df_base::{Check, Failed};
 use df_buffers::{Prepare, Sound};
 use df_disk::Disk;
-use df_format::{Header, Kind};
+use df_format::{HEADER_VERSION, Header, Kind};
 use df_journal::flush;
 use df_model::{AppendError, FlushError};
 use df_opening::{LogRooms, Staging};
@@ -40,9 +41,9 @@ fn header_in(group: &Group, op: u64, parent: Check, client: u128, request: u64) 
     requires may { MayBeIn group.now op parent }
     requires last { op ≤ group.now.last }
     requires client { 0 < client }
-    requires request { (0 < request) × (request ≤ 2 ^ 62) }
+    requires request { (0 < request) × (request ≤ GREATEST) }
     ensures value { result ≡ header_in group.now op parent (request_made client request []) }
-    ensures rules { (body : List ℕ) → 256 + length body ≤ group.now.file.layout.message_size → ObeysRules (for_body result body) }
+    ensures rules { (body : List ℕ) → HEADER + length body ≤ group.now.file.layout.message_size → ObeysRules (for_body result body) }
     ensures own { IsSome (own_place group.now.file.layout WalPrepares result) }
 {
     Header {
@@ -53,7 +54,7 @@ fn header_in(group: &Group, op: u64, parent: Check, client: u128, request: u64) 
         mark: group.mark,
         checkpoint: group.sequence,
         slot: (op % u64::from(group.file.layout.slots)) as u32,
-        version: 2,
+        version: HEADER_VERSION,
         boot: group.boot,
         group: group.first,
         group_last: group.last,
@@ -114,7 +115,7 @@ fn note_all(
     waiting: &mut ArrayVec<Check, 8>,
     sessions: &mut SessionTable,
 )
-    requires head { head.old + length group.now ≤ 2 ^ 62 }
+    requires head { head.old + length group.now ≤ GREATEST }
     requires few { length waiting.old.items + length group.now ≤ 8 }
     requires places { HavePlaces sessions.old.max sessions.old.sessions (held_prepares group.now) }
     ensures head { head.new ≡ head.old + length group.now }
@@ -142,11 +143,11 @@ fn session_staged(
     client: u128,
 ) -> Option<Session>
     requires count { count ≤ length staging.now.requests }
-    requires ops { head + length staging.now.requests ≤ 2 ^ 62 }
+    requires ops { head + length staging.now.requests ≤ GREATEST }
     requires numbered { AreNumbered table.now.sessions }
     requires requests { AreSmall staging.now.requests }
     ensures session { session_of_client client (sessions_staged table.now.sessions staging.now.requests head count) ≡ option_map session_of result }
-    ensures numbered { IfSome result (λ s. s.request ≤ 2 ^ 62) }
+    ensures numbered { IfSome result (λ s. s.request ≤ GREATEST) }
 {
     let mut last = session_of(table, client);
     let mut i = 0;
@@ -167,7 +168,7 @@ fn session_staged(
 
 // How many places of the table would be taken, as if all that is staged were appended after this head.
 fn places_staged(table: &SessionTable, staging: &Staging, head: u64) -> u64
-    requires ops { head + length staging.now.requests ≤ 2 ^ 62 }
+    requires ops { head + length staging.now.requests ≤ GREATEST }
     requires numbered { AreNumbered table.now.sessions }
     requires requests { AreSmall staging.now.requests }
     ensures { result ≡ length (sessions_staged table.now.sessions staging.now.requests head (length staging.now.requests)) }

@@ -1,9 +1,11 @@
 // Why a call is refused, from the numbers of what is in memory; the first reason of the order is the answer.
 ghost use Rattle.std.specs.Prelude.{◌≡◌, ◌≤◌, ◌^◌, ◌∷◌, ℕ, nat_lt, List, [], length, option_map, IfSome};
 ghost use Rattle.std.specs.List.{position};
+ghost use Rattle.df_base.specs.declared.TheConstants.{GREATEST};
 ghost use Rattle.df_replica.specs.Below.{session_of, has_client, Memory, first_refusal, prepare_refusals, reply_refusals, request_refusals, session_of_client};
 ghost use Rattle.df_replica.specs.Refusing.{AreCounters, session_at};
 
+use df_base::GREATEST;
 use df_model::{AppendError, PrepareError, ReplyError};
 use df_sessions::{Session, SessionTable};
 
@@ -38,10 +40,10 @@ pub(crate) fn request_refusal(
     size: u64,
 ) -> Option<AppendError>
     requires order { counters.now.replies ≤ counters.now.head }
-    requires head { counters.now.head ≤ 2 ^ 62 }
-    requires op { counters.now.op ≤ 2 ^ 62 }
-    requires slots { counters.now.slots ≤ 2 ^ 62 }
-    requires last { IfSome last (λ s. s.request ≤ 2 ^ 62) }
+    requires head { counters.now.head ≤ GREATEST }
+    requires op { counters.now.op ≤ GREATEST }
+    requires slots { counters.now.slots ≤ GREATEST }
+    requires last { IfSome last (λ s. s.request ≤ GREATEST) }
     ensures { (m : Memory) (body : List ℕ) → AreCounters m counters.now → session_of_client client m.sessions ≡ option_map session_of last → size ≡ length body
         → result ≡ first_refusal (request_refusals m client request body) }
 {
@@ -80,7 +82,7 @@ pub(crate) fn request_refusal(
             checkpoint_op: counters.op,
         });
     }
-    if counters.head == 1 << 62 || request > 1 << 62 {
+    if counters.head == GREATEST || request > GREATEST {
         return Some(AppendError::OpsSpent);
     }
     None
@@ -99,7 +101,7 @@ pub(crate) fn staged_refusal(count: u64) -> Option<AppendError>
 // Why a reply isn't stored.
 pub(crate) fn reply_refusal(counters: &Counters, op: u64, size: u64) -> Option<ReplyError>
     requires order { counters.now.replies ≤ counters.now.head }
-    requires head { counters.now.head ≤ 2 ^ 62 }
+    requires head { counters.now.head ≤ GREATEST }
     ensures { (m : Memory) (body : List ℕ) → AreCounters m counters.now → size ≡ length body → result ≡ first_refusal (reply_refusals m op body) }
 {
     if counters.replies == counters.head {
@@ -123,7 +125,7 @@ pub(crate) fn reply_refusal(counters: &Counters, op: u64, size: u64) -> Option<R
 // Why a prepare isn't read.
 pub(crate) fn prepare_refusal(counters: &Counters, op: u64) -> Option<PrepareError>
     requires order { counters.now.op ≤ counters.now.head }
-    requires head { counters.now.head ≤ 2 ^ 62 }
+    requires head { counters.now.head ≤ GREATEST }
     ensures { (m : Memory) → AreCounters m counters.now → result ≡ first_refusal (prepare_refusals m op) }
 {
     if counters.op < op && op <= counters.head {

@@ -15,7 +15,7 @@ use crate::{DataFile, Replica};
 use df_base::{Check, Failed};
 use df_buffers::Reply;
 use df_disk::Disk;
-use df_format::{Header, Kind};
+use df_format::{HEADER_VERSION, Header, Kind};
 use df_model::ReplyError;
 use df_places::Shelf;
 use df_replies::write_reply;
@@ -120,7 +120,7 @@ impl Replica {
             mark: self.parts.head,
             checkpoint: self.parts.content.fields().sequence,
             slot: place as u32,
-            version: 2,
+            version: HEADER_VERSION,
             boot: self.parts.content.fields().boot,
             ..Header::of(Kind::Reply, self.parts.file.cluster)
         }

@@ -3,7 +3,7 @@ ghost use Rattle.std.specs.Prelude.{◌≡◌, ◌↔◌, ◌<◌, IsTrue};
 ghost use Rattle.df_replies.specs.Below.{number_of};
 ghost use Rattle.df_replies.specs.Named.{IsNamedBy};
 
-use df_base::Check;
+use df_base::{Check, VERSION};
 use df_format::{Header, SuperFields};
 
 fn is_same(one: &Check, other: &Check) -> bool
@@ -18,7 +18,7 @@ pub(crate) fn is_named(fields: &SuperFields, place: u64, header: &Header) -> boo
     requires { place < 64 }
     ensures { IsTrue result ↔ IsNamedBy fields.now place header.now }
 {
-    if fields.version == 2 && header.op <= fields.replies {
+    if fields.version == VERSION && header.op <= fields.replies {
         is_same(&fields.reply_checksums[place as usize], &header.checksum)
     } else {
         header.boot == fields.boot

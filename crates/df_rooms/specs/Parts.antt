@@ -1,5 +1,6 @@
 -- What a replica keeps in memory, live or not: the state that it stands for, its numbers, and how its parts go together.
 use Rattle.std.specs.Prelude.{◌≡◌, ◌<◌, ◌^◌, ℕ, false, [], None, length}
+use Rattle.df_base.specs.declared.TheConstants.{GREATEST}
 use Rattle.df_layout.specs.declared.layout.Layout.{Layout}
 use Rattle.df_model.specs.declared.answers.Summary.{Summary}
 use Rattle.df_scrub.specs.Scrubber.{new_scrub}
@@ -53,7 +54,7 @@ pub record AreWhole (p : Parts) : Type 0 where
 pub record AreFound (p : Parts) : Type 0 where
   pub whole : AreWhole p
   pub dead : p.live ≡ false
-  pub unspent : p.content.boot < 2 ^ 62
+  pub unspent : p.content.boot < GREATEST
   pub unbooted : p.grid.boot ≡ 0
   pub unstaged : p.staging.requests ≡ []
   pub idle : p.running ≡ None

@@ -1,6 +1,7 @@
 -- What a superblock records of the state as it is: by the update that ends a checkpoint, and by that of an open.
 use Rattle.std.specs.Prelude.{◌≡◌, ◌≢◌, ◌<◌, ◌≤◌, ◌+◌, ◌^◌, ℕ, List, map, slice_get, Option, Some, None}
 use Rattle.std.specs.List.{range_with_len}
+use Rattle.df_base.specs.declared.TheConstants.{GREATEST, VERSION}
 use Rattle.df_layout.specs.Limits.{AreWithinLimits}
 use Rattle.df_format.specs.Spelling.{no_checksum}
 use Rattle.df_format.specs.SuperRules.{greatest_trailer}
@@ -33,12 +34,12 @@ boot_fields s = recorded s (record s.fields { boot = s.fields.boot + 1 })
 
 -- fields of version 2 whose checkpoint is in order with a state
 pub record MayRecord (s : State) (f : SuperFields) : Type 0 where
-  pub version : f.version ≡ 2
-  pub boot : f.boot ≤ 2 ^ 62
+  pub version : f.version ≡ VERSION
+  pub boot : f.boot ≤ GREATEST
   pub layout : AreWithinLimits f.slots f.message_size f.clients f.block_size f.blocks
   pub places : f.clients ≡ s.file.layout.clients
   pub cluster : 0 < f.cluster
-  pub sequence : (0 < f.sequence) × (f.sequence ≤ 2 ^ 62)
+  pub sequence : (0 < f.sequence) × (f.sequence ≤ GREATEST)
   pub op : f.op ≤ s.head
   pub room : s.head ≤ f.op + f.slots
   pub op_checksum : f.op ≡ 0 → f.op_checksum ≡ no_checksum

@@ -1,6 +1,7 @@
 -- What a replica keeps in memory of its file, and what that is in the words of the machine.
 use Rattle.std.specs.Prelude.{◌≡◌, ◌<◌, ◌≤◌, ◌+◌, ◌-◌, ◌%◌, ◌^◌, ℕ, Bool, true, List, [], ◌∷◌, length, map, slice_get, Option, Some, None}
 use Rattle.std.specs.List.{range_with_len}
+use Rattle.df_base.specs.declared.TheConstants.{GREATEST, HEADER}
 use Rattle.df_format.specs.Copies.{content_with}
 use Rattle.df_format.specs.Spelling.{IsCheck, no_checksum}
 use Rattle.df_format.specs.Super.{AreChecks}
@@ -143,7 +144,7 @@ AreAsked ss = (k : ℕ) (s : Units.Session) → slice_get ss k ≡ Some s → 0 
 pub record IsBegunFrom (op number head captured next : ℕ) : Type 0 where
   pub op_from : op ≤ captured
   pub op_to : captured ≤ head
-  pub sequence : (next ≡ number + 1) × (next ≤ 2 ^ 62)
+  pub sequence : (next ≡ number + 1) × (next ≤ GREATEST)
 
 -- what it captured is an op's checksum, and a root and sessions for which a trailer has room
 pub record IsContents (clients op : ℕ) (checksum kept : List ℕ) (taken : List Session) : Type 0 where
@@ -156,7 +157,7 @@ pub record IsContents (clients op : ℕ) (checksum kept : List ℕ) (taken : Lis
 pub record IsMeasured (file : DataFile) (text bytes blocks : ℕ) : Type 0 where
   pub size : bytes ≡ text
   pub fits : (0 < bytes) × (bytes ≤ greatest_trailer (layout_of file.layout))
-  pub count : IsCount (file.layout.block_size - 256) bytes blocks
+  pub count : IsCount (file.layout.block_size - HEADER) bytes blocks
   pub few : blocks ≤ 70
 
 -- of which so many are written, and the grid lists the others
@@ -202,7 +203,7 @@ pub record AreInFile (file : DataFile) (f : SuperFields) (kept : List ℕ) (head
   pub cluster : file.cluster < 2 ^ 128
   pub version : f.version ≡ file.version
   pub second : IsSecond file f
-  pub sequence : (0 < f.sequence) × (f.sequence ≤ 2 ^ 62)
+  pub sequence : (0 < f.sequence) × (f.sequence ≤ GREATEST)
   pub root : length kept ≤ 1024
   pub ring : IsHeaderTable file.layout file.cluster headers
 
@@ -211,7 +212,7 @@ pub record EndsLog (slots op : ℕ) (op_checksum : List ℕ) (head : ℕ) (check
   pub parent : IsCheck checksum
   pub order : op ≤ head
   pub room : head ≤ op + slots
-  pub head_to : head ≤ 2 ^ 62
+  pub head_to : head ≤ GREATEST
   pub first : head ≡ 0 → checksum ≡ no_checksum  -- the first prepare has no parent
   pub level : head ≡ op → checksum ≡ op_checksum  -- an empty tail ends with the checkpoint's prepare
 
@@ -236,14 +237,14 @@ asks_of replies op (r ∷ rs) = record { header = asker_of replies op r; body = 
 -- a request that a prepare of the file can have
 pub record IsRequest (layout : Layout) (r : Request) : Type 0 where
   pub client : (0 < r.client) × (r.client < 2 ^ 128)
-  pub request : (0 < r.request) × (r.request ≤ 2 ^ 62)
-  pub fits : 256 + length r.body ≤ layout.message_size
+  pub request : (0 < r.request) × (r.request ≤ GREATEST)
+  pub fits : HEADER + length r.body ≤ layout.message_size
 
 -- what is staged may be appended as one group: no more than eight prepares would wait, slots and ops are left for it, and each client asks in its turn
 pub record Stages (layout : Layout) (op head replies : ℕ) (sessions : List Units.Session) (requests : List Request) : Type 0 where
   pub pipeline : head + length requests ≤ replies + 8
   pub behind : head + length requests ≤ op + layout.slots
-  pub unspent : head + length requests ≤ 2 ^ 62
+  pub unspent : head + length requests ≤ GREATEST
   pub each : (i : ℕ) (r : Request) → slice_get requests i ≡ Some r → IsRequest layout r
   pub asks : MayAskInTurn layout.clients sessions (asks_of replies (head + 1) requests)
 

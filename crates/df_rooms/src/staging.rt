@@ -1,5 +1,6 @@
 // The rooms of what is staged. A request's body is copied once, into the room in which its prepare is made and from which it is written.
 ghost use Rattle.std.specs.Prelude.{◌≡◌, ◌≤◌, ◌<◌, ◌+◌, ◌++◌, ◌∷◌, [], length, drop, slice_get, vec_capacity, IfOk, IsSome, Some};
+ghost use Rattle.df_base.specs.declared.TheConstants.{HEADER};
 ghost use Rattle.df_rooms.specs.Below.{ObeysRules, for_body, greatest_size, own_place, sealed, Request, Prepare as AsPrepare, WalPrepares};
 ghost use Rattle.df_layout.specs.declared.layout.Layout.{Layout as AsLayout};
 ghost use Rattle.df_rooms.specs.Stagings.{AreFree, AreHeld, AreSealed, IsSealedOf, first_request};
@@ -126,7 +127,7 @@ impl Staging {
     /// Stages a request: its body is copied into a room. The prepares that the last flush made are let go of.
     pub fn push(&mut self, client: u128, request: u64, body: &[u8])
         requires few { length self.old.requests < 8 }
-        requires fits { 256 + length body.now ≤ greatest_size self.old.layout WalPrepares }
+        requires fits { HEADER + length body.now ≤ greatest_size self.old.layout WalPrepares }
         ensures { self.new ≡ record { layout = self.old.layout; requests = self.old.requests ++ record { client = client; request = request; body = body.now } ∷ []; sealed = [] } }
     {
         self.loosen();

@@ -1,6 +1,7 @@
 // The rooms that a trailer is read into and written from, and in which a new block is made.
 ghost use Rattle.std.specs.Prelude.{◌≡◌, ◌+◌, ◌-◌, ◌/◌, vec_len, IfOk, IfSome, IsSome};
 ghost use Rattle.std.proofs.Props.{props};
+ghost use Rattle.df_base.specs.declared.TheConstants.{HEADER};
 
 use df_base::{Check, HEADER, OutOfMemory};
 use df_buffers::{Block, Raw};
@@ -30,7 +31,7 @@ pub struct TrailerRooms {
     pub block: Shelf<Block>,
     pub ghost reader_there: { IsSome reader },
     pub ghost reader_fits: { IfSome reader (λ room. room.layout ≡ layout) } by { Prim.hlevel props },
-    pub ghost piece_fits: { vec_len piece ≡ layout.block_size - 256 },
+    pub ghost piece_fits: { vec_len piece ≡ layout.block_size - HEADER },
     pub ghost block_fits: { block.layout ≡ layout },
 }
 
@@ -47,7 +48,7 @@ fn checks(alloc: Global, layout: &Layout) -> Result<Vec<Check>, OutOfMemory>
 }
 
 fn piece(alloc: Global, layout: &Layout) -> Result<Vec<u8>, OutOfMemory>
-    ensures { IfOk result (λ piece. vec_len piece ≡ layout.now.block_size - 256) }
+    ensures { IfOk result (λ piece. vec_len piece ≡ layout.now.block_size - HEADER) }
 {
     Ok(vec![in alloc; 0u8; layout.block_size as usize - HEADER]?)
 }

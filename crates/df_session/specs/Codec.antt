@@ -1,6 +1,7 @@
 -- The checksum that each unit of a file gets, as a function of what it says in the words of the theory and of its place: the header, or the superblock, that has these
 -- words is built and sealed as the maker of a unit does. It is the dictionary of units and bytes, read the other way.
 use Rattle.std.specs.Prelude.{◌≡◌, ◌⊎◌, ◌%◌, ◌==◌, ℕ, if◌then◌else◌, List, map, Some, slice_index}
+use Rattle.df_base.specs.declared.TheConstants.{FIRST_VERSION, VERSION}
 use Rattle.df_base.specs.Fields.{spelled}
 use Rattle.df_base.specs.Image.{Image, IsImage}
 use Rattle.df_format.specs.declared.header.Header.{Header}
@@ -76,8 +77,8 @@ fields_of file c = record (blank_super file.layout file.cluster) {
   trailer_checksum = spelled 16 c.trailer_checksum;
   trailer_size = c.trailer_size;
   boot = c.boot;
-  head_checksum = if c.version == 2 then spelled 16 c.pin_checksum else no_checksum;
-  reply_checksums = if c.version == 2 then map (spelled 16) c.reply_checksums else no_checksums;
+  head_checksum = if c.version == VERSION then spelled 16 c.pin_checksum else no_checksum;
+  reply_checksums = if c.version == VERSION then map (spelled 16) c.reply_checksums else no_checksums;
 }
 
 -- the checksum of the unit that is made of a header and a body
@@ -98,7 +99,7 @@ codec file = record {
 
 -- a superblock of the file: of version 1, which has no boot, or of version 2, with its layout and cluster, and zeros where the version has no fields
 pub record IsContentOfFile (file : DataFile) (c : Units.Content) : Type 0 where
-  pub version : ((c.version ≡ 1) × (c.boot ≡ 0)) ⊎ (c.version ≡ 2)
+  pub version : ((c.version ≡ FIRST_VERSION) × (c.boot ≡ 0)) ⊎ (c.version ≡ VERSION)
   pub layout : c.layout ≡ layout_of file.layout
   pub cluster : c.cluster ≡ file.cluster
   pub rest : (i : ℕ) → slice_index c.rest i ≡ 0

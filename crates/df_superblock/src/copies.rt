@@ -1,5 +1,6 @@
 // Reads and writes of single copies. A copy is durable before its writer answers.
 ghost use Rattle.std.specs.Prelude.{◌≡◌, ◌<◌, [], ◌∷◌, length, IfOk, OnOk};
+ghost use Rattle.df_base.specs.declared.TheConstants.{SECTOR};
 ghost use Rattle.df_superblock.specs.Below.{HasCause, Sync, Adds, own_copy};
 ghost use Rattle.df_superblock.specs.Calls.{ShowsSector, ShowsCopySlot, ShowsSlots, ShowsCopies, slot_of};
 ghost use Rattle.df_superblock.specs.Events.{copy_written};
@@ -14,7 +15,7 @@ use df_quorum::Slot;
 
 // Reads the sector of one copy.
 fn read_sector<D: Disk>(disk: &mut D, number: u8, into: &mut [u8]) -> Result<(), Failed>
-    requires size { length into.old ≡ 4096 }
+    requires size { length into.old ≡ SECTOR }
     ensures bytes { OnOk result (ShowsSector (D.told disk.old) number into.new) }
     ensures same { D.told disk.new ≡ D.told disk.old }
     ensures cause { HasCause (D.faults disk.old) (D.faults disk.new) result }
@@ -40,7 +41,7 @@ fn slot_in(room: &Raw<SuperSector>, number: u8) -> Slot
 // Reads the place of one copy.
 fn read_copy<D: Disk>(disk: &mut D, room: &mut Raw<SuperSector>, number: u8) -> Result<Slot, Failed>
     requires number { number < 4 }
-    requires size { length room.old.bytes ≡ 4096 }
+    requires size { length room.old.bytes ≡ SECTOR }
     ensures shown { IfOk result (ShowsCopySlot (D.told disk.old) number) }
     ensures same { D.told disk.new ≡ D.told disk.old }
     ensures cause { HasCause (D.faults disk.old) (D.faults disk.new) result }

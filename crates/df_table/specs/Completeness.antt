@@ -1,5 +1,6 @@
 -- How a run ends where nothing fails, over a file that may be opened and has a table that the opening finds.
 use Rattle.std.specs.Prelude.{◌≡◌, ◌⊎◌, ◌<◌, ◌^◌, ℕ, List, [], Option, Some}
+use Rattle.df_base.specs.declared.TheConstants.{GREATEST}
 use Rattle.df_disk.specs.Told.{Told}
 use Rattle.df_layout.specs.declared.layout.Layout.{Layout}
 use Rattle.df_theory.specs.View.{View, boot_of}
@@ -43,5 +44,5 @@ pub record EndsSpent (layout : Layout) (table : Table) (old new : Outside) (stat
 -- ops or sequences are spent.
 abbrev pub SafeTableIsRun : Type 0
 SafeTableIsRun =
-    (file : DataFile) (view : View) (table : Table) (t : Told) (text : List ℕ) (old new : Outside) (before now : Faults) (status : Status) → MayOpen file view t → boot_of view < 2 ^ 62 → FindsIn file t view table → old.told ≡ Some t → old.left ≡ Some text → IsWholeTableScript file.layout text
+    (file : DataFile) (view : View) (table : Table) (t : Told) (text : List ℕ) (old new : Outside) (before now : Faults) (status : Status) → MayOpen file view t → boot_of view < GREATEST → FindsIn file t view table → old.told ≡ Some t → old.left ≡ Some text → IsWholeTableScript file.layout text
     → HasTableCauses before now status → NoneFailed before now → RunsTable old new status → (status ≡ Done) ⊎ (status ≡ Memory) ⊎ EndsSpent file.layout table old new status

@@ -1,6 +1,7 @@
 -- What damage can do to a file whose log rests on a view: sectors hurt, lost or swapped, so long as no unit comes about by chance.
 use Rattle.std.specs.Prelude.{◌≡◌, ◌⊎◌, ◌<◌, ◌≤◌, ◌+◌, ◌-◌, ◌%◌, ◌^◌, ℕ, length, List, ◌++◌, Some}
 use Rattle.std.specs.List.{slice_get}
+use Rattle.df_base.specs.declared.TheConstants.{GREATEST, HEADER}
 use Rattle.df_theory.specs.Units.{AnyUnit, Block, BlockPlace, Content, CopyPlace, Header, HeaderPlace, HeaderUnit, Message, Place, PreparePlace, ReplyPlace, ReplyUnit, Session, Units}
 use Rattle.df_theory.specs.Sessions.{Answers, sessions_after}
 use Rattle.df_theory.specs.Tails.{In}
@@ -83,7 +84,7 @@ FieldsHoldLaw =
     (sh : Shape) (images : List Units) (v : View) (grows : Grows sh images v) → FromEmpty sh images v grows → AreDistinct images
     → (shown : Units) → ShowsSettled images shown → (c : Content) → Agree shown c
     → (w : View) × Was sh images v grows w × (w.checkpoint.content ≡ c) × IsSoundCheckpoint sh w.checkpoint
-    × ((bs : List (ℕ × Block)) (a k : ℕ) → Arrives shown bs c.trailer c.trailer_checksum a k → (rest : List (ℕ × Block)) × (w.checkpoint.chain ≡ bs ++ rest) × Links (sh.layout.block_size - 256) c rest a k)
+    × ((bs : List (ℕ × Block)) (a k : ℕ) → Arrives shown bs c.trailer c.trailer_checksum a k → (rest : List (ℕ × Block)) × (w.checkpoint.chain ≡ bs ++ rest) × Links (sh.layout.block_size - HEADER) c rest a k)
 
 -- so an open of settled units finds no copies that agree, or blames a place, or finds a state: no field is ever bad
 abbrev pub NoBadFieldLaw : Type 0
@@ -99,7 +100,7 @@ IsHurt log shown place = shown place ≡ now log place → ⊥
 abbrev pub RefusalBlamesHurt : Shape → UnitLog → View → Units → Refusal → Type 0
 RefusalBlamesHurt sh log v shown NoQuorum = ⊥
 RefusalBlamesHurt sh log v shown BadField = ⊥
-RefusalBlamesHurt sh log v shown BootSpent = boot_of v ≡ 2 ^ 62
+RefusalBlamesHurt sh log v shown BootSpent = boot_of v ≡ GREATEST
 RefusalBlamesHurt sh log v shown (Damaged (CopyPlace n)) = ⊥
 RefusalBlamesHurt sh log v shown (Damaged (HeaderPlace s)) = ⊥
 RefusalBlamesHurt sh log v shown (Damaged (PreparePlace s)) = IsHurt log shown (PreparePlace s)

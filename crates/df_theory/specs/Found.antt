@@ -1,6 +1,7 @@
 -- What an open finds in an image, whatever was done to it: the state, where no step refuses.
 use Rattle.std.specs.Prelude.{◌≡◌, ◌⊎◌, ◌<◌, ◌≤◌, ◌+◌, ◌-◌, ◌%◌, ◌^◌, ℕ, List, [], ◌∷◌, ◌++◌, length, take, Some}
 use Rattle.std.specs.List.{slice_get}
+use Rattle.df_base.specs.declared.TheConstants.{GREATEST}
 use Rattle.df_base.specs.Fields.{AreBytes}
 use Rattle.df_theory.specs.Units.{Place, CopyPlace, HeaderPlace, PreparePlace, ReplyPlace, BlockPlace, Header, Message, Session, Content, Block, AnyUnit, CopyUnit, HeaderUnit, PrepareUnit, ReplyUnit, BlockUnit, Units, IsAlone}
 use Rattle.df_theory.specs.Sessions.{Answers}
@@ -17,8 +18,8 @@ use Rattle.df_theory.specs.Groups.{AreBehind, AreMore}
 -- the fields of a prepare or of a reply are in their ranges
 pub record IsInRange (h : Header) : Type 0 where
   pub client : (0 < h.client) × (h.client < 2 ^ 128)
-  pub request : (0 < h.request) × (h.request ≤ 2 ^ 62)
-  pub op : (0 < h.op) × (h.op ≤ 2 ^ 62)
+  pub request : (0 < h.request) × (h.request ≤ GREATEST)
+  pub op : (0 < h.op) × (h.op ≤ GREATEST)
   pub checksums : (h.checksum < 2 ^ 128) × (h.parent < 2 ^ 128)
 
 -- a unit of the kind of its place, in its own slot, as validity at a place demands

@@ -1,6 +1,7 @@
 -- When an image holds a view: what every image that a stop may leave has to do.
 use Rattle.std.specs.Prelude.{◌≡◌, ◌<◌, ◌≤◌, ◌+◌, ◌-◌, ◌%◌, ◌^◌, ℕ, length, slice_index, take, Some}
 use Rattle.std.specs.List.{slice_get}
+use Rattle.df_base.specs.declared.TheConstants.{GREATEST}
 use Rattle.df_theory.specs.Units.{Place, CopyPlace, HeaderPlace, BlockPlace, Header, Message, Session, Content, Block, AnyUnit, CopyUnit, HeaderUnit, BlockUnit, Units}
 use Rattle.df_theory.specs.Sessions.{Answers}
 use Rattle.df_theory.specs.Tails.{In, Chain, last_checksum, last_mark, AreGroups, AreWholeGroups, EndsAt}
@@ -31,7 +32,7 @@ pub record Sound (sh : Shape) (v : View) : Type 0 where
   pub pin_ends : EndsAt v.checkpoint.content.pin v.tail
   pub checkpoint : IsSoundCheckpoint sh v.checkpoint
   pub head_from : v.checkpoint.content.head ≤ head v
-  pub head_to : head v ≤ 2 ^ 62
+  pub head_to : head v ≤ GREATEST
   pub pipeline : (v.replies ≤ head v) × (head v ≤ v.replies + 8)
   pub replies_from : (v.checkpoint.content.replies ≤ v.replies) × (last_mark 0 v.tail ≤ v.replies)
   pub answered : (k : ℕ) (r : Message) → v.stored k ≡ Some r → (s : Session) × (slice_get (sessions v) k ≡ Some s) × (s.op ≤ v.replies) × Answers s r

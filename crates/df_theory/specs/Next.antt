@@ -1,6 +1,7 @@
 -- How one view follows another: by an append, a reply, a finished checkpoint or a boot update.
 use Rattle.std.specs.Prelude.{◌≡◌, ◌<◌, ◌≤◌, ◌+◌, ◌-◌, ◌^◌, ◌==◌, ℕ, nat_lt, if◌then◌else◌, List, [], ◌∷◌, ◌++◌, length, drop, slice_index, take, Option, Some, None}
 use Rattle.std.specs.List.{slice_get}
+use Rattle.df_base.specs.declared.TheConstants.{GREATEST}
 use Rattle.df_theory.specs.Units.{Content, Header, Message, Session, IsAlone}
 use Rattle.df_theory.specs.Sessions.{noted, sessions_after, MayAsk, Answers}
 use Rattle.df_theory.specs.Tails.{EndsAt, In, last_checksum}
@@ -119,7 +120,7 @@ pub record IsSameBare (v u : View) : Type 0 where
 -- a boot update that isn't refused
 pub record MayBoot (v : View) (d : Content) : Type 0 where
   pub is : IsBoot v d
-  pub unspent : boot_of v < 2 ^ 62
+  pub unspent : boot_of v < GREATEST
 
 -- each client of the group may make its request
 abbrev pub MayAskInTurn : ℕ → List Session → List Message → Type 0
@@ -131,7 +132,7 @@ pub record MayAppend (sh : Shape) (v : View) (ps : List Message) : Type 0 where
   pub is : IsAppend v ps
   pub room : length v.tail + length ps ≤ slots sh
   pub pipeline : head v + length ps ≤ v.replies + 8
-  pub unspent : head v + length ps ≤ 2 ^ 62
+  pub unspent : head v + length ps ≤ GREATEST
   pub asks : MayAskInTurn (clients sh) (sessions v) ps
 
 -- a reply that isn't refused
@@ -145,4 +146,4 @@ pub record MayFinish (sh : Shape) (v : View) (c : Checkpoint) : Type 0 where
   pub trailer : IsTrailer sh c.content c.chain c.parts
   pub ends : EndsAt c.content.op v.tail
   pub pin_ends : EndsAt c.content.pin v.tail
-  pub unspent : sequence v < 2 ^ 62
+  pub unspent : sequence v < GREATEST

@@ -1,6 +1,7 @@
 -- The answer of an open: the first step that refuses, and what it names, or the state that is found.
 use Rattle.std.specs.Prelude.{◌≡◌, ◌<◌, ◌≤◌, ◌+◌, ◌-◌, ◌%◌, ◌^◌, ℕ, List, [], ◌∷◌, ◌++◌, length, Some}
 use Rattle.std.specs.List.{slice_get}
+use Rattle.df_base.specs.declared.TheConstants.{GREATEST, HEADER}
 use Rattle.df_theory.specs.Units.{Block, BlockPlace, BlockUnit, Content, CopyPlace, CopyUnit, Message, Place, PreparePlace, PrepareUnit, ReplyPlace, ReplyUnit, Session, Units}
 use Rattle.df_theory.specs.Sessions.{Answers, sessions_after}
 use Rattle.df_theory.specs.Tails.{AreGroups, Chain, In}
@@ -33,7 +34,7 @@ Arrives image (b ∷ bs) address checksum a k = (0 < address) × (b.0 ≡ addres
 pub record IsLink (sh : Shape) (c : Content) (index : ℕ) (b : Block) : Type 0 where
   pub sequence : b.sequence ≡ c.sequence
   pub place : b.index ≡ index
-  pub size : length b.body ≡ piece_size (sh.layout.block_size - 256) c.trailer_size index
+  pub size : length b.body ≡ piece_size (sh.layout.block_size - HEADER) c.trailer_size index
   pub before : 0 < index → (0 < b.before) × (b.before ≤ sh.layout.blocks)
 
 -- of n blocks that are wanted these are the last ones
@@ -45,7 +46,7 @@ AreLinks sh c n (b ∷ bs) = (i : ℕ) × (n ≡ i + 1) × IsLink sh c i b.1 × 
 pub record ReadsTo (sh : Shape) (image : Units) (c : Content) (a k : ℕ) : Type 0 where
   pub count : ℕ
   pub read : List (ℕ × Block)
-  pub counts : IsCount (sh.layout.block_size - 256) c.trailer_size count
+  pub counts : IsCount (sh.layout.block_size - HEADER) c.trailer_size count
   pub arrives : Arrives image read c.trailer c.trailer_checksum a k
   pub links : AreLinks sh c count read
   pub more : length read < count
@@ -154,6 +155,6 @@ pub data Opens (sh : Shape) (image : Units) : OpenAnswer → Type 0 where
   -- a reply is stored and not shown
   Unanswered : (b : Checkpoint) (tail : List Message) (n k : ℕ) → ReachesReplies sh image b tail n → LacksReply image b.content (sessions_after b.parts.sessions tail) n k → Opens sh image (Refused (Damaged (ReplyPlace k)))
   -- a state is found, and its boot can't be raised
-  Spent : (v : View) → IsFound sh image v → boot_of v ≡ 2 ^ 62 → Opens sh image (Refused BootSpent)
+  Spent : (v : View) → IsFound sh image v → boot_of v ≡ GREATEST → Opens sh image (Refused BootSpent)
   -- no step refuses
-  Opened : (v : View) → IsFound sh image v → boot_of v < 2 ^ 62 → Opens sh image (Found v)
+  Opened : (v : View) → IsFound sh image v → boot_of v < GREATEST → Opens sh image (Found v)

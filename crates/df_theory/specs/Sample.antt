@@ -1,5 +1,6 @@
 -- Files that meet every premise: one is made and each kind of command done to it, one is stopped within an append, one within an update and mended, and one has a hurt place.
 use Rattle.std.specs.Prelude.{◌≡◌, ◌<◌, ◌+◌, ℕ, List, [], length, Some, None}
+use Rattle.df_base.specs.declared.TheConstants.{FIRST_VERSION}
 use Rattle.df_theory.specs.Units.{Units, Content, CopyPlace, CopyUnit, Header, Message, Place, PreparePlace, PrepareUnit}
 use Rattle.df_theory.specs.Tails.{In}
 use Rattle.df_theory.specs.Shape.{Shape}
@@ -96,7 +97,7 @@ pub record UpgradeSampleLaw : Type 0 where
   pub next : Content
   pub table : ℕ → Header
   pub mends : List (ℕ × Units)
-  pub version : shape.version ≡ 1
+  pub version : shape.version ≡ FIRST_VERSION
   pub may : MayRaise shape 2 image view table [] mends next
   pub shows : (image (CopyPlace 2) ≡ Some (CopyUnit above)) × (rank_of view.checkpoint.content < rank_of above)
   pub unclean : IsClean image view → ⊥

@@ -1,5 +1,6 @@
 -- The trailer of a checkpoint: a chain of blocks, read from the last to the first.
 use Rattle.std.specs.Prelude.{◌≡◌, ◌⊎◌, ◌<◌, ◌≤◌, ◌+◌, ◌-◌, ◌*◌, ◌/◌, ℕ, List, [], ◌∷◌, ◌++◌, length, min, Some, None}
+use Rattle.df_base.specs.declared.TheConstants.{HEADER}
 use Rattle.df_theory.specs.Units.{Block, Content, Layout, Parts}
 use Rattle.df_theory.specs.Shape.{Shape}
 
@@ -50,8 +51,8 @@ pub record IsCount (room size n : ℕ) : Type 0 where
 -- the chain that the superblock names, and what its text says; no block of the chain is referenced
 pub record IsTrailer (sh : Shape) (c : Content) (chain : List (ℕ × Block)) (parts : Parts) : Type 0 where
   pub reference : IsReference sh.layout c
-  pub links : Links (sh.layout.block_size - 256) c chain c.trailer c.trailer_checksum
-  pub count : IsCount (sh.layout.block_size - 256) c.trailer_size (length chain)
+  pub links : Links (sh.layout.block_size - HEADER) c chain c.trailer c.trailer_checksum
+  pub count : IsCount (sh.layout.block_size - HEADER) c.trailer_size (length chain)
   pub inside : (a : ℕ) (b : Block) → InChain a b chain → a ≤ sh.layout.blocks
   pub size : length (text_of chain) ≡ c.trailer_size
   pub says : Says sh c.op chain parts

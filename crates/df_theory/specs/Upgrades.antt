@@ -1,5 +1,6 @@
 -- An open that raises the boot, and an upgrade, which raises the version too: a file is restored, as an open mends it, and then gets a superblock with the next boot. It is one log, restarted at the image that the barrier settled; no clean start is asked.
 use Rattle.std.specs.Prelude.{◌≡◌, ◌⊎◌, ◌<◌, ◌≤◌, ℕ, List, ◌++◌, Some, []}
+use Rattle.df_base.specs.declared.TheConstants.{FIRST_VERSION, VERSION}
 use Rattle.df_theory.specs.CopyPuts.{PutsCopies, update_steps}
 use Rattle.df_theory.specs.Units.{Content, CopyPlace, CopyUnit, Header, HeaderPlace, HeaderUnit, Message, PreparePlace, PrepareUnit, ReplyPlace, ReplyUnit, Units}
 use Rattle.df_theory.specs.Shape.{Shape, slots}
@@ -102,8 +103,8 @@ OpenLaw =
 abbrev pub UpgradeLaw : Type 0
 UpgradeLaw =
     (sh : Shape) (image : Units) (v : View) (table : ℕ → Header) (headers : List Units) (copies : List (ℕ × Units)) (d : Content) (puts : PutsCopies d)
-    → sh.version ≡ 1 → MayRaise sh 2 image v table headers copies d
+    → sh.version ≡ FIRST_VERSION → MayRaise sh 2 image v table headers copies d
     → AtEach (λ log. EachLeft log (λ left. HasBare sh 2 left v d)) (restarted_at image) (raise_steps headers copies puts)
-    × IsSameBare (as_version 2 v) (booted v d)
+    × IsSameBare (as_version VERSION v) (booted v d)
     × EndsRaised (of_version 2 sh) (after_steps (raise_steps headers copies puts) (restarted_at image)) (booted v d)
-    × (v.checkpoint.content.version ≡ 1) × (d.version ≡ 2) × (d.boot ≡ 1)
+    × (v.checkpoint.content.version ≡ FIRST_VERSION) × (d.version ≡ VERSION) × (d.boot ≡ 1)

@@ -1,5 +1,6 @@
 -- What an image stands for.
 use Rattle.std.specs.Prelude.{◌≡◌, ◌≤◌, ◌<◌, ◌+◌, ◌^◌, ℕ, List, length, Option, slice_index}
+use Rattle.df_base.specs.declared.TheConstants.{FIRST_VERSION, GREATEST, VERSION}
 use Rattle.df_theory.specs.Units.{Message, Session, Content, Block, Parts}
 use Rattle.df_theory.specs.Sessions.{sessions_after, Tracks}
 use Rattle.df_theory.specs.Shape.{Shape}
@@ -33,18 +34,18 @@ boot_of v = v.checkpoint.content.boot
 
 -- what the two versions record
 pub record IsOfVersion (c : Content) : Type 0 where
-  pub one : c.version ≡ 1 → (c.boot ≡ 0) × (c.pin ≡ c.op) × (c.pin_checksum ≡ c.op_checksum) × (c.answered ≡ 0)
-  pub two : c.version ≡ 2 → (c.pin ≡ c.head) × (c.answered ≡ c.replies + 1)
+  pub one : c.version ≡ FIRST_VERSION → (c.boot ≡ 0) × (c.pin ≡ c.op) × (c.pin_checksum ≡ c.op_checksum) × (c.answered ≡ 0)
+  pub two : c.version ≡ VERSION → (c.pin ≡ c.head) × (c.answered ≡ c.replies + 1)
 
 -- the field tests of a superblock, those on its trailer aside
 pub record PassesTests (sh : Shape) (c : Content) : Type 0 where
   pub version : c.version ≡ sh.version
   pub layout : c.layout ≡ sh.layout
   pub cluster : c.cluster ≡ sh.cluster
-  pub sequence : (0 < c.sequence) × (c.sequence ≤ 2 ^ 62)
-  pub boot : c.boot ≤ 2 ^ 62
+  pub sequence : (0 < c.sequence) × (c.sequence ≤ GREATEST)
+  pub boot : c.boot ≤ GREATEST
   pub op_checksum : c.op ≡ 0 → c.op_checksum ≡ 0
-  pub head : (c.op ≤ c.head) × (c.head ≤ c.op + sh.layout.slots) × (c.head ≤ 2 ^ 62)
+  pub head : (c.op ≤ c.head) × (c.head ≤ c.op + sh.layout.slots) × (c.head ≤ GREATEST)
   pub replies : (c.replies ≤ c.head) × (c.head ≤ c.replies + 8)
   pub pin : (c.op ≤ c.pin) × (c.pin ≤ c.head)
   pub pin_checksum : c.pin ≡ c.op → c.pin_checksum ≡ c.op_checksum

@@ -1,5 +1,6 @@
 -- An image and its view.
 use Rattle.std.specs.Prelude.{◌≡◌, ◌↔◌, ◌<◌, ◌≤◌, ◌+◌, ◌%◌, ◌^◌, ℕ, List, length}
+use Rattle.df_base.specs.declared.TheConstants.{FIRST_VERSION, GREATEST}
 use Rattle.df_theory.specs.Units.{Content, Message, Units, HeaderPlace, PreparePlace}
 use Rattle.df_theory.specs.Tails.{last_checksum}
 use Rattle.df_theory.specs.Shape.{Shape, slots}
@@ -38,11 +39,11 @@ OneAnswerLaw = (sh : Shape) (image : Units) (x y : OpenAnswer) → Opens sh imag
 
 -- the answer is a state exactly where no step refuses
 abbrev pub FoundAnswerLaw : Type 0
-FoundAnswerLaw = (sh : Shape) (image : Units) (v : View) → Opens sh image (Found v) ↔ (IsFound sh image v × (boot_of v < 2 ^ 62))
+FoundAnswerLaw = (sh : Shape) (image : Units) (v : View) → Opens sh image (Found v) ↔ (IsFound sh image v × (boot_of v < GREATEST))
 
 -- and where a state is found, only a spent boot is refused
 abbrev pub SpentAnswerLaw : Type 0
-SpentAnswerLaw = (sh : Shape) (image : Units) → Opens sh image (Refused BootSpent) ↔ ((v : View) × IsFound sh image v × (boot_of v ≡ 2 ^ 62))
+SpentAnswerLaw = (sh : Shape) (image : Units) → Opens sh image (Refused BootSpent) ↔ ((v : View) × IsFound sh image v × (boot_of v ≡ GREATEST))
 
 -- what the decision on a slot says of it: taken where its prepare is of the wanted op and boot, lost where only its header is, empty where neither is
 abbrev pub DecisionLaw : Type 0
@@ -69,5 +70,5 @@ KnownEndsLaw = (n : ℕ) (image : Units) (op checksum parent : ℕ) (ps : List M
 -- a file of version 1 names none beyond its checkpoint, and its boot is never spent
 abbrev pub FirstVersionLaw : Type 0
 FirstVersionLaw =
-    (sh : Shape) (image : Units) (b : Checkpoint) → sh.version ≡ 1 → PassesTests sh b.content
+    (sh : Shape) (image : Units) (b : Checkpoint) → sh.version ≡ FIRST_VERSION → PassesTests sh b.content
     → ((a : ℕ) → LacksKnown sh image b.content a → ⊥) × ((front : List Message) → IsUnfit sh image b front → ⊥) × (b.content.boot ≡ 0)

@@ -1,5 +1,6 @@
 -- How a word ends where nothing fails: over a file that is safe to open, and `format` over a blank disk.
 use Rattle.std.specs.Prelude.{◌≡◌, ◌⊎◌, ◌<◌, ◌^◌, ℕ, List, [], Option, Some}
+use Rattle.df_base.specs.declared.TheConstants.{FIRST_VERSION, GREATEST, VERSION}
 use Rattle.df_base.specs.Image.{IsImage}
 use Rattle.df_disk.specs.Told.{Told}
 use Rattle.df_layout.specs.declared.layout.Layout.{Layout}
@@ -46,25 +47,25 @@ IsCarriedOut (Paced pace) layout left status = (status ≡ Done) ⊎ IsCutScript
 -- whatever word on a file is run, over a disk that may be opened, while boots are left: where nothing failed, it was carried out, or memory was wanting
 abbrev pub SafeIsRun : Type 0
 SafeIsRun =
-    (mode : Mode) (file : DataFile) (view : View) (t : Told) (old new : Outside) (before now : Faults) (status : Status) → AsksForFile mode → MayOpen file view t → boot_of view < 2 ^ 62 → old.told ≡ Some t
+    (mode : Mode) (file : DataFile) (view : View) (t : Told) (old new : Outside) (before now : Faults) (status : Status) → AsksForFile mode → MayOpen file view t → boot_of view < GREATEST → old.told ≡ Some t
     → HasCauses before now status → NoneFailed before now → Runs mode old new status → (status ≡ Memory) ⊎ IsCarriedOut mode file.layout old.left status
 
 -- and in rooms of the file's layout it was carried out
 abbrev pub SafeIsServed : Type 0
 SafeIsServed =
-    (mode : Mode) (file : DataFile) (view : View) (t : Told) (old new : Outside) (before now : Faults) (status : Status) → MayOpen file view t → boot_of view < 2 ^ 62 → old.told ≡ Some t
+    (mode : Mode) (file : DataFile) (view : View) (t : Told) (old new : Outside) (before now : Faults) (status : Status) → MayOpen file view t → boot_of view < GREATEST → old.told ≡ Some t
     → HasCauses before now status → NoneFailed before now → ServesIn mode file.layout old new status → IsCarriedOut mode file.layout old.left status
 
 -- a file of version 1 in which an open of that version finds a view is upgraded: where nothing failed the word ends Done, or memory was wanting
 abbrev pub OldIsUpgraded : Type 0
 OldIsUpgraded =
-    (file : DataFile) (view : View) (t : Told) (old new : Outside) (before now : Faults) (status : Status) → file.version ≡ 1 → IsImage t.shown → IsFound (shape file) (unit_at file.layout file.cluster t.shown) view → old.told ≡ Some t
+    (file : DataFile) (view : View) (t : Told) (old new : Outside) (before now : Faults) (status : Status) → file.version ≡ FIRST_VERSION → IsImage t.shown → IsFound (shape file) (unit_at file.layout file.cluster t.shown) view → old.told ≡ Some t
     → HasCauses before now status → NoneFailed before now → RunsUpgrade old new status → (status ≡ Memory) ⊎ (status ≡ Done)
 
 -- and one of version 2 is left as it is: nothing is written to it, and it isn't synced
 abbrev pub SecondIsLeft : Type 0
 SecondIsLeft =
-    (file : DataFile) (view : View) (t : Told) (old new : Outside) (status : Status) → file.version ≡ 2 → IsImage t.shown → IsFound (shape file) (unit_at file.layout file.cluster t.shown) view → old.told ≡ Some t → RunsUpgrade old new status
+    (file : DataFile) (view : View) (t : Told) (old new : Outside) (status : Status) → file.version ≡ VERSION → IsImage t.shown → IsFound (shape file) (unit_at file.layout file.cluster t.shown) view → old.told ≡ Some t → RunsUpgrade old new status
     → new.told ≡ old.told
 
 -- over a disk whose superblock is blank, and with a cluster other than 0, the word `format` makes the file, or memory was wanting

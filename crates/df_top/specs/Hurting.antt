@@ -1,6 +1,7 @@
 -- What a word does with a file that may be hurt: sectors of it were damaged, lost or swapped before the open.
 use Rattle.std.proofs.Common.{inl, inr}
 use Rattle.std.specs.Prelude.{◌≡◌, ◌⊎◌, ◌<◌, ◌^◌, ℕ, Some}
+use Rattle.df_base.specs.declared.TheConstants.{GREATEST}
 use Rattle.df_disk.specs.Told.{Told}
 use Rattle.df_layout.specs.declared.layout.Layout.{Layout}
 use Rattle.df_theory.specs.View.{View, boot_of}
@@ -43,7 +44,7 @@ pub record ServesHurt (file : DataFile) (view : View) (t : Told) (mode : Mode) (
 
 -- in rooms of the file's layout, while boots are left
 abbrev pub ServesOverHurt : Mode → Layout → Outside → Outside → Status → Type 0
-ServesOverHurt mode layout old new status = (file : DataFile) (view : View) (t : Told) → layout ≡ file.layout → old.told ≡ Some t → MayBeHurt file view t → boot_of view < 2 ^ 62 → ServesHurt file view t mode old new status
+ServesOverHurt mode layout old new status = (file : DataFile) (view : View) (t : Told) → layout ≡ file.layout → old.told ≡ Some t → MayBeHurt file view t → boot_of view < GREATEST → ServesHurt file view t mode old new status
 
 -- ---- the program
 
@@ -60,5 +61,5 @@ RefusesCopies file view t old new status = RefusesCopiesAs 2 file view t old new
 
 -- while boots are left: memory was wanting or the disk failed in the first reads, or the superblock is refused for damage, or the word is carried out
 abbrev pub RunsOverHurt : Mode → Outside → Outside → Status → Type 0
-RunsOverHurt mode old new status = (file : DataFile) (view : View) (t : Told) → old.told ≡ Some t → MayBeHurt file view t → boot_of view < 2 ^ 62
+RunsOverHurt mode old new status = (file : DataFile) (view : View) (t : Told) → old.told ≡ Some t → MayBeHurt file view t → boot_of view < GREATEST
     → DidNothing old new status ⊎ RefusesCopies file view t old new status ⊎ ServesHurt file view t mode old new status

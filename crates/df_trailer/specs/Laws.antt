@@ -1,5 +1,6 @@
 -- One list of lawful parts has one text, and one text has one list of parts.
 use Rattle.std.specs.Prelude.{◌≡◌, ◌≤◌, ◌<◌, ◌^◌, ◌++◌, ℕ, List, Some, length, map}
+use Rattle.df_base.specs.declared.TheConstants.{GREATEST, HEADER}
 use Rattle.df_base.specs.Fields.{AreBytes}
 use Rattle.df_theory.specs.Units.{Layout, Parts}
 use Rattle.df_theory.specs.Shape.{Shape}
@@ -16,11 +17,11 @@ abbrev pub PartsLaw : Type 0
 PartsLaw = (l : Layout) (op : ℕ) (parts : Parts) → HasLimits l → IsLawful l op parts → parse l op (spell l parts) ≡ Some parts
 
 abbrev pub TextLaw : Type 0
-TextLaw = (l : Layout) (op : ℕ) (text : List ℕ) (parts : Parts) → op ≤ 2 ^ 62 → AreBytes text → parse l op text ≡ Some parts
+TextLaw = (l : Layout) (op : ℕ) (text : List ℕ) (parts : Parts) → op ≤ GREATEST → AreBytes text → parse l op text ≡ Some parts
     → IsLawful l op parts × (spell l parts ≡ text)
 
 abbrev pub CodecLaw : Type 0
-CodecLaw = (sh : Shape) → HasLimits sh.layout → 256 < sh.layout.block_size → sh.parse ≡ parse_of sh.layout → IsCodec sh (spell sh.layout)
+CodecLaw = (sh : Shape) → HasLimits sh.layout → HEADER < sh.layout.block_size → sh.parse ≡ parse_of sh.layout → IsCodec sh (spell sh.layout)
 
 -- a refusal stays, and it is the first part that fails
 abbrev pub RefusalLaw : Type 0

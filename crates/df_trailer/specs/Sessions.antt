@@ -1,11 +1,12 @@
 -- What holds of the sessions of a text in which nothing fails, as a reader gives them.
 use Rattle.std.specs.Prelude.{◌≡◌, ◌<◌, ◌≤◌, ◌^◌, ℕ, List, length, slice_get, Some, None}
+use Rattle.df_base.specs.declared.TheConstants.{GREATEST}
 use Rattle.df_sessions.specs.declared.session.Session.{Session}
 
 -- a session of a checkpoint of this op: its numbers are in their ranges, and its reply isn't told
 pub record IsReadSession (op : ℕ) (s : Session) : Type 0 where
   pub client : 0 < s.client
-  pub request : (0 < s.request) × (s.request ≤ 2 ^ 62)
+  pub request : (0 < s.request) × (s.request ≤ GREATEST)
   pub op_is : (0 < s.op) × (s.op ≤ op)
   pub reply : s.reply ≡ None
 

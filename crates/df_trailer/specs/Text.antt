@@ -1,5 +1,6 @@
 -- How the text of a trailer is read: what stands where in it, and the first part of it that fails.
 use Rattle.std.specs.Prelude.{ℕ, zero, suc, ◌+◌, ◌-◌, ◌*◌, ◌/◌, ◌%◌, ◌^◌, ◌==◌, nat_lt, nat_le, Bool, true, false, ◌||◌, not, if◌then◌else◌, List, [], ◌∷◌, ◌++◌, length, take, drop, min, Option, Some, None, Result, Ok, Err}
+use Rattle.df_base.specs.declared.TheConstants.{GREATEST}
 use Rattle.df_base.specs.Fields.{field_at}
 use Rattle.df_theory.specs.Units.{Layout, Parts, Session}
 use Rattle.df_model.specs.Refusals.{first_refusal}
@@ -109,7 +110,7 @@ is_repeated client op (t ∷ ts) = (t.client == client) || ((t.op == op) || is_r
 -- the session breaks a rule, after the earlier ones
 abbrev pub is_wrong : ℕ → List Session → Session → Bool
 is_wrong op before s =
-    (s.client == 0) || ((s.request == 0) || (nat_lt (2 ^ 62) s.request || ((s.op == 0) || (nat_lt op s.op || is_repeated s.client s.op before))))
+    (s.client == 0) || ((s.request == 0) || (nat_lt GREATEST s.request || ((s.op == 0) || (nat_lt op s.op || is_repeated s.client s.op before))))
 
 -- the place of the first session that is wrong, after the earlier ones; past the end where none is
 abbrev pub wrong_place : ℕ → List Session → List Session → ℕ
@@ -187,4 +188,4 @@ parse l op text = unless (fault l op text) (parts_of l text)
 
 -- the parts of a text, where no op is above 2^62, whatever a superblock says
 abbrev pub parse_of : Layout → ℕ → List ℕ → Option Parts
-parse_of l op text = parse l (min op (2 ^ 62)) text
+parse_of l op text = parse l (min op GREATEST) text

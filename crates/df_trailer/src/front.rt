@@ -1,5 +1,6 @@
 // The head of a text, as pieces of it come.
 ghost use Rattle.std.specs.Prelude.{◌≡◌, ◌++◌, ◌<◌, ◌≤◌, [], length, take, true, ◌^◌};
+ghost use Rattle.df_base.specs.declared.TheConstants.{GREATEST};
 ghost use Rattle.df_model.specs.Refusals.{first_refusal};
 ghost use Rattle.df_trailer.specs.Text.{head_end, head_tests, is_whole};
 
@@ -15,7 +16,7 @@ pub(crate) struct Front {
 
 /// Tells whether a head is there whole, or is longer than any may be.
 pub(crate) fn whole(head: &[u8]) -> bool
-    requires { length head.now < 2 ^ 62 }
+    requires { length head.now < GREATEST }
     ensures { result ≡ is_whole head.now }
 {
     head.len() >= HEAD || head.len() as u64 >= end_of_head(head)

@@ -1,6 +1,7 @@
 // Where a piece begins among the checksums: what is captured is counted by groups of addresses, so that the groups whose checksums stand
 // before the window are passed over.
 ghost use Rattle.std.specs.Prelude.{◌≡◌, ◌+◌, ◌*◌, ◌<◌, ◌≤◌, ◌^◌, IfSome};
+ghost use Rattle.df_base.specs.declared.TheConstants.{HEADER};
 ghost use Rattle.df_trailer.specs.Writing.{referenced_among};
 
 use crate::CapturedBlocks;
@@ -20,7 +21,7 @@ pub(crate) struct Begin {
 fn behind_groups<G: CapturedBlocks>(grid: &G, start: u64, from: u64, groups: u64) -> Option<Begin>
     requires groups { groups < 2 ^ 24 }
     requires small { start < 2 ^ 60 }
-    ensures place { IfSome result (λ begin. begin.place ≡ 256 * groups) }
+    ensures place { IfSome result (λ begin. begin.place ≡ HEADER * groups) }
     ensures at { IfSome result (λ begin. begin.at ≡ start + 16 * referenced_among (G.captured grid.now) (256 * groups)) }
     ensures before { IfSome result (λ begin. begin.at ≤ from) }
 {

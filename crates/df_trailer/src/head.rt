@@ -1,11 +1,12 @@
 // Root and sessions, which a text begins with: how much of a text is its head, and the first part of it that fails.
 ghost use Rattle.std.specs.Prelude.{◌≡◌, ◌+◌, ◌*◌, ◌<◌, ◌≤◌, ◌^◌, Some, [], length};
+ghost use Rattle.df_base.specs.declared.TheConstants.{GREATEST};
 ghost use Rattle.df_model.specs.Refusals.{first_refusal};
 ghost use Rattle.df_trailer.specs.declared.fault.Cause.TheVariants.{Ends, Says};
 ghost use Rattle.df_trailer.specs.Text.{earlier, fails, head_end, head_tests, is_repeated, is_wrong, session, wrong_place, read_sessions};
 
 use crate::fault::{Cause, Failing, Fault};
-use df_base::{u32_at, u64_at, u128_at};
+use df_base::{GREATEST, u32_at, u64_at, u128_at};
 use df_layout::{Field, ROOT};
 
 /// The most bytes of a head: two lengths, a root, and 64 sessions.
@@ -13,7 +14,7 @@ pub(crate) const HEAD: usize = 3080;
 
 /// How many bytes the head of a text has, as far as its front tells.
 pub(crate) fn end_of_head(front: &[u8]) -> u64
-    requires { length front.now < 2 ^ 62 }
+    requires { length front.now < GREATEST }
     ensures { result ≡ head_end front.now }
 {
     if front.len() < 4 {
@@ -29,7 +30,7 @@ pub(crate) fn end_of_head(front: &[u8]) -> u64
 /// Tells whether the session at an offset breaks a rule, where `before` sessions stand from offset `from` on.
 fn breaks_rule(head: &[u8], op: u64, from: usize, before: usize) -> bool
     requires inside { from + 32 * before + 32 ≤ length head.now }
-    requires small { length head.now < 2 ^ 62 }
+    requires small { length head.now < GREATEST }
     ensures { result ≡ is_wrong op (earlier before from head.now) (session (from + 32 * before) head.now) }
 {
     let at = from + 32 * before;
@@ -38,7 +39,7 @@ fn breaks_rule(head: &[u8], op: u64, from: usize, before: usize) -> bool
     let number = u64_at(head, at + 24);
     client == 0
         || request == 0
-        || request > 1 << 62
+        || request > GREATEST
         || number == 0
         || number > op
         || stands_before(head, from, before, client, number)
@@ -47,7 +48,7 @@ fn breaks_rule(head: &[u8], op: u64, from: usize, before: usize) -> bool
 /// Tells whether one of the sessions from an offset on has this client or this op.
 fn stands_before(head: &[u8], from: usize, before: usize, client: u128, number: u64) -> bool
     requires inside { from + 32 * before ≤ length head.now }
-    requires small { length head.now < 2 ^ 62 }
+    requires small { length head.now < GREATEST }
     ensures { result ≡ is_repeated client number (earlier before from head.now) }
 {
     for place in 0..before {
@@ -62,7 +63,7 @@ fn stands_before(head: &[u8], from: usize, before: usize, client: u128, number: 
 /// The place of the first of so many sessions that breaks a rule, their number where none does.
 fn first_wrong_of(head: &[u8], op: u64, from: usize, whole: usize) -> usize
     requires inside { from + 32 * whole ≤ length head.now }
-    requires small { length head.now < 2 ^ 62 }
+    requires small { length head.now < GREATEST }
     ensures { result ≡ wrong_place op [] (read_sessions whole from head.now) }
 {
     for place in 0..whole {
@@ -93,7 +94,7 @@ pub(crate) fn says(field: Field, value: u64) -> Option<Failing>
 
 /// The first part of a head that fails.
 pub(crate) fn failing_head(head: &[u8], clients: u32, op: u64) -> Option<Failing>
-    requires { length head.now < 2 ^ 62 }
+    requires { length head.now < GREATEST }
     ensures { result ≡ first_refusal (head_tests clients op head.now) }
 {
     let size = head.len() as u64;

@@ -1,5 +1,6 @@
 // The reader of a text that comes in pieces. It keeps what it needs of the text and nothing else: the head, the bits and the checksums.
 ghost use Rattle.std.specs.Prelude.{◌≡◌, ◌≢◌, ◌↔◌, ◌++◌, IsOk, IfSome, IfNone, ◌+◌, ◌-◌, ◌*◌, ◌/◌, ◌<◌, ◌^◌, ℕ, List, Option, [], None, get_or, length, vec_len};
+ghost use Rattle.df_base.specs.declared.TheConstants.{GREATEST};
 ghost use Rattle.df_layout.specs.declared.layout.Layout.{Layout as FileLayout};
 ghost use Rattle.df_units.specs.Meaning.{layout_of};
 ghost use Rattle.df_trailer.specs.Rooms.{byte_in_checks, byte_in_words};
@@ -86,7 +87,7 @@ impl Reader {
 
     /// Takes one byte after the head.
     fn take_byte(&mut self, byte: u8)
-        requires { self.old.behind < 2 ^ 62 }
+        requires { self.old.behind < GREATEST }
         ensures size { self.new.behind ≡ self.old.behind + 1 }
         ensures bits { (place : ℕ) → place < (self.old.layout.blocks + 7) / 8 → place ≢ self.old.behind → byte_in_words self.new.parts.bits.items place ≡ byte_in_words self.old.parts.bits.items place }
         ensures bit { self.old.behind < (self.old.layout.blocks + 7) / 8 → byte_in_words self.new.parts.bits.items self.old.behind ≡ byte }
@@ -108,7 +109,7 @@ impl Reader {
 
     /// Takes bytes after the head.
     fn take_rest(&mut self, piece: &[u8])
-        requires { self.old.behind + length piece.now < 2 ^ 62 }
+        requires { self.old.behind + length piece.now < GREATEST }
         ensures size { self.new.behind ≡ self.old.behind + length piece.now }
         ensures rest { IsRestTaken self.old self.new piece.now }
         ensures front { self.new.front ≡ self.old.front }
@@ -122,7 +123,7 @@ impl Reader {
 
     /// The first part of head and bits that fails in what came so far.
     fn failing_before_end(&self) -> Option<Failing>
-        requires { bytes_read self.now < 2 ^ 62 }
+        requires { bytes_read self.now < GREATEST }
         ensures { result ≡ failing_before_end self.now }
     {
         match self.front.failing(self.layout.clients, self.op) {
@@ -138,7 +139,7 @@ impl Reader {
 
     /// The first part that fails in what came so far.
     fn failing(&self) -> Option<Failing>
-        requires { bytes_read self.now < 2 ^ 62 }
+        requires { bytes_read self.now < GREATEST }
         ensures { result ≡ failing_in self.now }
     {
         match self.failing_before_end() {
@@ -154,7 +155,7 @@ impl Reader {
 
     /// What fails in what came so far, whatever comes after it: more of a text can still mend its end, so that isn't tested.
     fn refused(&self) -> Result<(), Fault>
-        requires { bytes_read self.now < 2 ^ 62 }
+        requires { bytes_read self.now < GREATEST }
         ensures { result ≡ answer (refusal_in (failing_in self.now)) }
     {
         refusal_of(self.failing_before_end())
@@ -163,7 +164,7 @@ impl Reader {
     /// Takes the next piece of the text. It refuses exactly where the text so far says what it may not say, whatever
     /// comes after it; a refusal stays for every later piece.
     pub fn feed(&mut self, piece: &[u8]) -> Result<(), Fault>
-        requires { bytes_read self.old + length piece.now < 2 ^ 62 }
+        requires { bytes_read self.old + length piece.now < GREATEST }
         ensures kept { (layout : FileLayout) (op : ℕ) (text : List ℕ) → HasRead layout op self.old text → HasRead layout op self.new (text ++ piece.now) }
         ensures refusal { (layout : FileLayout) (op : ℕ) (text : List ℕ) → HasRead layout op self.old text → result ≡ answer (refusal (layout_of layout) op (text ++ piece.now)) }
         ensures size { bytes_read self.new ≡ bytes_read self.old + length piece.now }
@@ -176,7 +177,7 @@ impl Reader {
 
     /// Answers the first part that fails in the whole text, which is what was fed.
     pub fn end(&self) -> Result<(), Fault>
-        requires { bytes_read self.now < 2 ^ 62 }
+        requires { bytes_read self.now < GREATEST }
         ensures fault { (layout : FileLayout) (op : ℕ) (text : List ℕ) → HasRead layout op self.now text → result ≡ answer (fault (layout_of layout) op text) }
         ensures whole { IsOk result ↔ (failing_in self.now ≡ None) }
     {

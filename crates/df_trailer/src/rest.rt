@@ -1,5 +1,6 @@
 // What comes after the head: bits, and what is told of the text by them.
 ghost use Rattle.std.specs.Prelude.{◌≡◌, ◌+◌, ◌*◌, ◌/◌, ◌<◌, ◌≤◌, ◌^◌, length};
+ghost use Rattle.df_base.specs.declared.TheConstants.{GREATEST};
 ghost use Rattle.df_model.specs.Refusals.{first_refusal};
 ghost use Rattle.df_trailer.specs.Reading.{bits_tests, end_tests};
 ghost use Rattle.df_trailer.specs.Rooms.{bits_in_words};
@@ -13,7 +14,7 @@ use df_layout::Field;
 pub(crate) fn failing_bits(blocks: u32, head: u64, words: &[u64], behind: u64) -> Option<Failing>
     requires room { blocks ≤ 64 * length words.now }
     requires some { 0 < blocks }
-    requires small { head + behind < 2 ^ 62 }
+    requires small { head + behind < GREATEST }
     ensures { result ≡ first_refusal (bits_tests blocks head ((blocks + 7) / 8) (bits_in_words ((blocks + 7) / 8) words.now) behind) }
 {
     let size = u64::from(blocks.div_ceil(8));
@@ -29,7 +30,7 @@ pub(crate) fn failing_bits(blocks: u32, head: u64, words: &[u64], behind: u64) -
 /// What fails where a text ends, so many bytes after a head of so many, with these bits.
 pub(crate) fn failing_end(blocks: u32, head: u64, words: &[u64], behind: u64) -> Option<Failing>
     requires room { blocks ≤ 64 * length words.now }
-    requires small { head + behind < 2 ^ 62 }
+    requires small { head + behind < GREATEST }
     ensures { result ≡ first_refusal (end_tests blocks head ((blocks + 7) / 8) (bits_in_words ((blocks + 7) / 8) words.now) behind) }
 {
     let size = u64::from(blocks.div_ceil(8));

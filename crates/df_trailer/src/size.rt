@@ -1,5 +1,6 @@
 // How long a trailer is, and how many blocks it needs.
 ghost use Rattle.std.specs.Prelude.{◌≡◌, ◌+◌, ◌-◌, ◌*◌, ◌^◌, ◌≤◌};
+ghost use Rattle.df_base.specs.declared.TheConstants.{HEADER};
 ghost use Rattle.df_theory.specs.Trailer.{IsCount};
 ghost use Rattle.df_units.specs.Meaning.{layout_of};
 ghost use Rattle.df_trailer.specs.Spelling.{text_size};
@@ -24,7 +25,7 @@ pub fn blocks_needed(layout: &Layout, root: u64, sessions: u64, references: u64)
     requires root { root ≤ 1024 }
     requires sessions { sessions ≤ 64 }
     requires references { references ≤ layout.now.blocks }
-    ensures count { IsCount (layout.now.block_size - 256) (text_size (layout_of layout.now) root sessions references) result }
+    ensures count { IsCount (layout.now.block_size - HEADER) (text_size (layout_of layout.now) root sessions references) result }
     ensures most { result ≤ 70 }
 {
     trailer_size(layout, root, sessions, references).div_ceil(u64::from(

@@ -1,6 +1,7 @@
 // A piece of the text, made of what a checkpoint captured: no buffer of the whole text exists.
 ghost use Rattle.std.specs.Prelude.{◌≡◌, ◌+◌, ◌-◌, ◌*◌, ◌/◌, ◌<◌, ◌≤◌, ◌^◌, ◌++◌, ◌∷◌, ℕ, List, [], length, take, drop, min};
 ghost use Rattle.std.specs.Int.{bit_at, byte_at};
+ghost use Rattle.df_base.specs.declared.TheConstants.{GREATEST, HEADER};
 ghost use Rattle.df_base.specs.Fields.{spelled};
 ghost use Rattle.df_units.specs.Meaning.{layout_of};
 ghost use Rattle.df_trailer.specs.Rooms.{trailer_session};
@@ -17,7 +18,7 @@ use df_sessions::Session;
 /// Puts a root with its length.
 fn put_root(room: &mut [u8], from: u64, root: &[u8]) -> u64
     requires small { length root.now ≤ 1024 }
-    requires window { from + length room.old < 2 ^ 62 }
+    requires window { from + length room.old < GREATEST }
     ensures next { result ≡ 4 + length root.now }
     ensures shown { IsPieceShown ((([] ++ spelled 4 (length root.now))) ++ root.now) from room.new }
     ensures length { length room.new ≡ length room.old }
@@ -28,8 +29,8 @@ fn put_root(room: &mut [u8], from: u64, root: &[u8]) -> u64
 
 /// Puts a session.
 fn put_session(room: &mut [u8], from: u64, at: u64, session: &Session) -> u64
-    requires small { at + 32 < 2 ^ 62 }
-    requires window { from + length room.old < 2 ^ 62 }
+    requires small { at + 32 < GREATEST }
+    requires window { from + length room.old < GREATEST }
     ensures next { result ≡ at + 32 }
     ensures shown { (text : List ℕ) → length text ≡ at → IsPieceShown text from room.old → IsPieceShown (text ++ spell_sessions (trailer_session session.now ∷ [])) from room.new }
     ensures length { length room.new ≡ length room.old }
@@ -43,7 +44,7 @@ fn put_session(room: &mut [u8], from: u64, at: u64, session: &Session) -> u64
 fn put_sessions(room: &mut [u8], from: u64, start: u64, sessions: &[Session]) -> u64
     requires few { length sessions.now ≤ 64 }
     requires small { start < 2 ^ 60 }
-    requires window { from + length room.old < 2 ^ 62 }
+    requires window { from + length room.old < GREATEST }
     ensures next { result ≡ start + 32 * length sessions.now }
     ensures shown { (text : List ℕ) → length text ≡ start → IsPieceShown text from room.old → IsPieceShown (text ++ spell_sessions (sessions_of sessions.now)) from room.new }
     ensures length { length room.new ≡ length room.old }
@@ -84,7 +85,7 @@ fn bits_byte<G: CapturedBlocks>(grid: &G, blocks: u32, number: u64) -> u8
 /// Puts the bytes of the bits that the window shows.
 fn put_bits<G: CapturedBlocks>(room: &mut [u8], from: u64, start: u64, grid: &G, blocks: u32) -> u64
     requires small { start < 2 ^ 60 }
-    requires window { from + length room.old < 2 ^ 62 }
+    requires window { from + length room.old < GREATEST }
     ensures next { result ≡ start + (blocks + 7) / 8 }
     ensures shown { (text : List ℕ) → length text ≡ start → IsPieceShown text from room.old
         → IsPieceShown (text ++ spelled ((blocks + 7) / 8) (captured_bits (G.captured grid.now) blocks)) from room.new }
@@ -101,8 +102,8 @@ fn put_bits<G: CapturedBlocks>(room: &mut [u8], from: u64, start: u64, grid: &G,
 
 /// Puts the checksum of the block at an address, if there is one.
 fn put_check<G: CapturedBlocks>(room: &mut [u8], from: u64, at: u64, grid: &G, address: u64) -> u64
-    requires small { at + 16 < 2 ^ 62 }
-    requires window { from + length room.old < 2 ^ 62 }
+    requires small { at + 16 < GREATEST }
+    requires window { from + length room.old < GREATEST }
     ensures next { result ≡ at + length (spell_checks (G.captured grid.now address ∷ [])) }
     ensures shown { (text : List ℕ) → length text ≡ at → IsPieceShown text from room.old → IsPieceShown (text ++ spell_checks (G.captured grid.now address ∷ [])) from room.new }
     ensures length { length room.new ≡ length room.old }
@@ -123,7 +124,7 @@ fn put_checks<G: CapturedBlocks>(
     blocks: u32,
 ) -> u64
     requires small { start < 2 ^ 60 }
-    requires window { from + length room.old < 2 ^ 62 }
+    requires window { from + length room.old < GREATEST }
     ensures left { min (result - from) (length room.new) ≡ min (start + length (spell_checks (captured_blocks (G.captured grid.now) blocks)) - from) (length room.new) }
     ensures shown { (text : List ℕ) → length text ≡ start → IsPieceShown text from room.old → IsPieceShown (text ++ spell_checks (captured_blocks (G.captured grid.now) blocks)) from room.new }
     ensures length { length room.new ≡ length room.old }
@@ -184,9 +185,9 @@ pub fn piece<G: CapturedBlocks>(
     requires root { length root.now ≤ 1024 }
     requires sessions { length sessions.now ≤ 64 }
     requires index { index < 2 ^ 32 }
-    requires room { layout.now.block_size - 256 ≤ length into.old }
+    requires room { layout.now.block_size - HEADER ≤ length into.old }
     ensures within { result ≤ length into.new }
-    ensures piece { take result into.new ≡ piece_of (layout.now.block_size - 256) index (spell (layout_of layout.now) (captured_parts root.now sessions.now (G.captured grid.now))) }
+    ensures piece { take result into.new ≡ piece_of (layout.now.block_size - HEADER) index (spell (layout_of layout.now) (captured_parts root.now sessions.now (G.captured grid.now))) }
     ensures length { length into.new ≡ length into.old }
 {
     let body = layout.block_size - HEADER as u32;

@@ -1,5 +1,6 @@
 // What becomes of the sectors of a disk between two runs: strikes, stops and writes of their own.
 ghost use Rattle.std.specs.Prelude.{◌+◌, ◌≤◌, length};
+ghost use Rattle.df_base.specs.declared.TheConstants.{SECTOR};
 
 use crate::disks::Named;
 use crate::numbers::{bytes, number, span};
@@ -90,7 +91,7 @@ pub(crate) fn strike(alloc: Global, named: &mut Named, words: &[String]) -> Resu
 
 // The first bytes of a sector are as written, and the others as before.
 fn torn(now: &[u8; SECTOR], before: &[u8; SECTOR], at: usize) -> [u8; SECTOR]
-    requires { at ≤ 4096 }
+    requires { at ≤ SECTOR }
 {
     let mut bytes = *before;
     bytes[..at].copy_from_slice(&now[..at]);
@@ -166,7 +167,7 @@ pub(crate) fn stop(alloc: Global, named: &mut Named, words: &[String]) -> Result
 
 /// Puts bytes into a sector from a place on.
 pub(crate) fn overlay(bytes: &mut [u8; SECTOR], at: usize, over: &[u8])
-    requires { at + length over.now ≤ 4096 }
+    requires { at + length over.now ≤ SECTOR }
 {
     bytes[at..at + over.len()].copy_from_slice(over);
 }

@@ -1,6 +1,7 @@
 -- Which unit an image shows at each place, which sectors a place has, and which places a write touches. A place that the layout
 -- doesn't have shows nothing and is touched by nothing.
 use Rattle.std.specs.Prelude.{◌+◌, ◌-◌, ◌*◌, ◌&&◌, ℕ, Bool, nat_le, nat_lt, List, length, Option, Some, None}
+use Rattle.df_base.specs.declared.TheConstants.{SECTOR}
 use Rattle.df_base.specs.Image.{Image}
 use Rattle.df_layout.specs.declared.layout.Layout.{Layout}
 use Rattle.df_layout.specs.declared.places.Span.{Span}
@@ -50,7 +51,7 @@ has layout place sector = has_place layout place && has_sector (span_at layout p
 
 -- a write of these bytes, from sector at on, has bytes for a sector of a span
 abbrev pub meets : ℕ → List ℕ → Span → Bool
-meets at bytes span = nat_lt at (span.first + span.count) && nat_lt (4096 * (span.first - at)) (length bytes)
+meets at bytes span = nat_lt at (span.first + span.count) && nat_lt (SECTOR * (span.first - at)) (length bytes)
 
 -- the write has bytes for a sector of a place of the layout
 abbrev pub touches : Layout → ℕ → List ℕ → Units.Place → Bool

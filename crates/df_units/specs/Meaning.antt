@@ -1,6 +1,7 @@
 -- The dictionary: which place, layout and unit of the theory each one of the format is. It goes one way: the bytes learn the
 -- theory's words here, once, and the theory never learns of bytes.
 use Rattle.std.specs.Prelude.{◌==◌, ◌+◌, ◌&&◌, ℕ, suc, Bool, true, if◌then◌else◌, List, [], ◌∷◌, ◌++◌, map, Option, Some, None}
+use Rattle.df_base.specs.declared.TheConstants.{VERSION}
 use Rattle.df_base.specs.Fields.{field_at}
 use Rattle.df_layout.specs.declared.layout.Layout.{Layout}
 use Rattle.df_layout.specs.declared.places.Place.{Place}
@@ -72,19 +73,19 @@ offset_list (Some offset) = suc offset ∷ []
 
 -- up to this op a copy names the prepares: version 2 up to its head, any other version up to its checkpoint's op
 abbrev pub pin_of : SuperFields → ℕ
-pin_of f = if f.version == 2 then f.head else f.op
+pin_of f = if f.version == VERSION then f.head else f.op
 
 -- the checksum of the last of these
 abbrev pub pin_checksum_of : SuperFields → List ℕ
-pin_checksum_of f = if f.version == 2 then f.head_checksum else f.op_checksum
+pin_checksum_of f = if f.version == VERSION then f.head_checksum else f.op_checksum
 
 -- it names the replies to ops below this one: version 2 those up to its number of replies, any other version none
 abbrev pub answered_of : SuperFields → ℕ
-answered_of f = if f.version == 2 then f.replies + 1 else 0
+answered_of f = if f.version == VERSION then f.replies + 1 else 0
 
 -- their checksums, by place
 abbrev pub reply_checksums_of : SuperFields → List ℕ
-reply_checksums_of f = if f.version == 2 then map number_of f.reply_checksums else []
+reply_checksums_of f = if f.version == VERSION then map number_of f.reply_checksums else []
 
 -- all of these numbers are zeros
 abbrev pub are_zeros : List ℕ → Bool
@@ -97,7 +98,7 @@ or_nothing ns = if are_zeros ns then [] else ns
 
 -- what version 2 names, where another version leaves it empty
 abbrev pub unnamed_of : SuperFields → List ℕ
-unnamed_of f = if f.version == 2 then [] else or_nothing (number_of f.head_checksum ∷ map number_of f.reply_checksums)
+unnamed_of f = if f.version == VERSION then [] else or_nothing (number_of f.head_checksum ∷ map number_of f.reply_checksums)
 
 -- what should be zero in this version and isn't: that, and the offset of the first byte that isn't zero where it has no fields, if any
 abbrev pub rest_of : SuperFields → List ℕ

@@ -1,6 +1,7 @@
 -- A sample: a header sector of reserved headers, as a new file has it, and one header put into it. Sixteen headers lie in one sector,
 -- and the write of all sixteen changes one slot alone.
 use Rattle.std.specs.Prelude.{◌≡◌, ◌<◌, ◌+◌, ◌*◌, ◌/◌, ◌^◌, ◌==◌, ℕ, zero, suc, if◌then◌else◌, List, [], ◌∷◌, Some}
+use Rattle.df_base.specs.declared.TheConstants.{VERSION}
 use Rattle.df_base.specs.Image.{Image, blank, written}
 use Rattle.df_layout.specs.declared.layout.Layout.{Layout}
 use Rattle.df_layout.specs.declared.places.Zone.TheVariants.{WalHeaders}
@@ -34,7 +35,7 @@ SampleTableIsWritten =
 
 -- the header of an empty slot, of version 2: it names its slot alone, was made in no boot, and has no body
 abbrev pub reserved_header : ℕ → ℕ → Header
-reserved_header cluster slot = sealed (for_body (record (blank_header Reserved cluster) { slot = slot; version = 2 }) [])
+reserved_header cluster slot = sealed (for_body (record (blank_header Reserved cluster) { slot = slot; version = VERSION }) [])
 
 -- it is valid in its slot
 abbrev pub ReservedIsUnit : Type 0

@@ -1,5 +1,6 @@
 -- The choice among the four copies is the theory's, both ways, and a superblock can be used exactly where it passes the theory's tests.
 use Rattle.std.specs.Prelude.{◌≡◌, ◌⊎◌, ◌↔◌, ◌<◌, ℕ, List, Option, Some}
+use Rattle.df_base.specs.declared.TheConstants.{FIRST_VERSION, VERSION}
 use Rattle.df_base.specs.Image.{Image, IsImage}
 use Rattle.df_layout.specs.declared.layout.Layout.{Layout}
 use Rattle.df_format.specs.declared.superblock.SuperFields.{SuperFields}
@@ -62,5 +63,5 @@ ShownHasChecks = (image : Image) (n : ℕ) (c : Content) → IsImage image → c
 -- and one that passes the theory's tests for one of the two versions can be used
 abbrev pub PassingIsUsable : Type 0
 PassingIsUsable =
-    (version : ℕ) (layout : Layout) (cluster : ℕ) (named : 0 < cluster) (parse : ℕ → List ℕ → Option Units.Parts) (c : Content) → (version ≡ 1) ⊎ (version ≡ 2) → ContentHasChecks c → PassesTests (shape_as version layout cluster named parse) (content_of c) → IsReference (layout_of layout) (content_of c)
+    (version : ℕ) (layout : Layout) (cluster : ℕ) (named : 0 < cluster) (parse : ℕ → List ℕ → Option Units.Parts) (c : Content) → (version ≡ FIRST_VERSION) ⊎ (version ≡ VERSION) → ContentHasChecks c → PassesTests (shape_as version layout cluster named parse) (content_of c) → IsReference (layout_of layout) (content_of c)
     → AreFieldsOf layout cluster c.fields × IsSuper c.fields

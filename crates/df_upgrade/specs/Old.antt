@@ -1,5 +1,6 @@
 -- A file of version 1 that was surveyed: no call may be made on it, and what is known of it is what a survey says of either version.
 use Rattle.std.specs.Prelude.{◌≡◌, length, Option, Some, Result, Ok, Err}
+use Rattle.df_base.specs.declared.TheConstants.{FIRST_VERSION}
 use Rattle.df_disk.specs.Told.{Told}
 use Rattle.df_layout.specs.declared.layout.Layout.{Layout}
 use Rattle.df_format.specs.SuperRules.{IsUsable}
@@ -18,7 +19,7 @@ pub record IsOldSurvey (s : found.Surveyed) : Type 0 where
   pub found : IsWellFound s
   pub planned : IsPlannedFor s
   pub chosen : s.scanned.copies.found.content ≡ s.scanned.copies.found.chosen.content
-  pub version : s.scanned.file.version ≡ 1
+  pub version : s.scanned.file.version ≡ FIRST_VERSION
 
 -- so a survey with rooms of this layout answers of a disk that may be hurt, where version 1 is asked for and the disk tells what it shows
 abbrev pub TellsHurtOld : Layout → Option Told → Result State OpenError → Type 0

@@ -1,5 +1,6 @@
 -- What the upgrade of a file answers, what it leaves of the file, and what it leaves where the disk failed in it.
 use Rattle.std.specs.Prelude.{◌≡◌, ◌⊎◌, ℕ, List, Option, Some, Result, Ok, Err}
+use Rattle.df_base.specs.declared.TheConstants.{VERSION}
 use Rattle.df_base.specs.Image.{IsImage}
 use Rattle.df_base.specs.Log.{Event, Sync}
 use Rattle.df_base.specs.Moments.{EachMoment}
@@ -76,7 +77,7 @@ pub record UpgradesPartly (layout : Layout) (t : Told) (later : Option Told) : T
   pub writes : Mends found.file (Some (did Sync t)) later
   pub own : IsImage t.shown → BeginsUpgrading t found later
   pub anew : (view : View) → IsImage t.shown → IsFound (shape found.file) (unit_at found.file.layout found.file.cluster t.shown) view → AreDistinctUnits (unit_at found.file.layout found.file.cluster t.shown)
-      → EachMoment (restarted t).log (told_after writes.events (restarted t)).log (UpgradeStaysBare found.file view (base_fields found)) × IsSameBare (as_version 2 view) (upgraded view (base_fields found))
+      → EachMoment (restarted t).log (told_after writes.events (restarted t)).log (UpgradeStaysBare found.file view (base_fields found)) × IsSameBare (as_version VERSION view) (upgraded view (base_fields found))
 
 -- it failed in the barrier, which added a sync or nothing, or in a read after it; or within the upgrade
 abbrev pub StopsUpgrading : Layout → Told → Option Told → Type 0

@@ -1,5 +1,6 @@
 -- What an upgrade does after its survey, and what it leaves at each moment of that and at its end: of a log that is restarted at the barrier, whatever the copies showed there.
 use Rattle.std.specs.Prelude.{◌≡◌, ◌⊎◌, List, Option, Result, OnOk}
+use Rattle.df_base.specs.declared.TheConstants.{VERSION}
 use Rattle.df_base.specs.Image.{Image, IsImage}
 use Rattle.df_base.specs.Log.{Event, IsLeft, Log, now}
 use Rattle.df_base.specs.Moments.{EachMoment}
@@ -62,7 +63,7 @@ pub record UpdatesTo {T : Type 0} (f : SuperFields) (old new : Option Told) (res
 
 -- the file, once it is of version 2
 abbrev pub second : DataFile → DataFile
-second file = record file { version = 2 }
+second file = record file { version = VERSION }
 
 -- with this superblock
 abbrev pub upgraded : View → SuperFields → View
@@ -82,7 +83,7 @@ pub record UpgradeStaysBare (file : DataFile) (view : View) (d : SuperFields) (l
 pub record EndsUpgraded (file : DataFile) (view : View) (d : SuperFields) (log : Log) : Type 0 where
   pub still : IsStill log
   pub equal : AreEqual (now log) (content_with d)
-  pub version : d.version ≡ 2
+  pub version : d.version ≡ VERSION
   pub boot : d.boot ≡ 1
   pub whole : IsWhole (shape (second file)) (unit_at file.layout file.cluster (now log)) (upgraded view d)
   pub found : IsFound (shape (second file)) (unit_at file.layout file.cluster (now log)) (upgraded view d)
@@ -91,7 +92,7 @@ pub record EndsUpgraded (file : DataFile) (view : View) (d : SuperFields) (log :
 -- Over a base that is restarted, whatever its copies showed: at each moment of these events each image that is left has the bare view, and at their end the file is of version 2 with it.
 pub record UpgradesAnew (view : View) (found : State) (events : List Event) (base : Told) : Type 0 where
   pub moments : EachMoment base.log (told_after events base).log (UpgradeStaysBare found.file view (base_fields found))
-  pub bare : IsSameBare (as_version 2 view) (upgraded view (base_fields found))
+  pub bare : IsSameBare (as_version VERSION view) (upgraded view (base_fields found))
   pub ends : EndsUpgraded found.file view (base_fields found) (told_after events base).log
 
 -- What an upgrade is in the words of the theory, and what it leaves of each log that is restarted at what was shown, and which the survey's list is planned of.

@@ -5,6 +5,7 @@ ghost use Rattle.df_upgrade.specs.Base.{base_fields};
 ghost use Rattle.df_upgrade.specs.Below.{IsUsable, fault_of};
 ghost use Rattle.df_upgrade.specs.Old.{IsOldSurvey};
 
+use df_base::VERSION;
 use df_damage::Surveyed;
 use df_format::{SuperFields, test_fields};
 use df_rooms::stored_checks;
@@ -19,7 +20,7 @@ fn fields_of(found: &Surveyed) -> SuperFields
     let _count = found.scanned.sessions.len();
     let fields = found.scanned.copies.found.content.fields();
     SuperFields {
-        version: 2,
+        version: VERSION,
         boot: 1,
         head: found.traces.tail.op,
         head_checksum: found.traces.tail.checksum,

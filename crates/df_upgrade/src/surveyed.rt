@@ -1,6 +1,7 @@
 // A file of version 1 that was surveyed, and the superblock of version 2 that records it. No call may be made on its state: a replica
 // is of version 2 alone, and so this is a type of its own.
 ghost use Rattle.std.specs.Prelude.{◌≡◌, IfOk, IfErr};
+ghost use Rattle.df_base.specs.declared.TheConstants.{FIRST_VERSION};
 ghost use Rattle.df_upgrade.specs.Base.{base_fields};
 ghost use Rattle.df_upgrade.specs.Below.{IsBlamed, IsSurveyed, IsUsable, Syncs, is_open_fault, state_of};
 ghost use Rattle.df_upgrade.specs.Old.{AnswersOld};
@@ -59,7 +60,7 @@ impl Surveyed {
 /// the file were damaged, lost or swapped before, it finds a state that the file had, or refuses it because of a sector that is hurt.
 pub fn survey<D: Disk>(disk: &mut D, rooms: Rooms) -> Result<Surveyed, (Rooms, OpenError)>
     ensures surveyed { IfOk result (IsSurveyed rooms.layout (D.told disk.old) (D.told disk.new)) }
-    ensures version { IfOk result (λ survey. survey.state.file.version ≡ 1) }
+    ensures version { IfOk result (λ survey. survey.state.file.version ≡ FIRST_VERSION) }
     ensures given_back { IfErr result (λ refused. refused.0.layout ≡ rooms.layout) }
     ensures answers { AnswersOld rooms.layout (D.told disk.old) (state_of result) }
     ensures barrier { Syncs (D.told disk.old) (D.told disk.new) (state_of result) }

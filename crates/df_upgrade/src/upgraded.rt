@@ -1,5 +1,6 @@
 // A file of version 1 becomes one of version 2: it is surveyed, mended, and gets its superblock.
 ghost use Rattle.std.specs.Prelude.{◌≡◌, Some};
+ghost use Rattle.df_base.specs.declared.TheConstants.{FIRST_VERSION};
 ghost use Rattle.df_upgrade.specs.Base.{MayUpgradeTo, base_fields};
 ghost use Rattle.df_upgrade.specs.Below.{AddsUpdating, IsBlamed, IsPlannedOf, Told, is_mend_fault, is_open_fault, update_events, without_rooms};
 ghost use Rattle.df_upgrade.specs.Old.{rooms_in};
@@ -54,7 +55,7 @@ pub fn upgrade_surveyed<D: Disk>(
     surveyed: Surveyed,
 ) -> Result<Rooms, (Rooms, MendError)>
     requires planned { (t : Told) → D.told disk.old ≡ Some t → IsPlannedOf surveyed t }
-    requires version { surveyed.state.file.version ≡ 1 }
+    requires version { surveyed.state.file.version ≡ FIRST_VERSION }
     ensures rooms { (rooms_in result).layout ≡ surveyed.state.file.layout }
     ensures does { AddsUpdating (upgrading_events surveyed) (base_fields surveyed.state) (D.told disk.old) (D.told disk.new) (without_rooms result) }
     ensures leaves { UpgradesEach surveyed }
