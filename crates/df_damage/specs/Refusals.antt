@@ -1,5 +1,5 @@
 -- Why an open refuses a disk that may be hurt.
-use Rattle.std.specs.Prelude.{◌≡◌, ◌⊎◌, ◌<◌, ◌+◌, ◌%◌, ◌^◌, ℕ, List, length, Some, Err}
+use Rattle.std.specs.Prelude.{◌≡◌, ◌⊎◌, ◌<◌, ◌+◌, ◌%◌, ℕ, List, length, Some, Err}
 use Rattle.std.specs.List.{slice_get}
 use Rattle.df_base.specs.declared.TheConstants.{FIRST_VERSION, GREATEST}
 use Rattle.df_disk.specs.Told.{Told}

@@ -1,5 +1,5 @@
 -- The two versions of a file, and what of an open is said of one alone.
-use Rattle.std.specs.Prelude.{◌≡◌, ◌⊎◌, ◌<◌, ◌^◌, ℕ}
+use Rattle.std.specs.Prelude.{◌≡◌, ◌⊎◌, ◌<◌, ℕ}
 use Rattle.df_base.specs.declared.TheConstants.{FIRST_VERSION, GREATEST, VERSION}
 use Rattle.df_theory.specs.View.{View, boot_of}
 

@@ -1,5 +1,5 @@
 -- The fields of a header at their offsets, and the tests that its bytes have to pass.
-use Rattle.std.specs.Prelude.{◌+◌, ◌^◌, ◌==◌, ℕ, List, [], Bool, ◌&&◌, ◌||◌, not, nat_lt, nat_le, if◌then◌else◌, take, drop, replicate, slice_index, Option, Some, None}
+use Rattle.std.specs.Prelude.{◌+◌, ◌==◌, ℕ, List, [], Bool, ◌&&◌, ◌||◌, not, nat_lt, nat_le, if◌then◌else◌, take, drop, replicate, slice_index, Option, Some, None}
 use Rattle.std.specs.Str.{bytes_eq}
 use Rattle.df_base.specs.declared.TheConstants.{FIRST_VERSION, GREATEST, HEADER, VERSION}
 use Rattle.df_base.specs.Fields.{field_at, check_of}

@@ -1,5 +1,5 @@
 -- What a table of slots is seen as.
-use Rattle.std.specs.Prelude.{◌≤◌, ◌^◌, ℕ, List, length, slice_get, slice_set, Option, Some, None, Err}
+use Rattle.std.specs.Prelude.{◌≤◌, ℕ, List, length, slice_get, slice_set, Option, Some, None, Err}
 use Rattle.df_base.specs.declared.TheConstants.{GREATEST}
 use Rattle.df_layout.specs.declared.damage.Class.TheVariants.{Blank}
 use Rattle.df_buffers.specs.declared.slots.SlotSeen.{SlotSeen}

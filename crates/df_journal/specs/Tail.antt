@@ -1,5 +1,5 @@
 -- The tail that a table of slots shows after a checkpoint, and how far taken prepares go on after it.
-use Rattle.std.specs.Prelude.{◌≡◌, ◌≢◌, ◌⊎◌, ◌<◌, ◌^◌, ◌≤◌, ◌+◌, ◌%◌, ℕ, List, length, slice_get, Option, Some, None}
+use Rattle.std.specs.Prelude.{◌≡◌, ◌≢◌, ◌⊎◌, ◌<◌, ◌≤◌, ◌+◌, ◌%◌, ℕ, List, length, slice_get, Option, Some, None}
 use Rattle.df_base.specs.declared.TheConstants.{GREATEST}
 use Rattle.df_layout.specs.declared.layout.Layout.{Layout}
 use Rattle.df_format.specs.declared.header.Header.{Header}

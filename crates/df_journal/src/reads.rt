@@ -1,5 +1,5 @@
 // The scan: each sector of the header ring and each slot of the ring of prepares is read once, into one room each, which are lent.
-ghost use Rattle.std.specs.Prelude.{◌≡◌, ◌<◌, ◌≤◌, ◌%◌, ◌^◌, length, IfOk, OnOk};
+ghost use Rattle.std.specs.Prelude.{◌≡◌, ◌<◌, ◌≤◌, ◌%◌, length, IfOk, OnOk};
 ghost use Rattle.df_base.specs.declared.TheConstants.{GREATEST};
 ghost use Rattle.df_journal.specs.Below.{HasCause, WalHeaders, place_in, class_of, header_or_class, unit_in, header_bytes};
 ghost use Rattle.df_journal.specs.Shows.{IsHeaderThere, IsSlot};

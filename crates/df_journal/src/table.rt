@@ -1,5 +1,5 @@
 // The table of slots: what the two rings show, slot by slot, and what is decided of each.
-ghost use Rattle.std.specs.Prelude.{◌≡◌, ◌<◌, ◌≤◌, ◌^◌, ℕ, length, slice_get};
+ghost use Rattle.std.specs.Prelude.{◌≡◌, ◌<◌, ◌≤◌, ℕ, length, slice_get};
 ghost use Rattle.df_base.specs.declared.TheConstants.{GREATEST};
 ghost use Rattle.df_journal.specs.Below.{Layout as AnyLayout, Units, decision as decided, decision_of};
 ghost use Rattle.df_journal.specs.Scan.{entry, with_slot};
@@ -39,7 +39,7 @@ impl Drop for SlotTable {
 }
 
 impl Model for SlotTable {
-    ghost use Rattle.std.specs.Prelude.{◌≤◌, ◌^◌, length};
+    ghost use Rattle.std.specs.Prelude.{◌≤◌, length};
     ghost use Rattle.df_journal.specs.Scan.{Scan, IsScan};
 
     ghost Value = { Scan };

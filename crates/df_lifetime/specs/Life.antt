@@ -1,5 +1,5 @@
 -- The life of a file: it is made, or taken as it is found, programs are run over it one after the other, whichever they are, each to its end or up to a moment, and the machine may stop at any time.
-use Rattle.std.specs.Prelude.{◌≡◌, ◌⊎◌, ◌<◌, ◌^◌, ℕ, zero, suc, List, [], ◌∷◌, ◌++◌, take, drop, Option, Some, None, Result, Ok}
+use Rattle.std.specs.Prelude.{◌≡◌, ◌⊎◌, ◌<◌, ℕ, zero, suc, List, [], ◌∷◌, ◌++◌, take, drop, Option, Some, None, Result, Ok}
 use Rattle.df_base.specs.declared.TheConstants.{GREATEST, VERSION}
 use Rattle.df_base.specs.Image.{Image, IsImage, changed}
 use Rattle.df_base.specs.Log.{AreLoose, Event, IsLeft, Log, Stop, Sync, now}

@@ -1,5 +1,5 @@
 -- A mending in the life of a file: what a life had come to before its file was damaged is found again where known units alone were hurt, and a second file had them.
-use Rattle.std.specs.Prelude.{◌≡◌, ◌⊎◌, ◌<◌, ◌^◌, List, Some}
+use Rattle.std.specs.Prelude.{◌≡◌, ◌⊎◌, ◌<◌, List, Some}
 use Rattle.df_base.specs.declared.TheConstants.{GREATEST}
 use Rattle.df_base.specs.Image.{Image}
 use Rattle.df_base.specs.Log.{Log, now}

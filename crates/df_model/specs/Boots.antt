@@ -1,5 +1,5 @@
 -- The boot update of an open: what may be raised, the state after it, and what it does to the device.
-use Rattle.std.specs.Prelude.{◌≡◌, ◌<◌, ◌≤◌, ◌^◌, ℕ, List}
+use Rattle.std.specs.Prelude.{◌≡◌, ◌<◌, ◌≤◌, ℕ, List}
 use Rattle.df_base.specs.declared.TheConstants.{GREATEST, VERSION}
 use Rattle.df_base.specs.Log.{Event, IsLog, Log}
 use Rattle.df_theory.specs.Units.{Content, Header, Parts, Units}

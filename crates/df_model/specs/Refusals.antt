@@ -1,5 +1,5 @@
 -- Why a call is refused: its tests in their order, each with its answer, over what is in memory. The first that holds is answered.
-use Rattle.std.specs.Prelude.{ℕ, ◌+◌, ◌-◌, ◌^◌, ◌==◌, Bool, true, false, ◌&&◌, ◌||◌, nat_lt, nat_le, not, if◌then◌else◌, List, [], ◌∷◌, ◌++◌, length, Option, Some, None}
+use Rattle.std.specs.Prelude.{ℕ, ◌+◌, ◌-◌, ◌==◌, Bool, true, false, ◌&&◌, ◌||◌, nat_lt, nat_le, not, if◌then◌else◌, List, [], ◌∷◌, ◌++◌, length, Option, Some, None}
 use Rattle.df_base.specs.declared.TheConstants.{GREATEST}
 use Rattle.df_theory.specs.Units.{Session}
 use Rattle.df_theory.specs.Sessions.{sessions_after}

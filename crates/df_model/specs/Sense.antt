@@ -1,5 +1,5 @@
 -- A state that makes sense: what each call may rely on, and keeps.
-use Rattle.std.specs.Prelude.{◌≡◌, ◌<◌, ◌≤◌, ◌+◌, ◌-◌, ◌*◌, ◌^◌, ℕ, true, List, [], ◌∷◌, length, take, Option, Some, None}
+use Rattle.std.specs.Prelude.{◌≡◌, ◌<◌, ◌≤◌, ◌+◌, ◌-◌, ◌*◌, ℕ, true, List, [], ◌∷◌, length, take, Option, Some, None}
 use Rattle.std.specs.List.{slice_get}
 use Rattle.df_base.specs.declared.TheConstants.{GREATEST, VERSION}
 use Rattle.df_theory.specs.Units.{Block, BlockPlace, BlockUnit, Content, Message, Units, Parts}

@@ -1,5 +1,5 @@
 -- A file on which a disk may be opened is refused for no reason, while boots are left: what is left is that the disk fails.
-use Rattle.std.specs.Prelude.{◌<◌, ◌^◌}
+use Rattle.std.specs.Prelude.{◌<◌}
 use Rattle.df_base.specs.declared.TheConstants.{GREATEST}
 use Rattle.df_base.specs.Image.{IsImage}
 use Rattle.df_disk.specs.Told.{Told}

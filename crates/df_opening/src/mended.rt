@@ -1,5 +1,5 @@
 // What the rooms of a surveyed file list is mended, and its boot is raised; then calls may go on.
-ghost use Rattle.std.specs.Prelude.{◌≡◌, ◌<◌, ◌^◌, length, IfErr, IfOk, None, OnErr, OnOk};
+ghost use Rattle.std.specs.Prelude.{◌≡◌, ◌<◌, length, IfErr, IfOk, None, OnErr, OnOk};
 ghost use Rattle.df_base.specs.declared.TheConstants.{GREATEST};
 ghost use Rattle.df_format.specs.SuperRules.{fault_of};
 ghost use Rattle.df_opening.specs.Below.{HasCause, IsBlamed, is_mend_fault, update_events, without_rooms};

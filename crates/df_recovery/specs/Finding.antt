@@ -1,5 +1,5 @@
 -- What an open finds after a superblock, by what a scan saw of the slots and of the replies: the state, or the first damage in the order of open.
-use Rattle.std.specs.Prelude.{◌≡◌, ◌+◌, ◌-◌, ◌<◌, ◌≤◌, ◌^◌, ℕ, Bool, nat_le, if◌then◌else◌, List, [], length, map, slice_get, position, Option, Some, None, Result, Ok, Err}
+use Rattle.std.specs.Prelude.{◌≡◌, ◌+◌, ◌-◌, ◌<◌, ◌≤◌, ℕ, Bool, nat_le, if◌then◌else◌, List, [], length, map, slice_get, position, Option, Some, None, Result, Ok, Err}
 use Rattle.std.specs.List.{range_with_len}
 use Rattle.df_base.specs.declared.TheConstants.{GREATEST}
 use Rattle.df_base.specs.Image.{IsImage}

@@ -1,6 +1,6 @@
 -- What an image answers to an open with rooms of a layout: the first refusal of the order of open with all that is told of it, or the state, which
 -- is the machine's. The image is any one, whatever was done to the disk.
-use Rattle.std.specs.Prelude.{◌≡◌, ◌≢◌, ◌⊎◌, ◌<◌, ◌^◌, ℕ, Result, Ok, Err}
+use Rattle.std.specs.Prelude.{◌≡◌, ◌≢◌, ◌⊎◌, ◌<◌, ℕ, Result, Ok, Err}
 use Rattle.df_base.specs.declared.TheConstants.{GREATEST}
 use Rattle.df_base.specs.Image.{Image}
 use Rattle.df_layout.specs.declared.damage.Class.{Class}

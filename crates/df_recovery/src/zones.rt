@@ -1,5 +1,5 @@
 // Both rings and the reply slots are scanned into the tables of the rooms, which are lent.
-ghost use Rattle.std.specs.Prelude.{◌≡◌, ◌≤◌, ◌^◌, OnOk};
+ghost use Rattle.std.specs.Prelude.{◌≡◌, ◌≤◌, OnOk};
 ghost use Rattle.df_base.specs.declared.TheConstants.{GREATEST};
 ghost use Rattle.df_recovery.specs.Below.{HasCause};
 ghost use Rattle.df_journal.specs.Scanned.{IsScanned};

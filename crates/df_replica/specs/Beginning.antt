@@ -1,5 +1,5 @@
 -- The begin of a checkpoint: what it captures, and the state that it leads to. No state of the machine is in sight.
-use Rattle.std.specs.Prelude.{◌≡◌, ◌<◌, ◌≤◌, ◌+◌, ◌-◌, ◌^◌, ℕ, List, length, take, Option, Some, None, Result, Ok, Err}
+use Rattle.std.specs.Prelude.{◌≡◌, ◌<◌, ◌≤◌, ◌+◌, ◌-◌, ℕ, List, length, take, Option, Some, None, Result, Ok, Err}
 use Rattle.df_base.specs.declared.TheConstants.{GREATEST, HEADER}
 use Rattle.df_theory.specs.Trailer.{IsCount, greatest_trailer}
 use Rattle.df_units.specs.Meaning.{layout_of}

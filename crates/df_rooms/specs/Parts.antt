@@ -1,5 +1,5 @@
 -- What a replica keeps in memory, live or not: the state that it stands for, its numbers, and how its parts go together.
-use Rattle.std.specs.Prelude.{◌≡◌, ◌<◌, ◌^◌, ℕ, false, [], None, length}
+use Rattle.std.specs.Prelude.{◌≡◌, ◌<◌, ℕ, false, [], None, length}
 use Rattle.df_base.specs.declared.TheConstants.{GREATEST}
 use Rattle.df_layout.specs.declared.layout.Layout.{Layout}
 use Rattle.df_model.specs.declared.answers.Summary.{Summary}

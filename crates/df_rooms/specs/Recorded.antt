@@ -1,5 +1,5 @@
 -- What a superblock records of the state as it is: by the update that ends a checkpoint, and by that of an open.
-use Rattle.std.specs.Prelude.{◌≡◌, ◌≢◌, ◌<◌, ◌≤◌, ◌+◌, ◌^◌, ℕ, List, map, slice_get, Option, Some, None}
+use Rattle.std.specs.Prelude.{◌≡◌, ◌≢◌, ◌<◌, ◌≤◌, ◌+◌, ℕ, List, map, slice_get, Option, Some, None}
 use Rattle.std.specs.List.{range_with_len}
 use Rattle.df_base.specs.declared.TheConstants.{GREATEST, VERSION}
 use Rattle.df_layout.specs.Limits.{AreWithinLimits}

@@ -1,5 +1,5 @@
 -- What damage can do to a file whose log rests on a view: sectors hurt, lost or swapped, so long as no unit comes about by chance.
-use Rattle.std.specs.Prelude.{◌≡◌, ◌⊎◌, ◌<◌, ◌≤◌, ◌+◌, ◌-◌, ◌%◌, ◌^◌, ℕ, length, List, ◌++◌, Some}
+use Rattle.std.specs.Prelude.{◌≡◌, ◌⊎◌, ◌<◌, ◌≤◌, ◌+◌, ◌-◌, ◌%◌, ℕ, length, List, ◌++◌, Some}
 use Rattle.std.specs.List.{slice_get}
 use Rattle.df_base.specs.declared.TheConstants.{GREATEST, HEADER}
 use Rattle.df_theory.specs.Units.{AnyUnit, Block, BlockPlace, Content, CopyPlace, Header, HeaderPlace, HeaderUnit, Message, Place, PreparePlace, ReplyPlace, ReplyUnit, Session, Units}

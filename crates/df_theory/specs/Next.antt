@@ -1,5 +1,5 @@
 -- How one view follows another: by an append, a reply, a finished checkpoint or a boot update.
-use Rattle.std.specs.Prelude.{◌≡◌, ◌<◌, ◌≤◌, ◌+◌, ◌-◌, ◌^◌, ◌==◌, ℕ, nat_lt, if◌then◌else◌, List, [], ◌∷◌, ◌++◌, length, drop, slice_index, take, Option, Some, None}
+use Rattle.std.specs.Prelude.{◌≡◌, ◌<◌, ◌≤◌, ◌+◌, ◌-◌, ◌==◌, ℕ, nat_lt, if◌then◌else◌, List, [], ◌∷◌, ◌++◌, length, drop, slice_index, take, Option, Some, None}
 use Rattle.std.specs.List.{slice_get}
 use Rattle.df_base.specs.declared.TheConstants.{GREATEST}
 use Rattle.df_theory.specs.Units.{Content, Header, Message, Session, IsAlone}

@@ -1,5 +1,5 @@
 -- What an image stands for.
-use Rattle.std.specs.Prelude.{◌≡◌, ◌≤◌, ◌<◌, ◌+◌, ◌^◌, ℕ, List, length, Option, slice_index}
+use Rattle.std.specs.Prelude.{◌≡◌, ◌≤◌, ◌<◌, ◌+◌, ℕ, List, length, Option, slice_index}
 use Rattle.df_base.specs.declared.TheConstants.{FIRST_VERSION, GREATEST, VERSION}
 use Rattle.df_theory.specs.Units.{Message, Session, Content, Block, Parts}
 use Rattle.df_theory.specs.Sessions.{sessions_after, Tracks}

@@ -1,5 +1,5 @@
 -- An image and its view.
-use Rattle.std.specs.Prelude.{◌≡◌, ◌↔◌, ◌<◌, ◌≤◌, ◌+◌, ◌%◌, ◌^◌, ℕ, List, length}
+use Rattle.std.specs.Prelude.{◌≡◌, ◌↔◌, ◌<◌, ◌≤◌, ◌+◌, ◌%◌, ℕ, List, length}
 use Rattle.df_base.specs.declared.TheConstants.{FIRST_VERSION, GREATEST}
 use Rattle.df_theory.specs.Units.{Content, Message, Units, HeaderPlace, PreparePlace}
 use Rattle.df_theory.specs.Tails.{last_checksum}

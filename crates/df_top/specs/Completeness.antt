@@ -1,5 +1,5 @@
 -- How a word ends where nothing fails: over a file that is safe to open, and `format` over a blank disk.
-use Rattle.std.specs.Prelude.{◌≡◌, ◌⊎◌, ◌<◌, ◌^◌, ℕ, List, [], Option, Some}
+use Rattle.std.specs.Prelude.{◌≡◌, ◌⊎◌, ◌<◌, ℕ, List, [], Option, Some}
 use Rattle.df_base.specs.declared.TheConstants.{FIRST_VERSION, GREATEST, VERSION}
 use Rattle.df_base.specs.Image.{IsImage}
 use Rattle.df_disk.specs.Told.{Told}

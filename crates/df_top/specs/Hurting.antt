@@ -1,6 +1,6 @@
 -- What a word does with a file that may be hurt: sectors of it were damaged, lost or swapped before the open.
 use Rattle.std.proofs.Common.{inl, inr}
-use Rattle.std.specs.Prelude.{◌≡◌, ◌⊎◌, ◌<◌, ◌^◌, ℕ, Some}
+use Rattle.std.specs.Prelude.{◌≡◌, ◌⊎◌, ◌<◌, ℕ, Some}
 use Rattle.df_base.specs.declared.TheConstants.{GREATEST}
 use Rattle.df_disk.specs.Told.{Told}
 use Rattle.df_layout.specs.declared.layout.Layout.{Layout}

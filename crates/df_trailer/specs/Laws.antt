@@ -1,5 +1,5 @@
 -- One list of lawful parts has one text, and one text has one list of parts.
-use Rattle.std.specs.Prelude.{◌≡◌, ◌≤◌, ◌<◌, ◌^◌, ◌++◌, ℕ, List, Some, length, map}
+use Rattle.std.specs.Prelude.{◌≡◌, ◌≤◌, ◌<◌, ◌++◌, ℕ, List, Some, length, map}
 use Rattle.df_base.specs.declared.TheConstants.{GREATEST, HEADER}
 use Rattle.df_base.specs.Fields.{AreBytes}
 use Rattle.df_theory.specs.Units.{Layout, Parts}

@@ -1,5 +1,5 @@
 -- What holds of the sessions of a text in which nothing fails, as a reader gives them.
-use Rattle.std.specs.Prelude.{◌≡◌, ◌<◌, ◌≤◌, ◌^◌, ℕ, List, length, slice_get, Some, None}
+use Rattle.std.specs.Prelude.{◌≡◌, ◌<◌, ◌≤◌, ℕ, List, length, slice_get, Some, None}
 use Rattle.df_base.specs.declared.TheConstants.{GREATEST}
 use Rattle.df_sessions.specs.declared.session.Session.{Session}
 

@@ -1,5 +1,5 @@
 // Root and sessions, which a text begins with: how much of a text is its head, and the first part of it that fails.
-ghost use Rattle.std.specs.Prelude.{◌≡◌, ◌+◌, ◌*◌, ◌<◌, ◌≤◌, ◌^◌, Some, [], length};
+ghost use Rattle.std.specs.Prelude.{◌≡◌, ◌+◌, ◌*◌, ◌<◌, ◌≤◌, Some, [], length};
 ghost use Rattle.df_base.specs.declared.TheConstants.{GREATEST};
 ghost use Rattle.df_model.specs.Refusals.{first_refusal};
 ghost use Rattle.df_trailer.specs.declared.fault.Cause.TheVariants.{Ends, Says};

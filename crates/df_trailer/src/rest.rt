@@ -1,5 +1,5 @@
 // What comes after the head: bits, and what is told of the text by them.
-ghost use Rattle.std.specs.Prelude.{◌≡◌, ◌+◌, ◌*◌, ◌/◌, ◌<◌, ◌≤◌, ◌^◌, length};
+ghost use Rattle.std.specs.Prelude.{◌≡◌, ◌+◌, ◌*◌, ◌/◌, ◌<◌, ◌≤◌, length};
 ghost use Rattle.df_base.specs.declared.TheConstants.{GREATEST};
 ghost use Rattle.df_model.specs.Refusals.{first_refusal};
 ghost use Rattle.df_trailer.specs.Reading.{bits_tests, end_tests};
