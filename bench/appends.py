@@ -113,7 +113,7 @@ def rows_of(bench: Bench, ground: Ground, size: int) -> tuple:
 
 
 def moved(bench: Bench, ground: Ground, case: Case) -> int:
-    """The bytes that are moved to the front of the buffer for lines: each read asks for what is free behind those that it holds."""
+    """The bytes that are moved to the front of the buffer for lines: each read asks for what is free after those that it holds."""
     calls = traced(bench, ground, case)
     return sum(case.layout.line_max() + 1 - int(call.args[-1]) for call in calls if call.name == "read" and call.result)
 

@@ -27,7 +27,7 @@ class Asked:
         while text.count(b"\n") < answers:
             piece = self.process.stdout.read(65536)
             if not piece:
-                raise Disagreement(f"the program ends, and leaves unanswered {lines[:80]!r} behind {text[-200:]!r}")
+                raise Disagreement(f"the program ends, and leaves unanswered {lines[:80]!r} after {text[-200:]!r}")
             text += piece
         return time.perf_counter() - start, text
 

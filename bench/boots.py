@@ -2,7 +2,7 @@
 
     python3 bench/boots.py PATH-TO-datafile [--opens N] [--disk FOLDER] [--memory FOLDER]
 
-Behind each open the four copies are equal, their boot is one more, and what is printed is the same; nothing else of the file is written. Ends with
+After each open the four copies are equal, their boot is one more, and what is printed is the same; nothing else of the file is written. Ends with
 status 1 and a line where that isn't so. Python's standard library alone. See docs/evidence/BENCHMARKS.md.
 """
 
@@ -34,7 +34,7 @@ def read(path: str) -> bytes:
 
 
 def made(program: str, ground: Ground) -> str:
-    """A small file behind the script, which one open raised to boot 1."""
+    """A small file after the script, which one open raised to boot 1."""
     path = ground.path("file")
     run([program, path, "format", "small", str(CLUSTER)], wanted=b"formatted %d\n" % SMALL.sectors())
     with open(ground.path("script"), "wb") as file:
@@ -44,7 +44,7 @@ def made(program: str, ground: Ground) -> str:
 
 
 def looked(path: str, boot: int, before: bytes) -> bytes:
-    """The file, which has this boot, and which behind its copies is as it was."""
+    """The file, which has this boot, and which after its copies is as it was."""
     data = read(path)
     copies = superblock.all_seen(data)
     if any(copy != copies[0] for copy in copies) or isinstance(copies[0], str):
@@ -52,7 +52,7 @@ def looked(path: str, boot: int, before: bytes) -> bytes:
     if copies[0].boot != boot:
         raise Wrong(f"boot {boot}: the file has boot {copies[0].boot}")
     if data[SECTOR * COPIES :] != before[SECTOR * COPIES :]:
-        raise Wrong(f"boot {boot}: something behind the copies was written")
+        raise Wrong(f"boot {boot}: something after the copies was written")
     # What is printed tells of the state each time; the model, which takes longer, each hundredth time.
     if boot % 100 == 1 and recovery.view_of(data) != recovery.view_of(before):
         raise Wrong(f"boot {boot}: another state is found")
@@ -94,7 +94,7 @@ def main() -> int:
             except Wrong as error:
                 print(f"WRONG, in {name}: {error}")
                 return 1
-    show("An open of a small file (`recover`), and a report of it (`inspect`), which raises no boot; microseconds by the clock behind the "
+    show("An open of a small file (`recover`), and a report of it (`inspect`), which raises no boot; microseconds by the clock after the "
          "program's start", ["where", "opens", "an open", "a report", "the boot update, between the medians"], rows)
     return 0
 

@@ -40,7 +40,7 @@ def parts_of(bench, word: str) -> list:
 
 
 def groups(random, count: int, sizes: tuple) -> bytes:
-    """Two groups of each size, one behind the other, with their replies."""
+    """Two groups of each size, one after the other, with their replies."""
     lines = [b"prepare 0\n"]
     for group, size in enumerate(size for size in sizes for _ in range(2)):
         ops = range(group * count + 1, group * count + count + 1)
@@ -75,7 +75,7 @@ def kind_of(layout: form.Layout, line: bytes, before: bytes, answer: bytes, call
 
 
 def lines_of(calls: list, answers: list) -> list:
-    """The calls of each line: those up to the end of its answer, which may be written in parts. What comes behind goes with the last."""
+    """The calls of each line: those up to the end of its answer, which may be written in parts. What comes after goes with the last."""
     found, now, written = [], [], 0
     for call in calls:
         now.append(call)
@@ -105,7 +105,7 @@ def traced(bench, ground: Ground, word: str, text: bytes) -> list:
     wants = [event.kind for event in events if event.kind != "answer"]
     expect("writes and syncs in their order", wants, [kind for kind in in_order(calls) if kind != "answer"])
     before = [[kind for kind in in_order(line) if kind != "answer"] + ["answer"] for line in lines]
-    expect("each answer behind its own", [event.kind for event in events], [kind for line in before for kind in line])
+    expect("each answer after its own", [event.kind for event in events], [kind for line in before for kind in line])
     writes = [event for event in events if event.kind == "write"]
     made = [call for call in calls if call.name == "pwrite64"]
     expect("the writes", [(len(event.data), event.at) for event in writes], [tuple(map(int, call.args[-2:])) for call in made])

@@ -122,7 +122,7 @@ class Bench(NamedTuple):
 
 
 def put(ground: Ground, name: str, pieces) -> str:
-    """A file with these bytes, or with these pieces one behind the other."""
+    """A file with these bytes, or with these pieces one after the other."""
     path = ground.path(name)
     with open(path, "wb") as file:
         file.writelines([pieces] if isinstance(pieces, bytes) else pieces)

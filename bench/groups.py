@@ -17,7 +17,7 @@ TOLD = 128
 
 
 class Requests:
-    """A session in which up to eight clients at once ask for their next request, and each has its reply behind it."""
+    """A session in which up to eight clients at once ask for their next request, and each has its reply after it."""
 
     def __init__(self, session: Asked, random: Random, slots: int = SLOTS):
         self.session, self.random, self.slots = session, random, slots

@@ -3,7 +3,7 @@
 
     /usr/bin/python3 bench/keeper.py sqlite|leveldb|write|nothing PATH
 
-Its first line is `ready` and the library's version. It opens PATH at the line `open`, and durable is what `put KEY BODY`, or `flush` behind lines
+Its first line is `ready` and the library's version. It opens PATH at the line `open`, and durable is what `put KEY BODY`, or `flush` after lines
 `stage KEY BODY`, answers. LevelDB wants Debian's package python3-plyvel, which is there for Debian's own Python alone.
 """
 

@@ -1,7 +1,7 @@
 """What an open and a tour of the scrubber cost over full files, against reading the same bytes, hashing the units in use, and writing as much.
 
 The yardstick reads each place once, as far as the program reads it, and hashes each unit that stands there, its header and its body. It then
-writes the four copies as they are, with a sync behind each.
+writes the four copies as they are, with a sync after each.
 """
 
 import os
@@ -20,7 +20,7 @@ from yardstick import SYNC, hashed, plan, read, unit, write
 
 
 class Case(NamedTuple):
-    """A file: its layout, how many appends with bodies of one size it has, and how many blocks behind its checkpoint."""
+    """A file: its layout, how many appends with bodies of one size it has, and how many blocks after its checkpoint."""
 
     name: str
     layout: Layout
@@ -63,7 +63,7 @@ def made(bench: Bench, case: Case, grounds: list) -> list:
 
 
 def zones(case: Case, words: str) -> dict:
-    """The units that an open has to look at, with their offsets and lengths; those of the grid that a tour reads behind it."""
+    """The units that an open has to look at, with their offsets and lengths; those of the grid that a tour reads after it."""
     layout, last = case.layout, case.blocks + case.trailer()
     trailer = range(case.blocks + 1, last + 1)
     found = {
@@ -119,7 +119,7 @@ def reads_of(bench: Bench, ground: Ground, case: Case, path: str) -> list:
 
 
 def behind(seen: dict, what: str, start: str, by: str) -> list:
-    """Milliseconds of each round that a run took behind its start."""
+    """Milliseconds of each round that a run took after its start."""
     least = quartiles([getattr(one, by) for one in seen[start]])[0]
     return [(getattr(one, by) - least) * 1e3 for one in seen[what]]
 

@@ -168,7 +168,7 @@ def stores_of(given: argparse.Namespace) -> list:
 
 
 def kept_in_turn(bench: Bench, ground: Ground, stores: list) -> list:
-    """Of each store the seconds of its first puts in all, and of each put or group behind them: until it is durable, and with all that goes
+    """Of each store the seconds of its first puts in all, and of each put or group after them: until it is durable, and with all that goes
     with it. All sessions stay open."""
     puts = puts_of(bench.random, FIRST + PUTS * bench.rounds, KEYS)
     first, seen = [], [[] for _ in stores]
@@ -236,13 +236,13 @@ def show_puts(bench: Bench, ground: Ground, stores: list) -> None:
         rates = [PUTS / sum(whole for _, whole in seen[at : at + each]) for at in range(0, len(seen), each)]
         rows.append([store.name, store.group, *calls_of(bench, ground, store), with_quartiles(durable, 0),
                      f"{durable[len(durable) * 99 // 100]:,.0f}", with_quartiles(rates, 0), f"{FIRST / first:,.0f}"])
-    show(f"Durable puts, {ground.name}, {bench.rounds} rounds of {PUTS} puts of each behind {FIRST:,}, by the clock",
+    show(f"Durable puts, {ground.name}, {bench.rounds} rounds of {PUTS} puts of each after {FIRST:,}, by the clock",
          ["what keeps them", "at once", "syncs until they are durable", "bytes written until then", "syncs in all",
           "us until they are durable", "99th of a hundred", "puts a second, in all", "of the first puts"], rows)
 
 
 def opened(bench: Bench, ground: Ground, memory: Ground, store: Store, rows: int) -> list:
-    """Milliseconds of opens of a store with so many rows, up to the first answer of one of them: behind a close, and behind a kill."""
+    """Milliseconds of opens of a store with so many rows, up to the first answer of one of them: after a close, and after a kill."""
     made = Ground("", memory.path("made"), False)
     keys = [bench.random.getrandbits(128) for _ in range(rows)]
     puts = [(key, bench.random.randbytes(objects.LONGEST)) for key in keys]
@@ -287,7 +287,7 @@ def show_opens(bench: Bench, ground: Ground, memory: Ground, given: argparse.Nam
             cells = opened(bench, ground, memory, store, rows)
             found.append([store.name.partition(",")[0], rows, *cells])
     show(f"An open up to the first answer to a `get`, or a `prepare`, {ground.name}, read anew, {bench.rounds} rounds, milliseconds by the clock",
-         ["what keeps them", "rows", "behind a close", "behind a kill"], found)
+         ["what keeps them", "rows", "after a close", "after a kill"], found)
 
 
 def words() -> argparse.Namespace:

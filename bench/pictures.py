@@ -102,12 +102,12 @@ def others() -> str:
     rows = [(f"{name}, {count} at once" if count != "1" else name, value_of(durable), value_of(rate)) for name, count, durable, rate in zip(
         *(puts.column(column) for column in (puts.head[0], "at once", "us until they are durable", "puts a second, in all")))]
     of_opens = [(f"{name}, {count} rows", [value_of(closed), value_of(killed)]) for name, count, closed, killed in zip(
-        *(opens.column(column) for column in (opens.head[0], "rows", "behind a close", "behind a kill")))]
+        *(opens.column(column) for column in (opens.head[0], "rows", "after a close", "after a kill")))]
     longest = max(len(name) for name, *_ in [*rows, *of_opens])
     return picture([
         dots("Until a put, or a group, is durable", "microseconds by the clock", [""], [(name, [durable]) for name, durable, _ in rows], longest),
         dots("Puts a second, with all that goes with them", "puts a second", [""], [(name, [rate]) for name, _, rate in rows], longest),
-        dots("An open, up to the first answer", "milliseconds by the clock", ["behind a close", "behind a kill"], of_opens, longest)], 1)
+        dots("An open, up to the first answer", "milliseconds by the clock", ["after a close", "after a kill"], of_opens, longest)], 1)
 
 
 PICTURES = {"growth.svg": growth, "appends.svg": appends, "groups.svg": groups, "others.svg": others}

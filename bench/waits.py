@@ -1,4 +1,4 @@
-"""How long a client waits for an answer while checkpoints go on: a bounded piece of one behind each line, or a whole one now and then."""
+"""How long a client waits for an answer while checkpoints go on: a bounded piece of one after each line, or a whole one now and then."""
 
 import statistics
 

@@ -27,7 +27,7 @@ class Case:
     file: object
     # What the reader found, as far as it came.
     state: dict
-    # The words behind `refused`; empty for a file that opens.
+    # The words after `refused`; empty for a file that opens.
     refusal: str = ""
     # What an open writes again: places with their classes.
     mends: list = field(default_factory=list)
@@ -173,13 +173,13 @@ def spoilt(what):
 
 
 def empty_slots(state):
-    """The ops behind the head that the ring has room for, with their slots."""
+    """The ops after the head that the ring has room for, with their slots."""
     f = state["fields"]
     return [(op, op % f["Slots"]) for op in range(state["head"] + 1, f["Op"] + f["Slots"] + 1)]
 
 
 def lost_appends(state):
-    """Slots behind the head in which neither header nor prepare is shown, and in which something stands."""
+    """Slots after the head in which neither header nor prepare is shown, and in which something stands."""
     return [
         ("WalPrepares", slot, f"an append of op {op} may have been acknowledged and be lost: neither its prepare nor its header is "
                               "shown")
@@ -189,7 +189,7 @@ def lost_appends(state):
 
 
 def torn_appends(state):
-    """Slots behind the head with an older header, in which no prepare is shown: such an append was never acknowledged."""
+    """Slots after the head with an older header, in which no prepare is shown: such an append was never acknowledged."""
     return [
         ("WalPrepares", slot, f"no prepare is shown, and the header is older: an append of op {op} that was stopped, or an old "
                               "prepare that was hurt. Nothing acknowledged is missing")
@@ -288,7 +288,7 @@ def looks(file, sectors):
 
 
 def look_at(file, at, behind):
-    """What a sector looks like, no name for zeros and for the rest of a unit; and the sector behind the unit that it is in."""
+    """What a sector looks like, no name for zeros and for the rest of a unit; and the sector after the unit that it is in."""
     raw = bytes_at(file, SECTOR * at, SECTOR)
     if at < behind or not any(raw):
         return "", behind

@@ -115,7 +115,7 @@ def newer_reply(case, zone, index):
 
 
 def cut_lines(file, f, zone, index):
-    """Where a place that is wanted lies behind the end of the file, that the file was cut."""
+    """Where a place that is wanted lies after the end of the file, that the file was cut."""
     at = zones_of(f)[zone].at(index)
     return [] if at < file.size else [f"the file ends at byte {file.size}, before this place: it was cut, or its copy ended early"]
 

@@ -284,7 +284,7 @@ def picture(case, name):
 
 
 def cut(name):
-    """A name, of which the middle is left out where it is long, so that what stands behind it is seen, and with `?` for what isn't printed."""
+    """A name, of which the middle is left out where it is long, so that what stands after it is seen, and with `?` for what isn't printed."""
     name = "".join(sign if sign.isprintable() else "?" for sign in name)
     return name if len(name) <= LONGEST else f"{name[: LONGEST // 2]}..{name[-LONGEST // 2 :]}"
 

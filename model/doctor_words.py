@@ -119,7 +119,7 @@ def slot_lines(file, f, slot):
 
 
 def lost_lines(file, state):
-    """Why the prepare behind the tail is missed."""
+    """Why the prepare after the tail is missed."""
     f, head = state["fields"], state["head"]
     op, slot = head + 1, (head + 1) % f["Slots"]
     lines = [f"the file has the ops up to {head}; op {op} belongs into slot {slot}, and is told of by {told(state, head)}"]

@@ -27,7 +27,7 @@ def done(file: File, events: list) -> None:
 
 
 def paths_and_words(words: list) -> tuple:
-    """The two paths, and the words behind them; without both paths a word that has no meaning. Words and paths are UTF-8."""
+    """The two paths, and the words after them; without both paths a word that has no meaning. Words and paths are UTF-8."""
     return (words[:2], [word.decode() for word in words][2:]) if len(words) >= 2 else ([b"", b""], ["-"])
 
 

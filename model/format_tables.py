@@ -89,7 +89,7 @@ def trailer():
 
 
 def row():
-    # the value and the zeros behind it have no width of their own
+    # the value and the zeros after it have no width of their own
     told = found(r"the key \((\d+) bytes\), how many bytes the value has \((\d+) byte\)", text_of("docs", "OBJECTTABLE.md"), "a row of the page").groups()
     return differs("a row", list(told), [width for _, width in pieces("df_rows", "Rows", "row_pieces")][:2])
 

@@ -89,7 +89,7 @@ class Runs:
         return Outcome(done.returncode, done.stdout, taken, self.get())
 
     def takes(self) -> list:
-        """The calls of the last run that take memory, behind those of the program's loader, which ends with the first unmapping."""
+        """The calls of the last run that take memory, after those of the program's loader, which ends with the first unmapping."""
         found, counts, loaded = [], Counter(), False
         with open(self.log, encoding="utf-8", errors="replace") as log:
             for name in (match[1] for match in map(CALL.match, log) if match):
@@ -124,7 +124,7 @@ def in_memory(words: list, plain: Outcome, got: Outcome) -> str:
     if got.text == plain.text:
         return "nothing changed"
     if {**facts, "recovered": wanted["recovered"]} == wanted and printed == text and facts["recovered"] in REFUSED:
-        return "the words as without it; the recovery behind them was refused memory"
+        return "the words as without it; the recovery after them was refused memory"
     status, made = facts["status"], words[0] != "format"
     if not text.startswith(printed):
         raise Broken("what was printed is no front of the text")

@@ -248,9 +248,9 @@ def quietly(file: File, machine: Machine, line: tuple) -> bytes:
 
 
 def work_behind(file: File, machine: Machine, pace: tuple, accepted: int) -> int:
-    """The work behind a line, of which nothing is printed; gives how many prepares count towards the next begin."""
+    """The work after a line, of which nothing is printed; gives how many prepares count towards the next begin."""
     scrub, every, steps = pace
-    if has("no work is done behind a line"):
+    if has("no work is done after a line"):
         return accepted
     if every and accepted >= every + has("a begin is due one append late") and not machine.running:
         root = b"" if has("the loop begins without a root") else machine.durable.root
@@ -270,7 +270,7 @@ def tell_all(lines: list) -> None:
 
 
 def tell_summary(lines: list) -> list:
-    """Writes the eight lines of a summary as one; gives those behind it."""
+    """Writes the eight lines of a summary as one; gives those after it."""
     tell(b"".join(line.encode() + b"\n" for line in lines[:SUMMARY]))
     return lines[SUMMARY:]
 

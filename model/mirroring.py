@@ -2,7 +2,7 @@
 
     python3 model/mirroring.py PATH-TO-filemirror [--seconds N] [--seed N]
 
-First a worked file, each of whose sectors is lost in turn, with a stop behind each event and each failing call. Then random files, most of them as
+First a worked file, each of whose sectors is lost in turn, with a stop after each event and each failing call. Then random files, most of them as
 an open has left them, with known units that are hurt, beside copies that were taken before, earlier, later or of another file: what is printed, both
 files byte by byte, and that a file whose known units alone were hurt is as it was; mendings stopped at random moments and begun again; calls that
 fail, and words without a meaning. Prints what was tried, or the first disagreement.
@@ -27,7 +27,7 @@ LOADER = 10
 
 
 def opened(data: bytes) -> bytes:
-    """The file behind a session that only opened it: the superblock names its head and each reply."""
+    """The file after a session that only opened it: the superblock names its head and each reply."""
     return script.run(data, b"").data
 
 
@@ -138,8 +138,8 @@ def stopped(t: Try) -> None:
         for place, unit in filemirrors.known(data):
             if units.shown(image, past.home, place) == unit:
                 require(f"{place} is still shown", units.shown(left, past.home, place) == unit)
-        ran = same(t, "behind a stop", left, data, [])
-        expect("the known units behind a stop and a second run", filemirrors.known(wanted.data), filemirrors.known(ran.data))
+        ran = same(t, "after a stop", left, data, [])
+        expect("the known units after a stop and a second run", filemirrors.known(wanted.data), filemirrors.known(ran.data))
         t.counts["stops"] += 1
 
 
@@ -183,7 +183,7 @@ SCRIPT = (
 
 
 def worked(t: Try) -> None:
-    """A worked file, as an open has left it: each of its sectors but the superblock's lost in turn; and with each known unit lost a stop behind each
+    """A worked file, as an open has left it: each of its sectors but the superblock's lost in turn; and with each known unit lost a stop after each
     event, and each call that fails, with a second run."""
     home = Home(form.SMALL, 7)
     data = opened(script.run(script.fresh(home), SCRIPT).data)
@@ -200,8 +200,8 @@ def worked(t: Try) -> None:
     same_bytes("each known unit lost", data[front:].rstrip(b"\0"), wanted.data[front:].rstrip(b"\0"))
     for upto in range(len(wanted.events) + 1):
         left = script.state(lost, wanted.events[:upto])
-        ran = same(t, f"behind {upto} events", left, data, [])
-        same_bytes(f"behind {upto} events and a second run", wanted.data, ran.data)
+        ran = same(t, f"after {upto} events", left, data, [])
+        same_bytes(f"after {upto} events and a second run", wanted.data, ran.data)
     pair = Pair(t.binary)
     for name, kind in (("pwrite64", "write"), ("fdatasync", "sync")) if has_strace() else ():
         for number in range(1, 1 + sum(event.kind == kind for event in wanted.events)):
@@ -209,8 +209,8 @@ def worked(t: Try) -> None:
             got = pair.failing([], f"{name}:error=EIO:when={number}")
             expect(f"{name} {number}: status", DISK, got.status)
             require(f"{name} {number}: what is printed", wanted.text.startswith(got.text))
-            ran = same(t, f"behind {name} {number}", pair.get()[0], data, [])
-            same_bytes(f"behind {name} {number} and a second run", wanted.data, ran.data)
+            ran = same(t, f"after {name} {number}", pair.get()[0], data, [])
+            same_bytes(f"after {name} {number} and a second run", wanted.data, ran.data)
             t.counts["worked calls that failed"] += 1
 
 

@@ -54,7 +54,7 @@ def rank(copy):
 
 
 def names_of(f, copy):
-    """What a superblock of its version has behind the fields of both: the tests of these fields, each with what is told where it
+    """What a superblock of its version has after the fields of both: the tests of these fields, each with what is told where it
     fails; the offsets that are to be zero; and which prepares and replies it names."""
     if f["Version"] == 1:
         named = {"Pin": f["Op"], "PinChecksum": f["OpChecksum"], "Answered": 0, "ReplyChecksums": ()}
@@ -166,7 +166,7 @@ def fits(f, one, before, sessions):
 
 
 def reach_of(f, headers, prepares, known):
-    """The longest list of prepares behind the checkpoint that are taken and fit; the sessions that are known first."""
+    """The longest list of prepares after the checkpoint that are taken and fit; the sessions that are known first."""
     reached, sessions = [], dict(known)
     for op in range(f["Op"] + 1, f["Op"] + f["Slots"] + 1):
         header, one = headers[op % f["Slots"]], prepares[op % f["Slots"]]
@@ -300,7 +300,7 @@ def block_of(file, f, address, checksum):
 
 
 def text_of(one):
-    """A prepare or a reply, as the program prints it behind its kind."""
+    """A prepare or a reply, as the program prints it after its kind."""
     return (f"{one['op']} client {one['client']} request {one['request']} mark {one['mark']} "
             f"checkpoint {one['checkpoint']} body {one['body'].hex() or '-'}")
 

@@ -88,7 +88,7 @@ def is_named(state, blocks, bits):
 
 
 def header(f, text, boot):
-    """The bytes of the trailer's header behind its checksum."""
+    """The bytes of the trailer's header after its checksum."""
     parts = [(f["Cluster"], 16), (0, 32), (f["TrailerAddress"], 8), (0, 16), (f["Sequence"], 8), (HEADER + len(text), 4), (0, 4),
              (TRAILER, 1), (0, 1), (f["Version"], 2), (boot, 8)]
     return (checksum(text) + b"".join(value.to_bytes(size, "little") for value, size in parts)).ljust(HEADER - 16, b"\0")

@@ -31,7 +31,7 @@ class Table:
     missing: list = field(default_factory=list)
     foreign: list = field(default_factory=list)
     closed: str = ""
-    # The puts and drops that can be read behind the first one that is missing: ops with these.
+    # The puts and drops that can be read after the first one that is missing: ops with these.
     later: list = field(default_factory=list)
     # What is worth a word, and lacks nothing.
     notes: list = field(default_factory=list)
@@ -43,7 +43,7 @@ class Table:
         return bool(self.stored or self.puts or self.drops or self.later)
 
     def was_closed(self):
-        """Whether a table wrote it, and another program wrote behind it what no table has."""
+        """Whether a table wrote it, and another program wrote after it what no table has."""
         return self.closed.startswith("NotTable") and bool(self.stored or self.front)
 
     def has_foreign(self, place, text):
@@ -96,7 +96,7 @@ def line_of(key, value):
 
 def table_in(file, state, refusal, past=False):
     """The table of a file of which the reader found this much, and which an open refuses with these words, if it does. With `past` also
-    what can be read behind an op that is missing changes the rows."""
+    what can be read after an op that is missing changes the rows."""
     table = Table(state["fields"])
     state = completed(file, state, refusal, table)
     for place, client in enumerate(state.get("sessions", state.get("known", {}))):
@@ -116,7 +116,7 @@ def table_in(file, state, refusal, past=False):
 
 
 def completed(file, state, refusal, table):
-    """What the reader found, and what it would have found behind the first reason to refuse the file."""
+    """What the reader found, and what it would have found after the first reason to refuse the file."""
     if "headers" not in state:
         state = {**state, **rings_of(file, state["fields"], bodies=False)}
     if later_of(state):
@@ -130,7 +130,7 @@ def completed(file, state, refusal, table):
 
 
 def read_later(file, table, later, past):
-    """Takes down what can be read behind a missing op, and lets it change the rows if it is to."""
+    """Takes down what can be read after a missing op, and lets it change the rows if it is to."""
     for one in later:
         found = read_change(file, table, one)
         if found and found != UNREAD:
@@ -229,7 +229,7 @@ def is_meant(state, known, op):
 
 
 def chain_of(state, known):
-    """The prepares behind the checkpoint each of which has the one before as its parent, up to the last whole group."""
+    """The prepares after the checkpoint each of which has the one before as its parent, up to the last whole group."""
     f, run = state["fields"], []
     before = f["OpChecksum"]
     for op in range(f["Op"] + 1, f["Op"] + f["Slots"] + 1):
@@ -252,7 +252,7 @@ def told_up_to(state, head):
 
 
 def log_of(state):
-    """The prepares behind the checkpoint, in order of op, up to the first that is missing; the ops that are missing; and the prepares behind
+    """The prepares after the checkpoint, in order of op, up to the first that is missing; the ops that are missing; and the prepares after
     the first of these. A file that opens has none of the latter two."""
     f, known = state["fields"], known_of(state)
     run = state["tail"] if "tail" in state else chain_of(state, known)

@@ -40,7 +40,7 @@ def checksum(data):
 
 
 def bytes_at(file, at, size):
-    """Bytes of the file, with zeros behind its end."""
+    """Bytes of the file, with zeros after its end."""
     return file[at : at + size].ljust(size, b"\0")
 
 

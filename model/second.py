@@ -55,7 +55,7 @@ def naming(head_checksum, replies):
 
 
 # Ops 1 to 3 and the replies to 1 and 2 were found by the open of boot 3, so its superblock names prepare 3 and, since op 3 waits,
-# the reply to op 2 alone. Op 4 was appended behind it.
+# the reply to op 2 alone. Op 4 was appended after it.
 ONE, TWO, THREE = Session(5, 1, 1), Session(6, 1, 2), Session(5, 2, 3)
 P1 = prepare(1, NONE, 5, 1, 0, BEFORE)
 P2 = prepare(2, P1.checksum, 6, 1, 1, BEFORE)
@@ -137,7 +137,7 @@ ROWS = (
     # ---- the prepares that are named
     ("a known prepare is lost", base().hurt(WAL_PREPARES, 2), "Damaged WalPrepares 2 Garbled"),
     ("and the one before it", base().hurt(WAL_PREPARES, 2).hurt(WAL_PREPARES, 1), "Damaged WalPrepares 2 Garbled"),
-    ("and the one behind it", base().hurt(WAL_PREPARES, 2).hurt(WAL_PREPARES, 3), "Damaged WalPrepares 3 Garbled"),
+    ("and the one after it", base().hurt(WAL_PREPARES, 2).hurt(WAL_PREPARES, 3), "Damaged WalPrepares 3 Garbled"),
     ("a valid one of its op stands there", base().unit(WAL_PREPARES, OTHER2), "Damaged WalPrepares 2 Stale"),
     ("with its header", base().both(OTHER2), "Damaged WalPrepares 2 Stale"),
     ("another one's header is mended", base().unit(WAL_HEADERS, OTHER2), (4, 2, mend((2, "Stale")))),
@@ -175,8 +175,8 @@ ROWS = (
 )
 
 
-# ---- a group of three behind a tail, with what is left of each: all (A), the prepare without its header (P), its header alone (H), or
-# nothing (N); how many of its ops are found and how many of its headers are to be mended, or behind how many ops the slot is blamed.
+# ---- a group of three after a tail, with what is left of each: all (A), the prepare without its header (P), its header alone (H), or
+# nothing (N); how many of its ops are found and how many of its headers are to be mended, or after how many ops the slot is blamed.
 THREES = (
     # Whole, with all headers, none, and one.
     ("AAA", (3, 0)), ("PPP", (3, 3)), ("APP", (3, 2)), ("PAP", (3, 2)), ("PPA", (3, 2)),
@@ -199,7 +199,7 @@ def tail_of(count, named):
 
 
 def three_of(tail, boot):
-    """The prepares of a group behind a tail, of clients 5 to 7."""
+    """The prepares of a group after a tail, of clients 5 to 7."""
     head, listed, parent = len(tail), [], tail[-1].checksum
     for at, (client, request) in enumerate(((5, head + 1), (6, 1), (7, 1))):
         listed.append(prepare(head + 1 + at, parent, client, request, head, boot, (head + 1, head + 3)))
@@ -208,7 +208,7 @@ def three_of(tail, boot):
 
 
 def grouped(count, named, boot, left):
-    """A file with a tail of so many ops, of which the superblock names those up to one, and what is left of a group behind it."""
+    """A file with a tail of so many ops, of which the superblock names those up to one, and what is left of a group after it."""
     tail, stored = tail_of(count, named)
     three = three_of(tail, boot)
     sums = [NONE] + [one.checksum for one in tail + three]
@@ -236,10 +236,10 @@ def sector_of_headers(forged, at=0):
 
 
 def group_rows():
-    """Each of the threes behind each tail and right behind the named head; of an earlier boot; hurt; and at the named head."""
+    """Each of the threes after each tail and right after the named head; of an earlier boot; hurt; and at the named head."""
     for count, named in [(count, 2) for count in TAILS] + [(4, 4)]:
         for left, wanted in THREES:
-            yield f"{left} behind {count}, {named} named", grouped(count, named, BOOT, left), of_three(count, left, wanted)
+            yield f"{left} after {count}, {named} named", grouped(count, named, BOOT, left), of_three(count, left, wanted)
     for left, _ in THREES:
         yield f"{left} of the boot before", grouped(14, 2, BEFORE, left), (14, 14, [])
     all_headers = mend(*((slot, "Garbled") for slot in range(16)))

@@ -3,7 +3,7 @@
     python3 model/table.py PATH-TO-objecttable [--seconds N] [--seed N] [--lines N]
 
 Random puts, drops and gets on `small`, on `large` and on small layouts, in sessions one after the other; stops at random device calls, within writes
-too, and calls that fail; files of other programs and damaged ones. Behind each session and stop the lines that `rows.py` prints make the same
+too, and calls that fail; files of other programs and damaged ones. After each session and stop the lines that `rows.py` prints make the same
 table in a file of another layout; of a damaged file they are a part of a state that it had. Prints what was tried, or the first disagreement.
 """
 
@@ -49,7 +49,7 @@ def line(t: Try, rows: dict) -> bytes:
 
 
 def lines(t: Try, rows: dict, count: int) -> bytes:
-    """Lines, and what a plain map has behind them."""
+    """Lines, and what a plain map has after them."""
     text, rows = [], dict(rows)
     for _ in range(count):
         text.append(line(t, rows))
@@ -97,7 +97,7 @@ def long(t: Try, layout: Layout, count: int) -> None:
     told = plain(text, rows, 0, objects.most_rows(layout))
     ran = same(t, "a long session", data, text)
     expect("the text of a map", told, ran.text)
-    expect("the table behind it", rows, objects.table_of(ran.data))
+    expect("the table after it", rows, objects.table_of(ran.data))
     remaking.remade(t, "a long session", ran.data, rows)
     t.counts["lines against a plain map"] += count
 
@@ -127,7 +127,7 @@ def stopped(t: Try, layout: Layout, count: int, moments: int) -> None:
         t.counts["stops that kept one more" if len(kept) > 1 and table == kept[1] else "stops that kept the answered ones"] += 1
         remaking.remade(t, f"a stop after {upto} events", image, table)
         if t.random.random() < 0.2:
-            same(t, f"the open behind a stop after {upto} events", image, lines(t, table, 3) + b"count\n")
+            same(t, f"the open after a stop after {upto} events", image, lines(t, table, 3) + b"count\n")
 
 
 def failing(t: Try, layout: Layout, count: int) -> None:

@@ -61,7 +61,7 @@ def stored():
 
 
 def acknowledged():
-    """What a file has behind its first open, two appends and the reply to the first."""
+    """What a file has after its first open, two appends and the reply to the first."""
     first = units(2, 1)["prepare"]
     own = [(64, 16, 5), (80, 8, 2), (88, 8, 2), (96, 8, 1), (104, 8, 1), (116, 4, 2), (132, 8, 2), (140, 8, 2)]
     return {
@@ -73,7 +73,7 @@ def acknowledged():
 
 
 def booted():
-    """The superblock of the boot behind boot 1, in which op 1 was appended and answered; and a prepare of a group of two."""
+    """The superblock of the boot after boot 1, in which op 1 was appended and answered; and a prepare of a group of two."""
     prepare, reply = units(2, 1)["prepare"], stored()
     named = [(88, 8, 1), (96, 8, 1), (152, 8, 2), (160, prepare[:16]), (192, reply[:16])]
     own = [(64, 16, 5), (80, 8, 1), (88, 8, 1), (104, 8, 1), (116, 4, 1)]
@@ -91,7 +91,7 @@ def examples():
         "version 2, boot 1": units(2, 1),
         "first superblock": firsts,
         "two acknowledged ops": acknowledged(),
-        "boot 1, and the open behind it": booted(),
+        "boot 1, and the open after it": booted(),
     }
 
 

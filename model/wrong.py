@@ -31,7 +31,7 @@ def seen_copies(sectors: list) -> list:
     if has("a copy counts at any place"):
         decoded = [superblock.decode(sector) for sector in sectors]
         return [each[1] if each else superblock.seen(sector, 0) for each, sector in zip(decoded, sectors)]
-    if has("bytes behind the number aren't tested"):
+    if has("bytes after the number aren't tested"):
         sectors = [sector[:20] + bytes(12) + sector[32:] for sector in sectors]
     if has("a copy is blank by its front"):
         sectors = [sector if any(sector[:256]) else bytes(SECTOR) for sector in sectors]

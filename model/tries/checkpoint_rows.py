@@ -51,7 +51,7 @@ def waiting() -> bytes:
 
 
 def stops() -> list:
-    """The ring behind a checkpoint, and stops within an update."""
+    """The ring after a checkpoint, and stops within an update."""
     stopped = "append 1 1 -\ncheckpoint 01\nstep\nstep\n"
     old, new = torn(NEW, stopped, 1), torn(NEW, stopped, 2)
     three = after(ops(3) + CHECKPOINT + "append 1 4 -")

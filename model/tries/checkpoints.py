@@ -138,7 +138,7 @@ def limits(t: Try) -> None:
     t.binary.put(data)
     for number in range(t.random.randint(1, 4)):
         if recovery.found(data).refusal:
-            session(t, "an open behind the greatest boot", data, b"step\n")
+            session(t, "an open after the greatest boot", data, b"step\n")
             break
         m = generate.machine_of(data)
         # The next request of a client that is known, and the first one of a client that isn't; they may be the last ones.

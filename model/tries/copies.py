@@ -19,7 +19,7 @@ def damaged(random: Random, data: bytes, place: int) -> tuple:
     """What damage leaves in a copy's sector, with the name of the damage."""
     old = form.sector(data, place)
     name = random.choice(("random bytes", "equal bytes", "zeros", "another copy", "bit of the fields", "bit anywhere",
-                          "checksum", "number", "bytes behind the number", "half", "another content",
+                          "checksum", "number", "bytes after the number", "half", "another content",
                           "zeros but a byte"))
     if name == "random bytes":
         return name, random.randbytes(SECTOR)
@@ -39,7 +39,7 @@ def damaged(random: Random, data: bytes, place: int) -> tuple:
         return name, random.choice((old[:half] + other[half:], bytes(half) + old[half:])) if name == "half" else other
     image = bytearray(old)
     low, high = {"bit of the fields": (32, superblock.BEHIND), "bit anywhere": (0, SECTOR), "checksum": (0, 16),
-                 "number": (16, 20), "bytes behind the number": (20, 32)}[name]
+                 "number": (16, 20), "bytes after the number": (20, 32)}[name]
     image[random.randrange(low, high)] ^= 1 << random.randrange(8)
     if name == "number" and random.random() < 0.7:
         image = bytearray(old[:16] + random.choice((0, 1, 2, 3, 4, 256)).to_bytes(4, "little") + old[20:])

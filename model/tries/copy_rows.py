@@ -28,7 +28,7 @@ NEWER = FIRST._replace(sequence=2)
 SPENT = FIRST._replace(boot=TOP)
 BLANK, C = bytes(SECTOR), [FIRST.encode(place) for place in range(4)]
 OTHER = superblock.first(Home(SMALL, 8))
-# The file, the words, the script; the text and the status. In these files nothing stands behind the copies.
+# The file, the words, the script; the text and the status. In these files nothing stands after the copies.
 ROWS = (
     # Two contents of equal sequence: that of copy 0 is chosen, and written over the other one.
     (file_of(C[0], OTHER.encode(1), OTHER.encode(2), C[3]), "run", "append 1 1 -", "appended 1\n", 0),

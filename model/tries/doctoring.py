@@ -146,7 +146,7 @@ def taken_back(t: Try) -> None:
     t.binary.put(bytes(image))
     found, case = recovery.found(bytes(image)), asked(t)[2]
     earlier = not found.refusal and found.view != before
-    require(f"what may be lost behind op {before.head()} is told", not earlier or bool(case.lost))
+    require(f"what may be lost after op {before.head()} is told", not earlier or bool(case.lost))
     what = " ".join(found.refusal.split()[:2]) if found.refusal else "taken back, and told" if earlier else "as before"
     t.counts[f"newest units hurt: {what}"] += 1
 

@@ -21,7 +21,7 @@ ERRORS = "EIO ENOSPC EACCES EINVAL EBADF EAGAIN EPIPE ENOMEM EROFS EDQUOT EISDIR
 
 def order(t: Try) -> None:
     """The order of the calls: reads of the copies, a barrier, reads of all, mending; then the writes and syncs of each line,
-    with its answer behind them."""
+    with its answer after them."""
     plan = Plan(t, 32)
     expect("the order of writes, syncs and answers", together([(e.kind, e.at, len(e.data)) for e in plan.wanted.events]),
            events_of(plan.calls, plan.fd))
@@ -54,7 +54,7 @@ def takes(plan: Plan) -> list:
 
 
 def order_of_reads(plan: Plan) -> None:
-    """The copies are read before the barrier, and behind it they and each slot once, all before the first write; then reads
+    """The copies are read before the barrier, and after it they and each slot once, all before the first write; then reads
     of a script's lines alone."""
     calls, layout = plan.calls, generate.home_of(plan.data).layout
     changes = [at for at, call in enumerate(calls) if call.name in ("fdatasync", "pwrite64") and call.fd == plan.fd]
@@ -63,7 +63,7 @@ def order_of_reads(plan: Plan) -> None:
     expect("reads of slots before the first sync or write", [], others)
     if plan.words[0] == "format":
         require("format reads each copy at most once", len(early) == len(set(early)))
-        expect("reads behind the first write of format", ([], []), reads_of(calls[barrier:], plan.fd, layout))
+        expect("reads after the first write of format", ([], []), reads_of(calls[barrier:], plan.fd, layout))
         return
     expect("the copies that are read first", [0, 1, 2, 3], early)
     behind = [at for at, call in enumerate(calls) if at > barrier and call.name in ("pwrite64", "read")]
@@ -73,7 +73,7 @@ def order_of_reads(plan: Plan) -> None:
     found, front = recovery.found(plan.data), form.SECTOR * form.COPIES
     late = [] if plan.words[0] in SCRIPTED else plan.wanted.reads
     wanted = ([] if found.early else [0, 1, 2, 3]) + [at // form.SECTOR for at in late if at < front]
-    expect("the copies that are read behind the barrier", wanted, again)
+    expect("the copies that are read after the barrier", wanted, again)
     blocks, slots = [at for at in slots if at >= layout.grid()], [at for at in slots if at < layout.grid()]
     require("each slot is read at most once by an open", len(slots) == len(set(slots)))
     if found.refusal:
@@ -85,8 +85,8 @@ def order_of_reads(plan: Plan) -> None:
         expect("the header sectors and slots that an open reads", every_slot(layout), sorted(slots))
         copies, others = reads_of(calls[opened:], plan.fd, layout)
         listed = plan.wanted.reads if plan.words[0] in SCRIPTED else []
-        expect("the copies that are read behind the open", [at // form.SECTOR for at in listed if at < front], copies)
-        expect("what else is read behind the open", [at for at in listed if at >= front], others)
+        expect("the copies that are read after the open", [at // form.SECTOR for at in listed if at < front], copies)
+        expect("what else is read after the open", [at for at in listed if at >= front], others)
 
 
 def with_one_failing(t: Try, plan: Plan, name: str, places: list) -> tuple:
@@ -167,7 +167,7 @@ def interrupted(t: Try) -> None:
 
 
 def short(t: Try) -> None:
-    """A write that took a part alone goes on behind it; one that took nothing is a fault."""
+    """A write that took a part alone goes on after it; one that took nothing is a fault."""
     plan = Plan(t)
     name, fd, kind, fault = t.random.choice((("pwrite64", plan.fd, "write", DISK), ("write", 1, "answer", WRITE)))
     places = named(plan.calls, name, fd)

@@ -29,12 +29,12 @@ class Copied(NamedTuple):
 
     @property
     def data(self) -> Optional[bytes]:
-        """The source behind it."""
+        """The source after it."""
         return after(self.before, self.source)
 
     @property
     def copy(self) -> Optional[bytes]:
-        """The target behind it."""
+        """The target after it."""
         return after(self.blank, self.target)
 
 
@@ -112,7 +112,7 @@ class Copy:
         return None
 
     def checkpoint(self) -> Checkpoint:
-        """The source's checkpoint with the new references, and its trailer behind the blocks."""
+        """The source's checkpoint with the new references, and its trailer after the blocks."""
         durable = self.m.durable._replace(references=tuple(self.references), chain=())
         if not self.m.durable.chain:
             return durable

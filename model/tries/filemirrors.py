@@ -13,7 +13,7 @@ USAGE = b"usage: filemirror FIRST SECOND\n"
 
 
 class Mirrored(NamedTuple):
-    """What a run of the program came to: the first file behind it, what was done to it, what was printed, and the status."""
+    """What a run of the program came to: the first file after it, what was done to it, what was printed, and the status."""
 
     data: bytes
     status: int
@@ -26,7 +26,7 @@ class Mirrored(NamedTuple):
 
 
 class Refused(Exception):
-    """The run ends with these words behind `refused`."""
+    """The run ends with these words after `refused`."""
 
 
 class Mirror:
@@ -144,7 +144,7 @@ def known(data: bytes) -> list:
 
 
 def command(data: Optional[bytes], other: Optional[bytes], listed: list) -> Mirrored:
-    """The same with any words behind the two paths, and with files that aren't there."""
+    """The same with any words after the two paths, and with files that aren't there."""
     if listed:
         return Mirrored(data or b"", WORDS, [], [Event("answer", data=USAGE)])
     return run(data or b"", other or b"")

@@ -12,7 +12,7 @@ TOP = LIMIT
 
 
 def next_prepare(random: Random, m: Machine) -> tuple:
-    """The fields and the body of a prepare that most often fits behind the tail."""
+    """The fields and the body of a prepare that most often fits after the tail."""
     op, data = m.head() + 1, generate.body(random, m.layout)
     may = generate.appends(m) or [(0, 1)]
     client, request = random.choice(may)
@@ -88,7 +88,7 @@ def changes(random: Random, m: Machine, f: dict, data: bytes) -> tuple:
 
 
 def misfits(random: Random, m: Machine, f: dict) -> tuple:
-    """A field and a value for it with which a prepare may not fit behind the tail."""
+    """A field and a value for it with which a prepare may not fit after the tail."""
     last = m.tail[-1].mark if m.tail else 0
     waits = [one for one in m.sessions if one.op > m.replies]
     known = random.choice(waits or m.sessions or [Session(1, 1, 1)])
@@ -151,6 +151,6 @@ def forge(random: Random, m: Machine, data: bytearray) -> str:
     if place.zone == form.WAL_PREPARES and random.random() < 0.5:
         put(data, m.layout.at(Place(form.WAL_HEADERS, place.index)), whole[: form.HEADER])
     if place.zone == form.CLIENT_REPLIES and random.random() < 0.1:
-        # What stands behind the body doesn't matter.
+        # What stands after the body doesn't matter.
         put(data, at + room - 200, random.randbytes(200))
     return name

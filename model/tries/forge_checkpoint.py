@@ -9,7 +9,7 @@ from .trailer import CHECK, SESSION, Checkpoint, Session, word
 
 BIG = 2**64 - 1
 
-# How far behind the grid's start a forged block may stand, in bytes: a file is held in memory here, its holes too.
+# How far after the grid's start a forged block may stand, in bytes: a file is held in memory here, its holes too.
 REACH = 1 << 26
 
 

@@ -58,7 +58,7 @@ class Layout(NamedTuple):
         return self.block_size if zone == GRID else self.message_size
 
     def first(self) -> int:
-        """The offset of the ring of prepares: behind the copies and sixteen headers for each sector."""
+        """The offset of the ring of prepares: after the copies and sixteen headers for each sector."""
         return SECTOR * (COPIES + self.slots // HEADERS)
 
     def at(self, place: Place) -> int:
@@ -139,13 +139,13 @@ def whole_sectors(data: bytes) -> bytes:
 
 
 def part(data: bytes, start: int, length: int) -> bytes:
-    """Bytes of a file, with zeros behind its end."""
+    """Bytes of a file, with zeros after its end."""
     piece = bytes(data[start : start + length])
     return piece + bytes(length - len(piece))
 
 
 class Image:
-    """The bytes of a file with whole sectors written over them. A slice has just the bytes asked for, zeros behind the end."""
+    """The bytes of a file with whole sectors written over them. A slice has just the bytes asked for, zeros after the end."""
 
     def __init__(self, data: bytes):
         self.data, self.sectors = data, {}

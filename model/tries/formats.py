@@ -81,12 +81,12 @@ def file_for(t: Try, blank: float = 0.6) -> Optional[bytes]:
 
 
 def wiped(t: Try) -> bytes:
-    """A file whose copies are blank, with whatever stands behind them: a ring is there again once it is formatted."""
+    """A file whose copies are blank, with whatever stands after them: a ring is there again once it is formatted."""
     return bytes(COPIES * SECTOR) + generate.image(t.random, 8)[COPIES * SECTOR :]
 
 
 def dirty(t: Try) -> bytes:
-    """Zeros with one byte among them, which is often just within the copies or just behind them."""
+    """Zeros with one byte among them, which is often just within the copies or just after them."""
     end = COPIES * SECTOR
     data = bytearray(t.random.choice((end, end + SECTOR, 100000)))
     at = t.random.choice((0, SECTOR - 1, SECTOR, end - 1, end, t.random.randrange(end), t.random.randrange(len(data))))
@@ -95,7 +95,7 @@ def dirty(t: Try) -> bytes:
 
 
 def cut(t: Try) -> bytes:
-    """A file that ends within its copies, or just behind them."""
+    """A file that ends within its copies, or just after them."""
     data = generate.image(t.random, 3)
     return data[: t.random.choice((t.random.randrange(COPIES * SECTOR + 1), t.random.randrange(300) + SECTOR))]
 
@@ -206,7 +206,7 @@ def large(t: Try) -> None:
 
 
 def large_replies(t: Try, data: bytes) -> None:
-    """Replies in the layout `large`, which stand a gigabyte behind the file's begin: their bytes, and what is read of them."""
+    """Replies in the layout `large`, which stand a gigabyte after the file's begin: their bytes, and what is read of them."""
     m = generate.machine_of(data)
     listed = [b"reply %d %s" % (op, t.random.randbytes(t.random.choice((1, 3841, 70000))).hex().encode())
               for op in range(m.replies + 1, m.head() + 1)]

@@ -82,14 +82,14 @@ def spelled(random: Random, data: bytes) -> bytes:
 
 
 def machine_of(data: Optional[bytes]) -> Machine:
-    """The machine of a file that opens, behind its open; that of a new file where it doesn't."""
+    """The machine of a file that opens, after its open; that of a new file where it doesn't."""
     if recovery.found(data).refusal:
         data = script.fresh(Home(form.SMALL, 7))
     return opened_file(data)[0]
 
 
 def opened_file(data: bytes) -> tuple:
-    """The machine of a file behind its open, and the file then."""
+    """The machine of a file after its open, and the file then."""
     found = recovery.found(data)
     machine = Machine(found, Image(data))
     events = opens(found, machine)
@@ -123,7 +123,7 @@ def new_client(random: Random, m: Machine) -> int:
 def good(random: Random, m: Machine, most: Optional[int] = None) -> bytes:
     """A line that changes something and is accepted; a read where there is none."""
     may, waits = appends(m), m.replies < m.head()
-    # A ring that is full goes on behind a checkpoint alone.
+    # A ring that is full goes on after a checkpoint alone.
     more = generate_grid.good(random, m, most) if random.random() < (0.4 if may or waits else 1) else None
     if more:
         return more
@@ -275,7 +275,7 @@ def headers_hurt(random: Random, data: bytes) -> bytes:
 
 
 def image(random: Random, most: int = 32, of: Optional[Home] = None, hurt: float = 0.3) -> bytes:
-    """A file that opens: what a script left, sometimes with other bytes behind the blocks' begin, or with copies or headers hurt."""
+    """A file that opens: what a script left, sometimes with other bytes after the blocks' begin, or with copies or headers hurt."""
     of = of or home(random)
     layout = of.layout
     most = min(most, max(2, 2**21 // layout.message_size))

@@ -8,7 +8,7 @@ from .form import Layout
 from .knows import knows
 from .machine import Machine
 
-# Blocks are most often written where a file stays short: this many bytes of the grid, behind this many before it.
+# Blocks are most often written where a file stays short: this many bytes of the grid, after this many before it.
 GRID_BYTES, BEFORE = 2**21, 2**22
 SIZES = (0, 0, 1, 2, 128, 3839, 3840, 3841, 5000, 16127, 16128)
 

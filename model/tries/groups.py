@@ -1,4 +1,4 @@
-"""Tries of groups: prepares that were written together behind a tail, of which a stop or damage left a part."""
+"""Tries of groups: prepares that were written together after a tail, of which a stop or damage left a part."""
 
 from random import Random
 
@@ -33,7 +33,7 @@ def askers(random: Random, m: Machine, count: int) -> list:
 
 
 def members(random: Random, m: Machine, boot: int, count: int) -> list:
-    """The prepares of a group behind the tail, most often one that fits, each with its slot."""
+    """The prepares of a group after the tail, most often one that fits, each with its slot."""
     first, parent, listed = m.head() + 1, m.last_checksum(), []
     # Now and then a member names another group than the others.
     odd = random.randrange(count) if random.random() < 0.15 else None
@@ -71,7 +71,7 @@ def put_left(data: bytearray, layout: form.Layout, slot: int, one: units.Unit, l
 
 
 def put_group(random: Random, m: Machine, data: bytearray) -> str:
-    """Puts a group of two to eight behind the tail, what is left of it; says what was put."""
+    """Puts a group of two to eight after the tail, what is left of it; says what was put."""
     boot, count = boot_of(m), random.choice((1, 2, 2, 3, 3, 4, 5, 8))
     older = random.random() < 0.15 and boot > 1
     listed, kept = members(random, m, boot - 1 if older else boot, count), lefts(random, count)
@@ -94,7 +94,7 @@ def hurt_headers(random: Random, m: Machine, data: bytearray) -> None:
 
 
 def grouped(t: Try) -> None:
-    """A group behind the tail, of which some prepares and some headers are left."""
+    """A group after the tail, of which some prepares and some headers are left."""
     random, home = t.random, generate.home(t.random)
     data = bytearray(generate.image(random, 31, home))
     m = generate.machine_of(bytes(data))

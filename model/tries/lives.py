@@ -64,7 +64,7 @@ def checked(t: Try, what: str, life: Life, image: bytes, sectors: set) -> recove
         require(f"{what}: a state settled since the last open", found.view in life.since)
         require(f"{what}: nothing is hurt: the newest state", bool(sectors) or found.view == newest)
         name = "the newest state" if found.view == newest else "an earlier state"
-    t.counts[f"opens behind damage: {name}"] += 1
+    t.counts[f"opens after damage: {name}"] += 1
     return found
 
 
@@ -80,7 +80,7 @@ def raised(data: bytes, events: list) -> int:
 
 
 def goes_on(t: Try, life: Life, image: bytes, wanted: script.Outcome) -> Life:
-    """The life behind a session over this image, which comes to its end or is stopped within it."""
+    """The life after a session over this image, which comes to its end or is stopped within it."""
     stopped = t.random.random() < 0.35
     upto = moment(t, wanted.events) if stopped else len(wanted.events)
     data = stop(t, image, wanted.events, upto)
@@ -88,7 +88,7 @@ def goes_on(t: Try, life: Life, image: bytes, wanted: script.Outcome) -> Life:
     # An open that was stopped before its boot update was settled isn't the last one.
     behind = recovery.found(data).content.boot > recovery.found(image).content.boot
     since = views if behind or upto >= raised(image, wanted.events) else life.since + views
-    t.counts["sessions stopped behind damage" if stopped else "sessions behind damage"] += 1
+    t.counts["sessions stopped after damage" if stopped else "sessions after damage"] += 1
     return Life(life.home, data, since, life.earlier + settled(t, image, wanted.events[:upto]) + [data])
 
 
@@ -99,7 +99,7 @@ def lives(t: Try) -> None:
     life = Life(home, made, [recovery.view_of(made)], [made])
     for number in range(SESSIONS):
         image, sectors = hurt_again(t, life)
-        what = f"session {number + 1} behind damage of sectors {sorted(sectors)}"
+        what = f"session {number + 1} after damage of sectors {sorted(sectors)}"
         found = checked(t, what, life, image, sectors)
         t.binary.put(image)
         m = generate.machine_of(image)

@@ -15,7 +15,7 @@ HOMES = (Home(form.SMALL, 7), Home(Layout(16, 4096, 8, 4096, 24), 7), Home(Layou
 
 
 def prefix(data: bytes, events: list, file: bytes, printed: bytes) -> int:
-    """The least number of events that leave this file and have printed this, or a part of the next answer behind it."""
+    """The least number of events that leave this file and have printed this, or a part of the next answer after it."""
     image = bytearray(data)
     for upto in range(len(events) + 1):
         if image == file and script.partly(events, upto, printed):

@@ -87,7 +87,7 @@ class Machine(Grid):
         return why or (f"Staged count {len(self.staged)}" if self.staged else None)
 
     def request_refusal(self, head: int, sessions: dict, client: int, request: int, body: bytes) -> Optional[str]:
-        """Why a request isn't taken behind this head and these sessions."""
+        """Why a request isn't taken after this head and these sessions."""
         last = sessions.get(client)
         if client == 0:
             return "ClientZero"
@@ -211,7 +211,7 @@ def opens(opened: Found, machine: Machine) -> list:
 
 
 def mends(opened: Found) -> list:
-    """The events of mending: each header sector that is needed, one sync behind them, then each copy with its sync."""
+    """The events of mending: each header sector that is needed, one sync after them, then each copy with its sync."""
     slots = [place.index for place, _ in opened.to_mend if place.zone == form.WAL_HEADERS]
     machine = Machine(opened, Image(b""))
     sectors = sorted({slot // form.HEADERS for slot in slots})

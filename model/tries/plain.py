@@ -75,7 +75,7 @@ class State(NamedTuple):
         return self.op == self.head() == self.replies
 
     def moved(self, layout: Layout) -> "State":
-        """The state of a copy of another layout: its blocks, and the trailer behind them, stand at the least addresses."""
+        """The state of a copy of another layout: its blocks, and the trailer after them, stand at the least addresses."""
         blocks = tuple((number, one) for number, (_, one) in enumerate(self.blocks, 1))
         count = pieces(layout, self.root, self.sessions, blocks) if self.trailer else 0
         return self._replace(home=Home(layout, self.home.cluster), blocks=blocks, trailer=tuple(range(len(blocks) + 1, len(blocks) + 1 + count)))
@@ -138,7 +138,7 @@ class Plain:
     # ---- requests
 
     def is_next(self, client: int, request: int, body: bytes) -> bool:
-        """Whether a request may be appended behind what is staged."""
+        """Whether a request may be appended after what is staged."""
         known = {one.client: (one.request, one.reply is not None) for one in self.sessions} | {one: (number, False) for one, number, _ in self.staged}
         head = self.head() + len(self.staged)
         follows = known[client] == (request - 1, True) if client in known else request == 1 and len(known) < self.layout.clients

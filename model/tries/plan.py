@@ -20,7 +20,7 @@ def other_words(t: Try) -> list:
 
 
 def paced_words(t: Try) -> list:
-    """The word `paced` with a pace: most often with a begin now and then, and few pieces behind each line."""
+    """The word `paced` with a pace: most often with a begin now and then, and few pieces after each line."""
     numbers = [t.random.choice((0, 1, 1, 2, 3, 8, 64)) for _ in range(3)]
     return ["paced", *map(str, numbers)]
 
@@ -173,6 +173,6 @@ def reads_of(calls: list, fd: Optional[int], layout: form.Layout) -> tuple:
 
 
 def every_slot(layout: form.Layout) -> list:
-    """The offsets of all that an open reads behind the copies: header sectors, prepares, replies."""
+    """The offsets of all that an open reads after the copies: header sectors, prepares, replies."""
     headers = range(layout.header_sector(0), layout.first(), SECTOR)
     return [*headers, *range(layout.first(), layout.replies_end(), layout.message_size)]

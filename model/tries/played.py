@@ -35,7 +35,7 @@ def span(word: str) -> range:
 
 
 def hexed(words) -> bytes:
-    """The bytes that hex digits spell, those of each word behind those before it."""
+    """The bytes that hex digits spell, those of each word after those before it."""
     try:
         return b"".join(bytes.fromhex(word) for word in words)
     except ValueError:
@@ -80,7 +80,7 @@ def filled(text: str, given: dict) -> str:
 
 
 def said(text: str) -> bytes:
-    """The bytes that a line of a script or of an answer stands for, with its end where no `\\` stands behind it."""
+    """The bytes that a line of a script or of an answer stands for, with its end where no `\\` stands after it."""
     told, letters = "", iter(text)
     for letter in letters:
         if letter == "\\":

@@ -15,7 +15,7 @@ PIPELINE = 8
 
 
 class View(NamedTuple):
-    """The state that a file stands for, without what its superblock records beside the checkpoint. The tail has every prepare behind the
+    """The state that a file stands for, without what its superblock records beside the checkpoint. The tail has every prepare after the
     checkpoint."""
 
     home: Home
@@ -99,7 +99,7 @@ class Rules(trailer.Trailers):
     """The rules of an open."""
 
     def decision(self, header: Union[Unit, str], prepare: Union[Unit, str], op: int, boot: int) -> str:
-        """What is decided of a slot: `Behind`, `Lost`, `Take` or `Empty`, with `mend` behind it where its header is mended."""
+        """What is decided of a slot: `Behind`, `Lost`, `Take` or `Empty`, with `mend` after it where its header is mended."""
         h, p = seen(header, op, boot), seen(prepare, op, boot)
         if "Far" in (h, p):
             return "Behind"
@@ -184,7 +184,7 @@ class Rules(trailer.Trailers):
         return self.decision(rings.headers[slot], one, op, content.boot).startswith("Take")
 
     def reach(self, rings: Rings, content: superblock.Content, sessions: tuple) -> list:
-        """How far taken prepares go on behind a checkpoint with these sessions."""
+        """How far taken prepares go on after a checkpoint with these sessions."""
         reached, sessions = [], list(sessions)
         for op in range(content.op + 1, content.op + content.slots + 1):
             one = rings.prepares[op % content.slots]

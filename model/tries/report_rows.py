@@ -137,7 +137,7 @@ def scrubs() -> list:
          "step\nscrub\nrelease 1\n",
          "wrote 1\nbegun 1\nchecked 1 Sound\ntour 1 0\nchecked 1 Sound\nworking 1\nchecked 2 Sound\ntour 2 0\nchecked 1 Sound\n"
          "released 1\nchecked 2 Sound\ntour 2 0\nchecked 1 Sound\ndone 2\nchecked 2 Sound\nrefused NotLive\n", 0),
-        # What is checked by a line says nothing of the status; a block written behind the tour is checked in it.
+        # What is checked by a line says nothing of the status; a block written after the tour is checked in it.
         (hurt, "run", "scrub\nscrub\n", "checked 1 Sound\nchecked 2 Garbled\n", 0),
         (NEW, "run", "block 1 -\nscrub\nblock 1 -\nscrub\nrelease 2\nscrub\nscrub\n",
          "wrote 1\nchecked 1 Sound\nwrote 2\nchecked 2 Sound\nreleased 2\ntour 2 0\nchecked 1 Sound\n", 0),

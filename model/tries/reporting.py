@@ -40,7 +40,7 @@ def reports(t: Try) -> None:
         words = t.random.choice((["recover"], ["inspect"], other_words(t), *([["scrub"]] if knows("all") else [])))
         data = asked(t, f"{words}, word {number + 1}", data, words).data
         t.counts[f"words over files: {words[0]}"] += 1
-    text = session(t, "a run behind the words", data, look(t, data)).data
+    text = session(t, "a run after the words", data, look(t, data)).data
     last = asked(t, "inspect at last", text, ["inspect"]).text
     refused = recovery.found(text).refusal
     require("a run leaves nothing to mend", bool(refused) or last.endswith(b"findings 0\n"))

@@ -28,14 +28,14 @@ EMPTY = {"kind": units.RESERVED, "slot": 9}
 IN_GRID = {"kind": units.BLOCK, "op": 64, "block_kind": 1}
 OUTSIDE = {"kind": units.BLOCK, "op": 65, "block_kind": 1}
 TWO = "append 1 1 -\nreply 1 -\nappend 2 1 -\n"
-# What a superblock names of a file behind one op: its prepare and the reply to it.
+# What a superblock names of a file after one op: its prepare and the reply to it.
 _PREPARE = units.prepare(HOME, 1, bytes(16), 1, 1, 1, b"", 0, 1)
 _REPLY = units.reply(HOME, 1, _PREPARE.checksum, recovery.Session(1, 1, 1), 0, b"", 1, 1)
 ONE_OP = superblock.naming(_PREPARE.checksum, [(0, _REPLY.checksum)])
 
 
 def twice(text: str) -> bytes:
-    """A new file behind this script, which was opened once more."""
+    """A new file after this script, which was opened once more."""
     return script.run(struck(NEW, text), b"").data
 
 
@@ -47,7 +47,7 @@ def another() -> bytes:
 
 
 def again_lost() -> bytes:
-    """A file whose second prepare was lost with its header and is there again, behind another one of its op and of a later boot."""
+    """A file whose second prepare was lost with its header and is there again, after another one of its op and of a later boot."""
     first = struck(NEW, TWO)
     lost = script.run(at_rest(first, (4, A5), (10, A5)), b"").data
     return at_rest(script.run(lost, b"append 2 1 bb\n").data, (10, form.sector(first, 10)))

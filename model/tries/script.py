@@ -47,7 +47,7 @@ class Outcome:
         # The view of the opening and that after each line that changes it, with the numbers of events from which it may be
         # found after a stop, and from which it is durable.
         self.spans = list(spans)
-        # What was read behind the open, as offsets.
+        # What was read after the open, as offsets.
         self.reads = machine.reads if machine else []
 
     @cached_property
@@ -68,7 +68,7 @@ class Outcome:
 
 
 def refused(data: Optional[bytes], words: str, before: list) -> Outcome:
-    """A refusal behind these events, which write nothing."""
+    """A refusal after these events, which write nothing."""
     return Outcome(data, REFUSED, before + [answer(f"refused {words}")])
 
 
@@ -149,7 +149,7 @@ def run(data: Optional[bytes], text: bytes, pace: tuple = (0, 0, 0)) -> Outcome:
 
 
 def execute(data: bytes, events: list, machine: Machine, text: bytes, pace: tuple = (0, 0, 0)) -> Outcome:
-    """A script behind the events of an open, with work of this pace behind each of its lines."""
+    """A script after the events of an open, with work of this pace after each of its lines."""
     spans, taken, events = [(machine.view(), 0, 0)], 0, list(events)
     accepted = 0
     for index, (line, ended) in enumerate(lines(text), 1):
@@ -164,7 +164,7 @@ def execute(data: bytes, events: list, machine: Machine, text: bytes, pace: tupl
 
 
 def works(machine: Machine, pace: tuple, accepted: int, events: list, spans: list) -> int:
-    """The work behind a line, of which nothing is printed: a checkpoint with the durable root is begun once so many prepares were
+    """The work after a line, of which nothing is printed: a checkpoint with the durable root is begun once so many prepares were
     accepted since the last begin here, then come its steps, then those of the scrubber. Gives how many prepares count then."""
     scrub, every, steps = pace
     if every and accepted >= every and not machine.running:
@@ -185,12 +185,12 @@ def quietly(machine: Machine, line: tuple, events: list, spans: list) -> bytes:
 
 def found_with(word: str, events: list) -> int:
     """With how many of a line's events what it keeps may be found after a stop; it is durable with one more: prepares and a reply with
-    all of their own writes and the sync behind them, a checkpoint with copy 1."""
+    all of their own writes and the sync after them, a checkpoint with copy 1."""
     return 4 if word == "step" else events.index(SYNC)
 
 
 def does(machine: Machine, line: tuple, events: list, spans: list) -> list:
-    """One line: its events go behind those before it, and the view after it where it changes what is kept."""
+    """One line: its events go after those before it, and the view after it where it changes what is kept."""
     more = machine.line(line)
     if line[0] in KEEPS and len(more) > 2:
         first = found_with(line[0], more)
@@ -200,7 +200,7 @@ def does(machine: Machine, line: tuple, events: list, spans: list) -> list:
 
 
 def partly(events: list, upto: int, printed: bytes) -> bool:
-    """Whether the first `upto` events print this, or this with a part of the next answer behind it."""
+    """Whether the first `upto` events print this, or this with a part of the next answer after it."""
     whole = answers(events[:upto])
     following = next(iter(events[upto:]), SYNC)
     return printed.startswith(whole) and following.data.startswith(printed[len(whole) :]) and (

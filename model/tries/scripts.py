@@ -24,7 +24,7 @@ def sessions(t: Try) -> None:
 
 
 def paced(t: Try) -> None:
-    """The same with work behind each line: nothing is printed of it, and what it writes is in the file."""
+    """The same with work after each line: nothing is printed of it, and what it writes is in the file."""
     home = generate.home(t.random)
     data = generate.image(t.random, of=home) if t.random.random() < 0.4 else script.fresh(home)
     t.binary.put(data)

@@ -94,7 +94,7 @@ def chain(t: Try) -> None:
 
 
 def moment(t: Try, events: list) -> int:
-    """A number of events after which to stop, most often just behind a write."""
+    """A number of events after which to stop, most often just after a write."""
     writes = [at for at, event in enumerate(events, 1) if event.kind == "write"]
     return t.random.choice(writes) if writes and t.random.random() < 0.7 else t.random.randint(0, len(events))
 
@@ -105,7 +105,7 @@ def every_prefix(t: Try) -> None:
     data = generate.image(t.random, 28, home, 0.5)
     if t.random.random() < 0.3:
         data = headers_hurt(t, data, home.layout)
-    # With work behind each line, or with none.
+    # With work after each line, or with none.
     wanted = script.run(data, script_for(t, data), t.random.choice(((0, 0, 0), (0, 1, 1), (1, 2, 1), (0, 1, 64))))
     for upto in range(len(wanted.events) + 1):
         kept = Kept(data)

@@ -9,12 +9,12 @@ from .knows import knows
 from .units import BLANK, GARBLED, STALE
 
 # checksum, number, zero, then the content: version, slots, message_size, clients, cluster, block_size, blocks,
-# sequence, op, head, replies, trailer_address, op_checksum, trailer_checksum, trailer_size, boot, and what is behind: zeros in
+# sequence, op, head, replies, trailer_address, op_checksum, trailer_checksum, trailer_size, boot, and what comes after it: zeros in
 # version 1, and in version 2 the head's checksum, 16 zeros, 64 checksums of replies, zeros
 FRONT = struct.Struct("<16sI12s")
 CONTENT = struct.Struct("<IIII16sIIQQQQQ16s16sQQ3936s")
 BEHIND = 160
-# The ends of what stands behind, from there on, in version 2.
+# The ends of what stands after the boot, from there on, in version 2.
 HEAD_CHECKSUM, REPLIES, ZEROS = 16, 32, 32 + 16 * 64
 assert FRONT.size == 32 and FRONT.size + CONTENT.size == SECTOR
 # A copy that doesn't count has the text of its class in place of its content.
@@ -32,7 +32,7 @@ class Recorded(NamedTuple):
 
 
 def naming(head_checksum: bytes, stored=()) -> bytes:
-    """What stands behind the boot in version 2: the head's checksum, and those of the stored replies by place."""
+    """What stands after the boot in version 2: the head's checksum, and those of the stored replies by place."""
     by_place = dict(stored)
     checks = b"".join(by_place.get(place, bytes(16)) for place in range(64))
     return (head_checksum + bytes(16) + checks).ljust(SECTOR - BEHIND, b"\0")
@@ -222,6 +222,6 @@ def opened(data: bytes, version: int = 2) -> Opened:
     members = [place for place, copy in enumerate(copies) if copy == content]
     if fault(content, version):
         return Opened(content, fault(content, version), True, members)
-    # A program that knows no checkpoints refuses what names a trailer, which it finds behind the barrier.
+    # A program that knows no checkpoints refuses what names a trailer, which it finds after the barrier.
     later = content.trailer_address and not knows("blocks")
     return Opened(content, f"BadField TrailerAddress {content.trailer_address}" if later else None, False, members)

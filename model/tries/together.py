@@ -189,7 +189,7 @@ def went(t: Try, life: Life, what: str, events: list, image: bytes, wanted: Told
     except reader.Refused as why:
         require(f"{what}: the file opens, but it is refused {why}", False)
     require(f"{what}: the boot is {now} after {life.boot}", now == life.boot + opens or answers is not None and now == life.boot)
-    require(f"{what}: nothing is to be mended behind it", answers is not None or not opens or plain_read.is_tidy(image))
+    require(f"{what}: nothing is to be mended after it", answers is not None or not opens or plain_read.is_tidy(image))
     states = wanted.states()
     listed = states[-1:] if answers is None else wanted.after(answers)
     life.takes(t, image, events, found)

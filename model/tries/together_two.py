@@ -105,13 +105,13 @@ def found_in(t: Try, life: Life, what: str, image: bytes, sectors: set):
         require(f"{what}: refused {why}", bool(sectors) and named[0] == "Damaged" and named[1] != "Superblock")
         place = Place(named[1], int(named[2]))
         require(f"{what}: refused {why}: it is hurt", any(life.is_hurt(image, one) for one in spoken(life, place)))
-        t.counts[f"opens behind damage: refused {' '.join(named[:2])}"] += 1
+        t.counts[f"opens after damage: refused {' '.join(named[:2])}"] += 1
         return str(why)
     fits = [one for one in life.since if plain_read.is_read_as(one, found, lambda place: life.is_hurt(image, place))]
     require(f"{what}: a state that the file had: head {found.head()}, {found.replies} replies", bool(fits))
     require(f"{what}: nothing is hurt: the newest state", bool(sectors) or life.state in fits)
     state = life.state if life.state in fits else fits[-1]
-    t.counts[f"opens behind damage: {'the newest state' if state == life.state else 'an earlier state'}"] += 1
+    t.counts[f"opens after damage: {'the newest state' if state == life.state else 'an earlier state'}"] += 1
     return state
 
 

@@ -107,7 +107,7 @@ class Trailers:
         return chain
 
     def lawful(self, one: Session, before: list, op: int) -> bool:
-        """Whether a session of the text may stand behind those before it."""
+        """Whether a session of the text may stand after those before it."""
         ranges = one.client != 0 and 1 <= one.request <= LIMIT and 1 <= one.op <= op
         return ranges and all(one.client != other.client and one.op != other.op for other in before)
 

@@ -58,7 +58,7 @@ def texts() -> list:
         bad("TrailerEnd 48", NONE[:8] + bits + check * 2),
         bad("TrailerEnd 16", NONE[:8] + bits),
         bad("TrailerSize 2193", NONE, trailer_size=2193),
-        # The rings come behind the trailer, and the version before it.
+        # The rings come after the trailer, and the version before it.
         bad("TrailerEnd 17", NONE + b"\0", head=1),
         (forged(HOME, NONE + b"\0", version=9), "run", "", "refused Version found 9\n", 4),
     ]

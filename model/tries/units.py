@@ -149,7 +149,7 @@ class Unit(NamedTuple):
 
 
 def seal(fields: dict, body: bytes = b"") -> bytes:
-    """A header of these fields with right checksums, and the body behind it."""
+    """A header of these fields with right checksums, and the body after it."""
     fields = dict(fields, checksum_body=check(body))
     rest = FIELDS.pack(*(fields[name] for name in NAMES))[16:]
     return check(rest) + rest + body
@@ -195,7 +195,7 @@ def block(home: Home, boot: int, address: int, block_kind: int, body: bytes) -> 
 
 
 def trailer(home: Home, boot: int, address: int, before: Optional[Unit], index: int, sequence: int, piece: bytes) -> Unit:
-    """The trailer block with this index, behind the one before it."""
+    """The trailer block with this index, after the one before it."""
     linked = {"parent": before.checksum, "request": before.op} if before else {}
     return made(fields_of(home, TRAILER, piece, op=address, mark=index, checkpoint=sequence, **linked), boot, piece)
 

@@ -4,7 +4,7 @@ from . import form, generate, script, units
 from .copy_rows import A5, HOME
 from .form import SECTOR, SMALL, Home, Place
 
-# A new file: header sectors with reserved headers stand behind the copies.
+# A new file: header sectors with reserved headers stand after the copies.
 NEW = script.fresh(HOME)
 
 
