@@ -8,7 +8,7 @@ ghost use Rattle.df_inspect.specs.Reports.{each_text, inspection_text, mend_text
 use crate::counts::print_summary;
 use crate::line::{Line, number_line, put, put_field, put_numbered, text_line, write_line};
 use crate::messages::print_body;
-use crate::names::{put_class, put_place};
+use crate::names::classed_line;
 use arrayvec::ArrayVec;
 use df_base::{Failed, Sink};
 use df_layout::Mend;
@@ -102,11 +102,5 @@ fn print_mend<W: Sink>(sink: &mut W, mend: Mend) -> Result<(), Failed>
     ensures prints { Prints (mend_text mend) (W.written sink.old) (W.written sink.new) result }
     ensures cause { HasCause (W.faults sink.old) (W.faults sink.new) result }
 {
-    let mut line = ArrayVec::new();
-    put(&mut line, "mend ");
-    put_place(&mut line, mend.place);
-    put(&mut line, " ");
-    put_class(&mut line, mend.class);
-    put(&mut line, "\n");
-    write_line(sink, &line)
+    write_line(sink, &classed_line("mend", mend.place, mend.class))
 }

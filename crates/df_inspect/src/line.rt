@@ -36,7 +36,7 @@ pub fn put_number(line: &mut Line, number: u128)
 }
 
 /// Puts a word, a space and a number at the end of the line.
-pub(crate) fn put_numbered(line: &mut Line, word: &str, number: u128)
+pub fn put_numbered(line: &mut Line, word: &str, number: u128)
     requires { length line.old.items + length word.now + 41 ≤ 640 }
     ensures put { line.new.items ≡ line.old.items ++ numbered word.now number }
     ensures room { length line.new.items ≤ length line.old.items + length word.now + 41 }
@@ -47,7 +47,7 @@ pub(crate) fn put_numbered(line: &mut Line, word: &str, number: u128)
 }
 
 /// Puts a space, a word, a space and a number at the end of the line.
-pub(crate) fn put_field(line: &mut Line, word: &str, number: u128)
+pub fn put_field(line: &mut Line, word: &str, number: u128)
     requires { length line.old.items + length word.now + 42 ≤ 640 }
     ensures put { line.new.items ≡ spaced line.old.items (numbered word.now number) }
     ensures room { length line.new.items ≤ length line.old.items + length word.now + 42 }
@@ -88,14 +88,14 @@ pub fn number_line(words: &str, number: u128) -> Line
 }
 
 /// Words and a number, a word and a number.
-pub(crate) fn two_numbers_line(words: &str, number: u128, word: &str, other: u128) -> Line
+pub fn two_numbers_line(words: &str, number: u64, word: &str, other: u64) -> Line
     requires words { length words.now ≤ 60 }
     requires word { length word.now ≤ 60 }
     ensures { result.items ≡ line_of (spaced (numbered words.now number) (numbered word.now other)) }
 {
     let mut line = ArrayVec::new();
-    put_numbered(&mut line, words, number);
-    put_field(&mut line, word, other);
+    put_numbered(&mut line, words, u128::from(number));
+    put_field(&mut line, word, u128::from(other));
     put(&mut line, "\n");
     line
 }

@@ -1,6 +1,6 @@
-// The names of zones, fields and classes as the program prints them, and the line on a place that is damaged.
+// The names of zones, fields and classes as the program prints them, and the lines on a place and what it shows.
 ghost use Rattle.std.specs.Prelude.{◌≡◌, ◌≤◌, ◌+◌, ◌*◌, ◌++◌, length};
-ghost use Rattle.df_script_model.specs.Texts.{class_text, damaged_text, place_text, zone_name};
+ghost use Rattle.df_script_model.specs.Texts.{class_text, damaged_text, line_of, place_text, spaced, zone_name};
 ghost use Rattle.df_inspect.specs.Opening.{classes_text, field_name};
 
 use crate::line::{Line, put, put_numbered};
@@ -11,8 +11,30 @@ use df_layout::{Class, Field, Place, Zone};
 pub(crate) fn damaged_line(place: Place, class: Class) -> Line
     ensures { result.items ≡ damaged_text place class }
 {
+    classed_line("refused Damaged", place, class)
+}
+
+/// Words and a place.
+pub fn place_line(words: &str, place: Place) -> Line
+    requires { length words.now ≤ 60 }
+    ensures { result.items ≡ line_of (spaced words.now (place_text place)) }
+{
     let mut line = ArrayVec::new();
-    put(&mut line, "refused Damaged ");
+    put(&mut line, words);
+    put(&mut line, " ");
+    put_place(&mut line, place);
+    put(&mut line, "\n");
+    line
+}
+
+/// Words, a place, and the class of what it shows.
+pub fn classed_line(words: &str, place: Place, class: Class) -> Line
+    requires { length words.now ≤ 60 }
+    ensures { result.items ≡ line_of (spaced words.now (spaced (place_text place) (class_text class))) }
+{
+    let mut line = ArrayVec::new();
+    put(&mut line, words);
+    put(&mut line, " ");
     put_place(&mut line, place);
     put(&mut line, " ");
     put_class(&mut line, class);
@@ -20,8 +42,8 @@ pub(crate) fn damaged_line(place: Place, class: Class) -> Line
     line
 }
 
-/// Puts a place at the end of the line: its zone and its number in it.
-pub fn put_place(line: &mut Line, place: Place)
+// Puts a place at the end of the line: its zone and its number in it.
+fn put_place(line: &mut Line, place: Place)
     requires { length line.old.items + 54 ≤ 640 }
     ensures put { line.new.items ≡ line.old.items ++ place_text place }
     ensures room { length line.new.items ≤ length line.old.items + 54 }
@@ -30,7 +52,7 @@ pub fn put_place(line: &mut Line, place: Place)
 }
 
 /// Puts a class at the end of the line.
-pub fn put_class(line: &mut Line, class: Class)
+pub(crate) fn put_class(line: &mut Line, class: Class)
     requires { length line.old.items + 64 ≤ 640 }
     ensures put { line.new.items ≡ line.old.items ++ class_text class }
     ensures room { length line.new.items ≤ length line.old.items + 64 }

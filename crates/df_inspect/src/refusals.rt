@@ -1,6 +1,5 @@
 // The lines that say why a command is refused: the name of the cause and its numbers. A failing disk has no line.
 ghost use Rattle.std.specs.Prelude.{◌≡◌};
-ghost use Rattle.df_model.specs.declared.errors.AppendError.TheVariants as append;
 ghost use Rattle.df_script_model.specs.Texts.{append_refusal, begin_refusal_line, block_refusal, flush_refusal, lookup_refusal, prepare_refusal, read_refusal, reply_refusal, step_refusal};
 
 use crate::line::{Line, number_line, text_line, two_numbers_line};
@@ -26,23 +25,13 @@ pub(crate) fn append_refusal(error: AppendError) -> Line
         AppendError::PipelineFull { waiting } => {
             number_line("refused PipelineFull waiting", u128::from(waiting))
         }
-        AppendError::WalFull { op, checkpoint_op } => wal_full_line(op, checkpoint_op),
+        AppendError::WalFull { op, checkpoint_op } => {
+            two_numbers_line("refused WalFull op", op, "checkpoint_op", checkpoint_op)
+        }
         AppendError::OpsSpent => text_line("refused OpsSpent\n"),
         AppendError::DiskFault => text_line(""),
         AppendError::Staged { count } => number_line("refused Staged count", u128::from(count)),
     }
-}
-
-// The line on a ring that has no slot for an op.
-fn wal_full_line(op: u64, checkpoint_op: u64) -> Line
-    ensures { result.items ≡ append_refusal (append.WalFull op checkpoint_op) }
-{
-    two_numbers_line(
-        "refused WalFull op",
-        u128::from(op),
-        "checkpoint_op",
-        u128::from(checkpoint_op),
-    )
 }
 
 /// Why what is staged isn't appended.
@@ -94,9 +83,9 @@ pub(crate) fn begin_refusal(error: BeginError) -> Line
         BeginError::RootTooLong { max } => number_line("refused RootTooLong max", u128::from(max)),
         BeginError::GridFull { needed, free } => two_numbers_line(
             "refused GridFull needed",
-            u128::from(needed),
+            needed,
             "free",
-            u128::from(free),
+            free,
         ),
         BeginError::SequenceSpent => text_line("refused SequenceSpent\n"),
     }
@@ -120,9 +109,9 @@ pub(crate) fn prepare_refusal(error: PrepareError) -> Line
     match error {
         PrepareError::NotKept { first, last } => two_numbers_line(
             "refused NotKept first",
-            u128::from(first),
+            first,
             "last",
-            u128::from(last),
+            last,
         ),
         PrepareError::Damaged { place, class } => damaged_line(place, class),
         PrepareError::DiskFault => text_line(""),

@@ -1,14 +1,12 @@
 // What a mending prints: a line for each unit, how many there were, or why it ends.
-ghost use Rattle.std.specs.Prelude.{◌≡◌};
 ghost use Rattle.df_base.specs.Causes.{HasCause};
 ghost use Rattle.df_inspect.specs.Prints.{Prints};
 ghost use Rattle.df_mirror.specs.Outside.{Blames, Writes, ended};
 ghost use Rattle.df_mirror.specs.Texts.{count_text, mended_text, neither_text};
 
 use crate::status::Status;
-use arrayvec::ArrayVec;
 use df_base::{Failed, Sink};
-use df_inspect::{Line, number_line, put, put_class, put_place, write_line};
+use df_inspect::{classed_line, number_line, place_line, write_line};
 use df_layout::{Class, Place};
 use df_program::end_line;
 
@@ -20,11 +18,7 @@ pub(crate) fn print_mended<W: Sink>(sink: &mut W, place: Place) -> Result<(), Fa
     ensures prints { Prints (mended_text place) (W.written sink.old) (W.written sink.new) result }
     ensures cause { HasCause (W.faults sink.old) (W.faults sink.new) result }
 {
-    let mut line = ArrayVec::new();
-    put(&mut line, "mended ");
-    put_place(&mut line, place);
-    put(&mut line, "\n");
-    write_line(sink, &line)
+    write_line(sink, &place_line("mended", place))
 }
 
 /// Prints how many units were written, and ends the run: Found exactly where there was one.
@@ -41,24 +35,11 @@ pub(crate) fn tell_count<W: Sink>(sink: &mut W, count: u64) -> Status
     end_line(sink, &line, given)
 }
 
-// The line on a unit that neither file shows.
-fn neither_line(place: Place, class: Class) -> Line
-    ensures { result.items ≡ neither_text place class }
-{
-    let mut line = ArrayVec::new();
-    put(&mut line, "refused Neither ");
-    put_place(&mut line, place);
-    put(&mut line, " ");
-    put_class(&mut line, class);
-    put(&mut line, "\n");
-    line
-}
-
 /// Prints that neither file shows the unit that is known at a place.
 pub(crate) fn tell_neither<W: Sink>(sink: &mut W, place: Place, class: Class) -> Status
     ensures line { Writes Status.WriteFault (neither_text place class) Status.Refused (W.written sink.old) (W.written sink.new) result }
     ensures sink { Blames Status.WriteFault (W.faults sink.old) (W.faults sink.new) result }
 {
-    let line = neither_line(place, class);
+    let line = classed_line("refused Neither", place, class);
     end_line(sink, &line, Status::Refused)
 }

@@ -10,7 +10,7 @@ use crate::refusal::Refusal;
 use arrayvec::ArrayVec;
 use df_base::{Failed, Sink};
 use df_inspect::{
-    Line as Text, number_line, print_body, put, put_number, put_place, text_line, write_line,
+    Line as Text, number_line, place_line, print_body, put, put_number, text_line, write_line,
 };
 use df_layout::Place;
 
@@ -63,9 +63,5 @@ pub fn print_not_table<W: Sink>(sink: &mut W, place: Place) -> Result<(), Failed
     ensures prints { Prints (not_table_text place) (W.written sink.old) (W.written sink.new) result }
     ensures cause { HasCause (W.faults sink.old) (W.faults sink.new) result }
 {
-    let mut line = ArrayVec::new();
-    put(&mut line, "refused NotTable ");
-    put_place(&mut line, place);
-    put(&mut line, "\n");
-    write_line(sink, &line)
+    write_line(sink, &place_line("refused NotTable", place))
 }
