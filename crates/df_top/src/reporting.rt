@@ -19,7 +19,8 @@ use df_session::{Replica, Rooms, Surveyed, survey};
 
 // Whether something is to be mended.
 fn found(mends: &[Mend]) -> Status
-    ensures { result ≡ status_of mends.now }
+    ensures is { result ≡ status_of mends.now }
+    ensures told { result ≡ Status.WriteFault → ⊥ }
 {
     if mends.is_empty() {
         Status::Done
@@ -34,16 +35,9 @@ fn report<W: Sink>(sink: &mut W, surveyed: &Surveyed) -> Status
     ensures sink { Blames Status.WriteFault (W.faults sink.old) (W.faults sink.new) result }
 {
     let mends = surveyed.to_mend();
-    match print_inspection(
-        sink,
-        &surveyed.summary(),
-        surveyed.root(),
-        surveyed.sessions(),
-        mends,
-    ) {
-        Ok(()) => found(mends),
-        Err(_) => Status::WriteFault,
-    }
+    let summary = surveyed.summary();
+    let done = print_inspection(sink, &summary, surveyed.root(), surveyed.sessions(), mends);
+    ended(done, found(mends))
 }
 
 // Prints the numbers of an open file.

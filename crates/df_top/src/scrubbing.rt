@@ -18,12 +18,13 @@ use df_disk::Disk;
 use df_inspect::{print_failing, print_tour};
 use df_layout::Finding;
 use df_model::{Answer, Command};
-use df_program::{Turn, printed, refuse_file};
+use df_program::{Turn, ended, printed, refuse_file};
 use df_session::{Replica, Rooms, Scrubbed, Verdict, make};
 
 // How a tour ends that listed so many blocks.
 fn listed(failing: u64) -> Status
-    ensures { result ≡ tour_status failing }
+    ensures is { result ≡ tour_status failing }
+    ensures told { result ≡ Status.WriteFault → ⊥ }
 {
     if failing == 0 {
         Status::Done
@@ -37,10 +38,7 @@ fn end_tour<W: Sink>(sink: &mut W, checked: u64, failing: u64) -> Status
     ensures prints { PrintsLine (scrubbed_text (scrubs.TourEnd checked failing)) (tour_status failing) (W.written sink.old) (W.written sink.new) result }
     ensures sink { Blames Status.WriteFault (W.faults sink.old) (W.faults sink.new) result }
 {
-    match print_tour(sink, checked, failing) {
-        Ok(()) => listed(failing),
-        Err(_) => Status::WriteFault,
-    }
+    ended(print_tour(sink, checked, failing), listed(failing))
 }
 
 // Prints what a step found: a block that fails, or the end of the tour.

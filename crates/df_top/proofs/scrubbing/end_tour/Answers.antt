@@ -1,9 +1,13 @@
 -- The line is printed, and the status is that of the count.
-use Rattle.std.proofs.Common.{inl, inr, refl}
+use Rattle.std.proofs.Common.{subst}
+use Rattle.df_model.specs.declared.answers.Scrubbed.TheVariants as scrubs
+use Rattle.df_script_model.specs.Texts.{scrubbed_text}
+use Rattle.df_top.specs.Outside.{PrintsLine}
+use Rattle.df_top.specs.declared.status.Status.{Status}
 use Rattle.df_top.proofs.scrubbing.end_tour.Goals as goal
 
-pub returns-in-Ok-clause-prints : goal.returns-in-Ok-clause-prints
-returns-in-Ok-clause-prints g c = inl (c.listed.ensures, c.in-Ok.ensures.prints.whole)
-
-pub returns-in-Err-clause-prints : goal.returns-in-Err-clause-prints
-returns-in-Err-clause-prints g c = inr (refl, c.in-Err.ensures.prints.part)
+pub returns-clause-prints : goal.returns-clause-prints
+returns-clause-prints g c =
+    let old = g.W.Sink.written c.args.sink.now in
+    let new = g.W.Sink.written c.print_tour.new.sink in
+    subst (λ (given : Status). PrintsLine (scrubbed_text (scrubs.TourEnd c.args.checked c.args.failing)) given old new c.ended.result) c.listed.ensures.is (c.ended.ensures.writes _ old new c.print_tour.ensures.prints)
