@@ -9,7 +9,7 @@ pub use Rattle.df_opening.proofs.Opens.{front_moments, mend_stops, own_raising, 
 pub use Rattle.df_opening.proofs.Mendable.{IsPlannedIn, content_is, planned_in}
 pub use Rattle.df_opening.proofs.MendShows.{front_spares, raising_aside, raising_copies, raising_spares}
 pub use Rattle.df_opening.proofs.RaiseAnew.{clean_beyond}
-pub use Rattle.df_opening.proofs.SurveyPlans.{IsPlannedOn, survey_planned, told_mends}
+pub use Rattle.df_opening.proofs.SurveyPlans.{survey_planned, told_mends}
 pub use Rattle.df_opening.proofs.Views.{keeps_back, keeps_on, keeps_self}
 pub use Rattle.df_opening.proofs.BegunStates.{begun_keeps}
 pub use Rattle.df_opening.proofs.Refused.{adds_error, blamed_open, fault_adds, no_refusal, raising_then, read_error, refused_tells, superblock_refused, unharmed_error, unharmed_fault, unharmed_of, unharmed_ok, updating_error, updating_fault, updating_ok, updating_then}

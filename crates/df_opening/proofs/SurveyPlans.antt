@@ -16,16 +16,11 @@ use Rattle.df_damage.specs.Found.{IsFoundAs}
 use Rattle.df_damage.specs.Surveying as recovered
 use Rattle.df_damage.specs.Surveying.{IsPlannedFor, IsReadOf, TellsSurveyAs, state_found}
 use Rattle.df_damage.specs.Types.{Surveyed}
-use Rattle.df_opening.specs.Mending.{IsPlanned}
-use Rattle.df_opening.specs.Survey.{Survey}
+use Rattle.df_opening.specs.Raising.{IsPlannedOf}
 use Rattle.df_opening.specs.Surveying.{TellsMends, survey_found}
 
--- what a survey is planned from
-abbrev pub IsPlannedOn : Survey → Told → Type 0
-IsPlannedOn s t = IsPlanned s.state.file s.state.headers s.mends s.state.fields s.chosen.members t
-
 module _ (version : ℕ) (y : Surveyed) (layout : Layout) (plan : IsPlannedFor y) where
-  shown_planned : (t : Told) → IsReadOf version layout (Some t) y.scanned → TellsSurveyAs version layout (Some t) (Ok (state_found y)) → IsPlannedOn (survey_found y) (did Sync t)
+  shown_planned : (t : Told) → IsReadOf version layout (Some t) y.scanned → TellsSurveyAs version layout (Some t) (Ok (state_found y)) → IsPlannedOf (survey_found y) (did Sync t)
   shown_planned t read answer =
       let scan : Scan = y.scanned.rooms.log.slots in
       let found : IsFoundAs version t.shown y.scanned.copies.found = read.found in
@@ -46,11 +41,11 @@ module _ (version : ℕ) (y : Surveyed) (layout : Layout) (plan : IsPlannedFor y
         planned = plan.plan;
       }
 
-  pub survey_planned : (old new : Option Told) (t : Told) → new ≡ Some t → new ≡ after Sync old → IsReadOf version layout old y.scanned → TellsSurveyAs version layout old (Ok (state_found y)) → IsPlannedOn (survey_found y) t
+  pub survey_planned : (old new : Option Told) (t : Told) → new ≡ Some t → new ≡ after Sync old → IsReadOf version layout old y.scanned → TellsSurveyAs version layout old (Ok (state_found y)) → IsPlannedOf (survey_found y) t
   survey_planned None new t told barrier read answer = let no : Some t ≡ None = sym told ∙ barrier in absurd (cc)
   survey_planned (Some u) new t told barrier read answer =
       let same : did Sync u ≡ t = same_Some _ _ (sym barrier ∙ told) in
-      subst (IsPlannedOn (survey_found y)) same (shown_planned u read answer)
+      subst (IsPlannedOf (survey_found y)) same (shown_planned u read answer)
 
 -- the list is what is to be mended
 pub told_mends : (layout : Layout) (told : Option Told) (y : Surveyed) → recovered.TellsPlannedMends layout told y → TellsMends layout told (survey_found y)

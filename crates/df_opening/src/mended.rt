@@ -18,39 +18,7 @@ use df_format::{Super, SuperFields, test_fields};
 use df_quorum::Chosen;
 use df_superblock::{UpdateError, update};
 
-// Writes what the rooms list, from the table that they have.
-fn mend_rooms<D: Disk>(
-    disk: &mut D,
-    file: &DataFile,
-    content: &Super,
-    members: [bool; 4],
-    rooms: &mut LogRooms,
-) -> Result<(), Failed>
-    requires rooms { AreLogRoomsOf file.now.layout file.now.cluster rooms.old }
-    ensures does { AddsSteps (format file.now) (mending_events file.now.layout rooms.old.headers rooms.old.mends.items content.now members)
-        (mending_steps file.now.layout rooms.old.headers rooms.old.mends.items content.now members) (D.told disk.old) (D.told disk.new) result }
-    ensures size { length members ≡ 4 }
-    ensures rooms { AreAsBefore rooms.old rooms.new }
-    ensures cause { HasCause (D.faults disk.old) (D.faults disk.new) result }
-{
-    are_four(&members);
-    let chosen = Chosen {
-        content: *content.fields(),
-        members,
-    };
-    write_mends(
-        disk,
-        file,
-        &rooms.headers,
-        &rooms.mends,
-        &mut rooms.sector,
-        &mut rooms.superblock,
-        &chosen,
-        content,
-    )
-}
-
-// Mends the file of these parts, of whose superblock these copies are members.
+// Writes what the rooms of these parts list, from the table that they have; these copies are members of the choice.
 fn mend_parts<D: Disk>(disk: &mut D, parts: &mut Parts, members: [bool; 4]) -> Result<(), Failed>
     requires whole { AreWhole parts.old }
     ensures state { state_in parts.new ≡ state_in parts.old }
@@ -60,7 +28,22 @@ fn mend_parts<D: Disk>(disk: &mut D, parts: &mut Parts, members: [bool; 4]) -> R
     ensures size { length members ≡ 4 }
     ensures cause { HasCause (D.faults disk.old) (D.faults disk.new) result }
 {
-    mend_rooms(disk, &parts.file, &parts.content, members, &mut parts.rooms)
+    are_four(&members);
+    let chosen = Chosen {
+        content: *parts.content.fields(),
+        members,
+    };
+    let rooms = &mut parts.rooms;
+    write_mends(
+        disk,
+        &parts.file,
+        &rooms.headers,
+        &rooms.mends,
+        &mut rooms.sector,
+        &mut rooms.superblock,
+        &chosen,
+        &parts.content,
+    )
 }
 
 // What the superblock says that an open writes: the state of these parts as it is, with the next boot. It obeys the rules.

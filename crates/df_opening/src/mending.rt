@@ -113,30 +113,6 @@ pub(crate) fn are_four(members: &[bool; 4])
     ensures { length members.now ≡ 4 }
 {}
 
-// The header sectors, and then the copies.
-fn mend_both<D: Disk>(
-    disk: &mut D,
-    file: &DataFile,
-    headers: &HeaderTable,
-    mends: &[Mend],
-    sector: &mut Raw<HeaderSector>,
-    superblock: &mut ProbeRoom,
-    chosen: &Chosen,
-    content: &Super,
-) -> Result<(), Failed>
-    requires table { IsHeaderTable file.now.layout file.now.cluster headers.now }
-    requires room { sector.old.layout ≡ file.now.layout }
-    requires content { content.now ≡ chosen.now.content }
-    ensures events { Adds (mending_events file.now.layout headers.now mends.now content.now chosen.now.members) (D.told disk.old) (D.told disk.new) result }
-    ensures room { sector.new.layout ≡ file.now.layout }
-    ensures cause { HasCause (D.faults disk.old) (D.faults disk.new) result }
-{
-    match mend_headers(disk, file, headers, mends, sector) {
-        Ok(()) => repair(disk, superblock, chosen, content),
-        Err(failed) => Err(failed),
-    }
-}
-
 /// Writes what is listed: each header sector that has a listed slot, once and in order, from the table; one sync, where
 /// there was such a sector; then the copies that aren't members of the choice, in order, each durable before the next one
 /// is written. No member is written, and no other place. After an error what was being written may hold anything once the
@@ -162,7 +138,8 @@ pub fn write_mends<D: Disk>(
     // The content's fields obey their rules.
     let _fields = content.fields();
     are_four(&chosen.members);
-    mend_both(
-        disk, file, headers, mends, sector, superblock, chosen, content,
-    )
+    match mend_headers(disk, file, headers, mends, sector) {
+        Ok(()) => repair(disk, superblock, chosen, content),
+        Err(failed) => Err(failed),
+    }
 }

@@ -9,8 +9,7 @@ ghost use Rattle.df_opening.specs.Surveying.{AnswersSurvey, IsSurveyed, state_of
 
 use crate::{OpenError, Parts, Rooms};
 use arrayvec::ArrayVec;
-use df_base::Check;
-use df_damage::{FileRooms, Scanned, Surveyed, Traces, survey_version};
+use df_damage::{Surveyed, survey_version};
 use df_disk::Disk;
 use df_layout::ROOT;
 use df_quorum::Chosen;
@@ -33,54 +32,7 @@ fn root_fits(root: &ArrayVec<u8, ROOT>)
     let _bytes = root.as_slice();
 }
 
-// The parts of a file of version 2 that was scanned and whose traces were found, with nothing staged and the tour at its start.
-fn parts_in(scanned: Scanned, traces: Traces, waiting: ArrayVec<Check, 8>) -> Parts
-    requires found { IsWellFound (record { scanned = scanned; traces = traces; waiting = waiting }) }
-    requires version { scanned.file.version ≡ VERSION }
-    requires planned { IsPlannedFor (record { scanned = scanned; traces = traces; waiting = waiting }) }
-    ensures found { AreFound result }
-    ensures seen { survey_in (record { parts = result; chosen = scanned.copies.found.chosen }) ≡ survey_found (record { scanned = scanned; traces = traces; waiting = waiting }) }
-{
-    let Scanned {
-        file,
-        copies,
-        rooms,
-        root,
-        sessions,
-    } = scanned;
-    let FileRooms {
-        layout: _,
-        log,
-        grid,
-        trailer,
-        scrub,
-        mut staging,
-    } = rooms;
-    let scrub = scrub.cleared();
-    staging.clear();
-    let _fields = copies.found.content.fields();
-    root_fits(&root);
-    let head_checksum = traces.tail.checksum;
-    Parts {
-        file,
-        content: copies.found.content,
-        root,
-        head: traces.tail.op,
-        head_checksum,
-        replies: traces.replies,
-        sessions,
-        waiting,
-        live: false,
-        rooms: log,
-        grid,
-        running: None,
-        trailer,
-        scrub,
-        staging,
-    }
-}
-
-// What was surveyed, as parts and the choice.
+// What was surveyed of a file of version 2, as parts and the choice, with nothing staged and the tour at its start.
 fn parts_of(surveyed: Surveyed) -> SurveyedFile
     requires found { IsWellFound surveyed }
     requires version { surveyed.scanned.file.version ≡ VERSION }
@@ -93,9 +45,34 @@ fn parts_of(surveyed: Surveyed) -> SurveyedFile
         traces,
         waiting,
     } = surveyed;
-    let chosen = scanned.copies.found.chosen;
-    let parts = parts_in(scanned, traces, waiting);
-    SurveyedFile { parts, chosen }
+    let mut rooms = scanned.rooms;
+    rooms.staging.clear();
+    let scrub = rooms.scrub.cleared();
+    let copies = scanned.copies;
+    let _fields = copies.found.content.fields();
+    root_fits(&scanned.root);
+    let head_checksum = traces.tail.checksum;
+    let parts = Parts {
+        file: scanned.file,
+        content: copies.found.content,
+        root: scanned.root,
+        head: traces.tail.op,
+        head_checksum,
+        replies: traces.replies,
+        sessions: scanned.sessions,
+        waiting,
+        live: false,
+        rooms: rooms.log,
+        grid: rooms.grid,
+        running: None,
+        trailer: rooms.trailer,
+        scrub,
+        staging: rooms.staging,
+    };
+    SurveyedFile {
+        parts,
+        chosen: copies.found.chosen,
+    }
 }
 
 /// What a file of version 2 shows: its state, and what is to be mended before calls may work on it; or the first reason of the order

@@ -1,9 +1,10 @@
 -- What was surveyed of version 2 has its parts, and is planned from what was read after the barrier.
 use Rattle.std.proofs.Common.{◌∙◌, Ok, Err, ap, subst, sym}
+use Rattle.df_opening.specs.Raising.{IsPlannedOf}
 use Rattle.df_opening.specs.Survey.{Survey}
 use Rattle.df_opening.specs.Surveying.{TellsMends, TellsSurvey}
 use Rattle.df_opening.proofs.Hurts.{answers}
-use Rattle.df_opening.proofs.SurveyPlans.{IsPlannedOn, survey_planned, told_mends}
+use Rattle.df_opening.proofs.SurveyPlans.{survey_planned, told_mends}
 use Rattle.df_opening.proofs.surveying.survey_file.Goals as goal
 
 pub returns-in-Ok-clause-surveyed : goal.returns-in-Ok-clause-surveyed
@@ -11,7 +12,7 @@ returns-in-Ok-clause-surveyed g c = record {
   kept = ap (λ (s : Survey). s.state.file.layout) c.parts_of.ensures.seen ∙ c.in-Ok.ensures.layout;
   mends = subst (TellsMends c.args.rooms.layout (g.D.Disk.told c.args.disk.now)) (sym c.parts_of.ensures.seen) (told_mends c.args.rooms.layout (g.D.Disk.told c.args.disk.now) c.in-Ok.surveyed c.in-Ok.ensures.mends);
   planned = λ t is.
-      subst (λ (s : Survey). IsPlannedOn s t) (sym c.parts_of.ensures.seen)
+      subst (λ (s : Survey). IsPlannedOf s t) (sym c.parts_of.ensures.seen)
       (survey_planned 2 c.in-Ok.surveyed c.args.rooms.layout c.in-Ok.ensures.planned (g.D.Disk.told c.args.disk.now) (g.D.Disk.told c.survey_version.new.disk) t is c.in-Ok.ensures.barrier c.in-Ok.ensures.read c.in-Ok.ensures.answer);
 }
 

@@ -7,13 +7,13 @@ use Rattle.df_damage.specs.Types.{Surveyed}
 use Rattle.df_model.specs.Work.{Request}
 use Rattle.df_opening.specs.Survey.{Survey}
 use Rattle.df_damage.proofs.Laws.{found_awaits, found_ends, found_staging, second_super}
-use Rattle.df_opening.proofs.surveying.parts_in.Goals as goal
+use Rattle.df_opening.proofs.surveying.parts_of.Goals as goal
 
 pub returns-clause-found : goal.returns-clause-found
 returns-clause-found c =
     let found = c.requires.found in
-    let s : Surveyed = record { scanned = c.args.scanned; traces = c.args.traces; waiting = c.args.waiting } in
-    let f = c.args.scanned.copies.found.content in
+    let s : Surveyed = c.args.surveyed in
+    let f = c.args.surveyed.scanned.copies.found.content in
     let usable : IsUsable f = c.fields-fields.ensures.usable in
     let cluster = subst (λ (n : ℕ). n < 2 ^ 128) (sym found.read.named) usable.fits.cluster in
     record {
@@ -22,7 +22,7 @@ returns-clause-found c =
           in_file = record {
             cluster = cluster;
             version = sym found.read.version;
-            second = second_super c.args.scanned.file f (sym found.read.version ∙ c.requires.version) usable found.read.fields;
+            second = second_super c.args.surveyed.scanned.file f (sym found.read.version ∙ c.requires.version) usable found.read.fields;
             sequence = usable.rules.sequence;
             root = c.root_fits.ensures;
             ring = c.requires.planned.plan.is_table;
@@ -35,16 +35,16 @@ returns-clause-found c =
           course = found.read.idle;
         };
         rooms = record {
-          rooms_fit = c.args.scanned.rooms.log_fits ∙ c.args.scanned.rooms_fit;
-          trailer_fits = c.args.scanned.rooms.trailer_fits ∙ c.args.scanned.rooms_fit;
-          scrub_fits = c.cleared-scrub.ensures.layout ∙ c.args.scanned.rooms.scrub_fits ∙ c.args.scanned.rooms_fit;
-          staging_fits = ap (λ (x : Staged). x.layout) c.clear.ensures ∙ c.args.scanned.rooms.staging_fits ∙ c.args.scanned.rooms_fit;
+          rooms_fit = c.args.surveyed.scanned.rooms.log_fits ∙ c.args.surveyed.scanned.rooms_fit;
+          trailer_fits = c.args.surveyed.scanned.rooms.trailer_fits ∙ c.args.surveyed.scanned.rooms_fit;
+          scrub_fits = c.cleared-scrub.ensures.layout ∙ c.args.surveyed.scanned.rooms.scrub_fits ∙ c.args.surveyed.scanned.rooms_fit;
+          staging_fits = ap (λ (x : Staged). x.layout) c.clear.ensures ∙ c.args.surveyed.scanned.rooms.staging_fits ∙ c.args.surveyed.scanned.rooms_fit;
         };
-        grid = record { grid_fits = c.args.scanned.rooms.grid_fits ∙ c.args.scanned.rooms_fit; grid_named = c.args.scanned.grid_named };
+        grid = record { grid_fits = c.args.surveyed.scanned.rooms.grid_fits ∙ c.args.surveyed.scanned.rooms_fit; grid_named = c.args.surveyed.scanned.grid_named };
       };
       dead = refl;
       unspent = found.ends.unspent;
-      unbooted = c.args.scanned.grid_unbooted;
+      unbooted = c.args.surveyed.scanned.grid_unbooted;
       unstaged = ap (λ (x : Staged). x.requests) c.clear.ensures;
       idle = refl;
       fresh = c.cleared-scrub.ensures.cleared;
@@ -52,8 +52,8 @@ returns-clause-found c =
 
 pub returns-clause-seen : goal.returns-clause-seen
 returns-clause-seen c =
-    let s = c.args.scanned in
-    let traces = c.args.traces in
+    let s = c.args.surveyed.scanned in
+    let traces = c.args.surveyed.traces in
     let seen : List Request → ScrubState → ℕ → Survey = λ requests x boot. record {
       state = record {
         file = s.file;
@@ -63,7 +63,7 @@ returns-clause-seen c =
         head_checksum = traces.tail.checksum;
         replies = traces.replies;
         table = s.sessions;
-        waiting = c.args.waiting.items;
+        waiting = c.args.surveyed.waiting.items;
         staged = requests;
         headers = s.rooms.log.headers;
         blocks = s.rooms.grid.blocks;
