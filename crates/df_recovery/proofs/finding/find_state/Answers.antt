@@ -64,8 +64,8 @@ returns-in-Some-clause-answer c = at_place _ (ReplyPlace c.in-Some.lacking.place
     (λ t scanned. c.in-Some.ensures.class c.args.layout.now c.args.slots.now.start.cluster t scanned.replies)
 
 -- no step before the last refuses
-pub returns-then-content-eq-GREATEST_BOOT-clause-answer : goal.returns-then-content-eq-GREATEST_BOOT-clause-answer
-returns-then-content-eq-GREATEST_BOOT-clause-answer c = λ sh image b is.
+pub returns-then-content-eq-GREATEST-clause-answer : goal.returns-then-content-eq-GREATEST-clause-answer
+returns-then-content-eq-GREATEST-clause-answer c = λ sh image b is.
     let content = content_same sh image b _ is c.fields-content.result.now c.fields-content.ensures.value in
     let counts = c.count_all-seen.ensures.all image is.tells.shows is.shows in
     let early = (c.is_behind.ensures.none sh image b.content counts (boot_is sh image b _ is c.fields-content.result.now c.fields-content.ensures.value) (ap (λ (x : Content). x.sequence) content) (ap (λ (x : Content). x.op) content) is.slots_are).0 c.if-is_behind.false in
@@ -73,11 +73,11 @@ returns-then-content-eq-GREATEST_BOOT-clause-answer c = λ sh image b is.
     let bound = counts_bound sh image b _ is c.fields-content.result.now c.in-Ok.reach.tail.op c.bound_of-bound.result c.fields-content.ensures.value (c.bound_of-bound.ensures image is.tells.shows (c.count_all-seen.ensures.own image is.tells.shows is.shows)) in
     let kept = (c.is_lost.ensures.none image b.content bound (ap (λ (x : Content). x.head) content)).0 c.if-is_lost.false in
     let number = c.replies-stored.ensures image b.content found.tail is.shows (boot_is sh image b _ is c.fields-content.result.now c.fields-content.ensures.value) (ap (λ (x : Content). x.replies) content) (sym found.ends.mark) in
-    opens_spent sh image b _ is c.in-Ok.reach c.find_known.new.sessions.sessions early found c.replies-stored.result (boot_is sh image b _ is c.fields-content.result.now c.fields-content.ensures.value ∙ c.if-content-eq-GREATEST_BOOT.true) stored_found kept number
+    opens_spent sh image b _ is c.in-Ok.reach c.find_known.new.sessions.sessions early found c.replies-stored.result (boot_is sh image b _ is c.fields-content.result.now c.fields-content.ensures.value ∙ c.if-content-eq-GREATEST.true) stored_found kept number
     (subst (λ (x : Content). AllAnswered image x (sessions_of c.find_known.new.sessions.sessions) c.replies-stored.result) (sym content) (c.in-None.ensures.lacks image is.shows))
 
-pub returns-else-content-eq-GREATEST_BOOT-clause-answer : goal.returns-else-content-eq-GREATEST_BOOT-clause-answer
-returns-else-content-eq-GREATEST_BOOT-clause-answer c = λ sh image b is.
+pub returns-else-content-eq-GREATEST-clause-answer : goal.returns-else-content-eq-GREATEST-clause-answer
+returns-else-content-eq-GREATEST-clause-answer c = λ sh image b is.
     let content = content_same sh image b _ is c.fields-content.result.now c.fields-content.ensures.value in
     let counts = c.count_all-seen.ensures.all image is.tells.shows is.shows in
     let early = (c.is_behind.ensures.none sh image b.content counts (boot_is sh image b _ is c.fields-content.result.now c.fields-content.ensures.value) (ap (λ (x : Content). x.sequence) content) (ap (λ (x : Content). x.op) content) is.slots_are).0 c.if-is_behind.false in
@@ -85,13 +85,13 @@ returns-else-content-eq-GREATEST_BOOT-clause-answer c = λ sh image b is.
     let bound = counts_bound sh image b _ is c.fields-content.result.now c.in-Ok.reach.tail.op c.bound_of-bound.result c.fields-content.ensures.value (c.bound_of-bound.ensures image is.tells.shows (c.count_all-seen.ensures.own image is.tells.shows is.shows)) in
     let kept = (c.is_lost.ensures.none image b.content bound (ap (λ (x : Content). x.head) content)).0 c.if-is_lost.false in
     let number = c.replies-stored.ensures image b.content found.tail is.shows (boot_is sh image b _ is c.fields-content.result.now c.fields-content.ensures.value) (ap (λ (x : Content). x.replies) content) (sym found.ends.mark) in
-    finds sh image b _ is c.in-Ok.reach c.find_known.new.sessions.sessions early found c.replies-stored.result (below_spent sh image b _ is c.fields-content.result.now c.fields-content.ensures.value c.if-content-eq-GREATEST_BOOT.false) stored_found kept number
+    finds sh image b _ is c.in-Ok.reach c.find_known.new.sessions.sessions early found c.replies-stored.result (below_spent sh image b _ is c.fields-content.result.now c.fields-content.ensures.value c.if-content-eq-GREATEST.false) stored_found kept number
     (subst (λ (x : Content). AllAnswered image x (sessions_of c.find_known.new.sessions.sessions) c.replies-stored.result) (sym content) (c.in-None.ensures.lacks image is.shows))
 
 -- ---- the bounds, of an image that shows what the tables say
 
-pub returns-else-content-eq-GREATEST_BOOT-clause-tail : goal.returns-else-content-eq-GREATEST_BOOT-clause-tail
-returns-else-content-eq-GREATEST_BOOT-clause-tail c =
+pub returns-else-content-eq-GREATEST-clause-tail : goal.returns-else-content-eq-GREATEST-clause-tail
+returns-else-content-eq-GREATEST-clause-tail c =
     let slots = c.args.slots.now.slots in
     let f = c.fields-content.result.now in
     let super = subst IsSuper (sym c.fields-content.ensures.value) c.fields-content.ensures.usable.rules in
@@ -112,11 +112,11 @@ returns-else-content-eq-GREATEST_BOOT-clause-tail c =
       most = omega (arith, bounds.order, bounds.most);
       order = not_above shape image f c.args.sessions.now.sessions c.find_known.new.sessions.sessions c.in-Ok.reach c.replies-stored.result super found number c.bound_of-bound.result bound.replies complete;
       few = few_wait shape image f c.args.sessions.now.sessions c.find_known.new.sessions.sessions c.in-Ok.reach c.replies-stored.result super found number;
-      unspent = boot_unspent f super c.if-content-eq-GREATEST_BOOT.false;
+      unspent = boot_unspent f super c.if-content-eq-GREATEST.false;
     })
 
-pub returns-else-content-eq-GREATEST_BOOT-clause-after : goal.returns-else-content-eq-GREATEST_BOOT-clause-after
-returns-else-content-eq-GREATEST_BOOT-clause-after c = λ were.
+pub returns-else-content-eq-GREATEST-clause-after : goal.returns-else-content-eq-GREATEST-clause-after
+returns-else-content-eq-GREATEST-clause-after c = λ were.
     let slots = c.args.slots.now.slots in
     let f = c.fields-content.result.now in
     let super = subst IsSuper (sym c.fields-content.ensures.value) c.fields-content.ensures.usable.rules in
