@@ -20,7 +20,7 @@ use crate::{OpenError, Scanned};
 use arrayvec::ArrayVec;
 use df_base::Check;
 use df_disk::Disk;
-use df_rooms::{DataFile, FileRooms, LogRooms, Rooms};
+use df_rooms::{DataFile, LogRooms, Rooms};
 
 /// A file that was surveyed: what was read of it, with the sessions and their stored replies after the tail, and in its rooms the
 /// header that each slot of the header ring is to have and the list of what is to be mended; where the tail ends, how many replies
@@ -54,19 +54,6 @@ fn plan_log(file: &DataFile, copies: &Copies, head: u64, rooms: &mut LogRooms)
         &mut rooms.headers,
         &mut rooms.mends,
     );
-}
-
-// The same, in the rooms of the file.
-fn plan_rooms(file: &DataFile, copies: &Copies, head: u64, rooms: &mut FileRooms)
-    requires layout { rooms.old.layout ≡ file.now.layout }
-    requires cluster { rooms.old.log.slots.start.cluster ≡ file.now.cluster }
-    requires slots { AreSlots file.now.layout file.now.cluster rooms.old.log.slots.slots }
-    ensures planned { HavePlan file.now copies.now head rooms.new.log }
-    ensures layout { rooms.new.layout ≡ rooms.old.layout }
-    ensures slots { rooms.new.log.slots ≡ rooms.old.log.slots }
-    ensures grid { rooms.new.grid ≡ rooms.old.grid }
-{
-    plan_log(file, copies, head, &mut rooms.log);
 }
 
 // The checksums of the prepares that wait, by the tables of the rooms.
@@ -108,7 +95,8 @@ fn with_plan(traces: &Traces, scanned: Scanned) -> Surveyed
     let file = scanned.file;
     let copies = scanned.copies;
     let head = traces.tail.op;
-    plan_rooms(&file, &copies, head, &mut scanned.rooms);
+    let rooms = &mut scanned.rooms;
+    plan_log(&file, &copies, head, &mut rooms.log);
     let waiting = waits_in(
         &file,
         &scanned.rooms.log,
@@ -134,33 +122,24 @@ fn settle(scanned: Scanned) -> Result<Surveyed, (Rooms, OpenError)>
     ensures given_back { IfErr result (λ refused. refused.0.layout ≡ scanned.file.layout) }
     ensures refusal { IfErr result (λ refused. IsDamage refused.1) }
 {
-    let Scanned {
-        file,
-        copies,
-        rooms,
-        root,
-        mut sessions,
-    } = scanned;
+    let mut scanned = scanned;
+    let layout = scanned.file.layout;
+    let copies = scanned.copies;
+    let read = &mut scanned;
+    let rooms = &read.rooms;
     let found = find_state(
-        &file.layout,
+        &layout,
         &copies.found,
         &rooms.log.slots,
         &rooms.log.replies,
-        &mut sessions,
+        &mut read.sessions,
     );
     match found {
         Ok(traces) => {
-            store_replies(&mut sessions, traces.replies, &rooms.log.replies);
-            let settled = Scanned {
-                file,
-                copies,
-                rooms,
-                root,
-                sessions,
-            };
-            Ok(with_plan(&traces, settled))
+            store_replies(&mut read.sessions, traces.replies, &rooms.log.replies);
+            Ok(with_plan(&traces, scanned))
         }
-        Err(refusal) => Err((rooms.into_rooms(), refusal)),
+        Err(refusal) => Err((scanned.rooms.into_rooms(), refusal)),
     }
 }
 
