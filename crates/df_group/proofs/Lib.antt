@@ -1,6 +1,5 @@
 pub mod Asks
 pub mod Cutting
-pub mod Fronts
 pub mod Grouping
 pub mod Heads
 pub mod Walks

@@ -4,5 +4,3 @@ pub use Rattle.df_sessions.specs.Requests.{sessions_of}
 pub use Rattle.df_theory.specs.GroupLaws.{GroupRuleLaw, LostLaw}
 pub use Rattle.df_theory.specs.Tails.{BindsHead, Fits, FitsGroup}
 pub use Rattle.df_theory.specs.Sessions.{MayAsk}
-pub use Rattle.df_theory.specs.Shape.{Shape}
-pub use Rattle.df_theory.specs.View.{Checkpoint}

@@ -1,5 +1,5 @@
-//! Groups of prepares, over plain headers and without a disk: which prepare fits after others, how far a list of them reaches and where
-//! its last whole group ends, and what a header or a prepare above that end says of it.
+//! Groups of prepares, over plain headers and without a disk: which prepare fits after others, where the last whole group of a walk
+//! along them ends, and what a header or a prepare above that end says of it.
 #![tactic(auto)]
 
 mod cut;
@@ -11,5 +11,5 @@ mod words;
 pub use cut::binding_op;
 pub use fits::goes_on;
 pub use groups::{Position, Tail, empty_tail, position_behind, position_of};
-pub use reach::{Reach, keep_whole, reach_of};
+pub use reach::{Reach, keep_whole};
 pub use words::{groups_follow_one_another, head_is_told, lost_is_told, survivors_are_told};

@@ -1,9 +1,12 @@
 // How far prepares go on after a checkpoint of op 4, and where the last whole group among them ends. Expected values are those of the
 // rules on groups, worked out by hand.
-ghost use Rattle.std.specs.Prelude.{◌≤◌};
+ghost use Rattle.std.specs.Prelude.{◌≡◌, ◌≤◌};
 
 use df_format::{Header, Kind};
-use df_group::{groups_follow_one_another, reach_of};
+use df_group::{
+    Position, Tail, empty_tail, goes_on, groups_follow_one_another, keep_whole, position_behind,
+    position_of,
+};
 use df_sessions::SessionTable;
 use std::alloc::Global;
 use std::process::Abort;
@@ -27,13 +30,50 @@ fn prepare(op: u8, group: u8, group_last: u8) -> Header {
     }
 }
 
+// Where a walk along these prepares stands, with the sessions there, and where its last whole group ends, with the sessions there.
+#[derive(Drop)]
+struct Walk {
+    at: Position,
+    ahead: SessionTable,
+    tail: Tail,
+    sessions: SessionTable,
+    ghost places: { ahead.max ≡ 64 },
+}
+
+// A walk that begins after the checkpoint.
+fn begun() -> Walk {
+    let tail = empty_tail(4, &[4; 16]);
+    Walk {
+        at: position_behind(&tail),
+        ahead: SessionTable::new(64),
+        tail,
+        sessions: SessionTable::new(64),
+    }
+}
+
+// Goes on to the next prepare, if it fits where the walk stands, and says whether it did.
+fn step(rt: &impl Abort, walk: &mut Walk, head: u64, next: &Header) -> bool {
+    assert!(rt; next.client > 0 && next.op > 0 && next.op - 1 == walk.at.last.op);
+    let at = position_of(next);
+    if at.group_last < next.op || !goes_on(head, &walk.at, &walk.ahead, 64, next) {
+        return false;
+    }
+    assert!(rt; walk.ahead.len() < 64);
+    walk.ahead.apply(next.client, next.request, next.op);
+    walk.at = at;
+    keep_whole(&walk.at, &walk.ahead, &mut walk.tail, &mut walk.sessions);
+    true
+}
+
 // The ops of the tail and of the reach that are found of these prepares, where the superblock names a head.
 fn found(rt: &impl Abort, taken: &[Header], head: u64) -> (u64, u64) {
-    // no more prepares wait
-    assert!(rt; taken.len() <= 8);
-    let mut sessions = SessionTable::new(64);
-    let reach = reach_of(4, &[4; 16], head, 64, taken, &mut sessions);
-    (reach.tail.op, reach.op)
+    let mut walk = begun();
+    for next in taken {
+        if !step(rt, &mut walk, head, next) {
+            return (walk.tail.op, walk.at.last.op);
+        }
+    }
+    (walk.tail.op, walk.at.last.op)
 }
 
 // The groups of ops 5 to 8, each by its first and its last op; the head that the superblock names; and the ops of the tail and of the
