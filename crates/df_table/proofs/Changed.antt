@@ -74,3 +74,8 @@ module _ (layout : Layout) (rows : Map) (c : Change) (s : Replica) where
 pub goes_or_ends : {T : Type 0} (result : Result T Ending) (t : Replica) (new : Option Told) → OnOk result (t.live ≡ true) → IfErr result (IsOfCall new) → GoesOrEnds result t new
 goes_or_ends (Ok x) t new live ends = live
 goes_or_ends (Err ending) t new live ends = ends
+
+-- of one that goes on they may
+pub goes_on : {T : Type 0} (result : Result T Ending) (t : Replica) (new : Option Told) → GoesOrEnds result t new → OnOk result (t.live ≡ true)
+goes_on (Ok x) t new goes = goes
+goes_on (Err ending) t new goes = tt

@@ -1,5 +1,5 @@
 // A checkpoint of the table: its blocks are written while the live ones, and so those that the durable checkpoint references, are let go; the checkpoint refers to the new ones alone.
-ghost use Rattle.std.specs.Prelude.{◌≡◌, ◌<◌, ◌≤◌, ◌*◌, [], ◌∷◌, true, length, None, Some, IfErr, OnOk};
+ghost use Rattle.std.specs.Prelude.{◌≡◌, ◌<◌, ◌≤◌, ◌*◌, [], ◌∷◌, true, length, None, Some, OnOk};
 ghost use Rattle.std.specs.FinMap as map;
 ghost use Rattle.df_base.specs.Causes.{IsBlamed};
 ghost use Rattle.df_layout.specs.declared.layout.Layout.{Layout as Shape};
@@ -12,7 +12,6 @@ ghost use Rattle.df_table.specs.Calls.{Advances, Checkpoints, Comes, Concludes, 
 ghost use Rattle.df_table.specs.Policy.{body_at, is_full, releases, releases_at, writes};
 ghost use Rattle.df_table.specs.Ready.{HasFree, HasRingRoom, IsEmptied, IsFinished, IsReadyReplica, WroteBlocks, without_live};
 ghost use Rattle.df_table.specs.Statuses.{is_disk};
-ghost use Rattle.df_table.specs.Turns.{IsOfCall};
 
 use crate::calls::{begin, release, step, write};
 use crate::ending::Ending;
@@ -38,8 +37,7 @@ fn release_at<D: Disk>(disk: &mut D, replica: &mut Replica, address: u64) -> Res
     requires live { replica.old.live ≡ true }
     ensures makes { Comes (releases_at address (memory replica.old)) replica.old replica.new (D.told disk.old) (D.told disk.new) result }
     ensures state { OnOk result (replica.new ≡ released replica.old address) }
-    ensures live { OnOk result (replica.new.live ≡ true) }
-    ensures ends { IfErr result (IsOfCall (D.told disk.new)) }
+    ensures goes { GoesOrEnds result replica.new (D.told disk.new) }
     ensures disk { IsBlamed is_disk (D.faults disk.old) (D.faults disk.new) result }
 {
     match replica.reference(address) {
@@ -53,8 +51,7 @@ fn release_all<D: Disk>(disk: &mut D, replica: &mut Replica, layout: &Layout) ->
     requires live { replica.old.live ≡ true }
     ensures makes { IsReadyReplica layout.now replica.old → Comes (releases (memory replica.old)) replica.old replica.new (D.told disk.old) (D.told disk.new) result }
     ensures state { IsReadyReplica layout.now replica.old → OnOk result (replica.new ≡ without_live replica.old) }
-    ensures live { OnOk result (replica.new.live ≡ true) }
-    ensures ends { IfErr result (IsOfCall (D.told disk.new)) }
+    ensures goes { GoesOrEnds result replica.new (D.told disk.new) }
     ensures disk { IsBlamed is_disk (D.faults disk.old) (D.faults disk.new) result }
 {
     for before in 0..u64::from(layout.blocks) {
@@ -102,8 +99,7 @@ fn write_table<D: Disk>(
     ensures makes { replica.old.file.layout ≡ layout.now → HasFree layout.now replica.old.blocks (limits.block_count (limits.rows_in_block layout.now) (map.len table.now.rows))
         → Comes (writes layout.now table.now.rows) replica.old replica.new (D.told disk.old) (D.told disk.new) result }
     ensures wrote { OnOk result (WroteBlocks (limits.block_count (limits.rows_in_block layout.now) (map.len table.now.rows)) replica.old replica.new) }
-    ensures live { OnOk result (replica.new.live ≡ true) }
-    ensures ends { IfErr result (IsOfCall (D.told disk.new)) }
+    ensures goes { GoesOrEnds result replica.new (D.told disk.new) }
     ensures disk { IsBlamed is_disk (D.faults disk.old) (D.faults disk.new) result }
 {
     for block in 0..table.blocks(layout) {
@@ -121,8 +117,7 @@ fn finish<D: Disk>(disk: &mut D, replica: &mut Replica) -> Result<(), Ending>
     requires runs { IsCheckpointing replica.old }
     ensures makes { Advances replica.old replica.new (D.told disk.old) (D.told disk.new) result }
     ensures finished { (r : RunningState) → replica.old.running ≡ Some r → OnOk result (IsFinished r replica.old replica.new) }
-    ensures live { OnOk result (replica.new.live ≡ true) }
-    ensures ends { IfErr result (IsOfCall (D.told disk.new)) }
+    ensures goes { GoesOrEnds result replica.new (D.told disk.new) }
     ensures disk { IsBlamed is_disk (D.faults disk.old) (D.faults disk.new) result }
 {
     loop {
@@ -142,8 +137,7 @@ fn conclude<D: Disk>(disk: &mut D, replica: &mut Replica) -> Result<(), Ending>
     requires live { replica.old.live ≡ true }
     ensures makes { MayBegin replica.old → Concludes replica.old replica.new (D.told disk.old) (D.told disk.new) result }
     ensures finished { OnOk result (IsFinished (captured replica.old []) (with_checkpoint_begun replica.old []) replica.new) }
-    ensures live { OnOk result (replica.new.live ≡ true) }
-    ensures ends { IfErr result (IsOfCall (D.told disk.new)) }
+    ensures goes { GoesOrEnds result replica.new (D.told disk.new) }
     ensures disk { IsBlamed is_disk (D.faults disk.old) (D.faults disk.new) result }
 {
     match begin(replica) {
@@ -165,8 +159,7 @@ fn fill<D: Disk>(
     ensures makes { (s : Standing) → IsEmptied layout.now s replica.old → map.len table.now.rows ≤ limits.most_rows layout.now
         → Fills layout.now table.now.rows replica.old replica.new (D.told disk.old) (D.told disk.new) result }
     ensures room { (s : Standing) → IsEmptied layout.now s replica.old → map.len table.now.rows ≤ limits.most_rows layout.now → OnOk result (HasRingRoom layout.now s replica.new) }
-    ensures live { OnOk result (replica.new.live ≡ true) }
-    ensures ends { IfErr result (IsOfCall (D.told disk.new)) }
+    ensures goes { GoesOrEnds result replica.new (D.told disk.new) }
     ensures disk { IsBlamed is_disk (D.faults disk.old) (D.faults disk.new) result }
 {
     match write_table(disk, replica, table, layout, buffer) {
@@ -188,8 +181,7 @@ pub(crate) fn checkpoint<D: Disk>(
     ensures makes { IsReadyReplica layout.now replica.old → map.len table.now.rows ≤ limits.most_rows layout.now
         → Checkpoints layout.now table.now.rows replica.old replica.new (D.told disk.old) (D.told disk.new) result }
     ensures room { IsReadyReplica layout.now replica.old → map.len table.now.rows ≤ limits.most_rows layout.now → OnOk result (HasRingRoom layout.now replica.old replica.new) }
-    ensures live { OnOk result (replica.new.live ≡ true) }
-    ensures ends { IfErr result (IsOfCall (D.told disk.new)) }
+    ensures goes { GoesOrEnds result replica.new (D.told disk.new) }
     ensures disk { IsBlamed is_disk (D.faults disk.old) (D.faults disk.new) result }
 {
     match release_all(disk, replica, layout) {

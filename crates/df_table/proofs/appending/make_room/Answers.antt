@@ -1,6 +1,6 @@
 -- A checkpoint comes first where the ring is full, and else nothing.
 use Rattle.std.proofs.Common.{◌∙◌, refl, sym}
-use Rattle.df_table.proofs.Changed.{goes_or_ends, room_left, room_made}
+use Rattle.df_table.proofs.Changed.{room_left, room_made}
 use Rattle.df_table.proofs.appending.make_room.Goals as goal
 
 pub returns-then-is_full-clause-makes : goal.returns-then-is_full-clause-makes
@@ -14,6 +14,3 @@ returns-else-is_full-clause-makes g c = λ ready few.
 
 pub returns-else-is_full-clause-room : goal.returns-else-is_full-clause-room
 returns-else-is_full-clause-room g c = λ ready few. record { ready = ready; room = sym (c.is_full.ensures c.args.session.now.layout ready) ∙ c.if-is_full.false; head = refl; sessions = refl }
-
-pub returns-then-is_full-clause-goes : goal.returns-then-is_full-clause-goes
-returns-then-is_full-clause-goes g c = goes_or_ends c.checkpoint.result c.checkpoint.new.replica (g.D.Disk.told c.checkpoint.new.disk) c.checkpoint.ensures.live c.checkpoint.ensures.ends

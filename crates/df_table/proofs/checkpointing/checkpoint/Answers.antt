@@ -2,6 +2,9 @@
 use Rattle.df_table.proofs.Finished.{checkpoint_ends, checkpointed, emptied}
 use Rattle.df_table.proofs.checkpointing.checkpoint.Goals as goal
 
+pub fill-requires : goal.fill-requires
+fill-requires g c = record { live = c.in-Ok.ensures.goes; buffer = c.requires.buffer }
+
 pub returns-in-Ok-clause-makes : goal.returns-in-Ok-clause-makes
 returns-in-Ok-clause-makes g c = λ ready few.
     let s = c.args.replica.now in

@@ -27,8 +27,8 @@ returns-in-Ok-clause-finished g c =
 pub returns-in-Err-clause-makes : goal.returns-in-Err-clause-makes
 returns-in-Err-clause-makes g c = λ may. (0, c.in-Err.ensures.makes (g.D.Disk.told c.args.disk.now) may)
 
-pub returns-in-Err-clause-ends : goal.returns-in-Err-clause-ends
-returns-in-Err-clause-ends g c = subst (IsOfCall (g.D.Disk.told c.args.disk.now)) (sym c.in-Err.ensures.spent) tt
+pub returns-in-Err-clause-goes : goal.returns-in-Err-clause-goes
+returns-in-Err-clause-goes g c = subst (IsOfCall (g.D.Disk.told c.args.disk.now)) (sym c.in-Err.ensures.spent) tt
 
 pub returns-in-Err-clause-disk : goal.returns-in-Err-clause-disk
 returns-in-Err-clause-disk g c = let faults = g.D.Disk.faults c.args.disk.now in subst (λ (e : Ending). Blamed (is_disk e) faults faults) (sym c.in-Err.ensures.spent) refl

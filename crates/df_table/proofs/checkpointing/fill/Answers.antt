@@ -4,11 +4,12 @@ use Rattle.std.specs.FinMap as map
 use Rattle.df_rows.specs.Limits.{block_count, rows_in_block}
 use Rattle.df_rows.proofs.Laws.{tables_fit}
 use Rattle.df_session.specs.Below.{State as Replica}
+use Rattle.df_table.proofs.Changed.{goes_on}
 use Rattle.df_table.proofs.Finished.{fill_ends, filled, free_emptied, may_conclude, room_made}
 use Rattle.df_table.proofs.checkpointing.fill.Goals as goal
 
 pub conclude-requires : goal.conclude-requires
-conclude-requires g c = record { live = c.in-Ok.ensures.live }
+conclude-requires g c = record { live = c.in-Ok.ensures.goes }
 
 pub returns-in-Ok-clause-makes : goal.returns-in-Ok-clause-makes
 returns-in-Ok-clause-makes g c = λ s e few.
@@ -25,7 +26,7 @@ returns-in-Ok-clause-room g c = λ s e few.
     let there = ap (λ (r : Replica). r.file.layout) e.state ∙ e.ready.layout_is in
     room_made c.args.layout.now s c.args.replica.now e n fits c.write_table.new.replica c.in-Ok.ensures.wrote c.conclude.new.replica (g.D.Disk.told c.args.disk.now) (g.D.Disk.told c.write_table.new.disk) (g.D.Disk.told c.conclude.new.disk)
     c.args.table.now.rows c.conclude.result (c.in-Ok.ensures.makes there (free_emptied c.args.layout.now s c.args.replica.now e n fits))
-    (c.conclude.ensures.makes (may_conclude c.args.layout.now s c.args.replica.now e n fits c.write_table.new.replica c.in-Ok.ensures.wrote)) c.conclude.ensures.finished c.conclude.ensures.live
+    (c.conclude.ensures.makes (may_conclude c.args.layout.now s c.args.replica.now e n fits c.write_table.new.replica c.in-Ok.ensures.wrote)) c.conclude.ensures.finished (goes_on c.conclude.result c.conclude.new.replica (g.D.Disk.told c.conclude.new.disk) c.conclude.ensures.goes)
 
 pub returns-in-Err-clause-makes : goal.returns-in-Err-clause-makes
 returns-in-Err-clause-makes g c = λ s e few.

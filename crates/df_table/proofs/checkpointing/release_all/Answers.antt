@@ -19,7 +19,7 @@ loop-before-preserved g c =
     record {
       releasing = λ ready. next_released ready.work.live c.args.layout.now.blocks now.before less c.args.replica.now now.replica (g.D.Disk.told c.args.disk.now) (g.D.Disk.told now.disk) (now.invariant.releasing ready)
           c.release_at.new.replica (g.D.Disk.told c.release_at.new.disk) c.in-Ok.ensures.state c.in-Ok.ensures.makes;
-      live = c.in-Ok.ensures.live;
+      live = c.in-Ok.ensures.goes;
       disk_faults = c.in-Ok.ensures.disk ∙ now.invariant.disk_faults;
     }
 

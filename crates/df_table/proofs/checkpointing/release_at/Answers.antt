@@ -1,6 +1,7 @@
 -- The block is let go where one is live, and else nothing is done.
 use Rattle.std.proofs.Common.{ap, sym}
 use Rattle.df_model.specs.Work.{is_known}
+use Rattle.df_table.proofs.Changed.{goes_or_ends}
 use Rattle.df_table.proofs.Released.{release_none, release_some, released_none}
 use Rattle.df_table.proofs.checkpointing.release_at.Goals as goal
 
@@ -16,3 +17,6 @@ returns-in-None-clause-makes g c = release_none c.args.address c.args.replica.no
 
 pub returns-in-None-clause-state : goal.returns-in-None-clause-state
 returns-in-None-clause-state g c = released_none c.args.address c.args.replica.now (sym (rw c.in-None.is at c.reference.ensures))
+
+pub returns-in-Some-clause-goes : goal.returns-in-Some-clause-goes
+returns-in-Some-clause-goes g c = goes_or_ends c.release.result c.release.new.replica (g.D.Disk.told c.release.new.disk) c.release.ensures.live c.release.ensures.ends
