@@ -13,6 +13,7 @@ mod ring;
 mod scrubbing;
 mod serving;
 mod session;
+mod spoken;
 mod status;
 mod telling;
 mod turns;

@@ -1,6 +1,5 @@
 // The session over a script: one turn for each line and the work after it, until there is none, one is refused, or something fails.
 ghost use Rattle.std.specs.Prelude.{◌≡◌, ◌<◌, ◌≤◌, ◌^◌, length, true};
-ghost use Rattle.df_inspect.specs.Answers.{command_of as call_of};
 ghost use Rattle.df_lines.specs.Grammar.{body_length, said_with};
 ghost use Rattle.df_pace.specs.Beats.{beat_after_line};
 ghost use Rattle.df_top.specs.Lines.{command_of_line};
@@ -14,60 +13,15 @@ use crate::background::work;
 use crate::reads::read;
 use crate::ring::recent;
 use crate::session::Session;
+use crate::spoken::Spoken;
 use crate::status::Status;
 use crate::telling::serve;
 use df_base::{Sink, Source};
 use df_disk::Disk;
-use df_lines::{Line, LineRoom, Next};
+use df_lines::{Line, Next};
 use df_model::Command;
 use df_pace::Beat;
 use df_program::{Turn, refuse_line};
-
-// What a line asks for, whose body is in the reader's buffer.
-fn asked(lines: &LineRoom, line: Line) -> Command<'_>
-    requires { body_length line ≤ length lines.now.body }
-    ensures { call_of result ≡ command_of_line (said_with lines.now.body line) }
-{
-    match line {
-        Line::Append {
-            client,
-            request,
-            length,
-        } => Command::Append {
-            client,
-            request,
-            body: lines.body(length),
-        },
-        Line::Stage {
-            client,
-            request,
-            length,
-        } => Command::Stage {
-            body: lines.body(length),
-            client,
-            request,
-        },
-        Line::Flush => Command::Flush,
-        Line::Reply { op, length } => Command::Reply {
-            op,
-            body: lines.body(length),
-        },
-        Line::Block { kind, length } => Command::WriteBlock {
-            kind,
-            body: lines.body(length),
-        },
-        Line::Release { address } => Command::Release { address },
-        Line::Checkpoint { length } => Command::Begin {
-            root: lines.body(length),
-        },
-        Line::Step => Command::Advance,
-        Line::Prepare { op } => Command::ReadPrepare { op },
-        Line::Lookup { client } => Command::ReadReply { client },
-        Line::Read { address } => Command::ReadBlock { address },
-        Line::Scrub => Command::Scrub,
-        Line::Recent => Command::Recent,
-    }
-}
 
 // Makes the call that a line asks for, and prints what it answers.
 fn execute<D: Disk, W: Sink>(
@@ -86,7 +40,8 @@ fn execute<D: Disk, W: Sink>(
     ensures sink { BlamesIfEnds Status.WriteFault (W.faults sink.old) (W.faults sink.new) result }
 {
     let replica = &mut session.replica;
-    let command = asked(&session.lines, line);
+    let lines = &session.lines;
+    let command = Command::from(Spoken { line, lines });
     match command {
         Command::ReadPrepare { op: _ }
         | Command::ReadReply { client: _ }

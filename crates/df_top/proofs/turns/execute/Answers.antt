@@ -13,7 +13,7 @@ served : (line asked : Command) (s t : Replica) (old new : Option Told) (written
 served line asked s t old new written took turn is did = subst (λ (c : Command). AnswersCommand c s t old new written took turn) is did
 
 pub returns-in-Recent-clause-answers : goal.returns-in-Recent-clause-answers
-returns-in-Recent-clause-answers g c = served _ _ _ _ _ _ _ _ _ (sym (ap command_of c.in-Recent.is) ∙ c.asked-command.ensures) (c.recent.ensures.answers (g.D.Disk.told c.args.disk.now))
+returns-in-Recent-clause-answers g c = served _ _ _ _ _ _ _ _ _ (sym (ap command_of c.in-Recent.is) ∙ c.from-command.ensures) (c.recent.ensures.answers (g.D.Disk.told c.args.disk.now))
 
 pub returns-in-Recent-clause-disk : goal.returns-in-Recent-clause-disk
 returns-in-Recent-clause-disk g c = c.recent.ensures.disk (g.D.Disk.faults c.args.disk.now)
