@@ -1,17 +1,17 @@
 // What a copy prints: how large the target is, or why there is none.
-ghost use Rattle.std.specs.Prelude.{◌≡◌, ◌≤◌, false, length, true};
+ghost use Rattle.std.specs.Prelude.{◌≡◌, false, true};
 ghost use Rattle.df_base.specs.Causes.{HasCause};
 ghost use Rattle.df_inspect.specs.Prints.{Prints};
 ghost use Rattle.df_layout.specs.Zones.{file_sectors};
 ghost use Rattle.df_program.specs.Telling.{Blames, Writes};
 ghost use Rattle.df_copy.specs.Statuses.{is_fault};
-ghost use Rattle.df_copy.specs.Texts.{copied_text, ending_text, two_numbers};
+ghost use Rattle.df_copy.specs.Texts.{copied_text, ending_text};
 
 use crate::ending::Ending;
 use crate::status::Status;
 use arrayvec::ArrayVec;
 use df_base::{Failed, Sink};
-use df_inspect::{Line, number_line, put, put_number, write_line};
+use df_inspect::{Line, number_line, put, put_number, two_numbers_line, write_line};
 use df_layout::Layout;
 use df_program::{end_line, ended, print_damaged};
 
@@ -25,24 +25,6 @@ pub(crate) fn tell_copied<W: Sink>(sink: &mut W, layout: &Layout) -> Status
 {
     let line = number_line("copied", u128::from(layout.sectors()));
     end_line(sink, &line, Status::Done)
-}
-
-// Words and a number, a word and a number.
-fn two_numbers_line(words: &str, number: u64, word: &str, other: u64) -> Line
-    requires words { length words.now ≤ 60 }
-    requires word { length word.now ≤ 60 }
-    ensures { result.items ≡ two_numbers words.now number word.now other }
-{
-    let mut line = ArrayVec::new();
-    put(&mut line, words);
-    put(&mut line, " ");
-    put_number(&mut line, u128::from(number));
-    put(&mut line, " ");
-    put(&mut line, word);
-    put(&mut line, " ");
-    put_number(&mut line, u128::from(other));
-    put(&mut line, "\n");
-    line
 }
 
 // The line on a source that isn't at rest.
