@@ -2,16 +2,4 @@
 #![tactic(auto)]
 
 #[cfg(test)]
-mod bytes;
-#[cfg(test)]
-mod dropping;
-#[cfg(test)]
-mod files;
-#[cfg(test)]
-mod guarded;
-#[cfg(test)]
-mod memory;
-#[cfg(test)]
-mod rows;
-#[cfg(test)]
-mod streams;
+mod tests;

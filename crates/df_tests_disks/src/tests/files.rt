@@ -1,7 +1,7 @@
 // What no contract can say: which bytes reach a file and come from it, and what short and
 // interrupted reads leave in the buffer.
-use crate::guarded::{Guarded, Turn};
-use crate::rows::{Call, Row, assert_answers, sector_of};
+use crate::tests::guarded::{Guarded, Turn};
+use crate::tests::rows::{Call, Row, assert_answers, sector_of};
 use df_base::{Failed, SECTOR};
 use df_disk::Disk;
 use df_filedisk::FileDisk;

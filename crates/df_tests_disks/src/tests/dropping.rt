@@ -1,6 +1,6 @@
 // A disk that loses its second and third write, over one whose third device call fails.
-use crate::memory::failing;
-use crate::rows::{Call, assert_answers};
+use crate::tests::memory::failing;
+use crate::tests::rows::{Call, assert_answers};
 use df_base::Failed;
 use df_memdisk::DroppingDisk;
 

@@ -1,8 +1,8 @@
 // What no contract can say: where it isn't sure that a file would stay off the numbers of the standard streams, it isn't
 // opened, nor made.
-use crate::files::{FAILING, assert_over};
-use crate::guarded::Guarded;
-use crate::rows::Call;
+use crate::tests::files::{FAILING, assert_over};
+use crate::tests::guarded::Guarded;
+use crate::tests::rows::Call;
 use std::fs;
 
 #[test]

@@ -1,7 +1,7 @@
 // Each call once, on rows whose outcome is known beforehand.
 ghost use Rattle.std.specs.Prelude.{◌≤◌};
 
-use crate::rows::{Call, assert_answers};
+use crate::tests::rows::{Call, assert_answers};
 use df_base::{Failed, SECTOR};
 use df_disk::Disk;
 use df_memdisk::{Change, MemoryDisk, StopError, Strike};
