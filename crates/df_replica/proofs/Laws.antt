@@ -4,3 +4,4 @@ pub use Rattle.df_replica.proofs.Sessions.{answered_is_there, fault_stops_them, 
 pub use Rattle.df_replica.proofs.Leaves.{durable_held}
 pub use Rattle.df_replica.proofs.LentCalls.{call_is_own, call_is_the_one, struck_reads_are_own}
 pub use Rattle.df_replica.proofs.LentKept.{kept_is_written, opened_is_written_for}
+pub use Rattle.df_replica.proofs.Owns.{adds_none, on_running}

@@ -1,4 +1,5 @@
 pub mod Unblamed
+pub mod Owns
 pub mod ReadCalls
 pub mod ReadFinds
 pub mod LookupSessions

@@ -16,6 +16,7 @@ pub mod Blocks
 pub mod BlockReads
 pub mod Scrubbing
 pub mod Supply
+pub mod Own
 pub mod Session
 pub mod Lending
 pub mod Striking

@@ -1,13 +1,16 @@
 // The append of a replica: the next prepare is made in its room, and is durable, with its header, before anything in memory
 // moves on.
 ghost use Rattle.std.specs.Prelude.{◌≡◌, ◌+◌, ℕ, List, length, true, IsSome, IfOk, OnErr, OnOk};
-ghost use Rattle.df_replica.specs.Below.{HasCause, IsBlamed, Adds, WalPrepares, Prepare as AsPrepare, for_body, own_place, place_in, ObeysRules, IsCheck, with_header as table_with, Append, is_append_fault, append_refusals, first_refusal, IsState, memory};
+ghost use Rattle.df_replica.specs.Below.{HasCause, IsBlamed, Adds, WalPrepares, Prepare as AsPrepare, for_body, own_place, place_in, ObeysRules};
+ghost use Rattle.df_replica.specs.Below.{IsCheck, with_header as table_with, Append, is_append_fault, append_refusals, first_refusal, IsState, memory};
 ghost use Rattle.df_journal.specs.Below.{IsInOwnSlot};
 ghost use Rattle.df_sessions.specs.Table.{IsSessionTable as IsSessions};
 ghost use Rattle.df_replica.specs.Answering.{Serves, answer_of, as_append};
 ghost use Rattle.df_opening.specs.Held.{AreLogRoomsOf};
+ghost use Rattle.df_replica.specs.Own.{AddsOwn};
 ghost use Rattle.df_replica.specs.Refusing.{AreCounters};
-ghost use Rattle.df_replica.specs.Appending.{IsAppendCall, IsMadeUnit, MayBeMade, MayNext, MayNote, append_events, header_given, next_unit, noted, prepare_events, receipt_of, unit_made, with_header, with_prepare_appended};
+ghost use Rattle.df_replica.specs.Appending.{IsAppendCall, IsMadeUnit, MayBeMade, MayNext, MayNote, append_events, header_given, next_unit};
+ghost use Rattle.df_replica.specs.Appending.{noted, prepare_events, receipt_of, unit_made, with_header, with_prepare_appended};
 
 use crate::refusing::{Counters, request_refusal, session_of, staged_refusal};
 use crate::{DataFile, Replica};
@@ -178,6 +181,7 @@ impl Replica {
         requires live { self.old.live ≡ true }
         ensures exact { IsAppendCall client request body.now self.old self.new (D.told disk.old) (D.told disk.new) result }
         ensures call { Serves (Append client request body.now) self.old self.new (D.told disk.old) (D.told disk.new) (answer_of is_append_fault as_append result) }
+        ensures own { AddsOwn (Append client request body.now) self.old (D.told disk.old) (D.told disk.new) (answer_of is_append_fault as_append result) }
         ensures cause { IsBlamed is_append_fault (D.faults disk.old) (D.faults disk.new) result }
     {
         if let Some(error) = self.append_refusal(client, request, body.len() as u64) {

@@ -1,10 +1,13 @@
 // The calls that write a block and let one go. A block is made in its own room and written to the least address that isn't held,
 // without a sync: the next checkpoint makes it durable.
 ghost use Rattle.std.specs.Prelude.{◌≡◌, ◌<◌, ℕ, List, Option, length, slice_get, true, Some, IfOk, IsSome, OnErr, OnOk};
-ghost use Rattle.df_replica.specs.Below.{HasCause, IsBlamed, Adds, Told, Grid as InGrid, for_body, own_place, place_in, ObeysRules, number_of, number_in, IsUnheld, with_blocks as grid_of, made_events, block_written, sum_at, Release, WriteBlock, is_block_fault, next_address, Memory, block_room, free_of, block_refusals, first_refusal, IsState, grid_with, memory};
+ghost use Rattle.df_replica.specs.Below.{HasCause, IsBlamed, Adds, Told, Grid as InGrid, for_body, own_place, place_in, ObeysRules, number_of, number_in};
+ghost use Rattle.df_replica.specs.Below.{IsUnheld, with_blocks as grid_of, made_events, block_written, sum_at, Release, WriteBlock, is_block_fault};
+ghost use Rattle.df_replica.specs.Below.{next_address, Memory, block_room, free_of, block_refusals, first_refusal, IsState, grid_with, memory};
 ghost use Rattle.df_replica.specs.Answering.{Serves, answer_of, as_write_block, release_answer};
 ghost use Rattle.df_replica.specs.Appending.{IsMadeUnit, unit_made};
 ghost use Rattle.df_replica.specs.Blocks.{IsRelease, IsWriteBlock, MayPut, MayWriteNext, address_or, block_events, block_header_given, next_block, written};
+ghost use Rattle.df_replica.specs.Own.{AddsOwn};
 
 use crate::Replica;
 use df_base::{Check, Failed, HEADER};
@@ -142,6 +145,7 @@ impl Replica {
         requires live { self.old.live ≡ true }
         ensures exact { IsWriteBlock kind body.now self.old self.new (D.told disk.old) (D.told disk.new) result }
         ensures call { Serves (WriteBlock kind body.now) self.old self.new (D.told disk.old) (D.told disk.new) (answer_of is_block_fault as_write_block result) }
+        ensures own { AddsOwn (WriteBlock kind body.now) self.old (D.told disk.old) (D.told disk.new) (answer_of is_block_fault as_write_block result) }
         ensures cause { IsBlamed is_block_fault (D.faults disk.old) (D.faults disk.new) result }
     {
         let address = match self.address_for(kind, body.len() as u64) {

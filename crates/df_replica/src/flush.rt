@@ -1,16 +1,18 @@
 // Requests that are staged, and the flush that appends them as one group. A staged request is in memory alone, its body in the room
 // that its prepare is made in and written from.
-ghost use Rattle.std.specs.Prelude.{◌≡◌, ◌≤◌, ◌<◌, ◌+◌, ◌++◌, ℕ, List, [], length, option_map, true, Option, IfSome, IsSome, OnErr, OnOk};
-ghost use Rattle.df_base.specs.declared.TheConstants.{GREATEST, HEADER};
-ghost use Rattle.df_replica.specs.Below.{HasCause, IsBlamed, Adds, WalPrepares, for_body, own_place, ObeysRules, Stage, Flush, is_flush_fault, stage_refusals, first_refusal, session_of_client, session_of, IsState, Told, memory, counted_staged};
+ghost use Rattle.std.specs.Prelude.{◌≡◌, ◌≤◌, ◌<◌, ◌+◌, ◌++◌, ◌^◌, ℕ, List, [], length, option_map, true, Option, IfSome, IsSome, OnErr, OnOk};
+ghost use Rattle.df_replica.specs.Below.{HasCause, IsBlamed, Adds, WalPrepares, for_body, own_place, ObeysRules, Stage, Flush, is_flush_fault};
+ghost use Rattle.df_replica.specs.Below.{stage_refusals, first_refusal, session_of_client, session_of, IsState, Told, memory, counted_staged};
 ghost use Rattle.df_opening.specs.Below.{AreStaging};
 ghost use Rattle.df_journal.specs.Flush.{AreOwn, held_prepares, with_headers};
 ghost use Rattle.df_journal.specs.Tail.{AreNumbered};
 ghost use Rattle.df_opening.specs.Held.{AreLogRoomsOf};
 ghost use Rattle.df_sessions.specs.Table.{IsSessionTable as IsSessions};
 ghost use Rattle.df_replica.specs.Answering.{Serves, answer_of, as_flush, stage_answer};
+ghost use Rattle.df_replica.specs.Own.{AddsOwn};
 ghost use Rattle.df_replica.specs.Refusing.{AreCounters};
-ghost use Rattle.df_replica.specs.Flushing.{AreHeld, AreMadeFor, AreSmall, HavePlaces, IsFlush, IsStage, MayBeIn, MaySeal, checks_of, flush_events, flush_units, flushed, group_events, group_in, group_prepares, header_in, last_check, request_made, sessions_staged, staged_with, with_requests};
+ghost use Rattle.df_replica.specs.Flushing.{AreHeld, AreMadeFor, AreSmall, HavePlaces, IsFlush, IsStage, MayBeIn, MaySeal, checks_of, flush_events, flush_units, flushed};
+ghost use Rattle.df_replica.specs.Flushing.{group_events, group_in, group_prepares, header_in, last_check, request_made, sessions_staged, staged_with, with_requests};
 
 use crate::refusing::{Counters, request_refusal, session_of};
 use crate::{DataFile, Replica};
@@ -294,6 +296,7 @@ impl Replica {
         requires live { self.old.live ≡ true }
         ensures exact { IsFlush self.old self.new (D.told disk.old) (D.told disk.new) result }
         ensures call { Serves Flush self.old self.new (D.told disk.old) (D.told disk.new) (answer_of is_flush_fault as_flush result) }
+        ensures own { AddsOwn Flush self.old (D.told disk.old) (D.told disk.new) (answer_of is_flush_fault as_flush result) }
         ensures cause { IsBlamed is_flush_fault (D.faults disk.old) (D.faults disk.new) result }
     {
         let count = self.parts.staging.len();

@@ -1,13 +1,15 @@
 // The reply of a replica: the next reply is made in its room, and is durable in its client's slot before anything in memory
 // moves on. Replies are stored in order of op.
 ghost use Rattle.std.specs.Prelude.{◌≡◌, ◌<◌, ◌+◌, ◌^◌, ℕ, List, length, slice_get, true, Some, IsSome, IfOk, OnErr, OnOk};
-ghost use Rattle.df_replica.specs.Below.{HasCause, IsBlamed, Adds, ClientReplies, for_body, own_place, place_in, ObeysRules, IsCheck, sessions_of, is_reply_fault, place_of_op, first_refusal, reply_refusals, IsState, memory};
+ghost use Rattle.df_replica.specs.Below.{HasCause, IsBlamed, Adds, ClientReplies, for_body, own_place, place_in, ObeysRules, IsCheck};
+ghost use Rattle.df_replica.specs.Below.{sessions_of, is_reply_fault, place_of_op, first_refusal, reply_refusals, IsState, memory};
 ghost use Rattle.df_format.specs.declared.kind.Kind.TheVariants.{Reply as AsReply};
 ghost use Rattle.df_replies.specs.Slots.{IsInReplySlot};
 ghost use Rattle.df_sessions.specs.Table.{IsSessionTable};
 ghost use Rattle.df_model.specs.Commands.{Reply as Replies};
 ghost use Rattle.df_replica.specs.Answering.{Serves, answer_of, as_reply};
 ghost use Rattle.df_replica.specs.Appending.{IsMadeUnit, MayBeMade, unit_made};
+ghost use Rattle.df_replica.specs.Own.{AddsOwn};
 ghost use Rattle.df_replica.specs.Replying.{IsReplyCall, MayReplyNext, first_check, next_reply, reply_calls, reply_events, reply_given, with_stored_reply};
 
 use crate::refusing::reply_refusal;
@@ -190,6 +192,7 @@ impl Replica {
         requires live { self.old.live ≡ true }
         ensures exact { IsReplyCall op body.now self.old self.new (D.told disk.old) (D.told disk.new) result }
         ensures call { Serves (Replies op body.now) self.old self.new (D.told disk.old) (D.told disk.new) (answer_of is_reply_fault as_reply result) }
+        ensures own { AddsOwn (Replies op body.now) self.old (D.told disk.old) (D.told disk.new) (answer_of is_reply_fault as_reply result) }
         ensures cause { IsBlamed is_reply_fault (D.faults disk.old) (D.faults disk.new) result }
     {
         if let Some(error) = self.why_no_reply(op, body.len() as u64) {

@@ -1,9 +1,12 @@
 // The steps of a running checkpoint: each writes a block of its trailer, without a sync, and the last one syncs once and writes the
 // superblock that makes the checkpoint durable.
 ghost use Rattle.std.specs.Prelude.{◌≡◌, true, length, OnErr, OnOk};
-ghost use Rattle.df_replica.specs.Below.{HasCause, IsBlamed, spelled, Adds, IsCheck, fault_of, update_events, AreStepsOfCopies, update_steps, AreSteps, block_steps, first_sum, format_of, block_of, number_of, put_copies, Advance, ToAdvance, is_step_fault, running_state, IsState};
+ghost use Rattle.df_replica.specs.Below.{HasCause, IsBlamed, spelled, Adds, IsCheck, fault_of, update_events, AreStepsOfCopies, update_steps, AreSteps, block_steps};
+ghost use Rattle.df_replica.specs.Below.{first_sum, format_of, block_of, number_of, put_copies, Advance, ToAdvance, is_step_fault, running_state, IsState};
 ghost use Rattle.df_replica.specs.Answering.{Serves, answer_of, is_step_unanswered};
-ghost use Rattle.df_replica.specs.Stepping.{IsMadeSuperblock, IsStepCall, MayAdvance, MayFinishCheckpoint, OfRunning, advanced, block_events, block_sum, block_to_write, finished, trailer_unit, captured_fields, next_fields, pending};
+ghost use Rattle.df_replica.specs.Own.{AddsOwn};
+ghost use Rattle.df_replica.specs.Stepping.{IsMadeSuperblock, IsStepCall, MayAdvance, MayFinishCheckpoint, OfRunning, advanced, block_events};
+ghost use Rattle.df_replica.specs.Stepping.{block_sum, block_to_write, finished, trailer_unit, captured_fields, next_fields, pending};
 
 use crate::Replica;
 use crate::reply::as_check;
@@ -217,6 +220,7 @@ impl Replica {
         requires live { self.old.live ≡ true }
         ensures exact { IsStepCall self.old self.new (D.told disk.old) (D.told disk.new) result }
         ensures call { Serves Advance self.old self.new (D.told disk.old) (D.told disk.new) (answer_of is_step_unanswered ToAdvance result) }
+        ensures own { AddsOwn Advance self.old (D.told disk.old) (D.told disk.new) (answer_of is_step_unanswered ToAdvance result) }
         ensures cause { IsBlamed is_step_fault (D.faults disk.old) (D.faults disk.new) result }
     {
         match self.blocks_to_come() {

@@ -1,9 +1,9 @@
 -- A call that was made is one of a list, and lists of calls are joined.
-use Rattle.std.proofs.Common.{◌≡◌, List, [], ◌∷◌, ◌++◌, Option, Some, None, inl, inr, refl, sym, subst}
+use Rattle.std.proofs.Common.{List, [], ◌∷◌, ◌++◌, Option, inl, inr, refl}
 use Rattle.df_base.specs.Log.{Event}
 use Rattle.df_disk.specs.Told as told
 use Rattle.df_disk.specs.Told.{Told}
-use Rattle.df_disk.specs.Adds.{AddsPart, after_all}
+use Rattle.df_disk.specs.Adds.{AddsPart}
 use Rattle.df_model.specs.Commands.{Answer, Command, Given}
 use Rattle.df_replica.specs.Below.{State as Replica}
 use Rattle.df_replica.specs.Answering.{Serves}
@@ -11,7 +11,7 @@ use Rattle.df_replica.specs.Opened.{ToldBy}
 use Rattle.df_replica.specs.Session.{Exchange}
 use Rattle.df_replica.specs.Supply.{IsSupplied}
 use Rattle.df_session.specs.Links.{AreCalls, Makes, More, NoCalls}
-use Rattle.df_session.specs.Own.{AddsOwn, own_events}
+use Rattle.df_session.specs.Own.{AddsOwn}
 
 -- what was told changed by a part of the events
 pub part_told : (es : List Event) (old new : Option Told) → AddsPart es old new → ToldBy old new
@@ -20,11 +20,6 @@ part_told (e ∷ es) old new (inl same) = ([], same)
 part_told (e ∷ es) old new (inr more) =
     let rest = part_told es (told.after e old) new more in
     (e ∷ rest.0, rest.1)
-
--- a command that has no device calls of its own, as a read, adds nothing
-pub adds_none : (command : Command) (s : Replica) (old new : Option Told) (answer : Option Answer) → own_events command s ≡ [] → new ≡ old → AddsOwn command s old new answer
-adds_none command s old new None none same = subst (λ (es : List Event). AddsPart es old new) (sym none) same
-adds_none command s old new (Some x) none same = subst (λ (es : List Event). new ≡ after_all es old) (sym none) same
 
 pub made : (command : Command) (given : Given) (s t : Replica) (old new : Option Told) (answer : Option Answer) → IsSupplied s old command given → Serves command s t old new answer → AddsOwn command s old new answer → Makes command s t old new answer
 made command given s t old new answer supplied serves own = record {

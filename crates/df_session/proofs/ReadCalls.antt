@@ -19,7 +19,7 @@ use Rattle.df_replica.specs.Serving.{IsCall}
 use Rattle.df_replica.specs.Supply.{IsSupplied}
 use Rattle.df_session.specs.Links.{Makes}
 use Rattle.df_session.specs.Own.{own_events}
-use Rattle.df_session.proofs.Joins.{adds_none}
+use Rattle.df_replica.proofs.Laws.{adds_none}
 
 -- What a read is rightly supplied with, in its own case: what the image shows, where the disk tells it; else what the call found, or anything where it came to no read.
 record IsRead {U : Type 0} (s : Replica) (command : Command) (form : Result U Class → Given) (shown : Image → Result U Class) (Gives : Option Told → Option (Result U Class) → Given → Type 0) : Type 0 where

@@ -2,7 +2,6 @@ pub mod Codec
 pub mod Begun
 pub mod Agreeing
 pub mod Results
-pub mod Own
 pub mod Links
 pub mod Found
 pub mod Calls
@@ -34,6 +33,7 @@ pub use Rattle.df_replica.specs.Blocks
 pub use Rattle.df_replica.specs.BlockReads
 pub use Rattle.df_replica.specs.Scrubbing
 pub use Rattle.df_replica.specs.Supply
+pub use Rattle.df_replica.specs.Own
 pub use Rattle.df_replica.specs.Session
 pub use Rattle.df_replica.specs.Lending
 pub use Rattle.df_replica.specs.Opened

@@ -13,7 +13,6 @@ use Rattle.df_model.specs.Work.{is_known}
 use Rattle.df_model.specs.declared.answers.Progress.{Progress}
 use Rattle.df_model.specs.declared.answers.Progress.TheVariants as progress
 use Rattle.df_model.specs.declared.answers.Receipt.{Receipt}
-use Rattle.df_model.specs.declared.commands.Answer.{Answer}
 use Rattle.df_model.specs.declared.commands.Answer.TheVariants as answers
 use Rattle.df_model.specs.declared.errors.AppendError.{AppendError}
 use Rattle.df_model.specs.declared.errors.AppendError.TheVariants as append
@@ -32,9 +31,8 @@ use Rattle.df_session.specs.Beginning.{IsBegin, begin_refusal, with_checkpoint_b
 use Rattle.df_session.specs.Below.{State as Replica, RunningState, memory}
 use Rattle.df_session.specs.Blocks.{IsRelease, IsWriteBlock, next_block, released, written}
 use Rattle.df_session.specs.Calls.{machine_answer}
-use Rattle.df_session.specs.Endings.{EndsBy, GivesAnswer, is_disk_fault as by_fault}
 use Rattle.df_session.specs.Links.{Makes}
-use Rattle.df_session.specs.declared.hearing.Fault.{Fault}
+use Rattle.df_session.specs.Own.{AddsOwn}
 use Rattle.df_session.specs.declared.hearing.Fault.TheVariants as faults
 use Rattle.df_session.specs.Replying.{IsReplyCall, next_reply, with_stored_reply}
 use Rattle.df_session.specs.Stepping.{IsStepCall, OfRunning}
@@ -43,52 +41,29 @@ use Rattle.df_table.specs.Calls.{CheckpointStepped, Comes, IsCheckpointing, MayA
 use Rattle.df_table.specs.declared.ending.Ending.{Ending}
 use Rattle.df_table.specs.declared.ending.Ending.TheVariants.{Disk, OpsSpent, SequenceSpent}
 use Rattle.df_table.specs.Policy.{the_client}
-use Rattle.df_table.specs.Statuses.{ended_by, is_disk}
+use Rattle.df_table.specs.Statuses.{is_disk}
 use Rattle.df_table.specs.Turns.{EndsFor, IsAccepted, IsOfCall, MakeAll}
 use Rattle.df_table.proofs.Joined.{one_failed, one_made, one_spent}
 
 -- ---- small
 
-some_same : (x y : Answered) → Some x ≡ Some y → x ≡ y
-some_same x y is = let same : Some x ≡ Some y = is in cc
-
-accepted_by : (x y : Answered) → Some x ≡ Some y → IsAccepted x → IsAccepted y
-accepted_by x y is accepted = subst IsAccepted (some_same x y is) accepted
-
 pub on_ok : {T E P : Type 0} (r : Result T E) → P → OnOk r P
 on_ok (Ok x) p = p
 on_ok (Err e) p = tt
 
--- the disk is blamed as it was
-pub blamed_so : (fault : Fault) (before now : ℕ) → Blamed (by_fault fault) before now → Blamed (is_disk (ended_by fault)) before now
-blamed_so faults.Disk before now blamed = blamed
-blamed_so (faults.Damaged place class) before now blamed = blamed
+-- ---- a release, which touches no disk
 
--- what ends it is of the call
-pub fault_ends : (command : Command) (told : Option Told) (fault : Fault) → EndsBy fault command told → IsOfCall told (ended_by fault)
-fault_ends command told faults.Disk ends = tt
-fault_ends command told (faults.Damaged place class) ends = ends.untold
-
-module _ (s t : Replica) (old new : Option Told) where
-  -- the answer of the call that a command asks for, in the words of the machine
-  told_of : (command : Command) (a b : Answer) (gives : GivesAnswer command s t old new a) → a ≡ b → machine_answer b ≡ Some gives.told
-  told_of command a b gives is = subst (λ (y : Answer). machine_answer y ≡ Some gives.told) is gives.in_words
-
-  -- ---- a release
-
-  release_accepted : (address : ℕ) (r : Result (Unit {0}) NotLive) → IsRelease address s t r → is_known (sum_at address (memory s).blocks.live) ≡ true → (x : Answered) → machine_answer (answers.Release r) ≡ Some x → IsAccepted x × (t ≡ released s address)
-  release_accepted address (Ok done) is known x told = (accepted_by (ToRelease (Ok tt)) x told tt, is.1)
-  release_accepted address (Err e) is known x told =
+module _ (s t : Replica) (address : ℕ) where
+  pub release_takes : (r : Result (Unit {0}) NotLive) → IsRelease address s t r → is_known (sum_at address (memory s).blocks.live) ≡ true → ((told : Option Told) → Makes (Release address) s t told told (machine_answer (answers.Release r)))
+      → ((told : Option Told) → MakeAll (Release address ∷ []) s t told told) × (t ≡ released s address)
+  release_takes (Ok done) is known makes = (λ told. one_made (Release address) s t told told (ToRelease (Ok tt)) (makes told) tt, is.1)
+  release_takes (Err e) is known makes =
       let no : NotLive = record {} in
       absurd (none-some e (sym (ap (λ (b : Bool). first_refusal {E = NotLive} ((not b, no) ∷ [])) known) ∙ is.0))
 
-  pub release_comes : (address : ℕ) (a : Answer) → is_known (sum_at address (memory s).blocks.live) ≡ true → GivesAnswer (Release address) s t old new a → MakeAll (Release address ∷ []) s t old new × (t ≡ released s address)
-  release_comes address a known gives =
-      let parts = release_accepted address gives.exact.0 gives.exact.2 known gives.told (told_of (Release address) a (answers.Release gives.exact.0) gives gives.exact.1) in
-      (one_made (Release address) s t old new gives.told gives.makes parts.0, parts.1)
+-- ---- the others, each by its own name
 
-  -- ---- the others, each by its own name
-
+module _ (s t : Replica) (old new : Option Told) where
   -- what a call comes to: it was made and accepted, and this is the state after it; it is refused; or it has no answer
   pub record Takes {T : Type 0} (before now : ℕ) (May : Type 0) (command : Command) (u : Replica) (r : Result T Ending) : Type 0 where
     pub comes : May → Comes (command ∷ []) s t old new r
@@ -186,17 +161,17 @@ module _ (s t : Replica) (old new : Option Told) where
       pub ends : IfErr (stepped r) (IsOfCall new)
       pub disk : IsBlamed is_disk before now (stepped r)
 
-    pub step_takes : IsCheckpointing s → (r : Result Progress StepError) → IsStepCall s t old new r → Serves Advance s t old new (machine_answer (answers.Advance r)) → IsBlamed is_step_fault before now r → Stepped r
-    step_takes runs (Ok (progress.Working left)) is serves blamed =
-        let makes = (step_called s t old new before now (Ok (progress.Working left)) is serves blamed).makes in
+    pub step_takes : IsCheckpointing s → (r : Result Progress StepError) → IsStepCall s t old new r → Serves Advance s t old new (machine_answer (answers.Advance r)) → AddsOwn Advance s old new (machine_answer (answers.Advance r)) → IsBlamed is_step_fault before now r → Stepped r
+    step_takes runs (Ok (progress.Working left)) is serves own blamed =
+        let makes = (step_called s t old new before now (Ok (progress.Working left)) is serves own blamed).makes in
         record { comes = one_made Advance s t old new (ToAdvance (Ok (progress.Working left))) makes tt; state = on_running s.running (λ r i. (i.0, i.2)) is; live = makes.calls.call.live; ends = tt; disk = blamed }
-    step_takes runs (Ok (progress.Done sequence)) is serves blamed =
-        let makes = (step_called s t old new before now (Ok (progress.Done sequence)) is serves blamed).makes in
+    step_takes runs (Ok (progress.Done sequence)) is serves own blamed =
+        let makes = (step_called s t old new before now (Ok (progress.Done sequence)) is serves own blamed).makes in
         record { comes = one_made Advance s t old new (ToAdvance (Ok (progress.Done sequence))) makes tt; state = on_running s.running (λ r i. (i.0, i.2)) is; live = makes.calls.call.live; ends = tt; disk = blamed }
-    step_takes runs (Err step.NotRunning) is serves blamed = absurd (subst (λ (r : Option RunningState). OfRunning r (λ c. Unit {0})) is.0 runs)
-    step_takes runs (Err (step.Damaged place class)) is serves blamed =
-        let made = (heard_made Advance s t old new before now (answers.Advance (Err (step.Damaged place class))) (step_called s t old new before now (Err (step.Damaged place class)) is serves blamed)).makes in
+    step_takes runs (Err step.NotRunning) is serves own blamed = absurd (subst (λ (r : Option RunningState). OfRunning r (λ c. Unit {0})) is.0 runs)
+    step_takes runs (Err (step.Damaged place class)) is serves own blamed =
+        let made = (heard_made Advance s t old new before now (answers.Advance (Err (step.Damaged place class))) (step_called s t old new before now (Err (step.Damaged place class)) is serves own blamed)).makes in
         record { comes = one_failed Advance s t old new (faults.Damaged place class) made; state = tt; live = tt; ends = made.1.untold; disk = blamed }
-    step_takes runs (Err step.DiskFault) is serves blamed =
-        let makes = (step_called s t old new before now (Err step.DiskFault) is serves blamed).makes in
+    step_takes runs (Err step.DiskFault) is serves own blamed =
+        let makes = (step_called s t old new before now (Err step.DiskFault) is serves own blamed).makes in
         record { comes = one_failed Advance s t old new faults.Disk (makes, tt); state = tt; live = tt; ends = tt; disk = blamed }

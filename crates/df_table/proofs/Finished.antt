@@ -57,9 +57,9 @@ module _ (layout : Layout) (s : Replica) (ready : IsReadyReplica layout s) where
 
 -- ---- before the writes
 
-pub emptied : (layout : Layout) (s t : Replica) (old new : Option Told) → IsReadyReplica layout s → t ≡ without_live s → MakeAll (releases (memory s)) s t old new → IsEmptied layout s t
-emptied layout s t old new ready state made =
-    let keeps = makes_keep (releases (memory s)) s t old new made ready.work ready.stands in
+pub emptied : (layout : Layout) (s t : Replica) (told : Option Told) → IsReadyReplica layout s → t ≡ without_live s → MakeAll (releases (memory s)) s t told told → IsEmptied layout s t
+emptied layout s t told ready state made =
+    let keeps = makes_keep (releases (memory s)) s t told told made ready.work ready.stands in
     record { ready = ready; state = state; work = keeps.0; stands = keeps.1 }
 
 module _ (layout : Layout) (s t : Replica) (e : IsEmptied layout s t) (n : ℕ) (fits : n ≤ blocks_of_table layout) where
@@ -144,9 +144,6 @@ module _ (layout : Layout) (rows : Map) where
   pub fill_ends : (T : Type 0) (s t : Replica) (old new : Option Told) (ending : Ending) → EndIn (writes layout rows) s t old new ending → Fills {T = T} layout rows s t old new (Err ending)
   fill_ends T s t old new ending ends = (0, end_front (writes layout rows) (Begin [] ∷ []) s t old new ending ends)
 
-  pub checkpointed : {T : Type 0} (s u t : Replica) (old mid new : Option Told) (r : Result T Ending) → MakeAll (releases (memory s)) s u old mid → Fills layout rows u t mid new r → Checkpoints layout rows s t old new r
-  checkpointed s u t old mid new r released rest =
-      (rest.0, comes_more (releases (memory s)) (writes layout rows ++ (Begin [] ∷ replicate rest.0 Advance)) s u t old mid new released r rest.1)
-
-  pub checkpoint_ends : (T : Type 0) (s t : Replica) (old new : Option Told) (ending : Ending) → EndIn (releases (memory s)) s t old new ending → Checkpoints {T = T} layout rows s t old new (Err ending)
-  checkpoint_ends T s t old new ending ends = (0, end_front (releases (memory s)) (writes layout rows ++ (Begin [] ∷ [])) s t old new ending ends)
+  pub checkpointed : {T : Type 0} (s u t : Replica) (old new : Option Told) (r : Result T Ending) → MakeAll (releases (memory s)) s u old old → Fills layout rows u t old new r → Checkpoints layout rows s t old new r
+  checkpointed s u t old new r released rest =
+      (rest.0, comes_more (releases (memory s)) (writes layout rows ++ (Begin [] ∷ replicate rest.0 Advance)) s u t old old new released r rest.1)

@@ -1,5 +1,5 @@
 -- All live blocks are released, address by address: after each address those above it are left.
-use Rattle.std.proofs.Common.{◌≡◌, ℕ, suc, ◌+◌, ◌-◌, ◌<◌, Bool, if◌then◌else◌, List, [], ◌∷◌, ◌++◌, map, Option, Some, None, Result, refl, sym, ◌∙◌, ap, subst, arith, eq-eqb}
+use Rattle.std.proofs.Common.{◌≡◌, ℕ, suc, ◌+◌, ◌-◌, ◌<◌, Bool, if◌then◌else◌, List, [], ◌∷◌, ◌++◌, map, Option, Some, None, refl, sym, ◌∙◌, ap, subst, arith, eq-eqb}
 use Rattle.std.specs.List.{range_with_len}
 use Rattle.df_base.proofs.Laws.{minus_zero}
 use Rattle.df_disk.specs.Told.{Told}
@@ -10,13 +10,11 @@ use Rattle.df_model.specs.Commands.{Command, Release}
 use Rattle.df_model.proofs.Laws.{entry_at, without_none}
 use Rattle.df_session.specs.Below.{State as Replica, memory}
 use Rattle.df_session.specs.Blocks.{released}
-use Rattle.df_table.specs.declared.ending.Ending.{Ending}
-use Rattle.df_table.specs.Calls.{Comes}
 use Rattle.df_table.specs.Policy.{releases, releases_at}
 use Rattle.df_table.specs.Ready.{IsReadyReplica, without_live}
-use Rattle.df_table.specs.Turns.{EndIn, MakeAll}
+use Rattle.df_table.specs.Turns.{MakeAll}
 use Rattle.df_table.proofs.Joined.{make_none}
-use Rattle.df_table.proofs.Making.{IsMaking, all_making, making_ends, making_more}
+use Rattle.df_table.proofs.Making.{IsMaking, all_making, making_more}
 
 -- the live blocks of a replica that is ready, as a map's entries
 pub live_entries : (layout : Layout) (s : Replica) (ready : IsReadyReplica layout s) → s.blocks.live ≡ entries ready.work.live (range_with_len 1 layout.blocks)
@@ -28,10 +26,9 @@ releases_of xs = map (λ (x : ℕ × ℕ). Release x.0) xs
 
 -- ---- one address
 
-module _ (a : ℕ) (s t : Replica) (old new : Option Told) where
-  -- a block is live there
-  pub release_some : {T : Type 0} (c : ℕ) (r : Result T Ending) → sum_at a s.blocks.live ≡ Some c → Comes (Release a ∷ []) s t old new r → Comes (releases_at a (memory s)) s t old new r
-  release_some c r is comes = subst (λ (o : Option ℕ). Comes (releases_of (entry a o [])) s t old new r) (sym is) comes
+-- a block is live there
+pub release_some : (a : ℕ) (s t : Replica) (told : Option Told) (c : ℕ) → sum_at a s.blocks.live ≡ Some c → MakeAll (Release a ∷ []) s t told told → MakeAll (releases_at a (memory s)) s t told told
+release_some a s t told c is made = subst (λ (o : Option ℕ). MakeAll (releases_of (entry a o [])) s t told told) (sym is) made
 
 -- none is
 pub release_none : (a : ℕ) (s : Replica) (told : Option Told) → sum_at a s.blocks.live ≡ None → MakeAll (releases_at a (memory s)) s s told told
@@ -43,12 +40,12 @@ released_none a s none = ap (λ (l : List (ℕ × ℕ)). record s { blocks = rec
 -- ---- one after the other
 
 -- Of n addresses those up to b were gone through: their blocks are released, and the others are live.
-pub record IsReleasing (f : ℕ → Option ℕ) (n b : ℕ) (s t : Replica) (old now : Option Told) : Type 0 where
-  pub making : IsMaking (releases (memory s)) (releases_of t.blocks.live) s t old now
+pub record IsReleasing (f : ℕ → Option ℕ) (n b : ℕ) (s t : Replica) (told : Option Told) : Type 0 where
+  pub making : IsMaking (releases (memory s)) (releases_of t.blocks.live) s t told told
   pub left : t.blocks.live ≡ entries f (range_with_len (b + 1) (n - b))
   pub state : t ≡ record s { blocks = record s.blocks { live = t.blocks.live } }
 
-pub starts : (f : ℕ → Option ℕ) (n : ℕ) (s : Replica) (told : Option Told) → s.blocks.live ≡ entries f (range_with_len 1 n) → IsReleasing f n 0 s s told told
+pub starts : (f : ℕ → Option ℕ) (n : ℕ) (s : Replica) (told : Option Told) → s.blocks.live ≡ entries f (range_with_len 1 n) → IsReleasing f n 0 s s told
 starts f n s told is = record { making = record { done = []; makes = make_none s told; split = refl }; left = is ∙ ap (λ (k : ℕ). entries f (range_with_len 1 k)) (minus_zero n); state = refl }
 
 module _ (f : ℕ → Option ℕ) (n b : ℕ) (less : b < n) where
@@ -66,7 +63,7 @@ module _ (f : ℕ → Option ℕ) (n b : ℕ) (less : b < n) where
   parts None = refl
   parts (Some c) = refl
 
-  module _ (s t : Replica) (old now : Option Told) (is : IsReleasing f n b s t old now) where
+  module _ (s t : Replica) (told : Option Told) (is : IsReleasing f n b s t told) where
     looked_up : sum_at (b + 1) t.blocks.live ≡ f (b + 1)
     looked_up = ap (sum_at (b + 1)) is.left ∙ entry_at f (b + 1) (n - b) (b + 1) (omega arith) (omega (arith, less))
 
@@ -80,37 +77,33 @@ module _ (f : ℕ → Option ℕ) (n b : ℕ) (less : b < n) where
         ap (without_entry (b + 1)) (live_is ∙ ap (λ (o : Option ℕ). entry (b + 1) o rest) some)
         ∙ ap (λ (p : Bool). if p then rest else (b + 1, c) ∷ without_entry (b + 1) rest) (eq-eqb (b + 1) (b + 1) refl)
 
-    now_making : IsMaking (releases (memory s)) (releases_at (b + 1) (memory t) ++ releases_of rest) s t old now
+    now_making : IsMaking (releases (memory s)) (releases_at (b + 1) (memory t) ++ releases_of rest) s t told told
     now_making =
-        subst (λ (l : List Command). IsMaking (releases (memory s)) l s t old now)
+        subst (λ (l : List Command). IsMaking (releases (memory s)) l s t told told)
         (ap releases_of live_is ∙ sym (parts (sum_at (b + 1) t.blocks.live))) is.making
 
     -- the block of the next address is released, if there is one
-    pub next_released : (u : Replica) (new : Option Told) → u ≡ released t (b + 1) → MakeAll (releases_at (b + 1) (memory t)) t u now new → IsReleasing f n (b + 1) s u old new
-    next_released u new behind made =
+    pub next_released : (u : Replica) → u ≡ released t (b + 1) → MakeAll (releases_at (b + 1) (memory t)) t u told told → IsReleasing f n (b + 1) s u told
+    next_released u behind made =
         let taken : without_entry (b + 1) t.blocks.live ≡ rest = without_it (sum_at (b + 1) t.blocks.live) refl in
         let live : u.blocks.live ≡ rest = ap (λ (v : Replica). v.blocks.live) behind ∙ taken in
         record {
-          making = subst (λ (l : List (ℕ × ℕ)). IsMaking (releases (memory s)) (releases_of l) s u old new) (sym live)
-              (making_more (releases (memory s)) (releases_at (b + 1) (memory t)) (releases_of rest) s t u old now new now_making made);
+          making = subst (λ (l : List (ℕ × ℕ)). IsMaking (releases (memory s)) (releases_of l) s u told told) (sym live)
+              (making_more (releases (memory s)) (releases_at (b + 1) (memory t)) (releases_of rest) s t u told told told now_making made);
           left = live;
           state = behind ∙ ap (λ (v : Replica). released v (b + 1)) is.state ∙ ap (λ (l : List (ℕ × ℕ)). record s { blocks = record s.blocks { live = l } }) (taken ∙ sym live);
         }
 
-    -- or that ends it
-    pub release_ends : (u : Replica) (new : Option Told) (ending : Ending) → EndIn (releases_at (b + 1) (memory t)) t u now new ending → EndIn (releases (memory s)) s u old new ending
-    release_ends u new ending ends = making_ends (releases (memory s)) (releases_at (b + 1) (memory t)) (releases_of rest) s t u old now new now_making ending ends
-
 -- none is left
-module _ (f : ℕ → Option ℕ) (n b : ℕ) (s t : Replica) (old now : Option Told) (is : IsReleasing f n b s t old now) (all : b ≡ n) where
+module _ (f : ℕ → Option ℕ) (n b : ℕ) (s t : Replica) (told : Option Told) (is : IsReleasing f n b s t told) (all : b ≡ n) where
   none_live : t.blocks.live ≡ []
   none_live = is.left ∙ ap (λ (k : ℕ). entries f (range_with_len (b + 1) k)) none_left
     where
       none_left : n - b ≡ 0
       none_left = omega (arith, all)
 
-  pub all_made : MakeAll (releases (memory s)) s t old now
-  all_made = all_making (releases (memory s)) s t old now (subst (λ (l : List (ℕ × ℕ)). IsMaking (releases (memory s)) (releases_of l) s t old now) none_live is.making)
+  pub all_made : MakeAll (releases (memory s)) s t told told
+  all_made = all_making (releases (memory s)) s t told told (subst (λ (l : List (ℕ × ℕ)). IsMaking (releases (memory s)) (releases_of l) s t told told) none_live is.making)
 
   pub all_released : t ≡ without_live s
   all_released = is.state ∙ ap (λ (l : List (ℕ × ℕ)). record s { blocks = record s.blocks { live = l } }) none_live

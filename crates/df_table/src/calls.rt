@@ -14,13 +14,13 @@ ghost use Rattle.df_session.specs.Replying.{next_reply, with_stored_reply};
 ghost use Rattle.df_table.specs.Calls.{CheckpointStepped, Comes, IsCheckpointing, MayAppendCommand, MayBegin, ended_or, stepped};
 ghost use Rattle.df_table.specs.Policy.{the_client};
 ghost use Rattle.df_table.specs.Statuses.{is_disk};
-ghost use Rattle.df_table.specs.Turns.{IsOfCall};
+ghost use Rattle.df_table.specs.Turns.{IsOfCall, MakeAll};
 
-use crate::ending::{Ending, ended_by};
+use crate::ending::Ending;
 use df_base::BlamesDisk;
 use df_disk::Disk;
-use df_model::{Command as Call, Progress, StepError};
-use df_session::{Replica, make};
+use df_model::{Progress, StepError};
+use df_session::Replica;
 
 /// The client whose requests the puts and drops are.
 pub(crate) const CLIENT: u128 = 1;
@@ -72,30 +72,22 @@ pub(crate) fn reply<D: Disk>(disk: &mut D, replica: &mut Replica, op: u64) -> Re
     }
 }
 
-/// Lets a live block go.
-pub(crate) fn release<D: Disk>(
-    disk: &mut D,
-    replica: &mut Replica,
-    address: u64,
-) -> Result<(), Ending>
+/// Lets a live block go. That touches no disk, and isn't refused.
+pub(crate) fn release(replica: &mut Replica, address: u64)
     requires live { replica.old.live ≡ true }
     requires known { is_known (sum_at address (memory replica.old).blocks.live) ≡ true }
-    ensures makes { Comes (Release address ∷ []) replica.old replica.new (D.told disk.old) (D.told disk.new) result }
-    ensures state { OnOk result (replica.new ≡ released replica.old address) }
-    ensures live { OnOk result (replica.new.live ≡ true) }
-    ensures ends { IfErr result (IsOfCall (D.told disk.new)) }
-    ensures disk { IsBlamed is_disk (D.faults disk.old) (D.faults disk.new) result }
+    ensures makes { (told : Option Told) → MakeAll (Release address ∷ []) replica.old replica.new told told }
+    ensures state { replica.new ≡ released replica.old address }
+    ensures live { replica.new.live ≡ true }
 {
-    match make(disk, replica, Call::Release { address }) {
-        Ok(_) => Ok(()),
-        Err(fault) => Err(ended_by(fault)),
-    }
+    let _ = replica.release(address);
 }
 
 /// Writes a block of the table at the least address that isn't held.
 pub(crate) fn write<D: Disk>(disk: &mut D, replica: &mut Replica, body: &[u8]) -> Result<(), Ending>
     requires live { replica.old.live ≡ true }
-    ensures makes { first_refusal (block_refusals (memory replica.old) 1 body.now) ≡ None → Comes (WriteBlock 1 body.now ∷ []) replica.old replica.new (D.told disk.old) (D.told disk.new) result }
+    ensures makes { first_refusal (block_refusals (memory replica.old) 1 body.now) ≡ None
+        → Comes (WriteBlock 1 body.now ∷ []) replica.old replica.new (D.told disk.old) (D.told disk.new) result }
     ensures state { OnOk result (replica.new ≡ written replica.old (next_block replica.old 1 body.now).header) }
     ensures live { OnOk result (replica.new.live ≡ true) }
     ensures ends { IfErr result (IsOfCall (D.told disk.new)) }

@@ -1,7 +1,8 @@
 // A checkpoint of the table: its blocks are written while the live ones, and so those that the durable checkpoint references, are let go; the checkpoint refers to the new ones alone.
-ghost use Rattle.std.specs.Prelude.{◌≡◌, ◌<◌, ◌≤◌, ◌*◌, [], ◌∷◌, true, length, None, Some, OnOk};
+ghost use Rattle.std.specs.Prelude.{◌≡◌, ◌<◌, ◌≤◌, ◌*◌, [], ◌∷◌, true, length, Option, Some, IfErr, OnOk};
 ghost use Rattle.std.specs.FinMap as map;
 ghost use Rattle.df_base.specs.Causes.{IsBlamed};
+ghost use Rattle.df_disk.specs.Told.{Told};
 ghost use Rattle.df_layout.specs.declared.layout.Layout.{Layout as Shape};
 ghost use Rattle.df_model.specs.Commands.{WriteBlock};
 ghost use Rattle.df_rows.specs.Limits as limits;
@@ -12,6 +13,7 @@ ghost use Rattle.df_table.specs.Calls.{Advances, Checkpoints, Comes, Concludes, 
 ghost use Rattle.df_table.specs.Policy.{body_at, is_full, releases, releases_at, writes};
 ghost use Rattle.df_table.specs.Ready.{HasFree, HasRingRoom, IsEmptied, IsFinished, IsReadyReplica, WroteBlocks, without_live};
 ghost use Rattle.df_table.specs.Statuses.{is_disk};
+ghost use Rattle.df_table.specs.Turns.{IsOfCall, MakeAll};
 
 use crate::calls::{begin, release, step, write};
 use crate::ending::Ending;
@@ -33,34 +35,28 @@ pub(crate) fn is_full(replica: &Replica) -> bool
 }
 
 // Lets the block at an address go, if it is live.
-fn release_at<D: Disk>(disk: &mut D, replica: &mut Replica, address: u64) -> Result<(), Ending>
+fn release_at(replica: &mut Replica, address: u64)
     requires live { replica.old.live ≡ true }
-    ensures makes { Comes (releases_at address (memory replica.old)) replica.old replica.new (D.told disk.old) (D.told disk.new) result }
-    ensures state { OnOk result (replica.new ≡ released replica.old address) }
-    ensures goes { GoesOrEnds result replica.new (D.told disk.new) }
-    ensures disk { IsBlamed is_disk (D.faults disk.old) (D.faults disk.new) result }
+    ensures makes { (told : Option Told) → MakeAll (releases_at address (memory replica.old)) replica.old replica.new told told }
+    ensures state { replica.new ≡ released replica.old address }
+    ensures live { replica.new.live ≡ true }
 {
     match replica.reference(address) {
-        Some(_) => release(disk, replica, address),
-        None => Ok(()),
+        Some(_) => release(replica, address),
+        None => {}
     }
 }
 
 // Lets all live blocks go. Those of the durable checkpoint aren't written over before the next one is done.
-fn release_all<D: Disk>(disk: &mut D, replica: &mut Replica, layout: &Layout) -> Result<(), Ending>
+fn release_all(replica: &mut Replica, layout: &Layout)
     requires live { replica.old.live ≡ true }
-    ensures makes { IsReadyReplica layout.now replica.old → Comes (releases (memory replica.old)) replica.old replica.new (D.told disk.old) (D.told disk.new) result }
-    ensures state { IsReadyReplica layout.now replica.old → OnOk result (replica.new ≡ without_live replica.old) }
-    ensures goes { GoesOrEnds result replica.new (D.told disk.new) }
-    ensures disk { IsBlamed is_disk (D.faults disk.old) (D.faults disk.new) result }
+    ensures makes { (told : Option Told) → IsReadyReplica layout.now replica.old → MakeAll (releases (memory replica.old)) replica.old replica.new told told }
+    ensures state { IsReadyReplica layout.now replica.old → replica.new ≡ without_live replica.old }
+    ensures live { replica.new.live ≡ true }
 {
     for before in 0..u64::from(layout.blocks) {
-        match release_at(disk, replica, before + 1) {
-            Ok(()) => {}
-            Err(ending) => return Err(ending),
-        }
+        release_at(replica, before + 1);
     }
-    Ok(())
 }
 
 // Writes a block of the table, counted from 0, through this buffer.
@@ -184,8 +180,6 @@ pub(crate) fn checkpoint<D: Disk>(
     ensures goes { GoesOrEnds result replica.new (D.told disk.new) }
     ensures disk { IsBlamed is_disk (D.faults disk.old) (D.faults disk.new) result }
 {
-    match release_all(disk, replica, layout) {
-        Ok(()) => fill(disk, replica, table, layout, buffer),
-        Err(ending) => Err(ending),
-    }
+    release_all(replica, layout);
+    fill(disk, replica, table, layout, buffer)
 }

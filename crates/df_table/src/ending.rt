@@ -3,7 +3,7 @@ ghost use Rattle.std.specs.Prelude.{◌≡◌};
 ghost use Rattle.df_base.specs.Causes.{HasCause};
 ghost use Rattle.df_inspect.specs.Prints.{Prints};
 ghost use Rattle.df_table.specs.Outside.{Blames, WritesTableText};
-ghost use Rattle.df_table.specs.Statuses.{ended_by, ending_text, status_of};
+ghost use Rattle.df_table.specs.Statuses.{ending_text, status_of};
 
 use crate::status::Status;
 use df_base::{Failed, Sink};
@@ -11,7 +11,6 @@ use df_inspect::{text_line, write_line};
 use df_layout::{Class, Place};
 use df_program::print_damaged;
 use df_rows::print_not_table;
-use df_session::Fault;
 
 /// Why a session ends.
 #[derive(Clone, Copy, Debug, PartialEq, Eq)]
@@ -26,16 +25,6 @@ pub enum Ending {
     OpsSpent,
     /// No checkpoint is left.
     SequenceSpent,
-}
-
-/// By what ends a list of calls.
-pub(crate) fn ended_by(fault: Fault) -> Ending
-    ensures { result ≡ ended_by fault }
-{
-    match fault {
-        Fault::Disk => Ending::Disk,
-        Fault::Damaged { place, class } => Ending::Damaged { place, class },
-    }
 }
 
 // The status of an ending.

@@ -2,27 +2,38 @@
 use Rattle.std.proofs.Common.{◌≡◌, ◌<◌, ℕ, Bool, true, List, [], ◌∷◌, length, Option, Some, None, refl, sym, ap, subst, Result, Ok, Err, arith}
 use Rattle.std.proofs.lemmas.Option.{none-some}
 use Rattle.df_disk.specs.Told.{Told}
+use Rattle.df_format.specs.declared.reference.Reference.{Reference}
 use Rattle.df_model.specs.Commands.{Advance, Answer as Answered, Append, Begin, Command, Flush, ReadBlock, ReadPrepare, ReadReply, Recent, Release, Reply, Scrub, Stage, WriteBlock}
 use Rattle.df_model.specs.declared.answers.Progress.{Progress}
 use Rattle.df_model.specs.declared.answers.Progress.TheVariants.{Done, Working}
+use Rattle.df_model.specs.declared.answers.Receipt.{Receipt}
 use Rattle.df_model.specs.declared.commands.Answer.{Answer}
 use Rattle.df_model.specs.declared.commands.Answer.TheVariants as answers
 use Rattle.df_model.specs.declared.errors.AppendError.{AppendError}
+use Rattle.df_model.specs.declared.errors.AppendError.TheVariants as append
 use Rattle.df_model.specs.declared.errors.BeginError.{BeginError}
+use Rattle.df_model.specs.declared.errors.BlockError.{BlockError}
+use Rattle.df_model.specs.declared.errors.BlockError.TheVariants as block
+use Rattle.df_model.specs.declared.errors.FlushError.{FlushError}
+use Rattle.df_model.specs.declared.errors.FlushError.TheVariants as flush
 use Rattle.df_model.specs.declared.errors.NotLive.{NotLive}
+use Rattle.df_model.specs.declared.errors.ReplyError.{ReplyError}
+use Rattle.df_model.specs.declared.errors.ReplyError.TheVariants as reply
 use Rattle.df_model.specs.declared.errors.StepError.{StepError}
 use Rattle.df_model.specs.declared.errors.StepError.TheVariants as step
+use Rattle.df_session.specs.Appending.{IsAppendCall}
 use Rattle.df_session.specs.Beginning.{IsBegin}
 use Rattle.df_session.specs.Below.{RunningState, State as Replica}
-use Rattle.df_session.specs.Blocks.{IsRelease}
-use Rattle.df_session.specs.Flushing.{IsStage}
+use Rattle.df_session.specs.Blocks.{IsRelease, IsWriteBlock}
+use Rattle.df_session.specs.Flushing.{IsFlush, IsStage}
+use Rattle.df_session.specs.Replying.{IsReplyCall}
 use Rattle.df_session.specs.Stepping.{IsStepCall, OfRunning, advanced, finished}
 use Rattle.df_workload.specs.Hearing.{outcome_in}
 use Rattle.df_workload.specs.declared.outcome.Outcome.{Outcome}
 use Rattle.df_session.specs.Calls.{IsExact, machine_answer}
 use Rattle.df_session.specs.Endings.{GivesAnswer}
 use Rattle.df_top.specs.Works.{HearsOf, IsRunning, StepsOn, StillRuns}
-use Rattle.df_session.proofs.Laws.{append_moves, flush_moves, on_running, reply_moves, write_moves}
+use Rattle.df_session.proofs.Laws.{on_running}
 use Rattle.df_top.proofs.SameWords.{same_words}
 
 -- ---- a running checkpoint
@@ -60,6 +71,41 @@ release_running s t address (Err e) is = same_running s t is.1
 stage_running : (s t : Replica) (client request : ℕ) (body : List ℕ) (r : Result ℕ AppendError) → IsStage client request body s t r → t.running ≡ s.running
 stage_running s t client request body (Ok op) is = ap (λ (r : Replica). r.running) is.2
 stage_running s t client request body (Err e) is = same_running s t is.1
+
+-- so it does after each other call
+module _ (s t : Replica) (old new : Option Told) where
+  append_running : (client request : ℕ) (body : List ℕ) (r : Result Receipt AppendError) → IsAppendCall client request body s t old new r → t.running ≡ s.running
+  append_running client request body (Ok x) is = ap (λ (r : Replica). r.running) is.2
+  append_running client request body (Err append.DiskFault) is = ap (λ (r : Replica). r.running) is.1
+  append_running client request body (Err append.ClientZero) is = same_running s t is.1
+  append_running client request body (Err (append.BodyTooLong a)) is = same_running s t is.1
+  append_running client request body (Err (append.ClientsFull a)) is = same_running s t is.1
+  append_running client request body (Err (append.Repeated a)) is = same_running s t is.1
+  append_running client request body (Err (append.ReplyPending a)) is = same_running s t is.1
+  append_running client request body (Err (append.RequestOrder a)) is = same_running s t is.1
+  append_running client request body (Err (append.PipelineFull a)) is = same_running s t is.1
+  append_running client request body (Err (append.WalFull a b)) is = same_running s t is.1
+  append_running client request body (Err append.OpsSpent) is = same_running s t is.1
+  append_running client request body (Err (append.Staged a)) is = same_running s t is.1
+
+  flush_running : (r : Result ℕ FlushError) → IsFlush s t old new r → t.running ≡ s.running
+  flush_running (Ok x) is = ap (λ (r : Replica). r.running) is.2
+  flush_running (Err flush.DiskFault) is = ap (λ (r : Replica). r.running) is.1
+  flush_running (Err flush.NothingStaged) is = same_running s t is.1
+
+  reply_running : (op : ℕ) (body : List ℕ) (r : Result (List ℕ) ReplyError) → IsReplyCall op body s t old new r → t.running ≡ s.running
+  reply_running op body (Ok x) is = ap (λ (r : Replica). r.running) is.2
+  reply_running op body (Err reply.DiskFault) is = ap (λ (r : Replica). r.running) is.1
+  reply_running op body (Err (reply.NothingPending a)) is = same_running s t is.1
+  reply_running op body (Err (reply.ReplyOrder a)) is = same_running s t is.1
+  reply_running op body (Err (reply.BodyTooLong a)) is = same_running s t is.1
+
+  write_running : (kind : ℕ) (body : List ℕ) (r : Result Reference BlockError) → IsWriteBlock kind body s t old new r → t.running ≡ s.running
+  write_running kind body (Ok x) is = ap (λ (r : Replica). r.running) is.2
+  write_running kind body (Err block.DiskFault) is = ap (λ (r : Replica). r.running) is.1
+  write_running kind body (Err block.KindZero) is = same_running s t is.1
+  write_running kind body (Err (block.BodyTooLong a)) is = same_running s t is.1
+  write_running kind body (Err (block.GridFull a)) is = same_running s t is.1
 
 begin_on : (s t : Replica) (root : List ℕ) (r : Result ℕ BeginError) → IsBegin root s t r → StillRuns (Begin root) s t (Ok (outcome_in (answers.Begin r)))
 begin_on s t root (Ok blocks) is = λ flag had set. subst (λ (r : Replica). IsRunning r) (sym is.2) tt
@@ -112,11 +158,11 @@ pub record Call (command : Command) (s t : Replica) (old new : Option Told) (out
 
 module _ (s t : Replica) (old new : Option Told) (a : Answer) (x : Answered) (said : machine_answer a ≡ Some x) where
   exact_on : (command : Command) → IsExact command s t old new a → StillRuns command s t (Ok (outcome_in a))
-  exact_on (Append client request body) is = append_on s t (append_moves s t old new client request body is.0 is.2).1 client request body (outcome_in a)
+  exact_on (Append client request body) is = append_on s t (append_running s t old new client request body is.0 is.2) client request body (outcome_in a)
   exact_on (Stage client request body) is = stage_on s t (stage_running s t client request body is.0 is.2) client request body (outcome_in a)
-  exact_on Flush is = flush_on s t (flush_moves s t old new is.0 is.2).1 (outcome_in a)
-  exact_on (Reply op body) is = reply_on s t (reply_moves s t old new op body is.0 is.2).1 op body (outcome_in a)
-  exact_on (WriteBlock kind body) is = write_on s t (write_moves s t old new kind body is.0 is.2).1 kind body (outcome_in a)
+  exact_on Flush is = flush_on s t (flush_running s t old new is.0 is.2) (outcome_in a)
+  exact_on (Reply op body) is = reply_on s t (reply_running s t old new op body is.0 is.2) op body (outcome_in a)
+  exact_on (WriteBlock kind body) is = write_on s t (write_running s t old new kind body is.0 is.2) kind body (outcome_in a)
   exact_on (Release address) is = release_on s t (release_running s t address is.0 is.2) address (outcome_in a)
   exact_on (Begin root) is = subst (λ (y : Answer). StillRuns (Begin root) s t (Ok (outcome_in y))) (sym is.1) (begin_on s t root is.0 is.2)
   exact_on Advance is = subst (λ (y : Answer). StillRuns Advance s t (Ok (outcome_in y))) (sym is.1) (step_on s t old new is.0 is.2 x (subst (λ (y : Answer). machine_answer y ≡ Some x) is.1 said))

@@ -9,7 +9,7 @@ use Rattle.df_session.proofs.calls.make.Goals as goal
 
 pub returns-in-Append : goal.returns-in-Append
 returns-in-Append g c =
-    let made = heard_so c.in-Append.is (append_called c.args.replica.now c.append.new.self (g.D.Disk.told c.args.disk.now) (g.D.Disk.told c.append.new.disk) (g.D.Disk.faults c.args.disk.now) (g.D.Disk.faults c.append.new.disk) c.in-Append.client c.in-Append.request c.in-Append.body.now c.append.result c.append.ensures.exact c.append.ensures.call c.append.ensures.cause) c.hear.ensures in
+    let made = heard_so c.in-Append.is (append_called c.args.replica.now c.append.new.self (g.D.Disk.told c.args.disk.now) (g.D.Disk.told c.append.new.disk) (g.D.Disk.faults c.args.disk.now) (g.D.Disk.faults c.append.new.disk) c.in-Append.client c.in-Append.request c.in-Append.body.now c.append.result c.append.ensures.exact c.append.ensures.call c.append.ensures.own c.append.ensures.cause) c.hear.ensures in
     record { makes = made.makes; tour = made.tour; live = made.live; disk = made.disk }
 
 pub returns-in-Stage : goal.returns-in-Stage
@@ -19,22 +19,22 @@ returns-in-Stage g c =
 
 pub returns-in-Flush : goal.returns-in-Flush
 returns-in-Flush g c =
-    let made = heard_so c.in-Flush.is (flush_called c.args.replica.now c.flush.new.self (g.D.Disk.told c.args.disk.now) (g.D.Disk.told c.flush.new.disk) (g.D.Disk.faults c.args.disk.now) (g.D.Disk.faults c.flush.new.disk) c.flush.result c.flush.ensures.exact c.flush.ensures.call c.flush.ensures.cause) c.hear-in-Flush.ensures in
+    let made = heard_so c.in-Flush.is (flush_called c.args.replica.now c.flush.new.self (g.D.Disk.told c.args.disk.now) (g.D.Disk.told c.flush.new.disk) (g.D.Disk.faults c.args.disk.now) (g.D.Disk.faults c.flush.new.disk) c.flush.result c.flush.ensures.exact c.flush.ensures.call c.flush.ensures.own c.flush.ensures.cause) c.hear-in-Flush.ensures in
     record { makes = made.makes; tour = made.tour; live = made.live; disk = made.disk }
 
 pub returns-in-Reply : goal.returns-in-Reply
 returns-in-Reply g c =
-    let made = heard_so c.in-Reply.is (reply_called c.args.replica.now c.reply.new.self (g.D.Disk.told c.args.disk.now) (g.D.Disk.told c.reply.new.disk) (g.D.Disk.faults c.args.disk.now) (g.D.Disk.faults c.reply.new.disk) c.in-Reply.op c.in-Reply.body.now c.reply.result c.reply.ensures.exact c.reply.ensures.call c.reply.ensures.cause) c.hear-in-Reply.ensures in
+    let made = heard_so c.in-Reply.is (reply_called c.args.replica.now c.reply.new.self (g.D.Disk.told c.args.disk.now) (g.D.Disk.told c.reply.new.disk) (g.D.Disk.faults c.args.disk.now) (g.D.Disk.faults c.reply.new.disk) c.in-Reply.op c.in-Reply.body.now c.reply.result c.reply.ensures.exact c.reply.ensures.call c.reply.ensures.own c.reply.ensures.cause) c.hear-in-Reply.ensures in
     record { makes = made.makes; tour = made.tour; live = made.live; disk = made.disk }
 
 pub returns-in-WriteBlock : goal.returns-in-WriteBlock
 returns-in-WriteBlock g c =
-    let made = heard_so c.in-WriteBlock.is (write_called c.args.replica.now c.write_block.new.self (g.D.Disk.told c.args.disk.now) (g.D.Disk.told c.write_block.new.disk) (g.D.Disk.faults c.args.disk.now) (g.D.Disk.faults c.write_block.new.disk) c.in-WriteBlock.kind c.in-WriteBlock.body.now c.write_block.result c.write_block.ensures.exact c.write_block.ensures.call c.write_block.ensures.cause) c.hear-in-WriteBlock.ensures in
+    let made = heard_so c.in-WriteBlock.is (write_called c.args.replica.now c.write_block.new.self (g.D.Disk.told c.args.disk.now) (g.D.Disk.told c.write_block.new.disk) (g.D.Disk.faults c.args.disk.now) (g.D.Disk.faults c.write_block.new.disk) c.in-WriteBlock.kind c.in-WriteBlock.body.now c.write_block.result c.write_block.ensures.exact c.write_block.ensures.call c.write_block.ensures.own c.write_block.ensures.cause) c.hear-in-WriteBlock.ensures in
     record { makes = made.makes; tour = made.tour; live = made.live; disk = made.disk }
 
 pub returns-in-Advance : goal.returns-in-Advance
 returns-in-Advance g c =
-    let made = heard_so c.in-Advance.is (step_called c.args.replica.now c.checkpoint_step.new.self (g.D.Disk.told c.args.disk.now) (g.D.Disk.told c.checkpoint_step.new.disk) (g.D.Disk.faults c.args.disk.now) (g.D.Disk.faults c.checkpoint_step.new.disk) c.checkpoint_step.result c.checkpoint_step.ensures.exact c.checkpoint_step.ensures.call c.checkpoint_step.ensures.cause) c.hear-in-Advance.ensures in
+    let made = heard_so c.in-Advance.is (step_called c.args.replica.now c.checkpoint_step.new.self (g.D.Disk.told c.args.disk.now) (g.D.Disk.told c.checkpoint_step.new.disk) (g.D.Disk.faults c.args.disk.now) (g.D.Disk.faults c.checkpoint_step.new.disk) c.checkpoint_step.result c.checkpoint_step.ensures.exact c.checkpoint_step.ensures.call c.checkpoint_step.ensures.own c.checkpoint_step.ensures.cause) c.hear-in-Advance.ensures in
     record { makes = made.makes; tour = made.tour; live = made.live; disk = made.disk }
 
 pub returns-in-Release : goal.returns-in-Release

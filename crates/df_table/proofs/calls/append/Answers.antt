@@ -19,7 +19,7 @@ returns-in-Ok g c =
     let before = g.D.Disk.faults c.args.disk.now in
     let now = g.D.Disk.faults c.append.new.disk in
     let r = Ok c.in-Ok.receipt in
-    let called = append_called s t old new before now the_client c.args.request c.args.body.now r c.in-Ok.ensures.exact c.in-Ok.ensures.call c.in-Ok.ensures.cause in
+    let called = append_called s t old new before now the_client c.args.request c.args.body.now r c.in-Ok.ensures.exact c.in-Ok.ensures.call c.in-Ok.ensures.own c.in-Ok.ensures.cause in
     let takes = append_takes s t old new before now c.args.request c.args.body.now r c.in-Ok.ensures.exact called.makes c.in-Ok.ensures.cause in
     record { makes = takes.comes; state = takes.state; op = ap (λ (x : Receipt). x.op) c.in-Ok.ensures.exact.1; live = takes.live; ends = takes.ends; disk = takes.disk }
 
@@ -32,7 +32,7 @@ returns-in-Err g c =
     let before = g.D.Disk.faults c.args.disk.now in
     let now = g.D.Disk.faults c.append.new.disk in
     let r = Err c.in-Err.error in
-    let called = append_called s t old new before now the_client c.args.request c.args.body.now r c.in-Err.ensures.exact c.in-Err.ensures.call c.in-Err.ensures.cause in
+    let called = append_called s t old new before now the_client c.args.request c.args.body.now r c.in-Err.ensures.exact c.in-Err.ensures.call c.in-Err.ensures.own c.in-Err.ensures.cause in
     let takes = append_takes s t old new before now c.args.request c.args.body.now r c.in-Err.ensures.exact called.makes c.in-Err.ensures.cause in
     let ended = subst (λ (e : Ending). Takes s t old new {T = ℕ} before now (MayAppendCommand s c.args.request c.args.body.now) (Append the_client c.args.request c.args.body.now) (with_prepare_appended s (next_unit s the_client c.args.request c.args.body.now)) (Err e)) (sym c.ended_or.ensures) takes in
     record { makes = ended.comes; state = tt; op = tt; live = tt; ends = ended.ends; disk = ended.disk }

@@ -1,27 +1,15 @@
--- The call was made and accepted, or it has no answer.
-use Rattle.std.proofs.Common.{subst, sym, [], ◌∷◌, Err}
-use Rattle.df_base.specs.Causes.{Blamed}
-use Rattle.df_model.specs.Commands.{Release}
-use Rattle.df_table.specs.declared.ending.Ending.{Ending}
-use Rattle.df_table.specs.Calls.{Comes}
-use Rattle.df_table.specs.Statuses.{is_disk}
-use Rattle.df_table.specs.Turns.{IsOfCall}
-use Rattle.df_table.proofs.Called.{blamed_so, fault_ends, release_comes}
-use Rattle.df_table.proofs.Joined.{one_failed}
+-- The call was made and accepted.
+use Rattle.std.proofs.Common.{Option, ap, ◌∙◌}
+use Rattle.df_disk.specs.Told.{Told}
+use Rattle.df_session.specs.Below.{State as Replica}
+use Rattle.df_session.proofs.Laws.{release_called}
+use Rattle.df_table.proofs.Called.{release_takes}
 use Rattle.df_table.proofs.calls.release.Goals as goal
 
-pub returns-in-Ok : goal.returns-in-Ok
-returns-in-Ok g c =
-    let comes = release_comes c.args.replica.now c.make.new.replica (g.D.Disk.told c.args.disk.now) (g.D.Disk.told c.make.new.disk) c.args.address c.in-Ok.field-0 c.requires.known c.in-Ok.ensures.makes in
-    record { makes = comes.0; state = comes.1; live = c.in-Ok.ensures.live; ends = tt; disk = c.in-Ok.ensures.disk }
-
-pub returns-in-Err : goal.returns-in-Err
-returns-in-Err g c =
-    let ends = one_failed (Release c.args.address) c.args.replica.now c.make.new.replica (g.D.Disk.told c.args.disk.now) (g.D.Disk.told c.make.new.disk) c.in-Err.fault c.in-Err.ensures.makes in
-    record {
-      makes = subst (λ (e : Ending). Comes {T = Unit {0}} (Release c.args.address ∷ []) c.args.replica.now c.make.new.replica (g.D.Disk.told c.args.disk.now) (g.D.Disk.told c.make.new.disk) (Err e)) (sym c.ended_by.ensures) ends;
-      state = tt;
-      live = tt;
-      ends = subst (IsOfCall (g.D.Disk.told c.make.new.disk)) (sym c.ended_by.ensures) (fault_ends (Release c.args.address) (g.D.Disk.told c.make.new.disk) c.in-Err.fault c.in-Err.ensures.makes.1);
-      disk = subst (λ (e : Ending). Blamed (is_disk e) (g.D.Disk.faults c.args.disk.now) (g.D.Disk.faults c.make.new.disk)) (sym c.ended_by.ensures) (blamed_so c.in-Err.fault (g.D.Disk.faults c.args.disk.now) (g.D.Disk.faults c.make.new.disk) c.in-Err.ensures.disk);
-    }
+pub returns : goal.returns
+returns c =
+    let s = c.args.replica.now in
+    let t = c.release.new.self in
+    let r = c.release.result in
+    let takes = release_takes s t c.args.address r c.release.ensures.exact c.requires.known (λ (told : Option Told). (release_called s t told 0 c.args.address r c.release.ensures.exact (c.release.ensures.call told)).makes) in
+    record { makes = takes.0; state = takes.1; live = ap (λ (x : Replica). x.live) takes.1 ∙ c.requires.live }

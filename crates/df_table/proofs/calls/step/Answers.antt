@@ -18,7 +18,7 @@ returns g c =
     let new = g.D.Disk.told c.checkpoint_step.new.disk in
     let before = g.D.Disk.faults c.args.disk.now in
     let now = g.D.Disk.faults c.checkpoint_step.new.disk in
-    let steps = step_takes s t old new before now c.requires.runs c.checkpoint_step.result c.checkpoint_step.ensures.exact c.checkpoint_step.ensures.call c.checkpoint_step.ensures.cause in
+    let steps = step_takes s t old new before now c.requires.runs c.checkpoint_step.result c.checkpoint_step.ensures.exact c.checkpoint_step.ensures.call c.checkpoint_step.ensures.own c.checkpoint_step.ensures.cause in
     let is = sym c.stepped.ensures in
     record {
       makes = subst (λ (r : Result Bool Ending). Comes (Advance ∷ []) s t old new r) is steps.comes;

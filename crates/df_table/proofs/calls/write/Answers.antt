@@ -18,7 +18,7 @@ returns-in-Ok g c =
     let before = g.D.Disk.faults c.args.disk.now in
     let now = g.D.Disk.faults c.write_block.new.disk in
     let r = Ok c.in-Ok.field-0 in
-    let called = write_called s t old new before now 1 c.args.body.now r c.in-Ok.ensures.exact c.in-Ok.ensures.call c.in-Ok.ensures.cause in
+    let called = write_called s t old new before now 1 c.args.body.now r c.in-Ok.ensures.exact c.in-Ok.ensures.call c.in-Ok.ensures.own c.in-Ok.ensures.cause in
     let takes = write_takes s t old new before now c.args.body.now r c.in-Ok.ensures.exact called.makes c.in-Ok.ensures.cause in
     record { makes = takes.comes; state = takes.state; live = takes.live; ends = takes.ends; disk = takes.disk }
 
@@ -31,7 +31,7 @@ returns-in-Err g c =
     let before = g.D.Disk.faults c.args.disk.now in
     let now = g.D.Disk.faults c.write_block.new.disk in
     let r = Err c.in-Err.error in
-    let called = write_called s t old new before now 1 c.args.body.now r c.in-Err.ensures.exact c.in-Err.ensures.call c.in-Err.ensures.cause in
+    let called = write_called s t old new before now 1 c.args.body.now r c.in-Err.ensures.exact c.in-Err.ensures.call c.in-Err.ensures.own c.in-Err.ensures.cause in
     let takes = write_takes s t old new before now c.args.body.now r c.in-Err.ensures.exact called.makes c.in-Err.ensures.cause in
     let ended = subst (λ (e : Ending). Takes s t old new {T = Unit {0}} before now (first_refusal (block_refusals (memory s) 1 c.args.body.now) ≡ None) (WriteBlock 1 c.args.body.now) (written s (next_block s 1 c.args.body.now).header) (Err e)) (sym c.ended_or.ensures) takes in
     record { makes = ended.comes; state = tt; live = tt; ends = ended.ends; disk = ended.disk }

@@ -6,17 +6,13 @@ use Rattle.df_table.proofs.Released.{release_none, release_some, released_none}
 use Rattle.df_table.proofs.checkpointing.release_at.Goals as goal
 
 pub release-requires : goal.release-requires
-release-requires g c = record { live = c.requires.live; known = ap is_known (sym (rw c.in-Some.is at c.reference.ensures)) }
+release-requires c = record { live = c.requires.live; known = ap is_known (sym (rw c.in-Some.is at c.reference.ensures)) }
 
 pub returns-in-Some-clause-makes : goal.returns-in-Some-clause-makes
-returns-in-Some-clause-makes g c =
-    release_some c.args.address c.args.replica.now c.release.new.replica (g.D.Disk.told c.args.disk.now) (g.D.Disk.told c.release.new.disk) _ c.release.result (sym (rw c.in-Some.is at c.reference.ensures)) c.release.ensures.makes
+returns-in-Some-clause-makes c = λ told. release_some c.args.address c.args.replica.now c.release.new.replica told _ (sym (rw c.in-Some.is at c.reference.ensures)) (c.release.ensures.makes told)
 
 pub returns-in-None-clause-makes : goal.returns-in-None-clause-makes
-returns-in-None-clause-makes g c = release_none c.args.address c.args.replica.now (g.D.Disk.told c.args.disk.now) (sym (rw c.in-None.is at c.reference.ensures))
+returns-in-None-clause-makes c = λ told. release_none c.args.address c.args.replica.now told (sym (rw c.in-None.is at c.reference.ensures))
 
 pub returns-in-None-clause-state : goal.returns-in-None-clause-state
-returns-in-None-clause-state g c = released_none c.args.address c.args.replica.now (sym (rw c.in-None.is at c.reference.ensures))
-
-pub returns-in-Some-clause-goes : goal.returns-in-Some-clause-goes
-returns-in-Some-clause-goes g c = goes_or_ends c.release.result c.release.new.replica (g.D.Disk.told c.release.new.disk) c.release.ensures.live c.release.ensures.ends
+returns-in-None-clause-state c = released_none c.args.address c.args.replica.now (sym (rw c.in-None.is at c.reference.ensures))

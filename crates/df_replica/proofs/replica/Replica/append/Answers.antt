@@ -1,11 +1,16 @@
 -- What isn't refused may be the next prepare, and each call is the machine's.
-use Rattle.std.proofs.Common.{◌≡◌, refl, sym, ap, subst, ◌∙◌}
+use Rattle.std.proofs.Common.{◌≡◌, Err, refl, sym, ap, subst, ◌∙◌}
+use Rattle.df_model.specs.Commands.{Append}
 use Rattle.df_model.specs.Faults.{is_append_fault}
+use Rattle.df_model.specs.Refusals.{append_refusals, first_refusal}
 use Rattle.df_model.specs.declared.answers.Receipt.{Receipt}
 use Rattle.df_opening.specs.Below.{State, memory}
+use Rattle.df_replica.specs.Answering.{answer_of, as_append}
+use Rattle.df_replica.specs.Appending.{append_events, next_unit}
 use Rattle.df_replica.specs.Stopping.{stopped}
 use Rattle.df_replica.proofs.AppendAnswers.{fault_serves, receipt_serves, refusal_serves, refused_exact}
 use Rattle.df_replica.proofs.AppendTests.{may_next}
+use Rattle.df_replica.proofs.Owns.{all_own, part_own, refused_own}
 use Rattle.df_replica.proofs.Unblamed.{append_unblamed, refused_blames}
 use Rattle.df_replica.proofs.replica.Replica.append.Goals as goal
 
@@ -41,3 +46,21 @@ returns-in-Err-clause-exact g c = (
   subst (λ (t : State). t ≡ stopped (record c.args.self.now { headers = t.headers })) (sym c.stop.ensures) (ap stopped c.in-Err.ensures.kept),
   c.in-Err.ensures.events,
 )
+
+pub returns-in-Some-clause-own : goal.returns-in-Some-clause-own
+returns-in-Some-clause-own g c =
+    let s = c.args.self.now in
+    refused_own (Append c.args.client c.args.request c.args.body.now) s (g.D.Disk.told c.args.disk.now) (answer_of is_append_fault as_append (Err c.in-Some.error)) (append_events s (next_unit s c.args.client c.args.request c.args.body.now))
+    (first_refusal (append_refusals (memory s) c.args.client c.args.request c.args.body.now)) c.in-Some.error refl (sym (c.in-Some.ensures.why c.args.body.now refl))
+
+pub returns-in-Ok-clause-own : goal.returns-in-Ok-clause-own
+returns-in-Ok-clause-own g c =
+    let s = c.args.self.now in
+    all_own (append_events s (next_unit s c.args.client c.args.request c.args.body.now)) (g.D.Disk.told c.args.disk.now) (g.D.Disk.told c.append_next.new.disk)
+    (first_refusal (append_refusals (memory s) c.args.client c.args.request c.args.body.now)) (sym (c.append_refusal.ensures.why c.args.body.now refl) ∙ c.in_default.is) c.in-Ok.ensures.events
+
+pub returns-in-Err-clause-own : goal.returns-in-Err-clause-own
+returns-in-Err-clause-own g c =
+    let s = c.args.self.now in
+    part_own (append_events s (next_unit s c.args.client c.args.request c.args.body.now)) (g.D.Disk.told c.args.disk.now) (g.D.Disk.told c.append_next.new.disk)
+    (first_refusal (append_refusals (memory s) c.args.client c.args.request c.args.body.now)) (sym (c.append_refusal.ensures.why c.args.body.now refl) ∙ c.in_default.is) c.in-Err.ensures.events

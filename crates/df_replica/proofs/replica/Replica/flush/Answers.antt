@@ -1,10 +1,15 @@
 -- Each flush is the machine's.
-use Rattle.std.proofs.Common.{◌≡◌, ◌<◌, ℕ, Bool, nat_lt, not, length, Some, None, ap, subst, arith, lt-ltb}
+use Rattle.std.proofs.Common.{◌≡◌, ◌<◌, ℕ, Bool, nat_lt, not, length, Some, None, ap, subst, arith, lt-ltb, Err, refl}
 use Rattle.std.specs.Prelude.{if◌then◌else◌}
+use Rattle.df_model.specs.Commands.{Flush}
+use Rattle.df_model.specs.Faults.{is_flush_fault}
 use Rattle.df_model.specs.Refusals.{first_refusal, flush_refusals}
 use Rattle.df_model.specs.declared.errors.FlushError.TheVariants.{NothingStaged}
 use Rattle.df_opening.specs.Below.{IsState, State, memory}
+use Rattle.df_replica.specs.Answering.{answer_of, as_flush}
+use Rattle.df_replica.specs.Flushing.{flush_events}
 use Rattle.df_replica.proofs.FlushAnswers.{count_serves, fault_serves, refusal_serves}
+use Rattle.df_replica.proofs.Owns.{all_own, part_own, refused_own}
 use Rattle.df_replica.proofs.replica.Replica.flush.Goals as goal
 
 none_staged : (s : State) → length s.staged ≡ 0 → first_refusal (flush_refusals (memory s)) ≡ Some NothingStaged
@@ -33,3 +38,21 @@ returns-in-Err-clause-call g c =
     let is = subst IsState c.self.view_is c.self.invariant.state in
     let count : c.len-count.result ≡ length s.staged = omega (arith, c.len-count.ensures.count, ap (λ (x : State). length x.staged) c.self.view_is) in
     fault_serves s is c.requires.live (some_staged s (omega (arith, count, c.if-count-eq0.false))) c.flush_next.ensures.held c.stop.new.self (g.D.Disk.told c.args.disk.now) (g.D.Disk.told c.flush_next.new.disk) (ap (λ (x : State). x.live) c.stop.ensures) c.in-Err.ensures.events
+
+pub returns-then-count-eq0-clause-own : goal.returns-then-count-eq0-clause-own
+returns-then-count-eq0-clause-own g c =
+    let s = c.args.self.now in
+    let none : length s.staged ≡ 0 = omega (arith, c.if-count-eq0.true, c.len-count.ensures.count, ap (λ (x : State). length x.staged) c.self.view_is) in
+    refused_own Flush s (g.D.Disk.told c.args.disk.now) (answer_of is_flush_fault as_flush (Err NothingStaged)) (flush_events s) (first_refusal (flush_refusals (memory s))) NothingStaged refl (none_staged s none)
+
+pub returns-in-Ok-clause-own : goal.returns-in-Ok-clause-own
+returns-in-Ok-clause-own g c =
+    let s = c.args.self.now in
+    let count : c.len-count.result ≡ length s.staged = omega (arith, c.len-count.ensures.count, ap (λ (x : State). length x.staged) c.self.view_is) in
+    all_own (flush_events s) (g.D.Disk.told c.args.disk.now) (g.D.Disk.told c.flush_next.new.disk) (first_refusal (flush_refusals (memory s))) (some_staged s (omega (arith, count, c.if-count-eq0.false))) c.in-Ok.ensures.events
+
+pub returns-in-Err-clause-own : goal.returns-in-Err-clause-own
+returns-in-Err-clause-own g c =
+    let s = c.args.self.now in
+    let count : c.len-count.result ≡ length s.staged = omega (arith, c.len-count.ensures.count, ap (λ (x : State). length x.staged) c.self.view_is) in
+    part_own (flush_events s) (g.D.Disk.told c.args.disk.now) (g.D.Disk.told c.flush_next.new.disk) (first_refusal (flush_refusals (memory s))) (some_staged s (omega (arith, count, c.if-count-eq0.false))) c.in-Err.ensures.events

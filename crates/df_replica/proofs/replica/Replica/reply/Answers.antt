@@ -1,7 +1,13 @@
 -- What isn't refused may be the next reply, and each call is the machine's.
-use Rattle.std.proofs.Common.{refl, sym, ap, ◌∙◌}
-use Rattle.df_opening.specs.Below.{State}
+use Rattle.std.proofs.Common.{Err, refl, sym, ap, ◌∙◌}
+use Rattle.df_model.specs.Commands.{Reply}
+use Rattle.df_model.specs.Faults.{is_reply_fault}
+use Rattle.df_model.specs.Refusals.{first_refusal, reply_refusals}
+use Rattle.df_opening.specs.Below.{State, memory}
+use Rattle.df_replica.specs.Answering.{answer_of, as_reply}
+use Rattle.df_replica.specs.Replying.{next_reply, reply_events}
 use Rattle.df_replica.specs.Stopping.{stopped}
+use Rattle.df_replica.proofs.Owns.{all_own, part_own, refused_own}
 use Rattle.df_replica.proofs.ReplyAnswers.{fault_serves, refusal_serves, stored_serves}
 use Rattle.df_replica.proofs.ReplyTests.{may_reply}
 use Rattle.df_replica.proofs.replica.Replica.reply.Goals as goal
@@ -24,3 +30,21 @@ returns-in-Err-clause-call g c =
 
 pub returns-in-Err-clause-exact : goal.returns-in-Err-clause-exact
 returns-in-Err-clause-exact g c = (sym (c.why_no_reply.ensures.why c.args.body.now refl) ∙ c.in_default.is, c.stop.ensures ∙ ap stopped c.in-Err.ensures.kept, c.in-Err.ensures.events)
+
+pub returns-in-Some-clause-own : goal.returns-in-Some-clause-own
+returns-in-Some-clause-own g c =
+    let s = c.args.self.now in
+    refused_own (Reply c.args.op c.args.body.now) s (g.D.Disk.told c.args.disk.now) (answer_of is_reply_fault as_reply (Err c.in-Some.error)) (reply_events s (next_reply s c.args.body.now)) (first_refusal (reply_refusals (memory s) c.args.op c.args.body.now))
+    c.in-Some.error refl (sym (c.in-Some.ensures.why c.args.body.now refl))
+
+pub returns-in-Ok-clause-own : goal.returns-in-Ok-clause-own
+returns-in-Ok-clause-own g c =
+    let s = c.args.self.now in
+    all_own (reply_events s (next_reply s c.args.body.now)) (g.D.Disk.told c.args.disk.now) (g.D.Disk.told c.reply_next.new.disk) (first_refusal (reply_refusals (memory s) c.args.op c.args.body.now))
+    (sym (c.why_no_reply.ensures.why c.args.body.now refl) ∙ c.in_default.is) c.in-Ok.ensures.events
+
+pub returns-in-Err-clause-own : goal.returns-in-Err-clause-own
+returns-in-Err-clause-own g c =
+    let s = c.args.self.now in
+    part_own (reply_events s (next_reply s c.args.body.now)) (g.D.Disk.told c.args.disk.now) (g.D.Disk.told c.reply_next.new.disk) (first_refusal (reply_refusals (memory s) c.args.op c.args.body.now))
+    (sym (c.why_no_reply.ensures.why c.args.body.now refl) ∙ c.in_default.is) c.in-Err.ensures.events
