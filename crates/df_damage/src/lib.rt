@@ -11,10 +11,10 @@ mod refusing;
 
 pub use anew::{a_log_is_begun_anew, what_is_found_may_begin};
 pub use df_recovery::{
-    Copies, DataFile, FileRooms, Found, LogRooms, Parts, Rooms, RunningCheckpoint, Scanned,
-    Staging, Surveyed, Traces, file_is_read, find_state, found_is_answer, one_answer, plan, probe,
-    read_superblock, scan_file, state_is_opened, store_replies, stored_is_kept, super_is_written,
-    survey_superblock, survey_version, waiting_of,
+    Copies, DataFile, Found, LogRooms, Parts, Rooms, RunningCheckpoint, Scanned, Staging, Surveyed,
+    Traces, file_is_read, find_state, found_is_answer, one_answer, plan, probe, read_superblock,
+    scan_file, state_is_opened, store_replies, stored_is_kept, super_is_written, survey_superblock,
+    survey_version, waiting_of,
 };
 pub use disks::what_is_left_may_be_hurt;
 pub use lived::{found_state_was_had_since, history_goes_on};
