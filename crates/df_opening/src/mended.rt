@@ -3,7 +3,6 @@ ghost use Rattle.std.specs.Prelude.{◌≡◌, ◌<◌, length, IfErr, IfOk, Non
 ghost use Rattle.df_base.specs.declared.TheConstants.{GREATEST};
 ghost use Rattle.df_format.specs.SuperRules.{fault_of};
 ghost use Rattle.df_opening.specs.Below.{HasCause, IsBlamed, is_mend_fault, update_events, without_rooms};
-ghost use Rattle.df_opening.specs.Held.{AreAsBefore, AreLogRoomsOf};
 ghost use Rattle.df_opening.specs.Keeping.{format};
 ghost use Rattle.df_opening.specs.Mending.{AddsSteps, AddsUpdating, mending_events, mending_steps, raised_state};
 ghost use Rattle.df_opening.specs.Raising.{AreRaised, RaisesEach, opening_events};
@@ -11,7 +10,7 @@ ghost use Rattle.df_opening.specs.Survey.{survey_in};
 ghost use Rattle.df_damage.specs.Below.{AreFound, AreWhole, boot_fields, state_in};
 
 use crate::mending::{are_four, write_mends};
-use crate::{DataFile, LogRooms, MendError, Parts, Rooms, SurveyedFile};
+use crate::{MendError, Parts, Rooms, SurveyedFile};
 use df_base::Failed;
 use df_disk::Disk;
 use df_format::{Super, SuperFields, test_fields};
