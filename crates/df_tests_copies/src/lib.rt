@@ -3,16 +3,4 @@
 #![tactic(auto)]
 
 #[cfg(test)]
-mod choices;
-#[cfg(test)]
-mod copies;
-#[cfg(test)]
-mod room_copies;
-#[cfg(test)]
-mod second_superblocks;
-#[cfg(test)]
-mod super_examples;
-#[cfg(test)]
-mod superblocks;
-#[cfg(test)]
-mod updates;
+mod tests;

@@ -1,7 +1,7 @@
 // The copies of the superblock over disks in memory: updates, reads and repairs, and a disk that loses writes.
 ghost use Rattle.std.specs.Prelude.{◌≡◌, ◌<◌};
 
-use crate::super_examples::{FIRST, NEW, members};
+use crate::tests::super_examples::{FIRST, NEW, members};
 use df_base::SECTOR;
 use df_buffers::ProbeRoom;
 use df_disk::Disk;

@@ -1,7 +1,7 @@
 // The rooms of the superblock's copies in use.
 ghost use Rattle.std.specs.Prelude.{◌≡◌};
 
-use crate::super_examples::{FIRST, written};
+use crate::tests::super_examples::{FIRST, written};
 use df_buffers::{ProbeRoom, Raw, SuperSector};
 use df_format::SuperCopy;
 use df_layout::{Class, Layout, Place, Zone};

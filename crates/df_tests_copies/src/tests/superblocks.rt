@@ -1,5 +1,5 @@
 // Which superblocks can be used: each field's test failing in turn, and passing at its limits.
-use crate::super_examples::{FIRST, LATER, fields_in, judged, sealed, used, written};
+use crate::tests::super_examples::{FIRST, LATER, fields_in, judged, sealed, used, written};
 use df_format::{SuperFault, SuperFields};
 use df_layout::{Field, Layout};
 

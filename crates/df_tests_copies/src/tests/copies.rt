@@ -1,5 +1,5 @@
 // Copies of the superblock against values from outside: the bytes of the first one, and which sectors are a copy.
-use crate::super_examples::{
+use crate::tests::super_examples::{
     FIRST, LATER, OF_PLACE_2, fields_in, number_in, sealed, used, written,
 };
 use df_format::{SuperCopy, SuperFields, decode_copy};

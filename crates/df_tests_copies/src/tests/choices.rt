@@ -1,5 +1,5 @@
 // The choice over tables of four slots, as pictures of the four copies.
-use crate::super_examples::{FIRST, OF_PLACE_2, members};
+use crate::tests::super_examples::{FIRST, OF_PLACE_2, members};
 use df_format::{SuperCopy, SuperFields};
 use df_layout::Class;
 use df_quorum::{Chosen, Slot, choose};

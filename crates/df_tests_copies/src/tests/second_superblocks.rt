@@ -1,5 +1,5 @@
 // Superblocks of version 2: their bytes against values from outside, and each of their own tests failing in turn.
-use crate::super_examples::{
+use crate::tests::super_examples::{
     LATER, NEW, OF_PLACE_2, fields_in, judged, number_in, sealed, written,
 };
 use df_base::Check;
