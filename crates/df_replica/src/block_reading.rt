@@ -40,7 +40,8 @@ impl Replica {
         ensures exact { IsReadBlock address self.old (D.told disk.old) (block_words (λ u. u.now.unit) result) }
         ensures lent { IfOk result (λ u. IsKnownBlock AsBlock self.old.file.layout self.old.file.cluster address (sum_at address self.old.blocks.live) u.now.unit) }
         ensures written { LendsWrittenBlock address self.old (block_words (λ u. u.now.unit) result) (D.told disk.old) }
-        ensures call { ServesBlockRead (ReadBlock address) self.old (left_by is_read_fault self.old result) (D.told disk.old) (what_block (block_words (λ u. u.now.unit) result)) (answer_of is_read_fault ToReadBlock (block_words (λ u. u.now.unit) result)) }
+        ensures call { ServesBlockRead (ReadBlock address) self.old (left_by is_read_fault self.old result) (D.told disk.old)
+            (what_block (block_words (λ u. u.now.unit) result)) (answer_of is_read_fault ToReadBlock (block_words (λ u. u.now.unit) result)) }
         ensures same { D.told disk.new ≡ D.told disk.old }
         ensures cause { IsBlamed is_read_fault (D.faults disk.old) (D.faults disk.new) result }
     {

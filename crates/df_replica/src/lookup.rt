@@ -137,7 +137,8 @@ impl Replica {
         ensures exact { IsReadReply client self.old (D.told disk.old) (in_words (λ u. u.now.unit) result) }
         ensures lent { IfOk result (λ u. IsKnownUnit AsReply self.old.file (place_in ClientReplies (place_for self.old client)) (reply_sum (memory self.old) (place_for self.old client)) u.now.unit) }
         ensures written { LendsWrittenReply client self.old (in_words (λ u. u.now.unit) result) (D.told disk.old) }
-        ensures call { ServesRead (ReadReply client) self.old (left_by is_lookup_fault self.old result) (D.told disk.old) (reply_found (in_words (λ u. u.now.unit) result)) (answer_of is_lookup_fault ToReadReply (in_words (λ u. u.now.unit) result)) }
+        ensures call { ServesRead (ReadReply client) self.old (left_by is_lookup_fault self.old result) (D.told disk.old)
+            (reply_found (in_words (λ u. u.now.unit) result)) (answer_of is_lookup_fault ToReadReply (in_words (λ u. u.now.unit) result)) }
         ensures same { D.told disk.new ≡ D.told disk.old }
         ensures cause { IsBlamed is_lookup_fault (D.faults disk.old) (D.faults disk.new) result }
     {

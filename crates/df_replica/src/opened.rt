@@ -23,7 +23,8 @@ impl Replica {
         ensures opened { (t : Told) → D.told disk.old ≡ Some t → IfOk result (λ replica. MendsAll t replica (D.told disk.new)) }
         ensures told { IfOk result (λ replica. ToldBy (after Sync (D.told disk.old)) (D.told disk.new)) }
         ensures refused { IfErr result (λ refused. (refused.1 ≡ OpenError.DiskFault → ⊥) → D.told disk.new ≡ after Sync (D.told disk.old)) }
-        ensures stopped { (t : Told) → D.told disk.old ≡ Some t → IfErr result (λ refused. IsImage t.shown → refused.1 ≡ OpenError.DiskFault → StopsOpening rooms.layout t (D.told disk.new)) }
+        ensures stopped { (t : Told) → D.told disk.old ≡ Some t
+            → IfErr result (λ refused. IsImage t.shown → refused.1 ≡ OpenError.DiskFault → StopsOpening rooms.layout t (D.told disk.new)) }
         ensures cause { IsBlamed is_open_fault (D.faults disk.old) (D.faults disk.new) (without_rooms result) }
     {
         match open_file(disk, rooms) {

@@ -2,7 +2,8 @@
 ghost use Rattle.std.specs.Prelude.{◌≡◌, ◌<◌, ◌%◌, true, slice_get, IfOk};
 ghost use Rattle.std.specs.Borrow.{sem};
 ghost use Rattle.std.specs.Io.BufRead.{Rests};
-ghost use Rattle.df_replica.specs.Below.{HasCause, IsBlamed, WalPrepares, Prepare as AsPrepare, place_in, IsCheck, ReadPrepare, ToReadPrepare, is_prepare_fault, prepare_sum, first_refusal, prepare_refusals, IsState, memory};
+ghost use Rattle.df_replica.specs.Below.{HasCause, IsBlamed, WalPrepares, Prepare as AsPrepare, place_in, IsCheck, ReadPrepare};
+ghost use Rattle.df_replica.specs.Below.{ToReadPrepare, is_prepare_fault, prepare_sum, first_refusal, prepare_refusals, IsState, memory};
 ghost use Rattle.df_headers.specs.Ring.{IsHeaderTable};
 ghost use Rattle.df_replica.specs.Answering.{ServesRead, answer_of};
 ghost use Rattle.df_opening.specs.Held.{AreAsBefore, AreLogRoomsOf};
@@ -86,7 +87,8 @@ impl Replica {
         ensures exact { IsReadPrepare op self.old (D.told disk.old) (in_words (λ u. u.now.unit) result) }
         ensures lent { IfOk result (λ u. IsKnownUnit AsPrepare self.old.file (place_in WalPrepares (op % self.old.file.layout.slots)) (prepare_sum (memory self.old) op) u.now.unit) }
         ensures written { LendsWrittenPrepare op self.old (in_words (λ u. u.now.unit) result) (D.told disk.old) }
-        ensures call { ServesRead (ReadPrepare op) self.old (left_by is_prepare_fault self.old result) (D.told disk.old) (prepare_found (in_words (λ u. u.now.unit) result)) (answer_of is_prepare_fault ToReadPrepare (in_words (λ u. u.now.unit) result)) }
+        ensures call { ServesRead (ReadPrepare op) self.old (left_by is_prepare_fault self.old result) (D.told disk.old)
+            (prepare_found (in_words (λ u. u.now.unit) result)) (answer_of is_prepare_fault ToReadPrepare (in_words (λ u. u.now.unit) result)) }
         ensures same { D.told disk.new ≡ D.told disk.old }
         ensures cause { IsBlamed is_prepare_fault (D.faults disk.old) (D.faults disk.new) result }
     {

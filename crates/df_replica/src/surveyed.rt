@@ -2,7 +2,8 @@
 ghost use Rattle.std.specs.Prelude.{◌≡◌, IfOk, IfErr, Some, slice_get};
 ghost use Rattle.df_theory.specs.Found.{IsFound};
 ghost use Rattle.df_units.specs.Bytes.{unit_at};
-ghost use Rattle.df_replica.specs.Below.{AreDistinctUnits, AreSteps, IsBlamed, IsImage, Represents, Syncs, TellsHurt, TellsLived, Told, View, boot_fields, is_mend_fault, is_open_fault, restarted, shape, without_rooms};
+ghost use Rattle.df_replica.specs.Below.{AreDistinctUnits, AreSteps, IsBlamed, IsImage, Represents, Syncs, TellsHurt, TellsLived};
+ghost use Rattle.df_replica.specs.Below.{Told, View, boot_fields, is_mend_fault, is_open_fault, restarted, shape, without_rooms};
 ghost use Rattle.df_replica.specs.Replica.{summary_of};
 ghost use Rattle.df_opening.specs.Mending.{AddsRaising, IsPlanned, IsReadBack, IsUnharmed, RestsOnDisk, first_state, raised_state};
 ghost use Rattle.df_opening.specs.Raising.{IsPlannedOf, RaisesAnew, RaisesOver, opening_events, opening_steps};
@@ -95,7 +96,8 @@ impl Surveyed {
         ensures unharmed { IsUnharmed (D.told disk.new) (without_rooms result) }
         ensures over { (base : Told) (g : Grade) (view : View) → IsPlannedOf self base → RestsOnDisk g self.state.file view base
             → Represents self.state (first_state self.state.file base view) → RaisesOver g view self base }
-        ensures anew { (base : Told) (g : Grade) (view : View) → IsPlannedOf self (restarted base) → IsImage base.shown → IsFound (shape self.state.file) (unit_at self.state.file.layout self.state.file.cluster base.shown) view
+        ensures anew { (base : Told) (g : Grade) (view : View) → IsPlannedOf self (restarted base) → IsImage base.shown
+            → IsFound (shape self.state.file) (unit_at self.state.file.layout self.state.file.cluster base.shown) view
             → AreDistinctUnits (unit_at self.state.file.layout self.state.file.cluster base.shown) → StandsFor g (unit_at self.state.file.layout self.state.file.cluster base.shown) view
             → Represents self.state (first_state self.state.file base view) → RaisesAnew g view self (restarted base) }
         ensures cause { IsBlamed is_mend_fault (D.faults disk.old) (D.faults disk.new) (without_rooms result) }

@@ -67,7 +67,8 @@ fn run_file<D: Disk, S: Source, W: Sink>(
 ) -> Status
     ensures runs { RunsTable (around (D.told disk.old) (S.left source.old) (W.written sink.old)) (around (D.told disk.new) (S.left source.new) (W.written sink.new)) result }
     ensures causes { HasTableCauses (counts (D.faults disk.old) (S.faults source.old) (W.faults sink.old)) (counts (D.faults disk.new) (S.faults source.new) (W.faults sink.new)) result }
-    ensures memory { result ≡ Status.Memory → PrintsNothing (around (D.told disk.old) (S.left source.old) (W.written sink.old)) (around (D.told disk.new) (S.left source.new) (W.written sink.new)) }
+    ensures memory { result ≡ Status.Memory → PrintsNothing (around (D.told disk.old) (S.left source.old) (W.written sink.old))
+        (around (D.told disk.new) (S.left source.new) (W.written sink.new)) }
     ensures unwritten { result ≡ Status.Memory → D.told disk.new ≡ D.told disk.old }
     ensures words { result ≡ Status.Words → ⊥ }
 {
@@ -102,11 +103,13 @@ pub fn run_table<D: Disk, S: Source, W: Sink>(
     // The file is refused as any open of it refuses it, or since it is no table's, by the first place that shows it. Else the script is executed: what is written is the text of
     // a map, from the table on that the file has, and from the barrier on whatever a stop leaves has that table after the first puts and drops, all that were answered by then
     // and perhaps some after them.
-    ensures runs { IsTableWord (map string_bytes words.now) → RunsTable (around (D.told disk.old) (S.left source.old) (W.written sink.old)) (around (D.told disk.new) (S.left source.new) (W.written sink.new)) result }
+    ensures runs { IsTableWord (map string_bytes words.now)
+        → RunsTable (around (D.told disk.old) (S.left source.old) (W.written sink.old)) (around (D.told disk.new) (S.left source.new) (W.written sink.new)) result }
 
     // Want of memory comes before anything was read of the script or written. A call ends at its first fault: of the three counts one at most
     // rises, once, that of what the status blames.
-    ensures memory { result ≡ Status.Memory → PrintsNothing (around (D.told disk.old) (S.left source.old) (W.written sink.old)) (around (D.told disk.new) (S.left source.new) (W.written sink.new)) }
+    ensures memory { result ≡ Status.Memory → PrintsNothing (around (D.told disk.old) (S.left source.old) (W.written sink.old))
+        (around (D.told disk.new) (S.left source.new) (W.written sink.new)) }
     ensures unwritten { result ≡ Status.Memory → D.told disk.new ≡ D.told disk.old }
     ensures causes { HasTableCauses (counts (D.faults disk.old) (S.faults source.old) (W.faults sink.old)) (counts (D.faults disk.new) (S.faults source.new) (W.faults sink.new)) result }
 {

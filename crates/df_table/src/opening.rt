@@ -8,7 +8,8 @@ ghost use Rattle.df_model.specs.Work.{Work, is_known};
 ghost use Rattle.df_session.specs.Below.{memory};
 ghost use Rattle.df_session.specs.Reading.{shown_of};
 ghost use Rattle.df_table.specs.Calls.{Comes, OpensTable};
-ghost use Rattle.df_table.specs.Opening.{FindsOf, IsOtherClient, NoneIsOther, ReadsNext, ReadsPrepare, ReadsTableBlock, TakesBlocks, TakesCommand, TakesRows, TakesTail, block_ending, place_at, prepare_ending};
+ghost use Rattle.df_table.specs.Opening.{FindsOf, IsOtherClient, NoneIsOther, ReadsNext, ReadsPrepare, ReadsTableBlock};
+ghost use Rattle.df_table.specs.Opening.{TakesBlocks, TakesCommand, TakesRows, TakesTail, block_ending, place_at, prepare_ending};
 ghost use Rattle.df_table.specs.Policy.{block_reads, prepare_reads, reads_at, replies};
 ghost use Rattle.df_table.specs.Ready.{HasCaughtUp, IsBegun, IsReadyReplica};
 ghost use Rattle.df_table.specs.Statuses.{is_disk};
@@ -128,7 +129,8 @@ fn take_next<D: Disk>(
     requires live { replica.old.live ≡ true }
     requires few { taken.count < 2 ^ 32 }
     ensures makes { Comes (reads_at address (memory replica.old)) replica.old replica.new (D.told disk.old) (D.told disk.new) result }
-    ensures reads { (t : Told) → D.told disk.old ≡ Some t → ReadsNext (shown_of replica.old.file t.shown) (memory replica.old) address most taken (sum_at address replica.old.blocks.live) result }
+    ensures reads { (t : Told) → D.told disk.old ≡ Some t
+        → ReadsNext (shown_of replica.old.file t.shown) (memory replica.old) address most taken (sum_at address replica.old.blocks.live) result }
     ensures count { IfOk result (λ next. next.count ≤ taken.count + 1) }
     ensures kept { OnOk result (replica.new ≡ replica.old) }
     ensures same { D.told disk.new ≡ D.told disk.old }
@@ -215,7 +217,8 @@ fn take_prepare<D: Disk>(
     requires behind { replica.old.fields.op < op }
     requires within { op ≤ replica.old.head }
     ensures makes { Comes (ReadPrepare op ∷ []) replica.old replica.new (D.told disk.old) (D.told disk.new) result }
-    ensures reads { replica.old.file.layout ≡ layout.now → (t : Told) → D.told disk.old ≡ Some t → ReadsPrepare layout.now (shown_of replica.old.file t.shown) (memory replica.old) op table.old table.new result }
+    ensures reads { replica.old.file.layout ≡ layout.now → (t : Told) → D.told disk.old ≡ Some t
+        → ReadsPrepare layout.now (shown_of replica.old.file t.shown) (memory replica.old) op table.old table.new result }
     ensures kept { OnOk result (replica.new ≡ replica.old) }
     ensures same { D.told disk.new ≡ D.told disk.old }
     ensures disk { IsBlamed is_disk (D.faults disk.old) (D.faults disk.new) result }
@@ -235,7 +238,8 @@ fn take_tail<D: Disk>(
 ) -> Result<(), Ending>
     requires live { replica.old.live ≡ true }
     ensures makes { Comes (prepare_reads (memory replica.old)) replica.old replica.new (D.told disk.old) (D.told disk.new) result }
-    ensures takes { (w : Work) → IsBegun layout.now w replica.old → (t : Told) → D.told disk.old ≡ Some t → TakesBlocks layout.now (shown_of replica.old.file t.shown) (memory replica.old) (Ok table.old)
+    ensures takes { (w : Work) → IsBegun layout.now w replica.old → (t : Told) → D.told disk.old ≡ Some t
+        → TakesBlocks layout.now (shown_of replica.old.file t.shown) (memory replica.old) (Ok table.old)
         → TakesTail layout.now (shown_of replica.old.file t.shown) (memory replica.old) table.new result }
     ensures kept { OnOk result (replica.new ≡ replica.old) }
     ensures same { D.told disk.new ≡ D.told disk.old }
@@ -283,7 +287,8 @@ fn follow<D: Disk>(
 ) -> Result<ObjectTable, Ending>
     requires live { replica.old.live ≡ true }
     ensures makes { Comes (prepare_reads (memory replica.old) ++ replies (memory replica.old)) replica.old replica.new (D.told disk.old) (D.told disk.new) result }
-    ensures finds { (w : Work) → IsBegun layout.now w replica.old → (t : Told) → D.told disk.old ≡ Some t → TakesBlocks layout.now (shown_of replica.old.file t.shown) (memory replica.old) (Ok table)
+    ensures finds { (w : Work) → IsBegun layout.now w replica.old → (t : Told) → D.told disk.old ≡ Some t
+        → TakesBlocks layout.now (shown_of replica.old.file t.shown) (memory replica.old) (Ok table)
         → FindsOf layout.now (shown_of replica.old.file t.shown) (memory replica.old) result }
     ensures caught { OnOk result (HasCaughtUp replica.old replica.new) }
     ensures live { OnOk result (replica.new.live ≡ true) }
@@ -309,7 +314,8 @@ pub(crate) fn open_table<D: Disk>(
     requires empty { table ≡ empty_table layout.now }
     requires live { replica.old.live ≡ true }
     ensures opens { (w : Work) → IsBegun layout.now w replica.old → OpensTable replica.old replica.new (D.told disk.old) (D.told disk.new) result }
-    ensures finds { (w : Work) → IsBegun layout.now w replica.old → (t : Told) → D.told disk.old ≡ Some t → FindsOf layout.now (shown_of replica.old.file t.shown) (memory replica.old) result }
+    ensures finds { (w : Work) → IsBegun layout.now w replica.old → (t : Told) → D.told disk.old ≡ Some t
+        → FindsOf layout.now (shown_of replica.old.file t.shown) (memory replica.old) result }
     ensures ready { (w : Work) → IsBegun layout.now w replica.old → (t : Told) → D.told disk.old ≡ Some t → OnOk result (IsReadyReplica layout.now replica.new) }
     ensures live { OnOk result (replica.new.live ≡ true) }
     ensures disk { IsBlamed is_disk (D.faults disk.old) (D.faults disk.new) result }

@@ -60,7 +60,8 @@ fn serve_opened<D: Disk, S: Source, W: Sink>(
     requires table { opening.table ≡ empty_table opening.layout }
     requires block { 64 * limits.rows_in_block opening.layout ≤ vec_len opening.block }
     ensures ends { EndsWithFile result }
-    ensures serves { (w : Work) → IsBegun opening.layout w replica → (t : Told) → D.told disk.old ≡ Some t → ServesOpened opening.layout replica t (around (D.told disk.old) (S.left source.old) (W.written sink.old)) (around (D.told disk.new) (S.left source.new) (W.written sink.new)) result }
+    ensures serves { (w : Work) → IsBegun opening.layout w replica → (t : Told) → D.told disk.old ≡ Some t
+        → ServesOpened opening.layout replica t (around (D.told disk.old) (S.left source.old) (W.written sink.old)) (around (D.told disk.new) (S.left source.new) (W.written sink.new)) result }
     ensures causes { HasTableCauses (counts (D.faults disk.old) (S.faults source.old) (W.faults sink.old)) (counts (D.faults disk.new) (S.faults source.new) (W.faults sink.new)) result }
 {
     let Opening {
@@ -96,7 +97,8 @@ pub(crate) fn serve_table<D: Disk, S: Source, W: Sink>(
     requires lines { IsFresh (line_bound reserved.rooms.layout) reserved.lines }
     requires table { reserved.table ≡ empty_table reserved.rooms.layout }
     requires block { 64 * limits.rows_in_block reserved.rooms.layout ≤ vec_len reserved.block }
-    ensures serves { (t : Told) → D.told disk.old ≡ Some t → IsImage t.shown → DoesTable reserved.rooms.layout t (around (D.told disk.old) (S.left source.old) (W.written sink.old)) (around (D.told disk.new) (S.left source.new) (W.written sink.new)) result }
+    ensures serves { (t : Told) → D.told disk.old ≡ Some t → IsImage t.shown
+        → DoesTable reserved.rooms.layout t (around (D.told disk.old) (S.left source.old) (W.written sink.old)) (around (D.told disk.new) (S.left source.new) (W.written sink.new)) result }
     ensures causes { HasTableCauses (counts (D.faults disk.old) (S.faults source.old) (W.faults sink.old)) (counts (D.faults disk.new) (S.faults source.new) (W.faults sink.new)) result }
     ensures ends { EndsWithFile result }
 {

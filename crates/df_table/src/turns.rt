@@ -30,7 +30,8 @@ fn put<D: Disk, W: Sink>(
     requires serving { (at_end : Option (List ℕ)) × IsServing session.old.layout session.old at_end }
     requires size { size ≤ length session.old.lines.body }
     requires fine { refusal_of session.old.table (lines.Put key size) ≡ None }
-    ensures executes { ExecutesLine session.old.layout (Put key (take size session.old.lines.body)) session.old session.new (D.told disk.old) (D.told disk.new) (W.written sink.old) (W.written sink.new) result }
+    ensures executes { ExecutesLine session.old.layout (Put key (take size session.old.lines.body)) session.old session.new (D.told disk.old) (D.told disk.new)
+        (W.written sink.old) (W.written sink.new) result }
     ensures disk { BlamesIfEnds Status.DiskFault (D.faults disk.old) (D.faults disk.new) result }
     ensures sink { BlamesIfEnds Status.WriteFault (W.faults sink.old) (W.faults sink.new) result }
 {
@@ -91,7 +92,8 @@ fn perform<D: Disk, W: Sink>(
     requires serving { (at_end : Option (List ℕ)) × IsServing session.old.layout session.old at_end }
     requires size { value_length line ≤ length session.old.lines.body }
     requires fine { refusal_of session.old.table line ≡ None }
-    ensures executes { ExecutesLine session.old.layout (said_with session.old.lines.body line) session.old session.new (D.told disk.old) (D.told disk.new) (W.written sink.old) (W.written sink.new) result }
+    ensures executes { ExecutesLine session.old.layout (said_with session.old.lines.body line) session.old session.new (D.told disk.old) (D.told disk.new)
+        (W.written sink.old) (W.written sink.new) result }
     ensures disk { BlamesIfEnds Status.DiskFault (D.faults disk.old) (D.faults disk.new) result }
     ensures sink { BlamesIfEnds Status.WriteFault (W.faults sink.old) (W.faults sink.new) result }
 {
@@ -112,7 +114,8 @@ fn execute<D: Disk, W: Sink>(
 ) -> Turn<Status>
     requires serving { (at_end : Option (List ℕ)) × IsServing session.old.layout session.old at_end }
     requires size { value_length line ≤ length session.old.lines.body }
-    ensures executes { ExecutesLine session.old.layout (said_with session.old.lines.body line) session.old session.new (D.told disk.old) (D.told disk.new) (W.written sink.old) (W.written sink.new) result }
+    ensures executes { ExecutesLine session.old.layout (said_with session.old.lines.body line) session.old session.new (D.told disk.old) (D.told disk.new)
+        (W.written sink.old) (W.written sink.new) result }
     ensures disk { BlamesIfEnds Status.DiskFault (D.faults disk.old) (D.faults disk.new) result }
     ensures sink { BlamesIfEnds Status.WriteFault (W.faults sink.old) (W.faults sink.new) result }
 {
