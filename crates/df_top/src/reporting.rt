@@ -50,7 +50,8 @@ fn summarise<W: Sink>(sink: &mut W, replica: &Replica) -> Status
 
 /// Surveys the file and prints the report of what is found, or why the file is refused. Nothing is written to the disk, and no boot is raised.
 pub fn inspect_file<D: Disk, W: Sink>(rooms: Rooms, sink: &mut W, disk: &mut D) -> Status
-    ensures inspects { (left : Option (List ℕ)) → ServesIn Mode.Inspect rooms.layout (around (D.told disk.old) left (W.written sink.old)) (around (D.told disk.new) left (W.written sink.new)) result }
+    ensures inspects { (left : Option (List ℕ)) → ServesIn Mode.Inspect rooms.layout (around (D.told disk.old) left (W.written sink.old))
+        (around (D.told disk.new) left (W.written sink.new)) result }
     ensures syncs { AddsPart (Sync ∷ []) (D.told disk.old) (D.told disk.new) }
     ensures causes { (source : ℕ) → HasCauses (counts (D.faults disk.old) source (W.faults sink.old)) (counts (D.faults disk.new) source (W.faults sink.new)) result }
     ensures ends { EndsWithFile result }
@@ -63,7 +64,8 @@ pub fn inspect_file<D: Disk, W: Sink>(rooms: Rooms, sink: &mut W, disk: &mut D) 
 
 /// Opens the file, which mends it and raises its boot, and prints its summary, or why the file is refused.
 pub fn recover_file<D: Disk, W: Sink>(rooms: Rooms, sink: &mut W, disk: &mut D) -> Status
-    ensures recovers { (left : Option (List ℕ)) → ServesIn Mode.Recover rooms.layout (around (D.told disk.old) left (W.written sink.old)) (around (D.told disk.new) left (W.written sink.new)) result }
+    ensures recovers { (left : Option (List ℕ)) → ServesIn Mode.Recover rooms.layout (around (D.told disk.old) left (W.written sink.old))
+        (around (D.told disk.new) left (W.written sink.new)) result }
     ensures causes { (source : ℕ) → HasCauses (counts (D.faults disk.old) source (W.faults sink.old)) (counts (D.faults disk.new) source (W.faults sink.new)) result }
     ensures ends { EndsWithFile result }
 {
