@@ -23,6 +23,47 @@ pub struct Capture {
     pub sequence: u64,
 }
 
+/// A root of at most 1,024 bytes, in a list of its own.
+pub fn root_of(root: &[u8]) -> ArrayVec<u8, ROOT>
+    requires { length root.now ≤ 1024 }
+    ensures { result.items ≡ root.now }
+{
+    let mut copy = ArrayVec::new();
+    match copy.try_extend_from_slice(root) {
+        Ok(()) => copy,
+        Err(_) => unreachable!(),
+    }
+}
+
+// At most 64 sessions, in a list of their own.
+fn sessions_of(sessions: &[Session]) -> ArrayVec<Session, 64>
+    requires { length sessions.now ≤ 64 }
+    ensures { result.items ≡ sessions.now }
+{
+    let mut copy = ArrayVec::new();
+    match copy.try_extend_from_slice(sessions) {
+        Ok(()) => copy,
+        Err(_) => unreachable!(),
+    }
+}
+
+impl Capture {
+    /// A root of at most 1,024 bytes, at most 64 sessions and the next sequence, in lists of their own.
+    pub fn of(root: &[u8], sessions: &[Session], sequence: u64) -> Capture
+        requires short { length root.now ≤ 1024 }
+        requires few { length sessions.now ≤ 64 }
+        ensures root { result.root.items ≡ root.now }
+        ensures sessions { result.sessions.items ≡ sessions.now }
+        ensures sequence { result.sequence ≡ sequence }
+    {
+        Capture {
+            root: root_of(root),
+            sessions: sessions_of(sessions),
+            sequence,
+        }
+    }
+}
+
 /// Writes the piece with this index of the text of what was captured, without a sync: the running trailer's next block, made in a room
 /// of a block's body. Its index is the number of blocks that are written, below 70. After an error the block is still the next one.
 pub fn write_piece<D: Disk>(

@@ -12,7 +12,7 @@ mod reading;
 mod waiting;
 
 pub use backwards::is_among;
-pub use capture::{Capture, write_piece};
+pub use capture::{Capture, root_of, write_piece};
 pub use fault::TrailerFault;
 pub use links::{Link, link_before};
 pub use meaning::{damage_is_missed, one_test_fails, refused_is_shown, refused_is_unreadable};

@@ -17,44 +17,14 @@ ghost use Rattle.df_copy.specs.Trailers.{IsBegunGrid, text_in, AddsTrailer};
 use crate::ending::Ending;
 use crate::plan::Plan;
 use crate::target::Target;
-use arrayvec::ArrayVec;
 use df_base::Failed;
 use df_checkpoint::{Capture, write_piece};
 use df_disk::Disk;
 use df_grid::{Grid, chains_have_room};
-use df_layout::ROOT;
 use df_replica::Replica;
-use df_sessions::Session;
 
 // The least sequence of a checkpoint. A superblock that names a trailer has no lower one, since its trailer's blocks have the same.
 const FIRST_CHECKPOINT: u64 = 2;
-
-// The source's root, in a list of its own.
-fn root_of(root: &[u8]) -> ArrayVec<u8, ROOT>
-    requires { length root.now ≤ 1024 }
-    ensures { result.items ≡ root.now }
-{
-    let mut copy = ArrayVec::new();
-    let Ok(()) = copy.try_extend_from_slice(root) else {
-        unreachable!()
-    };
-    copy
-}
-
-// The source's sessions, in a list of their own.
-fn sessions_of(replica: &Replica) -> ArrayVec<Session, 64>
-    requires { length replica.now.table.sessions ≤ 64 }
-    ensures { result.items ≡ replica.now.table.sessions }
-{
-    let mut sessions = ArrayVec::new();
-    for place in 0..replica.summary().sessions {
-        let Some(session) = replica.session(place) else {
-            unreachable!()
-        };
-        sessions.push(session);
-    }
-    sessions
-}
 
 // What the copy's checkpoint captures beside its blocks: the source's root, sessions and sequence.
 fn capture_of(replica: &Replica) -> Capture
@@ -64,11 +34,8 @@ fn capture_of(replica: &Replica) -> Capture
     ensures sequence { result.sequence ≡ sequence_of replica.now }
     ensures bounds { (2 ≤ result.sequence) × (result.sequence ≤ GREATEST) }
 {
-    Capture {
-        root: root_of(replica.root()),
-        sessions: sessions_of(replica),
-        sequence: replica.fields().sequence.max(FIRST_CHECKPOINT),
-    }
+    let sequence = replica.fields().sequence.max(FIRST_CHECKPOINT);
+    Capture::of(replica.root(), replica.sessions(), sequence)
 }
 
 // Writes each block of a trailer that was begun, in order and without a sync.

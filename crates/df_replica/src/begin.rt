@@ -2,19 +2,16 @@
 // blocks are set aside. It touches no disk.
 ghost use Rattle.std.specs.Prelude.{◌≡◌, ◌≤◌, ◌+◌, ◌-◌, true, Option, length};
 ghost use Rattle.df_replica.specs.Below.{AreBytes, Told, Begin, IsState};
-ghost use Rattle.df_sessions.specs.Table.{IsSessionTable};
 ghost use Rattle.df_replica.specs.Answering.{Serves, begin_answer};
 ghost use Rattle.df_replica.specs.Beginning.{IsBegin, IsPlan, IsTested, MayBeginCheckpoint, with_checkpoint_begun};
 
 use crate::Replica;
-use crate::reply::session_in;
-use arrayvec::ArrayVec;
 use df_base::GREATEST;
 use df_checkpoint::Capture;
 use df_layout::ROOT;
 use df_model::BeginError;
 use df_opening::RunningCheckpoint;
-use df_sessions::{Session, SessionTable};
+use df_sessions::Session;
 use df_trailer::{blocks_needed, trailer_size};
 
 /// How long a trailer is to be.
@@ -23,33 +20,6 @@ pub(crate) struct Plan {
     /// Bytes of its text.
     pub(crate) size: u64,
     pub(crate) blocks: u64,
-}
-
-// The sessions of a table, in a list of their own.
-fn sessions_in(table: &SessionTable) -> ArrayVec<Session, 64>
-    ensures items { result.items ≡ table.now.sessions }
-    ensures table { IsSessionTable table.now }
-{
-    let mut sessions = ArrayVec::new();
-    let count = table.len();
-    let mut place = 0;
-    while place < count {
-        sessions.push(session_in(table, place));
-        place += 1;
-    }
-    sessions
-}
-
-// A root in a list of its own.
-fn root_of(root: &[u8]) -> ArrayVec<u8, ROOT>
-    requires { length root.now ≤ 1024 }
-    ensures { result.items ≡ root.now }
-{
-    let mut copy = ArrayVec::new();
-    match copy.try_extend_from_slice(root) {
-        Ok(()) => copy,
-        Err(_) => unreachable!(),
-    }
 }
 
 // How many steps of a running checkpoint are still to come: one for each block of its trailer, and the last.
@@ -104,16 +74,25 @@ impl Replica {
         Ok(plan)
     }
 
+    /// The sessions in order of their places.
+    pub fn sessions(&self) -> &[Session]
+        ensures is { result.now ≡ self.now.table.sessions }
+        ensures few { length result.now ≤ 64 }
+    {
+        // The sessions are a table of the file.
+        let _count = self.parts.sessions.len();
+        self.parts.sessions.as_slice()
+    }
+
     // Captures the state, for a checkpoint with a trailer of this length.
     fn capture(&mut self, root: &[u8], plan: Plan)
         requires { MayBeginCheckpoint self.old root.now plan }
         ensures { self.new ≡ with_checkpoint_begun self.old root.now }
     {
-        let capture = Capture {
-            root: root_of(root),
-            sessions: sessions_in(&self.parts.sessions),
-            sequence: self.parts.content.fields().sequence + 1,
-        };
+        // The sessions are a table of the file.
+        let _count = self.parts.sessions.len();
+        let sequence = self.parts.content.fields().sequence + 1;
+        let capture = Capture::of(root, self.parts.sessions.as_slice(), sequence);
         self.parts.grid.capture(plan.blocks);
         self.parts.running = Some(RunningCheckpoint {
             op: self.parts.head,

@@ -15,25 +15,13 @@ ghost use Rattle.df_top.specs.Turning.{BlamesIfEnds, DoesNext, DoesPiece, Leaves
 use crate::session::Session;
 use crate::status::Status;
 use crate::telling::tell_fault;
-use arrayvec::ArrayVec;
 use df_base::Sink;
+use df_checkpoint::root_of;
 use df_disk::Disk;
-use df_layout::ROOT;
 use df_model::{Answer, Command};
 use df_pace::Piece;
 use df_program::Turn;
 use df_session::{Fault, Replica, make};
-
-// The durable root, in a list of its own: a call that changes the replica can't be lent what the replica has.
-fn durable_root(replica: &Replica) -> ArrayVec<u8, ROOT>
-    ensures { result.items ≡ replica.now.root }
-{
-    let mut copy = ArrayVec::new();
-    match copy.try_extend_from_slice(replica.root()) {
-        Ok(()) => copy,
-        Err(_) => unreachable!(),
-    }
-}
 
 // Makes the call of a piece, and says whether a checkpoint was begun by it.
 fn make_piece<D: Disk>(disk: &mut D, replica: &mut Replica, command: Command) -> Result<bool, Fault>
@@ -61,7 +49,8 @@ fn begin<D: Disk>(disk: &mut D, replica: &mut Replica) -> Result<bool, Fault>
     ensures does { DoesPiece (Begin replica.old.root) replica.old replica.new (D.told disk.old) (D.told disk.new) result }
     ensures disk { IsBlamed is_disk_fault (D.faults disk.old) (D.faults disk.new) result }
 {
-    let root = durable_root(replica);
+    // In a list of its own: a call that changes the replica can't be lent what the replica has.
+    let root = root_of(replica.root());
     let root = root.as_slice();
     make_piece(disk, replica, Command::Begin { root })
 }

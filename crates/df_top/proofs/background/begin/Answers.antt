@@ -6,4 +6,4 @@ use Rattle.df_top.proofs.background.begin.Goals as goal
 
 pub returns-clause-does : goal.returns-clause-does
 returns-clause-does g c =
-    subst (λ (r : List ℕ). DoesPiece (Begin r) c.args.replica.now c.make_piece.new.replica (g.D.Disk.told c.args.disk.now) (g.D.Disk.told c.make_piece.new.disk) c.make_piece.result) (c.as_slice-root.ensures.value ∙ c.durable_root-root.ensures) c.make_piece.ensures.does
+    subst (λ (r : List ℕ). DoesPiece (Begin r) c.args.replica.now c.make_piece.new.replica (g.D.Disk.told c.args.disk.now) (g.D.Disk.told c.make_piece.new.disk) c.make_piece.result) (c.as_slice-root.ensures.value ∙ c.root_of-root.ensures ∙ c.root.ensures.is) c.make_piece.ensures.does

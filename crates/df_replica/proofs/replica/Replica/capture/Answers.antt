@@ -22,17 +22,17 @@ invariant_of-self c =
     ap (λ (n : ℕ). blocks_captured s.blocks (take n (free_in (layout_of s.file.layout) s.blocks))) (sym may.planned.blocks)
     ∙ ap (λ (l : Layout). blocks_captured s.blocks (take plan.blocks (free_in (layout_of l) s.blocks))) (sym c.self.invariant.grid_fits)
     ∙ ap (λ (g : GridState). g.blocks) (sym c.capture.ensures) in
-    let one = is_running s root plan old c.sessions_in.ensures.table may in
+    let one = is_running s root plan old c.len-count.ensures.table may in
     let two = subst (λ (n : ℕ). IsRunningCheckpoint s.file s.fields s.head (with_checkpoint_begun s root).blocks (record (captured s root) { size = n })) (sym may.planned.size) one in
     let three = subst (λ (n : ℕ). IsRunningCheckpoint s.file s.fields s.head (with_checkpoint_begun s root).blocks (record (captured s root) { size = plan.size; blocks = n })) (sym may.planned.blocks) two in
-    let four = subst (λ (r : List ℕ). IsRunningCheckpoint s.file s.fields s.head (with_checkpoint_begun s root).blocks (record (captured s root) { root = r; size = plan.size; blocks = plan.blocks })) (sym c.root_of.ensures) three in
-    let five = subst (λ (ss : List Session). IsRunningCheckpoint s.file s.fields s.head (with_checkpoint_begun s root).blocks (record (captured s root) { root = c.root_of.result.items; sessions = ss; size = plan.size; blocks = plan.blocks })) (sym c.sessions_in.ensures.items) four in
-    let six = subst (λ (f : SuperFields). IsRunningCheckpoint s.file s.fields s.head (with_checkpoint_begun s root).blocks (record (captured s root) { root = c.root_of.result.items; sessions = c.sessions_in.result.items; sequence = f.sequence + 1; size = plan.size; blocks = plan.blocks })) (sym c.fields.ensures.value) five in
-    let course = subst (λ (b : Blocks). IsRunningCheckpoint s.file s.fields s.head b (record (captured s root) { root = c.root_of.result.items; sessions = c.sessions_in.result.items; sequence = c.fields.result.now.sequence + 1; size = plan.size; blocks = plan.blocks })) blocks six in
+    let four = subst (λ (r : List ℕ). IsRunningCheckpoint s.file s.fields s.head (with_checkpoint_begun s root).blocks (record (captured s root) { root = r; size = plan.size; blocks = plan.blocks })) (sym c.of-capture.ensures.root) three in
+    let five = subst (λ (ss : List Session). IsRunningCheckpoint s.file s.fields s.head (with_checkpoint_begun s root).blocks (record (captured s root) { root = c.of-capture.result.root.items; sessions = ss; size = plan.size; blocks = plan.blocks })) (sym (c.of-capture.ensures.sessions ∙ c.as_slice.ensures)) four in
+    let six = subst (λ (n : ℕ). IsRunningCheckpoint s.file s.fields s.head (with_checkpoint_begun s root).blocks (record (captured s root) { root = c.of-capture.result.root.items; sessions = c.of-capture.result.sessions.items; sequence = n; size = plan.size; blocks = plan.blocks })) (sym (c.of-capture.ensures.sequence ∙ ap (λ (f : SuperFields). f.sequence + 1) c.fields-sequence.ensures.value)) five in
+    let course = subst (λ (b : Blocks). IsRunningCheckpoint s.file s.fields s.head b (record (captured s root) { root = c.of-capture.result.root.items; sessions = c.of-capture.result.sessions.items; sequence = c.of-capture.result.sequence; size = plan.size; blocks = plan.blocks })) blocks six in
     record {
-      state = subst (λ (n : ℕ). IsState (record s { blocks = c.capture.new.self.blocks; running = Some (record (captured s root) { root = c.root_of.result.items; sessions = c.sessions_in.result.items; sequence = c.fields.result.now.sequence + 1; size = plan.size; blocks = plan.blocks }); boot = n }))
+      state = subst (λ (n : ℕ). IsState (record s { blocks = c.capture.new.self.blocks; running = Some (record (captured s root) { root = c.of-capture.result.root.items; sessions = c.of-capture.result.sessions.items; sequence = c.of-capture.result.sequence; size = plan.size; blocks = plan.blocks }); boot = n }))
           (ap (λ (g : GridState). g.boot) (sym c.capture.ensures))
-          (with_course s c.capture.new.self.blocks (Some (record (captured s root) { root = c.root_of.result.items; sessions = c.sessions_in.result.items; sequence = c.fields.result.now.sequence + 1; size = plan.size; blocks = plan.blocks })) old course (λ same. refl));
+          (with_course s c.capture.new.self.blocks (Some (record (captured s root) { root = c.of-capture.result.root.items; sessions = c.of-capture.result.sessions.items; sequence = c.of-capture.result.sequence; size = plan.size; blocks = plan.blocks })) old course (λ same. refl));
       rooms = c.self.invariant.rooms;
       grid = subst (λ (g : GridState). FitsGrid s.file g.layout g.cluster) (sym c.capture.ensures) c.self.invariant.grid;
     }
