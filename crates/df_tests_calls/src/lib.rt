@@ -3,22 +3,4 @@
 #![tactic(auto)]
 
 #[cfg(test)]
-mod answers;
-#[cfg(test)]
-mod blocks;
-#[cfg(test)]
-mod calls;
-#[cfg(test)]
-mod files;
-#[cfg(test)]
-mod opened;
-#[cfg(test)]
-mod reads;
-#[cfg(test)]
-mod rooms;
-#[cfg(test)]
-mod staged;
-#[cfg(test)]
-mod steps;
-#[cfg(test)]
-mod struck;
+mod tests;

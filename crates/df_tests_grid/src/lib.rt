@@ -3,16 +3,4 @@
 #![tactic(auto)]
 
 #[cfg(test)]
-mod block_examples;
-#[cfg(test)]
-mod blocks;
-#[cfg(test)]
-mod chain_examples;
-#[cfg(test)]
-mod chains;
-#[cfg(test)]
-mod free_sets;
-#[cfg(test)]
-mod scrubs;
-#[cfg(test)]
-mod trailers;
+mod tests;

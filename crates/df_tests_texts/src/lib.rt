@@ -4,24 +4,4 @@
 #![tactic(auto)]
 
 #[cfg(test)]
-mod answers;
-#[cfg(test)]
-mod blocks;
-#[cfg(test)]
-mod grammar;
-#[cfg(test)]
-mod openings;
-#[cfg(test)]
-mod paces;
-#[cfg(test)]
-mod printed;
-#[cfg(test)]
-mod refusals;
-#[cfg(test)]
-mod reports;
-#[cfg(test)]
-mod scripts;
-#[cfg(test)]
-mod tables;
-#[cfg(test)]
-mod workloads;
+mod tests;

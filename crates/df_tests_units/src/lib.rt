@@ -2,20 +2,4 @@
 #![tactic(auto)]
 
 #[cfg(test)]
-mod classes;
-#[cfg(test)]
-mod examples;
-#[cfg(test)]
-mod headers;
-#[cfg(test)]
-mod layouts;
-#[cfg(test)]
-mod room_classes;
-#[cfg(test)]
-mod room_examples;
-#[cfg(test)]
-mod rooms;
-#[cfg(test)]
-mod second_headers;
-#[cfg(test)]
-mod units;
+mod tests;

@@ -4,30 +4,4 @@
 #![tactic(auto)]
 
 #[cfg(test)]
-mod cases;
-#[cfg(test)]
-mod decisions;
-#[cfg(test)]
-mod files;
-#[cfg(test)]
-mod headers;
-#[cfg(test)]
-mod named;
-#[cfg(test)]
-mod reaches;
-#[cfg(test)]
-mod recorded;
-#[cfg(test)]
-mod replies;
-#[cfg(test)]
-mod rings;
-#[cfg(test)]
-mod sessions;
-#[cfg(test)]
-mod stamps;
-#[cfg(test)]
-mod stored;
-#[cfg(test)]
-mod tails;
-#[cfg(test)]
-mod told;
+mod tests;

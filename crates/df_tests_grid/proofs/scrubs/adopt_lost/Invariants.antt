@@ -1,6 +1,0 @@
--- The layout stays.
-use Rattle.std.proofs.Common.{◌≡◌}
-use Rattle.df_tests_grid.proofs.scrubs.adopt_lost.Given as goal
-
-abbrev pub invariant-loop-done : goal.invariant-loop-done
-invariant-loop-done l = l.grid.layout ≡ l.fn.grid.layout
