@@ -98,7 +98,8 @@ fn finish<B: Disk>(
     requires plan { IsCopyPlan target.old.layout replica.now plan }
     requires room { needed target.old.layout (memory replica.now) ≤ target.old.layout.blocks }
     requires begun { IsCopied target.old.layout replica.now target.old }
-    ensures finishes { (rs bs : List Message) → IsTarget target.old.layout replica.now.file.cluster rs bs target.old → length bs ≡ length (references (memory replica.now)) → Finishes target.old.layout replica.now rs bs (B.told to.old) (B.told to.new) result }
+    ensures finishes { (rs bs : List Message) → IsTarget target.old.layout replica.now.file.cluster rs bs target.old
+        → length bs ≡ length (references (memory replica.now)) → Finishes target.old.layout replica.now rs bs (B.told to.old) (B.told to.new) result }
     ensures disk { IsBlamed is_target (B.faults to.old) (B.faults to.new) result }
     ensures target { IfErr result (λ ending. ending ≡ Ending.Target) }
 {
@@ -139,7 +140,8 @@ fn copy_planned<A: Disk, B: Disk>(
     }
 }
 
-/// Copies a source that was opened into a target of which nothing is written. Each refusal comes before the target's superblock is touched, and the superblock is written only once all else is durable.
+/// Copies a source that was opened into a target of which nothing is written. Each refusal comes before the target's superblock is
+/// touched, and the superblock is written only once all else is durable.
 pub(crate) fn copy_into<A: Disk, B: Disk>(
     from: &mut A,
     to: &mut B,

@@ -89,7 +89,8 @@ fn copy_reply<A: Disk, B: Disk>(
 ) -> Result<(), Ending>
     requires ready { IsReadySource target.old.layout replica.old }
     requires place { place < length replica.old.table.sessions }
-    ensures copies { AreDistinctClients replica.old.table.sessions → CopiesReply target.old.layout place replica.old target.old.checks target.new.checks (A.told from.old) (B.told to.old) (B.told to.new) result }
+    ensures copies { AreDistinctClients replica.old.table.sessions
+        → CopiesReply target.old.layout place replica.old target.old.checks target.new.checks (A.told from.old) (B.told to.old) (B.told to.new) result }
     ensures named { OnOk result (SetsCheck (length replica.old.table.sessions) target.old.checks target.new.checks) }
     ensures grid { KeepsGrid target.old target.new }
     ensures leaves { LeavesSource (beside replica.old (A.told from.old) (A.faults from.old) (B.faults to.old)) (beside replica.new (A.told from.new) (A.faults from.new) (B.faults to.new)) result }
@@ -105,7 +106,8 @@ fn copy_reply<A: Disk, B: Disk>(
     }
 }
 
-/// Copies the replies of all sessions, in order of place, each by one read of the source and one write of the target. The first that is damaged, or has more bytes than a message of the layout, ends it.
+/// Copies the replies of all sessions, in order of place, each by one read of the source and one write of the target. The first
+/// that is damaged, or has more bytes than a message of the layout, ends it.
 pub(crate) fn copy_replies<A: Disk, B: Disk>(
     from: &mut A,
     to: &mut B,

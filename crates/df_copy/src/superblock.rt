@@ -77,8 +77,10 @@ pub(crate) fn copied_superblock(replica: &Replica, target: &Target, plan: Plan) 
     requires plan { IsCopyPlan target.now.layout replica.now plan }
     requires fits { length replica.now.table.sessions ≤ target.now.layout.clients }
     requires room { needed target.now.layout (memory replica.now) ≤ target.now.layout.blocks }
-    requires written { (rs : List Message) × (bs : List Message) × IsTrailerWritten target.now.layout replica.now rs bs target.now × (length rs ≡ length replica.now.table.sessions) × (length bs ≡ length (references (memory replica.now))) }
-    ensures { (rs bs : List Message) → IsTrailerWritten target.now.layout replica.now rs bs target.now → (length bs ≡ length (references (memory replica.now))) → result ≡ superblock_of target.now.layout replica.now rs bs }
+    requires written { (rs : List Message) × (bs : List Message) × IsTrailerWritten target.now.layout replica.now rs bs target.now
+        × (length rs ≡ length replica.now.table.sessions) × (length bs ≡ length (references (memory replica.now))) }
+    ensures { (rs bs : List Message) → IsTrailerWritten target.now.layout replica.now rs bs target.now → (length bs ≡ length (references (memory replica.now)))
+        → result ≡ superblock_of target.now.layout replica.now rs bs }
 {
     let fields = fields_for(replica.fields(), target);
     match test_fields(&with_trailer(fields, last_block(target), plan.size)) {

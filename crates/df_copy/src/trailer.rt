@@ -75,7 +75,8 @@ pub(crate) fn write_trailer<B: Disk>(
     requires plan { IsCopyPlan target.old.layout replica.now plan }
     requires room { needed target.old.layout (memory replica.now) ≤ target.old.layout.blocks }
     requires begun { (rs : List Message) × (bs : List Message) × IsTarget target.old.layout replica.now.file.cluster rs bs target.old × (length bs ≡ length (references (memory replica.now))) }
-    ensures trailer { (rs bs : List Message) → IsTarget target.old.layout replica.now.file.cluster rs bs target.old → AddsTrailer replica.now rs bs target.old target.new (B.told to.old) (B.told to.new) result }
+    ensures trailer { (rs bs : List Message) → IsTarget target.old.layout replica.now.file.cluster rs bs target.old
+        → AddsTrailer replica.now rs bs target.old target.new (B.told to.old) (B.told to.new) result }
     ensures layout { target.new.layout ≡ target.old.layout }
     ensures disk { IsBlamed is_target (B.faults to.old) (B.faults to.new) result }
     ensures target { IfErr result (λ ending. ending ≡ Ending.Target) }

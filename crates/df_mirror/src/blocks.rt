@@ -29,8 +29,10 @@ fn mend_at<A: Disk, B: Disk, W: Sink>(
 ) -> Result<u64, Ending>
     requires inside { before < base.now.file.layout.blocks }
     requires layout { shelf.old.layout ≡ base.now.file.layout }
-    ensures mends { (sessions : List Session) (t o : Told) → Tell t o (around (A.told first.old) (B.told second.old) (W.written sink.old)) → ShowsBlocks base.now (superblock_units base.now t.shown) grid.now sessions before
-        → Mended base.now (AreOfKind AsBlock) t o (around (A.told first.old) (B.told second.old) (W.written sink.old)) (around (A.told first.new) (B.told second.new) (W.written sink.new)) result (λ image. ShowsBlocks base.now image grid.now sessions (before + 1)) }
+    ensures mends { (sessions : List Session) (t o : Told) → Tell t o (around (A.told first.old) (B.told second.old) (W.written sink.old))
+        → ShowsBlocks base.now (superblock_units base.now t.shown) grid.now sessions before
+        → Mended base.now (AreOfKind AsBlock) t o (around (A.told first.old) (B.told second.old) (W.written sink.old))
+        (around (A.told first.new) (B.told second.new) (W.written sink.new)) result (λ image. ShowsBlocks base.now image grid.now sessions (before + 1)) }
     ensures unrefused { IsRefusal result → ⊥ }
     ensures back { IfOk result (λ more. (shelf.new.layout ≡ base.now.file.layout) × (more ≤ 1)) }
     ensures same { B.told second.new ≡ B.told second.old }
@@ -56,8 +58,10 @@ pub(crate) fn mend_blocks<A: Disk, B: Disk, W: Sink>(
     shelf: &mut Shelf<Block>,
 ) -> Result<u64, Ending>
     requires layout { shelf.old.layout ≡ base.now.file.layout }
-    ensures mends { (sessions : List Session) (t o : Told) → Tell t o (around (A.told first.old) (B.told second.old) (W.written sink.old)) → HasTrailerText base.now (superblock_units base.now t.shown) grid.now sessions × HasWaiting base.now sessions
-        → Mended base.now (AreOfKind AsBlock) t o (around (A.told first.old) (B.told second.old) (W.written sink.old)) (around (A.told first.new) (B.told second.new) (W.written sink.new)) result (λ image. ShowsBlocks base.now image grid.now sessions base.now.file.layout.blocks) }
+    ensures mends { (sessions : List Session) (t o : Told) → Tell t o (around (A.told first.old) (B.told second.old) (W.written sink.old))
+        → HasTrailerText base.now (superblock_units base.now t.shown) grid.now sessions × HasWaiting base.now sessions
+        → Mended base.now (AreOfKind AsBlock) t o (around (A.told first.old) (B.told second.old) (W.written sink.old))
+        (around (A.told first.new) (B.told second.new) (W.written sink.new)) result (λ image. ShowsBlocks base.now image grid.now sessions base.now.file.layout.blocks) }
     ensures unrefused { IsRefusal result → ⊥ }
     ensures few { IfOk result (λ mended. mended ≤ base.now.file.layout.blocks) }
     ensures same { B.told second.new ≡ B.told second.old }

@@ -80,9 +80,11 @@ fn mend_link<A: Disk, B: Disk, W: Sink>(
     requires inside { IsInsideGrid base.now walk.at.address }
     requires few { array_vec_len walk.read + index < 70 }
     requires layout { shelf.old.layout ≡ base.now.file.layout }
-    ensures mends { (t o : Told) (n : ℕ) → Tell t o (around (A.told first.old) (B.told second.old) (W.written sink.old)) → IsCount (base.now.file.layout.block_size - HEADER) base.now.content.trailer_size n
+    ensures mends { (t o : Told) (n : ℕ) → Tell t o (around (A.told first.old) (B.told second.old) (W.written sink.old))
+        → IsCount (base.now.file.layout.block_size - HEADER) base.now.content.trailer_size n
         → n ≡ length walk.read.items + (index + 1) → HasWalkedChain base.now (superblock_units base.now t.shown) n walk
-        → Mended base.now (AreOfKind AsTrailer) t o (around (A.told first.old) (B.told second.old) (W.written sink.old)) (around (A.told first.new) (B.told second.new) (W.written sink.new)) (counted_in result) (WalksTo base.now n result) }
+        → Mended base.now (AreOfKind AsTrailer) t o (around (A.told first.old) (B.told second.old) (W.written sink.old))
+        (around (A.told first.new) (B.told second.new) (W.written sink.new)) (counted_in result) (WalksTo base.now n result) }
     ensures inside { IfOk result (λ done. 0 < index → IsInsideGrid base.now done.0.at.address) }
     ensures more { IfOk result (λ done. (array_vec_len done.0.read ≡ array_vec_len walk.read + 1) × (shelf.new.layout ≡ base.now.file.layout) × (done.1 ≤ 1)) }
     ensures same { B.told second.new ≡ B.told second.old }
@@ -124,7 +126,8 @@ pub(crate) fn mend_chain<A: Disk, B: Disk, W: Sink>(
 ) -> Result<u64, Ending>
     requires layout { shelf.old.layout ≡ base.now.file.layout }
     ensures mends { (t o : Told) → Tell t o (around (A.told first.old) (B.told second.old) (W.written sink.old))
-        → Mended base.now (AreOfKind AsTrailer) t o (around (A.told first.old) (B.told second.old) (W.written sink.old)) (around (A.told first.new) (B.told second.new) (W.written sink.new)) result (λ image. AreShown (shape base.now.file) image (content_of_superblock base.now) AsTrailer) }
+        → Mended base.now (AreOfKind AsTrailer) t o (around (A.told first.old) (B.told second.old) (W.written sink.old))
+        (around (A.told first.new) (B.told second.new) (W.written sink.new)) result (λ image. AreShown (shape base.now.file) image (content_of_superblock base.now) AsTrailer) }
     ensures few { IfOk result (λ mended. mended ≤ 70) }
     ensures same { B.told second.new ≡ B.told second.old }
     ensures blamed { AreBlamed (counts (A.faults first.old) (B.faults second.old) (W.faults sink.old)) (counts (A.faults first.new) (B.faults second.new) (W.faults sink.new)) result }

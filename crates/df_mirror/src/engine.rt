@@ -83,7 +83,8 @@ fn mend_file<A: Disk, B: Disk, W: Sink>(
 ) -> Status
     ensures mirrors { (t o : Told) → Tell t o (around (A.told first.old) (B.told second.old) (W.written sink.old)) → result ≢ Status.Memory
         → Mirrored base.now t o (around (A.told first.old) (B.told second.old) (W.written sink.old)) (around (A.told first.new) (B.told second.new) (W.written sink.new)) result }
-    ensures causes { HasCausesOfTwo Status.DiskFault Status.WriteFault (counts (A.faults first.old) (B.faults second.old) (W.faults sink.old)) (counts (A.faults first.new) (B.faults second.new) (W.faults sink.new)) result }
+    ensures causes { HasCausesOfTwo Status.DiskFault Status.WriteFault (counts (A.faults first.old) (B.faults second.old) (W.faults sink.old))
+        (counts (A.faults first.new) (B.faults second.new) (W.faults sink.new)) result }
     ensures memory { result ≡ Status.Memory → (A.told first.new ≡ A.told first.old) × (W.written sink.new ≡ W.written sink.old) }
     ensures words { result ≡ Status.Words → ⊥ }
     ensures same { B.told second.new ≡ B.told second.old }
@@ -105,7 +106,8 @@ fn mend_first<A: Disk, B: Disk, W: Sink>(
     sink: &mut W,
 ) -> Status
     ensures runs { RunsMirror (around (A.told first.old) (B.told second.old) (W.written sink.old)) (around (A.told first.new) (B.told second.new) (W.written sink.new)) result }
-    ensures causes { HasCausesOfTwo Status.DiskFault Status.WriteFault (counts (A.faults first.old) (B.faults second.old) (W.faults sink.old)) (counts (A.faults first.new) (B.faults second.new) (W.faults sink.new)) result }
+    ensures causes { HasCausesOfTwo Status.DiskFault Status.WriteFault (counts (A.faults first.old) (B.faults second.old) (W.faults sink.old))
+        (counts (A.faults first.new) (B.faults second.new) (W.faults sink.new)) result }
     ensures memory { result ≡ Status.Memory → IsUndone (around (A.told first.old) (B.told second.old) (W.written sink.old)) (around (A.told first.new) (B.told second.new) (W.written sink.new)) }
     ensures words { result ≡ Status.Words → ⊥ }
     ensures same { B.told second.new ≡ B.told second.old }
@@ -123,9 +125,10 @@ fn mend_first<A: Disk, B: Disk, W: Sink>(
     }
 }
 
-/// Mends the first file from a second one. The first file's superblock, of version 2, fixes which units are known: the blocks of its trailer, those that the trailer references, the prepares up to the
-/// head that it names, and the replies that it recorded. Each that the first file doesn't show is taken from the second one's place, where that shows it with the known checksum. The second file's superblock
-/// isn't read. There are no words; all memory is taken before the first write.
+/// Mends the first file from a second one. The first file's superblock, of version 2, fixes which units are known: the blocks of
+/// its trailer, those that the trailer references, the prepares up to the head that it names, and the replies that it recorded.
+/// Each that the first file doesn't show is taken from the second one's place, where that shows it with the known checksum. The
+/// second file's superblock isn't read. There are no words; all memory is taken before the first write.
 pub fn mirror<A: Disk, B: Disk, W: Sink>(
     alloc: Global,
     words: &[String],
@@ -138,14 +141,18 @@ pub fn mirror<A: Disk, B: Disk, W: Sink>(
     ensures untouched { (map string_bytes words.now ≡ [] → ⊥) → A.told first.new ≡ A.told first.old }
     ensures words { result ≡ Status.Words → map string_bytes words.now ≡ [] → ⊥ }
 
-    // The first file is synced, and refused as an open refuses its superblock or its trailer. What is mended is known and wasn't shown just before, each by one write and a sync, in order, and it is the unit of that checksum, which the second file shows; where the run ends as
-    // Done or Found, all known units are shown, and it is Found exactly where one was mended. The second file is only read.
-    ensures runs { map string_bytes words.now ≡ [] → RunsMirror (around (A.told first.old) (B.told second.old) (W.written sink.old)) (around (A.told first.new) (B.told second.new) (W.written sink.new)) result }
+    // The first file is synced, and refused as an open refuses its superblock or its trailer. What is mended is known and wasn't
+    // shown just before, each by one write and a sync, in order, and it is the unit of that checksum, which the second file shows;
+    // where the run ends as Done or Found, all known units are shown, and it is Found exactly where one was mended. The second file
+    // is only read.
+    ensures runs { map string_bytes words.now ≡ [] → RunsMirror (around (A.told first.old) (B.told second.old) (W.written sink.old))
+        (around (A.told first.new) (B.told second.new) (W.written sink.new)) result }
     ensures second { B.told second.new ≡ B.told second.old }
 
     // A call ends at its first fault: of the three counts one at most rises, once, that of what the status blames; want of memory
     // comes before anything was written.
-    ensures causes { HasCausesOfTwo Status.DiskFault Status.WriteFault (counts (A.faults first.old) (B.faults second.old) (W.faults sink.old)) (counts (A.faults first.new) (B.faults second.new) (W.faults sink.new)) result }
+    ensures causes { HasCausesOfTwo Status.DiskFault Status.WriteFault (counts (A.faults first.old) (B.faults second.old) (W.faults sink.old))
+        (counts (A.faults first.new) (B.faults second.new) (W.faults sink.new)) result }
     ensures memory { result ≡ Status.Memory → IsUndone (around (A.told first.old) (B.told second.old) (W.written sink.old)) (around (A.told first.new) (B.told second.new) (W.written sink.new)) }
 {
     match words {

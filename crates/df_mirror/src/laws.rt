@@ -12,7 +12,8 @@ pub fn units_come_in_order()
     ensures { UnitsComeInOrder }
 {}
 
-/// At every moment each known unit that was shown is still shown, in whatever a stop leaves: of a list of mends by any honest log of which nothing is loose, and of a run, however it ends, by the log that begins after its barrier.
+/// At every moment each known unit that was shown is still shown, in whatever a stop leaves: of a list of mends by any honest log
+/// of which nothing is loose, and of a run, however it ends, by the log that begins after its barrier.
 pub fn known_units_stay()
     ensures mends { KnownStays }
     ensures run { RunKeepsKnown }

@@ -45,8 +45,11 @@ fn mend_log<A: Disk, B: Disk, W: Sink>(
     requires rooms { rooms.layout ≡ base.now.file.layout }
     requires places { sessions.max ≡ base.now.file.layout.clients }
     requires few { length sessions.sessions ≤ sessions.max }
-    ensures mends { (t o : Told) → Tell t o (around (A.told first.old) (B.told second.old) (W.written sink.old)) → ShowsGrid base.now (superblock_units base.now t.shown) → (says : ShowsTrailer (shape base.now.file) (superblock_units base.now t.shown) (content_of_superblock base.now)) → says.parts.sessions ≡ sessions_of sessions.sessions
-        → Mended base.now AreLate t o (around (A.told first.old) (B.told second.old) (W.written sink.old)) (around (A.told first.new) (B.told second.new) (W.written sink.new)) result (ShowsLog base.now (superblock_units base.now t.shown)) }
+    ensures mends { (t o : Told) → Tell t o (around (A.told first.old) (B.told second.old) (W.written sink.old))
+        → ShowsGrid base.now (superblock_units base.now t.shown)
+        → (says : ShowsTrailer (shape base.now.file) (superblock_units base.now t.shown) (content_of_superblock base.now)) → says.parts.sessions ≡ sessions_of sessions.sessions
+        → Mended base.now AreLate t o (around (A.told first.old) (B.told second.old) (W.written sink.old))
+        (around (A.told first.new) (B.told second.new) (W.written sink.new)) result (ShowsLog base.now (superblock_units base.now t.shown)) }
     ensures unrefused { IsRefusal result → ⊥ }
     ensures few { IfOk result (λ mended. mended ≤ base.now.file.layout.slots + 64) }
     ensures same { B.told second.new ≡ B.told second.old }
@@ -94,7 +97,8 @@ pub(crate) fn mend_all<A: Disk, B: Disk, W: Sink>(
     requires trailer { reserved.trailer.layout ≡ base.now.file.layout }
     requires block { reserved.block.layout ≡ base.now.file.layout }
     ensures mends { (t o : Told) → Tell t o (around (A.told first.old) (B.told second.old) (W.written sink.old))
-        → Mended base.now AreInOrder t o (around (A.told first.old) (B.told second.old) (W.written sink.old)) (around (A.told first.new) (B.told second.new) (W.written sink.new)) result (ShowsAll base.now) }
+        → Mended base.now AreInOrder t o (around (A.told first.old) (B.told second.old) (W.written sink.old))
+        (around (A.told first.new) (B.told second.new) (W.written sink.new)) result (ShowsAll base.now) }
     ensures same { B.told second.new ≡ B.told second.old }
     ensures blamed { AreBlamed (counts (A.faults first.old) (B.faults second.old) (W.faults sink.old)) (counts (A.faults first.new) (B.faults second.new) (W.faults sink.new)) result }
 {

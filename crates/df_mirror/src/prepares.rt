@@ -24,7 +24,12 @@ use df_places::Shelf;
 
 // The prepare of an op, by its checksum.
 fn prepare_at(base: &Superblock, op: u64, checksum: Check) -> Identity
-    ensures identity { result ≡ record { layout = base.now.file.layout; cluster = base.now.file.cluster; place = place_of (PreparePlace (op % base.now.file.layout.slots)); wanted = WithChecksum checksum } }
+    ensures identity { result ≡ record {
+      layout = base.now.file.layout;
+      cluster = base.now.file.cluster;
+      place = place_of (PreparePlace (op % base.now.file.layout.slots));
+      wanted = WithChecksum checksum;
+    } }
     ensures place { HasPlace result.layout result.place }
     ensures check { IsCheck checksum }
 {
@@ -45,7 +50,8 @@ pub(crate) fn mend_prepares<A: Disk, B: Disk, W: Sink>(
 ) -> Result<u64, Ending>
     requires layout { shelf.old.layout ≡ base.now.file.layout }
     ensures mends { (t o : Told) → Tell t o (around (A.told first.old) (B.told second.old) (W.written sink.old)) → ShowsGrid base.now (superblock_units base.now t.shown)
-        → Mended base.now (AreOfKind AsPrepare) t o (around (A.told first.old) (B.told second.old) (W.written sink.old)) (around (A.told first.new) (B.told second.new) (W.written sink.new)) result (ShowsNamed base.now) }
+        → Mended base.now (AreOfKind AsPrepare) t o (around (A.told first.old) (B.told second.old) (W.written sink.old))
+        (around (A.told first.new) (B.told second.new) (W.written sink.new)) result (ShowsNamed base.now) }
     ensures unrefused { IsRefusal result → ⊥ }
     ensures back { IfOk result (λ mended. (shelf.new.layout ≡ base.now.file.layout) × (mended ≤ base.now.file.layout.slots)) }
     ensures same { B.told second.new ≡ B.told second.old }

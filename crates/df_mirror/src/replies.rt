@@ -71,7 +71,8 @@ fn mend_recorded<A: Disk, B: Disk, W: Sink>(
 ) -> Result<u64, Ending>
     requires place { place < base.now.file.layout.clients }
     requires layout { shelf.old.layout ≡ base.now.file.layout }
-    ensures mends { (t o : Told) → Tell t o (around (A.told first.old) (B.told second.old) (W.written sink.old)) → MendsRecorded base.now place checksum t o (around (A.told first.old) (B.told second.old) (W.written sink.old)) (around (A.told first.new) (B.told second.new) (W.written sink.new)) result }
+    ensures mends { (t o : Told) → Tell t o (around (A.told first.old) (B.told second.old) (W.written sink.old))
+        → MendsRecorded base.now place checksum t o (around (A.told first.old) (B.told second.old) (W.written sink.old)) (around (A.told first.new) (B.told second.new) (W.written sink.new)) result }
     ensures unrefused { IsRefusal result → ⊥ }
     ensures back { IfOk result (λ more. (shelf.new.layout ≡ base.now.file.layout) × (more ≤ 1)) }
     ensures same { B.told second.new ≡ B.told second.old }
@@ -103,8 +104,10 @@ fn mend_reply<A: Disk, B: Disk, W: Sink>(
     requires place { (place < length sessions.now.sessions) × (place < base.now.file.layout.clients) }
     requires table { length slots.now.slots ≡ base.now.file.layout.slots }
     requires layout { shelf.old.layout ≡ base.now.file.layout }
-    ensures mends { (t o : Told) → Tell t o (around (A.told first.old) (B.told second.old) (W.written sink.old)) → ShowsKnownReplies base.now (superblock_units base.now t.shown) slots.now sessions.now place
-        → Mended base.now (AreOfKind AsReply) t o (around (A.told first.old) (B.told second.old) (W.written sink.old)) (around (A.told first.new) (B.told second.new) (W.written sink.new)) result (λ image. ShowsKnownReplies base.now image slots.now sessions.now (place + 1)) }
+    ensures mends { (t o : Told) → Tell t o (around (A.told first.old) (B.told second.old) (W.written sink.old))
+        → ShowsKnownReplies base.now (superblock_units base.now t.shown) slots.now sessions.now place
+        → Mended base.now (AreOfKind AsReply) t o (around (A.told first.old) (B.told second.old) (W.written sink.old))
+        (around (A.told first.new) (B.told second.new) (W.written sink.new)) result (λ image. ShowsKnownReplies base.now image slots.now sessions.now (place + 1)) }
     ensures unrefused { IsRefusal result → ⊥ }
     ensures back { IfOk result (λ more. (shelf.new.layout ≡ base.now.file.layout) × (more ≤ 1)) }
     ensures same { B.told second.new ≡ B.told second.old }
@@ -140,7 +143,8 @@ pub(crate) fn mend_replies<A: Disk, B: Disk, W: Sink>(
     requires table { length slots.now.slots ≡ base.now.file.layout.slots }
     requires layout { shelf.old.layout ≡ base.now.file.layout }
     ensures mends { (t o : Told) → Tell t o (around (A.told first.old) (B.told second.old) (W.written sink.old)) → HasHead base.now (superblock_units base.now t.shown) slots.now sessions.now
-        → Mended base.now (AreOfKind AsReply) t o (around (A.told first.old) (B.told second.old) (W.written sink.old)) (around (A.told first.new) (B.told second.new) (W.written sink.new)) result (λ image. AreShown (shape base.now.file) image (content_of_superblock base.now) AsReply) }
+        → Mended base.now (AreOfKind AsReply) t o (around (A.told first.old) (B.told second.old) (W.written sink.old))
+        (around (A.told first.new) (B.told second.new) (W.written sink.new)) result (λ image. AreShown (shape base.now.file) image (content_of_superblock base.now) AsReply) }
     ensures unrefused { IsRefusal result → ⊥ }
     ensures few { IfOk result (λ mended. mended ≤ 64) }
     ensures same { B.told second.new ≡ B.told second.old }

@@ -34,8 +34,10 @@ pub(crate) fn sessions_at_head(
     requires table { IsSeenTable base.now.file.layout base.now.file.cluster slots.now.slots }
     requires places { sessions.max ≡ base.now.file.layout.clients }
     requires few { length sessions.sessions ≤ sessions.max }
-    ensures sessions { (image : Units) (named : List Message) → TellsRings base.now.file.layout image slots.now → AreKnown base.now.file.layout.slots image (base.now.content.op + 1) (content_of_superblock base.now).pin_checksum named
-        → base.now.content.op + length named ≡ (content_of_superblock base.now).pin → sessions_of result.sessions ≡ take base.now.file.layout.clients (sessions_after (sessions_of sessions.sessions) named) }
+    ensures sessions { (image : Units) (named : List Message) → TellsRings base.now.file.layout image slots.now
+        → AreKnown base.now.file.layout.slots image (base.now.content.op + 1) (content_of_superblock base.now).pin_checksum named
+        → base.now.content.op + length named ≡ (content_of_superblock base.now).pin
+        → sessions_of result.sessions ≡ take base.now.file.layout.clients (sessions_after (sessions_of sessions.sessions) named) }
     ensures places { result.max ≡ sessions.max }
 {
     let mut sessions = sessions;
@@ -54,7 +56,8 @@ pub(crate) fn sessions_at_head(
 fn is_later(base: &Superblock, slots: &SlotTable, slot: u32, client: u128) -> bool
     requires slot { slot < length slots.now.slots }
     ensures yes { (image : Units) → TellsRings base.now.file.layout image slots.now → IsTrue result → HasLater base.now image client }
-    ensures no { (image : Units) (p : Message) → TellsRings base.now.file.layout image slots.now → IsFalse result → image (PreparePlace slot) ≡ Some (PrepareUnit p) → IsLater base.now client p → ⊥ }
+    ensures no { (image : Units) (p : Message) → TellsRings base.now.file.layout image slots.now → IsFalse result
+        → image (PreparePlace slot) ≡ Some (PrepareUnit p) → IsLater base.now client p → ⊥ }
 {
     let fields = base.content.fields();
     match slots.prepare(slot) {

@@ -99,8 +99,8 @@ fn read_named<A: Disk>(
     }
 }
 
-/// Reads the trailer, each of whose blocks is shown, or says why it is refused: the first part of its text that fails, an address of the chain that it references, or an op that waits and is that of no
-/// session.
+/// Reads the trailer, each of whose blocks is shown, or says why it is refused: the first part of its text that fails, an address
+/// of the chain that it references, or an op that waits and is that of no session.
 pub(crate) fn read_trailer<A: Disk>(
     first: &mut A,
     base: &Superblock,
@@ -109,8 +109,10 @@ pub(crate) fn read_trailer<A: Disk>(
 ) -> Result<Text, Ending>
     requires grid { grid.layout ≡ base.now.file.layout }
     requires rooms { rooms.layout ≡ base.now.file.layout }
-    ensures reads { (t : Told) → A.told first.old ≡ Some t → IsImage t.shown → AreShown (shape base.now.file) (superblock_units base.now t.shown) (content_of_superblock base.now) AsTrailer → ReadsChainText base.now t.shown result }
-    ensures fits { IfOk result (λ text. (text.grid.layout ≡ base.now.file.layout) × (text.sessions.max ≡ base.now.file.layout.clients) × (length text.sessions.sessions ≤ base.now.file.layout.clients)) }
+    ensures reads { (t : Told) → A.told first.old ≡ Some t → IsImage t.shown
+        → AreShown (shape base.now.file) (superblock_units base.now t.shown) (content_of_superblock base.now) AsTrailer → ReadsChainText base.now t.shown result }
+    ensures fits { IfOk result (λ text. (text.grid.layout ≡ base.now.file.layout) × (text.sessions.max ≡ base.now.file.layout.clients)
+        × (length text.sessions.sessions ≤ base.now.file.layout.clients)) }
     ensures same { A.told first.new ≡ A.told first.old }
     ensures cause { IsBlamed is_first (A.faults first.old) (A.faults first.new) result }
     ensures own { IfErr result IsOfFirst }
