@@ -1,12 +1,8 @@
 -- The bytes of fields and checksums: how many they are, that each is below 256, and that a field's
 -- bytes are those of the number that it reads as.
-use Rattle.std.proofs.Common.{◌≡◌, ℕ, zero, suc, ◌+◌, ◌*◌, ◌/◌, ◌%◌, ◌^◌, ◌<◌, ◌≤◌, List, [], ◌∷◌, ◌++◌, length, take, drop, replicate, slice_index, refl, sym, ap, ◌∙◌, subst, arith, length-append, length-drop}
-use Rattle.std.proofs.Math.Nat.{div-div-eq-div-mul, div-one, pow-succ'}
-use Rattle.std.proofs.lemmas.List.{get_or-drop, length-take-le}
-use Rattle.std.specs.Int.{w32, byte_at, bytes_low_first, bytes_high_first, to_be_bytes}
+use Rattle.std.{proofs.{Common.{◌≡◌, ℕ, zero, suc, ◌+◌, ◌*◌, ◌/◌, ◌%◌, ◌^◌, ◌<◌, ◌≤◌, List, [], ◌∷◌, ◌++◌, length, take, drop, replicate, slice_index, refl, sym, ap, ◌∙◌, subst, arith, length-append, length-drop}, Math.Nat.{div-div-eq-div-mul, div-one, pow-succ'}, lemmas.List.{get_or-drop, length-take-le}}, specs.Int.{w32, byte_at, bytes_low_first, bytes_high_first, to_be_bytes}}
 use Rattle.sha2.specs.Sha256.{sha256, digest_bytes, final_hash, initial_hash_256}
-use Rattle.byteorder.specs.Endian.{little_from, little_number}
-use Rattle.byteorder.specs.Numbers.{little_from-cons, little_from-lt, little_from-take, length-bytes_low_first, little_number-reads_back}
+use Rattle.byteorder.specs.{Endian.{little_from, little_number}, Numbers.{little_from-cons, little_from-lt, little_from-take, length-bytes_low_first, little_number-reads_back}}
 use Rattle.df_base.specs.Fields.{AreBytes, field_at, spelled, check_of}
 
 pub AreBytes-nil : AreBytes []

@@ -1,10 +1,6 @@
 -- A field whose bytes stand in a longer text, or elsewhere in another one, and the bits of so many bytes.
-use Rattle.std.proofs.Common.{◌≡◌, ℕ, zero, suc, ◌+◌, ◌*◌, ◌^◌, ◌<◌, ◌≤◌, List, ◌++◌, length, take, drop, refl, sym, ap, ◌∙◌, arith, length-drop}
-use Rattle.std.specs.Prelude.{slice_index}
-use Rattle.std.proofs.lemmas.List.{drop-append-le, get_or-drop, take-append-le}
-use Rattle.std.proofs.lemmas.Nat.{pow-add}
-use Rattle.byteorder.specs.Endian.{little_from, little_number}
-use Rattle.byteorder.specs.Numbers.{little_from-take}
+use Rattle.std.{proofs.{Common.{◌≡◌, ℕ, zero, suc, ◌+◌, ◌*◌, ◌^◌, ◌<◌, ◌≤◌, List, ◌++◌, length, take, drop, refl, sym, ap, ◌∙◌, arith, length-drop}, lemmas.List.{drop-append-le, get_or-drop, take-append-le}, lemmas.Nat.{pow-add}}, specs.Prelude.{slice_index}}
+use Rattle.byteorder.specs.{Endian.{little_from, little_number}, Numbers.{little_from-take}}
 use Rattle.df_base.specs.Fields.{field_at}
 
 -- what stands in a text stays where more comes after it

@@ -1,8 +1,6 @@
 -- How moments go on, one event after another; and a fact at each moment of some events.
-use Rattle.std.proofs.Common.{◌≡◌, ◌⊎◌, inl, inr, List, [], ◌∷◌, ◌++◌, length, refl, ◌∙◌, ap, subst, sym, arith, drop, suc, ◌-◌, append_assoc, length-append}
-use Rattle.std.proofs.lemmas.List.Prefix.{end_rest}
-use Rattle.df_base.specs.Log.{Log, Event, add}
-use Rattle.df_base.specs.Moments.{Extends, EachMoment, Passed, adds}
+use Rattle.std.proofs.{Common.{◌≡◌, ◌⊎◌, inl, inr, List, [], ◌∷◌, ◌++◌, length, refl, ◌∙◌, ap, subst, sym, arith, drop, suc, ◌-◌, append_assoc, length-append}, lemmas.List.Prefix.{end_rest}}
+use Rattle.df_base.specs.{Log.{Log, Event, add}, Moments.{Extends, EachMoment, Passed, adds}}
 
 pub same_log : (a b : Log) → a.events ≡ b.events → a.start ≡ b.start → a ≡ b
 same_log a b es st i = record { start = st i; events = es i }

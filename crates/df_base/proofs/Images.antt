@@ -1,11 +1,6 @@
 -- Writes of whole sectors and stops leave images of whole sectors, and a write leaves all others as they were.
-use Rattle.std.proofs.Common.{◌≡◌, inl, inr, ℕ, ◌+◌, ◌-◌, ◌*◌, ◌==◌, ◌<◌, ◌≤◌, Bool, true, false, cond, List, [], ◌∷◌, length, take, drop, if◌then◌else◌, refl, arith, length-drop}
-use Rattle.std.proofs.lemmas.Bool.{cases_lt, cond-false}
-use Rattle.std.proofs.lemmas.Bool.Decides.{nat_tests}
-use Rattle.std.proofs.lemmas.List.{get_or-take, get_or-drop, get_or_past, length-replicate, length-take-le}
-use Rattle.df_base.specs.Image.{Image, IsSector, IsImage, IsPiece, blank, covers, written, changed}
-use Rattle.df_base.specs.Log.{Event, Write, Sync, Stop, AreLoose, AreEvents, now_of}
-use Rattle.df_base.proofs.FieldBytes.{AreBytes-zeros}
+use Rattle.std.proofs.{Common.{◌≡◌, inl, inr, ℕ, ◌+◌, ◌-◌, ◌*◌, ◌==◌, ◌<◌, ◌≤◌, Bool, true, false, cond, List, [], ◌∷◌, length, take, drop, if◌then◌else◌, refl, arith, length-drop}, lemmas.Bool.{cases_lt, cond-false}, lemmas.Bool.Decides.{nat_tests}, lemmas.List.{get_or-take, get_or-drop, get_or_past, length-replicate, length-take-le}}
+use Rattle.df_base.{specs.{Image.{Image, IsSector, IsImage, IsPiece, blank, covers, written, changed}, Log.{Event, Write, Sync, Stop, AreLoose, AreEvents, now_of}}, proofs.FieldBytes.{AreBytes-zeros}}
 
 pub blank_is_image : IsImage blank
 unfolding blank

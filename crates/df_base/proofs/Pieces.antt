@@ -1,9 +1,5 @@
 -- A piece that is written part by part.
-use Rattle.std.proofs.Common.{◌≡◌, ℕ, ◌+◌, ◌-◌, List, Option, length, ◌++◌, take, drop, sym, ap, subst, ◌∙◌}
-use Rattle.std.proofs.Math.Seq.{take-add}
-use Rattle.std.proofs.lemmas.List.{take_rest}
-use Rattle.std.specs.Io.KnownBytes.{Appends}
-use Rattle.std.proofs.KnownBytes.{Appends-trans}
+use Rattle.std.{proofs.{Common.{◌≡◌, ℕ, ◌+◌, ◌-◌, List, Option, length, ◌++◌, take, drop, sym, ap, subst, ◌∙◌}, Math.Seq.{take-add}, lemmas.List.{take_rest}, KnownBytes.{Appends-trans}}, specs.Io.KnownBytes.{Appends}}
 
 -- the front that was written, and a part of what is left
 pub part_more : (a b c : Option (List ℕ)) (piece : List ℕ) (done n : ℕ) → Appends a b (take done piece) → Appends b c (take n (take (length piece - done) (drop done piece))) → Appends a c (take (done + n) piece)

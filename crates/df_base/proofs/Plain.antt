@@ -1,12 +1,5 @@
 -- Plain facts on tests, numbers, options and lists that several crates cite, and that std's lemmas don't have.
-use Rattle.std.proofs.Common.{◌≡◌, ◌≢◌, ◌⊎◌, inl, inr, ℕ, zero, suc, ◌+◌, ◌*◌, ◌/◌, ◌%◌, ◌<◌, ◌==◌, ◌&&◌, not, nat_lt, Bool, true, false, cond, List, [], ◌∷◌, length, get_or, set, position, Option, Some, None, refl, ap, arith, ltb-false}
-use Rattle.std.specs.List.{position_or_len, slice_get}
-use Rattle.std.proofs.lemmas.Bool.{cases_Bool}
-use Rattle.std.proofs.lemmas.Bool.Decides.{nat_tests}
-use Rattle.std.proofs.lemmas.List.Sums.{fails_before_first}
-use Rattle.std.specs.Prelude.{IsTrue}
-use Rattle.std.proofs.Common.{◌||◌, sym, ◌-◌, ◌++◌, take, drop, ◌∙◌}
-use Rattle.std.proofs.lemmas.List.{take_at, drop_at}
+use Rattle.std.{proofs.{Common.{◌≡◌, ◌≢◌, ◌⊎◌, inl, inr, ℕ, zero, suc, ◌+◌, ◌*◌, ◌/◌, ◌%◌, ◌<◌, ◌==◌, ◌&&◌, not, nat_lt, Bool, true, false, cond, List, [], ◌∷◌, length, get_or, set, position, Option, Some, None, refl, ap, arith, ltb-false, ◌||◌, sym, ◌-◌, ◌++◌, take, drop, ◌∙◌}, lemmas.Bool.{cases_Bool}, lemmas.Bool.Decides.{nat_tests}, lemmas.List.Sums.{fails_before_first}, lemmas.List.{take_at, drop_at}}, specs.{List.{position_or_len, slice_get}, Prelude.{IsTrue}}}
 
 -- ---- tests
 

@@ -1,7 +1,5 @@
 -- What a sink has taken goes on, piece by piece.
-use Rattle.std.proofs.Common.{ℕ, ◌+◌, List, ◌++◌, length, take, Option, Some, None, sym, ◌∙◌, ap, subst, arith, append_assoc, length-append}
-use Rattle.std.proofs.lemmas.List.{take-append-le}
-use Rattle.std.proofs.Math.Seq.{take-append-add}
+use Rattle.std.proofs.{Common.{ℕ, ◌+◌, List, ◌++◌, length, take, Option, Some, None, sym, ◌∙◌, ap, subst, arith, append_assoc, length-append}, lemmas.List.{take-append-le}, Math.Seq.{take-append-add}}
 use Rattle.df_base.specs.Streams.{Appends, AppendsPart}
 
 pub appends_more : (old mid new : Option (List ℕ)) (x y : List ℕ) → Appends old mid x → Appends mid new y → Appends old new (x ++ y)

@@ -1,12 +1,6 @@
 -- A text of pieces: its length, that it is bytes, and that it is read where it stands and is what was read there.
-use Rattle.std.proofs.Common.{◌≡◌, ◌<◌, ◌≤◌, ◌+◌, ◌^◌, ℕ, List, [], ◌∷◌, ◌++◌, length, take, drop, replicate, refl, sym, ◌∙◌, ap, subst, arith, append_assoc, length-append, drop-cons}
-use Rattle.std.specs.Prelude.{slice_index}
-use Rattle.std.proofs.lemmas.List.{take_at, append-nil, length-take-le, length-drop, length-replicate, get_or-drop, take-append-drop, drop-drop, drop_at}
-use Rattle.df_base.specs.Fields.{AreBytes, check_of, spelled, put_at}
-use Rattle.df_base.proofs.FieldBytes.{length-check_of, AreBytes-check_of, AreBytes-nil, AreBytes-cons, length-spelled, AreBytes-spelled, field_spelled, field_at-lt, spelled-field_at, AreBytes-append, AreBytes-take, AreBytes-drop, AreBytes-zeros}
-use Rattle.df_base.specs.Text.{Piece, width, total, spell, text, AreSo, FitsIn, Fit, IsReadAt, AreRead, Puts}
-use Rattle.df_base.specs.Text.Piece.{Byte, Number, Bytes}
-use Rattle.df_base.specs.Text.Puts.{Done, Put, PutBytes, PutText}
+use Rattle.std.{proofs.{Common.{◌≡◌, ◌<◌, ◌≤◌, ◌+◌, ◌^◌, ℕ, List, [], ◌∷◌, ◌++◌, length, take, drop, replicate, refl, sym, ◌∙◌, ap, subst, arith, append_assoc, length-append, drop-cons}, lemmas.List.{take_at, append-nil, length-take-le, length-drop, length-replicate, get_or-drop, take-append-drop, drop-drop, drop_at}}, specs.Prelude.{slice_index}}
+use Rattle.df_base.{specs.{Fields.{AreBytes, check_of, spelled, put_at}, Text.{Piece, width, total, spell, text, AreSo, FitsIn, Fit, IsReadAt, AreRead, Puts}, Text.Piece.{Byte, Number, Bytes}, Text.Puts.{Done, Put, PutBytes, PutText}}, proofs.FieldBytes.{length-check_of, AreBytes-check_of, AreBytes-nil, AreBytes-cons, length-spelled, AreBytes-spelled, field_spelled, field_at-lt, spelled-field_at, AreBytes-append, AreBytes-take, AreBytes-drop, AreBytes-zeros}}
 
 -- ---- where a piece stands
 

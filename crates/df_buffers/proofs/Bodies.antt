@@ -1,12 +1,8 @@
 -- A filled room has room for its body, and for the sectors of a unit with it.
-use Rattle.std.proofs.Common.{◌≡◌, ◌≢◌, ◌≤◌, ◌+◌, ℕ, List, length, take, drop, length-drop, arith}
-use Rattle.std.proofs.lemmas.List.{length-take-le}
-use Rattle.df_layout.specs.declared.layout.Layout.{Layout}
-use Rattle.df_layout.specs.declared.places.Zone.{Zone}
-use Rattle.df_layout.specs.declared.places.Zone.TheVariants.{WalHeaders}
+use Rattle.std.proofs.{Common.{◌≡◌, ◌≢◌, ◌≤◌, ◌+◌, ℕ, List, length, take, drop, length-drop, arith}, lemmas.List.{length-take-le}}
+use Rattle.df_layout.specs.{declared.layout.Layout.{Layout}, declared.places.Zone.{Zone}, declared.places.Zone.TheVariants.{WalHeaders}}
 use Rattle.df_format.specs.Message.{sectors_end}
-use Rattle.df_buffers.specs.Fillings.{IsFilled}
-use Rattle.df_buffers.proofs.Making.{made_fits}
+use Rattle.df_buffers.{specs.Fillings.{IsFilled}, proofs.Making.{made_fits}}
 
 pub record HasBody (count : ℕ) (bytes : List ℕ) : Type 0 where
   pub sectors : sectors_end (256 + count) ≤ length bytes

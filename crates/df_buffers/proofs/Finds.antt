@@ -1,32 +1,9 @@
 -- What the tests of a unit find, and that a room is sound where they pass.
-use Rattle.std.proofs.Common.{◌≡◌, ◌≢◌, ◌≤◌, ◌*◌, ℕ, List, [], length, take, Option, Some, None, refl, sym, ◌∙◌, ap, subst, arith}
-use Rattle.std.specs.Prelude.{Result, Ok, Err}
-use Rattle.std.proofs.lemmas.List.{length-take-le}
+use Rattle.std.{proofs.{Common.{◌≡◌, ◌≢◌, ◌≤◌, ◌*◌, ℕ, List, [], length, take, Option, Some, None, refl, sym, ◌∙◌, ap, subst, arith}, lemmas.List.{length-take-le}}, specs.Prelude.{Result, Ok, Err}}
 use Rattle.df_base.specs.Fields.{AreBytes}
-use Rattle.df_layout.specs.declared.damage.Class.{Class}
-use Rattle.df_layout.specs.declared.damage.Class.TheVariants.{Stale}
-use Rattle.df_layout.specs.declared.layout.Layout.{Layout}
-use Rattle.df_layout.specs.declared.places.Place.{Place}
-use Rattle.df_layout.specs.declared.places.Zone.{Zone}
-use Rattle.df_layout.specs.declared.places.Zone.TheVariants.{WalHeaders, WalPrepares, ClientReplies, Grid}
-use Rattle.df_layout.specs.Spans.{place_sectors}
-use Rattle.df_format.specs.declared.header.Header.{Header}
-use Rattle.df_format.specs.declared.kind.Kind.{Kind}
-use Rattle.df_format.specs.declared.kind.Kind.TheVariants.{Reserved, Prepare, Reply, Block, Trailer}
-use Rattle.df_format.specs.Message.{Message, sectors_end}
-use Rattle.df_format.specs.Shown.{unit_in, class_of, header_or_class}
-use Rattle.df_format.specs.Valid.{IsUnit}
-use Rattle.df_format.specs.Wanted.{IsWanted, Wanted as Words, Any as AnyOne, Op as WithOp, Checksum as WithChecksum, Answer as AnswerTo}
-use Rattle.df_format.specs.UnitLaws.{place_size}
-use Rattle.df_format.proofs.Laws.{one_unit, valid_stale, body_follows, ring_has_no_body, count_is, front_brings, fits_slot}
-use Rattle.df_buffers.specs.declared.identity.Identity.{Identity}
-use Rattle.df_buffers.specs.declared.identity.Wanted.{Wanted}
-use Rattle.df_buffers.specs.declared.identity.Wanted.TheVariants.{Any}
-use Rattle.df_buffers.specs.Rooms.{StandsIn, FillsRoom, room_size}
-use Rattle.df_buffers.specs.Found.{wanted_words, FindsUnit, FindsKind, IsValidUnit, class_for, shown_in}
-use Rattle.df_format.specs.Brings.{Brings}
-use Rattle.df_format.specs.UnitLaws.{AreForPlace}
-use Rattle.df_buffers.specs.Sounds.{BringsOwn, Holding, IsSound, AreWholeSectors, unit_with}
+use Rattle.df_layout.specs.{declared.damage.Class.{Class}, declared.damage.Class.TheVariants.{Stale}, declared.layout.Layout.{Layout}, declared.places.Place.{Place}, declared.places.Zone.{Zone}, declared.places.Zone.TheVariants.{WalHeaders, WalPrepares, ClientReplies, Grid}, Spans.{place_sectors}}
+use Rattle.df_format.{specs.{declared.header.Header.{Header}, declared.kind.Kind.{Kind}, declared.kind.Kind.TheVariants.{Reserved, Prepare, Reply, Block, Trailer}, Message.{Message, sectors_end}, Shown.{unit_in, class_of, header_or_class}, Valid.{IsUnit}, Wanted.{IsWanted, Wanted as Words, Any as AnyOne, Op as WithOp, Checksum as WithChecksum, Answer as AnswerTo}, UnitLaws.{place_size, AreForPlace}, Brings.{Brings}}, proofs.Laws.{one_unit, valid_stale, body_follows, ring_has_no_body, count_is, front_brings, fits_slot}}
+use Rattle.df_buffers.specs.{declared.identity.Identity.{Identity}, declared.identity.Wanted.{Wanted}, declared.identity.Wanted.TheVariants.{Any}, Rooms.{StandsIn, FillsRoom, room_size}, Found.{wanted_words, FindsUnit, FindsKind, IsValidUnit, class_for, shown_in}, Sounds.{BringsOwn, Holding, IsSound, AreWholeSectors, unit_with}}
 
 ok_same : {h k : Header} → (let one : Result Header Class = Ok h in one ≡ Ok k) → h ≡ k
 ok_same is = cc

@@ -1,27 +1,8 @@
 -- A room in which a unit was made is sound.
-use Rattle.std.proofs.Common.{◌≡◌, ◌≢◌, ◌≤◌, ◌+◌, ◌-◌, ◌*◌, ℕ, Bool, true, false, List, ◌++◌, length, take, drop, replicate, Option, Some, None, cond, refl, sym, ◌∙◌, ap, subst, append_assoc, arith}
-use Rattle.std.specs.Prelude.{IsSome}
-use Rattle.std.proofs.lemmas.List.{take-append-drop, take_at}
-use Rattle.std.proofs.lemmas.Option.{same_Some}
-use Rattle.df_layout.specs.declared.layout.Layout.{Layout}
-use Rattle.df_layout.specs.declared.places.Place.{Place}
-use Rattle.df_layout.specs.declared.places.Zone.{Zone}
-use Rattle.df_layout.specs.Spans.{place_sectors}
-use Rattle.df_layout.specs.declared.places.Zone.TheVariants.{Superblock, WalHeaders, WalPrepares, ClientReplies, Grid}
-use Rattle.df_format.specs.declared.header.Header.{Header}
-use Rattle.df_format.specs.declared.kind.Kind.{Kind}
-use Rattle.df_format.specs.declared.kind.Kind.TheVariants.{Reserved, Prepare, Reply, Block, Trailer}
-use Rattle.df_format.specs.Spelling.{sealed}
-use Rattle.df_format.specs.Message.{Message, unit_bytes, sectors_of, sectors_end}
-use Rattle.df_format.specs.Own.{named_in_ring, named_elsewhere, named_place, has_op_of_slot, inside, own_place}
-use Rattle.df_format.specs.Whole.{greatest_size}
-use Rattle.df_format.specs.Making.{for_body}
-use Rattle.df_format.specs.Valid.{IsUnit}
-use Rattle.df_format.specs.UnitLaws.{MadeIsUnit}
-use Rattle.df_format.proofs.Laws.{begun_is_shown, fits_slot}
-use Rattle.df_buffers.specs.Rooms.{StandsIn, FillsRoom}
-use Rattle.df_buffers.specs.Sounds.{IsSound, unit_with}
-use Rattle.df_buffers.proofs.Finds.{is_no_ring, found_whole}
+use Rattle.std.{proofs.{Common.{◌≡◌, ◌≢◌, ◌≤◌, ◌+◌, ◌-◌, ◌*◌, ℕ, Bool, true, false, List, ◌++◌, length, take, drop, replicate, Option, Some, None, cond, refl, sym, ◌∙◌, ap, subst, append_assoc, arith}, lemmas.List.{take-append-drop, take_at}, lemmas.Option.{same_Some}}, specs.Prelude.{IsSome}}
+use Rattle.df_layout.specs.{declared.layout.Layout.{Layout}, declared.places.Place.{Place}, declared.places.Zone.{Zone}, Spans.{place_sectors}, declared.places.Zone.TheVariants.{Superblock, WalHeaders, WalPrepares, ClientReplies, Grid}}
+use Rattle.df_format.{specs.{declared.header.Header.{Header}, declared.kind.Kind.{Kind}, declared.kind.Kind.TheVariants.{Reserved, Prepare, Reply, Block, Trailer}, Spelling.{sealed}, Message.{Message, unit_bytes, sectors_of, sectors_end}, Own.{named_in_ring, named_elsewhere, named_place, has_op_of_slot, inside, own_place}, Whole.{greatest_size}, Making.{for_body}, Valid.{IsUnit}, UnitLaws.{MadeIsUnit}}, proofs.Laws.{begun_is_shown, fits_slot}}
+use Rattle.df_buffers.{specs.{Rooms.{StandsIn, FillsRoom}, Sounds.{IsSound, unit_with}}, proofs.Finds.{is_no_ring, found_whole}}
 
 some_of : {X : Type 0} (o : Option X) → IsSome o → (x : X) × (o ≡ Some x)
 some_of None is = absurd (cc)

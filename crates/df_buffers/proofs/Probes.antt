@@ -1,10 +1,6 @@
 -- The rooms of the superblock's copies.
-use Rattle.std.proofs.Common.{◌≡◌, ◌<◌, ℕ, List, length, Some, refl, sym, ◌∙◌, ap, arith}
-use Rattle.std.specs.Prelude.{slice_get, slice_index_or}
-use Rattle.std.proofs.lemmas.Option.{slice_get-get_or}
-use Rattle.df_layout.specs.declared.layout.Layout.{Layout}
-use Rattle.df_layout.specs.declared.places.Zone.TheVariants.{Superblock}
-use Rattle.df_layout.specs.Spans.{place_sectors}
+use Rattle.std.{proofs.{Common.{◌≡◌, ◌<◌, ℕ, List, length, Some, refl, sym, ◌∙◌, ap, arith}, lemmas.Option.{slice_get-get_or}}, specs.Prelude.{slice_get, slice_index_or}}
+use Rattle.df_layout.specs.{declared.layout.Layout.{Layout}, declared.places.Zone.TheVariants.{Superblock}, Spans.{place_sectors}}
 use Rattle.df_buffers.specs.Rooms.{Room, FillsRoom, room_size}
 
 -- a copy has one sector in every layout

@@ -1,20 +1,9 @@
 -- A unit whose room is blanked after it is still that unit, and its sectors hold zeros there.
-use Rattle.std.proofs.lemmas.List.{length-replicate, length-take}
-use Rattle.std.proofs.Common.{◌≡◌, ◌≢◌, ℕ, zero, suc, ◌+◌, ◌-◌, ◌≤◌, List, [], ◌∷◌, ◌++◌, length, take, replicate, Some, refl, sym, ◌∙◌, ap, subst, arith, length-append}
+use Rattle.std.proofs.{lemmas.List.{length-replicate, length-take}, Common.{◌≡◌, ◌≢◌, ℕ, zero, suc, ◌+◌, ◌-◌, ◌≤◌, List, [], ◌∷◌, ◌++◌, length, take, replicate, Some, refl, sym, ◌∙◌, ap, subst, arith, length-append}}
 use Rattle.df_base.specs.Fields.{AreBytes}
-use Rattle.df_layout.specs.declared.places.Zone.{Zone}
-use Rattle.df_layout.specs.declared.places.Zone.TheVariants.{Superblock, WalHeaders, WalPrepares, ClientReplies, Grid}
-use Rattle.df_layout.specs.declared.layout.Layout.{Layout}
-use Rattle.df_format.specs.declared.header.Header.{Header}
-use Rattle.df_format.specs.declared.kind.Kind.{Kind}
-use Rattle.df_format.specs.Message.{Message, sectors_end, unit_bytes}
-use Rattle.df_format.specs.Shown.{unit_in}
-use Rattle.df_format.specs.UnitLaws.{place_size}
-use Rattle.df_format.specs.Valid.{BeginsWithUnit, HasBody, IsBodyOf, IsUnit}
-use Rattle.df_format.proofs.Laws.{begun_is_shown, length-unit, one_unit}
-use Rattle.df_buffers.specs.Rooms.{StandsIn, room_size}
-use Rattle.df_buffers.specs.Sounds.{EndsInZeros, Holding, IsSound, IsTidy, holding_of, unit_with}
-use Rattle.df_buffers.proofs.Finds.{ends, found_whole, is_no_ring}
+use Rattle.df_layout.specs.{declared.places.Zone.{Zone}, declared.places.Zone.TheVariants.{Superblock, WalHeaders, WalPrepares, ClientReplies, Grid}, declared.layout.Layout.{Layout}}
+use Rattle.df_format.{specs.{declared.header.Header.{Header}, declared.kind.Kind.{Kind}, Message.{Message, sectors_end, unit_bytes}, Shown.{unit_in}, UnitLaws.{place_size}, Valid.{BeginsWithUnit, HasBody, IsBodyOf, IsUnit}}, proofs.Laws.{begun_is_shown, length-unit, one_unit}}
+use Rattle.df_buffers.{specs.{Rooms.{StandsIn, room_size}, Sounds.{EndsInZeros, Holding, IsSound, IsTidy, holding_of, unit_with}}, proofs.Finds.{ends, found_whole, is_no_ring}}
 
 -- elsewhere than in the header ring a place has whole sectors, and a unit its body
 beside_ring : (layout : Layout) (zone : Zone) (h : Header) (body : List ℕ) → zone ≢ WalHeaders → (place_size layout zone ≡ room_size layout zone) × (HasBody zone h body → IsBodyOf h body)

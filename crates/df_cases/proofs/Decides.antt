@@ -1,15 +1,9 @@
 -- Two checksums that a slot shows decide as their numbers do.
-use Rattle.std.proofs.Common.{◌≡◌, ℕ, ◌==◌, false, List, sym, ◌∙◌, subst}
-use Rattle.std.specs.Str.{bytes_eq}
-use Rattle.std.proofs.lemmas.Bool.{both_ways, cond-false, ne_eqb}
-use Rattle.std.proofs.lemmas.Slice.Eq.{bytes_eq-Decides}
+use Rattle.std.{proofs.{Common.{◌≡◌, ℕ, ◌==◌, false, List, sym, ◌∙◌, subst}, lemmas.Bool.{both_ways, cond-false, ne_eqb}, lemmas.Slice.Eq.{bytes_eq-Decides}}, specs.Str.{bytes_eq}}
 use Rattle.df_format.specs.Spelling.{IsCheck}
 use Rattle.df_theory.specs.Cases
-use Rattle.df_units.specs.Meaning.{number_of}
-use Rattle.df_units.proofs.Laws.{one_number}
-use Rattle.df_cases.specs.declared.seen.Seen.{Seen}
-use Rattle.df_cases.specs.declared.seen.Seen.TheVariants.{Now}
-use Rattle.df_cases.specs.Cases.{HasCheck, seen_of}
+use Rattle.df_units.{specs.Meaning.{number_of}, proofs.Laws.{one_number}}
+use Rattle.df_cases.specs.{declared.seen.Seen.{Seen}, declared.seen.Seen.TheVariants.{Now}, Cases.{HasCheck, seen_of}}
 
 other_number : (a b : List ℕ) → bytes_eq a b ≡ false → IsCheck a → IsCheck b → Cases.case (Cases.Current (number_of a)) (Cases.Current (number_of b)) ≡ Cases.Lost
 other_number a b other one two = cond-false (number_of a == number_of b) (Cases.Take false) Cases.Lost

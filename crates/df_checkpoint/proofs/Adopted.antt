@@ -1,20 +1,11 @@
 -- What the grid holds after each block that is adopted, and which addresses are free then.
-use Rattle.std.proofs.Common.{◌≡◌, ℕ, zero, suc, ◌+◌, ◌-◌, ◌<◌, ◌≤◌, ◌==◌, ◌||◌, Bool, true, false, Option, Some, None, List, [], ◌∷◌, length, map, drop, get_or, refl, sym, ap, ◌∙◌, subst, arith, le-ltb, ne_eqb}
-use Rattle.std.specs.Prelude.{if◌then◌else◌, OnOk, Result, Ok, Err}
-use Rattle.std.specs.List.{range_with_len}
-use Rattle.std.proofs.lemmas.Bool.{eq-eqb}
+use Rattle.std.{proofs.{Common.{◌≡◌, ℕ, zero, suc, ◌+◌, ◌-◌, ◌<◌, ◌≤◌, ◌==◌, ◌||◌, Bool, true, false, Option, Some, None, List, [], ◌∷◌, length, map, drop, get_or, refl, sym, ap, ◌∙◌, subst, arith, le-ltb, ne_eqb}, lemmas.Bool.{eq-eqb}}, specs.{Prelude.{if◌then◌else◌, OnOk, Result, Ok, Err}, List.{range_with_len}}}
 use Rattle.df_layout.specs.declared.layout.Layout.{Layout}
-use Rattle.df_model.specs.Blocks.{Blocks, entries, entry, is_held_in, sum_at, with_entry}
-use Rattle.df_model.specs.Work.{is_in, is_known}
+use Rattle.df_model.specs.{Blocks.{Blocks, entries, entry, is_held_in, sum_at, with_entry}, Work.{is_in, is_known}}
 use Rattle.df_units.specs.Meaning.{number_of}
-use Rattle.df_grid.specs.Grid.{GridState, HasAddress, IsUnheld, with_blocks}
-use Rattle.df_grid.specs.Table.{IsIdle, adopted}
-use Rattle.df_checkpoint.specs.declared.links.Link.{Link}
-use Rattle.df_checkpoint.specs.Chain.{AreDistinctLinks, is_among}
+use Rattle.df_grid.specs.{Grid.{GridState, HasAddress, IsUnheld, with_blocks}, Table.{IsIdle, adopted}}
+use Rattle.df_checkpoint.specs.{declared.links.Link.{Link}, Chain.{AreDistinctLinks, is_among}, declared.fault.TrailerFault.{TrailerFault}, declared.fault.TrailerFault.TheVariants.{Damaged, BadField, DiskFault}, Adopting.{AdoptAnswer, blocks_to, chained, link_pair}}
 use Rattle.df_trailer.specs.declared.reader.Reader.{Reader}
-use Rattle.df_checkpoint.specs.declared.fault.TrailerFault.{TrailerFault}
-use Rattle.df_checkpoint.specs.declared.fault.TrailerFault.TheVariants.{Damaged, BadField, DiskFault}
-use Rattle.df_checkpoint.specs.Adopting.{AdoptAnswer, blocks_to, chained, link_pair}
 
 -- blocks that are live and referenced
 abbrev held_by : List (ℕ × ℕ) → Blocks

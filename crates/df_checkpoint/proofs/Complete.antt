@@ -1,26 +1,14 @@
 -- A chain that was walked is whole: its blocks are links from the last to the first, and their bodies are a text of the superblock's size.
-use Rattle.std.proofs.Common.{◌≡◌, ℕ, suc, ◌+◌, ◌-◌, ◌*◌, ◌≤◌, ◌==◌, ◌||◌, Bool, true, false, Option, Some, None, List, [], ◌∷◌, length, min, refl, sym, ap, ◌∙◌, subst, arith, inl, inr, length-append}
-use Rattle.std.specs.Prelude.{Result, Ok, Err, IfOk}
+use Rattle.std.{proofs.{Common.{◌≡◌, ℕ, suc, ◌+◌, ◌-◌, ◌*◌, ◌≤◌, ◌==◌, ◌||◌, Bool, true, false, Option, Some, None, List, [], ◌∷◌, length, min, refl, sym, ap, ◌∙◌, subst, arith, inl, inr, length-append}, lemmas.Bool.{eq-eqb}}, specs.Prelude.{Result, Ok, Err, IfOk}}
 use Rattle.arrayvec.specs.ArrayVec.{ArrayVec}
-use Rattle.std.proofs.lemmas.Bool.{eq-eqb}
 use Rattle.df_disk.specs.Told.{Told}
 use Rattle.df_format.specs.declared.superblock.SuperFields.{SuperFields}
 use Rattle.df_theory.specs.Units as model
-use Rattle.df_theory.specs.Units.{Block, BlockPlace, BlockUnit, Content, Units}
-use Rattle.df_theory.specs.Shape.{Shape}
-use Rattle.df_theory.specs.Trailer.{InChain, IsCount, Links, piece_size, text_of}
-use Rattle.df_theory.specs.Opens.{AreLinks, Arrives}
+use Rattle.df_theory.specs.{Units.{Block, BlockPlace, BlockUnit, Content, Units}, Shape.{Shape}, Trailer.{InChain, IsCount, Links, piece_size, text_of}, Opens.{AreLinks, Arrives}}
 use Rattle.df_model.specs.Supply.{Shown}
 use Rattle.df_units.specs.Meaning.{layout_of, number_of}
-use Rattle.df_grid.specs.Grid.{GridState, HasAddress}
-use Rattle.df_grid.specs.Reads.{shown_of}
-use Rattle.df_checkpoint.specs.declared.links.Link.{Link}
-use Rattle.df_checkpoint.specs.declared.fault.TrailerFault.{TrailerFault}
-use Rattle.df_checkpoint.specs.declared.fault.TrailerFault.TheVariants.{Damaged, BadField, DiskFault}
-use Rattle.df_checkpoint.specs.Chain.{AreDistinctLinks, HasChain, Names, OfTold, content_in, is_among}
-use Rattle.df_checkpoint.specs.Reads.{FoundAnswer, IsNamedChain}
-use Rattle.df_checkpoint.proofs.OneLink.{asked_is}
-use Rattle.df_checkpoint.proofs.Walked.{Whole, names_length}
+use Rattle.df_grid.specs.{Grid.{GridState, HasAddress}, Reads.{shown_of}}
+use Rattle.df_checkpoint.{specs.{declared.links.Link.{Link}, declared.fault.TrailerFault.{TrailerFault}, declared.fault.TrailerFault.TheVariants.{Damaged, BadField, DiskFault}, Chain.{AreDistinctLinks, HasChain, Names, OfTold, content_in, is_among}, Reads.{FoundAnswer, IsNamedChain}}, proofs.{OneLink.{asked_is}, Walked.{Whole, names_length}}}
 
 links_walked : (sh : Shape) (image : Units) (c : Content) (n : ℕ) (chain : List (ℕ × Block)) (address sum a k : ℕ) → Arrives image chain address sum a k → a ≡ 0 → AreLinks sh c n chain → length chain ≡ n → Links (sh.layout.block_size - 256) c chain address sum
 links_walked sh image c n [] address sum a k arrives ends are all = sym arrives.0 ∙ ends

@@ -1,28 +1,15 @@
 -- The text of a chain, as its blocks are shown again from the first to the last.
-use Rattle.std.proofs.Common.{◌≡◌, ℕ, zero, suc, ◌+◌, ◌-◌, ◌<◌, ◌≤◌, Option, Some, None, List, [], ◌∷◌, ◌++◌, length, drop, get_or, refl, sym, ap, ◌∙◌, subst, arith, append_assoc, rules}
-use Rattle.std.specs.Prelude.{◌↔◌, IsOk, Result, Ok, Err}
+use Rattle.std.{proofs.Common.{◌≡◌, ℕ, zero, suc, ◌+◌, ◌-◌, ◌<◌, ◌≤◌, Option, Some, None, List, [], ◌∷◌, ◌++◌, length, drop, get_or, refl, sym, ap, ◌∙◌, subst, arith, append_assoc, rules}, specs.Prelude.{◌↔◌, IsOk, Result, Ok, Err}}
 use Rattle.df_base.specs.Causes.{IsBlamed}
 use Rattle.df_disk.specs.Told.{Told}
 use Rattle.df_layout.specs.declared.layout.Layout.{Layout}
-use Rattle.df_format.specs.Message.{Message}
-use Rattle.df_format.specs.declared.reference.Reference.{Reference}
-use Rattle.df_theory.specs.Units.{Block}
-use Rattle.df_theory.specs.Trailer.{text_of}
+use Rattle.df_format.specs.{Message.{Message}, declared.reference.Reference.{Reference}}
+use Rattle.df_theory.specs.{Units.{Block}, Trailer.{text_of}}
 use Rattle.df_model.specs.Supply.{Shown}
 use Rattle.df_units.specs.Meaning.{block_of, layout_of, number_of}
-use Rattle.df_trailer.specs.declared.fault.Fault.{Fault}
-use Rattle.df_trailer.specs.declared.reader.Reader.{Reader}
-use Rattle.df_trailer.specs.Reading.{HasRead, failing_in}
-use Rattle.df_trailer.specs.Text.{answer, fault, refusal}
-use Rattle.df_trailer.proofs.Laws.{refusal_is_fault, refusal_stays}
-use Rattle.df_grid.specs.Grid.{GridState, HasAddress}
-use Rattle.df_grid.specs.Reads.{ReadsTrailer, shown_of}
-use Rattle.df_checkpoint.specs.declared.links.Link.{Link}
-use Rattle.df_checkpoint.specs.declared.fault.TrailerFault.{TrailerFault}
-use Rattle.df_checkpoint.specs.declared.fault.TrailerFault.TheVariants.{Damaged, BadField, DiskFault}
-use Rattle.df_checkpoint.specs.Chain.{AreDistinctLinks, Names, OfTold, asked, is_trailer_fault}
-use Rattle.df_checkpoint.proofs.Walked.{names_length}
-use Rattle.df_checkpoint.specs.Texts.{FeedAnswer, Feeds, HasReadTo, IsPieceBody, TextAnswer, bad_of}
+use Rattle.df_trailer.{specs.{declared.fault.Fault.{Fault}, declared.reader.Reader.{Reader}, Reading.{HasRead, failing_in}, Text.{answer, fault, refusal}}, proofs.Laws.{refusal_is_fault, refusal_stays}}
+use Rattle.df_grid.specs.{Grid.{GridState, HasAddress}, Reads.{ReadsTrailer, shown_of}}
+use Rattle.df_checkpoint.{specs.{declared.links.Link.{Link}, declared.fault.TrailerFault.{TrailerFault}, declared.fault.TrailerFault.TheVariants.{Damaged, BadField, DiskFault}, Chain.{AreDistinctLinks, Names, OfTold, asked, is_trailer_fault}, Texts.{FeedAnswer, Feeds, HasReadTo, IsPieceBody, TextAnswer, bad_of}}, proofs.Walked.{names_length}}
 
 -- ---- one block
 

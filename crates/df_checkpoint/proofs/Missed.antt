@@ -1,15 +1,8 @@
 -- No block of a trailer is missed where a link breaks its chain, or where the chain is whole.
-use Rattle.std.proofs.Common.{◌≡◌, ℕ, ◌+◌, ◌-◌, ◌<◌, Some, List, [], ◌∷◌, length, refl, sym, ap, ◌∙◌, subst, arith, inl, inr}
-use Rattle.std.specs.Prelude.{Ok}
-use Rattle.df_theory.specs.Units.{Block, BlockPlace, BlockUnit, Content, Units}
-use Rattle.df_theory.specs.Shape.{Shape}
-use Rattle.df_theory.specs.Trailer.{InChain, Links}
-use Rattle.df_theory.specs.Opens.{AreLinks, Arrives, IsLink, IsShown}
-use Rattle.df_model.specs.Supply.{Shown}
-use Rattle.df_model.proofs.Laws.{count_le}
-use Rattle.df_checkpoint.specs.Chain.{asked}
-use Rattle.df_checkpoint.specs.Laws.{BrokenIsShown, WholeIsShown}
-use Rattle.df_checkpoint.proofs.OneLink.{asked_is}
+use Rattle.std.{proofs.Common.{◌≡◌, ℕ, ◌+◌, ◌-◌, ◌<◌, Some, List, [], ◌∷◌, length, refl, sym, ap, ◌∙◌, subst, arith, inl, inr}, specs.Prelude.{Ok}}
+use Rattle.df_theory.specs.{Units.{Block, BlockPlace, BlockUnit, Content, Units}, Shape.{Shape}, Trailer.{InChain, Links}, Opens.{AreLinks, Arrives, IsLink, IsShown}}
+use Rattle.df_model.{specs.Supply.{Shown}, proofs.Laws.{count_le}}
+use Rattle.df_checkpoint.{specs.{Chain.{asked}, Laws.{BrokenIsShown, WholeIsShown}}, proofs.OneLink.{asked_is}}
 
 -- two blocks at one address are one
 pub one_block : (image : Units) (a e : ℕ) (x y : Block) → a ≡ e → image (BlockPlace a) ≡ Some (BlockUnit x) → image (BlockPlace e) ≡ Some (BlockUnit y) → x ≡ y

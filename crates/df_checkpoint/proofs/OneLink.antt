@@ -1,31 +1,14 @@
 -- One link: what is shown where a block is asked for, and what the tests of a link say of it.
-use Rattle.std.proofs.Common.{◌≡◌, ℕ, ◌-◌, ◌<◌, ◌≤◌, ◌==◌, ◌&&◌, ◌||◌, nat_le, Bool, true, false, Option, Some, None, length, refl, sym, ap, ◌∙◌, subst, arith, eqb-true, eq-eqb, ne_eqb, leb-true, le-leb}
-use Rattle.std.specs.Prelude.{Ok, Err}
-use Rattle.std.proofs.lemmas.Bool.Decides.{nat_tests}
-use Rattle.std.proofs.lemmas.Bool.{and_parts, and_from}
+use Rattle.std.{proofs.{Common.{◌≡◌, ℕ, ◌-◌, ◌<◌, ◌≤◌, ◌==◌, ◌&&◌, ◌||◌, nat_le, Bool, true, false, Option, Some, None, length, refl, sym, ap, ◌∙◌, subst, arith, eqb-true, eq-eqb, ne_eqb, leb-true, le-leb}, lemmas.Bool.Decides.{nat_tests}, lemmas.Bool.{and_parts, and_from}}, specs.Prelude.{Ok, Err}}
 use Rattle.df_disk.specs.Told.{Told}
-use Rattle.df_layout.specs.declared.damage.Class.{Class}
-use Rattle.df_layout.specs.declared.damage.Class.TheVariants.{Stale}
-use Rattle.df_layout.specs.declared.fields.Field.TheVariants.{TrailerChain}
-use Rattle.df_layout.specs.declared.layout.Layout.{Layout}
-use Rattle.df_format.specs.declared.kind.Kind.{Kind}
-use Rattle.df_format.specs.declared.kind.Kind.TheVariants.{Trailer}
-use Rattle.df_format.specs.declared.reference.Reference.{Reference}
-use Rattle.df_checkpoint.specs.declared.links.Link.{Link}
-use Rattle.df_format.specs.declared.superblock.SuperFields.{SuperFields}
-use Rattle.df_format.specs.Message.{Message}
-use Rattle.df_format.specs.Rules.{ObeysKind, ObeysTrailer}
+use Rattle.df_layout.specs.{declared.damage.Class.{Class}, declared.damage.Class.TheVariants.{Stale}, declared.fields.Field.TheVariants.{TrailerChain}, declared.layout.Layout.{Layout}}
+use Rattle.df_format.specs.{declared.kind.Kind.{Kind}, declared.kind.Kind.TheVariants.{Trailer}, declared.reference.Reference.{Reference}, declared.superblock.SuperFields.{SuperFields}, Message.{Message}, Rules.{ObeysKind, ObeysTrailer}}
+use Rattle.df_checkpoint.specs.{declared.links.Link.{Link}, declared.fault.TrailerFault.TheVariants.{BadField}, Chain.{IsLinkOf, IsNoLink, LinkAnswer, OfTold, asked, before_of, content_in, is_link}}
 use Rattle.df_theory.specs.Units as model
-use Rattle.df_theory.specs.Units.{AnyUnit, Block, BlockPlace, BlockUnit, CopyUnit, HeaderUnit, PrepareUnit, ReplyUnit}
-use Rattle.df_theory.specs.Shape.{Shape}
-use Rattle.df_theory.specs.Trailer.{piece_size}
-use Rattle.df_theory.specs.Opens.{IsLink}
+use Rattle.df_theory.specs.{Units.{AnyUnit, Block, BlockPlace, BlockUnit, CopyUnit, HeaderUnit, PrepareUnit, ReplyUnit}, Shape.{Shape}, Trailer.{piece_size}, Opens.{IsLink}}
 use Rattle.df_model.specs.Supply.{Shown, block_given, class_at, given_if}
 use Rattle.df_units.specs.Meaning.{block_of, layout_of, number_of}
-use Rattle.df_grid.specs.Grid.{GridState, IsKnownBlock}
-use Rattle.df_grid.specs.Reads.{ReadsTrailer, trailer_alone}
-use Rattle.df_checkpoint.specs.declared.fault.TrailerFault.TheVariants.{BadField}
-use Rattle.df_checkpoint.specs.Chain.{IsLinkOf, IsNoLink, LinkAnswer, OfTold, asked, before_of, content_in, is_link}
+use Rattle.df_grid.specs.{Grid.{GridState, IsKnownBlock}, Reads.{ReadsTrailer, trailer_alone}}
 
 either : (a b : Bool) → (a || b) ≡ true → a ≡ false → b ≡ true
 either true b is none = absurd (cc)

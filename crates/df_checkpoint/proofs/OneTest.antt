@@ -1,26 +1,10 @@
 -- What is shown of a trailer fails one test first: it has one chain and one text, and a test is made once those before it passed.
-use Rattle.std.proofs.Common.{◌≡◌, ℕ, ◌+◌, ◌-◌, ◌^◌, ◌<◌, ◌≤◌, false, Some, None, List, [], ◌∷◌, length, refl, sym, ap, ◌∙◌, subst, arith, inl, inr}
-use Rattle.std.specs.Prelude.{Ok}
-use Rattle.std.proofs.lemmas.Bool.{cases_order}
-use Rattle.std.proofs.lemmas.Option.{same_Some}
+use Rattle.std.{proofs.{Common.{◌≡◌, ℕ, ◌+◌, ◌-◌, ◌^◌, ◌<◌, ◌≤◌, false, Some, None, List, [], ◌∷◌, length, refl, sym, ap, ◌∙◌, subst, arith, inl, inr}, lemmas.Bool.{cases_order}, lemmas.Option.{same_Some}}, specs.Prelude.{Ok}}
 use Rattle.df_layout.specs.declared.fields.Field.{Field}
-use Rattle.df_theory.specs.Units.{Block, Content, Parts}
-use Rattle.df_theory.specs.Sessions.{Has}
-use Rattle.df_theory.specs.Shape.{Shape}
-use Rattle.df_theory.specs.Trailer.{InChain, text_of}
-use Rattle.df_theory.specs.Opens.{AreLinks, Arrives, IsLink}
-use Rattle.df_model.specs.Supply.{Shown}
-use Rattle.df_model.specs.Work.{is_known}
-use Rattle.df_model.proofs.Laws.{count_le}
-use Rattle.df_trailer.specs.declared.fault.Fault.{Fault}
-use Rattle.df_trailer.specs.Text.{fault, parse_of}
-use Rattle.df_checkpoint.specs.Chain.{IsBroken, asked}
-use Rattle.df_checkpoint.specs.Reads.{IsBadText, IsReferenced, IsWholeChain}
-use Rattle.df_checkpoint.specs.Waiting.{IsUntracked}
-use Rattle.df_checkpoint.specs.Laws.{OneTestFails}
-use Rattle.df_checkpoint.proofs.OneLink.{asked_is}
-use Rattle.df_checkpoint.proofs.Missed.{not_passed, one_block}
-use Rattle.df_checkpoint.proofs.Unreadable.{link_there, same_chain, unparsed}
+use Rattle.df_theory.specs.{Units.{Block, Content, Parts}, Sessions.{Has}, Shape.{Shape}, Trailer.{InChain, text_of}, Opens.{AreLinks, Arrives, IsLink}}
+use Rattle.df_model.{specs.{Supply.{Shown}, Work.{is_known}}, proofs.Laws.{count_le}}
+use Rattle.df_trailer.specs.{declared.fault.Fault.{Fault}, Text.{fault, parse_of}}
+use Rattle.df_checkpoint.{specs.{Chain.{IsBroken, asked}, Reads.{IsBadText, IsReferenced, IsWholeChain}, Waiting.{IsUntracked}, Laws.{OneTestFails}}, proofs.{OneLink.{asked_is}, Missed.{not_passed, one_block}, Unreadable.{link_there, same_chain, unparsed}}}
 
 -- two faults that are told as one are one
 one_fault : (f g : Fault) → Some f ≡ Some g → (f.field ≡ g.field) × (f.value ≡ g.value)

@@ -1,42 +1,17 @@
 -- A whole chain whose text is read: what the text says of the blocks is what the grid adopts.
-use Rattle.std.proofs.Common.{◌≡◌, ℕ, ◌+◌, ◌-◌, ◌*◌, ◌^◌, ◌<◌, ◌≤◌, Option, Some, None, List, [], ◌∷◌, ◌++◌, length, map, min, refl, sym, ap, ◌∙◌, subst, arith, inl, inr, length-append}
-use Rattle.std.specs.Prelude.{◌≢◌, Result, Ok, Err}
-use Rattle.std.specs.List.{range_with_len}
+use Rattle.std.{proofs.Common.{◌≡◌, ℕ, ◌+◌, ◌-◌, ◌*◌, ◌^◌, ◌<◌, ◌≤◌, Option, Some, None, List, [], ◌∷◌, ◌++◌, length, map, min, refl, sym, ap, ◌∙◌, subst, arith, inl, inr, length-append}, specs.{Prelude.{◌≢◌, Result, Ok, Err}, List.{range_with_len}}}
 use Rattle.arrayvec.specs.ArrayVec.{ArrayVec}
 use Rattle.df_disk.specs.Told.{Told}
 use Rattle.df_layout.specs.declared.layout.Layout.{Layout}
-use Rattle.df_format.specs.declared.superblock.SuperFields.{SuperFields}
-use Rattle.df_format.specs.Copies.{content_with}
-use Rattle.df_format.specs.SuperRules.{IsSuper}
+use Rattle.df_format.specs.{declared.superblock.SuperFields.{SuperFields}, Copies.{content_with}, SuperRules.{IsSuper}}
 use Rattle.df_theory.specs.Units as model
-use Rattle.df_theory.specs.Units.{Block, Parts}
-use Rattle.df_theory.specs.Shape.{Shape}
-use Rattle.df_theory.specs.Trailer.{IsReference, Says, text_of}
-use Rattle.df_model.specs.Blocks.{Blocks, entries, pair_of}
-use Rattle.df_model.specs.Supply.{Shown}
-use Rattle.df_model.specs.Work.{is_known}
-use Rattle.df_model.proofs.Laws.{entries_same}
-use Rattle.df_units.specs.Meaning.{layout_of, number_of}
-use Rattle.df_units.specs.Superblocks.{AreFieldsOf}
-use Rattle.df_units.proofs.Laws.{usable_passes}
-use Rattle.df_trailer.specs.declared.fault.Fault.{Fault}
-use Rattle.df_trailer.specs.declared.reader.Reader.{Reader}
-use Rattle.df_trailer.specs.Reading.{HasRead, bytes_read, failing_in, kept_at}
-use Rattle.df_trailer.specs.Text.{fault, parse_of, parts_of, unless}
-use Rattle.df_trailer.proofs.Laws.{kept_said}
-use Rattle.df_grid.specs.Grid.{GridState, HasAddress}
-use Rattle.df_grid.specs.Reads.{shown_of}
-use Rattle.df_checkpoint.specs.declared.links.Link.{Link}
-use Rattle.df_checkpoint.specs.declared.fault.TrailerFault.{TrailerFault}
-use Rattle.df_checkpoint.specs.declared.fault.TrailerFault.TheVariants.{Damaged, BadField, DiskFault}
-use Rattle.df_checkpoint.specs.Adopting.{AdoptAnswer, LiveRefused}
+use Rattle.df_theory.specs.{Units.{Block, Parts}, Shape.{Shape}, Trailer.{IsReference, Says, text_of}}
+use Rattle.df_model.{specs.{Blocks.{Blocks, entries, pair_of}, Supply.{Shown}, Work.{is_known}}, proofs.Laws.{entries_same}}
+use Rattle.df_units.{specs.{Meaning.{layout_of, number_of}, Superblocks.{AreFieldsOf}}, proofs.Laws.{usable_passes}}
+use Rattle.df_trailer.{specs.{declared.fault.Fault.{Fault}, declared.reader.Reader.{Reader}, Reading.{HasRead, bytes_read, failing_in, kept_at}, Text.{fault, parse_of, parts_of, unless}}, proofs.Laws.{kept_said}}
+use Rattle.df_grid.specs.{Grid.{GridState, HasAddress}, Reads.{shown_of}}
+use Rattle.df_checkpoint.{specs.{declared.links.Link.{Link}, declared.fault.TrailerFault.{TrailerFault}, declared.fault.TrailerFault.TheVariants.{Damaged, BadField, DiskFault}, Adopting.{AdoptAnswer, LiveRefused}, Chain.{AreDistinctLinks, Names, OfTold, content_in}, Texts.{HasReadText, TextAnswer}, Reads.{ChainAnswer, FoundAnswer, IsAdopted, IsNamedChain, IsReferenced, blocks_read}}, proofs.{OneLink.{asked_is}, Walked.{among_there}, Complete.{chain_listed}}}
 use Rattle.df_checkpoint.specs.Adopting as adopting
-use Rattle.df_checkpoint.specs.Chain.{AreDistinctLinks, Names, OfTold, content_in}
-use Rattle.df_checkpoint.specs.Texts.{HasReadText, TextAnswer}
-use Rattle.df_checkpoint.specs.Reads.{ChainAnswer, FoundAnswer, IsAdopted, IsNamedChain, IsReferenced, blocks_read}
-use Rattle.df_checkpoint.proofs.OneLink.{asked_is}
-use Rattle.df_checkpoint.proofs.Walked.{among_there}
-use Rattle.df_checkpoint.proofs.Complete.{chain_listed}
 
 pub parse_said : (sh : Shape) (op : ℕ) (text : List ℕ) → sh.parse ≡ parse_of sh.layout → op ≤ 2 ^ 62 → fault sh.layout op text ≡ None → sh.parse op text ≡ Some (parts_of sh.layout text)
 parse_said sh op text parse most fine =

@@ -1,12 +1,8 @@
 -- The addresses of a chain's links, and the least one that is referenced.
-use Rattle.std.proofs.Common.{◌≡◌, ℕ, ◌<◌, ◌==◌, ◌||◌, Bool, true, false, List, [], ◌∷◌, length, get_or, refl, subst, arith, eqb-true}
-use Rattle.std.proofs.lemmas.Bool.Decides.{nat_tests}
-use Rattle.std.proofs.lemmas.List.Folds.{list_any_at}
+use Rattle.std.proofs.{Common.{◌≡◌, ℕ, ◌<◌, ◌==◌, ◌||◌, Bool, true, false, List, [], ◌∷◌, length, get_or, refl, subst, arith, eqb-true}, lemmas.Bool.Decides.{nat_tests}, lemmas.List.Folds.{list_any_at}}
 use Rattle.df_trailer.specs.declared.reader.Reader.{Reader}
 use Rattle.df_grid.specs.Grid.{GridState, HasAddress}
-use Rattle.df_checkpoint.specs.declared.links.Link.{Link}
-use Rattle.df_checkpoint.specs.Chain.{AreDistinctLinks, is_among}
-use Rattle.df_checkpoint.specs.Adopting.{IsFirstReferenced, LiveRefused}
+use Rattle.df_checkpoint.specs.{declared.links.Link.{Link}, Chain.{AreDistinctLinks, is_among}, Adopting.{IsFirstReferenced, LiveRefused}}
 
 -- each link's address is among those of the chain
 pub link_among : (refs : List Link) (i : ℕ) (d : Link) → i < length refs → is_among (get_or refs i d).address refs ≡ true

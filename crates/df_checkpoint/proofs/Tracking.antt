@@ -1,18 +1,13 @@
 -- Which ops the sessions of a table have, and what a reader gives that has read a whole text: for those who read a trailer.
-use Rattle.std.proofs.Common.{◌≡◌, ℕ, zero, suc, ◌==◌, ◌||◌, Bool, true, false, inl, inr, Option, Some, None, List, [], ◌∷◌, map, refl, sym, ap, ◌∙◌, subst}
-use Rattle.std.proofs.lemmas.Bool.{cases_eq, eq-eqb, ne_eqb, or_parts}
+use Rattle.std.proofs.{Common.{◌≡◌, ℕ, zero, suc, ◌==◌, ◌||◌, Bool, true, false, inl, inr, Option, Some, None, List, [], ◌∷◌, map, refl, sym, ap, ◌∙◌, subst}, lemmas.Bool.{cases_eq, eq-eqb, ne_eqb, or_parts}}
 use Rattle.df_layout.specs.declared.layout.Layout.{Layout}
 use Rattle.df_format.specs.declared.superblock.SuperFields.{SuperFields}
 use Rattle.df_theory.specs.Units
 use Rattle.df_theory.specs.Sessions.{Has}
-use Rattle.df_sessions.specs.declared.session.Session.{Session}
-use Rattle.df_sessions.specs.Requests.{session_of, sessions_of}
-use Rattle.df_trailer.specs.Reading.{HasRead}
-use Rattle.df_trailer.specs.Rooms.{without_reply}
-use Rattle.df_trailer.specs.declared.reader.Reader.{Reader}
+use Rattle.df_sessions.specs.{declared.session.Session.{Session}, Requests.{session_of, sessions_of}}
+use Rattle.df_trailer.specs.{Reading.{HasRead}, Rooms.{without_reply}, declared.reader.Reader.{Reader}}
 use Rattle.df_grid.specs.Grid.{GridState}
-use Rattle.df_checkpoint.specs.Reads.{IsCompleteReader}
-use Rattle.df_checkpoint.specs.Waiting.{IsPendingReply, has_op}
+use Rattle.df_checkpoint.specs.{Reads.{IsCompleteReader}, Waiting.{IsPendingReply, has_op}}
 
 -- the table's sessions are the text's
 pub sessions_back : (ss : List Units.Session) → sessions_of (map without_reply ss) ≡ ss

@@ -1,23 +1,11 @@
 -- A trailer that is refused is that of no checkpoint that can be read: what is shown has one chain, and it has one text.
-use Rattle.std.proofs.Common.{◌≡◌, ℕ, ◌+◌, ◌-◌, ◌^◌, ◌<◌, ◌≤◌, Bool, false, Option, Some, None, List, [], ◌∷◌, length, min, refl, sym, ap, ◌∙◌, subst, arith, inl, inr, eq-eqb}
-use Rattle.std.specs.Prelude.{Ok}
+use Rattle.std.{proofs.Common.{◌≡◌, ℕ, ◌+◌, ◌-◌, ◌^◌, ◌<◌, ◌≤◌, Bool, false, Option, Some, None, List, [], ◌∷◌, length, min, refl, sym, ap, ◌∙◌, subst, arith, inl, inr, eq-eqb}, specs.Prelude.{Ok}}
 use Rattle.df_layout.specs.declared.damage.Class.TheVariants.{Stale}
-use Rattle.df_theory.specs.Units.{AnyUnit, Block, BlockPlace, BlockUnit, Content, Parts, Units}
-use Rattle.df_theory.specs.Sessions.{Has}
-use Rattle.df_theory.specs.Shape.{Shape}
-use Rattle.df_theory.specs.Trailer.{InChain, IsCount, Links, Says, text_of}
-use Rattle.df_theory.specs.Opens.{Arrives, IsLink, IsReadable, IsShown}
-use Rattle.df_theory.specs.View.{Checkpoint}
-use Rattle.df_model.specs.Supply.{Shown, block_given, class_at, given_if}
-use Rattle.df_model.specs.Work.{is_known}
-use Rattle.df_model.proofs.Laws.{count_le}
-use Rattle.df_trailer.specs.declared.fault.Fault.{Fault}
-use Rattle.df_trailer.specs.Text.{fault, parse_of, parts_of, unless}
+use Rattle.df_theory.specs.{Units.{AnyUnit, Block, BlockPlace, BlockUnit, Content, Parts, Units}, Sessions.{Has}, Shape.{Shape}, Trailer.{InChain, IsCount, Links, Says, text_of}, Opens.{Arrives, IsLink, IsReadable, IsShown}, View.{Checkpoint}}
+use Rattle.df_model.{specs.{Supply.{Shown, block_given, class_at, given_if}, Work.{is_known}}, proofs.Laws.{count_le}}
+use Rattle.df_trailer.specs.{declared.fault.Fault.{Fault}, Text.{fault, parse_of, parts_of, unless}}
 use Rattle.df_grid.specs.Reads.{trailer_alone}
-use Rattle.df_checkpoint.specs.Chain.{asked}
-use Rattle.df_checkpoint.specs.Reads.{IsWholeChain}
-use Rattle.df_checkpoint.specs.Laws.{BadTextIsUnreadable, BrokenIsUnreadable, DamageIsMissed, ReferencedIsUnreadable, UntrackedIsUnreadable}
-use Rattle.df_checkpoint.proofs.OneLink.{asked_is}
+use Rattle.df_checkpoint.{specs.{Chain.{asked}, Reads.{IsWholeChain}, Laws.{BadTextIsUnreadable, BrokenIsUnreadable, DamageIsMissed, ReferencedIsUnreadable, UntrackedIsUnreadable}}, proofs.OneLink.{asked_is}}
 
 -- a block that is shown as it is wanted is the answer
 shown_asked : (shown : Shown) (a k : ℕ) (is : IsShown shown.units a k) → asked shown a k ≡ Ok is.0

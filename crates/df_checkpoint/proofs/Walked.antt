@@ -1,26 +1,15 @@
 -- The walk: what was read of the chain, with one link more, or where it ends.
-use Rattle.std.proofs.Common.{◌≡◌, ℕ, ◌+◌, ◌-◌, ◌<◌, ◌==◌, ◌||◌, Bool, true, false, Option, Some, None, List, [], ◌∷◌, ◌++◌, length, refl, sym, ap, ◌∙◌, subst, arith, inl, inr, eqb-true, ne_eqb}
-use Rattle.std.specs.Prelude.{Result, Ok, Err}
-use Rattle.std.proofs.lemmas.Bool.Decides.{nat_tests}
+use Rattle.std.{proofs.{Common.{◌≡◌, ℕ, ◌+◌, ◌-◌, ◌<◌, ◌==◌, ◌||◌, Bool, true, false, Option, Some, None, List, [], ◌∷◌, ◌++◌, length, refl, sym, ap, ◌∙◌, subst, arith, inl, inr, eqb-true, ne_eqb}, lemmas.Bool.Decides.{nat_tests}}, specs.Prelude.{Result, Ok, Err}}
 use Rattle.arrayvec.specs.ArrayVec.{ArrayVec}
 use Rattle.df_disk.specs.Told.{Told}
 use Rattle.df_layout.specs.declared.damage.Class.{Class}
 use Rattle.df_format.specs.declared.superblock.SuperFields.{SuperFields}
 use Rattle.df_theory.specs.Units as model
-use Rattle.df_theory.specs.Units.{Block, BlockPlace, BlockUnit, Content}
-use Rattle.df_theory.specs.Shape.{Shape}
-use Rattle.df_theory.specs.Trailer.{InChain, IsCount}
-use Rattle.df_theory.specs.Opens.{AreLinks, Arrives, IsLink, ReadsTo}
-use Rattle.df_theory.proofs.Laws.{arrives_more, links_more}
+use Rattle.df_theory.{specs.{Units.{Block, BlockPlace, BlockUnit, Content}, Shape.{Shape}, Trailer.{InChain, IsCount}, Opens.{AreLinks, Arrives, IsLink, ReadsTo}}, proofs.Laws.{arrives_more, links_more}}
 use Rattle.df_model.specs.Supply.{Shown}
 use Rattle.df_units.specs.Meaning.{layout_of, number_of}
-use Rattle.df_grid.specs.Grid.{GridState, HasAddress}
-use Rattle.df_grid.specs.Reads.{shown_of}
-use Rattle.df_checkpoint.specs.declared.links.Link.{Link}
-use Rattle.df_checkpoint.specs.declared.fault.TrailerFault.{TrailerFault}
-use Rattle.df_checkpoint.specs.declared.fault.TrailerFault.TheVariants.{BadField, Damaged, DiskFault}
-use Rattle.df_checkpoint.specs.Chain.{AreDistinctLinks, HasWalked, IsBroken, IsLacking, IsTakenLink, LinkAnswer, Names, OfTold, StepAnswer, WalkAnswer, asked, content_in, is_among}
-use Rattle.df_checkpoint.proofs.OneLink.{asked_is}
+use Rattle.df_grid.specs.{Grid.{GridState, HasAddress}, Reads.{shown_of}}
+use Rattle.df_checkpoint.{specs.{declared.links.Link.{Link}, declared.fault.TrailerFault.{TrailerFault}, declared.fault.TrailerFault.TheVariants.{BadField, Damaged, DiskFault}, Chain.{AreDistinctLinks, HasWalked, IsBroken, IsLacking, IsTakenLink, LinkAnswer, Names, OfTold, StepAnswer, WalkAnswer, asked, content_in, is_among}}, proofs.OneLink.{asked_is}}
 
 names_more : (shown : Shown) (refs : List Link) (chain : List (ℕ × Block)) (r : Link) (b : Block) → Names shown refs chain → asked shown r.address (number_of r.checksum) ≡ Ok b → Names shown (refs ++ r ∷ []) (chain ++ (r.address, b) ∷ [])
 names_more shown [] [] r b names is = (refl, is, tt)

@@ -1,17 +1,8 @@
 -- What each place shows after steps that put units one after the other.
-use Rattle.std.proofs.Common.{◌≡◌, inl, inr, ℕ, zero, suc, ◌+◌, ◌<◌, ◌≤◌, ◌==◌, Bool, true, false, if◌then◌else◌, List, [], ◌∷◌, length, Option, Some, None, refl, ◌∙◌, ap, arith}
-use Rattle.std.specs.Prelude.{slice_get}
-use Rattle.std.proofs.lemmas.Bool.{eq-eqb, ne_eqb}
-use Rattle.df_theory.specs.Units.{AnyUnit, CopyPlace, CopyUnit, HeaderPlace, HeaderUnit, Header, IsReserved, Place, Units, or_else}
-use Rattle.df_theory.specs.CopyPuts.{update_steps}
-use Rattle.df_theory.specs.MakingLaws.{AllReserved, PutsReserved, all_puts}
-use Rattle.df_theory.specs.MendLaws.{Reaches}
-use Rattle.df_theory.specs.Runs.{Puts, Step}
-use Rattle.df_theory.specs.UnitLog.{put_one, same_place}
-use Rattle.df_format.specs.declared.superblock.SuperFields.{SuperFields}
-use Rattle.df_format.specs.Copies.{content_with}
-use Rattle.df_units.specs.Meaning.{content_of}
-use Rattle.df_units.specs.Puts.{put_copies, put_copy}
+use Rattle.std.{proofs.{Common.{◌≡◌, inl, inr, ℕ, zero, suc, ◌+◌, ◌<◌, ◌≤◌, ◌==◌, Bool, true, false, if◌then◌else◌, List, [], ◌∷◌, length, Option, Some, None, refl, ◌∙◌, ap, arith}, lemmas.Bool.{eq-eqb, ne_eqb}}, specs.Prelude.{slice_get}}
+use Rattle.df_theory.specs.{Units.{AnyUnit, CopyPlace, CopyUnit, HeaderPlace, HeaderUnit, Header, IsReserved, Place, Units, or_else}, CopyPuts.{update_steps}, MakingLaws.{AllReserved, PutsReserved, all_puts}, MendLaws.{Reaches}, Runs.{Puts, Step}, UnitLog.{put_one, same_place}}
+use Rattle.df_format.specs.{declared.superblock.SuperFields.{SuperFields}, Copies.{content_with}}
+use Rattle.df_units.specs.{Meaning.{content_of}, Puts.{put_copies, put_copy}}
 use Rattle.df_opening.proofs.Laws.{unit_after}
 
 -- ---- units at places that are counted

@@ -1,38 +1,16 @@
 -- The view of a copy beside that of its source: the same state in another layout, with the k-th referenced block at address k.
-use Rattle.std.proofs.Common.{◌≡◌, ◌↔◌, inl, inr, ℕ, zero, suc, ◌+◌, ◌<◌, ◌≤◌, List, [], ◌∷◌, length, map, Option, Some, None, refl, sym, ◌∙◌, ap, subst, arith}
-use Rattle.std.specs.Prelude.{slice_get}
-use Rattle.std.specs.List.{range_with_len}
-use Rattle.std.proofs.lemmas.Bool.{cases_eq}
-use Rattle.std.proofs.lemmas.List.{length-map}
-use Rattle.std.proofs.lemmas.Option.{same_Some, slice_get_within}
+use Rattle.std.{proofs.{Common.{◌≡◌, ◌↔◌, inl, inr, ℕ, zero, suc, ◌+◌, ◌<◌, ◌≤◌, List, [], ◌∷◌, length, map, Option, Some, None, refl, sym, ◌∙◌, ap, subst, arith}, lemmas.Bool.{cases_eq}, lemmas.List.{length-map}, lemmas.Option.{same_Some, slice_get_within}}, specs.{Prelude.{slice_get}, List.{range_with_len}}}
 use Rattle.df_layout.specs.declared.layout.Layout.{Layout}
-use Rattle.df_format.specs.declared.superblock.SuperFields.{SuperFields}
-use Rattle.df_format.specs.Copies.{content_with}
-use Rattle.df_format.specs.Message.{Message}
+use Rattle.df_format.specs.{declared.superblock.SuperFields.{SuperFields}, Copies.{content_with}, Message.{Message}}
 use Rattle.df_sessions.specs.Requests.{session_of, sessions_of}
 use Rattle.df_sessions.specs.declared.session.Session as told
-use Rattle.df_theory.specs.Trailer.{InChain}
+use Rattle.df_theory.specs.{Trailer.{InChain}, Units.{Block, BlockPlace, BlockUnit, Content, ReplyPlace, ReplyUnit, Units}, View.{View}}
 use Rattle.df_theory.specs.Units as units
-use Rattle.df_theory.specs.Units.{Block, BlockPlace, BlockUnit, Content, ReplyPlace, ReplyUnit, Units}
-use Rattle.df_theory.specs.View.{View}
-use Rattle.df_units.specs.Meaning.{block_of, content_of, layout_of, message_of, number_of}
-use Rattle.df_units.proofs.Laws.{by_second}
-use Rattle.df_model.specs.Blocks.{entries, entry, sum_at}
-use Rattle.df_model.specs.Making.{named_places}
-use Rattle.df_model.specs.Memory.{joined, reply_sum}
-use Rattle.df_model.specs.Sense.{RiseFrom}
-use Rattle.df_model.proofs.Laws.{rise_lower}
+use Rattle.df_units.{specs.Meaning.{block_of, content_of, layout_of, message_of, number_of}, proofs.Laws.{by_second}}
+use Rattle.df_model.{specs.{Blocks.{entries, entry, sum_at}, Making.{named_places}, Memory.{joined, reply_sum}, Sense.{RiseFrom}}, proofs.Laws.{rise_lower}}
 use Rattle.df_rooms.specs.Recorded.{check_or_zeros, stored_check, stored_checks}
 use Rattle.df_opening.specs.Below.{State, memory, reply_sum as check_sum, stored_sum}
-use Rattle.df_copy.specs.Targets.{check_of, superblock_of}
-use Rattle.df_copy.specs.Tests.{references}
-use Rattle.df_copy.specs.Units.{moved, moved_from}
-use Rattle.df_copy.specs.Views.{IsCopyOf, SameButLayout, block_address, renamed}
-use Rattle.df_copy.proofs.Frees.{numbered_known, numbered_there}
-use Rattle.df_copy.proofs.Holding.{as_stored, block_shown, copy_view, item_at, moved_at, none_past, session_reply, shown}
-use Rattle.df_copy.proofs.Listed.{moved_length}
-use Rattle.df_copy.proofs.Sources.{IsSource}
-use Rattle.df_copy.proofs.Usables.{IsNamed, fitted, named_none, named_some, no_trailer_there, trailer_there}
+use Rattle.df_copy.{specs.{Targets.{check_of, superblock_of}, Tests.{references}, Units.{moved, moved_from}, Views.{IsCopyOf, SameButLayout, block_address, renamed}}, proofs.{Frees.{numbered_known, numbered_there}, Holding.{as_stored, block_shown, copy_view, item_at, moved_at, none_past, session_reply, shown}, Listed.{moved_length}, Sources.{IsSource}, Usables.{IsNamed, fitted, named_none, named_some, no_trailer_there, trailer_there}}}
 
 -- ---- blocks with their addresses
 

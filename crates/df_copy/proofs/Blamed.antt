@@ -1,16 +1,10 @@
 -- What is said of endings: which disk each blames, and what is left where a call is Ok.
-use Rattle.std.proofs.Common.{◌≡◌, ◌∙◌, ℕ, Result, Ok, Err, refl, subst}
-use Rattle.std.specs.Prelude.{OnOk}
+use Rattle.std.{proofs.Common.{◌≡◌, ◌∙◌, ℕ, Result, Ok, Err, refl, subst}, specs.Prelude.{OnOk}}
 use Rattle.df_base.specs.Causes.{Blamed, IsBlamed}
-use Rattle.df_model.specs.Faults.{is_lookup_fault, is_read_fault}
-use Rattle.df_model.specs.declared.reading.LookupError.{LookupError}
+use Rattle.df_model.specs.{Faults.{is_lookup_fault, is_read_fault}, declared.reading.LookupError.{LookupError}, declared.reading.ReadError.{ReadError}}
 use Rattle.df_model.specs.declared.reading.LookupError.TheVariants as lookup
-use Rattle.df_model.specs.declared.reading.ReadError.{ReadError}
 use Rattle.df_model.specs.declared.reading.ReadError.TheVariants as read
-use Rattle.df_copy.specs.declared.ending.Ending.{Ending}
-use Rattle.df_copy.specs.declared.ending.Ending.TheVariants.{BlockTooLong, Damaged, NotAtRest, NotBlank, ReplyTooLong, Source, Target, TooFewBlocks, TooFewClients}
-use Rattle.df_copy.specs.Acts.{Beside, LeavesSource}
-use Rattle.df_copy.specs.Statuses.{ByEnding, copied_block_ending, is_source, is_target, reply_ending}
+use Rattle.df_copy.specs.{declared.ending.Ending.{Ending}, declared.ending.Ending.TheVariants.{BlockTooLong, Damaged, NotAtRest, NotBlank, ReplyTooLong, Source, Target, TooFewBlocks, TooFewClients}, Acts.{Beside, LeavesSource}, Statuses.{ByEnding, copied_block_ending, is_source, is_target, reply_ending}}
 
 pub by_ending : {T S U V : Type 0} {P Q : Ending → Type 0} → (T → U) → (S → V) → ((e : Ending) → P e → Q e) → (e : Ending) → ByEnding T S P e → ByEnding U V Q e
 by_ending target source refused Target is = target is

@@ -1,25 +1,14 @@
 -- The test of the target's first sectors: each shows zeros alone, or which is the first that doesn't.
-use Rattle.std.proofs.Common.{◌≡◌, inl, inr, ℕ, zero, suc, ◌+◌, ◌<◌, ◌≤◌, Bool, true, false, not, if◌then◌else◌, List, map, Option, Some, None, Ok, Err, refl, ◌∙◌, ap, arith}
-use Rattle.std.specs.List.{range_with_len}
-use Rattle.std.proofs.lemmas.Bool.{cases_eq}
-use Rattle.df_base.specs.Causes.{Blamed}
-use Rattle.df_base.specs.Image.{Image}
-use Rattle.df_disk.specs.Told.{Told}
-use Rattle.df_disk.proofs.Laws.{nothing_is_part}
+use Rattle.std.{proofs.{Common.{◌≡◌, inl, inr, ℕ, zero, suc, ◌+◌, ◌<◌, ◌≤◌, Bool, true, false, not, if◌then◌else◌, List, map, Option, Some, None, Ok, Err, refl, ◌∙◌, ap, arith}, lemmas.Bool.{cases_eq}}, specs.List.{range_with_len}}
+use Rattle.df_base.specs.{Causes.{Blamed}, Image.{Image}}
+use Rattle.df_disk.{specs.Told.{Told}, proofs.Laws.{nothing_is_part}}
 use Rattle.df_format.specs.Copies.{is_blank_copy}
 use Rattle.df_layout.specs.declared.layout.Layout.{Layout}
 use Rattle.df_superblock.specs.Blank.{IsUnformatted}
-use Rattle.df_model.specs.declared.errors.FormatError.{FormatError}
+use Rattle.df_model.specs.{declared.errors.FormatError.{FormatError}, Faults.{is_format_fault}, Refusals.{first_refusal}}
 use Rattle.df_model.specs.declared.errors.FormatError.TheVariants as formats
-use Rattle.df_model.specs.Faults.{is_format_fault}
-use Rattle.df_model.specs.Refusals.{first_refusal}
 use Rattle.df_opening.specs.Formatting.{IsFirstWritten, RefusesCluster, TellsBlank}
-use Rattle.df_copy.specs.declared.ending.Ending.{Ending}
-use Rattle.df_copy.specs.declared.ending.Ending.TheVariants.{NotBlank}
-use Rattle.df_copy.specs.Copying.{BeginsTarget, OverTold}
-use Rattle.df_copy.specs.Statuses.{blank_ending, is_target}
-use Rattle.df_copy.specs.Targets.{ring_events}
-use Rattle.df_copy.specs.Tests.{blank_tests}
+use Rattle.df_copy.specs.{declared.ending.Ending.{Ending}, declared.ending.Ending.TheVariants.{NotBlank}, Copying.{BeginsTarget, OverTold}, Statuses.{blank_ending, is_target}, Targets.{ring_events}, Tests.{blank_tests}}
 
 module _ (blank : ℕ → Bool) where
   abbrev blanks : ℕ → ℕ → List (Bool × Ending)

@@ -1,34 +1,17 @@
 -- A live block that is read, and what the copy does with it.
-use Rattle.std.proofs.Common.{◌≡◌, ℕ, ◌+◌, Bool, true, false, not, List, [], ◌∷◌, length, Option, Some, None, Result, Ok, Err, refl, sym, ◌∙◌, ap, subst, arith}
-use Rattle.std.specs.Prelude.{nat_lt}
-use Rattle.std.proofs.lemmas.Bool.{lt-ltb}
-use Rattle.std.proofs.lemmas.Option.{none-some}
+use Rattle.std.{proofs.{Common.{◌≡◌, ℕ, ◌+◌, Bool, true, false, not, List, [], ◌∷◌, length, Option, Some, None, Result, Ok, Err, refl, sym, ◌∙◌, ap, subst, arith}, lemmas.Bool.{lt-ltb}, lemmas.Option.{none-some}}, specs.Prelude.{nat_lt}}
 use Rattle.df_disk.specs.Told.{Told}
-use Rattle.df_layout.specs.declared.damage.Class.{Class}
-use Rattle.df_layout.specs.declared.layout.Layout.{Layout}
-use Rattle.df_layout.specs.declared.places.Place.{Place}
-use Rattle.df_format.specs.declared.kind.Kind.TheVariants.{Block}
-use Rattle.df_format.specs.Message.{Message}
+use Rattle.df_layout.specs.{declared.damage.Class.{Class}, declared.layout.Layout.{Layout}, declared.places.Place.{Place}}
+use Rattle.df_format.specs.{declared.kind.Kind.TheVariants.{Block}, Message.{Message}}
 use Rattle.df_theory.specs.Units as units
 use Rattle.df_units.specs.Meaning.{block_of}
 use Rattle.df_trailer.specs.Rooms.{number_in}
 use Rattle.df_grid.specs.Grid as grid
-use Rattle.df_model.specs.Blocks.{sum_at}
-use Rattle.df_model.specs.Commands.{ReadBlock}
-use Rattle.df_model.specs.Refusals.{first_refusal}
-use Rattle.df_model.specs.Supply.{block_read}
-use Rattle.df_model.specs.Work.{is_known}
-use Rattle.df_model.specs.declared.reading.ReadError.{ReadError}
+use Rattle.df_model.specs.{Blocks.{sum_at}, Commands.{ReadBlock}, Refusals.{first_refusal}, Supply.{block_read}, Work.{is_known}, declared.reading.ReadError.{ReadError}}
 use Rattle.df_model.specs.declared.reading.ReadError.TheVariants as read
 use Rattle.df_opening.specs.Below.{State, memory}
 use Rattle.df_replica.specs.BlockReads.{IsReadBlock}
-use Rattle.df_copy.specs.declared.ending.Ending.{Ending}
-use Rattle.df_copy.specs.declared.ending.Ending.TheVariants.{BlockTooLong, Damaged, NotAtRest, NotBlank, ReplyTooLong, Source, Target as TargetFails, TooFewBlocks, TooFewClients}
-use Rattle.df_copy.specs.declared.target.Target.{Target}
-use Rattle.df_copy.specs.Acts.{CopiesAt, CopiesBlock, IsBlockOf, PutsBlock}
-use Rattle.df_copy.specs.Statuses.{copied_block_ending}
-use Rattle.df_copy.specs.Tests.{block_test}
-use Rattle.df_copy.specs.Units.{IsBlockAt, OverShown}
+use Rattle.df_copy.specs.{declared.ending.Ending.{Ending}, declared.ending.Ending.TheVariants.{BlockTooLong, Damaged, NotAtRest, NotBlank, ReplyTooLong, Source, Target as TargetFails, TooFewBlocks, TooFewClients}, declared.target.Target.{Target}, Acts.{CopiesAt, CopiesBlock, IsBlockOf, PutsBlock}, Statuses.{copied_block_ending}, Tests.{block_test}, Units.{IsBlockAt, OverShown}}
 
 -- an address with a checksum is live
 pub known_by : {check : Option (List ℕ)} {sum : List ℕ} {o : Option ℕ} → check ≡ Some sum → number_in check ≡ o → is_known o ≡ true

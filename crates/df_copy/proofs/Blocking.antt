@@ -1,34 +1,15 @@
 -- The blocks are copied one after the other, in order of address: what stands after each address.
-use Rattle.std.proofs.Common.{◌≡◌, inl, inr, ℕ, suc, ◌+◌, ◌-◌, ◌<◌, ◌≤◌, Bool, true, List, [], ◌∷◌, ◌++◌, length, Option, Some, None, Result, Ok, Err, refl, sym, ◌∙◌, ap, subst, arith, append_assoc, length-append}
-use Rattle.std.specs.Prelude.{nat_lt, slice_get}
-use Rattle.std.proofs.lemmas.List.{append-nil}
-use Rattle.df_base.specs.Log.{Event}
-use Rattle.df_base.proofs.Laws.{minus_zero}
+use Rattle.std.{proofs.{Common.{◌≡◌, inl, inr, ℕ, suc, ◌+◌, ◌-◌, ◌<◌, ◌≤◌, Bool, true, List, [], ◌∷◌, ◌++◌, length, Option, Some, None, Result, Ok, Err, refl, sym, ◌∙◌, ap, subst, arith, append_assoc, length-append}, lemmas.List.{append-nil}}, specs.Prelude.{nat_lt, slice_get}}
+use Rattle.df_base.{specs.Log.{Event}, proofs.Laws.{minus_zero}}
 use Rattle.df_disk.specs.Told.{Told}
-use Rattle.df_layout.specs.declared.damage.Class.{Class}
-use Rattle.df_layout.specs.declared.layout.Layout.{Layout}
+use Rattle.df_layout.specs.{declared.damage.Class.{Class}, declared.layout.Layout.{Layout}}
 use Rattle.df_format.specs.Message.{Message}
 use Rattle.df_theory.specs.Units as units
 use Rattle.df_units.specs.Meaning.{block_of}
 use Rattle.df_grid.specs.Writes.{made_events}
-use Rattle.df_model.specs.Blocks.{entry, sum_at}
-use Rattle.df_model.specs.Commands.{ReadBlock}
-use Rattle.df_model.specs.Refusals.{first_refusal}
-use Rattle.df_model.specs.Supply.{Shown, block_read}
-use Rattle.df_model.specs.Work.{is_known}
-use Rattle.df_model.proofs.Laws.{some_known}
+use Rattle.df_model.{specs.{Blocks.{entry, sum_at}, Commands.{ReadBlock}, Refusals.{first_refusal}, Supply.{Shown, block_read}, Work.{is_known}}, proofs.Laws.{some_known}}
 use Rattle.df_opening.specs.Below.{State, memory}
-use Rattle.df_copy.specs.declared.ending.Ending.{Ending}
-use Rattle.df_copy.specs.declared.ending.Ending.TheVariants.{BlockTooLong}
-use Rattle.df_copy.specs.declared.target.Target.{Target}
-use Rattle.df_copy.specs.Acts.{Beside, CopiesAt, CopiesBlock, CopiesBlocks, FitBlocks, FitsBlock, LeavesSource}
-use Rattle.df_copy.specs.Targets.{IsTarget}
-use Rattle.df_copy.specs.Tests.{block_test, block_tests, block_tests_of, references, references_from}
-use Rattle.df_copy.specs.Units.{IsBlockAt, OverShown, all_events, moved, moved_from}
-use Rattle.df_copy.proofs.Grids.{target_push}
-use Rattle.df_copy.proofs.Planning.{references_next}
-use Rattle.df_copy.proofs.Listed.{events_push, moved_push, over_all, over_by, push_cases, push_length, split_at}
-use Rattle.df_copy.proofs.Turns.{AreWritten, at_entry, turn_on, turn_skips, turn_stops, turns_end}
+use Rattle.df_copy.{specs.{declared.ending.Ending.{Ending}, declared.ending.Ending.TheVariants.{BlockTooLong}, declared.target.Target.{Target}, Acts.{Beside, CopiesAt, CopiesBlock, CopiesBlocks, FitBlocks, FitsBlock, LeavesSource}, Targets.{IsTarget}, Tests.{block_test, block_tests, block_tests_of, references, references_from}, Units.{IsBlockAt, OverShown, all_events, moved, moved_from}}, proofs.{Grids.{target_push}, Planning.{references_next}, Listed.{events_push, moved_push, over_all, over_by, push_cases, push_length, split_at}, Turns.{AreWritten, at_entry, turn_on, turn_skips, turn_stops, turns_end}}}
 
 -- how many addresses the source has
 abbrev pub addresses_of : State → ℕ

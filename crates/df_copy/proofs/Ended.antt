@@ -1,28 +1,14 @@
 -- What the status of a copy blames, and what becomes of a source that isn't opened.
-use Rattle.std.proofs.Common.{◌≡◌, inl, inr, ℕ, ◌<◌, ◌≤◌, Bool, true, false, List, [], ◌∷◌, length, map, Option, Some, None, Err, refl, sym, ◌∙◌, ap, subst, arith}
-use Rattle.std.specs.Prelude.{IfNone, get_or}
-use Rattle.df_base.specs.Causes.{Blamed}
-use Rattle.df_base.specs.Image.{IsImage}
-use Rattle.df_base.specs.Log.{Sync}
+use Rattle.std.{proofs.Common.{◌≡◌, inl, inr, ℕ, ◌<◌, ◌≤◌, Bool, true, false, List, [], ◌∷◌, length, map, Option, Some, None, Err, refl, sym, ◌∙◌, ap, subst, arith}, specs.Prelude.{IfNone, get_or}}
+use Rattle.df_base.specs.{Causes.{Blamed}, Image.{IsImage}, Log.{Sync}}
 use Rattle.df_disk.specs.Told.{Told, after}
 use Rattle.df_layout.specs.declared.layout.Layout.{Layout}
 use Rattle.df_model.specs.declared.errors.OpenError.{OpenError}
 use Rattle.df_model.specs.declared.errors.OpenError.TheVariants as opens
-use Rattle.df_opening.specs.Below.{TellsLayout}
-use Rattle.df_opening.specs.Opened.{StopsOpening}
-use Rattle.df_opening.specs.Surveying.{TellsSurvey}
-use Rattle.df_opening.proofs.Laws.{superblock_refused}
-use Rattle.df_program.specs.Telling.{Blames, PrintsError, Writes}
-use Rattle.df_program.specs.Two.{Faults, HasCausesOfTwo, Outside}
-use Rattle.df_program.proofs.Laws.{first_causes, open_fault, printed_causes, refusal_ends, second_causes, text_ends}
-use Rattle.df_program.specs.Names.{NamesLayout, OneLayout}
-use Rattle.df_copy.specs.declared.ending.Ending.{Ending}
-use Rattle.df_copy.specs.declared.ending.Ending.TheVariants.{BlockTooLong, Damaged, NotAtRest, NotBlank, ReplyTooLong, Source, Target, TooFewBlocks, TooFewClients}
-use Rattle.df_copy.specs.declared.status.Status.{Status}
+use Rattle.df_opening.{specs.{Below.{TellsLayout}, Opened.{StopsOpening}, Surveying.{TellsSurvey}}, proofs.Laws.{superblock_refused}}
+use Rattle.df_program.{specs.{Telling.{Blames, PrintsError, Writes}, Two.{Faults, HasCausesOfTwo, Outside}, Names.{NamesLayout, OneLayout}}, proofs.Laws.{first_causes, open_fault, printed_causes, refusal_ends, second_causes, text_ends}}
+use Rattle.df_copy.specs.{declared.ending.Ending.{Ending}, declared.ending.Ending.TheVariants.{BlockTooLong, Damaged, NotAtRest, NotBlank, ReplyTooLong, Source, Target, TooFewBlocks, TooFewClients}, declared.status.Status.{Status}, Run.{CopyOutcome, DoesCopy, MeansLayout, MeansNoLayout, PrintsCopy}, Statuses.{EndsWithFiles, is_fault, is_source, is_target}, Texts.{ending_text}}
 use Rattle.df_copy.specs.declared.status.Status.TheVariants as ends
-use Rattle.df_copy.specs.Run.{CopyOutcome, DoesCopy, MeansLayout, MeansNoLayout, PrintsCopy}
-use Rattle.df_copy.specs.Statuses.{EndsWithFiles, is_fault, is_source, is_target}
-use Rattle.df_copy.specs.Texts.{ending_text}
 
 -- ---- one of the two disks, or neither
 

@@ -1,14 +1,10 @@
 -- The addresses of a target: those of the blocks that were written are held, and the free ones stand after them, one after the other.
-use Rattle.std.proofs.Common.{◌≡◌, inl, inr, ℕ, zero, suc, ◌+◌, ◌-◌, ◌<◌, ◌≤◌, Bool, true, false, not, if◌then◌else◌, List, [], ◌∷◌, length, take, Some, None, refl, sym, ◌∙◌, ap, arith}
-use Rattle.std.specs.Prelude.{slice_get}
-use Rattle.std.specs.List.{filter, range_with_len}
-use Rattle.std.proofs.lemmas.Bool.{cases_eq, eq-eqb, ne_eqb}
+use Rattle.std.{proofs.{Common.{◌≡◌, inl, inr, ℕ, zero, suc, ◌+◌, ◌-◌, ◌<◌, ◌≤◌, Bool, true, false, not, if◌then◌else◌, List, [], ◌∷◌, length, take, Some, None, refl, sym, ◌∙◌, ap, arith}, lemmas.Bool.{cases_eq, eq-eqb, ne_eqb}}, specs.{Prelude.{slice_get}, List.{filter, range_with_len}}}
 use Rattle.df_base.proofs.Laws.{or_false}
 use Rattle.df_layout.specs.declared.layout.Layout.{Layout}
 use Rattle.df_format.specs.Message.{Message}
 use Rattle.df_units.specs.Meaning.{number_of}
-use Rattle.df_model.specs.Blocks.{is_held_in, sum_at}
-use Rattle.df_model.specs.Work.{is_known}
+use Rattle.df_model.specs.{Blocks.{is_held_in, sum_at}, Work.{is_known}}
 use Rattle.df_grid.specs.Grid.{free_addresses}
 use Rattle.df_copy.specs.Targets.{blocks_with, grid_with, numbered}
 

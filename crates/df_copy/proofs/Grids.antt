@@ -1,18 +1,12 @@
 -- The grid of a target with one block more.
-use Rattle.std.proofs.Common.{◌≡◌, ℕ, ◌+◌, ◌==◌, Bool, if◌then◌else◌, List, [], ◌∷◌, ◌++◌, length, refl, sym, ◌∙◌, ap, arith}
-use Rattle.std.proofs.lemmas.Bool.{le-ltb, ne_eqb}
+use Rattle.std.proofs.{Common.{◌≡◌, ℕ, ◌+◌, ◌==◌, Bool, if◌then◌else◌, List, [], ◌∷◌, ◌++◌, length, refl, sym, ◌∙◌, ap, arith}, lemmas.Bool.{le-ltb, ne_eqb}}
 use Rattle.df_base.proofs.Laws.{plus_zero, plus_suc}
 use Rattle.df_layout.specs.declared.layout.Layout.{Layout}
 use Rattle.df_format.specs.Message.{Message}
 use Rattle.df_units.specs.Meaning.{number_of}
-use Rattle.df_grid.specs.Grid.{GridState}
-use Rattle.df_grid.specs.Table.{no_blocks}
+use Rattle.df_grid.specs.{Grid.{GridState}, Table.{no_blocks}}
 use Rattle.df_model.specs.Blocks.{with_entry}
-use Rattle.df_copy.specs.declared.target.Target.{Target}
-use Rattle.df_copy.specs.Acts.{HasNext, with_block}
-use Rattle.df_copy.specs.Targets.{IsTarget, grid_with, numbered}
-use Rattle.df_copy.specs.Units.{moved, moved_from}
-use Rattle.df_copy.proofs.Listed.{moved_length, moved_push, push_length}
+use Rattle.df_copy.{specs.{declared.target.Target.{Target}, Acts.{HasNext, with_block}, Targets.{IsTarget, grid_with, numbered}, Units.{moved, moved_from}}, proofs.Listed.{moved_length, moved_push, push_length}}
 
 pub numbered_push : (a : ℕ) (us : List Message) (u : Message) → numbered a (us ++ u ∷ []) ≡ numbered a us ++ (a + length us, number_of u.header.checksum) ∷ []
 numbered_push a [] u = ap (λ (k : ℕ). (k, number_of u.header.checksum) ∷ []) (plus_zero a)

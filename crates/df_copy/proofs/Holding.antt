@@ -1,56 +1,16 @@
 -- A target on which nothing was written holds the copy whole after all that is written: an open finds it, nothing is to be mended, and each block that it references is shown. So does an image that shows all of that but for some copies of the superblock, to be mended.
-use Rattle.std.proofs.Common.{◌≡◌, inl, inr, ℕ, zero, suc, ◌+◌, ◌<◌, ◌≤◌, List, [], ◌∷◌, ◌++◌, length, map, Option, Some, None, refl, sym, ◌∙◌, ap, subst, arith}
-use Rattle.std.specs.Prelude.{slice_get, slice_index}
-use Rattle.std.proofs.lemmas.Bool.{cases_lt}
-use Rattle.std.proofs.lemmas.List.{get_or-map, length-map}
-use Rattle.std.proofs.lemmas.Option.{same_Some, slice_get_within}
-use Rattle.df_base.specs.Image.{Image, IsImage, blank}
-use Rattle.df_base.proofs.Laws.{blank_is_image}
+use Rattle.std.{proofs.{Common.{◌≡◌, inl, inr, ℕ, zero, suc, ◌+◌, ◌<◌, ◌≤◌, List, [], ◌∷◌, ◌++◌, length, map, Option, Some, None, refl, sym, ◌∙◌, ap, subst, arith}, lemmas.Bool.{cases_lt}, lemmas.List.{get_or-map, length-map}, lemmas.Option.{same_Some, slice_get_within}}, specs.Prelude.{slice_get, slice_index}}
+use Rattle.df_base.{specs.Image.{Image, IsImage, blank}, proofs.Laws.{blank_is_image}}
 use Rattle.df_layout.specs.declared.layout.Layout.{Layout}
-use Rattle.df_format.specs.declared.kind.Kind.{Kind}
-use Rattle.df_format.specs.declared.kind.Kind.TheVariants.{Block as IsBlock}
-use Rattle.df_format.specs.declared.superblock.SuperFields.{SuperFields}
-use Rattle.df_format.specs.Message.{Message}
-use Rattle.df_format.specs.Rules.{ObeysBlock, ObeysKind}
-use Rattle.df_theory.specs.Copies.{Agree}
-use Rattle.df_theory.specs.Found.{IsFound}
-use Rattle.df_theory.specs.Holds.{IsWhole, Stands}
-use Rattle.df_theory.specs.MakingLaws.{AllReserved, all_puts}
-use Rattle.df_theory.specs.CopyPuts.{update_steps}
-use Rattle.df_theory.specs.Rests.{IsCopy}
-use Rattle.df_theory.specs.Runs.{Step, Syncs}
-use Rattle.df_theory.specs.Sessions.{Answers}
-use Rattle.df_theory.specs.Shape.{Shape}
-use Rattle.df_theory.specs.Trailer.{InChain}
+use Rattle.df_format.specs.{declared.kind.Kind.{Kind}, declared.kind.Kind.TheVariants.{Block as IsBlock}, declared.superblock.SuperFields.{SuperFields}, Message.{Message}, Rules.{ObeysBlock, ObeysKind}}
+use Rattle.df_theory.specs.{Copies.{Agree}, Found.{IsFound}, Holds.{IsWhole, Stands}, MakingLaws.{AllReserved, all_puts}, CopyPuts.{update_steps}, Rests.{IsCopy}, Runs.{Step, Syncs}, Sessions.{Answers}, Shape.{Shape}, Trailer.{InChain}, Units.{AnyUnit, Block, BlockPlace, BlockUnit, Content, CopyPlace, CopyUnit, Header, HeaderPlace, HeaderUnit, Place, ReplyPlace, ReplyUnit, Session, Units}, View.{Checkpoint, View}}
 use Rattle.df_theory.specs.Units as units
-use Rattle.df_theory.specs.Units.{AnyUnit, Block, BlockPlace, BlockUnit, Content, CopyPlace, CopyUnit, Header, HeaderPlace, HeaderUnit, Place, ReplyPlace, ReplyUnit, Session, Units}
-use Rattle.df_theory.specs.View.{Checkpoint, View}
-use Rattle.df_units.specs.Bytes.{unit_at}
-use Rattle.df_units.specs.Making.{header_puts}
-use Rattle.df_units.specs.Meaning.{block_of, message_of, number_of}
-use Rattle.df_units.specs.Puts.{put_copies}
-use Rattle.df_units.proofs.Laws.{blank_empty, by_second}
+use Rattle.df_units.{specs.{Bytes.{unit_at}, Making.{header_puts}, Meaning.{block_of, message_of, number_of}, Puts.{put_copies}}, proofs.Laws.{blank_empty, by_second}}
 use Rattle.df_sessions.specs.Requests.{session_of, sessions_of}
 use Rattle.df_model.specs.Making.{named_places}
-use Rattle.df_opening.specs.Below.{State, shape}
-use Rattle.df_opening.specs.Making.{reserved_table, sectors_in}
-use Rattle.df_opening.specs.Sparing.{image_after}
-use Rattle.df_opening.proofs.Laws.{shown_by, stays_whole, unit_after}
-use Rattle.df_copy.specs.Targets.{all_steps, check_of, checks_of, copy_events, copy_steps, reply_steps, superblock_of, trailer_of}
+use Rattle.df_opening.{specs.{Below.{State, shape}, Making.{reserved_table, sectors_in}, Sparing.{image_after}}, proofs.Laws.{shown_by, stays_whole, unit_after}}
+use Rattle.df_copy.{specs.{Targets.{all_steps, check_of, checks_of, copy_events, copy_steps, reply_steps, superblock_of, trailer_of}, Units.{moved, moved_from}, Views.{IsOlder, file_in}}, proofs.{Afters.{placed}, Frees.{numbered_known}, Images.{image_behind, row_steps, shows_block, shows_copy, shows_no_prepare, shows_no_reply, shows_reply, shows_reserved, shows_slot, shows_trailer}, Listed.{check_at, many_checks, moved_length}, Rested.{IsEarlier, NamesAll, ShowsRest, moved_rest, rest_found, rest_whole, view_at_rest}, Rings.{ring_all_reserved, ring_reaches}, Rows.{as_block, as_reply, block_rows, reply_rows, row_at, row_placed}, Sources.{IsSource}, Trailed.{chain_in, copy_chain, copy_content, copy_parts, copy_sound}, Usables.{IsNamed, copy_are_steps}, Written.{trailer_in_row}}}
 use Rattle.df_grid.specs.Writes.{block_steps}
-use Rattle.df_copy.specs.Units.{moved, moved_from}
-use Rattle.df_copy.specs.Views.{IsOlder, file_in}
-use Rattle.df_copy.proofs.Afters.{placed}
-use Rattle.df_copy.proofs.Frees.{numbered_known}
-use Rattle.df_copy.proofs.Images.{image_behind, row_steps, shows_block, shows_copy, shows_no_prepare, shows_no_reply, shows_reply, shows_reserved, shows_slot, shows_trailer}
-use Rattle.df_copy.proofs.Listed.{check_at, many_checks, moved_length}
-use Rattle.df_copy.proofs.Rested.{IsEarlier, NamesAll, ShowsRest, moved_rest, rest_found, rest_whole, view_at_rest}
-use Rattle.df_copy.proofs.Rings.{ring_all_reserved, ring_reaches}
-use Rattle.df_copy.proofs.Rows.{as_block, as_reply, block_rows, reply_rows, row_at, row_placed}
-use Rattle.df_copy.proofs.Sources.{IsSource}
-use Rattle.df_copy.proofs.Trailed.{chain_in, copy_chain, copy_content, copy_parts, copy_sound}
-use Rattle.df_copy.proofs.Usables.{IsNamed, copy_are_steps}
-use Rattle.df_copy.proofs.Written.{trailer_in_row}
 
 -- ---- lists
 

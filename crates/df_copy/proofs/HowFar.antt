@@ -1,18 +1,12 @@
 -- How far a copy of the superblock has come, by what its sector shows and whether it is loose.
-use Rattle.std.proofs.Common.{◌≡◌, ℕ, Bool, true, false, if◌then◌else◌, Some, None, refl, sym, ◌∙◌, ap, replicate}
-use Rattle.std.proofs.lemmas.Slice.Eq.{bytes_eq-Decides}
-use Rattle.df_base.specs.Image.{Image, blank}
-use Rattle.df_base.specs.Log.{Log, loose, now}
-use Rattle.df_format.specs.Copies.{Content, content_at, is_blank_copy}
-use Rattle.df_format.proofs.Laws.{blank_copy_none, same_copy}
+use Rattle.std.proofs.{Common.{◌≡◌, ℕ, Bool, true, false, if◌then◌else◌, Some, None, refl, sym, ◌∙◌, ap, replicate}, lemmas.Slice.Eq.{bytes_eq-Decides}}
+use Rattle.df_base.specs.{Image.{Image, blank}, Log.{Log, loose, now}}
+use Rattle.df_format.{specs.Copies.{Content, content_at, is_blank_copy}, proofs.Laws.{blank_copy_none, same_copy}}
 use Rattle.df_layout.specs.declared.layout.Layout.{Layout}
-use Rattle.df_theory.specs.Device.{NoChanceOf, units_log}
-use Rattle.df_theory.specs.UnitLog.{UnitLog}
-use Rattle.df_theory.proofs.Laws.{pool_pools}
+use Rattle.df_theory.{specs.{Device.{NoChanceOf, units_log}, UnitLog.{UnitLog}}, proofs.Laws.{pool_pools}}
 use Rattle.df_units.specs.Bytes.{unit_at}
 use Rattle.df_opening.specs.Below.{AreDistinctUnits, format_of}
-use Rattle.df_copy.specs.Stops.{Progress, progress}
-use Rattle.df_copy.specs.Stops.Progress.{Durable, NotBegun, UnderWay}
+use Rattle.df_copy.specs.{Stops.{Progress, progress}, Stops.Progress.{Durable, NotBegun, UnderWay}}
 
 -- ---- sectors of zeros
 

@@ -1,16 +1,8 @@
 -- What an image shows after the steps of a copy, place by place, where it showed nothing before.
-use Rattle.std.proofs.Common.{◌≡◌, ◌⊎◌, inl, inr, ℕ, ◌+◌, ◌<◌, ◌≤◌, false, List, [], ◌∷◌, ◌++◌, length, Option, Some, None, refl, sym, ◌∙◌, ap, arith}
-use Rattle.std.specs.Prelude.{slice_get}
-use Rattle.df_format.specs.declared.superblock.SuperFields.{SuperFields}
-use Rattle.df_format.specs.Copies.{content_with}
-use Rattle.df_theory.specs.MakingLaws.{AllReserved, PutsReserved, all_puts}
-use Rattle.df_theory.specs.MendLaws.{Reaches}
-use Rattle.df_theory.specs.CopyPuts.{update_steps}
-use Rattle.df_theory.specs.Runs.{Step, Syncs}
-use Rattle.df_theory.specs.UnitLog.{same_place}
-use Rattle.df_theory.specs.Units.{AnyUnit, BlockPlace, CopyPlace, CopyUnit, Header, HeaderPlace, HeaderUnit, IsReserved, Place, PreparePlace, ReplyPlace, Units, or_else}
-use Rattle.df_units.specs.Meaning.{content_of}
-use Rattle.df_units.specs.Puts.{put_copies}
+use Rattle.std.{proofs.Common.{◌≡◌, ◌⊎◌, inl, inr, ℕ, ◌+◌, ◌<◌, ◌≤◌, false, List, [], ◌∷◌, ◌++◌, length, Option, Some, None, refl, sym, ◌∙◌, ap, arith}, specs.Prelude.{slice_get}}
+use Rattle.df_format.specs.{declared.superblock.SuperFields.{SuperFields}, Copies.{content_with}}
+use Rattle.df_theory.specs.{MakingLaws.{AllReserved, PutsReserved, all_puts}, MendLaws.{Reaches}, CopyPuts.{update_steps}, Runs.{Step, Syncs}, UnitLog.{same_place}, Units.{AnyUnit, BlockPlace, CopyPlace, CopyUnit, Header, HeaderPlace, HeaderUnit, IsReserved, Place, PreparePlace, ReplyPlace, Units, or_else}}
+use Rattle.df_units.specs.{Meaning.{content_of}, Puts.{put_copies}}
 use Rattle.df_opening.proofs.Laws.{unit_after, after_join}
 use Rattle.df_copy.proofs.Afters.{IsReservedUnit, after_above, after_below, after_other, after_there, placed, ring_other, ring_reached, update_other, update_there}
 

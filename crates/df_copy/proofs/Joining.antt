@@ -1,30 +1,13 @@
 -- The parts of a copy, one after the other: what is written in all, and which refusal it is.
-use Rattle.std.proofs.Common.{◌≡◌, ◌⊎◌, inl, inr, ℕ, List, [], ◌∷◌, ◌++◌, length, Option, Some, None, Result, Ok, Err, refl, sym, ◌∙◌, ap, subst, append_assoc}
-use Rattle.std.specs.Prelude.{IfErr}
-use Rattle.std.proofs.lemmas.List.{append-nil}
-use Rattle.df_base.specs.Image.{Image}
-use Rattle.df_base.specs.Log.{Event}
-use Rattle.df_disk.specs.Told.{Told}
-use Rattle.df_disk.specs.Adds.{AddsPart, after_all}
-use Rattle.df_disk.proofs.Laws.{after_append, all_then, part_then}
+use Rattle.std.{proofs.{Common.{◌≡◌, ◌⊎◌, inl, inr, ℕ, List, [], ◌∷◌, ◌++◌, length, Option, Some, None, Result, Ok, Err, refl, sym, ◌∙◌, ap, subst, append_assoc}, lemmas.List.{append-nil}}, specs.Prelude.{IfErr}}
+use Rattle.df_base.specs.{Image.{Image}, Log.{Event}}
+use Rattle.df_disk.{specs.{Told.{Told}, Adds.{AddsPart, after_all}}, proofs.Laws.{after_append, all_then, part_then}}
 use Rattle.df_layout.specs.declared.layout.Layout.{Layout}
 use Rattle.df_format.specs.Message.{Message}
 use Rattle.df_grid.specs.Writes.{made_events}
-use Rattle.df_model.specs.Refusals.{first_refusal}
-use Rattle.df_model.specs.Supply.{Shown}
-use Rattle.df_model.proofs.Laws.{behind_decides, first_refuses}
+use Rattle.df_model.{specs.{Refusals.{first_refusal}, Supply.{Shown}}, proofs.Laws.{behind_decides, first_refuses}}
 use Rattle.df_opening.specs.Below.{State, memory}
-use Rattle.df_copy.specs.declared.ending.Ending.{Ending}
-use Rattle.df_copy.specs.declared.ending.Ending.TheVariants.{BlockTooLong, Damaged, NotAtRest, NotBlank, ReplyTooLong, Source, Target as TargetFails, TooFewBlocks, TooFewClients}
-use Rattle.df_copy.specs.declared.target.Target.{Target}
-use Rattle.df_copy.specs.Acts.{CopiesBlocks, CopiesReplies, FitBlocks, FitReplies, StopsBehind}
-use Rattle.df_copy.specs.Copying.{BeginsTarget, Copied, CopiesInto, CopiesPlanned, CopiesUnits, Finishes, IsAll, IsCopyJudged, JudgesCopy, OverTold, PassesTo, units_written}
-use Rattle.df_copy.specs.Targets.{IsTarget, KeepsGrid, copy_events, events_before_trailer, ring_events, superblock_events, trailer_of}
-use Rattle.df_copy.specs.Tests.{blank_tests, block_tests, references, reply_tests, rest_tests, tests, unit_tests}
-use Rattle.df_copy.specs.Units.{OverShown, all_events, moved_from, reply_events}
-use Rattle.df_copy.proofs.Blamed.{by_ending}
-use Rattle.df_copy.proofs.Listed.{over_all, over_both, over_by}
-use Rattle.df_copy.proofs.Turns.{stops_within}
+use Rattle.df_copy.{specs.{declared.ending.Ending.{Ending}, declared.ending.Ending.TheVariants.{BlockTooLong, Damaged, NotAtRest, NotBlank, ReplyTooLong, Source, Target as TargetFails, TooFewBlocks, TooFewClients}, declared.target.Target.{Target}, Acts.{CopiesBlocks, CopiesReplies, FitBlocks, FitReplies, StopsBehind}, Copying.{BeginsTarget, Copied, CopiesInto, CopiesPlanned, CopiesUnits, Finishes, IsAll, IsCopyJudged, JudgesCopy, OverTold, PassesTo, units_written}, Targets.{IsTarget, KeepsGrid, copy_events, events_before_trailer, ring_events, superblock_events, trailer_of}, Tests.{blank_tests, block_tests, references, reply_tests, rest_tests, tests, unit_tests}, Units.{OverShown, all_events, moved_from, reply_events}}, proofs.{Blamed.{by_ending}, Listed.{over_all, over_both, over_by}, Turns.{stops_within}}}
 
 -- ---- replies and blocks
 

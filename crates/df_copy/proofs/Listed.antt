@@ -1,20 +1,12 @@
 -- Lists that get one more: what is found in them, and what is written and tested of them.
-use Rattle.std.proofs.Common.{◌≡◌, ◌⊎◌, inl, inr, ℕ, zero, suc, ◌+◌, ◌<◌, List, [], ◌∷◌, ◌++◌, length, take, Option, Some, None, refl, sym, ◌∙◌, ap, arith, append_assoc}
-use Rattle.std.specs.Prelude.{get_or, slice_get, slice_set}
-use Rattle.std.proofs.lemmas.Bool.{cases_eq}
-use Rattle.std.proofs.lemmas.List.{append-nil, ext_get_or, get_or-set_other, get_or-set_same, length-set}
-use Rattle.std.proofs.lemmas.List.FromFn.{get_or-map-range_with_len, length-map-range_with_len}
-use Rattle.std.proofs.lemmas.Option.{same_Some}
-use Rattle.df_base.specs.Log.{Event}
-use Rattle.df_base.proofs.Laws.{zero_plus, plus_zero, plus_suc}
+use Rattle.std.{proofs.{Common.{◌≡◌, ◌⊎◌, inl, inr, ℕ, zero, suc, ◌+◌, ◌<◌, List, [], ◌∷◌, ◌++◌, length, take, Option, Some, None, refl, sym, ◌∙◌, ap, arith, append_assoc}, lemmas.Bool.{cases_eq}, lemmas.List.{append-nil, ext_get_or, get_or-set_other, get_or-set_same, length-set}, lemmas.List.FromFn.{get_or-map-range_with_len, length-map-range_with_len}, lemmas.Option.{same_Some}}, specs.Prelude.{get_or, slice_get, slice_set}}
+use Rattle.df_base.{specs.Log.{Event}, proofs.Laws.{zero_plus, plus_zero, plus_suc}}
 use Rattle.df_disk.specs.Told.{Told}
 use Rattle.df_format.specs.Message.{Message}
-use Rattle.df_model.specs.Making.{named_places}
-use Rattle.df_model.specs.Supply.{Shown}
+use Rattle.df_model.specs.{Making.{named_places}, Supply.{Shown}}
 use Rattle.df_opening.specs.Below.{DataFile}
 use Rattle.df_replica.specs.Reading.{shown_of}
-use Rattle.df_copy.specs.Targets.{check_of, checks_of}
-use Rattle.df_copy.specs.Units.{OverShown, all_events, moved, moved_from}
+use Rattle.df_copy.specs.{Targets.{check_of, checks_of}, Units.{OverShown, all_events, moved, moved_from}}
 
 -- ---- what is found
 

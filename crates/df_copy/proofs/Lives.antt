@@ -2,19 +2,12 @@
 use Rattle.std.proofs.Common.{◌≡◌, inl, inr, [], Some, None, sym, ◌∙◌}
 use Rattle.df_base.specs.Image.{Image}
 use Rattle.df_layout.specs.declared.layout.Layout.{Layout}
-use Rattle.df_theory.specs.Holds.{Holds}
-use Rattle.df_theory.specs.Shape.{Shape}
-use Rattle.df_theory.specs.Units.{PrepareUnit, Units}
-use Rattle.df_theory.specs.View.{View}
-use Rattle.df_theory.proofs.Laws.{clean_start_law}
+use Rattle.df_theory.{specs.{Holds.{Holds}, Shape.{Shape}, Units.{PrepareUnit, Units}, View.{View}}, proofs.Laws.{clean_start_law}}
 use Rattle.df_history.specs.Lives.{Starts}
 use Rattle.df_trailer.specs.Text.{parse_of}
-use Rattle.df_units.specs.Bytes.{unit_at}
-use Rattle.df_units.specs.Meaning.{layout_of}
-use Rattle.df_units.proofs.Laws.{of_places}
+use Rattle.df_units.{specs.{Bytes.{unit_at}, Meaning.{layout_of}}, proofs.Laws.{of_places}}
 use Rattle.df_opening.specs.Below.{AreDistinctUnits, DataFile, shape}
-use Rattle.df_copy.specs.Lives.{MayGoOn, ShownCopyBegins}
-use Rattle.df_copy.specs.Views.{ShowsCopy, file_in}
+use Rattle.df_copy.specs.{Lives.{MayGoOn, ShownCopyBegins}, Views.{ShowsCopy, file_in}}
 
 module _ (layout : Layout) (file : DataFile) (source : Image) (v : View) (target : Image) (copy : ShowsCopy layout file source v target) where
   abbrev sh : Shape

@@ -1,18 +1,9 @@
 -- The checksums of replies, as those of a list of messages: whatever was set at places of sessions.
-use Rattle.std.proofs.Common.{◌≡◌, inl, inr, ℕ, zero, suc, ◌<◌, ◌≤◌, List, [], ◌∷◌, length, take, map, refl, sym, ◌∙◌, ap, arith}
-use Rattle.std.specs.Prelude.{get_or, slice_get}
-use Rattle.std.proofs.lemmas.Bool.{cases_lt}
-use Rattle.std.proofs.lemmas.List.{ext_get_or, get_or-set_other, length-set}
-use Rattle.std.proofs.lemmas.List.FromFn.{get_or-map-range_with_len}
+use Rattle.std.{proofs.{Common.{◌≡◌, inl, inr, ℕ, zero, suc, ◌<◌, ◌≤◌, List, [], ◌∷◌, length, take, map, refl, sym, ◌∙◌, ap, arith}, lemmas.Bool.{cases_lt}, lemmas.List.{ext_get_or, get_or-set_other, length-set}, lemmas.List.FromFn.{get_or-map-range_with_len}}, specs.Prelude.{get_or, slice_get}}
 use Rattle.df_base.proofs.Laws.{zero_plus}
-use Rattle.df_format.specs.Making.{blank_header}
-use Rattle.df_format.specs.Message.{Message}
-use Rattle.df_format.specs.Spelling.{no_checksum}
-use Rattle.df_format.specs.declared.kind.Kind.TheVariants.{Reply}
+use Rattle.df_format.specs.{Making.{blank_header}, Message.{Message}, Spelling.{no_checksum}, declared.kind.Kind.TheVariants.{Reply}}
 use Rattle.df_model.specs.Making.{named_places}
-use Rattle.df_copy.specs.Acts.{SetsCheck}
-use Rattle.df_copy.specs.Targets.{check_of, checks_of}
-use Rattle.df_copy.proofs.Listed.{many_checks}
+use Rattle.df_copy.{specs.{Acts.{SetsCheck}, Targets.{check_of, checks_of}}, proofs.Listed.{many_checks}}
 
 -- no place after the sessions has a checksum
 pub record AreNamed (sessions : ℕ) (checks : List (List ℕ)) : Type 0 where

@@ -2,21 +2,11 @@
 use Rattle.std.proofs.Common.{◌≡◌, ℕ, zero, suc, List, Option, Some, None, ap, subst}
 use Rattle.df_base.proofs.Laws.{AreBytes-check_of, length-check_of}
 use Rattle.df_layout.specs.declared.layout.Layout.{Layout}
-use Rattle.df_format.specs.declared.reference.Reference.{Reference}
-use Rattle.df_format.specs.Message.{Message}
-use Rattle.df_format.specs.Spelling.{IsCheck, no_checksum}
-use Rattle.df_format.proofs.Laws.{no_check}
-use Rattle.df_units.specs.Meaning.{number_of}
-use Rattle.df_units.proofs.Laws.{one_number}
-use Rattle.df_grid.specs.Grid.{GridState}
-use Rattle.df_grid.specs.Table.{last_trailer_block as last_named}
+use Rattle.df_format.{specs.{declared.reference.Reference.{Reference}, Message.{Message}, Spelling.{IsCheck, no_checksum}}, proofs.Laws.{no_check}}
+use Rattle.df_units.{specs.Meaning.{number_of}, proofs.Laws.{one_number}}
+use Rattle.df_grid.specs.{Grid.{GridState}, Table.{last_trailer_block as last_named}}
 use Rattle.df_opening.specs.Below.{State, memory}
-use Rattle.df_copy.specs.declared.target.Target.{Target}
-use Rattle.df_copy.specs.Acts.{IsTrailerWritten}
-use Rattle.df_copy.specs.Targets.{address_of_block, begun_grid, check_of, fields_in, grid_after_piece, grid_with, last_message, pieces_from, reference_pair, sequence_of, superblock_of, text_with, trailer_of}
-use Rattle.df_copy.specs.Tests.{trailer_blocks, trailer_size}
-use Rattle.df_copy.specs.Trailers.{NamesLast, with_trailer}
-use Rattle.df_copy.specs.Units.{moved_from}
+use Rattle.df_copy.specs.{declared.target.Target.{Target}, Acts.{IsTrailerWritten}, Targets.{address_of_block, begun_grid, check_of, fields_in, grid_after_piece, grid_with, last_message, pieces_from, reference_pair, sequence_of, superblock_of, text_with, trailer_of}, Tests.{trailer_blocks, trailer_size}, Trailers.{NamesLast, with_trailer}, Units.{moved_from}}
 
 -- a checksum that was made is one
 pub last_check : (g : GridState) (sequence : ℕ) (text : List ℕ) (n : ℕ) → IsCheck (check_of (last_message (pieces_from g sequence text n)))

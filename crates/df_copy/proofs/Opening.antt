@@ -1,60 +1,18 @@
 -- After the open of its source a copy spares the sectors of the target's superblock until the first copy of it, and the target holds it whole where it is made.
-use Rattle.std.proofs.Common.{◌≡◌, ◌⊎◌, inl, inr, ℕ, ◌<◌, ◌≤◌, ◌++◌, true, List, [], length, Option, Some, None, Result, Ok, Err, sym, ◌∙◌, ap, subst, arith}
-use Rattle.std.specs.Prelude.{slice_get}
-use Rattle.std.proofs.lemmas.Bool.{cases_lt}
-use Rattle.std.proofs.lemmas.Option.{same_Some}
-use Rattle.df_base.specs.Fields.{AreBytes}
-use Rattle.df_base.specs.Image.{Image, IsImage}
-use Rattle.df_base.specs.Log.{Log, Sync, now}
-use Rattle.df_base.specs.Moments.{adds}
-use Rattle.df_disk.specs.Told.{Told, did}
-use Rattle.df_disk.specs.Adds.{AddsPart, after_all}
-use Rattle.df_disk.proofs.Laws.{all_is_part}
+use Rattle.std.{proofs.{Common.{◌≡◌, ◌⊎◌, inl, inr, ℕ, ◌<◌, ◌≤◌, ◌++◌, true, List, [], length, Option, Some, None, Result, Ok, Err, sym, ◌∙◌, ap, subst, arith}, lemmas.Bool.{cases_lt}, lemmas.Option.{same_Some}}, specs.Prelude.{slice_get}}
+use Rattle.df_base.specs.{Fields.{AreBytes}, Image.{Image, IsImage}, Log.{Log, Sync, now}, Moments.{adds}}
+use Rattle.df_disk.{specs.{Told.{Told, did}, Adds.{AddsPart, after_all}}, proofs.Laws.{all_is_part}}
 use Rattle.df_layout.specs.declared.layout.Layout.{Layout}
-use Rattle.df_format.specs.Message.{Message}
-use Rattle.df_format.specs.SuperRules.{IsUsable}
-use Rattle.df_sessions.specs.Requests.{session_of, sessions_of}
-use Rattle.df_sessions.specs.Table.{AreDistinctClients}
+use Rattle.df_format.specs.{Message.{Message}, SuperRules.{IsUsable}}
+use Rattle.df_sessions.specs.{Requests.{session_of, sessions_of}, Table.{AreDistinctClients}}
 use Rattle.df_sessions.specs.declared.session.Session as told
-use Rattle.df_theory.specs.Copies.{Agree}
-use Rattle.df_theory.specs.Found.{IsClean, IsFound}
-use Rattle.df_theory.specs.Holds.{IsWhole}
-use Rattle.df_theory.specs.Rests.{IsCopy}
-use Rattle.df_theory.specs.Units.{BlockPlace, Content, CopyPlace, CopyUnit, Place, ReplyPlace, ReplyUnit, Units}
-use Rattle.df_theory.specs.View.{View}
-use Rattle.df_units.specs.Bytes.{unit_at}
-use Rattle.df_units.specs.Meaning.{block_of, layout_of, message_of}
-use Rattle.df_units.proofs.Laws.{all_added}
-use Rattle.df_model.specs.Codec.{AreLawful}
-use Rattle.df_model.specs.Memory.{reply_sum}
-use Rattle.df_model.specs.Refusals.{first_refusal}
-use Rattle.df_model.specs.Supply.{Shown}
-use Rattle.df_model.specs.Work.{kept}
-use Rattle.df_opening.specs.Below.{IsOpened, IsState, State, memory, shape, told_after}
-use Rattle.df_opening.specs.Opened.{Mends, MendsAll, begun_state, raised_state}
-use Rattle.df_opening.specs.Sparing.{image_after}
-use Rattle.df_opening.proofs.Laws.{added_is_told, clean_beyond, shown_after, now_adds}
+use Rattle.df_theory.specs.{Copies.{Agree}, Found.{IsClean, IsFound}, Holds.{IsWhole}, Rests.{IsCopy}, Units.{BlockPlace, Content, CopyPlace, CopyUnit, Place, ReplyPlace, ReplyUnit, Units}, View.{View}}
+use Rattle.df_units.{specs.{Bytes.{unit_at}, Meaning.{block_of, layout_of, message_of}}, proofs.Laws.{all_added}}
+use Rattle.df_model.specs.{Codec.{AreLawful}, Memory.{reply_sum}, Refusals.{first_refusal}, Supply.{Shown}, Work.{kept}}
+use Rattle.df_opening.{specs.{Below.{IsOpened, IsState, State, memory, shape, told_after}, Opened.{Mends, MendsAll, begun_state, raised_state}, Sparing.{image_after}}, proofs.Laws.{added_is_told, clean_beyond, shown_after, now_adds}}
 use Rattle.df_replica.specs.Reading.{shown_of}
-use Rattle.df_copy.specs.declared.ending.Ending.{Ending}
-use Rattle.df_copy.specs.declared.ending.Ending.TheVariants.{BlockTooLong, Damaged, NotAtRest, NotBlank, ReplyTooLong, Source, Target, TooFewBlocks, TooFewClients}
+use Rattle.df_copy.{specs.{declared.ending.Ending.{Ending}, declared.ending.Ending.TheVariants.{BlockTooLong, Damaged, NotAtRest, NotBlank, ReplyTooLong, Source, Target, TooFewBlocks, TooFewClients}, declared.status.Status.{Status}, Copying.{Copied, CopiesInto, IsAll, WritesCopy}, Run.{CopiesFile, PrintsCopy, SparesCopies}, Stops.{StopsCopy}, Targets.{copy_events, events_before_trailer}, Tests.{blank_tests, tests, unit_tests}, Views.{HoldsCopy, IsEmptyImage, ShowsCopy, file_in}}, proofs.{Alike.{WereRead, alike_on, copy_alike}, Holding.{copies_shown, copy_found, copy_image, copy_older, copy_stands, copy_view, copy_whole, mapped, own_version, place_shows, shown}, Planning.{Passes, passes_tests}, Seen.{block_seen, reply_seen}, Sources.{IsSource, opened_lawful, rest_source}, Spares.{spare_units, spares_all, spares_copy, spares_part}, Stopped.{part_stops}, Untouched.{stops_spare}, Usables.{IsNamed}, Written.{blocks_in_row, replies_in_row}}}
 use Rattle.df_program.specs.Two.{around}
-use Rattle.df_copy.specs.declared.status.Status.{Status}
-use Rattle.df_copy.specs.Copying.{Copied, CopiesInto, IsAll, WritesCopy}
-use Rattle.df_copy.specs.Run.{CopiesFile, PrintsCopy, SparesCopies}
-use Rattle.df_copy.specs.Stops.{StopsCopy}
-use Rattle.df_copy.specs.Targets.{copy_events, events_before_trailer}
-use Rattle.df_copy.specs.Tests.{blank_tests, tests, unit_tests}
-use Rattle.df_copy.specs.Views.{HoldsCopy, IsEmptyImage, ShowsCopy, file_in}
-use Rattle.df_copy.proofs.Alike.{WereRead, alike_on, copy_alike}
-use Rattle.df_copy.proofs.Holding.{copies_shown, copy_found, copy_image, copy_older, copy_stands, copy_view, copy_whole, mapped, own_version, place_shows, shown}
-use Rattle.df_copy.proofs.Planning.{Passes, passes_tests}
-use Rattle.df_copy.proofs.Seen.{block_seen, reply_seen}
-use Rattle.df_copy.proofs.Sources.{IsSource, opened_lawful, rest_source}
-use Rattle.df_copy.proofs.Spares.{spare_units, spares_all, spares_copy, spares_part}
-use Rattle.df_copy.proofs.Stopped.{part_stops}
-use Rattle.df_copy.proofs.Untouched.{stops_spare}
-use Rattle.df_copy.proofs.Usables.{IsNamed}
-use Rattle.df_copy.proofs.Written.{blocks_in_row, replies_in_row}
 
 -- ---- the sectors of the superblock
 

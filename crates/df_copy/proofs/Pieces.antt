@@ -1,35 +1,14 @@
 -- A trailer's blocks, as they are written one after the other: each is a unit at its address and names the one before it, and together they hold the text.
-use Rattle.std.proofs.Common.{◌≡◌, ◌↔◌, Some, inl, inr, ℕ, zero, suc, ◌+◌, ◌-◌, ◌*◌, ◌^◌, ◌<◌, ◌≤◌, ◌==◌, min, List, [], ◌∷◌, ◌++◌, length, map, take, drop, refl, sym, ◌∙◌, ap, subst, arith, length-drop}
-use Rattle.std.specs.List.{range_with_len}
-use Rattle.std.proofs.lemmas.Bool.{cond-false, ne_eqb}
-use Rattle.std.proofs.lemmas.List.{length-map, length-take}
-use Rattle.std.proofs.Math.Nat.{mul-suc}
-use Rattle.std.proofs.Math.Seq.{take-add}
-use Rattle.df_base.specs.Fields.{AreBytes, spelled}
-use Rattle.df_base.proofs.Laws.{AreBytes-drop, AreBytes-spelled, AreBytes-take, length-spelled}
+use Rattle.std.{proofs.{Common.{◌≡◌, ◌↔◌, Some, inl, inr, ℕ, zero, suc, ◌+◌, ◌-◌, ◌*◌, ◌^◌, ◌<◌, ◌≤◌, ◌==◌, min, List, [], ◌∷◌, ◌++◌, length, map, take, drop, refl, sym, ◌∙◌, ap, subst, arith, length-drop}, lemmas.Bool.{cond-false, ne_eqb}, lemmas.List.{length-map, length-take}, Math.Nat.{mul-suc}, Math.Seq.{take-add}}, specs.List.{range_with_len}}
+use Rattle.df_base.{specs.Fields.{AreBytes, spelled}, proofs.Laws.{AreBytes-drop, AreBytes-spelled, AreBytes-take, length-spelled}}
 use Rattle.df_layout.specs.declared.places.Zone.TheVariants.{Grid}
-use Rattle.df_format.specs.declared.header.Header.{Header}
-use Rattle.df_format.specs.declared.kind.Kind.TheVariants.{Trailer}
-use Rattle.df_format.specs.Making.{for_body}
-use Rattle.df_format.specs.Message.{Message}
-use Rattle.df_format.specs.Own.{own_place, place_in}
-use Rattle.df_format.specs.Rules.{ObeysRules, ObeysVersion}
-use Rattle.df_format.specs.Spelling.{no_checksum}
-use Rattle.df_format.specs.Valid.{IsUnit}
-use Rattle.df_format.proofs.Laws.{given_obeys, is_own, sealed_is, zeros_are}
-use Rattle.df_theory.specs.Trailer.{InChain, Links, piece_size, text_of}
-use Rattle.df_theory.specs.Units.{Block, Content}
-use Rattle.df_units.specs.Meaning.{block_of, number_of}
-use Rattle.df_units.proofs.Laws.{no_number, sealed_check, whole_check}
-use Rattle.df_model.specs.Blocks.{Blocks, pair_of, trailer_written}
-use Rattle.df_model.specs.Making.{first_of}
-use Rattle.df_model.specs.Memory.{last_address, last_sum}
+use Rattle.df_format.{specs.{declared.header.Header.{Header}, declared.kind.Kind.TheVariants.{Trailer}, Making.{for_body}, Message.{Message}, Own.{own_place, place_in}, Rules.{ObeysRules, ObeysVersion}, Spelling.{no_checksum}, Valid.{IsUnit}}, proofs.Laws.{given_obeys, is_own, sealed_is, zeros_are}}
+use Rattle.df_theory.specs.{Trailer.{InChain, Links, piece_size, text_of}, Units.{Block, Content}}
+use Rattle.df_units.{specs.Meaning.{block_of, number_of}, proofs.Laws.{no_number, sealed_check, whole_check}}
+use Rattle.df_model.specs.{Blocks.{Blocks, pair_of, trailer_written}, Making.{first_of}, Memory.{last_address, last_sum}}
 use Rattle.df_trailer.specs.Writing.{piece_of}
-use Rattle.df_grid.specs.Grid.{GridState}
-use Rattle.df_grid.specs.Table.{written_of}
-use Rattle.df_grid.specs.Writes.{first_address, first_sum, next_header}
-use Rattle.df_copy.specs.Targets.{grid_after_piece, grid_behind, next_piece, pieces_from}
-use Rattle.df_copy.proofs.Rows.{AreInRow}
+use Rattle.df_grid.specs.{Grid.{GridState}, Table.{written_of}, Writes.{first_address, first_sum, next_header}}
+use Rattle.df_copy.{specs.Targets.{grid_after_piece, grid_behind, next_piece, pieces_from}, proofs.Rows.{AreInRow}}
 
 -- a chain, from the last block to the first, with these blocks written after it
 abbrev pub chain_with : List Message → List (ℕ × Block) → List (ℕ × Block)

@@ -1,23 +1,13 @@
 -- A trailer is written block by block: what stands after each of them.
-use Rattle.std.proofs.Common.{◌≡◌, ℕ, zero, suc, ◌+◌, ◌-◌, ◌<◌, ◌≤◌, List, [], ◌∷◌, ◌++◌, length, Option, Some, refl, sym, ◌∙◌, ap, subst, arith, append_assoc}
-use Rattle.std.specs.Prelude.{slice_get}
-use Rattle.std.specs.List.{range_with_len}
-use Rattle.df_base.specs.Log.{Event}
-use Rattle.df_base.proofs.Laws.{minus_zero, plus_zero}
-use Rattle.df_disk.specs.Told.{Told}
-use Rattle.df_disk.specs.Adds.{AddsPart, after_all}
-use Rattle.df_disk.proofs.Laws.{after_append, all_then, part_then}
+use Rattle.std.{proofs.Common.{◌≡◌, ℕ, zero, suc, ◌+◌, ◌-◌, ◌<◌, ◌≤◌, List, [], ◌∷◌, ◌++◌, length, Option, Some, refl, sym, ◌∙◌, ap, subst, arith, append_assoc}, specs.{Prelude.{slice_get}, List.{range_with_len}}}
+use Rattle.df_base.{specs.Log.{Event}, proofs.Laws.{minus_zero, plus_zero}}
+use Rattle.df_disk.{specs.{Told.{Told}, Adds.{AddsPart, after_all}}, proofs.Laws.{after_append, all_then, part_then}}
 use Rattle.df_layout.specs.declared.layout.Layout.{Layout}
 use Rattle.df_format.specs.Message.{Message}
 use Rattle.df_units.specs.Meaning.{number_of}
-use Rattle.df_model.specs.Blocks.{Blocks}
-use Rattle.df_model.specs.Making.{first_of}
-use Rattle.df_grid.specs.Grid.{GridState}
-use Rattle.df_grid.specs.Table.{written_of}
-use Rattle.df_grid.specs.Writes.{made_events}
-use Rattle.df_copy.specs.Targets.{address_of_block, grid_after_piece, grid_behind, last_message, next_piece, pieces_from, reference_pair}
-use Rattle.df_copy.specs.Units.{all_events}
-use Rattle.df_copy.proofs.Listed.{events_push}
+use Rattle.df_model.specs.{Blocks.{Blocks}, Making.{first_of}}
+use Rattle.df_grid.specs.{Grid.{GridState}, Table.{written_of}, Writes.{made_events}}
+use Rattle.df_copy.{specs.{Targets.{address_of_block, grid_after_piece, grid_behind, last_message, next_piece, pieces_from, reference_pair}, Units.{all_events}}, proofs.Listed.{events_push}}
 
 pub events_join : (events : Message → List Event) (us vs : List Message) → all_events events (us ++ vs) ≡ all_events events us ++ all_events events vs
 events_join events [] vs = refl

@@ -1,22 +1,13 @@
 -- What the tests that read nothing say: none holds, or the first that does.
-use Rattle.std.proofs.Common.{◌≡◌, ℕ, suc, ◌+◌, ◌-◌, ◌<◌, ◌≤◌, ◌==◌, Bool, true, false, not, if◌then◌else◌, List, [], ◌∷◌, ◌++◌, length, Option, Some, None, refl, sym, ◌∙◌, ap, subst, arith}
-use Rattle.std.specs.Prelude.{nat_lt}
-use Rattle.std.proofs.lemmas.Bool.{eq-eqb, le-ltb, lt-ltb, ltb-false, ne_eqb, not-false}
-use Rattle.std.proofs.lemmas.List.{length-map}
-use Rattle.std.proofs.lemmas.Option.{none-some, same_Some}
+use Rattle.std.{proofs.{Common.{◌≡◌, ℕ, suc, ◌+◌, ◌-◌, ◌<◌, ◌≤◌, ◌==◌, Bool, true, false, not, if◌then◌else◌, List, [], ◌∷◌, ◌++◌, length, Option, Some, None, refl, sym, ◌∙◌, ap, subst, arith}, lemmas.Bool.{eq-eqb, le-ltb, lt-ltb, ltb-false, ne_eqb, not-false}, lemmas.List.{length-map}, lemmas.Option.{none-some, same_Some}}, specs.Prelude.{nat_lt}}
 use Rattle.df_base.specs.Causes.{Blamed}
 use Rattle.df_layout.specs.declared.layout.Layout.{Layout}
 use Rattle.df_sessions.specs.Requests.{session_of}
 use Rattle.df_trailer.specs.Spelling.{text_size}
 use Rattle.df_units.specs.Meaning.{layout_of}
-use Rattle.df_model.specs.Blocks.{entry, sum_at}
-use Rattle.df_model.specs.Memory.{Memory}
-use Rattle.df_model.specs.Refusals.{first_refusal}
+use Rattle.df_model.specs.{Blocks.{entry, sum_at}, Memory.{Memory}, Refusals.{first_refusal}}
 use Rattle.df_opening.specs.Below.{State, memory}
-use Rattle.df_copy.specs.declared.ending.Ending.{Ending}
-use Rattle.df_copy.specs.declared.ending.Ending.TheVariants.{NotAtRest, TooFewBlocks, TooFewClients}
-use Rattle.df_copy.specs.Statuses.{is_source, is_target}
-use Rattle.df_copy.specs.Tests.{is_at_rest, needed, references, references_from, rest_tests, trailer_size}
+use Rattle.df_copy.specs.{declared.ending.Ending.{Ending}, declared.ending.Ending.TheVariants.{NotAtRest, TooFewBlocks, TooFewClients}, Statuses.{is_source, is_target}, Tests.{is_at_rest, needed, references, references_from, rest_tests, trailer_size}}
 
 -- ---- the tests that read nothing
 

@@ -1,39 +1,17 @@
 -- The reply of a session that is read: of which place it is, and what the copy does with it.
-use Rattle.std.proofs.Common.{◌≡◌, inl, inr, ℕ, zero, suc, ◌+◌, ◌<◌, ◌≤◌, ◌==◌, Bool, true, if◌then◌else◌, List, [], ◌∷◌, length, Option, Some, None, Result, Ok, Err, refl, sym, ◌∙◌, ap, subst, arith, eqb-true}
-use Rattle.std.specs.Prelude.{OnOk, nat_lt, slice_get, slice_set}
-use Rattle.std.proofs.lemmas.Bool.{and_parts, cases_eq, eq-eqb, le-ltb, lt-ltb, ne_eqb}
-use Rattle.std.proofs.lemmas.Option.{none-some, same_Some}
+use Rattle.std.{proofs.{Common.{◌≡◌, inl, inr, ℕ, zero, suc, ◌+◌, ◌<◌, ◌≤◌, ◌==◌, Bool, true, if◌then◌else◌, List, [], ◌∷◌, length, Option, Some, None, Result, Ok, Err, refl, sym, ◌∙◌, ap, subst, arith, eqb-true}, lemmas.Bool.{and_parts, cases_eq, eq-eqb, le-ltb, lt-ltb, ne_eqb}, lemmas.Option.{none-some, same_Some}}, specs.Prelude.{OnOk, nat_lt, slice_get, slice_set}}
 use Rattle.df_disk.specs.Told.{Told}
-use Rattle.df_layout.specs.declared.damage.Class.{Class}
-use Rattle.df_layout.specs.declared.layout.Layout.{Layout}
-use Rattle.df_layout.specs.declared.places.Place.{Place}
-use Rattle.df_layout.specs.declared.places.Zone.TheVariants.{ClientReplies}
-use Rattle.df_format.specs.declared.kind.Kind.TheVariants.{Reply}
-use Rattle.df_format.specs.Message.{Message}
-use Rattle.df_format.specs.Own.{place_in}
-use Rattle.df_format.specs.Valid.{IsUnit}
-use Rattle.df_format.proofs.Laws.{valid_belongs}
+use Rattle.df_layout.specs.{declared.damage.Class.{Class}, declared.layout.Layout.{Layout}, declared.places.Place.{Place}, declared.places.Zone.TheVariants.{ClientReplies}}
+use Rattle.df_format.{specs.{declared.kind.Kind.TheVariants.{Reply}, Message.{Message}, Own.{place_in}, Valid.{IsUnit}}, proofs.Laws.{valid_belongs}}
 use Rattle.df_theory.specs.Units as units
 use Rattle.df_units.specs.Meaning.{message_of}
 use Rattle.df_sessions.specs.declared.session.Session as told
-use Rattle.df_sessions.specs.Requests.{session_of, sessions_of}
-use Rattle.df_sessions.specs.Table.{AreDistinctClients}
-use Rattle.df_model.specs.After.{place_of_client}
-use Rattle.df_model.specs.Memory.{reply_sum}
-use Rattle.df_model.specs.Refusals.{first_refusal, is_new, last_op, lookup_refusals, session_of_client}
-use Rattle.df_model.specs.Supply.{reply_at}
-use Rattle.df_model.specs.declared.reading.LookupError.{LookupError}
+use Rattle.df_sessions.specs.{Requests.{session_of, sessions_of}, Table.{AreDistinctClients}}
+use Rattle.df_model.specs.{After.{place_of_client}, Memory.{reply_sum}, Refusals.{first_refusal, is_new, last_op, lookup_refusals, session_of_client}, Supply.{reply_at}, declared.reading.LookupError.{LookupError}}
 use Rattle.df_model.specs.declared.reading.LookupError.TheVariants as lookup
 use Rattle.df_opening.specs.Below.{IsState, State, memory}
-use Rattle.df_replica.specs.Lookups.{IsReadReply, place_for}
-use Rattle.df_replica.specs.Reading.{IsKnownUnit, shown_of}
-use Rattle.df_copy.specs.declared.ending.Ending.{Ending}
-use Rattle.df_copy.specs.declared.ending.Ending.TheVariants.{BlockTooLong, Damaged, NotAtRest, NotBlank, ReplyTooLong, Source, Target as TargetFails, TooFewBlocks, TooFewClients}
-use Rattle.df_copy.specs.declared.target.Target.{Target}
-use Rattle.df_copy.specs.Acts.{CopiesReply, HasReplyPlace, PutsReply, SetsCheck}
-use Rattle.df_copy.specs.Statuses.{reply_ending}
-use Rattle.df_copy.specs.Tests.{is_at_rest, reply_test}
-use Rattle.df_copy.specs.Units.{IsReplyAt, OverShown}
+use Rattle.df_replica.specs.{Lookups.{IsReadReply, place_for}, Reading.{IsKnownUnit, shown_of}}
+use Rattle.df_copy.specs.{declared.ending.Ending.{Ending}, declared.ending.Ending.TheVariants.{BlockTooLong, Damaged, NotAtRest, NotBlank, ReplyTooLong, Source, Target as TargetFails, TooFewBlocks, TooFewClients}, declared.target.Target.{Target}, Acts.{CopiesReply, HasReplyPlace, PutsReply, SetsCheck}, Statuses.{reply_ending}, Tests.{is_at_rest, reply_test}, Units.{IsReplyAt, OverShown}}
 
 -- ---- the place of a session's client
 

@@ -1,29 +1,15 @@
 -- The replies are copied one after the other, in order of place: what stands after each.
-use Rattle.std.proofs.Common.{◌≡◌, inl, inr, ℕ, suc, ◌+◌, ◌-◌, ◌<◌, ◌≤◌, Bool, List, [], ◌∷◌, ◌++◌, length, Option, Result, Ok, Err, refl, sym, ◌∙◌, ap, subst, arith}
-use Rattle.std.specs.Prelude.{nat_lt, slice_set}
+use Rattle.std.{proofs.Common.{◌≡◌, inl, inr, ℕ, suc, ◌+◌, ◌-◌, ◌<◌, ◌≤◌, Bool, List, [], ◌∷◌, ◌++◌, length, Option, Result, Ok, Err, refl, sym, ◌∙◌, ap, subst, arith}, specs.Prelude.{nat_lt, slice_set}}
 use Rattle.df_disk.specs.Told.{Told}
-use Rattle.df_base.specs.Log.{Event}
-use Rattle.df_base.proofs.Laws.{minus_zero}
-use Rattle.df_layout.specs.declared.damage.Class.{Class}
-use Rattle.df_layout.specs.declared.layout.Layout.{Layout}
+use Rattle.df_base.{specs.Log.{Event}, proofs.Laws.{minus_zero}}
+use Rattle.df_layout.specs.{declared.damage.Class.{Class}, declared.layout.Layout.{Layout}}
 use Rattle.df_format.specs.Message.{Message}
 use Rattle.df_sessions.specs.Table.{AreDistinctClients}
 use Rattle.df_theory.specs.Units as units
 use Rattle.df_units.specs.Meaning.{message_of}
-use Rattle.df_model.specs.Making.{named_places}
-use Rattle.df_model.specs.Memory.{reply_sum}
-use Rattle.df_model.specs.Refusals.{first_refusal}
-use Rattle.df_model.specs.Supply.{Shown, reply_at}
+use Rattle.df_model.specs.{Making.{named_places}, Memory.{reply_sum}, Refusals.{first_refusal}, Supply.{Shown, reply_at}}
 use Rattle.df_opening.specs.Below.{State, memory}
-use Rattle.df_copy.specs.declared.ending.Ending.{Ending}
-use Rattle.df_copy.specs.declared.ending.Ending.TheVariants.{ReplyTooLong}
-use Rattle.df_copy.specs.Acts.{Beside, CopiesReplies, CopiesReply, FitReplies, FitsReply, LeavesSource}
-use Rattle.df_copy.specs.Targets.{checks_of}
-use Rattle.df_copy.specs.Tests.{reply_test, reply_tests, reply_tests_from}
-use Rattle.df_copy.specs.Units.{IsReplyAt, OverShown, all_events, reply_events}
-use Rattle.df_copy.proofs.Listed.{checks_push, events_push, over_all, over_by, push_cases, push_length}
-use Rattle.df_copy.proofs.Planning.{how_many}
-use Rattle.df_copy.proofs.Turns.{AreWritten, at_entry, turn_on, turn_stops, turns_end}
+use Rattle.df_copy.{specs.{declared.ending.Ending.{Ending}, declared.ending.Ending.TheVariants.{ReplyTooLong}, Acts.{Beside, CopiesReplies, CopiesReply, FitReplies, FitsReply, LeavesSource}, Targets.{checks_of}, Tests.{reply_test, reply_tests, reply_tests_from}, Units.{IsReplyAt, OverShown, all_events, reply_events}}, proofs.{Listed.{checks_push, events_push, over_all, over_by, push_cases, push_length}, Planning.{how_many}, Turns.{AreWritten, at_entry, turn_on, turn_stops, turns_end}}}
 
 fit_push : (layout : Layout) (s : State) (from : Option Told) (rs : List Message) (n : ℕ) → length rs ≡ n → FitReplies layout s from rs → (r : Message) → FitsReply layout s from n r → FitReplies layout s from (rs ++ r ∷ [])
 fit_push layout s from rs n count are r one = record {

@@ -1,18 +1,6 @@
 -- What an open finds of a file at rest: its copies are equal, no slot of its rings has a prepare, and each session's reply is named.
-use Rattle.std.proofs.Common.{◌≡◌, inl, ℕ, ◌+◌, ◌-◌, ◌<◌, ◌≤◌, List, [], ◌∷◌, length, take, Option, Some, None, refl, sym, ◌∙◌, ap, arith}
-use Rattle.std.specs.Prelude.{slice_get, slice_index}
-use Rattle.df_theory.specs.Units.{Block, BlockPlace, BlockUnit, Content, CopyPlace, CopyUnit, Header, HeaderPlace, HeaderUnit, IsReserved, Message, Place, PreparePlace, PrepareUnit, ReplyPlace, ReplyUnit, Session, Units}
-use Rattle.df_theory.specs.Cases.{Takes}
-use Rattle.df_theory.specs.Copies.{Agree, IsChosen}
-use Rattle.df_theory.specs.Found.{IsFound, IsStored}
-use Rattle.df_theory.specs.Groups.{AreMore}
-use Rattle.df_theory.specs.Holds.{IsNamed, IsWhole}
-use Rattle.df_theory.specs.Rests.{IsCopy}
-use Rattle.df_theory.specs.Sessions.{Answers}
-use Rattle.df_theory.specs.Shape.{Shape, slots}
-use Rattle.df_theory.specs.Tails.{last_checksum}
-use Rattle.df_theory.specs.Trailer.{InChain}
-use Rattle.df_theory.specs.View.{Checkpoint, IsSoundCheckpoint, View}
+use Rattle.std.{proofs.Common.{◌≡◌, inl, ℕ, ◌+◌, ◌-◌, ◌<◌, ◌≤◌, List, [], ◌∷◌, length, take, Option, Some, None, refl, sym, ◌∙◌, ap, arith}, specs.Prelude.{slice_get, slice_index}}
+use Rattle.df_theory.specs.{Units.{Block, BlockPlace, BlockUnit, Content, CopyPlace, CopyUnit, Header, HeaderPlace, HeaderUnit, IsReserved, Message, Place, PreparePlace, PrepareUnit, ReplyPlace, ReplyUnit, Session, Units}, Cases.{Takes}, Copies.{Agree, IsChosen}, Found.{IsFound, IsStored}, Groups.{AreMore}, Holds.{IsNamed, IsWhole}, Rests.{IsCopy}, Sessions.{Answers}, Shape.{Shape, slots}, Tails.{last_checksum}, Trailer.{InChain}, View.{Checkpoint, IsSoundCheckpoint, View}}
 
 -- the state of a file at rest: its checkpoint, with each session's reply
 abbrev pub view_at_rest : Checkpoint → (ℕ → Option Message) → View

@@ -1,18 +1,10 @@
 -- The header ring of a copy: a reserved header in each slot, as in a new file.
-use Rattle.std.proofs.Common.{◌≡◌, ℕ, zero, suc, ◌/◌, ◌^◌, ◌<◌, true, List, [], ◌∷◌, length, refl, arith}
-use Rattle.std.specs.Prelude.{slice_get}
+use Rattle.std.{proofs.Common.{◌≡◌, ℕ, zero, suc, ◌/◌, ◌^◌, ◌<◌, true, List, [], ◌∷◌, length, refl, arith}, specs.Prelude.{slice_get}}
 use Rattle.df_layout.specs.declared.layout.Layout.{Layout}
 use Rattle.df_format.specs.declared.header.Header.{Header}
-use Rattle.df_theory.specs.Units.{HeaderPlace, is_some}
-use Rattle.df_theory.specs.MakingLaws.{AllReserved, all_puts}
-use Rattle.df_theory.specs.MendLaws.{Reaches}
-use Rattle.df_theory.specs.Device.{AreSteps}
-use Rattle.df_units.specs.Format.{format_of}
-use Rattle.df_units.specs.Making.{header_puts, header_writes}
-use Rattle.df_units.specs.Puts.{header_unit}
-use Rattle.df_units.proofs.Laws.{headers_are_steps, all_reserved, reached}
-use Rattle.df_opening.specs.Making.{reserved_table, sectors_in}
-use Rattle.df_opening.proofs.Laws.{how_many, ring_reserved}
+use Rattle.df_theory.specs.{Units.{HeaderPlace, is_some}, MakingLaws.{AllReserved, all_puts}, MendLaws.{Reaches}, Device.{AreSteps}}
+use Rattle.df_units.{specs.{Format.{format_of}, Making.{header_puts, header_writes}, Puts.{header_unit}}, proofs.Laws.{headers_are_steps, all_reserved, reached}}
+use Rattle.df_opening.{specs.Making.{reserved_table, sectors_in}, proofs.Laws.{how_many, ring_reserved}}
 
 -- ---- what its writes put
 

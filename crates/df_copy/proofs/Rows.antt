@@ -1,27 +1,12 @@
 -- Units that are written one after the other: each is put into its place, and then each place shows its own.
-use Rattle.std.proofs.Common.{◌≡◌, ℕ, zero, suc, ◌+◌, List, [], ◌∷◌, ◌++◌, length, map, Some, refl, sym, ◌∙◌, ap, subst, arith}
-use Rattle.std.specs.Prelude.{slice_get}
-use Rattle.std.proofs.lemmas.Option.{same_Some}
+use Rattle.std.{proofs.{Common.{◌≡◌, ℕ, zero, suc, ◌+◌, List, [], ◌∷◌, ◌++◌, length, map, Some, refl, sym, ◌∙◌, ap, subst, arith}, lemmas.Option.{same_Some}}, specs.Prelude.{slice_get}}
 use Rattle.df_base.specs.Log.{Event}
-use Rattle.df_layout.specs.declared.layout.Layout.{Layout}
-use Rattle.df_layout.specs.declared.places.Zone.{Zone}
-use Rattle.df_layout.specs.declared.places.Zone.TheVariants.{ClientReplies, Grid}
-use Rattle.df_format.specs.Message.{Message, sectors_of}
-use Rattle.df_format.specs.Own.{place_in}
-use Rattle.df_format.specs.Valid.{IsUnit}
-use Rattle.df_format.proofs.Laws.{made_brings}
-use Rattle.df_theory.specs.Device.{AreSteps}
-use Rattle.df_theory.specs.Runs.{Puts, Step}
-use Rattle.df_theory.specs.UnitLog.{put_one}
-use Rattle.df_theory.specs.Units.{AnyUnit, BlockPlace, BlockUnit, Place, ReplyPlace, ReplyUnit}
-use Rattle.df_theory.proofs.Laws.{steps_join_law}
-use Rattle.df_units.specs.Format.{format_of}
-use Rattle.df_units.specs.Meaning.{block_of, message_of}
-use Rattle.df_units.proofs.Laws.{block_put, reply_put}
+use Rattle.df_layout.specs.{declared.layout.Layout.{Layout}, declared.places.Zone.{Zone}, declared.places.Zone.TheVariants.{ClientReplies, Grid}}
+use Rattle.df_format.{specs.{Message.{Message, sectors_of}, Own.{place_in}, Valid.{IsUnit}}, proofs.Laws.{made_brings}}
+use Rattle.df_theory.{specs.{Device.{AreSteps}, Runs.{Puts, Step}, UnitLog.{put_one}, Units.{AnyUnit, BlockPlace, BlockUnit, Place, ReplyPlace, ReplyUnit}}, proofs.Laws.{steps_join_law}}
+use Rattle.df_units.{specs.{Format.{format_of}, Meaning.{block_of, message_of}}, proofs.Laws.{block_put, reply_put}}
 use Rattle.df_grid.specs.Writes.{block_steps, made_events}
-use Rattle.df_copy.specs.Targets.{all_steps, last_message, reply_steps}
-use Rattle.df_copy.specs.Units.{all_events, reply_events}
-use Rattle.df_copy.proofs.Afters.{placed}
+use Rattle.df_copy.{specs.{Targets.{all_steps, last_message, reply_steps}, Units.{all_events, reply_events}}, proofs.Afters.{placed}}
 
 -- ---- units of a zone
 

@@ -1,27 +1,8 @@
 -- A sample: a file with one reply and one block is copied to a larger layout, and the copy is damaged and opened.
-use Rattle.std.proofs.Common.{◌≡◌, ◌⊎◌, inl, inr, ℕ, zero, suc, ◌+◌, ◌<◌, ◌≤◌, ◌==◌, Bool, true, false, if◌then◌else◌, List, [], ◌∷◌, Option, Some, None, refl, sym, ◌∙◌, ap, subst, arith, eqb-true}
-use Rattle.std.specs.Prelude.{slice_get, slice_index}
-use Rattle.std.proofs.lemmas.Option.{same_Some, slice_get_within}
-use Rattle.df_theory.specs.Copies.{Agree}
-use Rattle.df_theory.specs.Found.{AreOfPlaces, IsClean, IsFound, IsInRange, IsOfPlace}
-use Rattle.df_theory.specs.Holds.{Holds, IsWhole, Stands}
-use Rattle.df_theory.specs.MendLaws.{IsNumber}
-use Rattle.df_theory.specs.Next.{MayBoot, booted}
-use Rattle.df_theory.specs.Rests.{RestsOn}
-use Rattle.df_theory.specs.Sessions.{Answers}
-use Rattle.df_theory.specs.Shape.{Shape}
-use Rattle.df_theory.specs.UnitLog.{UnitLog, put_one}
-use Rattle.df_theory.specs.Units.{AnyUnit, Block, BlockPlace, BlockUnit, Content, CopyPlace, CopyUnit, Header, HeaderPlace, HeaderUnit, Layout, Message, Parts, Place, PreparePlace, PrepareUnit, ReplyPlace, ReplyUnit, Session, Units}
-use Rattle.df_theory.specs.View.{Checkpoint, IsSoundCheckpoint, View}
-use Rattle.df_theory.proofs.Laws.{AreTold, all_reserved, anew_law, clean_start_law, copies_of, distinct_of, may_raise, put_one_law, puts_reserved, reserved, rests_law, low_bytes}
-use Rattle.df_history.specs.Histories.{InHistoryPools, IsLived, MayStart}
-use Rattle.df_history.specs.Lives.{Starts}
-use Rattle.df_history.specs.OpenLaws.{BeginsHistory, IsOpening}
-use Rattle.df_history.specs.Sample.{IsReopened, opened}
-use Rattle.df_history.proofs.Laws.{first_grown_law, found_since_law, open_lived_law}
-use Rattle.df_copy.specs.Sample.{CopySampleLaw}
-use Rattle.df_copy.specs.Views.{IsCopyOf, IsOlder, renamed}
-use Rattle.df_copy.proofs.Rested.{NamesAll, ShowsRest, rest_found, rest_whole, view_at_rest}
+use Rattle.std.{proofs.{Common.{◌≡◌, ◌⊎◌, inl, inr, ℕ, zero, suc, ◌+◌, ◌<◌, ◌≤◌, ◌==◌, Bool, true, false, if◌then◌else◌, List, [], ◌∷◌, Option, Some, None, refl, sym, ◌∙◌, ap, subst, arith, eqb-true}, lemmas.Option.{same_Some, slice_get_within}}, specs.Prelude.{slice_get, slice_index}}
+use Rattle.df_theory.{specs.{Copies.{Agree}, Found.{AreOfPlaces, IsClean, IsFound, IsInRange, IsOfPlace}, Holds.{Holds, IsWhole, Stands}, MendLaws.{IsNumber}, Next.{MayBoot, booted}, Rests.{RestsOn}, Sessions.{Answers}, Shape.{Shape}, UnitLog.{UnitLog, put_one}, Units.{AnyUnit, Block, BlockPlace, BlockUnit, Content, CopyPlace, CopyUnit, Header, HeaderPlace, HeaderUnit, Layout, Message, Parts, Place, PreparePlace, PrepareUnit, ReplyPlace, ReplyUnit, Session, Units}, View.{Checkpoint, IsSoundCheckpoint, View}}, proofs.Laws.{AreTold, all_reserved, anew_law, clean_start_law, copies_of, distinct_of, may_raise, put_one_law, puts_reserved, reserved, rests_law, low_bytes}}
+use Rattle.df_history.{specs.{Histories.{InHistoryPools, IsLived, MayStart}, Lives.{Starts}, OpenLaws.{BeginsHistory, IsOpening}, Sample.{IsReopened, opened}}, proofs.Laws.{first_grown_law, found_since_law, open_lived_law}}
+use Rattle.df_copy.{specs.{Sample.{CopySampleLaw}, Views.{IsCopyOf, IsOlder, renamed}}, proofs.Rested.{NamesAll, ShowsRest, rest_found, rest_whole, view_at_rest}}
 
 -- ---- the source
 

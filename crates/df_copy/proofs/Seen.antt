@@ -1,12 +1,8 @@
 -- What a read of the source finds is what stands there.
 use Rattle.std.proofs.Common.{◌≡◌, ◌==◌, Bool, true, false, not, ℕ, Option, Some, None, Result, Ok, Err}
-use Rattle.df_layout.specs.declared.damage.Class.{Class}
-use Rattle.df_layout.specs.declared.damage.Class.TheVariants.{Stale}
+use Rattle.df_layout.specs.{declared.damage.Class.{Class}, declared.damage.Class.TheVariants.{Stale}}
 use Rattle.df_theory.specs.Units.{AnyUnit, Block, BlockPlace, BlockUnit, CopyUnit, HeaderUnit, Message, PrepareUnit, ReplyPlace, ReplyUnit}
-use Rattle.df_model.specs.Blocks.{sum_at}
-use Rattle.df_model.specs.Commands.{ReadBlock}
-use Rattle.df_model.specs.Memory.{Memory}
-use Rattle.df_model.specs.Supply.{Shown, block_at, block_given, block_read, class_at, given_if, is_sum, no_trailer, reply_at, reply_given}
+use Rattle.df_model.specs.{Blocks.{sum_at}, Commands.{ReadBlock}, Memory.{Memory}, Supply.{Shown, block_at, block_given, block_read, class_at, given_if, is_sum, no_trailer, reply_at, reply_given}}
 
 given_some : {X : Type 0} (b : Bool) (x y : X) (class : Class) → given_if b x class ≡ Ok y → x ≡ y
 given_some true x y class is = cc

@@ -1,45 +1,19 @@
 -- What is known of a source at rest that was opened: its state stands for the view that the open left, whose tail is empty and whose replies are named.
-use Rattle.std.proofs.Common.{◌≡◌, ◌≢◌, inl, inr, ℕ, ◌+◌, ◌-◌, ◌≤◌, ◌==◌, true, List, [], ◌∷◌, length, Option, Some, None, refl, sym, ◌∙◌, ap, subst, arith, eqb-true}
-use Rattle.std.specs.Prelude.{slice_get}
-use Rattle.std.proofs.lemmas.Bool.{and_parts}
-use Rattle.df_base.specs.Fields.{AreBytes}
-use Rattle.df_base.specs.Image.{IsImage}
+use Rattle.std.{proofs.{Common.{◌≡◌, ◌≢◌, inl, inr, ℕ, ◌+◌, ◌-◌, ◌≤◌, ◌==◌, true, List, [], ◌∷◌, length, Option, Some, None, refl, sym, ◌∙◌, ap, subst, arith, eqb-true}, lemmas.Bool.{and_parts}}, specs.Prelude.{slice_get}}
+use Rattle.df_base.specs.{Fields.{AreBytes}, Image.{IsImage}}
 use Rattle.df_disk.specs.Told.{Told}
-use Rattle.df_layout.specs.declared.layout.Layout.{Layout}
-use Rattle.df_layout.specs.declared.places.Zone.TheVariants.{Grid}
-use Rattle.df_format.specs.declared.kind.Kind.{Kind}
-use Rattle.df_format.specs.Copies.{content_with}
-use Rattle.df_format.specs.Message.{Message}
-use Rattle.df_format.specs.Own.{place_in}
-use Rattle.df_format.specs.Rules.{ObeysBlock, ObeysKind, ObeysTrailer}
+use Rattle.df_layout.specs.{declared.layout.Layout.{Layout}, declared.places.Zone.TheVariants.{Grid}}
+use Rattle.df_format.{specs.{declared.kind.Kind.{Kind}, Copies.{content_with}, Message.{Message}, Own.{place_in}, Rules.{ObeysBlock, ObeysKind, ObeysTrailer}, Valid.{IsUnit}}, proofs.Laws.{shown_belongs, shown_is_unit}}
 use Rattle.df_format.specs.Shown
-use Rattle.df_format.specs.Valid.{IsUnit}
-use Rattle.df_format.proofs.Laws.{shown_belongs, shown_is_unit}
 use Rattle.df_sessions.specs.Requests.{sessions_of}
-use Rattle.df_theory.specs.Found.{IsFound}
-use Rattle.df_theory.specs.Sessions.{Answers, sessions_after}
-use Rattle.df_theory.specs.Shape.{Shape}
-use Rattle.df_theory.specs.Trailer.{InChain, Links, Says, no_parts, text_of}
+use Rattle.df_theory.{specs.{Found.{IsFound}, Sessions.{Answers, sessions_after}, Shape.{Shape}, Trailer.{InChain, Links, Says, no_parts, text_of}, Units.{Block, BlockPlace, BlockUnit, Content, Parts, ReplyPlace, ReplyUnit, Session, Units}, View.{View, sessions}}, proofs.Laws.{text_bytes}}
 use Rattle.df_theory.specs.Units as units
-use Rattle.df_theory.specs.Units.{Block, BlockPlace, BlockUnit, Content, Parts, ReplyPlace, ReplyUnit, Session, Units}
-use Rattle.df_theory.specs.View.{View, sessions}
-use Rattle.df_theory.proofs.Laws.{text_bytes}
 use Rattle.df_trailer.specs.Text.{parse_of}
-use Rattle.df_units.specs.Bytes.{message_unit, unit_at}
-use Rattle.df_units.specs.Meaning.{block_of, content_of, layout_of}
-use Rattle.df_units.proofs.Laws.{of_places}
+use Rattle.df_units.{specs.{Bytes.{message_unit, unit_at}, Meaning.{block_of, content_of, layout_of}}, proofs.Laws.{of_places}}
 use Rattle.df_rooms.specs.Recorded.{stored_checks}
-use Rattle.df_model.specs.Blocks.{addresses, entries, sum_at}
-use Rattle.df_model.specs.Codec.{AreLawful, IsLawful}
-use Rattle.df_model.specs.Memory.{Memory, memory_of}
-use Rattle.df_model.specs.Work.{kept, opened}
-use Rattle.df_model.proofs.Laws.{entry_at, entry_in, parts_lawful}
-use Rattle.df_opening.specs.Below.{IsOpened, State, boot_fields, memory, shape, spelling}
-use Rattle.df_opening.specs.Opened.{begun_state}
-use Rattle.df_opening.specs.Mending.{raised_state}
-use Rattle.df_opening.proofs.Laws.{codec_of, found_keeps}
-use Rattle.df_copy.specs.Tests.{is_at_rest}
-use Rattle.df_copy.proofs.Rested.{IsEarlier}
+use Rattle.df_model.{specs.{Blocks.{addresses, entries, sum_at}, Codec.{AreLawful, IsLawful}, Memory.{Memory, memory_of}, Work.{kept, opened}}, proofs.Laws.{entry_at, entry_in, parts_lawful}}
+use Rattle.df_opening.{specs.{Below.{IsOpened, State, boot_fields, memory, shape, spelling}, Opened.{begun_state}, Mending.{raised_state}}, proofs.Laws.{codec_of, found_keeps}}
+use Rattle.df_copy.{specs.Tests.{is_at_rest}, proofs.Rested.{IsEarlier}}
 
 -- the state stands for this view, over what the image shows
 pub record IsSource (s : State) (image : Units) (v : View) : Type 0 where

@@ -1,31 +1,14 @@
 -- Up to the write of the first copy the sectors of the superblock are as they were: all that a copy writes before it stands after them.
-use Rattle.std.proofs.Common.{◌≡◌, ◌⊎◌, inl, inr, ℕ, ◌+◌, ◌*◌, ◌<◌, ◌≤◌, ◌||◌, Bool, false, List, [], ◌∷◌, ◌++◌, Option, Some, refl, sym, ◌∙◌, ap, subst, arith, append_assoc, append-nil}
-use Rattle.std.proofs.lemmas.Bool.{and_left, lt-leb}
-use Rattle.df_base.specs.Image.{covers}
-use Rattle.df_base.specs.Log.{Event, Log, Stop, Sync, Write, add, loose, now}
-use Rattle.df_base.specs.Moments.{Passed, adds}
-use Rattle.df_base.proofs.Laws.{goes_on, stands, written_else}
-use Rattle.df_disk.specs.Told.{Told, after}
-use Rattle.df_disk.specs.Adds.{AddsPart, after_all}
-use Rattle.df_disk.proofs.Laws.{after_append}
-use Rattle.df_layout.specs.declared.layout.Layout.{Layout}
-use Rattle.df_layout.specs.declared.places.Zone.TheVariants.{ClientReplies, Grid, WalHeaders}
-use Rattle.df_layout.specs.Spans.{span_of}
-use Rattle.df_layout.specs.Zones.{first_sector, zone_sectors}
-use Rattle.df_layout.proofs.Laws.{zones_follow}
-use Rattle.df_format.specs.declared.header.Header.{Header}
-use Rattle.df_format.specs.Message.{Message}
-use Rattle.df_format.specs.Own.{place_in}
-use Rattle.df_format.specs.Super.{copy_bytes}
-use Rattle.df_format.proofs.Laws.{slot_from}
+use Rattle.std.proofs.{Common.{◌≡◌, ◌⊎◌, inl, inr, ℕ, ◌+◌, ◌*◌, ◌<◌, ◌≤◌, ◌||◌, Bool, false, List, [], ◌∷◌, ◌++◌, Option, Some, refl, sym, ◌∙◌, ap, subst, arith, append_assoc, append-nil}, lemmas.Bool.{and_left, lt-leb}}
+use Rattle.df_base.{specs.{Image.{covers}, Log.{Event, Log, Stop, Sync, Write, add, loose, now}, Moments.{Passed, adds}}, proofs.Laws.{goes_on, stands, written_else}}
+use Rattle.df_disk.{specs.{Told.{Told, after}, Adds.{AddsPart, after_all}}, proofs.Laws.{after_append}}
+use Rattle.df_layout.{specs.{declared.layout.Layout.{Layout}, declared.places.Zone.TheVariants.{ClientReplies, Grid, WalHeaders}, Spans.{span_of}, Zones.{first_sector, zone_sectors}}, proofs.Laws.{zones_follow}}
+use Rattle.df_format.{specs.{declared.header.Header.{Header}, Message.{Message}, Own.{place_in}, Super.{copy_bytes}}, proofs.Laws.{slot_from}}
 use Rattle.df_units.specs.Making.{header_writes}
 use Rattle.df_superblock.specs.Events.{copy_written}
-use Rattle.df_opening.specs.Below.{State}
-use Rattle.df_opening.specs.Making.{reserved_table, sectors_in}
+use Rattle.df_opening.specs.{Below.{State}, Making.{reserved_table, sectors_in}}
 use Rattle.df_grid.specs.Writes.{made_events}
-use Rattle.df_copy.specs.Run.{BeginsCopies, KeepsCopies, SparesCopies}
-use Rattle.df_copy.specs.Targets.{copy_events, events_before_trailer, front_events, ring_events, superblock_of, trailer_of}
-use Rattle.df_copy.specs.Units.{all_events, moved_from, reply_events}
+use Rattle.df_copy.specs.{Run.{BeginsCopies, KeepsCopies, SparesCopies}, Targets.{copy_events, events_before_trailer, front_events, ring_events, superblock_of, trailer_of}, Units.{all_events, moved_from, reply_events}}
 
 -- ---- events that write nothing there
 

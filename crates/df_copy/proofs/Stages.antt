@@ -1,34 +1,14 @@
 -- At each moment of the writing of the copies: how far they have come, and so what an open says of an image that is left.
-use Rattle.std.proofs.Common.{◌≡◌, ◌⊎◌, inl, inr, ℕ, ◌<◌, ◌≤◌, ◌||◌, Bool, true, false, List, length, Some, None, refl, sym, ◌∙◌, ap, subst, arith}
-use Rattle.std.proofs.lemmas.Bool.{cases_eq}
-use Rattle.std.proofs.lemmas.Bool.Decides.{nat_tests}
-use Rattle.df_base.specs.Image.{Image, IsImage, blank, covers}
-use Rattle.df_base.specs.Log.{IsLeft, Log, Sync, add, loose, now}
-use Rattle.df_base.specs.Moments.{Passed, adds}
-use Rattle.df_base.proofs.Laws.{goes_on, stands, written_else}
+use Rattle.std.proofs.{Common.{◌≡◌, ◌⊎◌, inl, inr, ℕ, ◌<◌, ◌≤◌, ◌||◌, Bool, true, false, List, length, Some, None, refl, sym, ◌∙◌, ap, subst, arith}, lemmas.Bool.{cases_eq}, lemmas.Bool.Decides.{nat_tests}}
+use Rattle.df_base.{specs.{Image.{Image, IsImage, blank, covers}, Log.{IsLeft, Log, Sync, add, loose, now}, Moments.{Passed, adds}}, proofs.Laws.{goes_on, stands, written_else}}
 use Rattle.df_layout.specs.declared.layout.Layout.{Layout}
-use Rattle.df_format.specs.Super.{copy_bytes}
-use Rattle.df_format.specs.SuperRules.{IsUsable}
-use Rattle.df_format.specs.Copies.{Content, content_at, content_with, is_blank_copy}
-use Rattle.df_format.specs.declared.superblock.SuperFields.{SuperFields}
-use Rattle.df_format.proofs.Laws.{one_sector, same_copy}
-use Rattle.df_theory.specs.Copies.{IsSplit}
-use Rattle.df_theory.specs.Device.{units_log}
-use Rattle.df_theory.specs.UnitLog.{settled}
-use Rattle.df_theory.specs.Units.{CopyPlace, CopyUnit}
-use Rattle.df_theory.specs.View.{View}
-use Rattle.df_units.specs.Bytes.{copy_unit, unit_at}
-use Rattle.df_units.specs.Meaning.{content_of}
-use Rattle.df_units.proofs.Laws.{blank_empty, split_split}
-use Rattle.df_superblock.specs.Events.{copy_written, update_events}
-use Rattle.df_superblock.proofs.Laws.{copy_put, seen_apart}
+use Rattle.df_format.{specs.{Super.{copy_bytes}, SuperRules.{IsUsable}, Copies.{Content, content_at, content_with, is_blank_copy}, declared.superblock.SuperFields.{SuperFields}}, proofs.Laws.{one_sector, same_copy}}
+use Rattle.df_theory.specs.{Copies.{IsSplit}, Device.{units_log}, UnitLog.{settled}, Units.{CopyPlace, CopyUnit}, View.{View}}
+use Rattle.df_units.{specs.{Bytes.{copy_unit, unit_at}, Meaning.{content_of}}, proofs.Laws.{blank_empty, split_split}}
+use Rattle.df_superblock.{specs.Events.{copy_written, update_events}, proofs.Laws.{copy_put, seen_apart}}
 use Rattle.df_model.specs.declared.errors.OpenError.TheVariants.{NotFormatted}
 use Rattle.df_opening.specs.Below.{DataFile, Refuses, format_of}
-use Rattle.df_copy.specs.Stops.{AreSplit, HasOneCopy, IsLeftAt, IsLeftOf, Progress, progress}
-use Rattle.df_copy.specs.Stops.Progress.{Durable, NotBegun, UnderWay}
-use Rattle.df_copy.specs.Views.{ShowsCopy}
-use Rattle.df_copy.proofs.HowFar.{begun, blank_is_blank, blank_none, copy_not_blank, not_begun}
-use Rattle.df_copy.proofs.Untouched.{split_beside}
+use Rattle.df_copy.{specs.{Stops.{AreSplit, HasOneCopy, IsLeftAt, IsLeftOf, Progress, progress}, Stops.Progress.{Durable, NotBegun, UnderWay}, Views.{ShowsCopy}}, proofs.{HowFar.{begun, blank_is_blank, blank_none, copy_not_blank, not_begun}, Untouched.{split_beside}}}
 
 own_covered : (n : ℕ) (bytes : List ℕ) → length bytes ≡ 4096 → covers n bytes n ≡ true
 unfolding covers

@@ -1,47 +1,15 @@
 -- At each moment of a copy that wrote all units, or a part of what follows them: what a stop leaves of the target.
-use Rattle.std.proofs.Common.{◌≡◌, ◌⊎◌, inl, inr, ℕ, ◌<◌, false, List, [], ◌∷◌, Option, Some, None, refl, sym, ◌∙◌, ap, subst, arith}
-use Rattle.std.specs.Prelude.{slice_get}
-use Rattle.df_base.specs.Image.{Image, IsImage, blank}
-use Rattle.df_base.specs.Log.{IsLeft, IsLog, Log, Sync, add, now, settled}
-use Rattle.df_base.specs.Moments.{EachMoment, Passed, adds}
-use Rattle.df_base.proofs.Laws.{adds_extends, adds_on, blank_is_image}
-use Rattle.df_disk.specs.Told.{Told}
-use Rattle.df_disk.specs.Adds.{AddsPart}
+use Rattle.std.{proofs.Common.{◌≡◌, ◌⊎◌, inl, inr, ℕ, ◌<◌, false, List, [], ◌∷◌, Option, Some, None, refl, sym, ◌∙◌, ap, subst, arith}, specs.Prelude.{slice_get}}
+use Rattle.df_base.{specs.{Image.{Image, IsImage, blank}, Log.{IsLeft, IsLog, Log, Sync, add, now, settled}, Moments.{EachMoment, Passed, adds}}, proofs.Laws.{adds_extends, adds_on, blank_is_image}}
+use Rattle.df_disk.specs.{Told.{Told}, Adds.{AddsPart}}
 use Rattle.df_layout.specs.declared.layout.Layout.{Layout}
-use Rattle.df_format.specs.Message.{Message}
-use Rattle.df_format.specs.declared.superblock.SuperFields.{SuperFields}
-use Rattle.df_format.specs.Copies.{content_with}
-use Rattle.df_format.specs.SuperRules.{IsUsable}
-use Rattle.df_theory.specs.Chance.{InImages}
-use Rattle.df_theory.specs.Copies.{Agree, IsSplit}
-use Rattle.df_theory.specs.CopyPuts.{update_steps}
-use Rattle.df_theory.specs.Device.{AreSteps, Format, NoChanceOf, units_log}
-use Rattle.df_theory.specs.Rests.{IsCopy}
+use Rattle.df_format.specs.{Message.{Message}, declared.superblock.SuperFields.{SuperFields}, Copies.{content_with}, SuperRules.{IsUsable}}
+use Rattle.df_theory.{specs.{Chance.{InImages}, Copies.{Agree, IsSplit}, CopyPuts.{update_steps}, Device.{AreSteps, Format, NoChanceOf, units_log}, Rests.{IsCopy}, UnitLog.{UnitLog, same_place}, Units.{BlockPlace, Content, CopyPlace, CopyUnit, HeaderPlace, Place, PreparePlace, ReplyPlace, ReplyUnit, Units}, View.{View}}, proofs.Laws.{firm_units, moments, now_units, settled_law}}
 use Rattle.df_theory.specs.UnitLog
-use Rattle.df_theory.specs.UnitLog.{UnitLog, same_place}
-use Rattle.df_theory.specs.Units.{BlockPlace, Content, CopyPlace, CopyUnit, HeaderPlace, Place, PreparePlace, ReplyPlace, ReplyUnit, Units}
-use Rattle.df_theory.specs.View.{View}
-use Rattle.df_theory.proofs.Laws.{firm_units, moments, now_units, settled_law}
-use Rattle.df_units.specs.Bytes.{unit_at}
-use Rattle.df_units.specs.Meaning.{content_of, message_of}
-use Rattle.df_units.specs.Puts.{put_copies}
-use Rattle.df_units.proofs.Laws.{is_format}
+use Rattle.df_units.{specs.{Bytes.{unit_at}, Meaning.{content_of, message_of}, Puts.{put_copies}}, proofs.Laws.{is_format}}
 use Rattle.df_superblock.specs.Events.{update_events}
-use Rattle.df_opening.specs.Below.{State, format_of, restarted}
-use Rattle.df_opening.proofs.Laws.{shown_by, unit_after, after_join, now_adds}
-use Rattle.df_copy.specs.Stops.{AreSplit, LeavesCopy, StopsCopy}
-use Rattle.df_copy.specs.Targets.{copy_events, front_events, front_steps, superblock_of, superblock_steps}
-use Rattle.df_copy.specs.Views.{IsEmptyImage, ShowsCopy}
-use Rattle.df_copy.proofs.Afters.{update_other}
-use Rattle.df_copy.proofs.Holding.{nothing_shown, shown, shown_after}
-use Rattle.df_copy.proofs.HowFar.{units_distinct}
-use Rattle.df_copy.proofs.Sources.{IsSource}
-use Rattle.df_copy.proofs.Spares.{before_copies, spare_before}
-use Rattle.df_copy.proofs.Stages.{HasStage, left_by, stages}
-use Rattle.df_copy.proofs.UnderWay.{IsUnderWay, Leaves, update_leaves}
-use Rattle.df_copy.proofs.Untouched.{IsUntouched, all_split, log_on, no_copy, none_in, stops_part, untouched_begun, untouched_leaves, untouched_on, untouched_then}
-use Rattle.df_copy.proofs.Usables.{IsNamed, copy_usable, superblock_are_steps}
-use Rattle.df_copy.proofs.Written.{front_are_steps}
+use Rattle.df_opening.{specs.Below.{State, format_of, restarted}, proofs.Laws.{shown_by, unit_after, after_join, now_adds}}
+use Rattle.df_copy.{specs.{Stops.{AreSplit, LeavesCopy, StopsCopy}, Targets.{copy_events, front_events, front_steps, superblock_of, superblock_steps}, Views.{IsEmptyImage, ShowsCopy}}, proofs.{Afters.{update_other}, Holding.{nothing_shown, shown, shown_after}, HowFar.{units_distinct}, Sources.{IsSource}, Spares.{before_copies, spare_before}, Stages.{HasStage, left_by, stages}, UnderWay.{IsUnderWay, Leaves, update_leaves}, Untouched.{IsUntouched, all_split, log_on, no_copy, none_in, stops_part, untouched_begun, untouched_leaves, untouched_on, untouched_then}, Usables.{IsNamed, copy_usable, superblock_are_steps}, Written.{front_are_steps}}}
 
 apart : (place : Place) → (IsCopy place → ⊥) → (n : ℕ) → same_place (CopyPlace n) place ≡ false
 apart (CopyPlace m) other n = absurd (other tt)

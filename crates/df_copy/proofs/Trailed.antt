@@ -1,44 +1,15 @@
 -- The trailer of a copy is one: its blocks are a chain that the superblock names, and their text says the source's root and sessions, and the blocks at their new addresses.
-use Rattle.std.proofs.Common.{◌≡◌, ◌≢◌, ◌⊎◌, inl, inr, ℕ, zero, suc, ◌+◌, ◌-◌, ◌*◌, ◌^◌, ◌<◌, ◌≤◌, Bool, true, false, List, [], ◌∷◌, length, map, take, Option, Some, None, refl, sym, ◌∙◌, ap, subst, arith}
-use Rattle.std.specs.Prelude.{slice_get}
-use Rattle.std.specs.List.{range_with_len}
-use Rattle.std.proofs.lemmas.Bool.{cases_eq}
-use Rattle.std.proofs.lemmas.List.{length-map, take_all}
-use Rattle.std.proofs.lemmas.Option.{slice_get_within}
+use Rattle.std.{proofs.{Common.{◌≡◌, ◌≢◌, ◌⊎◌, inl, inr, ℕ, zero, suc, ◌+◌, ◌-◌, ◌*◌, ◌^◌, ◌<◌, ◌≤◌, Bool, true, false, List, [], ◌∷◌, length, map, take, Option, Some, None, refl, sym, ◌∙◌, ap, subst, arith}, lemmas.Bool.{cases_eq}, lemmas.List.{length-map, take_all}, lemmas.Option.{slice_get_within}}, specs.{Prelude.{slice_get}, List.{range_with_len}}}
 use Rattle.df_base.proofs.Laws.{field_at-lt}
 use Rattle.df_layout.specs.declared.layout.Layout.{Layout}
-use Rattle.df_format.specs.declared.superblock.SuperFields.{SuperFields}
-use Rattle.df_format.specs.Copies.{content_with}
-use Rattle.df_format.specs.Message.{Message}
+use Rattle.df_format.specs.{declared.superblock.SuperFields.{SuperFields}, Copies.{content_with}, Message.{Message}}
 use Rattle.df_sessions.specs.Requests.{session_of, sessions_of}
-use Rattle.df_theory.specs.Shape.{Shape}
-use Rattle.df_theory.specs.Trailer.{InChain, IsCount, IsReference, IsTrailer, Links, Says, no_parts, text_of}
-use Rattle.df_theory.specs.Units.{Block, Content, Parts, Session, Units}
-use Rattle.df_theory.specs.View.{IsSoundCheckpoint, PassesTests, View}
-use Rattle.df_trailer.specs.Spelling.{block_checksums, is_referenced, listed, text_size}
-use Rattle.df_trailer.specs.Text.{ones, parse_of}
-use Rattle.df_trailer.specs.Writing.{captured_parts}
-use Rattle.df_trailer.proofs.Laws.{text_sized}
-use Rattle.df_units.specs.Format.{shape_as}
-use Rattle.df_units.specs.Meaning.{block_of, content_of, layout_of, number_of}
-use Rattle.df_units.proofs.Laws.{sealed_check, usable_passes}
-use Rattle.df_model.specs.Blocks.{entries, entry, sum_at}
-use Rattle.df_model.specs.Codec.{IsLawful}
-use Rattle.df_model.specs.Memory.{last_address, last_sum}
-use Rattle.df_opening.specs.Below.{State, memory, shape}
-use Rattle.df_opening.proofs.Laws.{codec_of}
-use Rattle.df_copy.specs.Targets.{address_of_block, begun_grid, check_of, grid_behind, grid_with, last_message, numbered, sequence_of, superblock_of, text_with, trailer_of}
-use Rattle.df_copy.specs.Tests.{references, trailer_blocks, trailer_size}
-use Rattle.df_copy.specs.Units.{moved_from}
-use Rattle.df_copy.specs.Views.{file_in}
-use Rattle.df_copy.proofs.Frees.{numbered_behind, numbered_known, numbered_there}
-use Rattle.df_copy.proofs.Listed.{moved_length}
-use Rattle.df_copy.proofs.Pieces.{IsPieced, chain_with}
-use Rattle.df_copy.proofs.Piecewise.{kept_layout}
-use Rattle.df_copy.proofs.Rows.{block_rows, row_at}
-use Rattle.df_copy.proofs.Sources.{IsSource}
-use Rattle.df_copy.proofs.Usables.{IsFitted, IsNamed, copy_fields, copy_super, count, fitted, long, named_none, no_trailer_there, trailer_there}
-use Rattle.df_copy.proofs.Written.{bytes, next_some, trailer_is}
+use Rattle.df_theory.specs.{Shape.{Shape}, Trailer.{InChain, IsCount, IsReference, IsTrailer, Links, Says, no_parts, text_of}, Units.{Block, Content, Parts, Session, Units}, View.{IsSoundCheckpoint, PassesTests, View}}
+use Rattle.df_trailer.{specs.{Spelling.{block_checksums, is_referenced, listed, text_size}, Text.{ones, parse_of}, Writing.{captured_parts}}, proofs.Laws.{text_sized}}
+use Rattle.df_units.{specs.{Format.{shape_as}, Meaning.{block_of, content_of, layout_of, number_of}}, proofs.Laws.{sealed_check, usable_passes}}
+use Rattle.df_model.specs.{Blocks.{entries, entry, sum_at}, Codec.{IsLawful}, Memory.{last_address, last_sum}}
+use Rattle.df_opening.{specs.Below.{State, memory, shape}, proofs.Laws.{codec_of}}
+use Rattle.df_copy.{specs.{Targets.{address_of_block, begun_grid, check_of, grid_behind, grid_with, last_message, numbered, sequence_of, superblock_of, text_with, trailer_of}, Tests.{references, trailer_blocks, trailer_size}, Units.{moved_from}, Views.{file_in}}, proofs.{Frees.{numbered_behind, numbered_known, numbered_there}, Listed.{moved_length}, Pieces.{IsPieced, chain_with}, Piecewise.{kept_layout}, Rows.{block_rows, row_at}, Sources.{IsSource}, Usables.{IsFitted, IsNamed, copy_fields, copy_super, count, fitted, long, named_none, no_trailer_there, trailer_there}, Written.{bytes, next_some, trailer_is}}}
 
 -- ---- the chain
 

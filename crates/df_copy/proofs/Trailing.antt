@@ -1,27 +1,14 @@
 -- A trailer is written by a grid that knows the blocks: it is the one of these, and the grid names its last block.
-use Rattle.std.proofs.Common.{◌≡◌, ℕ, ◌+◌, ◌-◌, ◌<◌, ◌≤◌, List, [], ◌∷◌, length, take, refl, sym, ◌∙◌, ap, arith}
-use Rattle.std.proofs.lemmas.List.FromFn.{length-range_with_len}
+use Rattle.std.proofs.{Common.{◌≡◌, ℕ, ◌+◌, ◌-◌, ◌<◌, ◌≤◌, List, [], ◌∷◌, length, take, refl, sym, ◌∙◌, ap, arith}, lemmas.List.FromFn.{length-range_with_len}}
 use Rattle.df_layout.specs.declared.layout.Layout.{Layout}
 use Rattle.df_format.specs.Message.{Message}
 use Rattle.df_units.specs.Meaning.{layout_of, number_of}
 use Rattle.df_model.specs.Blocks.{sum_at}
-use Rattle.df_trailer.specs.Spelling.{spell}
-use Rattle.df_trailer.specs.Writing.{captured_parts, piece_of}
-use Rattle.df_checkpoint.specs.declared.capture.Capture.{Capture}
-use Rattle.df_checkpoint.specs.Writing.{unit_in}
-use Rattle.df_grid.specs.Grid.{GridState, free_addresses, with_blocks}
-use Rattle.df_grid.specs.Table.{last_trailer_block, next_written}
-use Rattle.df_grid.specs.Writes.{made_events, next_unit}
+use Rattle.df_trailer.specs.{Spelling.{spell}, Writing.{captured_parts, piece_of}}
+use Rattle.df_checkpoint.specs.{declared.capture.Capture.{Capture}, Writing.{unit_in}}
+use Rattle.df_grid.specs.{Grid.{GridState, free_addresses, with_blocks}, Table.{last_trailer_block, next_written}, Writes.{made_events, next_unit}}
 use Rattle.df_opening.specs.Below.{State, memory}
-use Rattle.df_copy.specs.declared.target.Target.{Target}
-use Rattle.df_copy.specs.Acts.{IsTrailerWritten}
-use Rattle.df_copy.specs.Targets.{IsTarget, begun_grid, grid_behind, grid_with, last_message as last_block, next_piece, pieces_from, reference_pair, sequence_of, trailer_of}
-use Rattle.df_copy.specs.Tests.{needed, references, trailer_blocks}
-use Rattle.df_copy.specs.Trailers.{text_in}
-use Rattle.df_copy.specs.Units.{all_events, moved_from}
-use Rattle.df_copy.proofs.Frees.{free_behind, next_free}
-use Rattle.df_copy.proofs.Listed.{moved_length}
-use Rattle.df_copy.proofs.Piecewise.{count_left, count_written, grid_more, kept_captured, kept_layout, last_written}
+use Rattle.df_copy.{specs.{declared.target.Target.{Target}, Acts.{IsTrailerWritten}, Targets.{IsTarget, begun_grid, grid_behind, grid_with, last_message as last_block, next_piece, pieces_from, reference_pair, sequence_of, trailer_of}, Tests.{needed, references, trailer_blocks}, Trailers.{text_in}, Units.{all_events, moved_from}}, proofs.{Frees.{free_behind, next_free}, Listed.{moved_length}, Piecewise.{count_left, count_written, grid_more, kept_captured, kept_layout, last_written}}}
 
 -- ---- none
 

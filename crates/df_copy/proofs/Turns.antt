@@ -1,21 +1,12 @@
 -- Units of the source are copied one after the other, replies or blocks: what stands after each turn, and how what ends one of them ends the copy.
-use Rattle.std.proofs.Common.{◌≡◌, ℕ, ◌≤◌, Bool, true, if◌then◌else◌, List, [], ◌∷◌, ◌++◌, Option, Some, None, Ok, refl, sym, ◌∙◌, ap, subst}
-use Rattle.std.specs.Prelude.{nat_lt}
-use Rattle.std.proofs.lemmas.Bool.{le-ltb}
+use Rattle.std.{proofs.{Common.{◌≡◌, ℕ, ◌≤◌, Bool, true, if◌then◌else◌, List, [], ◌∷◌, ◌++◌, Option, Some, None, Ok, refl, sym, ◌∙◌, ap, subst}, lemmas.Bool.{le-ltb}}, specs.Prelude.{nat_lt}}
 use Rattle.df_base.specs.Log.{Event}
-use Rattle.df_disk.specs.Told.{Told}
-use Rattle.df_disk.specs.Adds.{AddsPart, after_all}
-use Rattle.df_disk.proofs.Laws.{after_append, all_then}
+use Rattle.df_disk.{specs.{Told.{Told}, Adds.{AddsPart, after_all}}, proofs.Laws.{after_append, all_then}}
 use Rattle.df_layout.specs.declared.layout.Layout.{Layout}
 use Rattle.df_format.specs.Message.{Message}
-use Rattle.df_model.specs.Refusals.{first_refusal}
-use Rattle.df_model.specs.Supply.{Shown}
+use Rattle.df_model.specs.{Refusals.{first_refusal}, Supply.{Shown}}
 use Rattle.df_opening.specs.Below.{DataFile, State}
-use Rattle.df_copy.specs.declared.ending.Ending.{Ending}
-use Rattle.df_copy.specs.Acts.{Beside, CopyStopsAt, LeavesSource, StopsBehind}
-use Rattle.df_copy.specs.Units.{OverShown}
-use Rattle.df_copy.proofs.Blamed.{by_ending}
-use Rattle.df_copy.proofs.Listed.{over_both, over_by}
+use Rattle.df_copy.{specs.{declared.ending.Ending.{Ending}, Acts.{Beside, CopyStopsAt, LeavesSource, StopsBehind}, Units.{OverShown}}, proofs.{Blamed.{by_ending}, Listed.{over_both, over_by}}}
 
 -- ---- the source and the target at the entry
 

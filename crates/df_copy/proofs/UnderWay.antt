@@ -1,15 +1,7 @@
 -- Where four copies are written one after the other on a target that showed none, a stop leaves two of them that agree, or none do; all else is as it was.
-use Rattle.std.proofs.Common.{◌≡◌, ◌⊎◌, inl, inr, ℕ, ◌+◌, ◌<◌, ◌≤◌, ◌||◌, false, Option, Some, None, refl, sym, ◌∙◌, ap, subst, arith}
-use Rattle.std.proofs.lemmas.Bool.{cases_eq, cases_lt}
-use Rattle.df_theory.specs.Chance.{EachLeft, InPool, NoChance}
-use Rattle.df_theory.specs.Copies.{Agree, IsSplit}
-use Rattle.df_theory.specs.CopyPuts.{PutsCopies, update_steps}
-use Rattle.df_theory.specs.Rests.{IsCopy}
-use Rattle.df_theory.specs.Runs.{AtEach}
-use Rattle.df_theory.specs.UnitLog.{IsLeftBy, PutsOne, Synced, UnitLog, add, loose, now, settled, wrote}
-use Rattle.df_theory.specs.Units.{AnyUnit, Content, CopyPlace, CopyUnit, Place, Units, is_some, or_else}
-use Rattle.df_copy.specs.Stops.{AreSplit}
-use Rattle.df_copy.proofs.Untouched.{split_beside}
+use Rattle.std.proofs.{Common.{◌≡◌, ◌⊎◌, inl, inr, ℕ, ◌+◌, ◌<◌, ◌≤◌, ◌||◌, false, Option, Some, None, refl, sym, ◌∙◌, ap, subst, arith}, lemmas.Bool.{cases_eq, cases_lt}}
+use Rattle.df_theory.specs.{Chance.{EachLeft, InPool, NoChance}, Copies.{Agree, IsSplit}, CopyPuts.{PutsCopies, update_steps}, Rests.{IsCopy}, Runs.{AtEach}, UnitLog.{IsLeftBy, PutsOne, Synced, UnitLog, add, loose, now, settled, wrote}, Units.{AnyUnit, Content, CopyPlace, CopyUnit, Place, Units, is_some, or_else}}
+use Rattle.df_copy.{specs.Stops.{AreSplit}, proofs.Untouched.{split_beside}}
 
 module _ (c : Content) (then : Units) where
   -- an image shows this but for the copies, and none of another content

@@ -1,19 +1,7 @@
 -- A unit of the source that is made again: a reply as it is, and a block at another address.
-use Rattle.std.proofs.Common.{◌≡◌, inl, inr, ℕ, ◌+◌, ◌^◌, ◌<◌, ◌≤◌, false, List, length, Option, Some, refl, sym, ◌∙◌, ap, subst, arith}
-use Rattle.std.specs.Prelude.{IsSome}
-use Rattle.df_layout.specs.declared.layout.Layout.{Layout}
-use Rattle.df_layout.specs.declared.places.Place.{Place}
-use Rattle.df_layout.specs.declared.places.Zone.TheVariants.{ClientReplies, Grid}
-use Rattle.df_format.specs.declared.header.Header.{Header}
-use Rattle.df_format.specs.declared.kind.Kind.{Kind}
-use Rattle.df_format.specs.declared.kind.Kind.TheVariants.{Block, Reply}
-use Rattle.df_format.specs.Making.{for_body}
-use Rattle.df_format.specs.Message.{Message}
-use Rattle.df_format.specs.Own.{has_op_of_slot, named_elsewhere, own_place, place_in}
-use Rattle.df_format.specs.Rules.{IsSealed, ObeysBlock, ObeysKind, ObeysRules, ObeysVersion}
-use Rattle.df_format.specs.Spelling.{sealed}
-use Rattle.df_format.specs.Valid.{IsBodyOf, IsUnit}
-use Rattle.df_format.proofs.Laws.{is_own}
+use Rattle.std.{proofs.Common.{◌≡◌, inl, inr, ℕ, ◌+◌, ◌^◌, ◌<◌, ◌≤◌, false, List, length, Option, Some, refl, sym, ◌∙◌, ap, subst, arith}, specs.Prelude.{IsSome}}
+use Rattle.df_layout.specs.{declared.layout.Layout.{Layout}, declared.places.Place.{Place}, declared.places.Zone.TheVariants.{ClientReplies, Grid}}
+use Rattle.df_format.{specs.{declared.header.Header.{Header}, declared.kind.Kind.{Kind}, declared.kind.Kind.TheVariants.{Block, Reply}, Making.{for_body}, Message.{Message}, Own.{has_op_of_slot, named_elsewhere, own_place, place_in}, Rules.{IsSealed, ObeysBlock, ObeysKind, ObeysRules, ObeysVersion}, Spelling.{sealed}, Valid.{IsBodyOf, IsUnit}}, proofs.Laws.{is_own}}
 use Rattle.df_model.specs.Blocks.{is_held_in}
 use Rattle.df_grid.specs.Grid.{GridState, HasAddress}
 use Rattle.df_replica.specs.Blocks.{MayPut}

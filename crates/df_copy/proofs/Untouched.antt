@@ -1,30 +1,14 @@
 -- Up to the write of the first copy a target on which nothing was written shows no copy of the superblock, whatever a stop leaves.
 use Rattle.std.proofs.Common.{◌≡◌, inl, inr, ℕ, ◌<◌, ◌≤◌, ◌||◌, Bool, false, List, [], ◌∷◌, Option, Some, None, refl, sym, ◌∙◌, ap, subst, arith}
-use Rattle.df_base.specs.Image.{Image, blank}
-use Rattle.df_base.specs.Log.{Event, IsLog, Log, Stop, Sync, Write, add, loose, now, settled}
-use Rattle.df_base.specs.Moments.{EachMoment, Passed, adds}
-use Rattle.df_base.proofs.Laws.{adds_extends, adds_on, extends_on, goes_on, stands, written_else}
-use Rattle.df_disk.specs.Told.{Told, did}
-use Rattle.df_disk.specs.Adds.{AddsPart}
+use Rattle.df_base.{specs.{Image.{Image, blank}, Log.{Event, IsLog, Log, Stop, Sync, Write, add, loose, now, settled}, Moments.{EachMoment, Passed, adds}}, proofs.Laws.{adds_extends, adds_on, extends_on, goes_on, stands, written_else}}
+use Rattle.df_disk.specs.{Told.{Told, did}, Adds.{AddsPart}}
 use Rattle.df_layout.specs.declared.layout.Layout.{Layout}
-use Rattle.df_format.specs.Copies.{is_blank_copy}
-use Rattle.df_format.proofs.Laws.{same_copy}
-use Rattle.df_theory.specs.Chance.{InImages}
-use Rattle.df_theory.specs.Copies.{IsSplit}
-use Rattle.df_theory.specs.Device.{AreSteps, Format, all_units}
-use Rattle.df_theory.specs.Runs.{Puts, Step, Syncs}
-use Rattle.df_theory.specs.Units.{AnyUnit, CopyPlace, CopyUnit, Units}
-use Rattle.df_theory.specs.View.{View}
-use Rattle.df_theory.proofs.Laws.{settled_law}
-use Rattle.df_units.specs.Bytes.{copy_unit, unit_at}
-use Rattle.df_units.proofs.Laws.{blank_empty}
+use Rattle.df_format.{specs.Copies.{is_blank_copy}, proofs.Laws.{same_copy}}
+use Rattle.df_theory.{specs.{Chance.{InImages}, Copies.{IsSplit}, Device.{AreSteps, Format, all_units}, Runs.{Puts, Step, Syncs}, Units.{AnyUnit, CopyPlace, CopyUnit, Units}, View.{View}}, proofs.Laws.{settled_law}}
+use Rattle.df_units.{specs.Bytes.{copy_unit, unit_at}, proofs.Laws.{blank_empty}}
 use Rattle.df_model.specs.declared.errors.OpenError.TheVariants.{NotFormatted}
 use Rattle.df_opening.specs.Below.{DataFile, Refuses, format_of, restarted, told_after}
-use Rattle.df_copy.specs.Stops.{AreSplit, IsLeftAt, LeavesCopy, Progress, StopsCopy, progress}
-use Rattle.df_copy.specs.Stops.Progress.{NotBegun}
-use Rattle.df_copy.specs.Views.{IsEmptyImage}
-use Rattle.df_copy.proofs.HowFar.{blank_is_blank, not_begun, units_distinct}
-use Rattle.df_copy.proofs.Spares.{SpareSuper, front_of_part, uncovered}
+use Rattle.df_copy.{specs.{Stops.{AreSplit, IsLeftAt, LeavesCopy, Progress, StopsCopy, progress}, Stops.Progress.{NotBegun}, Views.{IsEmptyImage}}, proofs.{HowFar.{blank_is_blank, not_begun, units_distinct}, Spares.{SpareSuper, front_of_part, uncovered}}}
 
 -- ---- the sectors of the superblock
 

@@ -1,35 +1,14 @@
 -- The superblock of a copy can be used: the source's can, and what changes in it is in its range.
-use Rattle.std.proofs.Common.{◌≡◌, ◌≢◌, inl, inr, ℕ, zero, suc, ◌+◌, ◌-◌, ◌*◌, ◌/◌, ◌<◌, ◌≤◌, List, [], ◌∷◌, length, drop, Option, Some, None, refl, sym, ◌∙◌, ap, subst, arith}
-use Rattle.std.specs.Prelude.{slice_get}
-use Rattle.std.proofs.lemmas.Bool.{cases_eq}
-use Rattle.std.proofs.lemmas.List.{get_or-drop, length-drop}
+use Rattle.std.{proofs.{Common.{◌≡◌, ◌≢◌, inl, inr, ℕ, zero, suc, ◌+◌, ◌-◌, ◌*◌, ◌/◌, ◌<◌, ◌≤◌, List, [], ◌∷◌, length, drop, Option, Some, None, refl, sym, ◌∙◌, ap, subst, arith}, lemmas.Bool.{cases_eq}, lemmas.List.{get_or-drop, length-drop}}, specs.Prelude.{slice_get}}
 use Rattle.df_layout.specs.declared.layout.Layout.{Layout}
-use Rattle.df_format.specs.declared.superblock.SuperFields.{SuperFields}
-use Rattle.df_format.specs.Message.{Message}
-use Rattle.df_format.specs.Spelling.{IsCheck, no_checksum}
-use Rattle.df_format.specs.Super.{AreNone}
-use Rattle.df_format.specs.SuperRules.{IsSuper, IsUsable}
-use Rattle.df_format.proofs.Laws.{no_check}
-use Rattle.df_theory.specs.Device.{AreSteps}
-use Rattle.df_theory.specs.Trailer.{IsCount}
-use Rattle.df_theory.proofs.Laws.{steps_join_law}
-use Rattle.df_units.specs.Format.{format_of}
-use Rattle.df_units.specs.Meaning.{layout_of}
-use Rattle.df_units.specs.Superblocks.{AreFieldsOf}
-use Rattle.df_units.proofs.Laws.{copy_put, sealed_check}
+use Rattle.df_format.{specs.{declared.superblock.SuperFields.{SuperFields}, Message.{Message}, Spelling.{IsCheck, no_checksum}, Super.{AreNone}, SuperRules.{IsSuper, IsUsable}}, proofs.Laws.{no_check}}
+use Rattle.df_theory.{specs.{Device.{AreSteps}, Trailer.{IsCount}}, proofs.Laws.{steps_join_law}}
+use Rattle.df_units.{specs.{Format.{format_of}, Meaning.{layout_of}, Superblocks.{AreFieldsOf}}, proofs.Laws.{copy_put, sealed_check}}
 use Rattle.df_model.specs.Making.{named_places}
-use Rattle.df_trailer.specs.Spelling.{text_size}
-use Rattle.df_trailer.proofs.Laws.{count_is}
+use Rattle.df_trailer.{specs.Spelling.{text_size}, proofs.Laws.{count_is}}
 use Rattle.df_grid.specs.Grid.{GridState}
 use Rattle.df_opening.specs.Below.{IsState, State, memory}
-use Rattle.df_copy.specs.Targets.{address_of_block, begun_grid, check_of, checks_of, copy_events, copy_steps, front_events, front_steps, grid_after_piece, grid_with, last_message, pieces_from, sequence_of, superblock_events, superblock_of, superblock_steps, text_with, trailer_of}
-use Rattle.df_copy.specs.Tests.{needed, references, trailer_blocks, trailer_size}
-use Rattle.df_copy.specs.Units.{moved_from}
-use Rattle.df_copy.proofs.Listed.{check_at, many_checks, moved_length}
-use Rattle.df_copy.proofs.Piecewise.{last_address}
-use Rattle.df_copy.proofs.Planning.{size_none, size_some}
-use Rattle.df_copy.proofs.Rows.{AreInRow, AreReplyRow, block_rows, reply_rows, row_at, row_last}
-use Rattle.df_copy.proofs.Written.{IsWritable, front_are_steps, next_left, trailer_in_row}
+use Rattle.df_copy.{specs.{Targets.{address_of_block, begun_grid, check_of, checks_of, copy_events, copy_steps, front_events, front_steps, grid_after_piece, grid_with, last_message, pieces_from, sequence_of, superblock_events, superblock_of, superblock_steps, text_with, trailer_of}, Tests.{needed, references, trailer_blocks, trailer_size}, Units.{moved_from}}, proofs.{Listed.{check_at, many_checks, moved_length}, Piecewise.{last_address}, Planning.{size_none, size_some}, Rows.{AreInRow, AreReplyRow, block_rows, reply_rows, row_at, row_last}, Written.{IsWritable, front_are_steps, next_left, trailer_in_row}}}
 
 -- ---- the checksums of replies
 

@@ -1,40 +1,16 @@
 -- What is written of a target, in the words of the theory: the header ring, replies and blocks that were read, and the trailer after them.
-use Rattle.std.proofs.Common.{◌≡◌, ℕ, suc, ◌+◌, ◌-◌, ◌*◌, ◌<◌, ◌≤◌, take, true, List, [], ◌∷◌, ◌++◌, length, Option, Some, refl, ◌∙◌, ap, subst, arith}
-use Rattle.std.specs.Prelude.{slice_get}
-use Rattle.std.specs.List.{range_with_len}
-use Rattle.std.proofs.lemmas.Option.{slice_get_within}
+use Rattle.std.{proofs.{Common.{◌≡◌, ℕ, suc, ◌+◌, ◌-◌, ◌*◌, ◌<◌, ◌≤◌, take, true, List, [], ◌∷◌, ◌++◌, length, Option, Some, refl, ◌∙◌, ap, subst, arith}, lemmas.Option.{slice_get_within}}, specs.{Prelude.{slice_get}, List.{range_with_len}}}
 use Rattle.df_base.specs.Fields.{AreBytes}
 use Rattle.df_disk.specs.Told.{Told}
-use Rattle.df_layout.specs.declared.layout.Layout.{Layout}
-use Rattle.df_layout.specs.declared.places.Zone.TheVariants.{ClientReplies, Grid}
-use Rattle.df_format.specs.declared.kind.Kind.{Kind}
-use Rattle.df_format.specs.Making.{for_body}
-use Rattle.df_format.specs.Message.{Message}
-use Rattle.df_format.specs.Own.{has_op_of_slot, named_elsewhere, place_in}
-use Rattle.df_format.specs.Valid.{IsUnit}
-use Rattle.df_format.proofs.Laws.{is_own, sealed_is, valid_belongs}
-use Rattle.df_theory.specs.Device.{AreSteps}
-use Rattle.df_theory.specs.Units.{Content}
-use Rattle.df_theory.proofs.Laws.{steps_join_law}
-use Rattle.df_units.specs.Format.{format_of}
-use Rattle.df_units.specs.Meaning.{content_of, layout_of}
-use Rattle.df_format.specs.Copies.{content_with}
+use Rattle.df_layout.specs.{declared.layout.Layout.{Layout}, declared.places.Zone.TheVariants.{ClientReplies, Grid}}
+use Rattle.df_format.{specs.{declared.kind.Kind.{Kind}, Making.{for_body}, Message.{Message}, Own.{has_op_of_slot, named_elsewhere, place_in}, Valid.{IsUnit}, Copies.{content_with}}, proofs.Laws.{is_own, sealed_is, valid_belongs}}
+use Rattle.df_theory.{specs.{Device.{AreSteps}, Units.{Content}}, proofs.Laws.{steps_join_law}}
+use Rattle.df_units.specs.{Format.{format_of}, Meaning.{content_of, layout_of}}
 use Rattle.df_model.specs.Blocks.{sum_at}
-use Rattle.df_trailer.specs.Writing.{captured_parts}
-use Rattle.df_trailer.proofs.Laws.{text_bytes}
-use Rattle.df_grid.specs.Grid.{GridState}
-use Rattle.df_grid.specs.Writes.{block_steps, made_events}
+use Rattle.df_trailer.{specs.Writing.{captured_parts}, proofs.Laws.{text_bytes}}
+use Rattle.df_grid.specs.{Grid.{GridState}, Writes.{block_steps, made_events}}
 use Rattle.df_opening.specs.Below.{IsState, State, memory}
-use Rattle.df_copy.specs.Acts.{FitBlocks, FitReplies, IsBlockOf}
-use Rattle.df_copy.specs.Targets.{all_steps, begun_grid, events_before_trailer, front_events, front_steps, grid_with, numbered, reply_steps, ring_events, ring_steps, sequence_of, text_with, trailer_of, unit_steps}
-use Rattle.df_copy.specs.Tests.{needed, references, trailer_blocks}
-use Rattle.df_copy.specs.Units.{IsBlockAt, IsReplyAt, all_events, moved, moved_from, reply_events}
-use Rattle.df_copy.proofs.Frees.{next_free}
-use Rattle.df_copy.proofs.Listed.{moved_length}
-use Rattle.df_copy.proofs.Pieces.{ArePieces, IsPieced, IsWriting, pieces_are, zeros_back}
-use Rattle.df_copy.proofs.Rings.{ring_steps as ring_is_steps}
-use Rattle.df_copy.proofs.Rows.{AreInRow, AreReplyRow, block_rows, reply_rows, row_steps}
-use Rattle.df_copy.proofs.Units.{block_owned, moved_made}
+use Rattle.df_copy.{specs.{Acts.{FitBlocks, FitReplies, IsBlockOf}, Targets.{all_steps, begun_grid, events_before_trailer, front_events, front_steps, grid_with, numbered, reply_steps, ring_events, ring_steps, sequence_of, text_with, trailer_of, unit_steps}, Tests.{needed, references, trailer_blocks}, Units.{IsBlockAt, IsReplyAt, all_events, moved, moved_from, reply_events}}, proofs.{Frees.{next_free}, Listed.{moved_length}, Pieces.{ArePieces, IsPieced, IsWriting, pieces_are, zeros_back}, Rings.{ring_steps as ring_is_steps}, Rows.{AreInRow, AreReplyRow, block_rows, reply_rows, row_steps}, Units.{block_owned, moved_made}}}
 
 -- ---- units of the source in the target
 

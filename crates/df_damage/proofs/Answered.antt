@@ -1,22 +1,11 @@
 -- All that damage can do to the answer of an open, put together.
-use Rattle.std.proofs.Common.{◌≡◌, inl, inr, ℕ, subst}
-use Rattle.std.specs.Prelude.{Ok, Err}
+use Rattle.std.{proofs.Common.{◌≡◌, inl, inr, ℕ, subst}, specs.Prelude.{Ok, Err}}
 use Rattle.df_disk.specs.Told.{Told}
-use Rattle.df_model.specs.Work.{opened}
-use Rattle.df_model.specs.declared.errors.OpenError.{OpenError}
-use Rattle.df_model.specs.declared.errors.OpenError.TheVariants.{DiskFault}
+use Rattle.df_model.specs.{Work.{opened}, declared.errors.OpenError.{OpenError}, declared.errors.OpenError.TheVariants.{DiskFault}}
 use Rattle.df_theory.specs.View.{View}
 use Rattle.df_units.specs.Bytes.{unit_at}
-use Rattle.df_recovery.specs.Surveys.{IsOpenedAs, SurveysAs}
-use Rattle.df_recovery.specs.Below.{DataFile, Represents, State, shape}
-use Rattle.df_damage.specs.Answers.{AnswerIsOfHurt, FindsHad, IsNeedless, RefusesHurt}
-use Rattle.df_damage.specs.Disks.{MayBeHurtAs}
-use Rattle.df_damage.specs.Openings.{OpensAsLeftAs}
-use Rattle.df_damage.specs.Versions.{IsUnspent}
-use Rattle.df_damage.proofs.Files.{opened_file, opened_found}
-use Rattle.df_damage.proofs.Opened.{checkpoint_stays, found_was_had, headers_may_be_hurt_as, headers_tell, two_copies_are_enough_as}
-use Rattle.df_damage.proofs.Started.{hurt_may_begin}
-use Rattle.df_damage.proofs.Refused.{refusals_are_of_damage, refusals_blame_hurt}
+use Rattle.df_recovery.specs.{Surveys.{IsOpenedAs, SurveysAs}, Below.{DataFile, Represents, State, shape}}
+use Rattle.df_damage.{specs.{Answers.{AnswerIsOfHurt, FindsHad, IsNeedless, RefusesHurt}, Disks.{MayBeHurtAs}, Openings.{OpensAsLeftAs}, Versions.{IsUnspent}}, proofs.{Files.{opened_file, opened_found}, Opened.{checkpoint_stays, found_was_had, headers_may_be_hurt_as, headers_tell, two_copies_are_enough_as}, Started.{hurt_may_begin}, Refused.{refusals_are_of_damage, refusals_blame_hurt}}}
 
 module _ (version : ℕ) (file : DataFile) (view : View) (t : Told) (may : MayBeHurtAs version file view t) (unspent : IsUnspent version view) where
   needless : IsNeedless file t → OpensAsLeftAs version file view t

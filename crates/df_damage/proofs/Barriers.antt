@@ -1,32 +1,13 @@
 -- A disk that may be hurt, seen from after the barrier of an open: its log rests on the view, its history began with the empty image, and what is shown was settled.
 use Rattle.std.proofs.Common.{◌≡◌, inl, inr, ℕ, ◌<◌, List, ◌∷◌, Some, sym, ◌∙◌, ap, subst, arith}
-use Rattle.df_base.specs.Image.{Image}
+use Rattle.df_base.specs.{Image.{Image}, Log.{Sync}}
 use Rattle.df_base.specs.Log as logs
-use Rattle.df_base.specs.Log.{Sync}
 use Rattle.df_disk.specs.Told.{Told}
 use Rattle.df_layout.specs.declared.places.Zone.TheVariants.{Superblock}
-use Rattle.df_theory.specs.Copies.{Agree}
-use Rattle.df_theory.specs.DamageLaws.{ShowsPool}
-use Rattle.df_theory.specs.Device.{units_log}
-use Rattle.df_theory.specs.Found.{IsFound}
-use Rattle.df_theory.specs.Holds.{Holds}
-use Rattle.df_theory.specs.HistoryLaws.{AreDistinct, ShowsSettled}
-use Rattle.df_theory.specs.Past.{FromEmpty, Was}
-use Rattle.df_theory.specs.Rests.{RestsOn}
-use Rattle.df_theory.specs.UnitLog.{UnitLog, now, settled}
-use Rattle.df_theory.specs.Units.{Content, CopyPlace, CopyUnit, Place, Units}
-use Rattle.df_theory.specs.View.{View}
-use Rattle.df_theory.proofs.Laws.{disk_barrier_law, found_was_of_log_law, now_units, settled_law, pool_pools}
-use Rattle.df_units.specs.Bytes.{unit_at}
-use Rattle.df_units.specs.Format.{format_of}
-use Rattle.df_units.specs.Meaning.{place_of}
-use Rattle.df_units.proofs.Laws.{blank_empty, is_format}
+use Rattle.df_theory.{specs.{Copies.{Agree}, DamageLaws.{ShowsPool}, Device.{units_log}, Found.{IsFound}, Holds.{Holds}, HistoryLaws.{AreDistinct, ShowsSettled}, Past.{FromEmpty, Was}, Rests.{RestsOn}, UnitLog.{UnitLog, now, settled}, Units.{Content, CopyPlace, CopyUnit, Place, Units}, View.{View}}, proofs.Laws.{disk_barrier_law, found_was_of_log_law, now_units, settled_law, pool_pools}}
+use Rattle.df_units.{specs.{Bytes.{unit_at}, Format.{format_of}, Meaning.{place_of}}, proofs.Laws.{blank_empty, is_format}}
 use Rattle.df_recovery.specs.Below.{DataFile, shape}
-use Rattle.df_damage.specs.Disks.{HasEqualCopies, MayBeHurtAs}
-use Rattle.df_damage.specs.Hurt.{HasTwoCopies, IsUnhurtZone}
-use Rattle.df_damage.specs.Past.{WasHad}
-use Rattle.df_damage.proofs.Pasts.{AreAmong, among_images, from_blank, settled_blank, was_held}
-use Rattle.df_damage.proofs.Sectors.{in_zone, same_copies}
+use Rattle.df_damage.{specs.{Disks.{HasEqualCopies, MayBeHurtAs}, Hurt.{HasTwoCopies, IsUnhurtZone}, Past.{WasHad}}, proofs.{Pasts.{AreAmong, among_images, from_blank, settled_blank, was_held}, Sectors.{in_zone, same_copies}}}
 
 module _ {version : ℕ} (file : DataFile) (view : View) (t : Told) (may : MayBeHurtAs version file view t) where
   -- the log of units after the barrier, and what is shown

@@ -1,11 +1,7 @@
 -- A log restarted goes on as the whole one does.
-use Rattle.std.proofs.Common.{◌≡◌, inl, inr, ℕ, Bool, ◌||◌, List, [], ◌∷◌, Some, refl, sym, ◌∙◌, ap}
-use Rattle.std.proofs.lemmas.Option.{same_Some}
-use Rattle.df_base.specs.Image.{Image, changed, covers, written}
-use Rattle.df_base.specs.Log.{AreLoose, Event, IsLeft, Log, Stop, Sync, Write, add, after_event, loose, loose_of, now}
-use Rattle.df_disk.specs.Told.{Told, did}
-use Rattle.df_disk.specs.Adds.{AddsPart}
-use Rattle.df_disk.proofs.Laws.{honest_did}
+use Rattle.std.proofs.{Common.{◌≡◌, inl, inr, ℕ, Bool, ◌||◌, List, [], ◌∷◌, Some, refl, sym, ◌∙◌, ap}, lemmas.Option.{same_Some}}
+use Rattle.df_base.specs.{Image.{Image, changed, covers, written}, Log.{AreLoose, Event, IsLeft, Log, Stop, Sync, Write, add, after_event, loose, loose_of, now}}
+use Rattle.df_disk.{specs.{Told.{Told, did}, Adds.{AddsPart}}, proofs.Laws.{honest_did}}
 use Rattle.df_damage.specs.Anew.{AddedIsTold, BarrierBegins, BegunIsHonest, HonestStays, LeavesTheSame, PartIsEvents, SameGoesOn, StopsAlike, restarted, told_after}
 
 pub begun_is_honest : BegunIsHonest

@@ -1,33 +1,13 @@
 -- Damage makes no superblock of another file: a content that is chosen among the copies can be used, and is of this file.
 use Rattle.std.proofs.Common.{◌≡◌, ℕ, ◌^◌, Some, None, sym, ◌∙◌, ap, subst, arith}
 use Rattle.df_disk.specs.Told.{Told}
-use Rattle.df_layout.specs.declared.layout.Layout.{Layout}
-use Rattle.df_layout.proofs.Laws.{same_layout}
-use Rattle.df_format.specs.Copies.{Content, content_at}
-use Rattle.df_format.specs.SuperRules.{IsSuper}
-use Rattle.df_format.specs.declared.superblock.SuperFault.{SuperFault}
-use Rattle.df_format.specs.declared.superblock.SuperFields.{SuperFields}
-use Rattle.df_recovery.proofs.Laws.{as_none}
+use Rattle.df_layout.{specs.declared.layout.Layout.{Layout}, proofs.Laws.{same_layout}}
+use Rattle.df_format.specs.{Copies.{Content, content_at}, SuperRules.{IsSuper}, declared.superblock.SuperFault.{SuperFault}, declared.superblock.SuperFields.{SuperFields}}
+use Rattle.df_recovery.{proofs.Laws.{as_none, same_file}, specs.{Below.{parse_of, DataFile, State, shape}, Opening.{fault_as, HasFaultAs, HasSuperAs, IsLayoutOf}, Surveys.{HasFile, IsAsked, IsOpenedAs}}}
 use Rattle.df_quorum.specs.Quorum
-use Rattle.df_theory.specs.Found.{IsFound}
-use Rattle.df_theory.specs.Opens.{BadField, BootSpent, Opens, Refusal, Refused}
-use Rattle.df_theory.specs.Trailer.{IsReference}
-use Rattle.df_theory.specs.UnitLog.{settled}
-use Rattle.df_theory.specs.View.{PassesTests, View, boot_of}
-use Rattle.df_theory.proofs.Laws.{fields_hold_law, no_bad_field_law}
-use Rattle.df_recovery.specs.Below.{parse_of, DataFile, State, shape}
-use Rattle.df_units.specs.Bytes.{unit_at}
-use Rattle.df_units.specs.Meaning.{content_of, layout_of}
-use Rattle.df_units.specs.Superblocks.{AreFieldsOf}
-use Rattle.df_units.proofs.Laws.{choice_chosen, passing_is_usable, shown_checks}
-use Rattle.df_recovery.specs.Opening.{fault_as, HasFaultAs, HasSuperAs, IsLayoutOf}
-use Rattle.df_recovery.specs.Surveys.{HasFile, IsAsked, IsOpenedAs}
-use Rattle.df_recovery.proofs.Laws.{same_file}
-use Rattle.df_damage.specs.Disks.{MayBeHurtAs}
-use Rattle.df_damage.proofs.Barriers.{distinct, empty, log, rests, shown, shows_settled, was}
-use Rattle.df_damage.proofs.Later.{was_later}
-use Rattle.df_damage.proofs.Spent.{spent_found}
-use Rattle.df_damage.proofs.Versions.{known_file}
+use Rattle.df_theory.{specs.{Found.{IsFound}, Opens.{BadField, BootSpent, Opens, Refusal, Refused}, Trailer.{IsReference}, UnitLog.{settled}, View.{PassesTests, View, boot_of}}, proofs.Laws.{fields_hold_law, no_bad_field_law}}
+use Rattle.df_units.{specs.{Bytes.{unit_at}, Meaning.{content_of, layout_of}, Superblocks.{AreFieldsOf}}, proofs.Laws.{choice_chosen, passing_is_usable, shown_checks}}
+use Rattle.df_damage.{specs.Disks.{MayBeHurtAs}, proofs.{Barriers.{distinct, empty, log, rests, shown, shows_settled, was}, Later.{was_later}, Spent.{spent_found}, Versions.{known_file}}}
 
 module _ {version : ℕ} (file : DataFile) (view : View) (t : Told) (may : MayBeHurtAs version file view t) where
   -- ---- what is chosen

@@ -1,38 +1,15 @@
 -- What an open finds after damage before any number of opens, and how a history of sectors goes on.
 use Rattle.std.proofs.Common.{◌≡◌, inr, List, [], ◌∷◌, ◌++◌, refl, sym, ◌∙◌, ap, subst}
-use Rattle.df_base.specs.Image.{Image, changed, written}
+use Rattle.df_base.{specs.{Image.{Image, changed, written}, Log.{Event, Log, Stop, Sync, Write}, Moments.{Extends}}, proofs.Laws.{extends_add}}
 use Rattle.df_base.specs.Log as logs
-use Rattle.df_base.specs.Log.{Event, Log, Stop, Sync, Write}
-use Rattle.df_base.specs.Moments.{Extends}
-use Rattle.df_base.proofs.Laws.{extends_add}
-use Rattle.df_layout.specs.declared.layout.Layout.{Layout}
-use Rattle.df_layout.proofs.Laws.{same_layout}
-use Rattle.df_format.specs.Copies.{Content, content_at}
-use Rattle.df_format.specs.SuperRules.{IsSuper}
-use Rattle.df_format.specs.declared.superblock.SuperFields.{SuperFields}
+use Rattle.df_layout.{specs.declared.layout.Layout.{Layout}, proofs.Laws.{same_layout}}
+use Rattle.df_format.specs.{Copies.{Content, content_at}, SuperRules.{IsSuper}, declared.superblock.SuperFields.{SuperFields}}
 use Rattle.df_quorum.specs.Quorum
-use Rattle.df_theory.specs.Device.{Format, stands, units_log, units_of}
-use Rattle.df_theory.specs.Found.{IsFound}
-use Rattle.df_theory.specs.Grown.{Grown}
-use Rattle.df_theory.specs.Trailer.{IsReference}
-use Rattle.df_theory.specs.UnitLog.{Stopped, Synced, UnitEvent, Wrote}
-use Rattle.df_theory.specs.Units.{Units}
-use Rattle.df_theory.specs.View.{PassesTests, View}
-use Rattle.df_theory.proofs.Laws.{changed_kept, disk_stop_law, firm_units, now_units}
+use Rattle.df_theory.{specs.{Device.{Format, stands, units_log, units_of}, Found.{IsFound}, Grown.{Grown}, Trailer.{IsReference}, UnitLog.{Stopped, Synced, UnitEvent, Wrote}, Units.{Units}, View.{PassesTests, View}}, proofs.Laws.{changed_kept, disk_stop_law, firm_units, now_units}}
 use Rattle.df_model.specs.Work.{opened}
-use Rattle.df_history.specs.Awakened.{IsLaterMoment}
-use Rattle.df_history.specs.Histories.{IsLivedMoment, MayHurtCopies, MayStart}
-use Rattle.df_history.specs.OpenLaws.{StartsWith}
-use Rattle.df_history.proofs.Laws.{begins_law, choice_stays_law, first_grown_law, found_since_law, grown_lived_law, rest_lived_law, synced_settled}
-use Rattle.df_recovery.specs.Below.{parse_of, DataFile, Represents, State, shape}
-use Rattle.df_recovery.specs.Found.{IsLayoutShownAs}
-use Rattle.df_recovery.specs.Surveys.{IsOpenedAs}
-use Rattle.df_recovery.proofs.Laws.{same_file}
-use Rattle.df_units.specs.Bytes.{unit_at}
-use Rattle.df_units.specs.Format.{format_of}
-use Rattle.df_units.specs.Meaning.{content_of, layout_of}
-use Rattle.df_units.specs.Superblocks.{AreFieldsOf}
-use Rattle.df_units.proofs.Laws.{choice_chosen, is_format, of_places, passing_is_usable, shown_checks}
+use Rattle.df_history.{specs.{Awakened.{IsLaterMoment}, Histories.{IsLivedMoment, MayHurtCopies, MayStart}, OpenLaws.{StartsWith}}, proofs.Laws.{begins_law, choice_stays_law, first_grown_law, found_since_law, grown_lived_law, rest_lived_law, synced_settled}}
+use Rattle.df_recovery.{specs.{Below.{parse_of, DataFile, Represents, State, shape}, Found.{IsLayoutShownAs}, Surveys.{IsOpenedAs}}, proofs.Laws.{same_file}}
+use Rattle.df_units.{specs.{Bytes.{unit_at}, Format.{format_of}, Meaning.{content_of, layout_of}, Superblocks.{AreFieldsOf}}, proofs.Laws.{choice_chosen, is_format, of_places, passing_is_usable, shown_checks}}
 use Rattle.df_damage.specs.Histories.{BegunGoesOn, FindsSince, FirstGoesOn, FoundWasSince, HasLived, IsLivedDisk, LayoutStays, MayReopen, RaisedGoesOn, StoppedGoesOn, unit_log_in, units_logs}
 
 -- ---- what an open finds

@@ -1,16 +1,6 @@
 -- What a history's later views keep of an earlier one, and what has more: so each header that was ever settled is of the one tail that its op has.
 use Rattle.std.proofs.Common.{◌≡◌, ◌⊎◌, inl, inr, ℕ, ◌<◌, ◌≤◌, List, [], ◌∷◌, Some, None, refl, sym, ◌∙◌, ap, subst, arith}
-use Rattle.df_theory.specs.Units.{Content, Header, HeaderPlace, HeaderUnit, IsReserved, Message, Units}
-use Rattle.df_theory.specs.Tails.{In}
-use Rattle.df_theory.specs.Shape.{Shape}
-use Rattle.df_theory.specs.View.{View, boot_of, head}
-use Rattle.df_theory.specs.Chance.{InImages}
-use Rattle.df_theory.specs.First.{AreMade}
-use Rattle.df_theory.specs.Grown.{Grows}
-use Rattle.df_theory.specs.Holds.{Sound}
-use Rattle.df_theory.specs.Next.{Next}
-use Rattle.df_theory.specs.Past.{FromEmpty, Was}
-use Rattle.df_theory.proofs.Laws.{next_grew, next_in, grows_sound}
+use Rattle.df_theory.{specs.{Units.{Content, Header, HeaderPlace, HeaderUnit, IsReserved, Message, Units}, Tails.{In}, Shape.{Shape}, View.{View, boot_of, head}, Chance.{InImages}, First.{AreMade}, Grown.{Grows}, Holds.{Sound}, Next.{Next}, Past.{FromEmpty, Was}}, proofs.Laws.{next_grew, next_in, grows_sound}}
 
 -- v is w, or a later view: what it has of prepares is w's, as far as its checkpoint is below them, or was appended since
 pub record IsLater (w v : View) : Type 0 where

@@ -1,14 +1,9 @@
 -- What a session and a stop leave is a disk that may be hurt.
 use Rattle.std.proofs.Common.{subst}
-use Rattle.df_base.specs.Image.{changed}
+use Rattle.df_base.specs.{Image.{changed}, Log.{IsLog, Stop}}
 use Rattle.df_base.specs.Log as logs
-use Rattle.df_base.specs.Log.{IsLog, Stop}
-use Rattle.df_theory.specs.Device.{units_log}
-use Rattle.df_theory.specs.Holds.{Holds, IsWhole}
-use Rattle.df_theory.specs.Units.{Units}
-use Rattle.df_theory.proofs.Laws.{disk_stop_law, found_law, now_units, rests_safe, safe_disk_law}
-use Rattle.df_units.specs.Format.{format_of}
-use Rattle.df_units.proofs.Laws.{is_format}
+use Rattle.df_theory.{specs.{Device.{units_log}, Holds.{Holds, IsWhole}, Units.{Units}}, proofs.Laws.{disk_stop_law, found_law, now_units, rests_safe, safe_disk_law}}
+use Rattle.df_units.{specs.Format.{format_of}, proofs.Laws.{is_format}}
 use Rattle.df_recovery.specs.Below.{shape}
 use Rattle.df_damage.specs.Disks.{StoppedMayBeHurt, TidyMayBeHurt}
 

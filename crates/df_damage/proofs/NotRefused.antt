@@ -1,31 +1,14 @@
 -- Where a view is found the superblock can be used, and each other answer of an open would be a second one.
-use Rattle.std.specs.Prelude.{Err}
-use Rattle.std.proofs.Common.{◌≡◌, inl, inr, ℕ, refl, sym, ◌∙◌, ap, subst}
+use Rattle.std.{specs.Prelude.{Err}, proofs.Common.{◌≡◌, inl, inr, ℕ, refl, sym, ◌∙◌, ap, subst}}
 use Rattle.df_base.specs.Image.{Image, IsImage}
-use Rattle.df_layout.specs.declared.layout.Layout.{Layout}
-use Rattle.df_layout.proofs.Laws.{same_layout}
-use Rattle.df_format.specs.Copies.{Content, content_at}
-use Rattle.df_format.specs.SuperRules.{IsSuper}
-use Rattle.df_format.specs.declared.superblock.SuperFields.{SuperFields}
+use Rattle.df_layout.{specs.declared.layout.Layout.{Layout}, proofs.Laws.{same_layout}}
+use Rattle.df_format.specs.{Copies.{Content, content_at}, SuperRules.{IsSuper}, declared.superblock.SuperFields.{SuperFields}}
 use Rattle.df_quorum.specs.Quorum
-use Rattle.df_theory.specs.Found.{IsFound}
-use Rattle.df_theory.specs.Opens.{Found, Opened, Opens, Refusal, Refused}
-use Rattle.df_theory.specs.Trailer.{IsReference}
-use Rattle.df_theory.specs.View.{PassesTests, View}
-use Rattle.df_theory.proofs.Laws.{one_answer_law}
-use Rattle.df_units.specs.Bytes.{unit_at}
-use Rattle.df_units.specs.Meaning.{content_of, layout_of}
-use Rattle.df_units.specs.Superblocks.{AreFieldsOf}
-use Rattle.df_units.proofs.Laws.{chosen_choice, passing_is_usable, shown_checks}
-use Rattle.df_recovery.specs.Below.{parse_of, shape, DataFile}
-use Rattle.df_model.specs.declared.errors.OpenError.{OpenError}
-use Rattle.df_model.specs.declared.errors.OpenError.TheVariants.{NotFormatted, NoQuorum, Version, BadField, LayoutDiffers, Damaged, DiskFault, BootSpent}
-use Rattle.df_recovery.specs.Opening.{HasSuperAs, IsLayoutOf, RefusesAs}
-use Rattle.df_recovery.specs.Surveys.{HasFile, IsAsked, SurveysAs}
-use Rattle.df_recovery.proofs.Laws.{as_none, one_super_as, super_or_refusal_as, same_file}
-use Rattle.df_damage.specs.Unrefused.{FoundIsNotRefused, IsNotRefusedAs}
-use Rattle.df_damage.specs.Versions.{IsKnownVersion, IsUnspent}
-use Rattle.df_damage.proofs.Versions.{below_spent, known_file}
+use Rattle.df_theory.{specs.{Found.{IsFound}, Opens.{Found, Opened, Opens, Refusal, Refused}, Trailer.{IsReference}, View.{PassesTests, View}}, proofs.Laws.{one_answer_law}}
+use Rattle.df_units.{specs.{Bytes.{unit_at}, Meaning.{content_of, layout_of}, Superblocks.{AreFieldsOf}}, proofs.Laws.{chosen_choice, passing_is_usable, shown_checks}}
+use Rattle.df_recovery.{specs.{Below.{parse_of, shape, DataFile}, Opening.{HasSuperAs, IsLayoutOf, RefusesAs}, Surveys.{HasFile, IsAsked, SurveysAs}}, proofs.Laws.{as_none, one_super_as, super_or_refusal_as, same_file}}
+use Rattle.df_model.specs.{declared.errors.OpenError.{OpenError}, declared.errors.OpenError.TheVariants.{NotFormatted, NoQuorum, Version, BadField, LayoutDiffers, Damaged, DiskFault, BootSpent}}
+use Rattle.df_damage.{specs.{Unrefused.{FoundIsNotRefused, IsNotRefusedAs}, Versions.{IsKnownVersion, IsUnspent}}, proofs.Versions.{below_spent, known_file}}
 
 module _ (version : ℕ) (file : DataFile) (image : Image) (view : View) (known : IsKnownVersion version) (is_version : file.version ≡ version) (whole : IsImage image) (found : IsFound (shape file) (unit_at file.layout file.cluster image) view) where
   -- ---- the superblock

@@ -1,26 +1,11 @@
 -- What an open finds on a disk that may be hurt.
-use Rattle.std.proofs.Common.{◌≡◌, ◌⊎◌, inl, inr, ℕ, ◌<◌, ◌≤◌, Some, ◌∙◌, ap, arith}
-use Rattle.std.proofs.lemmas.Bool.{cases_lt}
+use Rattle.std.proofs.{Common.{◌≡◌, ◌⊎◌, inl, inr, ℕ, ◌<◌, ◌≤◌, Some, ◌∙◌, ap, arith}, lemmas.Bool.{cases_lt}}
 use Rattle.df_disk.specs.Told.{Told}
 use Rattle.df_layout.specs.declared.places.Zone.TheVariants.{ClientReplies, Grid, Superblock, WalPrepares}
-use Rattle.df_theory.specs.Copies.{Agree}
-use Rattle.df_theory.specs.Found.{IsFound}
-use Rattle.df_theory.specs.Shows.{Needs}
-use Rattle.df_theory.specs.Tails.{In}
-use Rattle.df_theory.specs.UnitLog.{settled}
-use Rattle.df_theory.specs.Units.{AnyUnit, BlockPlace, CopyPlace, Header, HeaderPlace, HeaderUnit, Message, Place, PreparePlace, ReplyPlace, Units}
-use Rattle.df_theory.specs.View.{View, boot_of, head}
-use Rattle.df_theory.proofs.Laws.{checkpoint_stays_law, found_law, hurt_law, one_found_law}
+use Rattle.df_theory.{specs.{Copies.{Agree}, Found.{IsFound}, Shows.{Needs}, Tails.{In}, UnitLog.{settled}, Units.{AnyUnit, BlockPlace, CopyPlace, Header, HeaderPlace, HeaderUnit, Message, Place, PreparePlace, ReplyPlace, Units}, View.{View, boot_of, head}}, proofs.Laws.{checkpoint_stays_law, found_law, hurt_law, one_found_law}}
 use Rattle.df_recovery.specs.Below.{DataFile, shape}
 use Rattle.df_units.specs.Bytes.{unit_at}
-use Rattle.df_damage.specs.Disks.{MayBeHurtAs}
-use Rattle.df_damage.specs.Hurt.{IsUnhurtZone}
-use Rattle.df_damage.specs.Openings.{CheckpointStays, FoundWasHad, HasEachHeader, HeadersMayBeHurt, HeadersTell, OpensAsLeftAs, TwoCopiesAreEnough}
-use Rattle.df_damage.specs.Versions.{IsUnspent}
-use Rattle.df_damage.proofs.Barriers.{agreed_rest, agreed_zone, empty, had, left, log, pooled, rests, shown, shows_settled, unhurt_zone, was}
-use Rattle.df_damage.proofs.Files.{opened_file, opened_found}
-use Rattle.df_damage.proofs.Later.{WasHeader, one_later, settled_header}
-use Rattle.df_damage.proofs.NotRefused.{found_is_not_refused_as}
+use Rattle.df_damage.{specs.{Disks.{MayBeHurtAs}, Hurt.{IsUnhurtZone}, Openings.{CheckpointStays, FoundWasHad, HasEachHeader, HeadersMayBeHurt, HeadersTell, OpensAsLeftAs, TwoCopiesAreEnough}, Versions.{IsUnspent}}, proofs.{Barriers.{agreed_rest, agreed_zone, empty, had, left, log, pooled, rests, shown, shows_settled, unhurt_zone, was}, Files.{opened_file, opened_found}, Later.{WasHeader, one_later, settled_header}, NotRefused.{found_is_not_refused_as}}}
 
 -- ---- what is found was had
 

@@ -1,15 +1,7 @@
 -- A view that a history had is held by one of its settled images, and a history whose start shows nothing began with the empty image.
 use Rattle.std.proofs.Common.{◌≡◌, ◌⊎◌, inl, inr, List, [], ◌∷◌, None, refl, sym, subst}
 use Rattle.df_base.specs.Image.{Image}
-use Rattle.df_theory.specs.Units.{Place, Units}
-use Rattle.df_theory.specs.Shape.{Shape}
-use Rattle.df_theory.specs.View.{View}
-use Rattle.df_theory.specs.Holds.{Holds}
-use Rattle.df_theory.specs.UnitLog.{Stopped, Synced, UnitEvent, Wrote, now_of, settled_of}
-use Rattle.df_theory.specs.Grown.{Grows}
-use Rattle.df_theory.specs.Past.{FromEmpty, Was}
-use Rattle.df_theory.specs.Device.{Format, all_units}
-use Rattle.df_theory.proofs.Laws.{unheld}
+use Rattle.df_theory.{specs.{Units.{Place, Units}, Shape.{Shape}, View.{View}, Holds.{Holds}, UnitLog.{Stopped, Synced, UnitEvent, Wrote, now_of, settled_of}, Grown.{Grows}, Past.{FromEmpty, Was}, Device.{Format, all_units}}, proofs.Laws.{unheld}}
 use Rattle.df_damage.specs.Past.{IsOneOf}
 
 -- ---- views

@@ -1,44 +1,18 @@
 -- Why an open refuses a disk that may be hurt.
-use Rattle.std.proofs.Common.{◌≡◌, ◌⊎◌, inl, inr, ℕ, ◌+◌, ◌%◌, ◌<◌, List, [], ◌∷◌, refl, sym, ◌∙◌, ap, subst, arith}
-use Rattle.std.proofs.lemmas.Bool.{cases_eq}
-use Rattle.std.specs.Prelude.{Err}
-use Rattle.df_base.specs.Image.{IsImage}
+use Rattle.std.{proofs.{Common.{◌≡◌, ◌⊎◌, inl, inr, ℕ, ◌+◌, ◌%◌, ◌<◌, List, [], ◌∷◌, refl, sym, ◌∙◌, ap, subst, arith}, lemmas.Bool.{cases_eq}}, specs.Prelude.{Err}}
+use Rattle.df_base.{specs.Image.{IsImage}, proofs.Laws.{now_is_image}}
 use Rattle.df_base.specs.Log as logs
-use Rattle.df_base.proofs.Laws.{now_is_image}
 use Rattle.df_disk.specs.Told.{Told}
-use Rattle.df_layout.specs.declared.damage.Class.{Class}
-use Rattle.df_layout.specs.declared.places.Place.{Place}
-use Rattle.df_layout.specs.declared.places.Zone.{Zone}
-use Rattle.df_layout.specs.Zones.{file_sectors}
+use Rattle.df_layout.specs.{declared.damage.Class.{Class}, declared.places.Place.{Place}, declared.places.Zone.{Zone}, Zones.{file_sectors}}
 use Rattle.df_format.specs.declared.superblock.SuperFault.TheVariants.{BadField as BrokenField, Version as OtherVersion}
-use Rattle.df_model.specs.declared.errors.OpenError.{OpenError}
-use Rattle.df_model.specs.declared.errors.OpenError.TheVariants.{BadField, BootSpent, Damaged, DiskFault, LayoutDiffers, NoQuorum, NotFormatted, Version}
-use Rattle.df_theory.specs.Copies.{Agree}
+use Rattle.df_model.specs.{declared.errors.OpenError.{OpenError}, declared.errors.OpenError.TheVariants.{BadField, BootSpent, Damaged, DiskFault, LayoutDiffers, NoQuorum, NotFormatted, Version}}
+use Rattle.df_theory.{specs.{Copies.{Agree}, Found.{IsFound}, Tails.{In}, UnitLog.{now}, Units.{BlockPlace, CopyPlace, HeaderPlace, PreparePlace, ReplyPlace}, View.{View}}, proofs.Laws.{blame_law, in_one, never_behind_law}}
 use Rattle.df_theory.specs.DamageLaws as laws
-use Rattle.df_theory.specs.Found.{IsFound}
 use Rattle.df_theory.specs.Opens as opens
-use Rattle.df_theory.specs.Tails.{In}
-use Rattle.df_theory.specs.UnitLog.{now}
 use Rattle.df_theory.specs.Units
-use Rattle.df_theory.specs.Units.{BlockPlace, CopyPlace, HeaderPlace, PreparePlace, ReplyPlace}
-use Rattle.df_theory.specs.View.{View}
-use Rattle.df_theory.proofs.Laws.{blame_law, in_one, never_behind_law}
-use Rattle.df_units.specs.Bytes.{unit_at}
-use Rattle.df_units.specs.Meaning.{place_of}
-use Rattle.df_units.proofs.Laws.{chosen_choice, is_format, unbooted_alone}
-use Rattle.df_recovery.specs.Opening.{RefusesAs}
-use Rattle.df_recovery.specs.Surveys.{SurveysAs}
-use Rattle.df_recovery.proofs.Laws.{as_none, super_or_refusal_as}
-use Rattle.df_recovery.specs.Below.{DataFile, shape}
-use Rattle.df_damage.specs.Disks.{MayBeHurtAs}
-use Rattle.df_damage.specs.Hurt.{IsHurtFile, IsHurtPlace, IsUnhurt}
-use Rattle.df_damage.specs.Refusals.{BlamesHurt, IsBlamedPlace, MayBeOfDamage, NamesSuperblock, ProbeIsOfHurt, RefusalsAreOfDamage, RefusalsBlameHurt, SpentIsTheFiles, SuperblockIsHurt}
-use Rattle.df_damage.specs.Versions.{IsUnspent}
-use Rattle.df_damage.proofs.Barriers.{agreed_rest, left, log, pooled, rests, shown}
-use Rattle.df_damage.proofs.Files.{no_bad_field, no_fault, own_layout, refused_here, rules, spent_here, tests}
-use Rattle.df_damage.proofs.NotRefused.{found_is_not_refused_as, found_is_usable}
-use Rattle.df_damage.proofs.Sectors.{in_zone, place_differs, search}
-use Rattle.df_damage.proofs.Versions.{below_spent}
+use Rattle.df_units.{specs.{Bytes.{unit_at}, Meaning.{place_of}}, proofs.Laws.{chosen_choice, is_format, unbooted_alone}}
+use Rattle.df_recovery.{specs.{Opening.{RefusesAs}, Surveys.{SurveysAs}, Below.{DataFile, shape}}, proofs.Laws.{as_none, super_or_refusal_as}}
+use Rattle.df_damage.{specs.{Disks.{MayBeHurtAs}, Hurt.{IsHurtFile, IsHurtPlace, IsUnhurt}, Refusals.{BlamesHurt, IsBlamedPlace, MayBeOfDamage, NamesSuperblock, ProbeIsOfHurt, RefusalsAreOfDamage, RefusalsBlameHurt, SpentIsTheFiles, SuperblockIsHurt}, Versions.{IsUnspent}}, proofs.{Barriers.{agreed_rest, left, log, pooled, rests, shown}, Files.{no_bad_field, no_fault, own_layout, refused_here, rules, spent_here, tests}, NotRefused.{found_is_not_refused_as, found_is_usable}, Sectors.{in_zone, place_differs, search}, Versions.{below_spent}}}
 
 pub spent_is_the_files : SpentIsTheFiles
 spent_is_the_files version file view t may is = spent_here file view t may (refused_here file view t may is.file is.fields opens.BootSpent is.has is.of is.opens)

@@ -1,26 +1,13 @@
 -- The laws of damage where version 2 is asked for, as an open does, of a view whose boot can be raised; and one of any view: its superblock can be used.
-use Rattle.std.proofs.Common.{◌≡◌, ◌<◌, ◌^◌, inr, refl}
-use Rattle.std.specs.Prelude.{Result}
+use Rattle.std.{proofs.Common.{◌≡◌, ◌<◌, ◌^◌, inr, refl}, specs.Prelude.{Result}}
 use Rattle.df_base.specs.Image.{Image, IsImage}
 use Rattle.df_disk.specs.Told.{Told}
 use Rattle.df_layout.specs.declared.places.Zone.TheVariants.{Superblock, WalHeaders}
 use Rattle.df_model.specs.declared.errors.OpenError.{OpenError}
-use Rattle.df_theory.specs.Found.{IsFound}
-use Rattle.df_theory.specs.View.{View, boot_of}
+use Rattle.df_theory.specs.{Found.{IsFound}, View.{View, boot_of}}
 use Rattle.df_units.specs.Bytes.{unit_at}
-use Rattle.df_recovery.specs.Below.{DataFile, State, shape}
-use Rattle.df_recovery.specs.Opening.{Refuses}
-use Rattle.df_recovery.specs.Surveys.{Surveys}
-use Rattle.df_damage.specs.Answers.{AnswersHurt}
-use Rattle.df_damage.specs.Disks.{HasEqualCopies, MayBeHurt}
-use Rattle.df_damage.specs.Hurt.{HasTwoCopies, IsHurtInside}
-use Rattle.df_damage.specs.Openings.{OpensAsLeft}
-use Rattle.df_damage.specs.Refusals.{ProbesHurt}
-use Rattle.df_damage.specs.Unrefused.{IsNotRefused}
-use Rattle.df_damage.proofs.Answered.{answer_is_of_hurt_as}
-use Rattle.df_damage.proofs.NotRefused.{found_is_not_refused_as, found_is_usable as usable_as}
-use Rattle.df_damage.proofs.Opened.{headers_may_be_hurt_as, two_copies_are_enough_as}
-use Rattle.df_damage.proofs.Refused.{probe_is_of_hurt_as}
+use Rattle.df_recovery.specs.{Below.{DataFile, State, shape}, Opening.{Refuses}, Surveys.{Surveys}}
+use Rattle.df_damage.{specs.{Answers.{AnswersHurt}, Disks.{HasEqualCopies, MayBeHurt}, Hurt.{HasTwoCopies, IsHurtInside}, Openings.{OpensAsLeft}, Refusals.{ProbesHurt}, Unrefused.{IsNotRefused}}, proofs.{Answered.{answer_is_of_hurt_as}, NotRefused.{found_is_not_refused_as, found_is_usable as usable_as}, Opened.{headers_may_be_hurt_as, two_copies_are_enough_as}, Refused.{probe_is_of_hurt_as}}}
 
 pub found_is_not_refused : (file : DataFile) (image : Image) (view : View) → file.version ≡ 2 → boot_of view < 2 ^ 62 → IsImage image → IsFound (shape file) (unit_at file.layout file.cluster image) view → IsNotRefused file image
 found_is_not_refused file image view version unspent whole found = found_is_not_refused_as 2 file image view (inr refl) version (λ two. unspent) whole found

@@ -1,19 +1,11 @@
 -- Sectors and places: where a place shows something else than another image does, one of its sectors does; and each sector of a place lies in its zone.
-use Rattle.std.proofs.Common.{◌≡◌, ◌⊎◌, inl, inr, ℕ, zero, suc, ◌+◌, ◌<◌, ◌≤◌, true, sym, ◌∙◌, ap, arith}
-use Rattle.std.specs.Str.{bytes_eq}
-use Rattle.std.specs.Prelude.{nat_le, nat_lt}
-use Rattle.std.proofs.lemmas.Bool.{cases_Bool, both_ways, and_from, and_parts, le-leb, lt-ltb, leb-true, ltb-true}
-use Rattle.std.proofs.lemmas.Slice.Eq.{bytes_eq-Decides}
+use Rattle.std.{proofs.{Common.{◌≡◌, ◌⊎◌, inl, inr, ℕ, zero, suc, ◌+◌, ◌<◌, ◌≤◌, true, sym, ◌∙◌, ap, arith}, lemmas.Bool.{cases_Bool, both_ways, and_from, and_parts, le-leb, lt-ltb, leb-true, ltb-true}, lemmas.Slice.Eq.{bytes_eq-Decides}}, specs.{Str.{bytes_eq}, Prelude.{nat_le, nat_lt}}}
 use Rattle.df_base.specs.Image.{Image}
-use Rattle.df_layout.specs.declared.layout.Layout.{Layout}
-use Rattle.df_layout.specs.Zones.{end_sector, file_sectors, first_sector}
-use Rattle.df_layout.proofs.Laws.{lies_inside}
+use Rattle.df_layout.{specs.{declared.layout.Layout.{Layout}, Zones.{end_sector, file_sectors, first_sector}}, proofs.Laws.{lies_inside}}
 use Rattle.df_format.proofs.Laws.{has-true, same_copy}
 use Rattle.df_theory.specs.Units
 use Rattle.df_theory.specs.Units.{CopyPlace}
-use Rattle.df_units.specs.Bytes.{copy_unit, has, has_place, span_at, unit_at}
-use Rattle.df_units.specs.Meaning.{place_of}
-use Rattle.df_units.proofs.Laws.{is_format}
+use Rattle.df_units.{specs.{Bytes.{copy_unit, has, has_place, span_at, unit_at}, Meaning.{place_of}}, proofs.Laws.{is_format}}
 
 -- ---- the search
 

@@ -1,10 +1,6 @@
 -- What is refused for its boot alone is found by all other steps.
 use Rattle.std.proofs.Common.{◌≡◌, ◌+◌, ◌%◌, ◌^◌, length, refl}
-use Rattle.df_theory.specs.Found.{IsFound, slot_behind}
-use Rattle.df_theory.specs.Opens.{OpenAnswer, BadField, Behind, BadTrailer, BootSpent, Damaged, Found, LacksBlock, Lost, NoQuorum, Opened, Opens, Refused, Spent, Split, Unanswered, Unfit, Unknown, Unusable}
-use Rattle.df_theory.specs.Shape.{Shape}
-use Rattle.df_theory.specs.Units.{BlockPlace, CopyPlace, PreparePlace, ReplyPlace, Units}
-use Rattle.df_theory.specs.View.{View, boot_of}
+use Rattle.df_theory.specs.{Found.{IsFound, slot_behind}, Opens.{OpenAnswer, BadField, Behind, BadTrailer, BootSpent, Damaged, Found, LacksBlock, Lost, NoQuorum, Opened, Opens, Refused, Spent, Split, Unanswered, Unfit, Unknown, Unusable}, Shape.{Shape}, Units.{BlockPlace, CopyPlace, PreparePlace, ReplyPlace, Units}, View.{View, boot_of}}
 
 spent_if : (sh : Shape) (image : Units) (x : OpenAnswer) → Opens sh image x → x ≡ Refused BootSpent → (v : View) × IsFound sh image v × (boot_of v ≡ 2 ^ 62)
 spent_if sh image x (Split split) is = absurd (let both : Refused NoQuorum ≡ Refused BootSpent = is in cc)

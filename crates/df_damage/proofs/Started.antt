@@ -2,16 +2,7 @@
 use Rattle.std.proofs.Common.{◌≡◌, inl, inr, ℕ, sym, subst}
 use Rattle.df_base.specs.Log as logs
 use Rattle.df_base.specs.Log.{Sync}
-use Rattle.df_theory.specs.Units.{AnyUnit, Content, CopyPlace, CopyUnit, Place}
-use Rattle.df_theory.specs.Chance.{InPool}
-use Rattle.df_theory.specs.Device.{units_log}
-use Rattle.df_theory.specs.Found.{IsClean}
-use Rattle.df_theory.specs.Rests.{RestsOn}
-use Rattle.df_theory.specs.Shape.{Shape}
-use Rattle.df_theory.specs.Shows.{Agrees, AgreesCopy}
-use Rattle.df_theory.specs.UnitLog.{UnitLog}
-use Rattle.df_theory.specs.View.{Checkpoint, View}
-use Rattle.df_theory.proofs.Laws.{disk_barrier_law, pool_pools}
+use Rattle.df_theory.{specs.{Units.{AnyUnit, Content, CopyPlace, CopyUnit, Place}, Chance.{InPool}, Device.{units_log}, Found.{IsClean}, Rests.{RestsOn}, Shape.{Shape}, Shows.{Agrees, AgreesCopy}, UnitLog.{UnitLog}, View.{Checkpoint, View}}, proofs.Laws.{disk_barrier_law, pool_pools}}
 use Rattle.df_units.specs.Format.{format_of}
 use Rattle.df_recovery.specs.Below.{shape}
 use Rattle.df_damage.specs.Anew.{HurtMayBegin}

@@ -1,15 +1,8 @@
 -- Where the header ring is whole and unhurt, what an open finds has every prepare of the file's tail.
-use Rattle.std.proofs.Common.{◌≡◌, ◌%◌, refl, sym, ◌∙◌, ap, subst, arith}
-use Rattle.std.proofs.lemmas.Nat.{mod_below}
-use Rattle.df_theory.specs.Tails.{In}
-use Rattle.df_theory.specs.Units.{Header, Message, PreparePlace, PrepareUnit}
-use Rattle.df_theory.specs.View.{Checkpoint}
-use Rattle.df_theory.proofs.Laws.{chain_ops, read_law, pool_pools}
+use Rattle.std.proofs.{Common.{◌≡◌, ◌%◌, refl, sym, ◌∙◌, ap, subst, arith}, lemmas.Nat.{mod_below}}
+use Rattle.df_theory.{specs.{Tails.{In}, Units.{Header, Message, PreparePlace, PrepareUnit}, View.{Checkpoint}}, proofs.Laws.{chain_ops, read_law, pool_pools}}
 use Rattle.df_recovery.specs.Below.{shape}
-use Rattle.df_damage.specs.Openings.{WholeTailIsFound}
-use Rattle.df_damage.proofs.Barriers.{log, rests, shown}
-use Rattle.df_damage.proofs.Files.{opened_found}
-use Rattle.df_damage.proofs.Opened.{headers_tell}
+use Rattle.df_damage.{specs.Openings.{WholeTailIsFound}, proofs.{Barriers.{log, rests, shown}, Files.{opened_found}, Opened.{headers_tell}}}
 
 pub whole_tail_is_found : WholeTailIsFound
 whole_tail_is_found version file view t s may whole headers copies is p there =

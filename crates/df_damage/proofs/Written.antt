@@ -1,18 +1,11 @@
 -- What a view needs was written at its places, where the file had the view.
 use Rattle.std.proofs.Common.{◌≡◌, inl, inr, List, [], ◌∷◌, ◌++◌, Some, sym, ◌∙◌, ap, subst}
-use Rattle.df_base.specs.Image.{Image}
+use Rattle.df_base.specs.{Image.{Image}, Log.{Event, Log, Stop, Sync, Write}}
 use Rattle.df_base.specs.Log as logs
-use Rattle.df_base.specs.Log.{Event, Log, Stop, Sync, Write}
-use Rattle.df_theory.specs.Chance.{InImages, InPools}
-use Rattle.df_theory.specs.Device.{Format, all_units, units_log, units_of}
-use Rattle.df_theory.specs.UnitLog.{settled}
-use Rattle.df_theory.specs.Units.{AnyUnit, Place, Units}
-use Rattle.df_theory.proofs.Laws.{settled_law, pool_pools}
+use Rattle.df_theory.{specs.{Chance.{InImages, InPools}, Device.{Format, all_units, units_log, units_of}, UnitLog.{settled}, Units.{AnyUnit, Place, Units}}, proofs.Laws.{settled_law, pool_pools}}
 use Rattle.df_units.specs.Format.{format_of}
 use Rattle.df_recovery.specs.Below.{DataFile}
-use Rattle.df_damage.specs.Past.{IsOneOf}
-use Rattle.df_damage.specs.Written.{HadIsWritten, OpenedIsWritten, WasWritten}
-use Rattle.df_damage.proofs.Opened.{found_was_had}
+use Rattle.df_damage.{specs.{Past.{IsOneOf}, Written.{HadIsWritten, OpenedIsWritten, WasWritten}}, proofs.Opened.{found_was_had}}
 
 -- what an image of the list shows is of the images
 among : (f : Format) (images : List Image) (image : Image) (place : Place) (x : AnyUnit) → IsOneOf images image → f.unit_at image place ≡ Some x → InImages (all_units f images) place x

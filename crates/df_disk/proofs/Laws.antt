@@ -1,13 +1,7 @@
 -- What a call says of its moments that added some events, or a part of them; and events that are told one after the other.
-use Rattle.std.proofs.Common.{◌≡◌, inl, inr, List, [], ◌∷◌, ◌++◌, Option, Some, None, refl, sym, ap, ◌∙◌, subst, Result, Ok, Err}
-use Rattle.std.specs.Prelude.{IsErr}
-use Rattle.std.proofs.lemmas.Bool.{false≢true}
-use Rattle.df_base.specs.Image.{changed, written}
-use Rattle.df_base.specs.Log.{Event, Log, Stop, Sync, Write}
-use Rattle.df_base.specs.Moments.{Extends, adds}
-use Rattle.df_base.proofs.Laws.{AtEach, extends_on, extends_self, stands, goes_on}
-use Rattle.df_disk.specs.Told.{IsHonest, Told, after, did}
-use Rattle.df_disk.specs.Adds.{Adds, AddsPart, PassedTo, after_all}
+use Rattle.std.{proofs.{Common.{◌≡◌, inl, inr, List, [], ◌∷◌, ◌++◌, Option, Some, None, refl, sym, ap, ◌∙◌, subst, Result, Ok, Err}, lemmas.Bool.{false≢true}}, specs.Prelude.{IsErr}}
+use Rattle.df_base.{specs.{Image.{changed, written}, Log.{Event, Log, Stop, Sync, Write}, Moments.{Extends, adds}}, proofs.Laws.{AtEach, extends_on, extends_self, stands, goes_on}}
+use Rattle.df_disk.specs.{Told.{IsHonest, Told, after, did}, Adds.{Adds, AddsPart, PassedTo, after_all}}
 
 -- all events are a part of them
 pub all_is_part : (es : List Event) (old new : Option Told) → new ≡ after_all es old → AddsPart es old new

@@ -1,15 +1,7 @@
 -- Checksums one after the other: their bytes, how they are read again, and what stands where none of them is named.
-use Rattle.std.proofs.Common.{◌≡◌, ◌<◌, ◌≤◌, ◌+◌, ◌-◌, ◌*◌, ℕ, zero, suc, List, [], ◌∷◌, ◌++◌, length, take, drop, replicate, get_or, refl, sym, ◌∙◌, ap, arith, append_assoc, length-append}
-use Rattle.std.specs.Prelude.{All}
-use Rattle.std.proofs.lemmas.List.{take_at, take-replicate, drop-replicate, take-append-drop, drop-drop, length-take-le, length-drop, length-replicate, get_or-replicate, replicate-append-replicate, ext_get_or, append-nil}
-use Rattle.std.proofs.Math.Seq.{take-add}
-use Rattle.df_base.specs.Fields.{AreBytes}
-use Rattle.df_base.specs.Text.{AreSo}
-use Rattle.df_base.proofs.Laws.{AreBytes-nil, AreBytes-append, AreBytes-take, AreBytes-drop}
-use Rattle.df_format.specs.Spelling.{IsCheck, no_checksum}
-use Rattle.df_format.specs.Super.{AreNone, checks_bytes, no_checksums}
-use Rattle.df_format.specs.Copies.{checks_at}
-use Rattle.df_base.proofs.Laws.{past}
+use Rattle.std.{proofs.{Common.{◌≡◌, ◌<◌, ◌≤◌, ◌+◌, ◌-◌, ◌*◌, ℕ, zero, suc, List, [], ◌∷◌, ◌++◌, length, take, drop, replicate, get_or, refl, sym, ◌∙◌, ap, arith, append_assoc, length-append}, lemmas.List.{take_at, take-replicate, drop-replicate, take-append-drop, drop-drop, length-take-le, length-drop, length-replicate, get_or-replicate, replicate-append-replicate, ext_get_or, append-nil}, Math.Seq.{take-add}}, specs.Prelude.{All}}
+use Rattle.df_base.{specs.{Fields.{AreBytes}, Text.{AreSo}}, proofs.Laws.{AreBytes-nil, AreBytes-append, AreBytes-take, AreBytes-drop, past}}
+use Rattle.df_format.specs.{Spelling.{IsCheck, no_checksum}, Super.{AreNone, checks_bytes, no_checksums}, Copies.{checks_at}}
 
 -- ---- their bytes
 

@@ -1,11 +1,6 @@
 -- A kind has one code, and a code one kind; and what equal options hold.
-use Rattle.std.proofs.Common.{◌≡◌, ◌==◌, ℕ, Bool, true, false, Option, Some, None, cond, refl, ◌∙◌, ap}
-use Rattle.std.proofs.lemmas.Bool.{eqb-true}
-use Rattle.std.proofs.lemmas.Option.{same_Some}
-use Rattle.df_format.specs.declared.kind.Kind.{Kind}
-use Rattle.df_format.specs.declared.kind.Kind.TheVariants.{Reserved, Prepare, Reply, Block, Trailer}
-use Rattle.df_format.specs.Spelling.{code_of}
-use Rattle.df_format.specs.Reading.{kind_of}
+use Rattle.std.proofs.{Common.{◌≡◌, ◌==◌, ℕ, Bool, true, false, Option, Some, None, cond, refl, ◌∙◌, ap}, lemmas.Bool.{eqb-true}, lemmas.Option.{same_Some}}
+use Rattle.df_format.specs.{declared.kind.Kind.{Kind}, declared.kind.Kind.TheVariants.{Reserved, Prepare, Reply, Block, Trailer}, Spelling.{code_of}, Reading.{kind_of}}
 
 pub kind_of-code : (kind : Kind) → kind_of (code_of kind) ≡ Some kind
 unfolding kind_of

@@ -1,22 +1,8 @@
 -- A copy of the superblock isn't blank, since the checksum of zeros isn't zero; so one that is valid is stale.
-use Rattle.std.proofs.Common.{inl, inr, ◌≡◌, ◌≢◌, ℕ, ◌==◌, Bool, true, false, List, take, drop, replicate, Option, Some, None, cond, refl, sym, ◌∙◌, ap, subst, arith}
-use Rattle.std.specs.Prelude.{slice_index, Err}
-use Rattle.std.proofs.lemmas.Bool.{cond-true, cond-false, cases_Bool, both_ways, false_from_ne_true, eqb-true, eq-eqb, ne_eqb}
-use Rattle.std.proofs.lemmas.List.{take-replicate, drop-replicate}
-use Rattle.std.proofs.lemmas.Slice.Eq.{bytes_eq-Decides}
-use Rattle.df_base.specs.Fields.{check_of}
-use Rattle.df_base.specs.Image.{blank}
-use Rattle.df_base.proofs.Laws.{no_some}
-use Rattle.df_layout.specs.declared.damage.Class.{Class}
-use Rattle.df_layout.specs.declared.damage.Class.TheVariants.{Blank, Elsewhere, Stale}
-use Rattle.df_layout.specs.declared.places.Zone.TheVariants.{Superblock}
-use Rattle.df_format.specs.Own.{place_in}
-use Rattle.df_format.specs.declared.superblock.SuperCopy.{SuperCopy}
-use Rattle.df_format.specs.Copies.{copy_in, if_here, copy_at, content_in_copy, is_blank_copy, class_of_sound, class_of_copy, copy_or_class, own_copy}
-use Rattle.df_format.specs.CopyLaws.{ValidCopyIsStale, StaleIsCopy, BlankShowsNoCopy}
-use Rattle.df_format.proofs.Digest.{check_of-zeros}
-use Rattle.df_format.proofs.CopySpelled.{read_as}
-use Rattle.df_format.proofs.Wholes.{unless_blank}
+use Rattle.std.{proofs.{Common.{inl, inr, ◌≡◌, ◌≢◌, ℕ, ◌==◌, Bool, true, false, List, take, drop, replicate, Option, Some, None, cond, refl, sym, ◌∙◌, ap, subst, arith}, lemmas.Bool.{cond-true, cond-false, cases_Bool, both_ways, false_from_ne_true, eqb-true, eq-eqb, ne_eqb}, lemmas.List.{take-replicate, drop-replicate}, lemmas.Slice.Eq.{bytes_eq-Decides}}, specs.Prelude.{slice_index, Err}}
+use Rattle.df_base.{specs.{Fields.{check_of}, Image.{blank}}, proofs.Laws.{no_some}}
+use Rattle.df_layout.specs.{declared.damage.Class.{Class}, declared.damage.Class.TheVariants.{Blank, Elsewhere, Stale}, declared.places.Zone.TheVariants.{Superblock}}
+use Rattle.df_format.{specs.{Own.{place_in}, declared.superblock.SuperCopy.{SuperCopy}, Copies.{copy_in, if_here, copy_at, content_in_copy, is_blank_copy, class_of_sound, class_of_copy, copy_or_class, own_copy}, CopyLaws.{ValidCopyIsStale, StaleIsCopy, BlankShowsNoCopy}}, proofs.{Digest.{check_of-zeros}, CopySpelled.{read_as}, Wholes.{unless_blank}}}
 
 zeros_have_a_sum : (bytes : List ℕ) → bytes ≡ replicate 4096 0 → take 16 bytes ≡ check_of (drop 32 bytes) → ⊥
 zeros_have_a_sum bytes zeros sum =

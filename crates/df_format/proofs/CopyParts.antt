@@ -1,13 +1,6 @@
 -- Parts of a copy's sector: what a write of a number leaves after it, and which bytes are all zero.
-use Rattle.std.proofs.Common.{inl, inr, ◌≡◌, ◌≤◌, ◌+◌, ◌-◌, ◌==◌, ◌&&◌, ℕ, zero, suc, Bool, not, List, [], ◌∷◌, ◌++◌, length, take, drop, replicate, Option, Some, None, cond, refl, sym, ◌∙◌, ap, arith, append_assoc, length-append}
-use Rattle.std.specs.Prelude.{nat_lt, position, option_map}
-use Rattle.std.specs.List.{list_all, prefix_len}
-use Rattle.std.specs.Option.{option_or}
-use Rattle.std.proofs.lemmas.Bool.{cond-true, cond-false, le-ltb, ltb-false, eq-eqb, ne_eqb, not_from_true, not_from_false, cases_eq, cases_Bool}
-use Rattle.std.specs.Str.{bytes_eq}
-use Rattle.std.proofs.lemmas.List.{drop-take, take-take, drop-replicate, take-replicate, length-drop, take-append-drop, drop-drop, drop_at, length-take-le, length-replicate}
-use Rattle.df_base.specs.Fields.{spelled, put_at}
-use Rattle.df_base.proofs.Laws.{length-spelled}
+use Rattle.std.{proofs.{Common.{inl, inr, ◌≡◌, ◌≤◌, ◌+◌, ◌-◌, ◌==◌, ◌&&◌, ℕ, zero, suc, Bool, not, List, [], ◌∷◌, ◌++◌, length, take, drop, replicate, Option, Some, None, cond, refl, sym, ◌∙◌, ap, arith, append_assoc, length-append}, lemmas.Bool.{cond-true, cond-false, le-ltb, ltb-false, eq-eqb, ne_eqb, not_from_true, not_from_false, cases_eq, cases_Bool}, lemmas.List.{drop-take, take-take, drop-replicate, take-replicate, length-drop, take-append-drop, drop-drop, drop_at, length-take-le, length-replicate}}, specs.{Prelude.{nat_lt, position, option_map}, List.{list_all, prefix_len}, Option.{option_or}, Str.{bytes_eq}}}
+use Rattle.df_base.{specs.Fields.{spelled, put_at}, proofs.Laws.{length-spelled}}
 use Rattle.df_format.specs.Copies.{nonzero_between}
 
 -- all bytes are zero where they are as many zeros

@@ -1,18 +1,7 @@
 -- What an image shows at the copies' places: the laws that the superblock rests on.
-use Rattle.std.proofs.Common.{◌≡◌, ◌≢◌, inl, inr, ◌+◌, ◌==◌, ℕ, List, length, take, drop, Option, Some, None, refl, ◌∙◌, ap, subst, arith}
-use Rattle.std.proofs.lemmas.Bool.{cond-true, cases_order, eq-eqb}
-use Rattle.std.proofs.lemmas.List.{take_all}
-use Rattle.df_base.specs.Fields.{check_of}
-use Rattle.df_base.specs.Image.{Image, written}
-use Rattle.df_base.proofs.Laws.{written_else}
-use Rattle.df_format.specs.declared.superblock.SuperCopy.{SuperCopy}
-use Rattle.df_format.specs.declared.superblock.SuperFields.{SuperFields}
-use Rattle.df_format.specs.Super.{NamesNone, covered_bytes, copy_bytes}
-use Rattle.df_format.specs.SuperRules.{IsSuper}
-use Rattle.df_format.specs.Copies.{copy_in, if_here, copy_at, content_in_copy}
-use Rattle.df_format.specs.CopyLaws.{WrittenCopyIsShown, OtherSectorsStay, OtherCopiesStay, CopyIsOneSector, SameSectorSameCopy}
-use Rattle.df_format.proofs.Sectors.{covered, uncovered_above, uncovered_below}
-use Rattle.df_format.proofs.CopySpelled.{copy_is_sector, copy_is_read}
+use Rattle.std.proofs.{Common.{◌≡◌, ◌≢◌, inl, inr, ◌+◌, ◌==◌, ℕ, List, length, take, drop, Option, Some, None, refl, ◌∙◌, ap, subst, arith}, lemmas.Bool.{cond-true, cases_order, eq-eqb}, lemmas.List.{take_all}}
+use Rattle.df_base.{specs.{Fields.{check_of}, Image.{Image, written}}, proofs.Laws.{written_else}}
+use Rattle.df_format.{specs.{declared.superblock.SuperCopy.{SuperCopy}, declared.superblock.SuperFields.{SuperFields}, Super.{NamesNone, covered_bytes, copy_bytes}, SuperRules.{IsSuper}, Copies.{copy_in, if_here, copy_at, content_in_copy}, CopyLaws.{WrittenCopyIsShown, OtherSectorsStay, OtherCopiesStay, CopyIsOneSector, SameSectorSameCopy}}, proofs.{Sectors.{covered, uncovered_above, uncovered_below}, CopySpelled.{copy_is_sector, copy_is_read}}}
 
 -- one sector that is written
 written_here : (at : ℕ) (bytes : List ℕ) (image : Image) → length bytes ≡ 4096 → written at bytes image at ≡ bytes

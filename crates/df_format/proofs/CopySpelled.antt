@@ -1,23 +1,7 @@
 -- A copy of the superblock is read from its spelling, and a sector that is read as a copy is its spelling.
-use Rattle.std.proofs.Common.{inl, inr, ◌≡◌, ◌≢◌, ◌≤◌, ℕ, ◌<◌, ◌+◌, ◌^◌, ◌==◌, true, List, [], ◌++◌, take, drop, replicate, Option, Some, None, refl, sym, ◌∙◌, ap, subst, arith}
-use Rattle.std.specs.Prelude.{nat_lt}
-use Rattle.std.specs.Option.{option_or}
-use Rattle.std.proofs.lemmas.Bool.{cond-true, cond-false, cases_eq, eq-eqb, ne_eqb, and_parts, and_from, ltb-true, lt-ltb}
-use Rattle.std.proofs.lemmas.List.{take_all, drop_all, length-drop, length-replicate}
-use Rattle.std.proofs.lemmas.Slice.Eq.{bytes_eq-Decides}
-use Rattle.std.proofs.lemmas.Option.{cond_some}
-use Rattle.df_base.specs.Fields.{field_at, check_of}
-use Rattle.df_base.specs.Image.{IsSector}
-use Rattle.df_format.specs.declared.superblock.SuperFields.{SuperFields}
-use Rattle.df_format.specs.declared.superblock.SuperCopy.{SuperCopy}
-use Rattle.df_format.specs.Spelling.{no_checksum}
-use Rattle.df_base.specs.Text.{AreSo, Fit, AreRead}
-use Rattle.df_format.specs.Super.{AreChecks, FitsSuper, NamesNone, checks_bytes, fields, named, named_bytes, covered_bytes, front, copy_with, copy_bytes}
-use Rattle.df_format.specs.Copies.{nonzero_between, first_nonzero_of, checks_at, super_fields_of, has_checksum, has_zeros, is_copy, copy_in}
-use Rattle.df_format.specs.CopyLaws.{IsWrittenCopy, CopiesHaveOneSpelling, NamelessEndsInZeros}
-use Rattle.df_base.proofs.Laws.{so_none, so_many_zeros, so_check, so_text, behind, read_back, spelled_back, fit_back}
-use Rattle.df_format.proofs.Checks.{so_many_checks, checks_zero, length-checks_at, are_checks, checks_read, read_checks, none_at}
-use Rattle.df_format.proofs.CopyParts.{zeros_within, neither, nothing_between}
+use Rattle.std.{proofs.{Common.{inl, inr, ◌≡◌, ◌≢◌, ◌≤◌, ℕ, ◌<◌, ◌+◌, ◌^◌, ◌==◌, true, List, [], ◌++◌, take, drop, replicate, Option, Some, None, refl, sym, ◌∙◌, ap, subst, arith}, lemmas.Bool.{cond-true, cond-false, cases_eq, eq-eqb, ne_eqb, and_parts, and_from, ltb-true, lt-ltb}, lemmas.List.{take_all, drop_all, length-drop, length-replicate}, lemmas.Slice.Eq.{bytes_eq-Decides}, lemmas.Option.{cond_some}}, specs.{Prelude.{nat_lt}, Option.{option_or}}}
+use Rattle.df_base.{specs.{Fields.{field_at, check_of}, Image.{IsSector}, Text.{AreSo, Fit, AreRead}}, proofs.Laws.{so_none, so_many_zeros, so_check, so_text, behind, read_back, spelled_back, fit_back}}
+use Rattle.df_format.{specs.{declared.superblock.SuperFields.{SuperFields}, declared.superblock.SuperCopy.{SuperCopy}, Spelling.{no_checksum}, Super.{AreChecks, FitsSuper, NamesNone, checks_bytes, fields, named, named_bytes, covered_bytes, front, copy_with, copy_bytes}, Copies.{nonzero_between, first_nonzero_of, checks_at, super_fields_of, has_checksum, has_zeros, is_copy, copy_in}, CopyLaws.{IsWrittenCopy, CopiesHaveOneSpelling, NamelessEndsInZeros}}, proofs.{Checks.{so_many_checks, checks_zero, length-checks_at, are_checks, checks_read, read_checks, none_at}, CopyParts.{zeros_within, neither, nothing_between}}}
 
 -- ---- what fits
 

@@ -1,18 +1,7 @@
 -- The answers of the decoder: the header of the unit that is valid at a place, or the class of what stands there.
-use Rattle.std.proofs.Common.{◌≡◌, ◌≢◌, ℕ, true, false, List, Option, Some, None, cond, refl, sym, ◌∙◌, ap}
-use Rattle.std.specs.Prelude.{Result, Ok, Err}
-use Rattle.std.proofs.lemmas.Bool.{cond-true, cond-false, false_from_ne_true}
-use Rattle.std.proofs.lemmas.Option.{same_Some}
-use Rattle.df_layout.specs.declared.damage.Class.{Class}
-use Rattle.df_layout.specs.declared.damage.Class.TheVariants.{Blank, Elsewhere, Stale}
-use Rattle.df_layout.specs.declared.layout.Layout.{Layout}
-use Rattle.df_layout.specs.declared.places.Place.{Place}
-use Rattle.df_format.specs.declared.header.Header.{Header}
-use Rattle.df_format.specs.Message.{Message}
-use Rattle.df_format.specs.Whole.{Whole, whole_in, owner_of}
-use Rattle.df_format.specs.Shown.{same_place, if_own, unit_in, is_blank, class_of_none, class_of_whole, class_of, header_or_class}
-use Rattle.df_format.proofs.Owned.{same_place-true, same_place-self}
-use Rattle.df_format.proofs.Wholes.{whole_is_not_blank}
+use Rattle.std.{proofs.{Common.{◌≡◌, ◌≢◌, ℕ, true, false, List, Option, Some, None, cond, refl, sym, ◌∙◌, ap}, lemmas.Bool.{cond-true, cond-false, false_from_ne_true}, lemmas.Option.{same_Some}}, specs.Prelude.{Result, Ok, Err}}
+use Rattle.df_layout.specs.{declared.damage.Class.{Class}, declared.damage.Class.TheVariants.{Blank, Elsewhere, Stale}, declared.layout.Layout.{Layout}, declared.places.Place.{Place}}
+use Rattle.df_format.{specs.{declared.header.Header.{Header}, Message.{Message}, Whole.{Whole, whole_in, owner_of}, Shown.{same_place, if_own, unit_in, is_blank, class_of_none, class_of_whole, class_of, header_or_class}}, proofs.{Owned.{same_place-true, same_place-self}, Wholes.{whole_is_not_blank}}}
 
 -- the answer by the whole unit
 abbrev answer : Place → List ℕ → Option Whole → Result Header Class

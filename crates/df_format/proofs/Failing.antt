@@ -1,12 +1,6 @@
 -- The first test that fails, of some tests and further ones after them.
-use Rattle.std.proofs.Common.{◌≡◌, inl, inr, List, [], ◌∷◌, ◌++◌, Some, None, refl, sym, ◌∙◌, ap}
-use Rattle.std.specs.Prelude.{Result, IsErr, IsErrAnd}
-use Rattle.std.specs.Result.{result_err}
-use Rattle.std.proofs.lemmas.Result.{err_from_is_err_and}
-use Rattle.std.proofs.lemmas.Bool.{cases_Bool, cond-true, cond-false}
-use Rattle.df_format.specs.SuperRules.{Test, first_failing}
-use Rattle.df_format.specs.declared.superblock.SuperFault.{SuperFault}
-use Rattle.df_format.specs.declared.superblock.SuperFault.TheVariants.{BadField}
+use Rattle.std.{proofs.{Common.{◌≡◌, inl, inr, List, [], ◌∷◌, ◌++◌, Some, None, refl, sym, ◌∙◌, ap}, lemmas.Result.{err_from_is_err_and}, lemmas.Bool.{cases_Bool, cond-true, cond-false}}, specs.{Prelude.{Result, IsErr, IsErrAnd}, Result.{result_err}}}
+use Rattle.df_format.specs.{SuperRules.{Test, first_failing}, declared.superblock.SuperFault.{SuperFault}, declared.superblock.SuperFault.TheVariants.{BadField}}
 
 -- the further ones aren't asked where one of the first fails
 pub failing_front : (ts more : List Test) (fault : SuperFault) → Some fault ≡ first_failing ts → Some fault ≡ first_failing (ts ++ more)

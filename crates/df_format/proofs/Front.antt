@@ -1,17 +1,8 @@
 -- What is read of a place is a matter of the front that holds the unit.
-use Rattle.std.proofs.Common.{◌≡◌, ◌≢◌, ℕ, ◌+◌, ◌-◌, ◌≤◌, List, ◌++◌, length, take, drop, refl, sym, ◌∙◌, ap, arith, append_assoc}
-use Rattle.std.specs.Str.{bytes_eq}
-use Rattle.std.proofs.lemmas.List.{take-append-drop, take-append-le, drop-append-le, length-take-le, length-drop}
+use Rattle.std.{proofs.{Common.{◌≡◌, ◌≢◌, ℕ, ◌+◌, ◌-◌, ◌≤◌, List, ◌++◌, length, take, drop, refl, sym, ◌∙◌, ap, arith, append_assoc}, lemmas.List.{take-append-drop, take-append-le, drop-append-le, length-take-le, length-drop}}, specs.Str.{bytes_eq}}
 use Rattle.df_base.specs.Fields.{check_of}
-use Rattle.df_layout.specs.declared.places.Zone.{Zone}
-use Rattle.df_layout.specs.declared.places.Zone.TheVariants.{WalHeaders}
-use Rattle.df_format.specs.declared.header.Header.{Header}
-use Rattle.df_format.specs.Message.{sectors_of, unit_bytes}
-use Rattle.df_format.specs.Reading.{header_in}
-use Rattle.df_format.specs.Whole.{body_in, has_body}
-use Rattle.df_format.specs.Brings.{FrontBrings, MadeBrings}
-use Rattle.df_format.proofs.Units.{sectors_for_place}
-use Rattle.df_format.proofs.Wholes.{begun_is_shown, found_unit, unit_found}
+use Rattle.df_layout.specs.{declared.places.Zone.{Zone}, declared.places.Zone.TheVariants.{WalHeaders}}
+use Rattle.df_format.{specs.{declared.header.Header.{Header}, Message.{sectors_of, unit_bytes}, Reading.{header_in}, Whole.{body_in, has_body}, Brings.{FrontBrings, MadeBrings}}, proofs.{Units.{sectors_for_place}, Wholes.{begun_is_shown, found_unit, unit_found}}}
 
 front_part : (k m n : ℕ) (xs rest : List ℕ) → k + m ≤ n → n ≤ length xs → take m (drop k (take n xs ++ rest)) ≡ take m (drop k (take n xs))
 front_part k m n xs rest inside long =

@@ -1,14 +1,7 @@
 -- What a maker gives of a header obeys the rules of its kind, and a unit is what its maker would make again.
 use Rattle.std.proofs.Common.{inl, inr, ◌≡◌, ◌↔◌, ℕ, ◌+◌, ◌^◌, ◌<◌, ◌≤◌, List, [], length, sym, ◌∙◌, ap, subst, arith, refl}
-use Rattle.df_base.specs.Fields.{check_of, spelled}
-use Rattle.df_format.specs.declared.header.Header.{Header}
-use Rattle.df_format.specs.declared.kind.Kind.{Kind}
-use Rattle.df_format.specs.declared.kind.Kind.TheVariants.{Reserved, Prepare as AsPrepare, Reply, Block, Trailer}
-use Rattle.df_format.specs.Making.{for_body, of_kind}
-use Rattle.df_format.specs.Rules.{FitsFields, HasBoot, HasGroup, IsCounter, IsGroup, IsSealed, IsUngrouped, ObeysKind, ObeysRules, ObeysVersion}
-use Rattle.df_format.specs.Spelling.{IsCheck, no_checksum, sealed, spelling_rest, tail_of}
-use Rattle.df_format.specs.Valid.{IsBodyOf}
-use Rattle.df_base.proofs.Laws.{so_check, so_many_zeros}
+use Rattle.df_base.{specs.Fields.{check_of, spelled}, proofs.Laws.{so_check, so_many_zeros}}
+use Rattle.df_format.specs.{declared.header.Header.{Header}, declared.kind.Kind.{Kind}, declared.kind.Kind.TheVariants.{Reserved, Prepare as AsPrepare, Reply, Block, Trailer}, Making.{for_body, of_kind}, Rules.{FitsFields, HasBoot, HasGroup, IsCounter, IsGroup, IsSealed, IsUngrouped, ObeysKind, ObeysRules, ObeysVersion}, Spelling.{IsCheck, no_checksum, sealed, spelling_rest, tail_of}, Valid.{IsBodyOf}}
 
 -- ---- what a maker sees to, of the fields that its kind names
 

@@ -1,19 +1,8 @@
 -- What is made is a unit, and its sectors stand at the front of the buffer.
-use Rattle.std.proofs.Common.{inl, inr, ◌≡◌, ℕ, ◌+◌, ◌-◌, ◌≤◌, List, [], ◌++◌, length, take, drop, replicate, refl, sym, ◌∙◌, ap, subst, arith}
-use Rattle.std.proofs.lemmas.List.{drop-drop, drop-take, drop_at, length-take-le}
-use Rattle.std.proofs.Math.Seq.{take-add}
+use Rattle.std.proofs.{Common.{inl, inr, ◌≡◌, ℕ, ◌+◌, ◌-◌, ◌≤◌, List, [], ◌++◌, length, take, drop, replicate, refl, sym, ◌∙◌, ap, subst, arith}, lemmas.List.{drop-drop, drop-take, drop_at, length-take-le}, Math.Seq.{take-add}}
 use Rattle.df_base.specs.Fields.{AreBytes}
-use Rattle.df_format.specs.declared.header.Header.{Header}
-use Rattle.df_format.specs.Spelling.{spelling, spelling_rest, sealed, tail_of}
-use Rattle.df_format.specs.declared.kind.Kind.{Kind}
-use Rattle.df_format.specs.declared.kind.Kind.TheVariants.{Reserved}
-use Rattle.df_format.specs.Rules.{ObeysKind, ObeysFirst, ObeysSecond, ObeysVersion, ObeysRules, IsSealed}
-use Rattle.df_format.specs.Message.{Message, sectors_of, sectors_end}
-use Rattle.df_format.specs.Making.{for_body}
-use Rattle.df_format.specs.UnitLaws.{MadeIsUnit}
-use Rattle.df_format.specs.Valid.{IsBodyOf, HasBody}
-use Rattle.df_layout.specs.declared.places.Zone.{Zone}
-use Rattle.df_layout.specs.declared.places.Zone.TheVariants.{WalHeaders}
+use Rattle.df_format.specs.{declared.header.Header.{Header}, Spelling.{spelling, spelling_rest, sealed, tail_of}, declared.kind.Kind.{Kind}, declared.kind.Kind.TheVariants.{Reserved}, Rules.{ObeysKind, ObeysFirst, ObeysSecond, ObeysVersion, ObeysRules, IsSealed}, Message.{Message, sectors_of, sectors_end}, Making.{for_body}, UnitLaws.{MadeIsUnit}, Valid.{IsBodyOf, HasBody}}
+use Rattle.df_layout.specs.{declared.places.Zone.{Zone}, declared.places.Zone.TheVariants.{WalHeaders}}
 
 -- the rules don't speak of the header's own checksum
 kind_sealed : (kind : Kind) (h : Header) → ObeysKind kind h → ObeysKind kind (sealed h)

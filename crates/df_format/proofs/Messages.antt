@@ -1,13 +1,7 @@
 -- The bytes of a unit: their length, and that they are bytes.
-use Rattle.std.proofs.Common.{◌≡◌, ◌+◌, ◌-◌, ℕ, length, replicate, arith, length-append}
-use Rattle.std.proofs.lemmas.List.{length-replicate}
-use Rattle.df_base.specs.Fields.{AreBytes}
-use Rattle.df_base.proofs.Laws.{AreBytes-append, AreBytes-zeros}
-use Rattle.df_format.specs.declared.header.Header.{Header}
-use Rattle.df_format.specs.Spelling.{spelling}
-use Rattle.df_format.specs.Rules.{IsSealed}
-use Rattle.df_format.specs.Message.{Message, unit_bytes, sectors_of, sectors_end}
-use Rattle.df_format.proofs.Spelled.{length-spelling, spelling_size}
+use Rattle.std.proofs.{Common.{◌≡◌, ◌+◌, ◌-◌, ℕ, length, replicate, arith, length-append}, lemmas.List.{length-replicate}}
+use Rattle.df_base.{specs.Fields.{AreBytes}, proofs.Laws.{AreBytes-append, AreBytes-zeros}}
+use Rattle.df_format.{specs.{declared.header.Header.{Header}, Spelling.{spelling}, Rules.{IsSealed}, Message.{Message, unit_bytes, sectors_of, sectors_end}}, proofs.Spelled.{length-spelling, spelling_size}}
 
 pub length-unit : (u : Message) → IsSealed u.header → length (unit_bytes u) ≡ 256 + length u.body
 length-unit u is = omega (arith, length-append (spelling u.header) u.body, length-spelling u.header is)

@@ -1,17 +1,6 @@
 -- Which of some checksums are named: the first one that is, and that there is none.
-use Rattle.std.proofs.Common.{◌≡◌, ◌<◌, ◌≤◌, ◌+◌, ℕ, Bool, false, not, List, [], length, drop, get_or, Option, Some, None, refl, ap, arith}
-use Rattle.std.specs.Prelude.{nat_lt, is_none, option_map}
-use Rattle.std.specs.List.{position_or_len}
-use Rattle.std.specs.Bool.{Decides}
-use Rattle.std.proofs.lemmas.Bool.{cond-false, le-ltb, not_from_true, not-false}
-use Rattle.std.proofs.lemmas.Bool.Decides.{Decides-and, Decides-like}
-use Rattle.std.proofs.lemmas.List.Sums.{fails_before_first, position_or_len_is}
-use Rattle.std.proofs.lemmas.Slice.Eq.{bytes_eq-Decides}
-use Rattle.df_format.specs.declared.superblock.SuperFields.{SuperFields}
-use Rattle.df_format.specs.Spelling.{no_checksum}
-use Rattle.df_format.specs.Super.{AreNone, NamesNone}
-use Rattle.df_format.specs.SuperRules.{first_named, first_spare, is_zero_check, names_none}
-use Rattle.df_format.proofs.CopyParts.{no_place, unplaced}
+use Rattle.std.{proofs.{Common.{◌≡◌, ◌<◌, ◌≤◌, ◌+◌, ℕ, Bool, false, not, List, [], length, drop, get_or, Option, Some, None, refl, ap, arith}, lemmas.Bool.{cond-false, le-ltb, not_from_true, not-false}, lemmas.Bool.Decides.{Decides-and, Decides-like}, lemmas.List.Sums.{fails_before_first, position_or_len_is}, lemmas.Slice.Eq.{bytes_eq-Decides}}, specs.{Prelude.{nat_lt, is_none, option_map}, List.{position_or_len}, Bool.{Decides}}}
+use Rattle.df_format.{specs.{declared.superblock.SuperFields.{SuperFields}, Spelling.{no_checksum}, Super.{AreNone, NamesNone}, SuperRules.{first_named, first_spare, is_zero_check, names_none}}, proofs.CopyParts.{no_place, unplaced}}
 
 -- a checksum that isn't zeros
 abbrev named : List ℕ → Bool

@@ -1,19 +1,7 @@
 -- The rules of each kind and of each version: what the tests decide.
-use Rattle.std.proofs.Common.{◌≡◌, ◌≢◌, ◌↔◌, ◌<◌, ◌≤◌, ◌+◌, ◌^◌, ◌==◌, ◌&&◌, ℕ, Bool, true, false, List, [], refl, cond, arith}
-use Rattle.std.specs.Prelude.{nat_lt}
-use Rattle.std.specs.Bool.{Decides}
-use Rattle.std.specs.Str.{bytes_eq}
-use Rattle.std.proofs.lemmas.Bool.{both_ways, eqb-true, eq-eqb}
-use Rattle.std.proofs.lemmas.Bool.Decides.{Decides-and, Decides-or, Decides-eqb, Decides-ltb}
-use Rattle.std.proofs.lemmas.Slice.Eq.{bytes_eq-Decides}
+use Rattle.std.{proofs.{Common.{◌≡◌, ◌≢◌, ◌↔◌, ◌<◌, ◌≤◌, ◌+◌, ◌^◌, ◌==◌, ◌&&◌, ℕ, Bool, true, false, List, [], refl, cond, arith}, lemmas.Bool.{both_ways, eqb-true, eq-eqb}, lemmas.Bool.Decides.{Decides-and, Decides-or, Decides-eqb, Decides-ltb}, lemmas.Slice.Eq.{bytes_eq-Decides}}, specs.{Prelude.{nat_lt}, Bool.{Decides}, Str.{bytes_eq}}}
 use Rattle.df_base.specs.Fields.{check_of}
-use Rattle.df_format.specs.declared.header.Header.{Header}
-use Rattle.df_format.specs.declared.kind.Kind.{Kind}
-use Rattle.df_format.specs.declared.kind.Kind.TheVariants.{Reserved, Prepare, Reply, Block, Trailer}
-use Rattle.df_format.specs.Spelling.{no_checksum}
-use Rattle.df_format.specs.Rules.{HasBoot, HasGroup, IsCounter, IsGroup, IsUngrouped, ObeysReserved, ObeysPrepare, ObeysReply, ObeysBlock, ObeysTrailer, ObeysKind, ObeysFirst, ObeysSecond, ObeysVersion}
-use Rattle.df_format.specs.Reading.{is_counter, is_prepare, is_reply, is_bare, is_reserved, is_block, is_linked, is_trailer, is_of_kind, is_ungrouped, is_grouped, is_first, has_boot, has_group, is_second, has_numbers}
-use Rattle.df_format.proofs.Tests.{at_most, same_where, told}
+use Rattle.df_format.{specs.{declared.header.Header.{Header}, declared.kind.Kind.{Kind}, declared.kind.Kind.TheVariants.{Reserved, Prepare, Reply, Block, Trailer}, Spelling.{no_checksum}, Rules.{HasBoot, HasGroup, IsCounter, IsGroup, IsUngrouped, ObeysReserved, ObeysPrepare, ObeysReply, ObeysBlock, ObeysTrailer, ObeysKind, ObeysFirst, ObeysSecond, ObeysVersion}, Reading.{is_counter, is_prepare, is_reply, is_bare, is_reserved, is_block, is_linked, is_trailer, is_of_kind, is_ungrouped, is_grouped, is_first, has_boot, has_group, is_second, has_numbers}}, proofs.Tests.{at_most, same_where, told}}
 
 -- the numbers of a header are in their ranges
 pub record AreInRange (h : Header) : Type 0 where

@@ -1,15 +1,7 @@
 -- The bytes of some sectors of an image, and what a write of whole sectors makes of them.
-use Rattle.std.proofs.Common.{◌≡◌, inl, inr, ◌<◌, ◌≤◌, ◌+◌, ◌-◌, ◌*◌, ℕ, false, zero, suc, List, [], ◌++◌, length, take, drop, refl, sym, ◌∙◌, ap, subst, arith, append_assoc, length-append}
-use Rattle.std.proofs.lemmas.Bool.{and_left, and_right, cases_lt, le-ltb, lt-leb}
-use Rattle.std.proofs.lemmas.Bool.Decides.{nat_tests}
-use Rattle.std.proofs.lemmas.List.{drop_all, take-append-drop, drop-drop}
-use Rattle.df_base.specs.Fields.{AreBytes}
-use Rattle.df_base.specs.Image.{Image, IsImage, bytes_at, covers, written}
-use Rattle.df_base.proofs.Laws.{AreBytes-append}
-use Rattle.df_layout.specs.Spans.{sectors_before, span_of}
-use Rattle.df_layout.specs.Zones.{first_sector, zone_sectors}
-use Rattle.df_layout.specs.declared.layout.Layout.{Layout}
-use Rattle.df_layout.specs.declared.places.Zone.TheVariants.{WalHeaders}
+use Rattle.std.proofs.{Common.{◌≡◌, inl, inr, ◌<◌, ◌≤◌, ◌+◌, ◌-◌, ◌*◌, ℕ, false, zero, suc, List, [], ◌++◌, length, take, drop, refl, sym, ◌∙◌, ap, subst, arith, append_assoc, length-append}, lemmas.Bool.{and_left, and_right, cases_lt, le-ltb, lt-leb}, lemmas.Bool.Decides.{nat_tests}, lemmas.List.{drop_all, take-append-drop, drop-drop}}
+use Rattle.df_base.{specs.{Fields.{AreBytes}, Image.{Image, IsImage, bytes_at, covers, written}}, proofs.Laws.{AreBytes-append}}
+use Rattle.df_layout.specs.{Spans.{sectors_before, span_of}, Zones.{first_sector, zone_sectors}, declared.layout.Layout.{Layout}, declared.places.Zone.TheVariants.{WalHeaders}}
 use Rattle.df_format.specs.Own.{place_in}
 
 pub length-bytes_at : (image : Image) (at n : ℕ) → IsImage image → length (bytes_at image at n) ≡ 4096 * n

@@ -1,23 +1,7 @@
 -- A header is read from its spelling, and what is read as a header is its spelling.
-use Rattle.std.proofs.Common.{◌≡◌, ℕ, ◌<◌, ◌&&◌, true, List, [], ◌++◌, length, take, drop, replicate, Option, Some, None, refl, sym, ◌∙◌, ap, subst, arith}
-use Rattle.std.specs.Prelude.{slice_index}
-use Rattle.std.proofs.lemmas.Bool.{cond-true, and_parts, and_from}
-use Rattle.std.proofs.lemmas.List.{take_at, take_all, drop_at, drop_all, length-drop}
-use Rattle.std.proofs.lemmas.Slice.Eq.{bytes_eq-Decides}
-use Rattle.std.proofs.lemmas.Option.{cond_some}
-use Rattle.df_base.specs.Fields.{AreBytes, spelled, check_of}
-use Rattle.df_format.specs.declared.header.Header.{Header}
-use Rattle.df_format.specs.declared.kind.Kind.{Kind}
-use Rattle.df_format.specs.declared.kind.Kind.TheVariants.{Reserved}
-use Rattle.df_base.specs.Text.{AreSo, Fit, AreRead}
-use Rattle.df_format.specs.Spelling.{code_of, tail, tail_of, fields, spelling, spelling_rest}
-use Rattle.df_format.specs.Rules.{FitsFields, IsSealed}
-use Rattle.df_format.specs.Reading.{kind_of, fields_of, has_numbers, is_spelled, header_of_kind, header_in}
-use Rattle.df_format.specs.UnitLaws.{FirstVersionEndsInZeros, HeadersHaveOneSpelling}
-use Rattle.df_base.proofs.Laws.{so_none, so_many_zeros, so_check, so_both, so_text, behind, read_back, spelled_back, fit_back}
-use Rattle.df_format.proofs.Codes.{kind_of-code, code_of-kind}
-use Rattle.df_base.proofs.Laws.{piece}
-use Rattle.df_format.proofs.Ranges.{AreInRange, in_range, passes, same_bytes}
+use Rattle.std.{proofs.{Common.{◌≡◌, ℕ, ◌<◌, ◌&&◌, true, List, [], ◌++◌, length, take, drop, replicate, Option, Some, None, refl, sym, ◌∙◌, ap, subst, arith}, lemmas.Bool.{cond-true, and_parts, and_from}, lemmas.List.{take_at, take_all, drop_at, drop_all, length-drop}, lemmas.Slice.Eq.{bytes_eq-Decides}, lemmas.Option.{cond_some}}, specs.Prelude.{slice_index}}
+use Rattle.df_base.{specs.{Fields.{AreBytes, spelled, check_of}, Text.{AreSo, Fit, AreRead}}, proofs.Laws.{so_none, so_many_zeros, so_check, so_both, so_text, behind, read_back, spelled_back, fit_back, piece}}
+use Rattle.df_format.{specs.{declared.header.Header.{Header}, declared.kind.Kind.{Kind}, declared.kind.Kind.TheVariants.{Reserved}, Spelling.{code_of, tail, tail_of, fields, spelling, spelling_rest}, Rules.{FitsFields, IsSealed}, Reading.{kind_of, fields_of, has_numbers, is_spelled, header_of_kind, header_in}, UnitLaws.{FirstVersionEndsInZeros, HeadersHaveOneSpelling}}, proofs.{Codes.{kind_of-code, code_of-kind}, Ranges.{AreInRange, in_range, passes, same_bytes}}}
 
 -- eight bytes of the number 0 are zeros
 no_number : spelled 8 0 ≡ replicate 8 0

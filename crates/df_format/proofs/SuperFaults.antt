@@ -1,16 +1,6 @@
 -- A superblock has no fault exactly where it obeys the rules: each test decides one of them.
-use Rattle.std.proofs.Common.{inl, inr, ◌≡◌, ◌≢◌, ◌⊎◌, ◌<◌, ◌≤◌, ◌+◌, ◌%◌, ◌^◌, ◌==◌, ◌||◌, ℕ, Bool, true, false, not, List, Option, Some, None, refl, sym, ◌∙◌, ap, arith, cond}
-use Rattle.std.specs.Prelude.{drop}
-use Rattle.std.specs.Bool.{Decides}
-use Rattle.std.proofs.lemmas.Bool.{or_cases, or_left, or_right, both_ways, not-true, not_from_false, eqb-true, eq-eqb, ne_eqb, cases_eq, cond-true, cond-false}
-use Rattle.std.proofs.lemmas.Bool.Decides.{Decides-and, Decides-or, Decides-eqb, Decides-ltb}
-use Rattle.df_format.specs.declared.superblock.SuperFields.{SuperFields}
-use Rattle.df_format.specs.declared.superblock.SuperFault.{SuperFault}
-use Rattle.df_format.specs.Spelling.{no_checksum}
-use Rattle.df_format.specs.Super.{AreNone, NamesNone}
-use Rattle.df_format.specs.SuperRules.{IsFirstSuper, IsSecondSuper, IsSuper, Test, greatest_trailer, is_between, is_whole_between, has_trailer_size, first_tests, second_tests, first_failing, fault_of, FaultsAreBrokenRules}
-use Rattle.df_format.proofs.Named.{nameless, no_number, none_spare}
-use Rattle.df_format.proofs.Tests.{at_most, same_where, told}
+use Rattle.std.{proofs.{Common.{inl, inr, ◌≡◌, ◌≢◌, ◌⊎◌, ◌<◌, ◌≤◌, ◌+◌, ◌%◌, ◌^◌, ◌==◌, ◌||◌, ℕ, Bool, true, false, not, List, Option, Some, None, refl, sym, ◌∙◌, ap, arith, cond}, lemmas.Bool.{or_cases, or_left, or_right, both_ways, not-true, not_from_false, eqb-true, eq-eqb, ne_eqb, cases_eq, cond-true, cond-false}, lemmas.Bool.Decides.{Decides-and, Decides-or, Decides-eqb, Decides-ltb}}, specs.{Prelude.{drop}, Bool.{Decides}}}
+use Rattle.df_format.{specs.{declared.superblock.SuperFields.{SuperFields}, declared.superblock.SuperFault.{SuperFault}, Spelling.{no_checksum}, Super.{AreNone, NamesNone}, SuperRules.{IsFirstSuper, IsSecondSuper, IsSuper, Test, greatest_trailer, is_between, is_whole_between, has_trailer_size, first_tests, second_tests, first_failing, fault_of, FaultsAreBrokenRules}}, proofs.{Named.{nameless, no_number, none_spare}, Tests.{at_most, same_where, told}}}
 
 -- what holds exactly where there is no fault
 abbrev Clears : Option SuperFault → Type 0 → Type 0

@@ -1,11 +1,5 @@
 -- Tests of numbers and checksums, each with what it decides.
-use Rattle.std.proofs.Common.{inl, inr, ◌≡◌, ◌≤◌, ◌==◌, ◌||◌, ℕ, Bool, not, List}
-use Rattle.std.specs.Prelude.{nat_le}
-use Rattle.std.specs.Bool.{Decides}
-use Rattle.std.specs.Str.{bytes_eq}
-use Rattle.std.proofs.lemmas.Bool.{or_cases, or_left, or_right, both_ways, not-true, not_from_false, leb-true, le-leb, eq-eqb, ne_eqb, cases_eq}
-use Rattle.std.proofs.lemmas.Bool.Decides.{Decides-like}
-use Rattle.std.proofs.lemmas.Slice.Eq.{bytes_eq-Decides}
+use Rattle.std.{proofs.{Common.{inl, inr, ◌≡◌, ◌≤◌, ◌==◌, ◌||◌, ℕ, Bool, not, List}, lemmas.Bool.{or_cases, or_left, or_right, both_ways, not-true, not_from_false, leb-true, le-leb, eq-eqb, ne_eqb, cases_eq}, lemmas.Bool.Decides.{Decides-like}, lemmas.Slice.Eq.{bytes_eq-Decides}}, specs.{Prelude.{nat_le}, Bool.{Decides}, Str.{bytes_eq}}}
 
 pub at_most : (a b : ℕ) → Decides (nat_le a b) (a ≤ b)
 at_most a b = (leb-true a b, le-leb a b)

@@ -1,32 +1,8 @@
 -- What an image shows at its places, and what a write of a unit leaves of it.
-use Rattle.std.proofs.Common.{◌≡◌, ◌≢◌, inl, inr, ◌<◌, ◌≤◌, ◌+◌, ◌-◌, ◌*◌, ◌/◌, ◌%◌, ℕ, zero, suc, false, List, [], ◌∷◌, ◌++◌, length, take, drop, replicate, Some, refl, sym, ◌∙◌, ap, arith, append_assoc, length-append}
-use Rattle.std.specs.Prelude.{slice_get}
-use Rattle.std.proofs.lemmas.Bool.{cond-true, or_from}
-use Rattle.std.proofs.lemmas.List.{length-replicate, length-take-le, length-drop, take-append-le, drop-append-le, take-replicate, drop-replicate, take_all, take_at, drop_at, drop-drop, append-nil}
-use Rattle.df_base.specs.Fields.{AreBytes}
-use Rattle.df_base.specs.Image.{Image, IsImage, blank, bytes_at, covers, written}
-use Rattle.df_base.specs.Log.{now}
-use Rattle.df_base.proofs.Laws.{AreBytes-append, AreBytes-take, AreBytes-drop, written_else, no_some}
-use Rattle.df_layout.specs.declared.damage.Class.TheVariants.{Blank}
-use Rattle.df_layout.specs.declared.layout.Layout.{Layout}
-use Rattle.df_layout.specs.declared.places.Place.{Place}
-use Rattle.df_layout.specs.declared.places.Zone.{Zone}
-use Rattle.df_layout.specs.declared.places.Zone.TheVariants.{WalHeaders}
-use Rattle.df_layout.specs.Spans.{HasPlace, place_sectors, sectors_before, span_of}
-use Rattle.df_layout.proofs.Laws.{are_apart, some_sectors}
-use Rattle.df_format.specs.declared.header.Header.{Header}
-use Rattle.df_format.specs.Spelling.{spelling}
-use Rattle.df_format.specs.Rules.{IsSealed}
-use Rattle.df_format.specs.Message.{Message, unit_bytes, sectors_of}
-use Rattle.df_format.specs.Own.{place_in, own_place}
-use Rattle.df_format.specs.Shown.{part_in, bytes_of, unit_in, class_of, unit_at, class_at}
-use Rattle.df_format.specs.Valid.{IsBodyOf, HasBody, IsUnit}
-use Rattle.df_format.specs.UnitLaws.{place_size, IsAtPlace, ShownBelongs, ReadBelongs, ValidBelongs, ShownIsUnit, AgreeAt, SameIsShown, ReadIsShown, WrittenIsShown, SectorsFitPlace, IsOther, WrittenIsApart, SectorIsShown, headers_bytes, HeadersFillSector, HeaderIsShown, BlankShowsNone, LeftIsApart}
-use Rattle.df_format.proofs.Messages.{length-sectors, AreBytes-sectors, AreBytes-spelling}
-use Rattle.df_format.proofs.Owned.{own_is, belongs}
-use Rattle.df_format.proofs.Sectors.{length-bytes_at, AreBytes-bytes_at, same_sectors, uncovered_above, uncovered_below, written_begins}
-use Rattle.df_format.proofs.Spelled.{length-spelling}
-use Rattle.df_format.proofs.Wholes.{unit_found, begun_is_shown, one_unit, fits_slot, zeros_are_none, blank-from}
+use Rattle.std.{proofs.{Common.{◌≡◌, ◌≢◌, inl, inr, ◌<◌, ◌≤◌, ◌+◌, ◌-◌, ◌*◌, ◌/◌, ◌%◌, ℕ, zero, suc, false, List, [], ◌∷◌, ◌++◌, length, take, drop, replicate, Some, refl, sym, ◌∙◌, ap, arith, append_assoc, length-append}, lemmas.Bool.{cond-true, or_from}, lemmas.List.{length-replicate, length-take-le, length-drop, take-append-le, drop-append-le, take-replicate, drop-replicate, take_all, take_at, drop_at, drop-drop, append-nil}}, specs.Prelude.{slice_get}}
+use Rattle.df_base.{specs.{Fields.{AreBytes}, Image.{Image, IsImage, blank, bytes_at, covers, written}, Log.{now}}, proofs.Laws.{AreBytes-append, AreBytes-take, AreBytes-drop, written_else, no_some}}
+use Rattle.df_layout.{specs.{declared.damage.Class.TheVariants.{Blank}, declared.layout.Layout.{Layout}, declared.places.Place.{Place}, declared.places.Zone.{Zone}, declared.places.Zone.TheVariants.{WalHeaders}, Spans.{HasPlace, place_sectors, sectors_before, span_of}}, proofs.Laws.{are_apart, some_sectors}}
+use Rattle.df_format.{specs.{declared.header.Header.{Header}, Spelling.{spelling}, Rules.{IsSealed}, Message.{Message, unit_bytes, sectors_of}, Own.{place_in, own_place}, Shown.{part_in, bytes_of, unit_in, class_of, unit_at, class_at}, Valid.{IsBodyOf, HasBody, IsUnit}, UnitLaws.{place_size, IsAtPlace, ShownBelongs, ReadBelongs, ValidBelongs, ShownIsUnit, AgreeAt, SameIsShown, ReadIsShown, WrittenIsShown, SectorsFitPlace, IsOther, WrittenIsApart, SectorIsShown, headers_bytes, HeadersFillSector, HeaderIsShown, BlankShowsNone, LeftIsApart}}, proofs.{Messages.{length-sectors, AreBytes-sectors, AreBytes-spelling}, Owned.{own_is, belongs}, Sectors.{length-bytes_at, AreBytes-bytes_at, same_sectors, uncovered_above, uncovered_below, written_begins}, Spelled.{length-spelling}, Wholes.{unit_found, begun_is_shown, one_unit, fits_slot, zeros_are_none, blank-from}}}
 
 at_place : (layout : Layout) (place : Place) (u : Message) → own_place layout place.zone u.header ≡ Some place → IsAtPlace layout place u
 at_place layout place u own =

@@ -1,35 +1,8 @@
 -- Which unit the bytes of a place show: exactly the one that they begin with.
-use Rattle.std.proofs.Common.{◌≡◌, ◌≢◌, ◌≤◌, ◌-◌, ◌*◌, ℕ, Bool, true, false, List, ◌++◌, length, take, drop, replicate, Option, Some, None, cond, refl, sym, ◌∙◌, ap, subst, arith, append_assoc}
-use Rattle.std.proofs.lemmas.Bool.{cond-true, cond-false, and_parts, and_from, eqb-true, eq-eqb, leb-true, le-leb, false_from_ne_true}
-use Rattle.std.proofs.lemmas.List.{take_at, drop_at, take-append-drop, length-take-le, length-drop}
-use Rattle.std.proofs.lemmas.Slice.Eq.{bytes_eq-Decides}
-use Rattle.std.specs.Prelude.{slice_index}
-use Rattle.std.specs.Str.{bytes_eq}
-use Rattle.std.proofs.lemmas.Option.{cond_some, same_Some}
-use Rattle.df_base.specs.Fields.{AreBytes, check_of}
-use Rattle.df_base.proofs.Laws.{AreBytes-take, AreBytes-drop, cond_there}
-use Rattle.df_base.specs.Image.{Image}
-use Rattle.df_layout.specs.declared.damage.Class.{Class}
-use Rattle.df_layout.specs.declared.damage.Class.TheVariants.{Blank, Elsewhere, Stale}
-use Rattle.df_layout.specs.declared.layout.Layout.{Layout}
-use Rattle.df_layout.specs.declared.places.Place.{Place}
-use Rattle.df_layout.specs.declared.places.Zone.{Zone}
-use Rattle.df_layout.specs.declared.places.Zone.TheVariants.{Superblock, WalHeaders}
-use Rattle.df_layout.specs.Spans.{HasPlace, place_sectors}
-use Rattle.df_format.specs.declared.header.Header.{Header}
-use Rattle.df_format.specs.declared.kind.Kind.{Kind}
-use Rattle.df_format.specs.declared.kind.Kind.TheVariants.{Reserved}
-use Rattle.df_format.specs.Spelling.{code_of, spelling}
-use Rattle.df_format.specs.Rules.{IsSealed}
-use Rattle.df_format.specs.Reading.{header_in}
-use Rattle.df_format.specs.Message.{Message}
-use Rattle.df_format.specs.Own.{own_place}
-use Rattle.df_format.specs.Whole.{Whole, greatest_size, body_in, has_body, is_unit, with_own, if_unit, whole_in}
-use Rattle.df_format.specs.Shown.{same_place, if_own, unit_in, unit_at, bytes_of, is_blank, class_of_whole, class_of, class_at}
-use Rattle.df_format.specs.Valid.{IsBodyOf, HasBody, BeginsWithUnit}
-use Rattle.df_format.specs.UnitLaws.{place_size, UnitsHaveOneSpelling, BodyFollows, RingHasNoBody, ValidIsStale, StaleIsValid, ElsewhereIsOther}
-use Rattle.df_format.proofs.Spelled.{read_as, reads, was_spelled, length-spelling}
-use Rattle.df_format.proofs.Owned.{own_is, same_place-true, same_place-self}
+use Rattle.std.{proofs.{Common.{◌≡◌, ◌≢◌, ◌≤◌, ◌-◌, ◌*◌, ℕ, Bool, true, false, List, ◌++◌, length, take, drop, replicate, Option, Some, None, cond, refl, sym, ◌∙◌, ap, subst, arith, append_assoc}, lemmas.Bool.{cond-true, cond-false, and_parts, and_from, eqb-true, eq-eqb, leb-true, le-leb, false_from_ne_true}, lemmas.List.{take_at, drop_at, take-append-drop, length-take-le, length-drop}, lemmas.Slice.Eq.{bytes_eq-Decides}, lemmas.Option.{cond_some, same_Some}}, specs.{Prelude.{slice_index}, Str.{bytes_eq}}}
+use Rattle.df_base.{specs.{Fields.{AreBytes, check_of}, Image.{Image}}, proofs.Laws.{AreBytes-take, AreBytes-drop, cond_there}}
+use Rattle.df_layout.specs.{declared.damage.Class.{Class}, declared.damage.Class.TheVariants.{Blank, Elsewhere, Stale}, declared.layout.Layout.{Layout}, declared.places.Place.{Place}, declared.places.Zone.{Zone}, declared.places.Zone.TheVariants.{Superblock, WalHeaders}, Spans.{HasPlace, place_sectors}}
+use Rattle.df_format.{specs.{declared.header.Header.{Header}, declared.kind.Kind.{Kind}, declared.kind.Kind.TheVariants.{Reserved}, Spelling.{code_of, spelling}, Rules.{IsSealed}, Reading.{header_in}, Message.{Message}, Own.{own_place}, Whole.{Whole, greatest_size, body_in, has_body, is_unit, with_own, if_unit, whole_in}, Shown.{same_place, if_own, unit_in, unit_at, bytes_of, is_blank, class_of_whole, class_of, class_at}, Valid.{IsBodyOf, HasBody, BeginsWithUnit}, UnitLaws.{place_size, UnitsHaveOneSpelling, BodyFollows, RingHasNoBody, ValidIsStale, StaleIsValid, ElsewhereIsOther}}, proofs.{Spelled.{read_as, reads, was_spelled, length-spelling}, Owned.{own_is, same_place-true, same_place-self}}}
 
 -- how a whole unit was found
 pub record IsFound (layout : Layout) (cluster : ℕ) (zone : Zone) (bytes : List ℕ) (u : Message) (own : Place) : Type 0 where

@@ -1,10 +1,6 @@
 -- How many addresses are free, and how that changes.
-use Rattle.std.proofs.Common.{◌≡◌, ℕ, zero, suc, ◌+◌, ◌-◌, ◌*◌, ◌/◌, ◌<◌, Bool, true, false, cond, Some, List, [], ◌∷◌, length, set, refl, ap, arith}
-use Rattle.std.specs.Prelude.{not, slice_get, sum_by, count_ones}
-use Rattle.std.proofs.lemmas.List.Sums.{sum_by-cons}
-use Rattle.df_freeset.specs.Addresses.{AreAllTaken, count_free}
-use Rattle.df_freeset.specs.Bits.{IsRoom, bit_in, taken_in}
-use Rattle.df_freeset.proofs.Tally.{tally, tally_split, tally_none, tally_words, free_and_tally}
+use Rattle.std.{proofs.{Common.{◌≡◌, ℕ, zero, suc, ◌+◌, ◌-◌, ◌*◌, ◌/◌, ◌<◌, Bool, true, false, cond, Some, List, [], ◌∷◌, length, set, refl, ap, arith}, lemmas.List.Sums.{sum_by-cons}}, specs.Prelude.{not, slice_get, sum_by, count_ones}}
+use Rattle.df_freeset.{specs.{Addresses.{AreAllTaken, count_free}, Bits.{IsRoom, bit_in, taken_in}}, proofs.Tally.{tally, tally_split, tally_none, tally_words, free_and_tally}}
 
 -- of n addresses those are free whose bit isn't set
 pub free_and_ones : (words : List ℕ) (n : ℕ) → IsRoom words n → count_free (taken_in words n) + sum_by count_ones words ≡ n

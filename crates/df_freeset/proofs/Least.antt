@@ -1,16 +1,7 @@
 -- The lowest zero of the words is the least free address.
-use Rattle.std.proofs.Common.{◌≡◌, ℕ, ◌+◌, ◌-◌, ◌*◌, ◌/◌, ◌%◌, ◌^◌, ◌<◌, ◌≤◌, Bool, true, false, inl, inr, Some, None, List, length, get_or, refl, sym, ◌∙◌, arith, true≢false}
-use Rattle.std.specs.Prelude.{◌==◌, nat_lt, slice_index}
-use Rattle.std.specs.Int.{bit_at, trailing_ones, w64}
-use Rattle.std.specs.List.{position, position_or_len}
-use Rattle.std.proofs.lemmas.Bool.{cases_Bool, cases_lt, eqb-true, eq-eqb}
-use Rattle.std.proofs.lemmas.List.Quantifiers.{position-Some}
-use Rattle.std.proofs.lemmas.List.Sums.{fails_before_first}
-use Rattle.std.proofs.lemmas.Nat.Bits.{bit_at_ones, bit_at-trailing_ones}
+use Rattle.std.{proofs.{Common.{◌≡◌, ℕ, ◌+◌, ◌-◌, ◌*◌, ◌/◌, ◌%◌, ◌^◌, ◌<◌, ◌≤◌, Bool, true, false, inl, inr, Some, None, List, length, get_or, refl, sym, ◌∙◌, arith, true≢false}, lemmas.Bool.{cases_Bool, cases_lt, eqb-true, eq-eqb}, lemmas.List.Quantifiers.{position-Some}, lemmas.List.Sums.{fails_before_first}, lemmas.Nat.Bits.{bit_at_ones, bit_at-trailing_ones}}, specs.{Prelude.{◌==◌, nat_lt, slice_index}, Int.{bit_at, trailing_ones, w64}, List.{position, position_or_len}}}
 use borrow.Author.Tests.{ltb-false}
-use Rattle.df_freeset.specs.Addresses.{IsTaken, IsFree, IsLeastFree, AreAllTaken}
-use Rattle.df_freeset.specs.Bits.{IsRoom, AreWords, AreFull, IsLowestZero, is_open, bit_in, taken_in}
-use Rattle.df_freeset.proofs.Words.{length_taken, taken_at}
+use Rattle.df_freeset.{specs.{Addresses.{IsTaken, IsFree, IsLeastFree, AreAllTaken}, Bits.{IsRoom, AreWords, AreFull, IsLowestZero, is_open, bit_in, taken_in}}, proofs.Words.{length_taken, taken_at}}
 
 greatest_bits : (j : ℕ) → j < 64 → bit_at 18446744073709551615 j ≡ 1
 greatest_bits j within = bit_at_ones 64 j within

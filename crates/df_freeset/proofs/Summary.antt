@@ -1,15 +1,6 @@
 -- The summary has a bit for each word, set exactly where the word is full, whatever is taken and given back.
-use Rattle.std.proofs.Common.{◌≡◌, ◌≢◌, ℕ, ◌+◌, ◌*◌, ◌/◌, ◌%◌, ◌^◌, ◌<◌, ◌≤◌, Bool, true, false, inl, inr, List, length, set, refl, ap, sym, ◌∙◌, arith, true≢false}
-use Rattle.std.specs.Prelude.{◌==◌, not, slice_index}
-use Rattle.std.specs.Int.{bit_at, trailing_ones, w64}
-use Rattle.std.proofs.lemmas.Bool.{cases_Bool, cases_eq, eqb-true, eq-eqb, ne_eqb}
-use Rattle.std.proofs.lemmas.List.{get_or-set_same, get_or-set_other, length-set}
-use Rattle.std.proofs.lemmas.Nat.{le_or_l, or_lt, mod_below, pow_pos}
-use Rattle.std.proofs.lemmas.Nat.Bits.{bit_at_clear_same}
-use Rattle.df_freeset.specs.Addresses.{AreAllTaken}
-use Rattle.df_freeset.specs.Bits.{IsRoom, IsFreeSet, AreFull, IsLowestZero, is_open, bit_in, taken_in, with_bit, without_bit, setting, clearing}
-use Rattle.df_freeset.proofs.Least.{full_bits, full_is_taken, zero_in_word}
-use Rattle.df_freeset.proofs.Words.{room_written, set_writes, clear_writes, word_inside}
+use Rattle.std.{proofs.{Common.{◌≡◌, ◌≢◌, ℕ, ◌+◌, ◌*◌, ◌/◌, ◌%◌, ◌^◌, ◌<◌, ◌≤◌, Bool, true, false, inl, inr, List, length, set, refl, ap, sym, ◌∙◌, arith, true≢false}, lemmas.Bool.{cases_Bool, cases_eq, eqb-true, eq-eqb, ne_eqb}, lemmas.List.{get_or-set_same, get_or-set_other, length-set}, lemmas.Nat.{le_or_l, or_lt, mod_below, pow_pos}, lemmas.Nat.Bits.{bit_at_clear_same}}, specs.{Prelude.{◌==◌, not, slice_index}, Int.{bit_at, trailing_ones, w64}}}
+use Rattle.df_freeset.{specs.{Addresses.{AreAllTaken}, Bits.{IsRoom, IsFreeSet, AreFull, IsLowestZero, is_open, bit_in, taken_in, with_bit, without_bit, setting, clearing}}, proofs.{Least.{full_bits, full_is_taken, zero_in_word}, Words.{room_written, set_writes, clear_writes, word_inside}}}
 
 -- one word is written, and its bit of the summary tells of it
 kept : (words summary tells : List ℕ) (n w word : ℕ) → w < length words → IsFreeSet words summary n → IsRoom (set words w word) n → IsRoom tells (length words)

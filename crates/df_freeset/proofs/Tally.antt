@@ -1,12 +1,5 @@
 -- How many of n bits are set, bit by bit and word by word.
-use Rattle.std.proofs.Common.{◌≡◌, ℕ, zero, suc, ◌+◌, ◌*◌, ◌/◌, ◌%◌, ◌^◌, ◌<◌, Bool, true, false, cond, List, [], ◌∷◌, length, map, refl, ap, sym, ◌∙◌, arith, add-zero}
-use Rattle.std.specs.Prelude.{◌==◌, not, count_by, count_ones, sum_by, slice_index}
-use Rattle.std.specs.Int.{bit_at}
-use Rattle.std.specs.Int.Count.{ones}
-use Rattle.std.specs.List.{range_with_len}
-use Rattle.std.proofs.lemmas.Nat.{mod-pow-add, mod_below, pow_pos, ones_cat}
-use Rattle.std.proofs.lemmas.Nat.Bits.{bit_at-lt}
-use Rattle.std.proofs.lemmas.List.Sums.{sum_by-cons}
+use Rattle.std.{proofs.{Common.{◌≡◌, ℕ, zero, suc, ◌+◌, ◌*◌, ◌/◌, ◌%◌, ◌^◌, ◌<◌, Bool, true, false, cond, List, [], ◌∷◌, length, map, refl, ap, sym, ◌∙◌, arith, add-zero}, lemmas.Nat.{mod-pow-add, mod_below, pow_pos, ones_cat}, lemmas.Nat.Bits.{bit_at-lt}, lemmas.List.Sums.{sum_by-cons}}, specs.{Prelude.{◌==◌, not, count_by, count_ones, sum_by, slice_index}, Int.{bit_at}, Int.Count.{ones}, List.{range_with_len}}}
 use Rattle.df_freeset.specs.Bits.{bit_in}
 
 -- how many of the n numbers from a on pass

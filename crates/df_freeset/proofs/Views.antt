@@ -1,13 +1,6 @@
 -- What taking and giving back make of the set as its callers see it.
-use Rattle.std.proofs.Common.{◌≡◌, ℕ, ◌+◌, ◌-◌, ◌/◌, ◌<◌, Bool, true, false, List, length, get_or, set, ap, subst, ◌∙◌, arith}
-use Rattle.std.specs.Prelude.{slice_index, sum_by, count_ones}
-use Rattle.std.specs.Global.{Vec}
-use Rattle.std.specs.Vec.{with_items}
-use Rattle.std.proofs.lemmas.List.{with_items_is, length-set, get_or_read}
-use Rattle.df_freeset.specs.Addresses.{SetHasAddress, count_free}
-use Rattle.df_freeset.specs.Bits.{IsRoom, taken_in, setting, clearing}
-use Rattle.df_freeset.proofs.Counts.{free_and_ones}
-use Rattle.df_freeset.proofs.Words.{length_taken, taken_written, set_writes, clear_writes, word_inside}
+use Rattle.std.{proofs.{Common.{◌≡◌, ℕ, ◌+◌, ◌-◌, ◌/◌, ◌<◌, Bool, true, false, List, length, get_or, set, ap, subst, ◌∙◌, arith}, lemmas.List.{with_items_is, length-set, get_or_read}}, specs.{Prelude.{slice_index, sum_by, count_ones}, Global.{Vec}, Vec.{with_items}}}
+use Rattle.df_freeset.{specs.{Addresses.{SetHasAddress, count_free}, Bits.{IsRoom, taken_in, setting, clearing}}, proofs.{Counts.{free_and_ones}, Words.{length_taken, taken_written, set_writes, clear_writes, word_inside}}}
 
 -- the bit of an address of the set is one of the room's
 pub bit_below : (words : List ℕ) (n : ℕ) (now : List Bool) (address : ℕ) → taken_in words n ≡ now → SetHasAddress now address → address - 1 < n

@@ -1,13 +1,5 @@
 -- What a written bit makes of the words and of the list of taken addresses.
-use Rattle.std.proofs.Common.{◌≡◌, ◌≢◌, ℕ, ◌*◌, ◌/◌, ◌%◌, ◌^◌, ◌<◌, Bool, true, false, inl, inr, Some, List, length, get_or, set, refl, ap, sym, ◌∙◌, arith}
-use Rattle.std.specs.Prelude.{◌==◌, slice_index, slice_get, replicate}
-use Rattle.std.specs.Int.{bit_at, bit_not, w64}
-use Rattle.std.proofs.lemmas.Bool.{cases_eq, eq-eqb}
-use Rattle.std.proofs.lemmas.List.{get_or-set_same, get_or-set_other, length-set, length-replicate, get_or-replicate}
-use Rattle.std.proofs.lemmas.List.FromFn.{length-map-range_with_len, get_or-map-range_with_len, fill_by_all}
-use Rattle.std.proofs.lemmas.Option.{slice_get-get_or}
-use Rattle.std.proofs.lemmas.Nat.{or_lt, and_le_l, mod_below, pow_pos}
-use Rattle.std.proofs.lemmas.Nat.Bits.{bit_at-zero, bit_at_set_same, bit_at_set_other, bit_at_clear_same, bit_at_clear_other}
+use Rattle.std.{proofs.{Common.{◌≡◌, ◌≢◌, ℕ, ◌*◌, ◌/◌, ◌%◌, ◌^◌, ◌<◌, Bool, true, false, inl, inr, Some, List, length, get_or, set, refl, ap, sym, ◌∙◌, arith}, lemmas.Bool.{cases_eq, eq-eqb}, lemmas.List.{get_or-set_same, get_or-set_other, length-set, length-replicate, get_or-replicate}, lemmas.List.FromFn.{length-map-range_with_len, get_or-map-range_with_len, fill_by_all}, lemmas.Option.{slice_get-get_or}, lemmas.Nat.{or_lt, and_le_l, mod_below, pow_pos}, lemmas.Nat.Bits.{bit_at-zero, bit_at_set_same, bit_at_set_other, bit_at_clear_same, bit_at_clear_other}}, specs.{Prelude.{◌==◌, slice_index, slice_get, replicate}, Int.{bit_at, bit_not, w64}}}
 use Rattle.df_freeset.specs.Bits.{IsRoom, bit_in, taken_in, with_bit, without_bit, setting, clearing}
 
 pub length_taken : (words : List ℕ) (n : ℕ) → length (taken_in words n) ≡ n

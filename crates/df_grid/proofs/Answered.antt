@@ -1,7 +1,5 @@
 -- The first address that isn't held is one of the grid's, and isn't held.
-use Rattle.std.proofs.Common.{◌≡◌, ℕ, zero, suc, ◌+◌, ◌<◌, ◌≤◌, Bool, true, false, cond, not, Option, Some, None, List, ◌∷◌, refl, sym, ap, ◌∙◌, arith}
-use Rattle.std.specs.Prelude.{IfSome, slice_get}
-use Rattle.std.specs.List.{filter, range_with_len}
+use Rattle.std.{proofs.Common.{◌≡◌, ℕ, zero, suc, ◌+◌, ◌<◌, ◌≤◌, Bool, true, false, cond, not, Option, Some, None, List, ◌∷◌, refl, sym, ap, ◌∙◌, arith}, specs.{Prelude.{IfSome, slice_get}, List.{filter, range_with_len}}}
 use Rattle.df_model.specs.Blocks.{is_held_in}
 use Rattle.df_grid.specs.Grid.{GridState, IsUnheld, free_addresses}
 

@@ -1,20 +1,8 @@
 -- What a capture and its end are for the machine, and that what holds of a table still does.
-use Rattle.std.proofs.Common.{◌≡◌, ℕ, zero, suc, ◌+◌, ◌≤◌, ◌==◌, ◌||◌, Bool, true, false, cond, Some, None, List, [], ◌∷◌, length, map, take, refl, sym, ap, subst, ◌∙◌, arith, eqb-true}
-use Rattle.std.specs.Prelude.{slice_get}
-use Rattle.std.proofs.lemmas.List.{length-map, length-take}
-use Rattle.std.proofs.lemmas.Option.{slice_get_within}
-use Rattle.std.proofs.Math.Bool.{or-false}
-use Rattle.df_model.specs.Work.{is_in}
-use Rattle.df_model.specs.Blocks.{blocks_captured, capture_finished, sum_at}
-use Rattle.df_model.specs.Sense.{RiseFrom}
-use Rattle.df_model.proofs.Laws.{rise_take}
+use Rattle.std.{proofs.{Common.{◌≡◌, ℕ, zero, suc, ◌+◌, ◌≤◌, ◌==◌, ◌||◌, Bool, true, false, cond, Some, None, List, [], ◌∷◌, length, map, take, refl, sym, ap, subst, ◌∙◌, arith, eqb-true}, lemmas.List.{length-map, length-take}, lemmas.Option.{slice_get_within}, Math.Bool.{or-false}}, specs.Prelude.{slice_get}}
+use Rattle.df_model.{specs.{Work.{is_in}, Blocks.{blocks_captured, capture_finished, sum_at}, Sense.{RiseFrom}}, proofs.Laws.{rise_take}}
 use Rattle.df_units.specs.Meaning.{number_of}
-use Rattle.df_grid.specs.declared.entry.Entry.{Entry}
-use Rattle.df_grid.specs.Entries.{is_marked}
-use Rattle.df_grid.specs.Table.{AreTaken, IsGridTable, blocks_in, capturing, finishing, is_captured, is_durable, is_live, open_from, paired, picked}
-use Rattle.df_grid.proofs.Picks.{pick_at, pick_map, pick_none}
-use Rattle.df_grid.proofs.Chains.{pair_same, sum_map}
-use Rattle.df_grid.proofs.Free.{open_rise}
+use Rattle.df_grid.{specs.{declared.entry.Entry.{Entry}, Entries.{is_marked}, Table.{AreTaken, IsGridTable, blocks_in, capturing, finishing, is_captured, is_durable, is_live, open_from, paired, picked}}, proofs.{Picks.{pick_at, pick_map, pick_none}, Chains.{pair_same, sum_map}, Free.{open_rise}}}
 
 -- an entry of a changed list is one of the list, changed
 pub get_map : (f : Entry → Entry) (es : List Entry) (i : ℕ) (x : Entry) → slice_get (map f es) i ≡ Some x → (e : Entry) × (slice_get es i ≡ Some e) × (x ≡ f e)

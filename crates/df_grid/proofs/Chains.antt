@@ -1,13 +1,9 @@
 -- Addresses with their checksums: what is looked up among them, and what changes of the table make of them.
-use Rattle.std.proofs.Common.{◌≡◌, ◌≢◌, ℕ, zero, suc, ◌+◌, ◌<◌, ◌==◌, ◌||◌, Bool, true, false, cond, Some, None, List, [], ◌∷◌, map, set, refl, sym, ap, ◌∙◌, arith, ne_eqb, eqb-true}
-use Rattle.std.specs.Prelude.{slice_get}
+use Rattle.std.{proofs.Common.{◌≡◌, ◌≢◌, ℕ, zero, suc, ◌+◌, ◌<◌, ◌==◌, ◌||◌, Bool, true, false, cond, Some, None, List, [], ◌∷◌, map, set, refl, sym, ap, ◌∙◌, arith, ne_eqb, eqb-true}, specs.Prelude.{slice_get}}
 use Rattle.df_base.proofs.Laws.{same_test}
-use Rattle.df_model.specs.Work.{is_in}
-use Rattle.df_model.specs.Blocks.{sum_at}
-use Rattle.df_model.specs.Sense.{RiseFrom}
+use Rattle.df_model.specs.{Work.{is_in}, Blocks.{sum_at}, Sense.{RiseFrom}}
 use Rattle.df_units.specs.Meaning.{number_of}
-use Rattle.df_grid.specs.declared.entry.Entry.{Entry}
-use Rattle.df_grid.specs.Table.{paired, sum_at_address, sum_from}
+use Rattle.df_grid.specs.{declared.entry.Entry.{Entry}, Table.{paired, sum_at_address, sum_from}}
 
 -- the checksum of an entry's address
 pub sum_there : (a i : ℕ) (es : List Entry) (e : Entry) → a ≡ suc i → slice_get es i ≡ Some e → sum_at_address es a ≡ number_of e.checksum

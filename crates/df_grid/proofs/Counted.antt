@@ -1,14 +1,9 @@
 -- How many entries pass a test, counted by what is looked up at each address.
-use Rattle.std.proofs.Common.{◌≡◌, ℕ, suc, ◌+◌, Bool, true, false, cond, Option, Some, None, List, [], ◌∷◌, length, map, refl, ap, arith}
-use Rattle.std.specs.Prelude.{slice_get}
+use Rattle.std.{proofs.Common.{◌≡◌, ℕ, suc, ◌+◌, Bool, true, false, cond, Option, Some, None, List, [], ◌∷◌, length, map, refl, ap, arith}, specs.Prelude.{slice_get}}
 use Rattle.df_model.specs.Blocks.{sum_at}
 use Rattle.df_units.specs.Meaning.{number_of}
-use Rattle.df_trailer.specs.Spelling.{is_referenced, listed}
-use Rattle.df_trailer.specs.Text.{ones}
-use Rattle.df_trailer.specs.Writing.{captured_blocks}
-use Rattle.df_grid.specs.declared.entry.Entry.{Entry}
-use Rattle.df_grid.specs.Table.{picked}
-use Rattle.df_grid.proofs.Picks.{pick_at}
+use Rattle.df_trailer.specs.{Spelling.{is_referenced, listed}, Text.{ones}, Writing.{captured_blocks}}
+use Rattle.df_grid.{specs.{declared.entry.Entry.{Entry}, Table.{picked}}, proofs.Picks.{pick_at}}
 
 pub counted_from : (test : Entry → Bool) (f : ℕ → Option ℕ) (s : ℕ) (es : List Entry) → ((i : ℕ) (e : Entry) → slice_get es i ≡ Some e → f i ≡ cond (test e) (Some (number_of e.checksum)) None)
     → length (picked test s es) ≡ ones (map is_referenced (listed f (length es)))

@@ -1,15 +1,9 @@
 -- The free addresses of a set: the least one is the first, and as it is taken the others stay.
-use Rattle.std.proofs.Common.{◌≡◌, ℕ, zero, suc, ◌+◌, ◌-◌, ◌<◌, ◌==◌, ◌||◌, not, Bool, true, false, cond, Some, List, [], ◌∷◌, ◌++◌, length, take, drop, set, refl, sym, ap, ◌∙◌, arith, eqb-true}
-use Rattle.std.specs.Prelude.{slice_get}
-use Rattle.std.proofs.lemmas.List.{length-set}
-use Rattle.std.proofs.lemmas.List.Sums.{sum_by-cons}
-use Rattle.std.proofs.lemmas.Bool.{eqb-false}
+use Rattle.std.{proofs.{Common.{◌≡◌, ℕ, zero, suc, ◌+◌, ◌-◌, ◌<◌, ◌==◌, ◌||◌, not, Bool, true, false, cond, Some, List, [], ◌∷◌, ◌++◌, length, take, drop, set, refl, sym, ap, ◌∙◌, arith, eqb-true}, lemmas.List.{length-set}, lemmas.List.Sums.{sum_by-cons}, lemmas.Bool.{eqb-false}}, specs.Prelude.{slice_get}}
 use Rattle.df_base.proofs.Laws.{get_set_other, or_false}
 use Rattle.df_freeset.specs.Addresses.{AreAllTaken, IsLeastFree, count_free}
-use Rattle.df_model.specs.Work.{is_in}
-use Rattle.df_model.specs.Sense.{RiseFrom}
-use Rattle.df_grid.specs.Table.{AreTaken, open_from}
-use Rattle.df_grid.proofs.Single.{get_set_same}
+use Rattle.df_model.specs.{Work.{is_in}, Sense.{RiseFrom}}
+use Rattle.df_grid.{specs.Table.{AreTaken, open_from}, proofs.Single.{get_set_same}}
 
 pub open_count : (s : ℕ) (taken : List Bool) → length (open_from s taken) ≡ count_free taken
 open_count s [] = refl

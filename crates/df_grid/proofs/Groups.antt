@@ -1,20 +1,10 @@
 -- The counts of captured blocks: what each stands for, how the next one is made, and that they stay right.
 use mir.Val.{bool_byte}
-use Rattle.std.proofs.Common.{◌≡◌, ℕ, zero, suc, ◌+◌, ◌*◌, ◌%◌, ◌≤◌, Bool, Bor, true, false, cond, Option, Some, None, List, [], ◌∷◌, ◌++◌, length, take, set, get_or, refl, sym, ap, ◌∙◌, arith}
-use Rattle.std.specs.Prelude.{IfSome, IsSome, slice_get}
-use Rattle.std.specs.List.{count_by}
-use Rattle.std.specs.Option.{option_copied}
-use Rattle.std.specs.Slice.{IsItemAt}
-use Rattle.std.proofs.lemmas.List.{length-append, length-set}
-use Rattle.std.proofs.lemmas.List.Sums.{sum_by-cons}
-use Rattle.std.proofs.lemmas.Option.{slice_get-get_or, slice_get_past, slice_get_read, slice_get_within}
+use Rattle.std.{proofs.{Common.{◌≡◌, ℕ, zero, suc, ◌+◌, ◌*◌, ◌%◌, ◌≤◌, Bool, Bor, true, false, cond, Option, Some, None, List, [], ◌∷◌, ◌++◌, length, take, set, get_or, refl, sym, ap, ◌∙◌, arith}, lemmas.List.{length-append, length-set}, lemmas.List.Sums.{sum_by-cons}, lemmas.Option.{slice_get-get_or, slice_get_past, slice_get_read, slice_get_within}}, specs.{Prelude.{IfSome, IsSome, slice_get}, List.{count_by}, Option.{option_copied}, Slice.{IsItemAt}}}
 use Rattle.df_model.specs.Blocks.{sum_at}
 use Rattle.df_units.specs.Meaning.{number_of}
 use Rattle.df_trailer.specs.Writing.{referenced_among}
-use Rattle.df_grid.specs.declared.entry.Entry.{Entry}
-use Rattle.df_grid.specs.Table.{AreCounts, IsCounted, captured_among, is_captured, picked}
-use Rattle.df_grid.proofs.Counted.{counted_from}
-use Rattle.df_grid.proofs.Picks.{pick_at}
+use Rattle.df_grid.{specs.{declared.entry.Entry.{Entry}, Table.{AreCounts, IsCounted, captured_among, is_captured, picked}}, proofs.{Counted.{counted_from}, Picks.{pick_at}}}
 
 -- ---- what a count stands for
 

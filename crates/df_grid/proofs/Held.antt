@@ -1,16 +1,8 @@
 -- An address is held where its entry is marked or it is to come in the running trailer, and its checksum is the entry's.
-use Rattle.std.proofs.Common.{◌≡◌, ℕ, zero, suc, ◌+◌, ◌<◌, ◌≤◌, ◌||◌, not, Bool, true, false, cond, Option, Some, None, List, [], ◌∷◌, length, refl, sym, ap, subst, ◌∙◌, arith}
-use Rattle.std.specs.Prelude.{slice_get}
-use Rattle.std.specs.List.{filter, range_with_len}
-use Rattle.std.proofs.lemmas.Option.{slice_get_within}
-use Rattle.df_model.specs.Work.{is_in, is_known, or_known}
-use Rattle.df_model.specs.Blocks.{entries, entry, is_held_in, reference_in, sum_at}
+use Rattle.std.{proofs.{Common.{◌≡◌, ℕ, zero, suc, ◌+◌, ◌<◌, ◌≤◌, ◌||◌, not, Bool, true, false, cond, Option, Some, None, List, [], ◌∷◌, length, refl, sym, ap, subst, ◌∙◌, arith}, lemmas.Option.{slice_get_within}}, specs.{Prelude.{slice_get}, List.{filter, range_with_len}}}
+use Rattle.df_model.specs.{Work.{is_in, is_known, or_known}, Blocks.{entries, entry, is_held_in, reference_in, sum_at}}
 use Rattle.df_units.specs.Meaning.{number_of}
-use Rattle.df_grid.specs.declared.entry.Entry.{Entry}
-use Rattle.df_grid.specs.Entries.{is_marked}
-use Rattle.df_grid.specs.Table.{IsGridTable, blocks_in, entry_at, is_captured, is_durable, is_live, open_from, paired, picked, unheld}
-use Rattle.df_grid.proofs.Picks.{below, past, pick_at}
-use Rattle.df_grid.proofs.Chains.{pair_at, sum_there}
+use Rattle.df_grid.{specs.{declared.entry.Entry.{Entry}, Entries.{is_marked}, Table.{IsGridTable, blocks_in, entry_at, is_captured, is_durable, is_live, open_from, paired, picked, unheld}}, proofs.{Picks.{below, past, pick_at}, Chains.{pair_at, sum_there}}}
 
 pub known_if : (b : Bool) (c : ℕ) → is_known (cond b (Some c) None) ≡ b
 known_if true c = refl

@@ -1,19 +1,8 @@
 -- What holds of a table does after one entry is changed, with its address taken where the entry is marked.
-use Rattle.std.proofs.Common.{◌≡◌, ◌≢◌, ℕ, suc, ◌+◌, ◌≤◌, ◌==◌, ◌||◌, Bool, true, false, Some, List, length, set, refl, sym, ap, subst, ◌∙◌, arith, eqb-true}
-use Rattle.std.specs.Prelude.{slice_get}
-use Rattle.std.proofs.lemmas.List.{length-set}
-use Rattle.std.proofs.lemmas.Bool.Decides.{nat_tests}
-use Rattle.std.proofs.lemmas.Bool.{or_parts}
-use Rattle.std.proofs.Math.Bool.{or-false}
+use Rattle.std.{proofs.{Common.{◌≡◌, ◌≢◌, ℕ, suc, ◌+◌, ◌≤◌, ◌==◌, ◌||◌, Bool, true, false, Some, List, length, set, refl, sym, ap, subst, ◌∙◌, arith, eqb-true}, lemmas.List.{length-set}, lemmas.Bool.Decides.{nat_tests}, lemmas.Bool.{or_parts}, Math.Bool.{or-false}}, specs.Prelude.{slice_get}}
 use Rattle.df_base.proofs.Laws.{get_set_other}
-use Rattle.df_model.specs.Work.{is_in}
-use Rattle.df_model.specs.Sense.{RiseFrom}
-use Rattle.df_model.specs.Blocks.{is_held_in}
-use Rattle.df_grid.specs.declared.entry.Entry.{Entry}
-use Rattle.df_grid.specs.Entries.{HasEntry, is_marked}
-use Rattle.df_grid.specs.Table.{IsGridTable, blocks_in}
-use Rattle.df_grid.proofs.Single.{get_set_same, not_both, one_there}
-use Rattle.df_grid.proofs.Held.{held_at}
+use Rattle.df_model.specs.{Work.{is_in}, Sense.{RiseFrom}, Blocks.{is_held_in}}
+use Rattle.df_grid.{specs.{declared.entry.Entry.{Entry}, Entries.{HasEntry, is_marked}, Table.{IsGridTable, blocks_in}}, proofs.{Single.{get_set_same, not_both, one_there}, Held.{held_at}}}
 
 -- the lists after the change say of the other addresses what they said before, and of this one what its entry says
 pub record Agrees (es : List Entry) (written left chain : List ℕ) (a : ℕ) (e : Entry) (written2 left2 chain2 : List ℕ) : Type 0 where

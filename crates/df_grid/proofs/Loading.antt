@@ -1,18 +1,13 @@
 -- What is read into a room is what the machine reads.
-use Rattle.std.proofs.Common.{◌≡◌, Option, Some, None, List, ℕ, refl}
-use Rattle.std.specs.Prelude.{Result, Ok, Err, IfOk}
+use Rattle.std.{proofs.Common.{◌≡◌, Option, Some, None, List, ℕ, refl}, specs.Prelude.{Result, Ok, Err, IfOk}}
 use Rattle.df_base.specs.declared.Failed.{Failed}
 use Rattle.df_disk.specs.Told.{Told}
-use Rattle.df_layout.specs.declared.damage.Class.{Class}
-use Rattle.df_layout.specs.declared.layout.Layout.{Layout}
-use Rattle.df_format.specs.declared.kind.Kind.TheVariants.{Block}
-use Rattle.df_format.specs.Spelling.{IsCheck}
-use Rattle.df_buffers.specs.declared.identity.Identity.{Identity}
-use Rattle.df_buffers.specs.Sounds.{Holding}
+use Rattle.df_layout.specs.{declared.damage.Class.{Class}, declared.layout.Layout.{Layout}}
+use Rattle.df_format.specs.{declared.kind.Kind.TheVariants.{Block}, Spelling.{IsCheck}}
+use Rattle.df_buffers.specs.{declared.identity.Identity.{Identity}, Sounds.{Holding}}
 use Rattle.df_places.specs.Shelves.{HoldsFound, IsRead}
 use Rattle.df_units.specs.Meaning.{number_of}
-use Rattle.df_grid.specs.Reads.{HoldsKnown, Loads, at_address}
-use Rattle.df_grid.proofs.Reading.{shows_block, shows_other_block, shows_valid}
+use Rattle.df_grid.{specs.Reads.{HoldsKnown, Loads, at_address}, proofs.Reading.{shows_block, shows_other_block, shows_valid}}
 
 module _ (layout : Layout) (cluster a : ℕ) (check : List ℕ) (fits : IsCheck check) (told : Option Told) (identity : Identity) (there : identity ≡ at_address layout cluster a check) (known : Option ℕ) (same : known ≡ Some (number_of check)) where
   pub loads : (wrong : Option Class) (held : Option Holding) → HoldsFound Block identity wrong held → IsRead Block identity told wrong held → Loads layout cluster told a known wrong held

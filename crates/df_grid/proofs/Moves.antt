@@ -1,18 +1,8 @@
 -- What a change at one address is for the machine, and that what holds of a table still does.
-use Rattle.std.proofs.Common.{◌≡◌, ℕ, suc, ◌+◌, ◌==◌, ◌||◌, Bool, true, false, Some, List, [], ◌∷◌, set, refl, sym, ap, subst, ◌∙◌, arith, eq-eqb, ne_eqb}
-use Rattle.std.specs.Prelude.{slice_get}
-use Rattle.std.proofs.lemmas.Bool.{or_left, false_from_ne_true, or_right}
-use Rattle.df_model.specs.Work.{is_in}
-use Rattle.df_model.specs.Blocks.{block_released, block_written, trailer_written}
-use Rattle.df_model.specs.Sense.{RiseFrom}
+use Rattle.std.{proofs.{Common.{◌≡◌, ℕ, suc, ◌+◌, ◌==◌, ◌||◌, Bool, true, false, Some, List, [], ◌∷◌, set, refl, sym, ap, subst, ◌∙◌, arith, eq-eqb, ne_eqb}, lemmas.Bool.{or_left, false_from_ne_true, or_right}}, specs.Prelude.{slice_get}}
+use Rattle.df_model.specs.{Work.{is_in}, Blocks.{block_released, block_written, trailer_written}, Sense.{RiseFrom}}
 use Rattle.df_units.specs.Meaning.{number_of}
-use Rattle.df_grid.specs.declared.entry.Entry.{Entry}
-use Rattle.df_grid.specs.Entries.{HasEntry, is_marked}
-use Rattle.df_grid.specs.Table.{IsGridTable, adopted, blocks_in, is_captured, is_durable, is_live, paired, sum_at_address}
-use Rattle.df_grid.proofs.Single.{get_set_same, not_both}
-use Rattle.df_grid.proofs.Picks.{pick_keep, pick_set, pick_unset}
-use Rattle.df_grid.proofs.Chains.{pair_same, rise_out, sum_keep, sum_other, sum_there}
-use Rattle.df_grid.proofs.Keeping.{Agrees, HasNone, has_none, kept}
+use Rattle.df_grid.{specs.{declared.entry.Entry.{Entry}, Entries.{HasEntry, is_marked}, Table.{IsGridTable, adopted, blocks_in, is_captured, is_durable, is_live, paired, sum_at_address}}, proofs.{Single.{get_set_same, not_both}, Picks.{pick_keep, pick_set, pick_unset}, Chains.{pair_same, rise_out, sum_keep, sum_other, sum_there}, Keeping.{Agrees, HasNone, has_none, kept}}}
 
 falls : {P : Type 0} (b : Bool) → b ≡ false → b ≡ true → P
 falls b clear is = not_both b is clear

@@ -1,11 +1,8 @@
 -- The entries that pass a test: what is looked up among them, and what a change of one entry makes of them.
-use Rattle.std.proofs.Common.{◌≡◌, ℕ, zero, suc, ◌+◌, ◌<◌, ◌≤◌, ◌==◌, Bool, true, false, cond, nat_lt, Some, None, List, [], ◌∷◌, length, map, set, refl, sym, ap, ◌∙◌, arith, eq-eqb, ne_eqb, lt-ltb, le-ltb}
-use Rattle.std.specs.Prelude.{slice_get}
-use Rattle.std.proofs.lemmas.Bool.{cond-true, cond-false}
+use Rattle.std.{proofs.{Common.{◌≡◌, ℕ, zero, suc, ◌+◌, ◌<◌, ◌≤◌, ◌==◌, Bool, true, false, cond, nat_lt, Some, None, List, [], ◌∷◌, length, map, set, refl, sym, ap, ◌∙◌, arith, eq-eqb, ne_eqb, lt-ltb, le-ltb}, lemmas.Bool.{cond-true, cond-false}}, specs.Prelude.{slice_get}}
 use Rattle.df_model.specs.Blocks.{sum_at, with_entry, without_entry}
 use Rattle.df_units.specs.Meaning.{number_of}
-use Rattle.df_grid.specs.declared.entry.Entry.{Entry}
-use Rattle.df_grid.specs.Table.{picked}
+use Rattle.df_grid.specs.{declared.entry.Entry.{Entry}, Table.{picked}}
 
 -- an entry at another address is passed over
 other_at : (a s n : ℕ) (passes : Bool) (l : List (ℕ × ℕ)) → (s == a) ≡ false → sum_at a (cond passes ((s, n) ∷ l) l) ≡ sum_at a l

@@ -1,39 +1,17 @@
 -- What was read into a room is what the machine reads there.
-use Rattle.std.proofs.Common.{◌≡◌, ◌==◌, inl, inr, ℕ, ◌<◌, Bool, true, false, cond, not, Option, Some, None, List, refl, sym, ap, subst, ◌∙◌, arith, eq-eqb, ne_eqb, eqb-true}
-use Rattle.std.specs.Prelude.{Result, Ok, Err}
-use Rattle.std.specs.Bool.{Decides}
-use Rattle.std.specs.Str.{bytes_eq}
-use Rattle.std.proofs.lemmas.Slice.Eq.{bytes_eq-Decides}
+use Rattle.std.{proofs.{Common.{◌≡◌, ◌==◌, inl, inr, ℕ, ◌<◌, Bool, true, false, cond, not, Option, Some, None, List, refl, sym, ap, subst, ◌∙◌, arith, eq-eqb, ne_eqb, eqb-true}, lemmas.Slice.Eq.{bytes_eq-Decides}}, specs.{Prelude.{Result, Ok, Err}, Bool.{Decides}, Str.{bytes_eq}}}
 use Rattle.df_base.specs.Image.{Image}
 use Rattle.df_disk.specs.Told.{Told}
-use Rattle.df_layout.specs.declared.damage.Class.{Class}
-use Rattle.df_layout.specs.declared.damage.Class.TheVariants.{Stale}
-use Rattle.df_layout.specs.declared.layout.Layout.{Layout}
-use Rattle.df_layout.specs.declared.places.Zone.TheVariants.{Grid}
-use Rattle.df_format.specs.declared.header.Header.{Header}
-use Rattle.df_format.specs.declared.kind.Kind.{Kind}
-use Rattle.df_format.specs.declared.kind.Kind.TheVariants.{Block, Trailer}
-use Rattle.df_format.specs.Message.{Message}
-use Rattle.df_format.specs.Own.{place_in}
+use Rattle.df_layout.specs.{declared.damage.Class.{Class}, declared.damage.Class.TheVariants.{Stale}, declared.layout.Layout.{Layout}, declared.places.Zone.TheVariants.{Grid}}
+use Rattle.df_format.{specs.{declared.header.Header.{Header}, declared.kind.Kind.{Kind}, declared.kind.Kind.TheVariants.{Block, Trailer}, Message.{Message}, Own.{place_in}, Shown.{header_or_class}, Spelling.{IsCheck}, Valid.{IsUnit}, Rules.{ObeysBlock, ObeysKind, ObeysTrailer}}, proofs.Laws.{valid_belongs, shown_stale}}
 use Rattle.df_format.specs.Shown
-use Rattle.df_format.specs.Shown.{header_or_class}
-use Rattle.df_format.specs.Spelling.{IsCheck}
-use Rattle.df_format.specs.Valid.{IsUnit}
-use Rattle.df_format.specs.Rules.{ObeysBlock, ObeysKind, ObeysTrailer}
-use Rattle.df_format.proofs.Laws.{valid_belongs, shown_stale}
-use Rattle.df_buffers.specs.declared.identity.Identity.{Identity}
-use Rattle.df_buffers.specs.Sounds.{Holding}
+use Rattle.df_buffers.specs.{declared.identity.Identity.{Identity}, Sounds.{Holding}}
 use Rattle.df_theory.specs.Units
 use Rattle.df_theory.specs.Units.{BlockPlace}
 use Rattle.df_model.specs.Supply.{block_at, block_given, class_or, given_if, is_sum, no_trailer}
-use Rattle.df_units.specs.Meaning.{block_of, number_of}
-use Rattle.df_units.specs.Bytes.{message_unit}
-use Rattle.df_units.proofs.Laws.{one_number, sealed_check}
-use Rattle.df_places.specs.Units.{IsSeen}
-use Rattle.df_grid.specs.Grid.{IsKnownBlock}
-use Rattle.df_places.specs.Shelves.{HoldsFound, IsFoundUnit, IsOf, IsRead}
-use Rattle.df_grid.specs.Reads.{IsFaultOf, at_address, ReadsBlock, ReadsTrailer, Tests, class_in, shown_of, trailer_alone}
-use Rattle.df_grid.proofs.Single.{not_both}
+use Rattle.df_units.{specs.{Meaning.{block_of, number_of}, Bytes.{message_unit}}, proofs.Laws.{one_number, sealed_check}}
+use Rattle.df_places.specs.{Units.{IsSeen}, Shelves.{HoldsFound, IsFoundUnit, IsOf, IsRead}}
+use Rattle.df_grid.{specs.{Grid.{IsKnownBlock}, Reads.{IsFaultOf, at_address, ReadsBlock, ReadsTrailer, Tests, class_in, shown_of, trailer_alone}}, proofs.Single.{not_both}}
 
 -- the machine's answer is one about the message that is shown
 abbrev pub given : Option ℕ → Option Message → Class → Result Units.Block Class

@@ -1,6 +1,5 @@
 -- What tests say, and lists at one index.
-use Rattle.std.proofs.Common.{◌≡◌, ℕ, zero, suc, Bool, true, false, Some, List, [], ◌∷◌, set, refl, sym, ap}
-use Rattle.std.specs.Prelude.{slice_get}
+use Rattle.std.{proofs.Common.{◌≡◌, ℕ, zero, suc, Bool, true, false, Some, List, [], ◌∷◌, set, refl, sym, ap}, specs.Prelude.{slice_get}}
 
 pub not_both : {P : Type 0} (b : Bool) → b ≡ true → b ≡ false → P
 not_both true is isnt = absurd (cc)

@@ -1,20 +1,9 @@
 -- The turns of loops over the table: a part is changed, a part isn't yet.
-use Rattle.std.proofs.Common.{◌≡◌, ℕ, zero, suc, ◌+◌, ◌<◌, ◌≤◌, Bool, true, false, cond, nat_lt, Some, List, [], ◌∷◌, ◌++◌, length, map, take, drop, set, refl, sym, ap, ◌∙◌, arith, lt-ltb, le-ltb}
-use Rattle.std.specs.Prelude.{slice_get}
-use Rattle.std.specs.List.{filter}
-use Rattle.std.proofs.lemmas.List.{length-drop, length-set, length-take}
-use Rattle.std.proofs.lemmas.List.Edits.{map_over_more}
-use Rattle.std.proofs.lemmas.Option.{get_or_from_slice_get}
-use Rattle.std.proofs.lemmas.Bool.Decides.{nat_tests}
-use Rattle.std.proofs.lemmas.Bool.{cond-true, cond-false}
+use Rattle.std.{proofs.{Common.{◌≡◌, ℕ, zero, suc, ◌+◌, ◌<◌, ◌≤◌, Bool, true, false, cond, nat_lt, Some, List, [], ◌∷◌, ◌++◌, length, map, take, drop, set, refl, sym, ap, ◌∙◌, arith, lt-ltb, le-ltb}, lemmas.List.{length-drop, length-set, length-take}, lemmas.List.Edits.{map_over_more}, lemmas.Option.{get_or_from_slice_get}, lemmas.Bool.Decides.{nat_tests}, lemmas.Bool.{cond-true, cond-false}}, specs.{Prelude.{slice_get}, List.{filter}}}
 use Rattle.df_base.proofs.Laws.{get_set_other}
 use Rattle.df_freeset.specs.Addresses.{AreAllTaken, count_free}
 use Rattle.df_units.specs.Meaning.{number_of}
-use Rattle.df_grid.specs.declared.entry.Entry.{Entry}
-use Rattle.df_grid.specs.Entries.{is_marked}
-use Rattle.df_grid.specs.Table.{AreFinished, AreTaken, finishing, open_from, picked}
-use Rattle.df_grid.proofs.Single.{get_set_same}
-use Rattle.df_grid.proofs.Free.{all_none, open_count}
+use Rattle.df_grid.{specs.{declared.entry.Entry.{Entry}, Entries.{is_marked}, Table.{AreFinished, AreTaken, finishing, open_from, picked}}, proofs.{Single.{get_set_same}, Free.{all_none, open_count}}}
 
 -- ---- each entry is changed
 

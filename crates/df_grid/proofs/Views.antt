@@ -1,25 +1,10 @@
 -- A table's value after a change, and what its requirements say of its entries.
-use Rattle.std.proofs.Common.{◌≡◌, ℕ, zero, suc, ◌-◌, ◌<◌, ◌≤◌, ◌==◌, ◌||◌, Bool, true, false, cond, Option, Some, None, List, [], ◌∷◌, length, drop, get_or, not, set, refl, sym, ap, subst, ◌∙◌, arith, eq-eqb}
-use Rattle.std.specs.Prelude.{IfSome, IsNone, ◌↔◌, slice_get, replicate}
+use Rattle.std.{proofs.{Common.{◌≡◌, ℕ, zero, suc, ◌-◌, ◌<◌, ◌≤◌, ◌==◌, ◌||◌, Bool, true, false, cond, Option, Some, None, List, [], ◌∷◌, length, drop, get_or, not, set, refl, sym, ap, subst, ◌∙◌, arith, eq-eqb}, lemmas.List.{length-replicate, length-set}, lemmas.Option.{slice_get_within}, lemmas.Bool.{or_left}}, specs.Prelude.{IfSome, IsNone, ◌↔◌, slice_get, replicate}}
 use Rattle.df_freeset.specs.Addresses.{AreAllTaken, IsLeastFree}
-use Rattle.df_model.specs.Work.{is_in, is_known}
-use Rattle.df_model.specs.Blocks.{Blocks, block_released, sum_at, trailer_written}
+use Rattle.df_model.{specs.{Work.{is_in, is_known}, Blocks.{Blocks, block_released, sum_at, trailer_written}}, proofs.Laws.{without_none}}
 use Rattle.df_units.specs.Meaning.{number_of}
 use Rattle.df_trailer.specs.Rooms.{number_in}
-use Rattle.df_grid.specs.declared.entry.Entry.{Entry}
-use Rattle.df_grid.specs.Entries.{HasEntry, entries_of, entry_of, is_marked}
-use Rattle.df_grid.specs.Table.{IsGridTable, TableState, adopted, blocks_in, entry_at, is_captured, is_durable, is_live, next_written, no_blocks, paired, picked, unheld, written_of}
-use Rattle.std.proofs.lemmas.List.{length-replicate, length-set}
-use Rattle.std.proofs.lemmas.Option.{slice_get_within}
-use Rattle.std.proofs.lemmas.Bool.{or_left}
-use Rattle.df_model.proofs.Laws.{without_none}
-use Rattle.df_grid.proofs.Zips.{length_entries}
-use Rattle.df_grid.proofs.Keeping.{HasNone, has_none}
-use Rattle.df_grid.proofs.Held.{look_some, unheld_open}
-use Rattle.df_grid.proofs.Free.{all_none, least_first}
-use Rattle.df_grid.proofs.Picks.{pick_none}
-use Rattle.df_grid.proofs.Chains.{sum_there}
-use Rattle.df_grid.proofs.Moves.{chained_blocks, chained_kept, dead_blocks, dead_kept, durable_blocks, durable_kept, next_inside, next_spare, written_blocks, written_kept}
+use Rattle.df_grid.{specs.{declared.entry.Entry.{Entry}, Entries.{HasEntry, entries_of, entry_of, is_marked}, Table.{IsGridTable, TableState, adopted, blocks_in, entry_at, is_captured, is_durable, is_live, next_written, no_blocks, paired, picked, unheld, written_of}}, proofs.{Zips.{length_entries}, Keeping.{HasNone, has_none}, Held.{look_some, unheld_open}, Free.{all_none, least_first}, Picks.{pick_none}, Chains.{sum_there}, Moves.{chained_blocks, chained_kept, dead_blocks, dead_kept, durable_blocks, durable_kept, next_inside, next_spare, written_blocks, written_kept}}}
 
 abbrev pub state_of : ℕ → Blocks → TableState
 state_of size blocks = record { size = size; blocks = blocks }

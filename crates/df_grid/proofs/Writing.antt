@@ -1,39 +1,15 @@
 -- A sound block stands at the address that its header names, and its write is the machine's put there.
-use Rattle.std.proofs.Common.{◌≡◌, ◌==◌, ◌↔◌, inl, inr, ℕ, ◌+◌, ◌<◌, ◌≤◌, ◌^◌, List, [], ◌∷◌, length, take, Option, Some, None, refl, sym, ap, subst, ◌∙◌, arith}
-use Rattle.std.specs.Prelude.{IfSome, IsSome, slice_get}
-use Rattle.std.proofs.lemmas.Bool.{cases_lt, cond-true, cond-false, eq-eqb, ne_eqb}
-use Rattle.std.proofs.lemmas.Bool.Decides.{nat_tests}
-use Rattle.df_base.specs.Log.{Write}
-use Rattle.df_base.specs.Fields.{spelled}
-use Rattle.df_layout.specs.declared.layout.Layout.{Layout}
-use Rattle.df_layout.specs.declared.places.Place.{Place}
-use Rattle.df_layout.specs.declared.places.Zone.{Zone}
-use Rattle.df_layout.specs.declared.places.Zone.TheVariants.{Grid}
-use Rattle.df_layout.specs.Spans.{span_of}
-use Rattle.df_format.specs.declared.header.Header.{Header}
-use Rattle.df_format.specs.declared.kind.Kind.{Kind}
-use Rattle.df_format.specs.declared.kind.Kind.TheVariants.{Trailer}
-use Rattle.df_format.specs.declared.reference.Reference.{Reference}
-use Rattle.df_format.specs.Making.{for_body}
-use Rattle.df_format.specs.Message.{Message, sectors_end, sectors_of}
-use Rattle.df_format.specs.Own.{own_place, place_in}
-use Rattle.df_format.specs.Rules.{ObeysRules, ObeysVersion}
-use Rattle.df_format.specs.Spelling.{IsCheck, no_checksum}
-use Rattle.df_format.specs.Valid.{Belongs, IsAtAddress, IsUnit}
-use Rattle.df_format.proofs.Laws.{given_obeys, of_first, valid_belongs, zeros_are}
+use Rattle.std.{proofs.{Common.{◌≡◌, ◌==◌, ◌↔◌, inl, inr, ℕ, ◌+◌, ◌<◌, ◌≤◌, ◌^◌, List, [], ◌∷◌, length, take, Option, Some, None, refl, sym, ap, subst, ◌∙◌, arith}, lemmas.Bool.{cases_lt, cond-true, cond-false, eq-eqb, ne_eqb}, lemmas.Bool.Decides.{nat_tests}}, specs.Prelude.{IfSome, IsSome, slice_get}}
+use Rattle.df_base.specs.{Log.{Write}, Fields.{spelled}}
+use Rattle.df_layout.specs.{declared.layout.Layout.{Layout}, declared.places.Place.{Place}, declared.places.Zone.{Zone}, declared.places.Zone.TheVariants.{Grid}, Spans.{span_of}}
+use Rattle.df_format.{specs.{declared.header.Header.{Header}, declared.kind.Kind.{Kind}, declared.kind.Kind.TheVariants.{Trailer}, declared.reference.Reference.{Reference}, Making.{for_body}, Message.{Message, sectors_end, sectors_of}, Own.{own_place, place_in}, Rules.{ObeysRules, ObeysVersion}, Spelling.{IsCheck, no_checksum}, Valid.{Belongs, IsAtAddress, IsUnit}}, proofs.Laws.{given_obeys, of_first, valid_belongs, zeros_are}}
 use Rattle.df_buffers.specs.Sounds.{Holding, IsSound}
-use Rattle.df_theory.specs.Device.{AreSteps}
+use Rattle.df_theory.specs.{Device.{AreSteps}, Units.{AnyUnit, BlockPlace, BlockUnit}}
 use Rattle.df_theory.specs.Units
-use Rattle.df_theory.specs.Units.{AnyUnit, BlockPlace, BlockUnit}
-use Rattle.df_model.specs.Blocks.{Blocks}
-use Rattle.df_model.specs.Making.{first_of}
-use Rattle.df_units.specs.Format.{format_of}
-use Rattle.df_units.specs.Meaning.{block_of, number_of, place_of, unit_of}
-use Rattle.df_units.proofs.Laws.{no_number, whole_check}
+use Rattle.df_model.specs.{Blocks.{Blocks}, Making.{first_of}}
+use Rattle.df_units.{specs.{Format.{format_of}, Meaning.{block_of, number_of, place_of, unit_of}}, proofs.Laws.{no_number, whole_check}}
 use Rattle.df_places.specs.Units.{put_events, put_steps}
-use Rattle.df_grid.specs.Grid.{GridState}
-use Rattle.df_grid.specs.Table.{pair_in}
-use Rattle.df_grid.specs.Writes.{IsBefore, address_in, block_events, block_steps, checksum_in, first_address, first_sum, header_with, made, made_events, next_block, next_header, next_unit, version_in}
+use Rattle.df_grid.specs.{Grid.{GridState}, Table.{pair_in}, Writes.{IsBefore, address_in, block_events, block_steps, checksum_in, first_address, first_sum, header_with, made, made_events, next_block, next_header, next_unit, version_in}}
 
 pub own_block : (layout : Layout) (kind : Kind) (held : Holding) → IsSound Grid kind held → held.layout ≡ layout → IsUnit layout held.unit.header.cluster (place_in Grid held.unit.header.op) held.unit
 own_block layout kind held sound same =

@@ -1,8 +1,6 @@
 -- Checksums and marks side by side are entries, and an entry is found again in its marks.
-use Rattle.std.proofs.Common.{◌≡◌, ℕ, zero, suc, ◌+◌, ◌*◌, ◌/◌, ◌%◌, ◌≤◌, ◌==◌, Bool, true, false, Some, List, [], ◌∷◌, length, set, refl, ap, ◌∙◌, arith}
-use Rattle.std.specs.Prelude.{slice_get}
-use Rattle.df_grid.specs.declared.entry.Entry.{Entry}
-use Rattle.df_grid.specs.Entries.{bit, entries_of, entry_of, mark_of}
+use Rattle.std.{proofs.Common.{◌≡◌, ℕ, zero, suc, ◌+◌, ◌*◌, ◌/◌, ◌%◌, ◌≤◌, ◌==◌, Bool, true, false, Some, List, [], ◌∷◌, length, set, refl, ap, ◌∙◌, arith}, specs.Prelude.{slice_get}}
+use Rattle.df_grid.specs.{declared.entry.Entry.{Entry}, Entries.{bit, entries_of, entry_of, mark_of}}
 
 -- ---- marks
 

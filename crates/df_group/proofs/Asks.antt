@@ -1,16 +1,8 @@
 -- The client's session, as the theory sees it.
-use Rattle.std.proofs.Common.{◌≡◌, inl, inr, ℕ, zero, suc, ◌+◌, ◌-◌, ◌<◌, ◌≤◌, ◌↔◌, ◌⊎◌, Bool, true, false, List, [], ◌∷◌, length, get_or, Some, None, Option, refl, ap, subst, arith}
-use Rattle.std.specs.List.{position, position_or_len, slice_get}
-use Rattle.std.specs.Prelude.{nat_lt}
-use Rattle.std.proofs.lemmas.Bool.{cases_Bool, eqb-true, eq-eqb}
+use Rattle.std.{proofs.{Common.{◌≡◌, inl, inr, ℕ, zero, suc, ◌+◌, ◌-◌, ◌<◌, ◌≤◌, ◌↔◌, ◌⊎◌, Bool, true, false, List, [], ◌∷◌, length, get_or, Some, None, Option, refl, ap, subst, arith}, lemmas.Bool.{cases_Bool, eqb-true, eq-eqb}, lemmas.List.Sums.{fails_before_first}, lemmas.Option.{get_or_from_slice_get}}, specs.{List.{position, position_or_len, slice_get}, Prelude.{nat_lt}}}
 use borrow.Author.Tests.{ltb-false}
-use Rattle.std.proofs.lemmas.List.Sums.{fails_before_first}
-use Rattle.std.proofs.lemmas.Option.{get_or_from_slice_get}
 use Rattle.df_format.specs.declared.header.Header.{Header}
-use Rattle.df_sessions.specs.declared.session.Session.{Session}
-use Rattle.df_sessions.specs.Requests.{session_of, sessions_of}
-use Rattle.df_sessions.specs.Table.{IsKnownClient, has_client, with_request}
-use Rattle.df_sessions.proofs.Laws.{IsFirst, first_place}
+use Rattle.df_sessions.{specs.{declared.session.Session.{Session}, Requests.{session_of, sessions_of}, Table.{IsKnownClient, has_client, with_request}}, proofs.Laws.{IsFirst, first_place}}
 use Rattle.df_theory.specs.Units
 use Rattle.df_theory.specs.Sessions.{MayAsk, noted}
 use Rattle.df_units.specs.Meaning.{header_of}

@@ -1,9 +1,6 @@
 -- A prepare says nothing of the head exactly where it was cut off with its group.
-use Rattle.std.proofs.Common.{◌≡◌, ◌==◌, ◌↔◌, inl, inr, ℕ, ◌+◌, ◌≤◌, Bool, true, false, refl, sym, ◌∙◌, ap, arith}
-use Rattle.std.specs.Prelude.{nat_lt, ◌&&◌}
-use Rattle.std.proofs.lemmas.Bool.{cases_Bool, cases_eq, cond-true, cond-false, eq-eqb, eqb-true, lt-ltb, ltb-true, ne_eqb}
-use Rattle.df_theory.specs.Units.{Header}
-use Rattle.df_theory.specs.Tails.{BindsHead, IsCutOff}
+use Rattle.std.{proofs.{Common.{◌≡◌, ◌==◌, ◌↔◌, inl, inr, ℕ, ◌+◌, ◌≤◌, Bool, true, false, refl, sym, ◌∙◌, ap, arith}, lemmas.Bool.{cases_Bool, cases_eq, cond-true, cond-false, eq-eqb, eqb-true, lt-ltb, ltb-true, ne_eqb}}, specs.Prelude.{nat_lt, ◌&&◌}}
+use Rattle.df_theory.specs.{Units.{Header}, Tails.{BindsHead, IsCutOff}}
 use Rattle.df_units.specs.Greatest.{in_boot}
 use Rattle.df_group.specs.Cut.{binding_op, is_cut_off}
 

@@ -1,9 +1,6 @@
 -- Groups of prepares, one prepare longer, and of lists that follow one another.
 use Rattle.std.proofs.Common.{◌≡◌, ◌↔◌, inl, inr, ℕ, suc, ◌+◌, ◌<◌, List, [], ◌∷◌, ◌++◌, length, refl, sym, subst, arith}
-use Rattle.df_theory.specs.Units.{Header, Message, Session}
-use Rattle.df_theory.specs.Sessions.{noted, sessions_after}
-use Rattle.df_theory.specs.Tails.{AreGroups, Chain, Fits, FitsGroup, In, last_checksum, last_mark}
-use Rattle.df_theory.proofs.Laws.{groups_closed}
+use Rattle.df_theory.{specs.{Units.{Header, Message, Session}, Sessions.{noted, sessions_after}, Tails.{AreGroups, Chain, Fits, FitsGroup, In, last_checksum, last_mark}}, proofs.Laws.{groups_closed}}
 
 -- groups after whole groups
 pub groups_join : (f l op low : ℕ) (ps qs : List Message) → l < op + length ps → ((p : Message) → In p ps → p.header.group_last < op + length ps) → low < op + length ps → AreGroups f l op ps → AreGroups 0 low (op + length ps) qs → AreGroups f l op (ps ++ qs)

@@ -1,15 +1,7 @@
 -- The head and what is lost after it, told by the prepare that is reached last, and by where the last whole group ends.
 use Rattle.std.proofs.Common.{◌≡◌, ◌↔◌, inl, inr, ℕ, ◌+◌, ◌<◌, ◌≤◌, List, [], ◌∷◌, ◌++◌, length, Option, Some, None, refl, sym, ◌∙◌, ap, subst, arith, length-append}
-use Rattle.df_theory.specs.Units.{Content, Message, Session, Units}
-use Rattle.df_theory.specs.Sessions.{noted}
-use Rattle.df_theory.specs.Shape.{Shape, clients}
-use Rattle.df_theory.specs.Tails.{AreGroups, Chain, In}
-use Rattle.df_theory.specs.View.{Checkpoint}
-use Rattle.df_theory.specs.Found.{NotLost}
-use Rattle.df_theory.specs.GroupLaws.{HaveGroups, ShowsGroup, Walks}
-use Rattle.df_theory.proofs.Laws.{chain_append, in_either, lost_law}
-use Rattle.df_group.specs.Words.{HeadLaw, IsHeadBy, IsOpenGroup, IsTornAt, NoneLostBy, SurvivorLaw, last_prepare}
-use Rattle.df_group.proofs.Grouping.{in_some}
+use Rattle.df_theory.{specs.{Units.{Content, Message, Session, Units}, Sessions.{noted}, Shape.{Shape, clients}, Tails.{AreGroups, Chain, In}, View.{Checkpoint}, Found.{NotLost}, GroupLaws.{HaveGroups, ShowsGroup, Walks}}, proofs.Laws.{chain_append, in_either, lost_law}}
+use Rattle.df_group.{specs.Words.{HeadLaw, IsHeadBy, IsOpenGroup, IsTornAt, NoneLostBy, SurvivorLaw, last_prepare}, proofs.Grouping.{in_some}}
 
 pub survivor_law : SurvivorLaw
 survivor_law image c top s p have low shown above = (

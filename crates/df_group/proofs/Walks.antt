@@ -1,23 +1,11 @@
 -- A walk along prepares that are taken, one after the other, whatever they are taken by.
-use Rattle.std.proofs.Common.{◌≡◌, ◌↔◌, inl, inr, ℕ, ◌+◌, ◌<◌, ◌≤◌, List, [], ◌∷◌, ◌++◌, length, refl, sym, ◌∙◌, ap, subst, arith, length-append, append_assoc}
-use Rattle.std.proofs.lemmas.Bool.{cases_lt}
-use Rattle.std.proofs.lemmas.List.{append-nil}
+use Rattle.std.proofs.{Common.{◌≡◌, ◌↔◌, inl, inr, ℕ, ◌+◌, ◌<◌, ◌≤◌, List, [], ◌∷◌, ◌++◌, length, refl, sym, ◌∙◌, ap, subst, arith, length-append, append_assoc}, lemmas.Bool.{cases_lt}, lemmas.List.{append-nil}}
 use Rattle.df_format.specs.declared.header.Header.{Header}
-use Rattle.df_sessions.specs.declared.session.Session.{Session}
-use Rattle.df_sessions.specs.Requests.{sessions_of}
-use Rattle.df_sessions.specs.Table.{Table, with_request}
+use Rattle.df_sessions.specs.{declared.session.Session.{Session}, Requests.{sessions_of}, Table.{Table, with_request}}
 use Rattle.df_theory.specs.Units
-use Rattle.df_theory.specs.Sessions.{noted, sessions_after}
-use Rattle.df_theory.specs.Tails.{AreGroups, AreWholeGroups, Chain, EndsAt as EndsGroup, Fits, FitsGroup, In, last_checksum, last_mark}
-use Rattle.df_theory.specs.View.{Checkpoint}
-use Rattle.df_theory.proofs.Laws.{chain_append, last_mark-append, sessions-append, in_either, in_single, last_checksum-append, fits_closed}
+use Rattle.df_theory.{specs.{Sessions.{noted, sessions_after}, Tails.{AreGroups, AreWholeGroups, Chain, EndsAt as EndsGroup, Fits, FitsGroup, In, last_checksum, last_mark}, View.{Checkpoint}}, proofs.Laws.{chain_append, last_mark-append, sessions-append, in_either, in_single, last_checksum-append, fits_closed}}
 use Rattle.df_units.specs.Meaning.{header_of, number_of}
-use Rattle.df_group.specs.declared.groups.Tail.{Tail}
-use Rattle.df_group.specs.declared.groups.Position.{Position}
-use Rattle.df_group.specs.Fitting.{FitsAt, position_of, tail_to}
-use Rattle.df_group.specs.Reached.{BeginsBehind, EndsAt}
-use Rattle.df_group.proofs.Asks.{noted_is}
-use Rattle.df_group.proofs.Grouping.{fits_same, groups_join, groups_next, in_some}
+use Rattle.df_group.{specs.{declared.groups.Tail.{Tail}, declared.groups.Position.{Position}, Fitting.{FitsAt, position_of, tail_to}, Reached.{BeginsBehind, EndsAt}}, proofs.{Asks.{noted_is}, Grouping.{fits_same, groups_join, groups_next, in_some}}}
 
 -- prepares after these, down to this end
 pub record ReachesTo (b : Checkpoint) (ps more : List Units.Message) (last : Tail) (sessions : List Session) : Type 0 where

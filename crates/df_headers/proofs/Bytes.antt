@@ -1,10 +1,6 @@
 -- Headers one after the other.
-use Rattle.std.proofs.Common.{◌≡◌, ℕ, zero, suc, List, [], ◌∷◌, ◌++◌, take, Some, sym, ◌∙◌, ap}
-use Rattle.std.specs.List.{slice_get}
-use Rattle.std.proofs.lemmas.List.{append_assoc}
-use Rattle.df_format.specs.declared.header.Header.{Header}
-use Rattle.df_format.specs.Spelling.{spelling}
-use Rattle.df_format.specs.UnitLaws.{headers_bytes}
+use Rattle.std.{proofs.{Common.{◌≡◌, ℕ, zero, suc, List, [], ◌∷◌, ◌++◌, take, Some, sym, ◌∙◌, ap}, lemmas.List.{append_assoc}}, specs.List.{slice_get}}
+use Rattle.df_format.specs.{declared.header.Header.{Header}, Spelling.{spelling}, UnitLaws.{headers_bytes}}
 
 pub bytes_more : (hs : List Header) (i : ℕ) (h : Header) → slice_get hs i ≡ Some h → headers_bytes (take (suc i) hs) ≡ headers_bytes (take i hs) ++ headers_bytes (h ∷ [])
 bytes_more [] i h at = absurd (cc)

@@ -1,8 +1,6 @@
 -- Where the sectors of the ring lie: after the four copies of the superblock, in every layout.
 use Rattle.std.proofs.Common.{◌≡◌, ◌+◌, ◌*◌, ℕ, arith}
-use Rattle.df_layout.specs.declared.layout.Layout.{Layout}
-use Rattle.df_layout.specs.Spans.{sectors_before, span_of}
-use Rattle.df_layout.specs.Zones.{first_sector, zone_sectors}
+use Rattle.df_layout.specs.{declared.layout.Layout.{Layout}, Spans.{sectors_before, span_of}, Zones.{first_sector, zone_sectors}}
 use Rattle.df_theory.specs.Units.{HeaderPlace}
 use Rattle.df_units.specs.Bytes.{first_at}
 

@@ -1,9 +1,6 @@
 -- The room of a header sector has 4096 bytes, and keeps them.
-use Rattle.std.proofs.Common.{◌≡◌, ◌∙◌, ℕ, List, ◌++◌, length, length-append, take, drop, arith}
-use Rattle.std.proofs.lemmas.List.{length-take-le}
-use Rattle.df_layout.specs.declared.layout.Layout.{Layout}
-use Rattle.df_layout.specs.declared.places.Zone.TheVariants.{WalHeaders}
-use Rattle.df_layout.specs.Spans.{place_sectors}
+use Rattle.std.proofs.{Common.{◌≡◌, ◌∙◌, ℕ, List, ◌++◌, length, length-append, take, drop, arith}, lemmas.List.{length-take-le}}
+use Rattle.df_layout.specs.{declared.layout.Layout.{Layout}, declared.places.Zone.TheVariants.{WalHeaders}, Spans.{place_sectors}}
 use Rattle.df_buffers.specs.Rooms.{room_size}
 
 pub one_sector : (layout : Layout) (n : ℕ) → n ≡ room_size layout WalHeaders → n ≡ 4096

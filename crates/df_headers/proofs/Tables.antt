@@ -1,13 +1,8 @@
 -- Tables of headers, and their sectors.
-use Rattle.std.proofs.Common.{◌≡◌, ◌⊎◌, inl, inr, ℕ, zero, suc, ◌+◌, ◌*◌, ◌<◌, List, [], ◌∷◌, length, take, drop, set, Some, refl, sym, ◌∙◌, ap, subst, arith, length-take, length-drop}
-use Rattle.std.specs.List.{slice_get}
-use Rattle.std.proofs.lemmas.Bool.{cases_eq}
-use Rattle.std.proofs.lemmas.List.{length-set}
+use Rattle.std.{proofs.{Common.{◌≡◌, ◌⊎◌, inl, inr, ℕ, zero, suc, ◌+◌, ◌*◌, ◌<◌, List, [], ◌∷◌, length, take, drop, set, Some, refl, sym, ◌∙◌, ap, subst, arith, length-take, length-drop}, lemmas.Bool.{cases_eq}, lemmas.List.{length-set}, lemmas.Option.{slice_get_within, same_Some}}, specs.List.{slice_get}}
 use Rattle.df_format.specs.declared.header.Header.{Header}
-use Rattle.std.proofs.lemmas.Option.{slice_get_within, same_Some}
 use Rattle.df_base.proofs.Laws.{get_set, get_set_other}
-use Rattle.df_units.specs.Sample.{reserved_header}
-use Rattle.df_units.proofs.Laws.{reserved_unit}
+use Rattle.df_units.{specs.Sample.{reserved_header}, proofs.Laws.{reserved_unit}}
 use Rattle.df_headers.specs.Ring.{IsHeader, ReservedIsTable, TableIsKept, TableIsWritten, in_sector}
 
 -- what is read after a place was written: the new element there, the old one elsewhere

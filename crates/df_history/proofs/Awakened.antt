@@ -1,26 +1,7 @@
 -- A history stays lived after the boot update of its newest log, wherever that log grew as it should.
 use Rattle.std.proofs.Common.{◌≡◌, inl, inr, ℕ, ◌<◌, ◌≤◌, List, [], ◌∷◌, ◌++◌, refl, sym, ◌∙◌, ap, subst, arith}
-use Rattle.df_theory.specs.CopyPuts.{update_steps}
-use Rattle.df_theory.specs.Units.{Units, is_some, overlay}
-use Rattle.df_theory.specs.Shape.{Shape}
-use Rattle.df_theory.specs.View.{View, boot_of}
-use Rattle.df_theory.specs.Holds.{Holds}
-use Rattle.df_theory.specs.Next.{booted}
-use Rattle.df_theory.specs.UnitLog.{Stopped, Synced, UnitEvent, UnitLog, Wrote, add, now, now_of, settled, settled_of, wrote}
-use Rattle.df_theory.specs.Grown.{Grown, Grows, IsSafe}
-use Rattle.df_theory.specs.Rests.{RestsOn}
-use Rattle.df_theory.specs.Runs.{AtEach, Puts, Step, Syncs, after_steps}
-use Rattle.df_theory.specs.MendLaws.{mend_steps}
-use Rattle.df_theory.specs.Upgrades.{raise_steps}
-use Rattle.df_theory.proofs.Laws.{after_append, each_append, mend_law, mends_whole_law, one_view}
-use Rattle.df_history.specs.Awakened.{GrownLivedLaw, IsAwakened, RaiseLivedLaw, SafeLivedLaw}
-use Rattle.df_history.specs.Histories.{Among, GrowsOn, IsBegunAnew, IsLived, IsLivedMoment, StaysBare, all_settled}
-use Rattle.df_history.specs.OpenLaws.{AwakeLivedLaw, OpenLivedLaw}
-use Rattle.df_history.proofs.Joins.{on_holds, settled_ends}
-use Rattle.df_history.proofs.Mores.{AreOld, grows_more, more_boot}
-use Rattle.df_history.proofs.Since.{among_low, old_boots}
-use Rattle.df_history.proofs.Moments.{begins_law, boot_lived_law, ends_among, grown_one, made_choice, start_among, last_is}
-use Rattle.df_history.proofs.Mendings.{dry_mend, each_last, mend_lived_law, start_same}
+use Rattle.df_theory.{specs.{CopyPuts.{update_steps}, Units.{Units, is_some, overlay}, Shape.{Shape}, View.{View, boot_of}, Holds.{Holds}, Next.{booted}, UnitLog.{Stopped, Synced, UnitEvent, UnitLog, Wrote, add, now, now_of, settled, settled_of, wrote}, Grown.{Grown, Grows, IsSafe}, Rests.{RestsOn}, Runs.{AtEach, Puts, Step, Syncs, after_steps}, MendLaws.{mend_steps}, Upgrades.{raise_steps}}, proofs.Laws.{after_append, each_append, mend_law, mends_whole_law, one_view}}
+use Rattle.df_history.{specs.{Awakened.{GrownLivedLaw, IsAwakened, RaiseLivedLaw, SafeLivedLaw}, Histories.{Among, GrowsOn, IsBegunAnew, IsLived, IsLivedMoment, StaysBare, all_settled}, OpenLaws.{AwakeLivedLaw, OpenLivedLaw}}, proofs.{Joins.{on_holds, settled_ends}, Mores.{AreOld, grows_more, more_boot}, Since.{among_low, old_boots}, Moments.{begins_law, boot_lived_law, ends_among, grown_one, made_choice, start_among, last_is}, Mendings.{dry_mend, each_last, mend_lived_law, start_same}}}
 
 -- ---- however it grows
 

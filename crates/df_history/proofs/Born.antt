@@ -1,15 +1,7 @@
 -- Each settled prepare and reply of a boot of the history was made by a step of an awake log, and was of its view then; or it is a prepare that survived, of whose group one was never settled.
 use Rattle.std.proofs.Common.{◌≡◌, ◌⊎◌, inl, inr, ℕ, ◌%◌, ◌<◌, ◌≤◌, List, [], ◌∷◌, Some, refl, sym, ◌∙◌, ap, subst, arith}
-use Rattle.df_theory.specs.Units.{Content, CopyPlace, CopyUnit, Message, PreparePlace, PrepareUnit, ReplyPlace, ReplyUnit, Units}
-use Rattle.df_theory.specs.Tails.{In}
-use Rattle.df_theory.specs.Shape.{Shape}
-use Rattle.df_theory.specs.Copies.{rank_of}
-use Rattle.df_theory.specs.View.{Checkpoint, View, boot_of, head, sequence}
-use Rattle.df_theory.specs.Chance.{InImages}
-use Rattle.df_theory.specs.Grown.{IsClear, IsLeftGroup}
-use Rattle.df_theory.proofs.Laws.{gap_left, HasGap, IsNew, appended_clear, next_in, same_slot, append_here, reply_here, base_here}
-use Rattle.df_history.specs.Lives.{Asleep, Awake, Lived, Lives, Steps, Turn, TurnFollows, first_view_of}
-use Rattle.df_history.proofs.Steps.{lived_self}
+use Rattle.df_theory.{specs.{Units.{Content, CopyPlace, CopyUnit, Message, PreparePlace, PrepareUnit, ReplyPlace, ReplyUnit, Units}, Tails.{In}, Shape.{Shape}, Copies.{rank_of}, View.{Checkpoint, View, boot_of, head, sequence}, Chance.{InImages}, Grown.{IsClear, IsLeftGroup}}, proofs.Laws.{gap_left, HasGap, IsNew, appended_clear, next_in, same_slot, append_here, reply_here, base_here}}
+use Rattle.df_history.{specs.Lives.{Asleep, Awake, Lived, Lives, Steps, Turn, TurnFollows, first_view_of}, proofs.Steps.{lived_self}}
 
 -- ---- prepares
 

@@ -1,21 +1,7 @@
 -- What is found in any image of units that a history settled was the view of a settled image of an awake log.
-use Rattle.std.proofs.Common.{◌≡◌, ◌⊎◌, inl, inr, ℕ, ◌+◌, ◌-◌, ◌%◌, ◌<◌, ◌≤◌, List, length, take, slice_index, Some, refl, sym, ◌∙◌, ap, subst, arith}
-use Rattle.std.proofs.lemmas.Bool.{cases_lt}
-use Rattle.df_theory.specs.Units.{BlockPlace, BlockUnit, Content, CopyPlace, CopyUnit, Message, PreparePlace, PrepareUnit, ReplyPlace, ReplyUnit, Units}
-use Rattle.df_theory.specs.Tails.{Chain, In, last_checksum, last_mark}
-use Rattle.df_theory.specs.Shape.{Shape}
-use Rattle.df_theory.specs.Copies.{rank_of}
-use Rattle.df_theory.specs.View.{View, boot_of, head}
-use Rattle.df_theory.specs.Holds.{IsNamed, Sound}
-use Rattle.df_theory.specs.HistoryLaws.{AreDistinct, ShowsSettled}
-use Rattle.df_theory.specs.Found.{IsFound}
-use Rattle.df_theory.proofs.Laws.{take_boot, rank_low, view_is_found, no_gap, last_of, no_mark, same_named, group_holds}
-use Rattle.df_theory.specs.Chance.{InImages}
-use Rattle.df_history.specs.Lives.{Awake, Lived, Lives, Turn, first_view_of}
-use Rattle.df_history.specs.Laws.{FoundLivedLaw, OneContentLaw, OnePrepareLaw, OneReplyLaw}
-use Rattle.df_history.proofs.Steps.{first_low, lived_base, lived_needs, lived_sound}
-use Rattle.df_history.proofs.Born.{Appended, Stored, after_base, awake_content, born_prepare, born_reply, settled_content, settled_one}
-use Rattle.df_history.proofs.Stamps.{HasAll, one_of_stored, stamps}
+use Rattle.std.proofs.{Common.{◌≡◌, ◌⊎◌, inl, inr, ℕ, ◌+◌, ◌-◌, ◌%◌, ◌<◌, ◌≤◌, List, length, take, slice_index, Some, refl, sym, ◌∙◌, ap, subst, arith}, lemmas.Bool.{cases_lt}}
+use Rattle.df_theory.{specs.{Units.{BlockPlace, BlockUnit, Content, CopyPlace, CopyUnit, Message, PreparePlace, PrepareUnit, ReplyPlace, ReplyUnit, Units}, Tails.{Chain, In, last_checksum, last_mark}, Shape.{Shape}, Copies.{rank_of}, View.{View, boot_of, head}, Holds.{IsNamed, Sound}, HistoryLaws.{AreDistinct, ShowsSettled}, Found.{IsFound}, Chance.{InImages}}, proofs.Laws.{take_boot, rank_low, view_is_found, no_gap, last_of, no_mark, same_named, group_holds}}
+use Rattle.df_history.{specs.{Lives.{Awake, Lived, Lives, Turn, first_view_of}, Laws.{FoundLivedLaw, OneContentLaw, OnePrepareLaw, OneReplyLaw}}, proofs.{Steps.{first_low, lived_base, lived_needs, lived_sound}, Born.{Appended, Stored, after_base, awake_content, born_prepare, born_reply, settled_content, settled_one}, Stamps.{HasAll, one_of_stored, stamps}}}
 
 module _ (sh : Shape) (images : List Units) (v : View) (t : Turn) (lives : Lives sh images v t) (distinct : AreDistinct images)
     (shown : Units) (of : ShowsSettled images shown) (w : View) (f : IsFound sh shown w) (young : rank_of (first_view_of sh images v t lives).checkpoint.content ≤ rank_of w.checkpoint.content) where

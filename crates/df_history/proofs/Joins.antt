@@ -1,20 +1,7 @@
 -- The settled images of a history of logs, as one list.
 use Rattle.std.proofs.Common.{◌≡◌, ◌⊎◌, inl, inr, ℕ, ◌<◌, ◌≤◌, List, [], ◌∷◌, ◌++◌, length, None, refl, sym, ◌∙◌, ap, subst, arith, length-append}
-use Rattle.df_theory.specs.Units.{AnyUnit, Content, CopyPlace, CopyUnit, Place, PreparePlace, PrepareUnit, ReplyPlace, ReplyUnit, Units}
-use Rattle.df_theory.specs.Shape.{Shape}
-use Rattle.df_theory.specs.Copies.{rank_of}
-use Rattle.df_theory.specs.View.{View, boot_of}
-use Rattle.df_theory.specs.Holds.{Holds}
-use Rattle.df_theory.specs.Next.{Append, Boot, Finish, IsBoot, IsSameBare, Next, Reply, Same, booted}
-use Rattle.df_theory.specs.UnitLog.{Stopped, Synced, UnitEvent, Wrote, now_of, settled_of}
-use Rattle.df_theory.specs.Chance.{InImages}
-use Rattle.df_theory.specs.First.{AreMade}
-use Rattle.df_theory.specs.Grown.{AllInHistory, GoesOn, Grows}
-use Rattle.df_theory.specs.Past.{FromEmpty, Was}
-use Rattle.df_theory.specs.HistoryLaws.{ShowsSettled}
-use Rattle.df_theory.proofs.Laws.{one_view, no_made, made_content, made_reply, next_grew, unheld}
-use Rattle.df_history.specs.Lives.{Asleep, Awake, Lived, Lives, Starts, Turn, first_view_of}
-use Rattle.df_history.specs.Histories.{Among, GrowsOn, StaysBare}
+use Rattle.df_theory.{specs.{Units.{AnyUnit, Content, CopyPlace, CopyUnit, Place, PreparePlace, PrepareUnit, ReplyPlace, ReplyUnit, Units}, Shape.{Shape}, Copies.{rank_of}, View.{View, boot_of}, Holds.{Holds}, Next.{Append, Boot, Finish, IsBoot, IsSameBare, Next, Reply, Same, booted}, UnitLog.{Stopped, Synced, UnitEvent, Wrote, now_of, settled_of}, Chance.{InImages}, First.{AreMade}, Grown.{AllInHistory, GoesOn, Grows}, Past.{FromEmpty, Was}, HistoryLaws.{ShowsSettled}}, proofs.Laws.{one_view, no_made, made_content, made_reply, next_grew, unheld}}
+use Rattle.df_history.specs.{Lives.{Asleep, Awake, Lived, Lives, Starts, Turn, first_view_of}, Histories.{Among, GrowsOn, StaysBare}}
 
 -- ---- lists of images
 

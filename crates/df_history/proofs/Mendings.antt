@@ -1,18 +1,7 @@
 -- A mending at each of its moments.
 use Rattle.std.proofs.Common.{◌≡◌, inl, inr, ℕ, ◌<◌, List, [], ◌∷◌, Some, refl, sym, ◌∙◌, subst}
-use Rattle.df_theory.specs.Units.{CopyPlace, CopyUnit, Header, Units}
-use Rattle.df_theory.specs.Shape.{Shape}
-use Rattle.df_theory.specs.View.{View, boot_of}
-use Rattle.df_theory.specs.Holds.{Holds}
-use Rattle.df_theory.specs.Next.{IsSameBare}
-use Rattle.df_theory.specs.UnitLog.{Synced, UnitLog, add, now, wrote}
-use Rattle.df_theory.specs.Rests.{IsDry, IsGoodLog, IsQuiet, RestsOn}
-use Rattle.df_theory.specs.Runs.{AtEach, Puts, Step, Syncs, after_steps}
-use Rattle.df_theory.specs.MakingLaws.{all_puts}
-use Rattle.df_theory.specs.MendLaws.{AllPutCopy, AllPutTable, MayMend, copy_steps, header_steps, mend_steps}
-use Rattle.df_theory.proofs.Laws.{after_append, copy_law, each_append, each_weaker, good_rests, header_law, put_else, quiet_synced, IsUnderWay, half_way, header_steps_miss, is_mend, missed, under_way_still, dry_copies, dry_headers}
-use Rattle.df_history.specs.OpenLaws.{MendLivedLaw}
-use Rattle.df_history.proofs.Moments.{none_mend, IsAsleepMoment, asleep_steps, one_bare, rests_asleep}
+use Rattle.df_theory.{specs.{Units.{CopyPlace, CopyUnit, Header, Units}, Shape.{Shape}, View.{View, boot_of}, Holds.{Holds}, Next.{IsSameBare}, UnitLog.{Synced, UnitLog, add, now, wrote}, Rests.{IsDry, IsGoodLog, IsQuiet, RestsOn}, Runs.{AtEach, Puts, Step, Syncs, after_steps}, MakingLaws.{all_puts}, MendLaws.{AllPutCopy, AllPutTable, MayMend, copy_steps, header_steps, mend_steps}}, proofs.Laws.{after_append, copy_law, each_append, each_weaker, good_rests, header_law, put_else, quiet_synced, IsUnderWay, half_way, header_steps_miss, is_mend, missed, under_way_still, dry_copies, dry_headers}}
+use Rattle.df_history.{specs.OpenLaws.{MendLivedLaw}, proofs.Moments.{none_mend, IsAsleepMoment, asleep_steps, one_bare, rests_asleep}}
 
 -- ---- the mending: at each moment each image left has the view, and the image as it is now has it
 

@@ -1,27 +1,7 @@
 -- A history stays lived at each moment of its newest log.
-use Rattle.std.proofs.Common.{Option, Some, None, ◌++◌, ◌≡◌, ◌⊎◌, inl, inr, ℕ, ◌<◌, ◌≤◌, List, [], ◌∷◌, refl, sym, ◌∙◌, ap, subst, arith}
-use Rattle.std.proofs.lemmas.Bool.{cases_lt}
-use Rattle.df_theory.specs.CopyPuts.{PutsCopies, update_steps}
-use Rattle.df_theory.specs.Units.{AnyUnit, Content, CopyPlace, CopyUnit, Header, Place, PreparePlace, Units, or_else}
-use Rattle.df_theory.specs.Shape.{Shape}
-use Rattle.df_theory.specs.View.{View, boot_of}
-use Rattle.df_theory.specs.Holds.{Holds}
-use Rattle.df_theory.specs.Next.{IsSameBare, booted}
-use Rattle.df_theory.specs.UnitLog.{PutsOne, Stopped, Synced, UnitLog, add, now, settled, wrote}
-use Rattle.df_theory.specs.Chance.{AreFair, EachLeft, InImages, InWrites, NoChance}
-use Rattle.df_theory.specs.First.{AreMade}
-use Rattle.df_theory.specs.Grown.{Grown, Grows, IsSafe}
-use Rattle.df_theory.specs.Rests.{IsGoodLog, IsPrepare, RestsOn}
-use Rattle.df_theory.specs.MakingLaws.{all_puts}
-use Rattle.df_theory.specs.MendLaws.{AllPutCopy, AllPutTable, copy_steps, header_steps, mend_steps}
-use Rattle.df_theory.specs.Runs.{AtEach, Puts, Step, Syncs}
-use Rattle.df_theory.proofs.Laws.{boot_law, clean_start_law, rests_holds, rests_safe, one_view, no_choice}
-use Rattle.df_history.specs.Lives.{Starts}
-use Rattle.df_history.specs.Histories.{Among, GrowsOn, IsFirstLog, IsLived, IsLivedMoment, MayStart, StaysBare, all_settled}
-use Rattle.df_history.specs.OpenLaws.{BeginsLaw, BootLivedLaw, FirstGrownLaw, FirstLivedLaw, RestLivedLaw}
-use Rattle.df_history.proofs.Joins.{EndsWith, on_holds, settled_ends}
-use Rattle.df_history.proofs.Mores.{AreShown, grows_more}
-use Rattle.df_history.proofs.Since.{among_low, choice_stays_law, old_boots}
+use Rattle.std.proofs.{Common.{Option, Some, None, ◌++◌, ◌≡◌, ◌⊎◌, inl, inr, ℕ, ◌<◌, ◌≤◌, List, [], ◌∷◌, refl, sym, ◌∙◌, ap, subst, arith}, lemmas.Bool.{cases_lt}}
+use Rattle.df_theory.{specs.{CopyPuts.{PutsCopies, update_steps}, Units.{AnyUnit, Content, CopyPlace, CopyUnit, Header, Place, PreparePlace, Units, or_else}, Shape.{Shape}, View.{View, boot_of}, Holds.{Holds}, Next.{IsSameBare, booted}, UnitLog.{PutsOne, Stopped, Synced, UnitLog, add, now, settled, wrote}, Chance.{AreFair, EachLeft, InImages, InWrites, NoChance}, First.{AreMade}, Grown.{Grown, Grows, IsSafe}, Rests.{IsGoodLog, IsPrepare, RestsOn}, MakingLaws.{all_puts}, MendLaws.{AllPutCopy, AllPutTable, copy_steps, header_steps, mend_steps}, Runs.{AtEach, Puts, Step, Syncs}}, proofs.Laws.{boot_law, clean_start_law, rests_holds, rests_safe, one_view, no_choice}}
+use Rattle.df_history.{specs.{Lives.{Starts}, Histories.{Among, GrowsOn, IsFirstLog, IsLived, IsLivedMoment, MayStart, StaysBare, all_settled}, OpenLaws.{BeginsLaw, BootLivedLaw, FirstGrownLaw, FirstLivedLaw, RestLivedLaw}}, proofs.{Joins.{EndsWith, on_holds, settled_ends}, Mores.{AreShown, grows_more}, Since.{among_low, choice_stays_law, old_boots}}}
 
 pub same_bare : (v : View) → IsSameBare v v
 same_bare v = record {

@@ -1,14 +1,7 @@
 -- One image more in a log that was restarted: what its own log says of it, said of the history.
 use Rattle.std.proofs.Common.{◌≡◌, ◌⊎◌, inl, inr, ℕ, ◌<◌, ◌≤◌, List, [], ◌∷◌, ◌++◌, Some, ap, subst, arith}
-use Rattle.df_theory.specs.Units.{AnyUnit, BlockPlace, CopyPlace, HeaderPlace, Message, Place, PreparePlace, PrepareUnit, ReplyPlace, Units}
-use Rattle.df_theory.specs.Shape.{Shape}
-use Rattle.df_theory.specs.View.{View, boot_of}
-use Rattle.df_theory.specs.Next.{IsSameBare}
-use Rattle.df_theory.specs.Chance.{InImages}
-use Rattle.df_theory.specs.Grown.{AllInHistory, GoesOn, Grows, IsClear, IsSurvivor}
-use Rattle.df_theory.proofs.Laws.{one_view, no_choice, next_grew}
-use Rattle.df_history.specs.Histories.{GrowsOn}
-use Rattle.df_history.proofs.Joins.{images_either, images_front, next_bare, on_holds}
+use Rattle.df_theory.{specs.{Units.{AnyUnit, BlockPlace, CopyPlace, HeaderPlace, Message, Place, PreparePlace, PrepareUnit, ReplyPlace, Units}, Shape.{Shape}, View.{View, boot_of}, Next.{IsSameBare}, Chance.{InImages}, Grown.{AllInHistory, GoesOn, Grows, IsClear, IsSurvivor}}, proofs.Laws.{one_view, no_choice, next_grew}}
+use Rattle.df_history.{specs.Histories.{GrowsOn}, proofs.Joins.{images_either, images_front, next_bare, on_holds}}
 
 -- no prepare that earlier logs settled has a higher boot
 abbrev pub AreOld : List Units → ℕ → Type 0

@@ -1,23 +1,7 @@
 -- A sample: a file is stopped within a group, of which the second prepare alone is left. It is opened again, and the survivor passed over.
 use Rattle.std.proofs.Common.{◌≡◌, inl, inr, List, [], ◌∷◌, Some, None, refl, ap, arith}
-use Rattle.df_theory.specs.Units.{HeaderPlace, HeaderUnit, Message, PreparePlace, PrepareUnit, Units}
-use Rattle.df_theory.specs.Trailer.{no_parts}
-use Rattle.df_theory.specs.View.{View}
-use Rattle.df_theory.specs.Next.{appended}
-use Rattle.df_theory.specs.Holds.{Holds}
-use Rattle.df_theory.specs.UnitLog.{IsLeftBy, Stopped, Synced, UnitLog, add, now, settled, wrote}
-use Rattle.df_theory.specs.Chance.{NoChance}
-use Rattle.df_theory.specs.Grown.{IsClear, IsSafe}
-use Rattle.df_theory.specs.Rests.{IsGoodLog, RestsOn}
-use Rattle.df_theory.specs.Runs.{AtEach, Puts, Step, after_steps}
-use Rattle.df_theory.specs.WriterLaws.{AreSame, Flushes, flush_steps}
-use Rattle.df_theory.specs.Found.{AreOfPlaces, IsFound}
-use Rattle.df_theory.proofs.Laws.{each_weaker, flush_law, put_one_law, holds_found, without, without_shows, All, now_all, copies_are, header_put, may_append_pair, prepare_put, quiet_updated, copies_all, left_without, no_chance, put_all, wrote_pooled}
-use Rattle.df_history.specs.Histories.{IsLived, IsLivedMoment, MayStart}
-use Rattle.df_history.specs.Sample.{PassedSampleLaw}
-use Rattle.df_history.proofs.Mendings.{each_last}
-use Rattle.df_history.proofs.Since.{found_since_law, stopped_settled, synced_settled}
-use Rattle.df_history.proofs.Samples.{IsOurs, anew, anew_last, booted1, booted1_ours, booted_of, clear1, clear_of, content, distinct, first, lost, made, made_ours, of_places, opened1, opens, quiet1, shape, starts, survivor}
+use Rattle.df_theory.{specs.{Units.{HeaderPlace, HeaderUnit, Message, PreparePlace, PrepareUnit, Units}, Trailer.{no_parts}, View.{View}, Next.{appended}, Holds.{Holds}, UnitLog.{IsLeftBy, Stopped, Synced, UnitLog, add, now, settled, wrote}, Chance.{NoChance}, Grown.{IsClear, IsSafe}, Rests.{IsGoodLog, RestsOn}, Runs.{AtEach, Puts, Step, after_steps}, WriterLaws.{AreSame, Flushes, flush_steps}, Found.{AreOfPlaces, IsFound}}, proofs.Laws.{each_weaker, flush_law, put_one_law, holds_found, without, without_shows, All, now_all, copies_are, header_put, may_append_pair, prepare_put, quiet_updated, copies_all, left_without, no_chance, put_all, wrote_pooled}}
+use Rattle.df_history.{specs.{Histories.{IsLived, IsLivedMoment, MayStart}, Sample.{PassedSampleLaw}}, proofs.{Mendings.{each_last}, Since.{found_since_law, stopped_settled, synced_settled}, Samples.{IsOurs, anew, anew_last, booted1, booted1_ours, booted_of, clear1, clear_of, content, distinct, first, lost, made, made_ours, of_places, opened1, opens, quiet1, shape, starts, survivor}}}
 
 abbrev puts : List Step
 puts = Puts (prepare_put lost) ∷ Puts (prepare_put survivor) ∷ []

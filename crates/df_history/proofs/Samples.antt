@@ -1,29 +1,7 @@
 -- A sample: a file of version 2 is made and opened, a prepare is appended and lost, and the file is opened again.
 use Rattle.std.proofs.Common.{◌≡◌, inl, inr, ℕ, ◌+◌, ◌%◌, ◌<◌, ◌≤◌, ◌==◌, nat_lt, Bool, true, false, if◌then◌else◌, List, [], ◌∷◌, Some, None, refl, sym, ◌∙◌, subst, arith}
-use Rattle.df_theory.specs.CopyPuts.{update_steps}
-use Rattle.df_theory.specs.Units.{AnyUnit, Block, BlockPlace, BlockUnit, Content, CopyPlace, CopyUnit, Header, HeaderPlace, HeaderUnit, Message, Place, PreparePlace, PrepareUnit, ReplyPlace, ReplyUnit, Units}
-use Rattle.df_theory.specs.Shape.{Shape}
-use Rattle.df_theory.specs.Trailer.{no_parts}
-use Rattle.df_theory.specs.View.{View}
-use Rattle.df_theory.specs.Holds.{Holds}
-use Rattle.df_theory.specs.Next.{MayAppend, appended}
-use Rattle.df_theory.specs.UnitLog.{Synced, UnitLog, add, now, put_one, settled, wrote}
-use Rattle.df_theory.specs.Chance.{Distinct}
-use Rattle.df_theory.specs.First.{IsFirst}
-use Rattle.df_theory.specs.Grown.{IsClear, IsSafe}
-use Rattle.df_theory.specs.Rests.{IsGoodLog, IsQuiet, RestsOn}
-use Rattle.df_theory.specs.Runs.{AtEach, Puts, Step, Syncs, after_steps}
-use Rattle.df_theory.specs.MakingLaws.{blank_log}
-use Rattle.df_theory.specs.WriterLaws.{AppendsPrepare}
-use Rattle.df_theory.specs.TidyLaws.{IsTidy}
-use Rattle.df_theory.specs.Found.{AreOfPlaces, IsFound, IsInRange, IsOfPlace}
-use Rattle.df_theory.proofs.Laws.{anew_law, append_law, each_weaker, put_one_law, holds_found, low_steps, low_update, All, Shows, now_all, pools_all, all_reserved, bare, copies_of, first_of, is_first_bare, made_of, reserved, sector, shape_of, tidy_of, copies_are, grouped, header_put, may_append, may_raise, prepare_put, quiet_updated, AreTold, copies_all, distinct_of, made_all, put_all}
-use Rattle.df_history.specs.Histories.{InHistoryPool, InHistoryPools, IsLived, IsLivedMoment, IsSettled, MayHurtCopies, MayStart}
-use Rattle.df_history.specs.OpenLaws.{IsOpening}
-use Rattle.df_history.specs.Sample.{HistorySampleLaw}
-use Rattle.df_history.proofs.Awakened.{open_lived_law}
-use Rattle.df_history.proofs.Mendings.{each_last}
-use Rattle.df_history.proofs.Since.{found_since_law, synced_settled}
+use Rattle.df_theory.{specs.{CopyPuts.{update_steps}, Units.{AnyUnit, Block, BlockPlace, BlockUnit, Content, CopyPlace, CopyUnit, Header, HeaderPlace, HeaderUnit, Message, Place, PreparePlace, PrepareUnit, ReplyPlace, ReplyUnit, Units}, Shape.{Shape}, Trailer.{no_parts}, View.{View}, Holds.{Holds}, Next.{MayAppend, appended}, UnitLog.{Synced, UnitLog, add, now, put_one, settled, wrote}, Chance.{Distinct}, First.{IsFirst}, Grown.{IsClear, IsSafe}, Rests.{IsGoodLog, IsQuiet, RestsOn}, Runs.{AtEach, Puts, Step, Syncs, after_steps}, MakingLaws.{blank_log}, WriterLaws.{AppendsPrepare}, TidyLaws.{IsTidy}, Found.{AreOfPlaces, IsFound, IsInRange, IsOfPlace}}, proofs.Laws.{anew_law, append_law, each_weaker, put_one_law, holds_found, low_steps, low_update, All, Shows, now_all, pools_all, all_reserved, bare, copies_of, first_of, is_first_bare, made_of, reserved, sector, shape_of, tidy_of, copies_are, grouped, header_put, may_append, may_raise, prepare_put, quiet_updated, AreTold, copies_all, distinct_of, made_all, put_all}}
+use Rattle.df_history.{specs.{Histories.{InHistoryPool, InHistoryPools, IsLived, IsLivedMoment, IsSettled, MayHurtCopies, MayStart}, OpenLaws.{IsOpening}, Sample.{HistorySampleLaw}}, proofs.{Awakened.{open_lived_law}, Mendings.{each_last}, Since.{found_since_law, synced_settled}}}
 
 abbrev pub shape : Shape
 shape = shape_of 2 (λ op text. Some no_parts)

@@ -1,26 +1,7 @@
 -- What an open finds was had since the last open that raised its boot.
-use Rattle.std.proofs.Common.{◌≡◌, ◌⊎◌, inl, inr, ℕ, ◌<◌, ◌≤◌, List, [], ◌∷◌, ◌++◌, Some, refl, sym, ◌∙◌, ap, subst, arith, append-nil}
-use Rattle.std.proofs.lemmas.Bool.{cases_lt}
-use Rattle.df_theory.specs.Units.{AnyUnit, Content, CopyPlace, CopyUnit, Place, Units}
-use Rattle.df_theory.specs.Shape.{Shape}
-use Rattle.df_theory.specs.Copies.{Agree, IsChosen, rank_of}
-use Rattle.df_theory.specs.View.{View, boot_of}
-use Rattle.df_theory.specs.Holds.{Holds}
-use Rattle.df_theory.specs.UnitLog.{Stopped, Synced, UnitLog, add, now, settled}
-use Rattle.df_theory.specs.Chance.{InImages}
-use Rattle.df_theory.specs.First.{AreMade}
-use Rattle.df_theory.specs.Grown.{HasMade}
-use Rattle.df_theory.specs.HistoryLaws.{AreDistinct, FoundWasLaw, ShowsSettled}
-use Rattle.df_theory.specs.Found.{IsClean}
-use Rattle.df_theory.proofs.Laws.{one_chosen, one_view, next_grew, pool_pools, no_choice}
-use Rattle.df_history.specs.Lives.{Asleep, Awake, Lived, Lives, Turn}
-use Rattle.df_history.specs.Histories.{Among, GrowsOn, InHistoryPool, InHistoryPools, IsBegunAnew, IsFirstLog, IsLived, IsSettled, MayHurtCopies, MayStart, WasSince, all_settled}
-use Rattle.df_history.specs.OpenLaws.{ChoiceStaysLaw, FoundSinceLaw}
-use Rattle.df_history.proofs.Steps.{first_low, lived_base, lived_low, lived_self, lives_boot}
-use Rattle.df_history.proofs.Mores.{AreOld}
-use Rattle.df_history.proofs.Born.{settled_content}
-use Rattle.df_history.proofs.Founds.{found_lived_law}
-use Rattle.df_history.proofs.Joins.{one_log, Joined, TurnSays, empty_lives, from_blank, images_back, images_either, images_front, join, on_holds, settled_ends, started_lives}
+use Rattle.std.proofs.{Common.{◌≡◌, ◌⊎◌, inl, inr, ℕ, ◌<◌, ◌≤◌, List, [], ◌∷◌, ◌++◌, Some, refl, sym, ◌∙◌, ap, subst, arith, append-nil}, lemmas.Bool.{cases_lt}}
+use Rattle.df_theory.{specs.{Units.{AnyUnit, Content, CopyPlace, CopyUnit, Place, Units}, Shape.{Shape}, Copies.{Agree, IsChosen, rank_of}, View.{View, boot_of}, Holds.{Holds}, UnitLog.{Stopped, Synced, UnitLog, add, now, settled}, Chance.{InImages}, First.{AreMade}, Grown.{HasMade}, HistoryLaws.{AreDistinct, FoundWasLaw, ShowsSettled}, Found.{IsClean}}, proofs.Laws.{one_chosen, one_view, next_grew, pool_pools, no_choice}}
+use Rattle.df_history.{specs.{Lives.{Asleep, Awake, Lived, Lives, Turn}, Histories.{Among, GrowsOn, InHistoryPool, InHistoryPools, IsBegunAnew, IsFirstLog, IsLived, IsSettled, MayHurtCopies, MayStart, WasSince, all_settled}, OpenLaws.{ChoiceStaysLaw, FoundSinceLaw}}, proofs.{Steps.{first_low, lived_base, lived_low, lived_self, lives_boot}, Mores.{AreOld}, Born.{settled_content}, Founds.{found_lived_law}, Joins.{one_log, Joined, TurnSays, empty_lives, from_blank, images_back, images_either, images_front, join, on_holds, settled_ends, started_lives}}}
 
 -- ---- after a barrier
 

@@ -1,13 +1,7 @@
 -- One reply an op, in the awake views of one boot, and three counters of one boot that stood together.
 use Rattle.std.proofs.Common.{◌≡◌, inl, inr, ℕ, ◌≤◌, List, [], ◌∷◌, Some, refl, sym, ◌∙◌, ap, subst, arith}
-use Rattle.df_theory.specs.Units.{Message, Units}
-use Rattle.df_theory.specs.Shape.{Shape}
-use Rattle.df_theory.specs.Copies.{rank_of}
-use Rattle.df_theory.specs.View.{View, boot_of, head}
-use Rattle.df_theory.specs.Holds.{Sound}
-use Rattle.df_theory.proofs.Laws.{reply_here, one_stored, stored_op, next_grew}
-use Rattle.df_history.specs.Lives.{Awake, Lived, Lives, Steps, Turn}
-use Rattle.df_history.proofs.Steps.{awake_low, lived_low, lived_self, lived_sound, lives_sound, step_same}
+use Rattle.df_theory.{specs.{Units.{Message, Units}, Shape.{Shape}, Copies.{rank_of}, View.{View, boot_of, head}, Holds.{Sound}}, proofs.Laws.{reply_here, one_stored, stored_op, next_grew}}
+use Rattle.df_history.{specs.Lives.{Awake, Lived, Lives, Steps, Turn}, proofs.Steps.{awake_low, lived_low, lived_self, lived_sound, lives_sound, step_same}}
 
 stored_one : (sh : Shape) (v a b : View) (k j : ℕ) (r q : Message) → Sound sh v → a ≡ v → b ≡ v → a.stored k ≡ Some r → b.stored j ≡ Some q → r.header.op ≡ q.header.op → r ≡ q
 stored_one sh v a b k j r q sound is_a is_b at_a at_b same = one_stored sh v sound k j r q (ap (λ (x : View). x.stored k) (sym is_a) ∙ at_a) (ap (λ (x : View). x.stored j) (sym is_b) ∙ at_b) same

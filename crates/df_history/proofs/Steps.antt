@@ -1,14 +1,6 @@
 -- What each step of a history keeps.
 use Rattle.std.proofs.Common.{◌≡◌, ◌⊎◌, inl, inr, ℕ, ◌<◌, ◌≤◌, List, [], ◌∷◌, refl, sym, ◌∙◌, ap, subst, arith}
-use Rattle.df_theory.specs.Units.{AnyUnit, Content, Message, Place, PreparePlace, PrepareUnit, Units}
-use Rattle.df_theory.specs.Shape.{Shape}
-use Rattle.df_theory.specs.Copies.{rank_of}
-use Rattle.df_theory.specs.View.{Checkpoint, View, boot_of, head}
-use Rattle.df_theory.specs.Shows.{Needs}
-use Rattle.df_theory.specs.Holds.{Sound}
-use Rattle.df_theory.specs.Chance.{InImages}
-use Rattle.df_theory.specs.Grown.{GoesOn}
-use Rattle.df_theory.proofs.Laws.{boot_higher, prepare_agrees, next_grew}
+use Rattle.df_theory.{specs.{Units.{AnyUnit, Content, Message, Place, PreparePlace, PrepareUnit, Units}, Shape.{Shape}, Copies.{rank_of}, View.{Checkpoint, View, boot_of, head}, Shows.{Needs}, Holds.{Sound}, Chance.{InImages}, Grown.{GoesOn}}, proofs.Laws.{boot_higher, prepare_agrees, next_grew}}
 use Rattle.df_history.specs.Lives.{Asleep, Awake, Lived, Lives, Steps, Turn, TurnFollows, first_view_of}
 
 pub lives_sound : (sh : Shape) (images : List Units) (v : View) (t : Turn) → Lives sh images v t → Sound sh v

@@ -1,28 +1,7 @@
 -- A sample: a file is damaged and opened three times. The second damage and the third hit the same places: two copies of the superblock, and the header of the only prepare.
-use Rattle.std.proofs.Common.{◌≡◌, ◌⊎◌, inl, inr, ℕ, ◌+◌, ◌<◌, ◌≤◌, ◌==◌, ◌%◌, Bool, true, false, if◌then◌else◌, List, [], ◌∷◌, Option, Some, None, refl, sym, ◌∙◌, ap, subst, arith, eqb-true}
-use Rattle.std.specs.List.{slice_get}
-use Rattle.df_theory.specs.CopyPuts.{PutsCopies}
-use Rattle.df_theory.specs.Units.{AnyUnit, BlockPlace, Content, CopyPlace, CopyUnit, Header, HeaderPlace, HeaderUnit, Message, Place, PreparePlace, PrepareUnit, ReplyPlace, Units, or_else}
-use Rattle.df_theory.specs.View.{View, sessions}
-use Rattle.df_theory.specs.Shows.{AgreesHeader, Needs}
-use Rattle.df_theory.specs.Holds.{Holds}
-use Rattle.df_theory.specs.Next.{MayBoot, appended, booted}
-use Rattle.df_theory.specs.UnitLog.{Synced, UnitLog, add, now, put_one, wrote}
-use Rattle.df_theory.specs.Chance.{InPool}
-use Rattle.df_theory.specs.Grown.{IsSafe}
-use Rattle.df_theory.specs.Rests.{IsGoodLog, RestsOn}
-use Rattle.df_theory.specs.Runs.{AtEach, Puts, Step, Syncs, after_steps}
-use Rattle.df_theory.specs.MendLaws.{IsSlotHeader, Reaches, mend_steps}
-use Rattle.df_theory.specs.WriterLaws.{AppendsPrepare}
-use Rattle.df_theory.specs.Found.{AreOfPlaces, IsFound, IsInRange, IsOfPlace}
-use Rattle.df_theory.proofs.Laws.{anew_law, each_weaker, four, hurt_law, put_one_law, rests_law, short_same, holds_found, bears_open, chosen_same, pool_pools, All, IsOpen, now_all, pools_all, copies_of, reserved, copies_are, header_put, may_append, may_raise, prepare_put, quiet_updated, copies_all, put_all, never_kept}
-use Rattle.df_history.specs.Histories.{InHistoryPool, InHistoryPools, IsLived, IsLivedMoment, IsSettled, MayStart}
-use Rattle.df_history.specs.OpenLaws.{IsOpening}
-use Rattle.df_history.specs.Sample.{IsReopened, ThriceSampleLaw, opened}
-use Rattle.df_history.proofs.Awakened.{open_lived_law}
-use Rattle.df_history.proofs.Mendings.{each_last}
-use Rattle.df_history.proofs.Since.{found_since_law, synced_settled}
-use Rattle.df_history.proofs.Samples.{AreOurs, IsOurs, append_ours, append_steps, appends, appends_to, booted1, booted1_ours, clear_of, content, distinct, first, found2, in_range, lived2, made, made_ours, of_copy, opened2, opening2, pinned, places2, pools_ours, prepare, renewed, second, second_ours, shape, shown, start2, third}
+use Rattle.std.{proofs.Common.{◌≡◌, ◌⊎◌, inl, inr, ℕ, ◌+◌, ◌<◌, ◌≤◌, ◌==◌, ◌%◌, Bool, true, false, if◌then◌else◌, List, [], ◌∷◌, Option, Some, None, refl, sym, ◌∙◌, ap, subst, arith, eqb-true}, specs.List.{slice_get}}
+use Rattle.df_theory.{specs.{CopyPuts.{PutsCopies}, Units.{AnyUnit, BlockPlace, Content, CopyPlace, CopyUnit, Header, HeaderPlace, HeaderUnit, Message, Place, PreparePlace, PrepareUnit, ReplyPlace, Units, or_else}, View.{View, sessions}, Shows.{AgreesHeader, Needs}, Holds.{Holds}, Next.{MayBoot, appended, booted}, UnitLog.{Synced, UnitLog, add, now, put_one, wrote}, Chance.{InPool}, Grown.{IsSafe}, Rests.{IsGoodLog, RestsOn}, Runs.{AtEach, Puts, Step, Syncs, after_steps}, MendLaws.{IsSlotHeader, Reaches, mend_steps}, WriterLaws.{AppendsPrepare}, Found.{AreOfPlaces, IsFound, IsInRange, IsOfPlace}}, proofs.Laws.{anew_law, each_weaker, four, hurt_law, put_one_law, rests_law, short_same, holds_found, bears_open, chosen_same, pool_pools, All, IsOpen, now_all, pools_all, copies_of, reserved, copies_are, header_put, may_append, may_raise, prepare_put, quiet_updated, copies_all, put_all, never_kept}}
+use Rattle.df_history.{specs.{Histories.{InHistoryPool, InHistoryPools, IsLived, IsLivedMoment, IsSettled, MayStart}, OpenLaws.{IsOpening}, Sample.{IsReopened, ThriceSampleLaw, opened}}, proofs.{Awakened.{open_lived_law}, Mendings.{each_last}, Since.{found_since_law, synced_settled}, Samples.{AreOurs, IsOurs, append_ours, append_steps, appends, appends_to, booted1, booted1_ours, clear_of, content, distinct, first, found2, in_range, lived2, made, made_ours, of_copy, opened2, opening2, pinned, places2, pools_ours, prepare, renewed, second, second_ours, shape, shown, start2, third}}}
 
 -- ---- an open, and what follows it
 

@@ -1,19 +1,7 @@
 -- A history begins at the image that an upgrade left.
 use Rattle.std.proofs.Common.{◌≡◌, ◌⊎◌, inl, inr, ℕ, ◌<◌, [], Some, sym, subst, arith}
-use Rattle.df_theory.specs.Units.{Content, CopyPlace, CopyUnit, Units}
-use Rattle.df_theory.specs.Shape.{Shape}
-use Rattle.df_theory.specs.Copies.{rank_of}
-use Rattle.df_theory.specs.View.{View}
-use Rattle.df_theory.specs.Holds.{Holds}
-use Rattle.df_theory.specs.Next.{MayBoot, booted}
-use Rattle.df_theory.specs.Chance.{EachLeft}
-use Rattle.df_theory.specs.Rests.{RestsOn}
-use Rattle.df_theory.specs.Upgrades.{IsRaised, as_version, of_version, raise_steps, restarted_at}
-use Rattle.df_theory.proofs.Laws.{anew_law, each_weaker, rests_safe, raise_anew_law, raise_ends_law}
-use Rattle.df_history.specs.Lives.{Starts}
-use Rattle.df_history.specs.Histories.{IsLivedMoment}
-use Rattle.df_history.specs.Upgraded.{StoppedUpgradeLaw, UpgradedLaw}
-use Rattle.df_history.proofs.Moments.{first_lived_law}
+use Rattle.df_theory.{specs.{Units.{Content, CopyPlace, CopyUnit, Units}, Shape.{Shape}, Copies.{rank_of}, View.{View}, Holds.{Holds}, Next.{MayBoot, booted}, Chance.{EachLeft}, Rests.{RestsOn}, Upgrades.{IsRaised, as_version, of_version, raise_steps, restarted_at}}, proofs.Laws.{anew_law, each_weaker, rests_safe, raise_anew_law, raise_ends_law}}
+use Rattle.df_history.{specs.{Lives.{Starts}, Histories.{IsLivedMoment}, Upgraded.{StoppedUpgradeLaw, UpgradedLaw}}, proofs.Moments.{first_lived_law}}
 
 raised_starts : (sh : Shape) (n : ℕ) (image : Units) (v : View) (d : Content) → MayBoot (as_version n v) d → IsRaised sh image (booted v d) → Starts image [] (booted v d)
 raised_starts sh n image v d may raised = record {

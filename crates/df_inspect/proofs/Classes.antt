@@ -1,6 +1,5 @@
 -- Classes in a line, one after the other.
-use Rattle.std.proofs.Common.{◌≡◌, ℕ, ◌+◌, ◌<◌, List, [], ◌∷◌, ◌++◌, length, get_or, take, ap, ◌∙◌, append_assoc, rules}
-use Rattle.std.proofs.lemmas.List.{take_more}
+use Rattle.std.proofs.{Common.{◌≡◌, ℕ, ◌+◌, ◌<◌, List, [], ◌∷◌, ◌++◌, length, get_or, take, ap, ◌∙◌, append_assoc, rules}, lemmas.List.{take_more}}
 use Rattle.df_layout.specs.declared.damage.Class.{Class}
 use Rattle.df_script_model.specs.Texts.{class_text}
 use Rattle.df_inspect.specs.Opening.{classes_text}

@@ -1,13 +1,8 @@
 -- The digits of bytes, piece by piece.
-use Rattle.std.proofs.Common.{◌≡◌, ℕ, ◌+◌, List, [], ◌∷◌, ◌++◌, take, drop, Option, Result, IsErr, refl, sym, ◌∙◌, ap, subst}
-use Rattle.std.proofs.lemmas.List.{take-append-drop}
-use Rattle.std.proofs.Math.Seq.{take-add}
+use Rattle.std.proofs.{Common.{◌≡◌, ℕ, ◌+◌, List, [], ◌∷◌, ◌++◌, take, drop, Option, Result, IsErr, refl, sym, ◌∙◌, ap, subst}, lemmas.List.{take-append-drop}, Math.Seq.{take-add}}
 use Rattle.hex.specs.Hex.{encode_lower, encode_with, lower_digits}
-use Rattle.df_base.specs.Streams.{Appends, AppendsPart}
-use Rattle.df_base.proofs.Laws.{appends_more, appends_part}
-use Rattle.df_inspect.proofs.Written.{appends_none}
-use Rattle.df_inspect.specs.Prints.{Prints}
-use Rattle.df_inspect.proofs.Written.{prints_front}
+use Rattle.df_base.{specs.Streams.{Appends, AppendsPart}, proofs.Laws.{appends_more, appends_part}}
+use Rattle.df_inspect.{proofs.Written.{appends_none, prints_front}, specs.Prints.{Prints}}
 
 digits_append : (t x y : List ℕ) → encode_with t (x ++ y) ≡ encode_with t x ++ encode_with t y
 unfolding encode_with

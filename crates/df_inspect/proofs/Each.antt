@@ -1,14 +1,9 @@
 -- The texts of a list's items, printed one after the other.
-use Rattle.std.proofs.Common.{◌≡◌, ℕ, ◌+◌, ◌<◌, suc, List, [], ◌∷◌, ◌++◌, length, get_or, take, drop, Option, Result, IsErr, codes, refl, sym, ap, subst, ◌∙◌, arith, append_assoc}
-use Rattle.std.proofs.lemmas.List.{append-nil, length-take-le, take_more}
-use Rattle.std.proofs.Math.Seq.{split_at}
+use Rattle.std.proofs.{Common.{◌≡◌, ℕ, ◌+◌, ◌<◌, suc, List, [], ◌∷◌, ◌++◌, length, get_or, take, drop, Option, Result, IsErr, codes, refl, sym, ap, subst, ◌∙◌, arith, append_assoc}, lemmas.List.{append-nil, length-take-le, take_more}, Math.Seq.{split_at}}
 use Rattle.df_layout.specs.declared.damage.Finding.{Finding}
-use Rattle.df_base.specs.Streams.{Appends, AppendsPart}
-use Rattle.df_base.proofs.Laws.{appends_more, appends_part}
+use Rattle.df_base.{specs.Streams.{Appends, AppendsPart}, proofs.Laws.{appends_more, appends_part}}
 use Rattle.df_script_model.specs.Texts.{findings_text, numbered, recent_text}
-use Rattle.df_inspect.specs.Prints.{Prints}
-use Rattle.df_inspect.specs.Reports.{each_text, finding_text}
-use Rattle.df_inspect.proofs.Written.{prints_front}
+use Rattle.df_inspect.{specs.{Prints.{Prints}, Reports.{each_text, finding_text}}, proofs.Written.{prints_front}}
 
 place_is : {A : Type 0} (text : ℕ → A → List ℕ) (m n : ℕ) (xs : List A) → m ≡ n → each_text text m xs ≡ each_text text n xs
 place_is text m n xs same = ap (λ (k : ℕ). each_text text k xs) same

@@ -1,6 +1,5 @@
 -- The line of a message or a block is its front and its body.
-use Rattle.std.proofs.Common.{◌≡◌, ℕ, ◌==◌, Bool, false, List, [], ◌∷◌, ◌++◌, length, codes, refl, sym, ◌∙◌, append_assoc}
-use Rattle.std.proofs.lemmas.Bool.{true≢false}
+use Rattle.std.proofs.{Common.{◌≡◌, ℕ, ◌==◌, Bool, false, List, [], ◌∷◌, ◌++◌, length, codes, refl, sym, ◌∙◌, append_assoc}, lemmas.Bool.{true≢false}}
 use Rattle.hex.specs.Hex.{encode_lower}
 use Rattle.df_format.specs.declared.header.Header.{Header}
 use Rattle.df_script_model.specs.Texts.{body_text, line_of, numbered, spaced}

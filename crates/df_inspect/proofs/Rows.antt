@@ -2,8 +2,7 @@
 use Rattle.std.proofs.Common.{◌≡◌, ℕ, List, [], ◌∷◌, ◌++◌, codes, ap, ◌∙◌, append_assoc}
 use Rattle.df_layout.specs.declared.layout.Layout.{Layout}
 use Rattle.df_script_model.specs.Texts.{line_of, spaced}
-use Rattle.df_inspect.specs.Opening.{layout_text}
-use Rattle.df_inspect.specs.Reports.{row_text}
+use Rattle.df_inspect.specs.{Opening.{layout_text}, Reports.{row_text}}
 
 -- what is put after a text that was put
 pub behind : (old new last text rest : List ℕ) → new ≡ old ++ text → last ≡ new ++ rest → last ≡ old ++ (text ++ rest)

@@ -1,22 +1,13 @@
 -- The counters are the greatest numbers.
-use Rattle.std.proofs.Common.{◌≡◌, ◌↔◌, inl, inr, ℕ, ◌+◌, ◌<◌, ◌≤◌, Bool, true, false, List, length, get_or, Option, Some, None, refl, sym, ◌∙◌, ap, subst, arith, max}
-use Rattle.std.specs.Prelude.{Result, Ok, Err, IsTrue, IsFalse}
-use Rattle.std.specs.Bool.{OnFalse}
-use Rattle.std.specs.List.{slice_get}
-use Rattle.std.proofs.lemmas.Bool.{cases_lt}
-use Rattle.std.proofs.lemmas.Option.{slice_get_cases, slice_get-get_or}
+use Rattle.std.{proofs.{Common.{◌≡◌, ◌↔◌, inl, inr, ℕ, ◌+◌, ◌<◌, ◌≤◌, Bool, true, false, List, length, get_or, Option, Some, None, refl, sym, ◌∙◌, ap, subst, arith, max}, lemmas.Bool.{cases_lt}, lemmas.Option.{slice_get_cases, slice_get-get_or}}, specs.{Prelude.{Result, Ok, Err, IsTrue, IsFalse}, Bool.{OnFalse}, List.{slice_get}}}
 use Rattle.df_layout.specs.declared.damage.Class.{Class}
 use Rattle.df_format.specs.declared.header.Header.{Header as FileHeader}
-use Rattle.df_stamps.specs.declared.counters.Counters.{Counters}
-use Rattle.df_stamps.specs.Evidence.{IsBehind, IsComplete, IsLost, IsUpToDate}
-use Rattle.df_theory.specs.Units.{AnyUnit, Content, Header, HeaderPlace, HeaderUnit, Message, PreparePlace, PrepareUnit, Units}
-use Rattle.df_theory.specs.Shape.{Shape, slots}
-use Rattle.df_theory.specs.Found.{NotBehind, NotLost}
+use Rattle.df_stamps.specs.{declared.counters.Counters.{Counters}, Evidence.{IsBehind, IsComplete, IsLost, IsUpToDate}}
+use Rattle.df_theory.specs.{Units.{AnyUnit, Content, Header, HeaderPlace, HeaderUnit, Message, PreparePlace, PrepareUnit, Units}, Shape.{Shape, slots}, Found.{NotBehind, NotLost}}
 use Rattle.df_units.specs.Meaning.{header_of}
 use Rattle.df_group.proofs.Laws.{binds, own_within, within_own}
 use Rattle.df_buffers.specs.declared.slots.SlotSeen.{SlotSeen}
-use Rattle.df_journal.specs.Shows.{ShowsHeader, ShowsPrepare, ShowsTable}
-use Rattle.df_journal.specs.Counts.{CountsAll, CountsBinding, CountsBound, CountsRings, RingsWithin, binding_op, in_boot, number_in, with_unit}
+use Rattle.df_journal.specs.{Shows.{ShowsHeader, ShowsPrepare, ShowsTable}, Counts.{CountsAll, CountsBinding, CountsBound, CountsRings, RingsWithin, binding_op, in_boot, number_in, with_unit}}
 
 -- ---- the rings
 

@@ -1,35 +1,15 @@
 -- What the table decides of a slot is what the theory decides of the image.
-use Rattle.std.proofs.Common.{◌≡◌, ◌==◌, inl, inr, ℕ, ◌%◌, ◌<◌, ◌^◌, ◌≤◌, length, List, Option, Some, None, sym, ◌∙◌, ap, subst, arith}
-use Rattle.std.specs.Prelude.{Result, Ok, Err, Bool, true, not, nat_le, nat_lt, if◌then◌else◌}
-use Rattle.std.specs.List.{slice_get}
-use Rattle.std.proofs.lemmas.Bool.{cases_Bool, cases_eq, cond-true, cond-false, eq-eqb, ne_eqb}
+use Rattle.std.{proofs.{Common.{◌≡◌, ◌==◌, inl, inr, ℕ, ◌%◌, ◌<◌, ◌^◌, ◌≤◌, length, List, Option, Some, None, sym, ◌∙◌, ap, subst, arith}, lemmas.Bool.{cases_Bool, cases_eq, cond-true, cond-false, eq-eqb, ne_eqb}}, specs.{Prelude.{Result, Ok, Err, Bool, true, not, nat_le, nat_lt, if◌then◌else◌}, List.{slice_get}}}
 use Rattle.df_base.proofs.Laws.{length-check_of, AreBytes-check_of}
-use Rattle.df_layout.specs.declared.damage.Class.{Class}
-use Rattle.df_layout.specs.declared.layout.Layout.{Layout}
-use Rattle.df_layout.specs.declared.places.Place.{Place}
-use Rattle.df_format.specs.declared.header.Header.{Header}
-use Rattle.df_format.specs.Message.{Message}
-use Rattle.df_format.specs.Spelling.{IsCheck, spelling_rest}
-use Rattle.df_format.specs.declared.kind.Kind.{Kind}
-use Rattle.df_format.specs.Own.{place_in}
-use Rattle.df_format.specs.declared.kind.Kind.TheVariants.{Prepare}
-use Rattle.df_format.specs.Rules.{ObeysKind, ObeysPrepare, ObeysVersion}
-use Rattle.df_format.specs.Valid.{IsInSlot, IsUnit}
-use Rattle.df_format.proofs.Laws.{valid_belongs}
-use Rattle.df_layout.specs.declared.places.Zone.TheVariants.{WalPrepares}
+use Rattle.df_layout.specs.{declared.damage.Class.{Class}, declared.layout.Layout.{Layout}, declared.places.Place.{Place}, declared.places.Zone.TheVariants.{WalPrepares}}
+use Rattle.df_format.{specs.{declared.header.Header.{Header}, Message.{Message}, Spelling.{IsCheck, spelling_rest}, declared.kind.Kind.{Kind}, Own.{place_in}, declared.kind.Kind.TheVariants.{Prepare}, Rules.{ObeysKind, ObeysPrepare, ObeysVersion}, Valid.{IsInSlot, IsUnit}}, proofs.Laws.{valid_belongs}}
 use Rattle.df_theory.specs.Units
 use Rattle.df_theory.specs.Units.{AnyUnit, HeaderPlace, PreparePlace}
-use Rattle.df_units.specs.Meaning.{header_of, number_of}
-use Rattle.df_units.proofs.Laws.{one_number}
+use Rattle.df_units.{specs.Meaning.{header_of, number_of}, proofs.Laws.{one_number}}
 use Rattle.df_theory.specs.Cases
 use Rattle.df_buffers.specs.declared.slots.SlotSeen.{SlotSeen}
 use Rattle.df_places.specs.Units.{IsThere}
-use Rattle.df_journal.specs.Scan.{Scan}
-use Rattle.df_journal.proofs.Ops.{one_op}
-use Rattle.df_journal.specs.declared.table.Start.{Start}
-use Rattle.df_journal.specs.Planned.{has_header_of, named, named_by, named_on, planned, planned_on, shows_header}
-use Rattle.df_journal.specs.Seen.{HasChecks, IsOfCheck, IsOpOf, IsTakenPrepare, TakesNow, decision_on, seen_in}
-use Rattle.df_journal.specs.Shows.{IsHeaderThere, IsSeenTable, ShowsHeader, ShowsPrepare, ShowsSlot, TellsRings}
+use Rattle.df_journal.{specs.{Scan.{Scan}, declared.table.Start.{Start}, Planned.{has_header_of, named, named_by, named_on, planned, planned_on, shows_header}, Seen.{HasChecks, IsOfCheck, IsOpOf, IsTakenPrepare, TakesNow, decision_on, seen_in}, Shows.{IsHeaderThere, IsSeenTable, ShowsHeader, ShowsPrepare, ShowsSlot, TellsRings}}, proofs.Ops.{one_op}}
 
 header_seen : (b o : ℕ) (x : Option AnyUnit) (r : Result Header Class) → ShowsHeader x r → Cases.seen_header b o x ≡ seen_in b o r
 header_seen b o x (Ok h) is = ap (Cases.seen_header b o) is

@@ -1,45 +1,18 @@
 -- The moments of a flush, and its end.
-use Rattle.std.specs.Prelude.{Result, Ok, Err, OnOk}
-use Rattle.std.proofs.Common.{◌≡◌, ◌⊎◌, inl, inr, ℕ, zero, suc, ◌+◌, ◌*◌, ◌/◌, ◌%◌, ◌<◌, ◌≤◌, List, [], ◌∷◌, ◌++◌, length, Option, Some, refl, sym, ◌∙◌, ap, subst, length-append, arith}
-use Rattle.std.specs.List.{slice_get}
-use Rattle.std.proofs.lemmas.Option.{same_Some, slice_get-get_or, slice_get_within}
-use Rattle.df_base.specs.declared.Failed.{Failed}
+use Rattle.std.{specs.{Prelude.{Result, Ok, Err, OnOk}, List.{slice_get}}, proofs.{Common.{◌≡◌, ◌⊎◌, inl, inr, ℕ, zero, suc, ◌+◌, ◌*◌, ◌/◌, ◌%◌, ◌<◌, ◌≤◌, List, [], ◌∷◌, ◌++◌, length, Option, Some, refl, sym, ◌∙◌, ap, subst, length-append, arith}, lemmas.Option.{same_Some, slice_get-get_or, slice_get_within}}}
+use Rattle.df_base.specs.{declared.Failed.{Failed}, Log.{Event}, Moments.{EachMoment, adds}}
 use Rattle.df_base.specs.Log
-use Rattle.df_base.specs.Log.{Event}
-use Rattle.df_base.specs.Moments.{EachMoment, adds}
-use Rattle.df_disk.specs.Told.{Told}
-use Rattle.df_disk.specs.Adds.{Adds, AddsPart, after_all}
+use Rattle.df_disk.specs.{Told.{Told}, Adds.{Adds, AddsPart, after_all}}
 use Rattle.df_layout.specs.declared.layout.Layout.{Layout}
-use Rattle.df_format.specs.declared.header.Header.{Header}
-use Rattle.df_format.specs.Message.{Message}
+use Rattle.df_format.specs.{declared.header.Header.{Header}, Message.{Message}}
 use Rattle.df_buffers.specs.Sounds.{Holding}
 use Rattle.df_theory.specs.Units
-use Rattle.df_theory.specs.Units.{HeaderPlace, HeaderUnit, PreparePlace, PrepareUnit}
+use Rattle.df_theory.{specs.{Units.{HeaderPlace, HeaderUnit, PreparePlace, PrepareUnit}, UnitLog.{PutsOne, put_one}, Tails.{In}, Shape.{Shape}, View.{View, head}, Next.{appended}, Runs.{Step, Syncs}, MakingLaws.{all_puts}, WriterLaws.{AllPutPrepare, flush_steps as theory_steps}, MendLaws.{AllPutTable, Reaches}, GroupLaws.{IsGroupTable, flush_command}, TidyLaws.{IsTidy, LeadsTidily}, Device.{AreSteps, Format, IsGoodDisk, units_log}}, proofs.Laws.{flush_ring_law, in_front, moments_law, put_one_law, shown_law, steps_join_law, tidy_flush_law, tidy_moments_law}}
 use Rattle.df_theory.specs.UnitLog
-use Rattle.df_theory.specs.UnitLog.{PutsOne, put_one}
-use Rattle.df_theory.specs.Tails.{In}
-use Rattle.df_theory.specs.Shape.{Shape}
-use Rattle.df_theory.specs.View.{View, head}
-use Rattle.df_theory.specs.Next.{appended}
-use Rattle.df_theory.specs.Runs.{Step, Syncs}
-use Rattle.df_theory.specs.MakingLaws.{all_puts}
-use Rattle.df_theory.specs.WriterLaws.{AllPutPrepare, flush_steps as theory_steps}
-use Rattle.df_theory.specs.MendLaws.{AllPutTable, Reaches}
-use Rattle.df_theory.specs.GroupLaws.{IsGroupTable, flush_command}
-use Rattle.df_theory.specs.TidyLaws.{IsTidy, LeadsTidily}
-use Rattle.df_theory.specs.Device.{AreSteps, Format, IsGoodDisk, units_log}
-use Rattle.df_theory.proofs.Laws.{flush_ring_law, in_front, moments_law, put_one_law, shown_law, steps_join_law, tidy_flush_law, tidy_moments_law}
-use Rattle.df_units.specs.Bytes.{unit_at}
-use Rattle.df_units.specs.Format.{format_of, shape_of}
-use Rattle.df_units.specs.Meaning.{header_of, message_of}
-use Rattle.df_units.proofs.Laws.{all_added, is_format, part_moments, prepare_put}
+use Rattle.df_units.{specs.{Bytes.{unit_at}, Format.{format_of, shape_of}, Meaning.{header_of, message_of}}, proofs.Laws.{all_added, is_format, part_moments, prepare_put}}
 use Rattle.df_headers.specs.Ring.{AreOfRing, IsHeaderTable}
 use Rattle.df_prepares.specs.Slots.{IsInOwnSlot, prepare_put_events, put_steps}
-use Rattle.df_journal.specs.Append.{ShowsRing, settle_events, settle_steps}
-use Rattle.df_journal.specs.Flush.{AreOwn, EndsFlushed, LeavesGroup, MayFlushOn, MayPutGroup, first_slot, flush_events, flush_steps, group_puts, group_steps, held_prepares, last_slot, messages_of, sectors_between, sectors_of, with_headers}
-use Rattle.df_journal.proofs.GroupTables.{AreIn, at_slot, at_slot_is, ends_of_ring, get_cases, group_kept, own_get, reach_inside, sector_of_two, sector_units, sectors_put, slot_is, turn_apart, two_reach, writes_are_puts}
-use Rattle.df_journal.proofs.Moments.{stays}
-use Rattle.df_journal.proofs.RingWrites.{settle_are_steps}
+use Rattle.df_journal.{specs.{Append.{ShowsRing, settle_events, settle_steps}, Flush.{AreOwn, EndsFlushed, LeavesGroup, MayFlushOn, MayPutGroup, first_slot, flush_events, flush_steps, group_puts, group_steps, held_prepares, last_slot, messages_of, sectors_between, sectors_of, with_headers}}, proofs.{GroupTables.{AreIn, at_slot, at_slot_is, ends_of_ring, get_cases, group_kept, own_get, reach_inside, sector_of_two, sector_units, sectors_put, slot_is, turn_apart, two_reach, writes_are_puts}, Moments.{stays}, RingWrites.{settle_are_steps}}}
 
 -- ---- what the rooms hold
 

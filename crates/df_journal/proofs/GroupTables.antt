@@ -1,32 +1,13 @@
 -- The table with the headers of a group: each stands in its slot, whose sector is that of the group's first or last prepare.
-use Rattle.std.proofs.Common.{◌≡◌, ◌⊎◌, inl, inr, ℕ, zero, suc, ◌+◌, ◌*◌, ◌/◌, ◌%◌, ◌<◌, ◌≤◌, ◌==◌, Bool, true, false, if◌then◌else◌, List, [], ◌∷◌, ◌++◌, length, slice_index_or, Some, None, refl, sym, ◌∙◌, ap, subst, arith, eqb-true}
-use Rattle.std.specs.List.{slice_get}
-use Rattle.std.proofs.Math.Nat.{mul-le-mul_left, mul_assoc}
-use Rattle.std.proofs.lemmas.Bool.{cases_eq, cases_lt, cond-false, cond-true, eq-eqb, ne_eqb}
-use Rattle.std.proofs.lemmas.Option.{same_Some, slice_get-get_or, slice_get_within}
+use Rattle.std.{proofs.{Common.{◌≡◌, ◌⊎◌, inl, inr, ℕ, zero, suc, ◌+◌, ◌*◌, ◌/◌, ◌%◌, ◌<◌, ◌≤◌, ◌==◌, Bool, true, false, if◌then◌else◌, List, [], ◌∷◌, ◌++◌, length, slice_index_or, Some, None, refl, sym, ◌∙◌, ap, subst, arith, eqb-true}, Math.Nat.{mul-le-mul_left, mul_assoc}, lemmas.Bool.{cases_eq, cases_lt, cond-false, cond-true, eq-eqb, ne_eqb}, lemmas.Option.{same_Some, slice_get-get_or, slice_get_within}}, specs.List.{slice_get}}
 use Rattle.df_base.proofs.Laws.{get_set, get_set_other, split_n, times_suc}
-use Rattle.df_layout.specs.declared.layout.Layout.{Layout}
-use Rattle.df_layout.specs.declared.places.Zone.TheVariants.{WalPrepares}
-use Rattle.df_format.specs.declared.header.Header.{Header}
-use Rattle.df_format.specs.Message.{Message}
-use Rattle.df_format.specs.Own.{place_in}
-use Rattle.df_format.specs.Valid.{IsInSlot}
-use Rattle.df_format.proofs.Laws.{valid_belongs}
-use Rattle.df_theory.specs.Units.{HeaderPlace, HeaderUnit, Units}
-use Rattle.df_theory.specs.MendLaws.{AllPutTable, Reaches}
-use Rattle.df_theory.specs.Next.{AreInTurn}
-use Rattle.df_theory.specs.Runs.{Step}
-use Rattle.df_theory.specs.MakingLaws.{all_puts}
-use Rattle.df_theory.proofs.Laws.{mod_apart}
-use Rattle.df_units.specs.Meaning.{header_of, message_of}
-use Rattle.df_units.specs.Puts.{header_unit, put_headers}
-use Rattle.df_units.proofs.Laws.{sector_puts, table_put}
-use Rattle.df_headers.specs.Ring.{AreOfRing, IsHeader, IsHeaderTable, header_write_steps, in_sector}
-use Rattle.df_headers.proofs.Laws.{sector_at, sector_has, table_kept}
+use Rattle.df_layout.specs.{declared.layout.Layout.{Layout}, declared.places.Zone.TheVariants.{WalPrepares}}
+use Rattle.df_format.{specs.{declared.header.Header.{Header}, Message.{Message}, Own.{place_in}, Valid.{IsInSlot}}, proofs.Laws.{valid_belongs}}
+use Rattle.df_theory.{specs.{Units.{HeaderPlace, HeaderUnit, Units}, MendLaws.{AllPutTable, Reaches}, Next.{AreInTurn}, Runs.{Step}, MakingLaws.{all_puts}}, proofs.Laws.{mod_apart}}
+use Rattle.df_units.{specs.{Meaning.{header_of, message_of}, Puts.{header_unit, put_headers}}, proofs.Laws.{sector_puts, table_put}}
+use Rattle.df_headers.{specs.Ring.{AreOfRing, IsHeader, IsHeaderTable, header_write_steps, in_sector}, proofs.Laws.{sector_at, sector_has, table_kept}}
 use Rattle.df_prepares.specs.Slots.{IsInOwnSlot}
-use Rattle.df_journal.specs.Append.{with_header}
-use Rattle.df_journal.specs.Flush.{first_slot, last_slot, messages_of, sectors_between, sectors_of, with_headers}
-use Rattle.df_journal.proofs.Moments.{in_header_ring, slot_below}
+use Rattle.df_journal.{specs.{Append.{with_header}, Flush.{first_slot, last_slot, messages_of, sectors_between, sectors_of, with_headers}}, proofs.Moments.{in_header_ring, slot_below}}
 
 -- each prepare stands in its own slot, in a file of this cluster
 abbrev pub AreIn : Layout → ℕ → List Message → Type 0

@@ -1,21 +1,12 @@
 -- The device calls of a group's puts, one after the other, and of a settling after them.
-use Rattle.std.specs.Prelude.{Result}
-use Rattle.std.proofs.Common.{◌≡◌, inl, inr, ℕ, zero, suc, ◌+◌, ◌<◌, ◌≤◌, List, [], ◌∷◌, length, drop, slice_index_or, Option, Some, sym, ◌∙◌, ap, subst, arith}
-use Rattle.std.specs.List.{slice_get}
-use Rattle.std.proofs.lemmas.Bool.{cases_eq}
-use Rattle.std.proofs.lemmas.Option.{same_Some, slice_get-get_or}
-use Rattle.df_base.specs.declared.Failed.{Failed}
-use Rattle.df_base.specs.Log.{Event}
-use Rattle.df_disk.specs.Told.{Told}
-use Rattle.df_disk.specs.Adds.{Adds, AddsPart, after_all}
-use Rattle.df_disk.proofs.Laws.{adds_then, part_then}
+use Rattle.std.{specs.{Prelude.{Result}, List.{slice_get}}, proofs.{Common.{◌≡◌, inl, inr, ℕ, zero, suc, ◌+◌, ◌<◌, ◌≤◌, List, [], ◌∷◌, length, drop, slice_index_or, Option, Some, sym, ◌∙◌, ap, subst, arith}, lemmas.Bool.{cases_eq}, lemmas.Option.{same_Some, slice_get-get_or}}}
+use Rattle.df_base.specs.{declared.Failed.{Failed}, Log.{Event}}
+use Rattle.df_disk.{specs.{Told.{Told}, Adds.{Adds, AddsPart, after_all}}, proofs.Laws.{adds_then, part_then}}
 use Rattle.df_layout.specs.declared.layout.Layout.{Layout}
 use Rattle.df_format.specs.declared.header.Header.{Header}
 use Rattle.df_buffers.specs.Sounds.{Holding}
 use Rattle.df_prepares.specs.Slots.{prepare_put_events}
-use Rattle.df_journal.specs.Append.{settle_events, with_header}
-use Rattle.df_journal.specs.Flush.{IsOwn, flush_events, group_puts, held_prepares, last_slot, sectors_of, with_headers}
-use Rattle.df_journal.proofs.RingWrites.{LeadsAs, drop_all, drop_from, leads_more}
+use Rattle.df_journal.{specs.{Append.{settle_events, with_header}, Flush.{IsOwn, flush_events, group_puts, held_prepares, last_slot, sectors_of, with_headers}}, proofs.RingWrites.{LeadsAs, drop_all, drop_from, leads_more}}
 
 -- what an index gives stands there
 pub stands_at : (helds : List Holding) (i : ℕ) (held : Holding) → i < length helds → held ≡ slice_index_or helds i held → slice_get helds i ≡ Some held

@@ -1,49 +1,15 @@
 -- The moments of an append, and its end.
-use Rattle.std.specs.Prelude.{Result, Ok, Err, OnOk}
-use Rattle.std.proofs.Common.{◌≡◌, inl, inr, ℕ, zero, suc, ◌+◌, ◌*◌, ◌/◌, ◌%◌, ◌<◌, ◌≤◌, List, [], ◌∷◌, take, length, set, length-append, ◌==◌, Option, Some, None, refl, sym, ◌∙◌, ap, subst, arith}
-use Rattle.std.specs.List.{slice_get}
-use Rattle.std.proofs.lemmas.Option.{same_Some}
-use Rattle.std.proofs.lemmas.Bool.{cases_eq, cond-false, cond-true, eq-eqb, ne_eqb}
-use Rattle.df_base.specs.declared.Failed.{Failed}
-use Rattle.df_base.specs.Image.{Image, IsImage, written}
+use Rattle.std.{specs.{Prelude.{Result, Ok, Err, OnOk}, List.{slice_get}}, proofs.{Common.{◌≡◌, inl, inr, ℕ, zero, suc, ◌+◌, ◌*◌, ◌/◌, ◌%◌, ◌<◌, ◌≤◌, List, [], ◌∷◌, take, length, set, length-append, ◌==◌, Option, Some, None, refl, sym, ◌∙◌, ap, subst, arith}, lemmas.Option.{same_Some}, lemmas.Bool.{cases_eq, cond-false, cond-true, eq-eqb, ne_eqb}}}
+use Rattle.df_base.{specs.{declared.Failed.{Failed}, Image.{Image, IsImage, written}, Log.{Event}, Moments.{EachMoment, adds}}, proofs.Laws.{now_is_image, written_is_image, get_set}}
 use Rattle.df_base.specs.Log
-use Rattle.df_base.specs.Log.{Event}
-use Rattle.df_base.proofs.Laws.{now_is_image, written_is_image, get_set}
-use Rattle.df_base.specs.Moments.{EachMoment, adds}
-use Rattle.df_disk.specs.Told.{Told}
-use Rattle.df_disk.specs.Adds.{Adds, AddsPart, after_all}
-use Rattle.df_layout.specs.declared.layout.Layout.{Layout}
-use Rattle.df_layout.specs.declared.places.Zone.TheVariants.{WalHeaders, WalPrepares}
-use Rattle.df_format.specs.declared.header.Header.{Header}
-use Rattle.df_format.specs.declared.kind.Kind.{Kind}
-use Rattle.df_format.specs.Message.{Message, sectors_end}
-use Rattle.df_format.specs.Own.{named_in_ring, place_in}
-use Rattle.df_format.specs.UnitLaws.{AreSixteen, headers_bytes}
-use Rattle.df_format.specs.Valid.{IsInSlot}
-use Rattle.df_format.specs.Brings.{Brings}
-use Rattle.df_format.proofs.Laws.{is_own, own_is, valid_belongs}
+use Rattle.df_disk.specs.{Told.{Told}, Adds.{Adds, AddsPart, after_all}}
+use Rattle.df_layout.specs.{declared.layout.Layout.{Layout}, declared.places.Zone.TheVariants.{WalHeaders, WalPrepares}}
+use Rattle.df_format.{specs.{declared.header.Header.{Header}, declared.kind.Kind.{Kind}, Message.{Message, sectors_end}, Own.{named_in_ring, place_in}, UnitLaws.{AreSixteen, headers_bytes}, Valid.{IsInSlot}, Brings.{Brings}}, proofs.Laws.{is_own, own_is, valid_belongs}}
 use Rattle.df_buffers.specs.Sounds.{Holding}
 use Rattle.df_theory.specs.Units
-use Rattle.df_theory.specs.Units.{AnyUnit, HeaderPlace, HeaderUnit, PreparePlace, PrepareUnit, or_else}
-use Rattle.df_theory.specs.UnitLog.{put_one}
-use Rattle.df_theory.specs.TidyLaws.{IsTidy}
-use Rattle.df_theory.specs.Cases.{IsEmpty, Takes, decided}
-use Rattle.df_theory.specs.Tails.{In}
-use Rattle.df_theory.specs.Device.{AreSteps, IsGoodDisk, IsPut, units_log}
-use Rattle.df_theory.specs.Found.{IsFound}
-use Rattle.df_theory.specs.Holds.{Held}
-use Rattle.df_theory.specs.Next.{appended}
-use Rattle.df_theory.specs.Shape.{slots}
-use Rattle.df_theory.specs.View.{Checkpoint, View, boot_of, head}
-use Rattle.df_theory.proofs.Laws.{found_law, in_front, slot_law, decided_above}
-use Rattle.df_units.specs.Append.{AppendLeadsOnDisk, append_events}
-use Rattle.df_units.specs.Bytes.{first_at, unit_at}
-use Rattle.df_units.specs.Format.{format_of, shape_of}
-use Rattle.df_units.specs.Meaning.{header_of, message_of}
-use Rattle.df_units.specs.Puts.{IsNextSector, header_unit, put_headers}
-use Rattle.df_units.proofs.Laws.{all_added, append_on_disk, headers_put, of_places, part_moments, prepare_put}
-use Rattle.df_headers.specs.Ring.{AreOfRing, IsHeader, IsHeaderTable, in_sector}
-use Rattle.df_headers.proofs.Laws.{sector_at, sector_has, set_cases, table_kept, table_written}
+use Rattle.df_theory.{specs.{Units.{AnyUnit, HeaderPlace, HeaderUnit, PreparePlace, PrepareUnit, or_else}, UnitLog.{put_one}, TidyLaws.{IsTidy}, Cases.{IsEmpty, Takes, decided}, Tails.{In}, Device.{AreSteps, IsGoodDisk, IsPut, units_log}, Found.{IsFound}, Holds.{Held}, Next.{appended}, Shape.{slots}, View.{Checkpoint, View, boot_of, head}}, proofs.Laws.{found_law, in_front, slot_law, decided_above}}
+use Rattle.df_units.{specs.{Append.{AppendLeadsOnDisk, append_events}, Bytes.{first_at, unit_at}, Format.{format_of, shape_of}, Meaning.{header_of, message_of}, Puts.{IsNextSector, header_unit, put_headers}}, proofs.Laws.{all_added, append_on_disk, headers_put, of_places, part_moments, prepare_put}}
+use Rattle.df_headers.{specs.Ring.{AreOfRing, IsHeader, IsHeaderTable, in_sector}, proofs.Laws.{sector_at, sector_has, set_cases, table_kept, table_written}}
 use Rattle.df_prepares.specs.Slots.{IsInOwnSlot, slot_place}
 use Rattle.df_journal.specs.Append.{AppendLeaves, EndsAppended, MayAppendOn, OthersStay, ShowsRing, journal_events, journal_steps, new_sector, with_header}
 

@@ -1,24 +1,12 @@
 -- The prepares that a superblock names, read down from its head, and up from its checkpoint.
-use Rattle.std.proofs.Common.{◌≡◌, inl, inr, ℕ, suc, ◌+◌, ◌%◌, ◌<◌, ◌≤◌, List, [], ◌∷◌, ◌++◌, length, take, Option, Some, None, refl, sym, ◌∙◌, ap, subst, arith}
-use Rattle.std.specs.Prelude.{Result, Ok, Err}
-use Rattle.std.specs.List.{slice_get}
-use Rattle.df_layout.specs.declared.damage.Class.{Class}
-use Rattle.df_layout.specs.declared.layout.Layout.{Layout}
-use Rattle.df_format.specs.declared.header.Header.{Header}
-use Rattle.df_format.specs.Spelling.{IsCheck}
+use Rattle.std.{proofs.Common.{◌≡◌, inl, inr, ℕ, suc, ◌+◌, ◌%◌, ◌<◌, ◌≤◌, List, [], ◌∷◌, ◌++◌, length, take, Option, Some, None, refl, sym, ◌∙◌, ap, subst, arith}, specs.{Prelude.{Result, Ok, Err}, List.{slice_get}}}
+use Rattle.df_layout.specs.{declared.damage.Class.{Class}, declared.layout.Layout.{Layout}}
+use Rattle.df_format.specs.{declared.header.Header.{Header}, Spelling.{IsCheck}}
 use Rattle.df_theory.specs.Units
-use Rattle.df_theory.specs.Units.{AnyUnit, Content, Message, PreparePlace, PrepareUnit, Session, Units as Images}
-use Rattle.df_theory.specs.Sessions.{noted}
-use Rattle.df_theory.specs.Tails.{Chain, In, last_checksum}
-use Rattle.df_theory.specs.Shape.{Shape, slots}
-use Rattle.df_theory.specs.Opens.{AreKnown, LacksKnown, named_by}
-use Rattle.df_units.specs.Meaning.{header_of, number_of}
-use Rattle.df_units.proofs.Laws.{one_number}
+use Rattle.df_theory.specs.{Units.{AnyUnit, Content, Message, PreparePlace, PrepareUnit, Session, Units as Images}, Sessions.{noted}, Tails.{Chain, In, last_checksum}, Shape.{Shape, slots}, Opens.{AreKnown, LacksKnown, named_by}}
+use Rattle.df_units.{specs.Meaning.{header_of, number_of}, proofs.Laws.{one_number}}
 use Rattle.df_buffers.specs.declared.slots.SlotSeen.{SlotSeen}
-use Rattle.df_journal.specs.declared.table.Start.{Start}
-use Rattle.df_journal.specs.Known.{AllKnown, HasSum, NamesFrom}
-use Rattle.df_journal.specs.Shows.{IsSeenTable, ShowsPrepare, ShowsTable}
-use Rattle.df_journal.proofs.Decisions.{shown_checks}
+use Rattle.df_journal.{specs.{declared.table.Start.{Start}, Known.{AllKnown, HasSum, NamesFrom}, Shows.{IsSeenTable, ShowsPrepare, ShowsTable}}, proofs.Decisions.{shown_checks}}
 
 -- ---- down
 

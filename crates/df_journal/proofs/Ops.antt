@@ -1,8 +1,5 @@
 -- The one op above a checkpoint's that belongs in a slot.
-use Rattle.std.proofs.Common.{◌≡◌, inl, inr, ℕ, ◌+◌, ◌-◌, ◌*◌, ◌/◌, ◌%◌, ◌<◌, ◌≤◌, sym, ◌∙◌, ap, arith}
-use Rattle.std.proofs.lemmas.Bool.{cases_lt}
-use Rattle.std.proofs.lemmas.Nat.{mod-mul-add}
-use Rattle.std.proofs.Math.Nat.{div-add-mod, mod-lt, mul-le-mul_left}
+use Rattle.std.proofs.{Common.{◌≡◌, inl, inr, ℕ, ◌+◌, ◌-◌, ◌*◌, ◌/◌, ◌%◌, ◌<◌, ◌≤◌, sym, ◌∙◌, ap, arith}, lemmas.Bool.{cases_lt}, lemmas.Nat.{mod-mul-add}, Math.Nat.{div-add-mod, mod-lt, mul-le-mul_left}}
 use Rattle.df_journal.specs.Seen.{IsOpOf}
 
 pub op_of_slot : (n op slot : ℕ) → 0 < n → slot < n → IsOpOf n op slot (op + 1 + (slot + n - (op + 1) % n) % n)

@@ -1,22 +1,13 @@
 -- The device calls of a settling, sector by sector, and of a put with a settling after it.
-use Rattle.std.specs.Prelude.{Result, Ok, Err, OnOk, OnErr}
-use Rattle.std.proofs.Common.{◌≡◌, inl, ℕ, zero, suc, ◌+◌, ◌*◌, ◌/◌, ◌<◌, ◌≤◌, List, [], ◌∷◌, ◌++◌, length, drop, slice_index_or, Option, Some, refl, sym, ◌∙◌, ap, subst, arith}
-use Rattle.std.specs.List.{slice_get}
-use Rattle.std.proofs.lemmas.Option.{same_Some, slice_get-get_or}
-use Rattle.df_base.specs.declared.Failed.{Failed}
-use Rattle.df_base.specs.Log.{Event, Sync}
-use Rattle.df_disk.specs.Told.{Told, after}
-use Rattle.df_disk.specs.Adds.{Adds, AddsPart, after_all}
-use Rattle.df_disk.proofs.Laws.{adds_then, after_append, all_then, part_then}
+use Rattle.std.{specs.{Prelude.{Result, Ok, Err, OnOk, OnErr}, List.{slice_get}}, proofs.{Common.{◌≡◌, inl, ℕ, zero, suc, ◌+◌, ◌*◌, ◌/◌, ◌<◌, ◌≤◌, List, [], ◌∷◌, ◌++◌, length, drop, slice_index_or, Option, Some, refl, sym, ◌∙◌, ap, subst, arith}, lemmas.Option.{same_Some, slice_get-get_or}}}
+use Rattle.df_base.specs.{declared.Failed.{Failed}, Log.{Event, Sync}}
+use Rattle.df_disk.{specs.{Told.{Told, after}, Adds.{Adds, AddsPart, after_all}}, proofs.Laws.{adds_then, after_append, all_then, part_then}}
 use Rattle.df_layout.specs.declared.layout.Layout.{Layout}
 use Rattle.df_format.specs.declared.header.Header.{Header}
 use Rattle.df_buffers.specs.Sounds.{Holding}
-use Rattle.df_theory.specs.Device.{AreSteps}
-use Rattle.df_theory.specs.Runs.{Syncs}
-use Rattle.df_theory.proofs.Laws.{steps_join_law}
+use Rattle.df_theory.{specs.{Device.{AreSteps}, Runs.{Syncs}}, proofs.Laws.{steps_join_law}}
 use Rattle.df_units.specs.Format.{format_of}
-use Rattle.df_headers.specs.Ring.{AreOfRing, IsHeaderTable, header_write_steps, sector_events, sector_writes}
-use Rattle.df_headers.proofs.Laws.{writes_are_steps}
+use Rattle.df_headers.{specs.Ring.{AreOfRing, IsHeaderTable, header_write_steps, sector_events, sector_writes}, proofs.Laws.{writes_are_steps}}
 use Rattle.df_prepares.specs.Slots.{prepare_put_events}
 use Rattle.df_journal.specs.Append.{journal_events, settle_events, settle_steps, with_header}
 

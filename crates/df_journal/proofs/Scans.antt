@@ -1,31 +1,15 @@
 -- What is read of the rings is what they show.
-use Rattle.std.proofs.Common.{◌≡◌, inl, inr, ℕ, ◌+◌, ◌*◌, ◌/◌, ◌%◌, ◌<◌, ◌≤◌, List, length, set, Option, Some, None, Result, Ok, Err, OnOk, refl, sym, ◌∙◌, ap, subst, arith}
-use Rattle.std.specs.List.{slice_get}
-use Rattle.std.proofs.lemmas.Bool.{cases_eq}
-use Rattle.std.proofs.lemmas.Option.{slice_get_cases, slice_get_within}
-use Rattle.df_base.specs.Image.{Image, bytes_at}
-use Rattle.df_base.proofs.Laws.{get_set, get_set_other}
+use Rattle.std.{proofs.{Common.{◌≡◌, inl, inr, ℕ, ◌+◌, ◌*◌, ◌/◌, ◌%◌, ◌<◌, ◌≤◌, List, length, set, Option, Some, None, Result, Ok, Err, OnOk, refl, sym, ◌∙◌, ap, subst, arith}, lemmas.Bool.{cases_eq}, lemmas.Option.{slice_get_cases, slice_get_within}}, specs.List.{slice_get}}
+use Rattle.df_base.{specs.Image.{Image, bytes_at}, proofs.Laws.{get_set, get_set_other}}
 use Rattle.df_disk.specs.Told.{Told, Shows}
-use Rattle.df_layout.specs.declared.damage.Class.{Class}
-use Rattle.df_layout.specs.declared.layout.Layout.{Layout}
-use Rattle.df_layout.specs.declared.places.Place.{Place}
-use Rattle.df_layout.specs.declared.places.Zone.TheVariants.{WalHeaders, WalPrepares}
-use Rattle.df_layout.specs.Spans.{place_sectors, sectors_before, span_of}
-use Rattle.df_format.specs.Message.{Message}
-use Rattle.df_format.specs.Own.{place_in}
-use Rattle.df_format.specs.Shown.{bytes_of, class_at, class_of, header_or_class, unit_at, unit_in}
-use Rattle.df_format.proofs.Laws.{shown_belongs, valid_stale}
-use Rattle.df_buffers.specs.Rooms.{header_bytes}
+use Rattle.df_layout.specs.{declared.damage.Class.{Class}, declared.layout.Layout.{Layout}, declared.places.Place.{Place}, declared.places.Zone.TheVariants.{WalHeaders, WalPrepares}, Spans.{place_sectors, sectors_before, span_of}}
+use Rattle.df_format.{specs.{Message.{Message}, Own.{place_in}, Shown.{bytes_of, class_at, class_of, header_or_class, unit_at, unit_in}}, proofs.Laws.{shown_belongs, valid_stale}}
+use Rattle.df_buffers.specs.{Rooms.{header_bytes}, declared.slots.SlotSeen.{SlotSeen}}
 use Rattle.df_theory.specs.Units.{HeaderPlace, PreparePlace}
-use Rattle.df_units.specs.Meaning.{message_of}
+use Rattle.df_units.specs.{Meaning.{message_of}, Bytes.{message_unit}}
 use Rattle.df_units.specs.Bytes
-use Rattle.df_units.specs.Bytes.{message_unit}
-use Rattle.df_buffers.specs.declared.slots.SlotSeen.{SlotSeen}
 use Rattle.df_places.specs.Units.{IsSeen as IsPlaceSeen}
-use Rattle.df_journal.specs.Seen.{class_of as class_where}
-use Rattle.df_journal.specs.Shows.{IsSlot, ShowsHeader, ShowsPrepare, ShowsTable}
-use Rattle.df_journal.specs.Scan.{Scan, entry, or_blank}
-use Rattle.df_journal.specs.Scanned.{AreSeen, ClassIsShown, HoldsSector, IsScanned, IsSlotSeen, RingsAreShown, header_first, seen_at}
+use Rattle.df_journal.specs.{Seen.{class_of as class_where}, Shows.{IsSlot, ShowsHeader, ShowsPrepare, ShowsTable}, Scan.{Scan, entry, or_blank}, Scanned.{AreSeen, ClassIsShown, HoldsSector, IsScanned, IsSlotSeen, RingsAreShown, header_first, seen_at}}
 
 -- ---- bytes
 

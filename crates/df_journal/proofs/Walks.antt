@@ -1,37 +1,15 @@
 -- The walk along the tail, prepare by prepare: those that are taken, in the table and in the image.
-use Rattle.std.proofs.Common.{◌≡◌, take, ◌-◌, inl, inr, ℕ, ◌+◌, ◌%◌, ◌<◌, ◌^◌, ◌≤◌, List, [], ◌∷◌, ◌++◌, length, Some, sym, ◌∙◌, ap, subst, arith, length-append, append_assoc}
-use Rattle.std.specs.List.{slice_get}
-use Rattle.std.proofs.lemmas.Bool.{cases_eq, cases_lt}
-use Rattle.std.proofs.lemmas.Option.{slice_get_cases}
-use Rattle.std.proofs.Math.Nat.{mod-lt}
-use Rattle.df_layout.specs.declared.layout.Layout.{Layout}
-use Rattle.df_layout.proofs.Laws.{some_slots}
+use Rattle.std.{proofs.{Common.{◌≡◌, take, ◌-◌, inl, inr, ℕ, ◌+◌, ◌%◌, ◌<◌, ◌^◌, ◌≤◌, List, [], ◌∷◌, ◌++◌, length, Some, sym, ◌∙◌, ap, subst, arith, length-append, append_assoc}, lemmas.Bool.{cases_eq, cases_lt}, lemmas.Option.{slice_get_cases}, Math.Nat.{mod-lt}}, specs.List.{slice_get}}
+use Rattle.df_layout.{specs.declared.layout.Layout.{Layout}, proofs.Laws.{some_slots}}
 use Rattle.df_format.specs.declared.header.Header.{Header}
-use Rattle.df_sessions.specs.declared.session.Session.{Session}
-use Rattle.df_sessions.specs.Requests.{sessions_of}
-use Rattle.df_sessions.specs.Table.{requested, with_request}
+use Rattle.df_sessions.specs.{declared.session.Session.{Session}, Requests.{sessions_of}, Table.{requested, with_request}}
 use Rattle.df_theory.specs.Units
-use Rattle.df_theory.specs.Units.{PreparePlace, PrepareUnit}
-use Rattle.df_theory.specs.Sessions.{sessions_after}
-use Rattle.df_theory.specs.Tails.{AreGroups, Chain, Fits, FitsGroup, In, last_checksum, last_mark}
-use Rattle.df_theory.specs.Shape.{Shape, clients, slots}
-use Rattle.df_theory.specs.View.{Checkpoint}
+use Rattle.df_theory.{specs.{Units.{PreparePlace, PrepareUnit}, Sessions.{sessions_after}, Tails.{AreGroups, Chain, Fits, FitsGroup, In, last_checksum, last_mark}, Shape.{Shape, clients, slots}, View.{Checkpoint}, Found.{IsReach}, Opens.{AreFitting, AreKnown}}, proofs.Laws.{chain_append, chain_ops, last_mark-append, sessions-append, in_either, walk_law, last_checksum-append}}
 use Rattle.df_theory.specs.Cases
-use Rattle.df_theory.specs.Found.{IsReach}
-use Rattle.df_theory.specs.Opens.{AreFitting, AreKnown}
-use Rattle.df_theory.proofs.Laws.{chain_append, chain_ops, last_mark-append, sessions-append, in_either, walk_law, last_checksum-append}
 use Rattle.df_units.specs.Meaning.{header_of, number_of}
-use Rattle.df_group.specs.declared.groups.Tail.{Tail}
-use Rattle.df_group.specs.declared.groups.Position.{Position}
-use Rattle.df_group.proofs.Laws.{IsAhead, IsWalk, behind, chain_end, end_at, first_in, fits_behind, fits_same, groups_join, groups_split, in_last, in_some, walk_begins, walk_on}
+use Rattle.df_group.{specs.{declared.groups.Tail.{Tail}, declared.groups.Position.{Position}}, proofs.Laws.{IsAhead, IsWalk, behind, chain_end, end_at, first_in, fits_behind, fits_same, groups_join, groups_split, in_last, in_some, walk_begins, walk_on}}
 use Rattle.df_buffers.specs.declared.slots.SlotSeen.{SlotSeen}
-use Rattle.df_journal.specs.declared.table.Start.{Start}
-use Rattle.df_journal.specs.Known.{AllKnown}
-use Rattle.df_journal.specs.Seen.{IsTakenPrepare, decision_on}
-use Rattle.df_journal.specs.Shows.{IsSeenTable, ShowsTable}
-use Rattle.df_journal.specs.Tail.{AreNumbered, AreUnstored, BeginsAt, IsNext, IsReached, StopsAt, position_of, tail_to}
-use Rattle.df_journal.proofs.Decisions.{decision_is}
-use Rattle.df_journal.proofs.Named.{ArePlaced, known_front, known_here, known_last, known_taken, seen_prepare, shown_prepare}
+use Rattle.df_journal.{specs.{declared.table.Start.{Start}, Known.{AllKnown}, Seen.{IsTakenPrepare, decision_on}, Shows.{IsSeenTable, ShowsTable}, Tail.{AreNumbered, AreUnstored, BeginsAt, IsNext, IsReached, StopsAt, position_of, tail_to}}, proofs.{Decisions.{decision_is}, Named.{ArePlaced, known_front, known_here, known_last, known_taken, seen_prepare, shown_prepare}}}
 
 -- ---- taken prepares, in the table and in the image
 

@@ -1,9 +1,6 @@
 -- A layout is its five numbers.
-use Rattle.std.proofs.Common.{◌≡◌, ℕ, ap, subst}
-use Rattle.std.proofs.Math.Bridge.{le_prop}
-use Rattle.std.proofs.Math.Nat.{ℕ_set}
-use Rattle.df_layout.specs.declared.layout.Layout.{Layout}
-use Rattle.df_layout.specs.Limits.{AreSlots, IsMessageSize, AreClients, IsBlockSize, AreBlocks}
+use Rattle.std.proofs.{Common.{◌≡◌, ℕ, ap, subst}, Math.Bridge.{le_prop}, Math.Nat.{ℕ_set}}
+use Rattle.df_layout.specs.{declared.layout.Layout.{Layout}, Limits.{AreSlots, IsMessageSize, AreClients, IsBlockSize, AreBlocks}}
 
 -- the five numbers, and that they are within their limits
 abbrev Five : Type 0

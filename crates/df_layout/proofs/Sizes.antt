@@ -1,8 +1,6 @@
 -- How large the parts of a layout can be.
-use Rattle.std.proofs.Common.{ℕ, ◌*◌, ◌≤◌, arith}
-use Rattle.std.proofs.lemmas.Nat.{mul-le}
-use Rattle.df_layout.specs.declared.layout.Layout.{Layout}
-use Rattle.df_layout.specs.Zones.{message_sectors, block_sectors}
+use Rattle.std.proofs.{Common.{ℕ, ◌*◌, ◌≤◌, arith}, lemmas.Nat.{mul-le}}
+use Rattle.df_layout.specs.{declared.layout.Layout.{Layout}, Zones.{message_sectors, block_sectors}}
 
 -- a prepare slot has a sector or more
 pub message_sectors_within : (layout : Layout) → (1 ≤ message_sectors layout) × (message_sectors layout ≤ 256)

@@ -1,16 +1,6 @@
 -- A span lies within its zone, and the spans of different places share no sector.
-use Rattle.std.proofs.Common.{◌≡◌, ℕ, ◌+◌, ◌-◌, ◌/◌, ◌^◌, ◌≤◌, ◌<◌, ◌⊎◌, inl, inr, refl, arith, ap, sym, subst}
-use Rattle.std.proofs.lemmas.Nat.{row_fits}
-use Rattle.std.proofs.lemmas.Bool.{cases_lt, cases_order}
-use Rattle.df_layout.specs.declared.layout.Layout.{Layout}
-use Rattle.df_layout.specs.declared.places.Place.{Place}
-use Rattle.df_layout.specs.declared.places.Zone.{Zone}
-use Rattle.df_layout.specs.declared.places.Zone.TheVariants.{Superblock, WalHeaders, WalPrepares, ClientReplies, Grid}
-use Rattle.df_layout.specs.Zones.{message_sectors, block_sectors, zone_sectors, first_sector, end_sector, file_sectors}
-use Rattle.df_layout.specs.Spans.{HasIndex, HasPlace, place_sectors, sectors_before, span_of}
-use Rattle.df_layout.specs.Order.{IsInside, AreApart, ShareHeaderSector}
-use Rattle.df_layout.proofs.Sizes.{message_sectors_within, block_sectors_within}
-use Rattle.df_layout.proofs.Zones.{zones_follow, zones_apart}
+use Rattle.std.proofs.{Common.{◌≡◌, ℕ, ◌+◌, ◌-◌, ◌/◌, ◌^◌, ◌≤◌, ◌<◌, ◌⊎◌, inl, inr, refl, arith, ap, sym, subst}, lemmas.Nat.{row_fits}, lemmas.Bool.{cases_lt, cases_order}}
+use Rattle.df_layout.{specs.{declared.layout.Layout.{Layout}, declared.places.Place.{Place}, declared.places.Zone.{Zone}, declared.places.Zone.TheVariants.{Superblock, WalHeaders, WalPrepares, ClientReplies, Grid}, Zones.{message_sectors, block_sectors, zone_sectors, first_sector, end_sector, file_sectors}, Spans.{HasIndex, HasPlace, place_sectors, sectors_before, span_of}, Order.{IsInside, AreApart, ShareHeaderSector}}, proofs.{Sizes.{message_sectors_within, block_sectors_within}, Zones.{zones_follow, zones_apart}}}
 
 -- what stands before a place, and the place, are within the zone
 fits_zone : (layout : Layout) (zone : Zone) (index : ℕ) → HasIndex layout zone index

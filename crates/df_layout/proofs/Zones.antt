@@ -1,13 +1,6 @@
 -- The zones follow one another, and the file's size is bounded.
-use Rattle.std.proofs.Common.{◌≡◌, ◌+◌, ◌%◌, ◌^◌, ◌≤◌, ◌<◌, ◌⊎◌, inl, inr, refl, arith}
-use Rattle.std.proofs.Math.Nat.{mul-mod_left}
-use Rattle.std.proofs.lemmas.Grind.{div_ceil_times}
-use Rattle.df_layout.specs.declared.layout.Layout.{Layout}
-use Rattle.df_layout.specs.declared.places.Zone.{Zone}
-use Rattle.df_layout.specs.declared.places.Zone.TheVariants.{Superblock, WalHeaders, WalPrepares, ClientReplies, Grid}
-use Rattle.df_layout.specs.Zones.{block_sectors, zone_sectors, unpadded, first_sector, end_sector, file_sectors}
-use Rattle.df_layout.specs.Order.{ZonesFollow}
-use Rattle.df_layout.proofs.Sizes.{block_sectors_within, message_slots_within, blocks_within}
+use Rattle.std.proofs.{Common.{◌≡◌, ◌+◌, ◌%◌, ◌^◌, ◌≤◌, ◌<◌, ◌⊎◌, inl, inr, refl, arith}, Math.Nat.{mul-mod_left}, lemmas.Grind.{div_ceil_times}}
+use Rattle.df_layout.{specs.{declared.layout.Layout.{Layout}, declared.places.Zone.{Zone}, declared.places.Zone.TheVariants.{Superblock, WalHeaders, WalPrepares, ClientReplies, Grid}, Zones.{block_sectors, zone_sectors, unpadded, first_sector, end_sector, file_sectors}, Order.{ZonesFollow}}, proofs.Sizes.{block_sectors_within, message_slots_within, blocks_within}}
 
 -- the grid begins after the replies, at a whole number of blocks, with less than a block of padding between them
 record GridFollows (layout : Layout) : Type 0 where

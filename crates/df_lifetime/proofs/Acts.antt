@@ -1,14 +1,9 @@
 -- The acts of a session: what each was supplied with is in range, and what a stop leaves of them came through.
-use Rattle.std.proofs.Common.{◌≡◌, inl, inr, ℕ, zero, suc, List, [], ◌∷◌, ◌++◌, Option, Some, None, refl, ap}
-use Rattle.std.specs.Prelude.{take, drop}
+use Rattle.std.{proofs.Common.{◌≡◌, inl, inr, ℕ, zero, suc, List, [], ◌∷◌, ◌++◌, Option, Some, None, refl, ap}, specs.Prelude.{take, drop}}
 use Rattle.df_base.specs.Image.{Image}
 use Rattle.df_disk.specs.Told.{Told}
 use Rattle.df_model.specs.Work.{Work}
-use Rattle.df_session.specs.Below.{State as Replica, DataFile}
-use Rattle.df_session.specs.HeldBlocks.{AreInputs}
-use Rattle.df_session.specs.Serving.{Grade, next}
-use Rattle.df_session.specs.Session.{Act, Exchange, HasView, HoldsSome, acts_in, answers_in, answers_of, work_after}
-use Rattle.df_session.specs.Links.{AreCalls, EndsCalls, More, list_of}
+use Rattle.df_session.specs.{Below.{State as Replica, DataFile}, HeldBlocks.{AreInputs}, Serving.{Grade, next}, Session.{Act, Exchange, HasView, HoldsSome, acts_in, answers_in, answers_of, work_after}, Links.{AreCalls, EndsCalls, More, list_of}}
 
 -- ---- what they were supplied with
 

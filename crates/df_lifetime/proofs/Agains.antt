@@ -1,47 +1,17 @@
 -- A life with damage is lived: what each of its opens finds was had since the last one that raised its boot.
-use Rattle.std.proofs.Common.{◌≡◌, inl, inr, ℕ, List, [], ◌∷◌, Some, refl, sym, ◌∙◌, subst}
-use Rattle.std.proofs.lemmas.Option.{same_Some}
-use Rattle.df_base.specs.Image.{Image, changed}
+use Rattle.std.proofs.{Common.{◌≡◌, inl, inr, ℕ, List, [], ◌∷◌, Some, refl, sym, ◌∙◌, subst}, lemmas.Option.{same_Some}}
+use Rattle.df_base.specs.{Image.{Image, changed}, Log.{AreLoose, Log, Stop, Sync, add}, Moments.{Extends}}
 use Rattle.df_base.specs.Log as logs
-use Rattle.df_base.specs.Log.{AreLoose, Log, Stop, Sync, add}
-use Rattle.df_base.specs.Moments.{Extends}
-use Rattle.df_disk.specs.Adds.{AddsPart}
-use Rattle.df_disk.specs.Told.{IsHonest, Told, did}
+use Rattle.df_disk.specs.{Adds.{AddsPart}, Told.{IsHonest, Told, did}}
 use Rattle.df_layout.specs.declared.layout.Layout.{Layout}
-use Rattle.df_theory.specs.Device.{IsSafeDisk, NoChanceOf, units_log}
-use Rattle.df_theory.specs.Holds.{Held}
-use Rattle.df_theory.specs.Rests.{RestsOn}
-use Rattle.df_theory.specs.View.{View}
-use Rattle.df_theory.proofs.Laws.{disk_stop_law, rests_safe, safe_disk_law}
+use Rattle.df_theory.{specs.{Device.{IsSafeDisk, NoChanceOf, units_log}, Holds.{Held}, Rests.{RestsOn}, View.{View}}, proofs.Laws.{disk_stop_law, rests_safe, safe_disk_law}}
 use Rattle.df_history.specs.OpenLaws.{BeginsHistory}
-use Rattle.df_units.specs.Bytes.{unit_at}
-use Rattle.df_units.proofs.Laws.{is_format}
-use Rattle.df_session.specs.Below.{DataFile, FindsSince, IsLivedDisk, IsOpened, MayReopen, State as Replica, restarted, shape, told_after}
-use Rattle.df_session.specs.Following.{MayOpen}
-use Rattle.df_session.specs.Serving.{Firm, format}
-use Rattle.df_session.proofs.Laws.{added_is_told, begun_may_open, first_goes_on, found_was_since, layout_shown, lived_layout, stopped_goes_on}
+use Rattle.df_units.{specs.Bytes.{unit_at}, proofs.Laws.{is_format}}
+use Rattle.df_session.{specs.{Below.{DataFile, FindsSince, IsLivedDisk, IsOpened, MayReopen, State as Replica, restarted, shape, told_after}, Following.{MayOpen}, Serving.{Firm, format}, Acknowledging.{KeepsAnswered}, Anew.{begun_after}, Begun.{begun_work}, Found.{FoundFile}, Keeping.{KeepsFile, over}, Laws.{CallsKeep}, Links.{CallsMade, events_made}, Opened.{StopsOpening}, Programs.{FileRun, LooksOnly, Serves, StopsInOpen}}, proofs.Laws.{added_is_told, begun_may_open, first_goes_on, found_was_since, layout_shown, lived_layout, stopped_goes_on}}
 use Rattle.df_upgrade.specs.Upgrading.{second}
 use Rattle.df_model.specs.Work.{Work}
-use Rattle.df_session.specs.Acknowledging.{KeepsAnswered}
-use Rattle.df_session.specs.Anew.{begun_after}
-use Rattle.df_session.specs.Begun.{begun_work}
-use Rattle.df_session.specs.Found.{FoundFile}
-use Rattle.df_session.specs.Keeping.{KeepsFile, over}
-use Rattle.df_session.specs.Laws.{CallsKeep}
-use Rattle.df_session.specs.Links.{CallsMade, events_made}
-use Rattle.df_session.specs.Opened.{StopsOpening}
-use Rattle.df_session.specs.Programs.{FileRun, LooksOnly, Serves, StopsInOpen}
-use Rattle.df_top.specs.Reopening.{IsLivedFile, LivesThrough, StaysLived}
-use Rattle.df_top.proofs.Laws.{calls_live, stops_live}
-use Rattle.df_lifetime.specs.Again.{Again, EveryLifeIsLived, EveryOpenFindsSince, IsSpared, LifeBeginsAnew, RunsKeepSince, UpgradedMayBeDamaged}
-use Rattle.df_lifetime.specs.Again.Again.{Halted, Hurt, Mended, Once, Opened, Reopened}
-use Rattle.df_lifetime.specs.Life.{AreMade, Extent, GoesAlong, IsInOrder, ShowsFile}
-use Rattle.df_lifetime.specs.Life.Life.{Taken}
-use Rattle.df_lifetime.proofs.Along.{after_along, moment_along}
-use Rattle.df_lifetime.proofs.HurtLives.{start_stays}
-use Rattle.df_lifetime.proofs.HurtSessions.{runs_keep_on}
-use Rattle.df_lifetime.proofs.Lives.{every_life_is_in_order, left_by}
-use Rattle.df_lifetime.proofs.Openings.{answers_begun, begins_begun, keeps_begun, made_honest, made_left, made_safe, made_start}
+use Rattle.df_top.{specs.Reopening.{IsLivedFile, LivesThrough, StaysLived}, proofs.Laws.{calls_live, stops_live}}
+use Rattle.df_lifetime.{specs.{Again.{Again, EveryLifeIsLived, EveryOpenFindsSince, IsSpared, LifeBeginsAnew, RunsKeepSince, UpgradedMayBeDamaged}, Again.Again.{Halted, Hurt, Mended, Once, Opened, Reopened}, Life.{AreMade, Extent, GoesAlong, IsInOrder, ShowsFile}, Life.Life.{Taken}}, proofs.{Along.{after_along, moment_along}, HurtLives.{start_stays}, HurtSessions.{runs_keep_on}, Lives.{every_life_is_in_order, left_by}, Openings.{answers_begun, begins_begun, keeps_begun, made_honest, made_left, made_safe, made_start}}}
 
 abbrev pub IsSound : DataFile → List Log → Told → Type 0
 IsSound file older b = (file.version ≡ 2) × IsHonest b × IsLivedFile file older b.log

@@ -2,23 +2,13 @@
 use Rattle.std.proofs.Common.{◌≡◌, inl, inr, ℕ, Option, sym, ◌∙◌, ap, subst}
 use Rattle.df_base.specs.Image.{Image}
 use Rattle.df_disk.specs.Told.{Told}
-use Rattle.df_format.specs.Copies.{Content, content_at}
-use Rattle.df_format.specs.declared.superblock.SuperFields.{SuperFields}
+use Rattle.df_format.specs.{Copies.{Content, content_at}, declared.superblock.SuperFields.{SuperFields}}
 use Rattle.df_layout.specs.declared.layout.Layout.{Layout}
 use Rattle.df_quorum.specs.Quorum.{IsChosenContent}
-use Rattle.df_theory.specs.Found.{IsFound}
-use Rattle.df_theory.specs.Units.{AnyUnit, BlockPlace, Place, PreparePlace, ReplyPlace}
-use Rattle.df_theory.specs.View.{View}
-use Rattle.df_theory.proofs.Laws.{one_found_law}
+use Rattle.df_theory.{specs.{Found.{IsFound}, Units.{AnyUnit, BlockPlace, Place, PreparePlace, ReplyPlace}, View.{View}}, proofs.Laws.{one_found_law}}
 use Rattle.df_units.specs.Bytes.{unit_at}
-use Rattle.df_model.specs.Memory.{Memory, memory_of}
-use Rattle.df_model.specs.Work.{opened}
-use Rattle.df_session.specs.Below.{DataFile, IsOpened, State as Replica, memory, shape, spelling}
-use Rattle.df_session.specs.Reading.{shown_of}
-use Rattle.df_session.specs.Replica.{summary_of}
-use Rattle.df_session.proofs.Laws.{one_super, same_file, super_shown}
-use Rattle.df_session.specs.Agreeing.{AgreeShown}
-use Rattle.df_session.specs.Found.{FoundFile}
+use Rattle.df_model.specs.{Memory.{Memory, memory_of}, Work.{opened}}
+use Rattle.df_session.{specs.{Below.{DataFile, IsOpened, State as Replica, memory, shape, spelling}, Reading.{shown_of}, Replica.{summary_of}, Agreeing.{AgreeShown}, Found.{FoundFile}}, proofs.Laws.{one_super, same_file, super_shown}}
 use Rattle.df_top.specs.OneText.{ShowSame}
 
 module _ (layout : Layout) (a b : Image) (same : ShowSame layout a b) where

@@ -1,16 +1,8 @@
 -- A file's log that goes along with a disk: after the same events, at the same moments, and with the same answers by then.
-use Rattle.std.proofs.Common.{◌≡◌, ℕ, zero, suc, List, [], ◌∷◌, ◌++◌, append_assoc, Option, Some, None, refl, sym, ◌∙◌, ap, subst}
-use Rattle.std.proofs.lemmas.List.{append_cancel_right}
-use Rattle.df_base.specs.Log.{Event, Sync, after_event}
-use Rattle.df_base.specs.Moments.{Extends, IsMoment}
-use Rattle.df_base.proofs.Laws.{same_log}
+use Rattle.std.proofs.{Common.{◌≡◌, ℕ, zero, suc, List, [], ◌∷◌, ◌++◌, append_assoc, Option, Some, None, refl, sym, ◌∙◌, ap, subst}, lemmas.List.{append_cancel_right}}
+use Rattle.df_base.{specs.{Log.{Event, Sync, after_event}, Moments.{Extends, IsMoment}}, proofs.Laws.{same_log}}
 use Rattle.df_disk.specs.Told.{Told, did}
-use Rattle.df_session.specs.Below.{State as Replica, told_after}
-use Rattle.df_session.specs.Session.{Act, Exchange}
-use Rattle.df_session.proofs.Laws.{added_is_told}
-use Rattle.df_session.specs.Acknowledging.{HadAnswers, HadReturned, WereAnswered}
-use Rattle.df_session.specs.Keeping.{over}
-use Rattle.df_session.specs.Links.{AreCalls, CallsMade, EndsCalls, More, NoCalls}
+use Rattle.df_session.{specs.{Below.{State as Replica, told_after}, Session.{Act, Exchange}, Acknowledging.{HadAnswers, HadReturned, WereAnswered}, Keeping.{over}, Links.{AreCalls, CallsMade, EndsCalls, More, NoCalls}}, proofs.Laws.{added_is_told}}
 use Rattle.df_lifetime.specs.Life.{GoesAlong}
 
 -- ---- events

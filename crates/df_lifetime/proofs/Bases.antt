@@ -1,19 +1,10 @@
 -- What is told after a mending and after calls, by the told log and by any base.
 use Rattle.std.proofs.Common.{◌≡◌, List, [], Option, Some, ◌∙◌, ap}
 use Rattle.df_base.specs.Log.{Event, Sync}
-use Rattle.df_disk.specs.Adds.{after_all}
-use Rattle.df_disk.specs.Told.{Told, did}
+use Rattle.df_disk.specs.{Adds.{after_all}, Told.{Told, did}}
 use Rattle.df_theory.specs.View.{View}
 use Rattle.df_units.specs.Bytes.{unit_at}
-use Rattle.df_session.specs.Below.{DataFile, told_after}
-use Rattle.df_session.specs.Following.{MayOpen}
-use Rattle.df_session.specs.Serving.{Grade, StandsFor}
-use Rattle.df_session.specs.Session.{Act, Exchange}
-use Rattle.df_session.proofs.Laws.{added_is_told}
-use Rattle.df_session.specs.Begun.{begun_work}
-use Rattle.df_session.specs.Links.{CallsMade}
-use Rattle.df_session.specs.Acknowledging.{KeepsAnswered}
-use Rattle.df_session.specs.Keeping.{KeepsFile, over}
+use Rattle.df_session.{specs.{Below.{DataFile, told_after}, Following.{MayOpen}, Serving.{Grade, StandsFor}, Session.{Act, Exchange}, Begun.{begun_work}, Links.{CallsMade}, Acknowledging.{KeepsAnswered}, Keeping.{KeepsFile, over}}, proofs.Laws.{added_is_told}}
 
 -- by each log that shows what the disk shows, and by which the file may be opened, all is kept
 abbrev pub KeepsOver : DataFile → Told → List Exchange → Option Act → (mending added : List Event) → Type 0

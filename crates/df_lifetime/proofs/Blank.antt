@@ -1,22 +1,11 @@
 -- A file may be made on a disk that was never written.
-use Rattle.std.proofs.Common.{◌<◌, ◌^◌, ℕ, List, [], ◌∷◌, sym, subst, arith}
-use Rattle.std.proofs.lemmas.List.{length-replicate}
-use Rattle.df_base.specs.Image.{Image, IsImage}
-use Rattle.df_base.specs.Log.{AreEvents, AreSyncs, Event, Stop, Sync, Write}
-use Rattle.df_base.proofs.Laws.{blank_is_image}
+use Rattle.std.proofs.{Common.{◌<◌, ◌^◌, ℕ, List, [], ◌∷◌, sym, subst, arith}, lemmas.List.{length-replicate}}
+use Rattle.df_base.{specs.{Image.{Image, IsImage}, Log.{AreEvents, AreSyncs, Event, Stop, Sync, Write}}, proofs.Laws.{blank_is_image}}
 use Rattle.df_layout.specs.declared.layout.Layout.{Layout}
-use Rattle.df_format.specs.First.{first_content, first_super}
-use Rattle.df_format.specs.Spelling.{IsCheck, no_checksum}
-use Rattle.df_format.specs.Super.{AreChecks, FitsSuper, no_checksums}
-use Rattle.df_format.proofs.Laws.{no_names, no_check}
-use Rattle.df_theory.specs.Device.{units_log}
-use Rattle.df_theory.specs.MakingLaws.{IsMaking}
-use Rattle.df_units.specs.Format.{format_of}
-use Rattle.df_units.specs.Meaning.{content_of}
-use Rattle.df_units.proofs.Laws.{new_is_making}
-use Rattle.df_session.specs.Below.{shape}
-use Rattle.df_session.specs.Making.{file_of}
-use Rattle.df_session.proofs.Laws.{first_is_super}
+use Rattle.df_format.{specs.{First.{first_content, first_super}, Spelling.{IsCheck, no_checksum}, Super.{AreChecks, FitsSuper, no_checksums}}, proofs.Laws.{no_names, no_check}}
+use Rattle.df_theory.specs.{Device.{units_log}, MakingLaws.{IsMaking}}
+use Rattle.df_units.{specs.{Format.{format_of}, Meaning.{content_of}}, proofs.Laws.{new_is_making}}
+use Rattle.df_session.{specs.{Below.{shape}, Making.{file_of}}, proofs.Laws.{first_is_super}}
 use Rattle.df_lifetime.specs.NewDisks.{NewDisksAreMadeOn}
 
 -- ---- its superblock can be used

@@ -1,24 +1,13 @@
 -- A life begins where a copy was made, or where it was stopped after the second copy of its superblock.
 use Rattle.std.proofs.Common.{◌≡◌, inl, inr, [], refl, sym, ◌∙◌, subst}
-use Rattle.df_base.specs.Image.{Image}
-use Rattle.df_base.specs.Log.{now}
-use Rattle.df_base.specs.Moments.{IsMoment}
-use Rattle.df_base.proofs.Laws.{one_some}
+use Rattle.df_base.{specs.{Image.{Image}, Log.{now}, Moments.{IsMoment}}, proofs.Laws.{one_some}}
 use Rattle.df_disk.specs.Told.{Told}
 use Rattle.df_layout.specs.declared.layout.Layout.{Layout}
 use Rattle.df_theory.specs.View.{View}
 use Rattle.df_units.specs.Bytes.{unit_at}
-use Rattle.df_session.specs.Below.{AreDistinctUnits, DataFile, restarted, told_after}
-use Rattle.df_session.proofs.Laws.{added_is_told}
-use Rattle.df_copy.specs.Lives.{MayGoOn}
-use Rattle.df_copy.specs.Views.{HoldsCopy, ShowsCopy, file_in}
-use Rattle.df_copy.proofs.Laws.{copied_begins, left_or_shows}
-use Rattle.df_lifetime.specs.Again.Again.{Once}
-use Rattle.df_lifetime.specs.Copied.{CopiedBegins, IsCopiedImage, MadeIsCopied, StoppedIsCopied, file_of, view_of}
-use Rattle.df_lifetime.specs.Life.{GoesAlong}
-use Rattle.df_lifetime.specs.Life.Life.{Taken}
-use Rattle.df_lifetime.proofs.Along.{after_along, moment_along}
-use Rattle.df_lifetime.proofs.Openings.{distinct_left}
+use Rattle.df_session.{specs.Below.{AreDistinctUnits, DataFile, restarted, told_after}, proofs.Laws.{added_is_told}}
+use Rattle.df_copy.{specs.{Lives.{MayGoOn}, Views.{HoldsCopy, ShowsCopy, file_in}}, proofs.Laws.{copied_begins, left_or_shows}}
+use Rattle.df_lifetime.{specs.{Again.Again.{Once}, Copied.{CopiedBegins, IsCopiedImage, MadeIsCopied, StoppedIsCopied, file_of, view_of}, Life.{GoesAlong}, Life.Life.{Taken}}, proofs.{Along.{after_along, moment_along}, Openings.{distinct_left}}}
 
 -- what shows the copy may be taken
 is_copied : (layout : Layout) (file : DataFile) (source : Image) (v : View) (image : Image) → ShowsCopy layout file source v image → AreDistinctUnits (unit_at layout file.cluster image) → IsCopiedImage layout file source v image

@@ -1,23 +1,7 @@
 -- What a command was answered is in the view after it, and stays there after later ones.
-use Rattle.std.proofs.Common.{◌≡◌, inl, inr, ℕ, ◌+◌, ◌≤◌, ◌==◌, not, false, List, [], ◌∷◌, ◌++◌, drop, length, length-append, Option, Some, None, refl, arith}
-use Rattle.std.proofs.lemmas.Bool.Decides.{nat_tests}
-use Rattle.df_theory.specs.Next.{MayReply, appended}
-use Rattle.df_theory.specs.Shape.{Shape}
-use Rattle.df_theory.specs.Tails.{In}
-use Rattle.df_theory.specs.Units.{Message, Parts}
-use Rattle.df_theory.specs.View.{View, head}
-use Rattle.df_theory.proofs.Laws.{tracks, stored_at, in_back}
-use Rattle.df_model.specs.After.{after_running, after_step_of, outcome, with_group, with_prepare, with_reply}
-use Rattle.df_model.specs.Commands.{Advance, Append, Command, Flush, Given, Reply, ToAdvance, ToAppend, ToFlush, ToReply, after, as_answer, supplied_sum, supplied_sums}
-use Rattle.df_model.specs.Making.{first_of, group_of, place_of_reply, prepare_in, prepare_of, prepares_in, reply_of}
-use Rattle.df_model.specs.Memory.{Memory, memory_of}
-use Rattle.df_model.specs.Refusals.{append_refusals, first_refusal, flush_refusals, reply_refusals}
-use Rattle.df_model.specs.Sense.{IsWork}
-use Rattle.df_model.specs.Work.{Request, Running, Work, kept}
-use Rattle.df_model.specs.declared.errors.AppendError.{AppendError}
-use Rattle.df_model.specs.declared.errors.FlushError.{FlushError}
-use Rattle.df_model.specs.declared.errors.ReplyError.{ReplyError}
-use Rattle.df_model.proofs.Laws.{all_pass, length_in, reply_may_law}
+use Rattle.std.proofs.{Common.{◌≡◌, inl, inr, ℕ, ◌+◌, ◌≤◌, ◌==◌, not, false, List, [], ◌∷◌, ◌++◌, drop, length, length-append, Option, Some, None, refl, arith}, lemmas.Bool.Decides.{nat_tests}}
+use Rattle.df_theory.{specs.{Next.{MayReply, appended}, Shape.{Shape}, Tails.{In}, Units.{Message, Parts}, View.{View, head}}, proofs.Laws.{tracks, stored_at, in_back}}
+use Rattle.df_model.{specs.{After.{after_running, after_step_of, outcome, with_group, with_prepare, with_reply}, Commands.{Advance, Append, Command, Flush, Given, Reply, ToAdvance, ToAppend, ToFlush, ToReply, after, as_answer, supplied_sum, supplied_sums}, Making.{first_of, group_of, place_of_reply, prepare_in, prepare_of, prepares_in, reply_of}, Memory.{Memory, memory_of}, Refusals.{append_refusals, first_refusal, flush_refusals, reply_refusals}, Sense.{IsWork}, Work.{Request, Running, Work, kept}, declared.errors.AppendError.{AppendError}, declared.errors.FlushError.{FlushError}, declared.errors.ReplyError.{ReplyError}}, proofs.Laws.{all_pass, length_in, reply_may_law}}
 use Rattle.df_lifetime.specs.There.{HavePrepares, IsAnswerThere, Promised, promised_from, promised_in}
 
 at_end : (p : Message) (ps : List Message) → In p (ps ++ p ∷ [])

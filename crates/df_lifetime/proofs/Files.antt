@@ -2,11 +2,9 @@
 use Rattle.std.proofs.Common.{◌≡◌, ℕ}
 use Rattle.df_base.specs.Image.{Image}
 use Rattle.df_layout.specs.declared.layout.Layout.{Layout}
-use Rattle.df_theory.specs.Found.{IsFound}
-use Rattle.df_theory.specs.View.{View}
+use Rattle.df_theory.specs.{Found.{IsFound}, View.{View}}
 use Rattle.df_units.specs.Bytes.{unit_at}
-use Rattle.df_session.specs.Below.{State, shape, DataFile}
-use Rattle.df_session.proofs.Laws.{found_file}
+use Rattle.df_session.{specs.Below.{State, shape, DataFile}, proofs.Laws.{found_file}}
 use Rattle.df_upgrade.specs.Below.{IsOpenedAs}
 
 -- what an open finds is the file in which a view is found, whatever version it asks for

@@ -1,35 +1,12 @@
 -- What was acknowledged in any session of a life is in the view that is found.
 use Rattle.std.proofs.Common.{◌≡◌, ◌<◌, ◌^◌, inl, inr, List, [], ◌∷◌, ◌++◌, append_assoc, sym, ◌∙◌, ap, subst}
-use Rattle.df_base.specs.Image.{Image, IsImage}
-use Rattle.df_base.specs.Log.{now}
-use Rattle.df_theory.specs.Found.{IsFound}
-use Rattle.df_theory.specs.View.{View, boot_of}
-use Rattle.df_theory.proofs.Laws.{one_found_law}
-use Rattle.df_units.specs.Bytes.{unit_at}
-use Rattle.df_units.specs.Meaning.{layout_of}
-use Rattle.df_units.proofs.Laws.{of_places}
-use Rattle.df_model.specs.Commands.{Answer, Command, Given}
-use Rattle.df_model.specs.Sense.{IsWork}
-use Rattle.df_model.specs.Memory.{memory_of}
-use Rattle.df_model.specs.Supply.{boot_sum}
-use Rattle.df_model.specs.Work.{Work, kept, opened}
-use Rattle.df_model.proofs.Laws.{found_law, next_law, raised_law, sense_law}
+use Rattle.df_base.specs.{Image.{Image, IsImage}, Log.{now}}
+use Rattle.df_theory.{specs.{Found.{IsFound}, View.{View, boot_of}}, proofs.Laws.{one_found_law}}
+use Rattle.df_units.{specs.{Bytes.{unit_at}, Meaning.{layout_of}}, proofs.Laws.{of_places}}
+use Rattle.df_model.{specs.{Commands.{Answer, Command, Given}, Sense.{IsWork}, Memory.{memory_of}, Supply.{boot_sum}, Work.{Work, kept, opened}}, proofs.Laws.{found_law, next_law, raised_law, sense_law}}
 use Rattle.df_trailer.specs.Text.{parse_of}
-use Rattle.df_session.specs.Below.{shape, spelling, DataFile}
-use Rattle.df_session.specs.HeldBlocks.{AreInputs}
-use Rattle.df_session.specs.Serving.{next}
-use Rattle.df_session.specs.Session.{Act, Exchange, acts_in, answers_in, answers_of, work_after}
-use Rattle.df_session.proofs.Laws.{codec_of, second_found}
-use Rattle.df_session.specs.Begun.{begun_work}
-use Rattle.df_session.specs.Codec.{codec}
-use Rattle.df_lifetime.specs.Acknowledged.{AcknowledgedIsFound, AllThere, AreThere}
-use Rattle.df_lifetime.specs.Life.{Chapter, GoesBy, LeadsTo, MayHave}
-use Rattle.df_lifetime.specs.There.{IsAnswerThere, Promised, promised_by, promised_in}
-use Rattle.df_lifetime.proofs.Done.{just_there}
-use Rattle.df_lifetime.proofs.Haves.{are_there, begun_bare}
-use Rattle.df_lifetime.proofs.Lives.{every_life_goes_on}
-use Rattle.df_lifetime.proofs.Next.{stays}
-use Rattle.df_lifetime.proofs.Promises.{promised_on}
+use Rattle.df_session.{specs.{Below.{shape, spelling, DataFile}, HeldBlocks.{AreInputs}, Serving.{next}, Session.{Act, Exchange, acts_in, answers_in, answers_of, work_after}, Begun.{begun_work}, Codec.{codec}}, proofs.Laws.{codec_of, second_found}}
+use Rattle.df_lifetime.{specs.{Acknowledged.{AcknowledgedIsFound, AllThere, AreThere}, Life.{Chapter, GoesBy, LeadsTo, MayHave}, There.{IsAnswerThere, Promised, promised_by, promised_in}}, proofs.{Done.{just_there}, Haves.{are_there, begun_bare}, Lives.{every_life_goes_on}, Next.{stays}, Promises.{promised_on}}}
 
 -- ---- a state that is found makes sense, after its boot update
 

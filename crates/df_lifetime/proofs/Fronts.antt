@@ -1,43 +1,16 @@
 -- However a session ends, what is written is a front of the text of its script.
-use Rattle.std.proofs.Common.{◌≡◌, ◌⊎◌, inl, inr, ℕ, ◌+◌, ◌-◌, Bool, true, false, List, [], ◌∷◌, ◌++◌, append_assoc, length, length-append, map, Option, Some, None, refl, sym, ◌∙◌, ap, subst, arith}
-use Rattle.std.specs.Prelude.{take}
-use Rattle.std.proofs.Math.Seq.{take-length}
-use Rattle.std.proofs.lemmas.List.{append-nil, take-append-le, map-append}
-use Rattle.df_base.specs.Streams.{Appends, AppendsPart}
-use Rattle.df_base.specs.Log.{Sync}
-use Rattle.df_disk.specs.Adds.{after_all}
-use Rattle.df_disk.specs.Told.{Told, did}
+use Rattle.std.{proofs.{Common.{◌≡◌, ◌⊎◌, inl, inr, ℕ, ◌+◌, ◌-◌, Bool, true, false, List, [], ◌∷◌, ◌++◌, append_assoc, length, length-append, map, Option, Some, None, refl, sym, ◌∙◌, ap, subst, arith}, Math.Seq.{take-length}, lemmas.List.{append-nil, take-append-le, map-append}}, specs.Prelude.{take}}
+use Rattle.df_base.specs.{Streams.{Appends, AppendsPart}, Log.{Sync}}
+use Rattle.df_disk.specs.{Adds.{after_all}, Told.{Told, did}}
 use Rattle.df_inspect.specs.Opening.{script_text}
 use Rattle.df_layout.specs.declared.layout.Layout.{Layout}
-use Rattle.df_lines.specs.Grammar.{Said}
-use Rattle.df_lines.specs.Room.{line_bound}
-use Rattle.df_lines.specs.Script.{BeginsWithLines, IsRefused, IsScript}
-use Rattle.df_lines.specs.Text.{after_line, line_of as first_line, taken}
-use Rattle.df_lines.proofs.Laws.{one_said, one_script, no_line, begins_one}
+use Rattle.df_lines.{specs.{Grammar.{Said}, Room.{line_bound}, Script.{BeginsWithLines, IsRefused, IsScript}, Text.{after_line, line_of as first_line, taken}}, proofs.Laws.{one_said, one_script, no_line, begins_one}}
 use Rattle.df_theory.specs.Shape.{Shape}
-use Rattle.df_model.specs.Supply.{Codec, Shown}
-use Rattle.df_model.specs.Work.{Work}
-use Rattle.df_session.specs.Below.{DataFile, shape, told_after}
-use Rattle.df_session.specs.Reading.{shown_of}
-use Rattle.df_session.proofs.Laws.{added_is_told}
-use Rattle.df_session.specs.Codec.{codec}
-use Rattle.df_session.specs.Agreeing.{AgreeShown}
-use Rattle.df_model.specs.Commands.{Command}
-use Rattle.df_pace.specs.Loop.{Stand, answer_at, paced, passed, start as stand_at}
-use Rattle.df_pace.specs.declared.pace.Pace.{Pace}
+use Rattle.df_model.specs.{Supply.{Codec, Shown}, Work.{Work}, Commands.{Command}}
+use Rattle.df_session.{specs.{Below.{DataFile, shape, told_after}, Reading.{shown_of}, Codec.{codec}, Agreeing.{AgreeShown}, Begun.{begun_work}, Found.{FoundFile}, Links.{events_made}}, proofs.Laws.{added_is_told}}
+use Rattle.df_pace.specs.{Loop.{Stand, answer_at, paced, passed, start as stand_at}, declared.pace.Pace.{Pace}}
 use Rattle.df_script_model.specs.Script.{answer_text}
-use Rattle.df_session.specs.Begun.{begun_work}
-use Rattle.df_session.specs.Found.{FoundFile}
-use Rattle.df_session.specs.Links.{events_made}
-use Rattle.df_top.specs.Acknowledging.{script_calls}
-use Rattle.df_top.specs.Lines.{Failing, Turned, act_of, all_said, all_text, command_of_line, printed as prints, said_of}
-use Rattle.df_top.specs.OneText.{text_by}
-use Rattle.df_top.specs.Outside.{Outside}
-use Rattle.df_top.specs.Resulting.{joined, text_over}
-use Rattle.df_top.specs.Run.{ServesScript, script_budget, start}
-use Rattle.df_top.specs.Session.{EndsWith}
-use Rattle.df_top.specs.declared.status.Status.{Status}
-use Rattle.df_top.specs.declared.status.Status.TheVariants.{Done, Script, Words, Refused, Memory, DiskFault, ReadFault, WriteFault, Found}
+use Rattle.df_top.specs.{Acknowledging.{script_calls}, Lines.{Failing, Turned, act_of, all_said, all_text, command_of_line, printed as prints, said_of}, OneText.{text_by}, Outside.{Outside}, Resulting.{joined, text_over}, Run.{ServesScript, script_budget, start}, Session.{EndsWith}, declared.status.Status.{Status}, declared.status.Status.TheVariants.{Done, Script, Words, Refused, Memory, DiskFault, ReadFault, WriteFault, Found}}
 use Rattle.df_lifetime.specs.Printed.{FrontIsWritten, Scripted, whole_text}
 
 -- ---- fronts

@@ -1,25 +1,11 @@
 -- Views that are the same but for the boot are one for a life: what a file has come to, and what was acknowledged, is there in each of them.
-use Rattle.std.proofs.Common.{◌≡◌, inl, inr, ℕ, List, [], ◌∷◌, ◌++◌, sym, ◌∙◌, ap, subst, arith, refl}
-use Rattle.std.specs.Prelude.{drop, length, Ok}
-use Rattle.std.specs.List.{slice_get}
+use Rattle.std.{proofs.Common.{◌≡◌, inl, inr, ℕ, List, [], ◌∷◌, ◌++◌, sym, ◌∙◌, ap, subst, arith, refl}, specs.{Prelude.{drop, length, Ok}, List.{slice_get}}}
 use Rattle.df_base.specs.Image.{Image}
-use Rattle.df_theory.specs.Sessions.{sessions_after}
-use Rattle.df_theory.specs.Tails.{In}
-use Rattle.df_theory.specs.Units.{Session}
-use Rattle.df_theory.specs.View.{View, sessions}
+use Rattle.df_theory.specs.{Sessions.{sessions_after}, Tails.{In}, Units.{Session}, View.{View, sessions}}
 use Rattle.df_model.specs.Commands as commands
-use Rattle.df_model.specs.Commands.{Answer, Command, Given, ToAdvance, ToAppend, ToFlush, ToReply, supplied_sums}
-use Rattle.df_model.specs.Making.{first_of}
-use Rattle.df_model.specs.Views.{KeepsView}
-use Rattle.df_model.specs.Work.{Work, kept}
-use Rattle.df_model.specs.declared.answers.Progress.TheVariants.{Done}
-use Rattle.df_session.specs.Below.{DataFile}
-use Rattle.df_session.specs.Session.{Act, Exchange, acts_in, work_after}
-use Rattle.df_session.proofs.Laws.{keeps_on}
-use Rattle.df_session.specs.Begun.{begun_work}
-use Rattle.df_lifetime.specs.Acknowledged.{AreThere}
-use Rattle.df_lifetime.specs.Life.{Chapter, IdleSessionsLeaveIt, LeadsTo, MayHave}
-use Rattle.df_lifetime.specs.There.{HasPrepare, HasReply, HavePrepares, IsAnswerThere, Promised, promised_by}
+use Rattle.df_model.specs.{Commands.{Answer, Command, Given, ToAdvance, ToAppend, ToFlush, ToReply, supplied_sums}, Making.{first_of}, Views.{KeepsView}, Work.{Work, kept}, declared.answers.Progress.TheVariants.{Done}}
+use Rattle.df_session.{specs.{Below.{DataFile}, Session.{Act, Exchange, acts_in, work_after}, Begun.{begun_work}}, proofs.Laws.{keeps_on}}
+use Rattle.df_lifetime.specs.{Acknowledged.{AreThere}, Life.{Chapter, IdleSessionsLeaveIt, LeadsTo, MayHave}, There.{HasPrepare, HasReply, HavePrepares, IsAnswerThere, Promised, promised_by}}
 
 -- ---- what a file may have come to
 

@@ -2,15 +2,8 @@
 use Rattle.std.proofs.Common.{◌≡◌, inr, List, refl, ◌∙◌}
 use Rattle.df_disk.specs.Told.{Told}
 use Rattle.df_theory.specs.View.{View}
-use Rattle.df_session.specs.Below.{DataFile}
-use Rattle.df_session.specs.Serving.{Whole}
-use Rattle.df_session.specs.Anew.{begun_after}
-use Rattle.df_session.specs.Begun.{begun_work}
-use Rattle.df_lifetime.specs.Hurt.{LifeMayBeHurt, began_with}
-use Rattle.df_lifetime.specs.Life.{Chapter, Life, MayBeOpened}
-use Rattle.df_lifetime.specs.Life.Life.{Begun, Ended, Made, Opened, Ran, Spared, Stopped, Taken}
-use Rattle.df_lifetime.proofs.Lives.{every_life_goes_on}
-use Rattle.df_lifetime.proofs.Openings.{answers_begun, keeps_begun, made_start}
+use Rattle.df_session.specs.{Below.{DataFile}, Serving.{Whole}, Anew.{begun_after}, Begun.{begun_work}}
+use Rattle.df_lifetime.{specs.{Hurt.{LifeMayBeHurt, began_with}, Life.{Chapter, Life, MayBeOpened}, Life.Life.{Begun, Ended, Made, Opened, Ran, Spared, Stopped, Taken}}, proofs.{Lives.{every_life_goes_on}, Openings.{answers_begun, keeps_begun, made_start}}}
 
 pub start_stays : (file : DataFile) (first : View) (t : Told) (chapters : List Chapter) (life : Life file first t chapters) → t.log.start ≡ began_with file first t chapters life
 start_stays _ _ _ _ (Made layout cluster t n makable made) = made.grew.2

@@ -1,47 +1,12 @@
 -- A session keeps its file by any base, and the next open by that base goes on from there.
-use Rattle.std.proofs.Common.{◌≡◌, inl, inr, ℕ, zero, suc, List, [], ◌∷◌, ◌++◌, append_assoc, Option, Some, None, refl, sym, ◌∙◌, ap, subst}
-use Rattle.std.specs.Prelude.{take, drop}
-use Rattle.std.proofs.lemmas.List.{append-nil}
-use Rattle.df_base.specs.Image.{Image, changed}
-use Rattle.df_base.specs.Log.{AreLoose, Event, Stop, Sync, now}
-use Rattle.df_base.specs.Moments.{EachMoment, Extends, IsMoment}
-use Rattle.df_base.proofs.Laws.{extends_self, one_some}
-use Rattle.df_disk.specs.Adds.{after_all}
-use Rattle.df_disk.specs.Told.{IsHonest, Told, did}
-use Rattle.df_theory.specs.Device.{IsSafeDisk, NoChanceOf}
-use Rattle.df_theory.specs.Found.{IsFound}
-use Rattle.df_theory.specs.Holds.{Held}
-use Rattle.df_theory.specs.Shape.{Shape}
-use Rattle.df_theory.specs.Units.{Parts, Units}
-use Rattle.df_theory.specs.View.{View}
-use Rattle.df_theory.proofs.Laws.{found_law}
+use Rattle.std.{proofs.{Common.{◌≡◌, inl, inr, ℕ, zero, suc, List, [], ◌∷◌, ◌++◌, append_assoc, Option, Some, None, refl, sym, ◌∙◌, ap, subst}, lemmas.List.{append-nil}}, specs.Prelude.{take, drop}}
+use Rattle.df_base.{specs.{Image.{Image, changed}, Log.{AreLoose, Event, Stop, Sync, now}, Moments.{EachMoment, Extends, IsMoment}}, proofs.Laws.{extends_self, one_some}}
+use Rattle.df_disk.specs.{Adds.{after_all}, Told.{IsHonest, Told, did}}
+use Rattle.df_theory.{specs.{Device.{IsSafeDisk, NoChanceOf}, Found.{IsFound}, Holds.{Held}, Shape.{Shape}, Units.{Parts, Units}, View.{View}}, proofs.Laws.{found_law}}
 use Rattle.df_units.specs.Bytes.{unit_at}
-use Rattle.df_model.specs.Sense.{IsWork}
-use Rattle.df_model.specs.Views.{KeepsView}
-use Rattle.df_model.specs.Work.{Work, kept}
-use Rattle.df_session.specs.Below.{DataFile, State, restarted, shape, spelling, told_after}
-use Rattle.df_session.specs.Following.{MayOpen}
-use Rattle.df_session.specs.HeldBlocks.{AreInputs}
-use Rattle.df_session.specs.Serving.{Firm, Grade, StandsFor, Whole, format}
-use Rattle.df_session.specs.Session.{Act, Exchange, HasView, HoldsFor, IsMidway, acts_in, answers_in, answers_of, work_after}
-use Rattle.df_session.proofs.Laws.{added_is_told, begun_may_open, same_goes_on, stopped_may_open}
-use Rattle.df_session.specs.Anew.{begun_after}
-use Rattle.df_session.specs.Begun.{begun_work}
-use Rattle.df_session.specs.Links.{CallsMade, events_made, list_of}
-use Rattle.df_session.specs.Acknowledging.{IsUntil, KeepsAnswered}
-use Rattle.df_session.proofs.Laws.{file_there}
-use Rattle.df_session.specs.Keeping.{KeepsFile, LeavesAll, over}
-use Rattle.df_session.specs.Programs.{ServedFile}
-use Rattle.df_lifetime.specs.Acknowledged.{AreThere}
-use Rattle.df_lifetime.specs.Hurt.{AreAnswered, HurtRunsKeep, KeepsOn, NextFinds, RunsKeepAnew, RunsKeepOn, at_end}
-use Rattle.df_lifetime.specs.There.{promised_in}
-use Rattle.df_lifetime.proofs.Acts.{ends_inputs, first_answers, front_and_rest, has_front, work_on}
-use Rattle.df_lifetime.proofs.Bases.{AnsweredOver, KeepsOver, told_over}
-use Rattle.df_lifetime.proofs.Files.{one_file}
-use Rattle.df_lifetime.proofs.Found.{front_inputs, front_there}
-use Rattle.df_lifetime.proofs.Lives.{left_by}
-use Rattle.df_lifetime.proofs.Openings.{answers_begun, keeps_begun, work_begun}
-use Rattle.df_lifetime.proofs.Orders.{now_left}
+use Rattle.df_model.specs.{Sense.{IsWork}, Views.{KeepsView}, Work.{Work, kept}}
+use Rattle.df_session.{specs.{Below.{DataFile, State, restarted, shape, spelling, told_after}, Following.{MayOpen}, HeldBlocks.{AreInputs}, Serving.{Firm, Grade, StandsFor, Whole, format}, Session.{Act, Exchange, HasView, HoldsFor, IsMidway, acts_in, answers_in, answers_of, work_after}, Anew.{begun_after}, Begun.{begun_work}, Links.{CallsMade, events_made, list_of}, Acknowledging.{IsUntil, KeepsAnswered}, Keeping.{KeepsFile, LeavesAll, over}, Programs.{ServedFile}}, proofs.Laws.{added_is_told, begun_may_open, same_goes_on, stopped_may_open, file_there}}
+use Rattle.df_lifetime.{specs.{Acknowledged.{AreThere}, Hurt.{AreAnswered, HurtRunsKeep, KeepsOn, NextFinds, RunsKeepAnew, RunsKeepOn, at_end}, There.{promised_in}}, proofs.{Acts.{ends_inputs, first_answers, front_and_rest, has_front, work_on}, Bases.{AnsweredOver, KeepsOver, told_over}, Files.{one_file}, Found.{front_inputs, front_there}, Lives.{left_by}, Openings.{answers_begun, keeps_begun, work_begun}, Orders.{now_left}}}
 
 -- ---- what an image has
 

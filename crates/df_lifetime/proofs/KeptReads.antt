@@ -1,31 +1,13 @@
 -- What a read is supplied with is what a log shows over which the disk is honest, so that the machine's laws of reads apply.
-use Rattle.std.proofs.Common.{◌≡◌, ℕ, ◌≤◌, ◌==◌, ◌&&◌, not, nat_lt, nat_le, zero, suc, Bool, true, false, if◌then◌else◌, List, [], ◌∷◌, Option, Some, None, Result, Ok, refl, sym, ◌∙◌, ap, subst, arith, lt-ltb, le-leb, le-ltb, eq-eqb, eqb-true}
-use Rattle.std.specs.List.{slice_get}
-use Rattle.std.proofs.lemmas.Option.{same_Some}
+use Rattle.std.{proofs.{Common.{◌≡◌, ℕ, ◌≤◌, ◌==◌, ◌&&◌, not, nat_lt, nat_le, zero, suc, Bool, true, false, if◌then◌else◌, List, [], ◌∷◌, Option, Some, None, Result, Ok, refl, sym, ◌∙◌, ap, subst, arith, lt-ltb, le-leb, le-ltb, eq-eqb, eqb-true}, lemmas.Option.{same_Some}}, specs.List.{slice_get}}
 use Rattle.df_base.specs.Log as logs
 use Rattle.df_layout.specs.declared.damage.Class.{Class}
-use Rattle.df_theory.specs.Device.{units_log}
-use Rattle.df_theory.specs.Shape.{Shape}
-use Rattle.df_theory.specs.UnitLog.{UnitLog, now}
+use Rattle.df_theory.{specs.{Device.{units_log}, Shape.{Shape}, UnitLog.{UnitLog, now}, Units.{Block, Message, Session}, View.{head, sessions}}, proofs.Laws.{now_units}}
 use Rattle.df_theory.specs.Units
-use Rattle.df_theory.specs.Units.{Block, Message, Session}
-use Rattle.df_theory.specs.View.{head, sessions}
-use Rattle.df_theory.proofs.Laws.{now_units}
-use Rattle.df_units.specs.Bytes.{unit_at}
-use Rattle.df_units.specs.Wanted.{class_at}
-use Rattle.df_model.specs.After.{lookup_answer, prepare_answer, read_answer}
-use Rattle.df_model.specs.Commands.{Answer, Command, ReadBlock, ReadPrepare, ReadReply, ToReadBlock, ToReadPrepare, ToReadReply}
-use Rattle.df_model.specs.Laws.{IsKeptBy}
-use Rattle.df_model.specs.Memory.{Memory, memory_of}
-use Rattle.df_model.specs.Reading.{shown_by}
-use Rattle.df_model.specs.Refusals.{first_refusal, is_new, last_op, lookup_refusals, prepare_refusals, session_of_client}
-use Rattle.df_model.specs.Supply.{Codec, block_read, message_given}
-use Rattle.df_model.specs.Work.{Work}
+use Rattle.df_units.specs.{Bytes.{unit_at}, Wanted.{class_at}}
+use Rattle.df_model.{specs.{After.{lookup_answer, prepare_answer, read_answer}, Commands.{Answer, Command, ReadBlock, ReadPrepare, ReadReply, ToReadBlock, ToReadPrepare, ToReadReply}, Laws.{IsKeptBy}, Memory.{Memory, memory_of}, Reading.{shown_by}, Refusals.{first_refusal, is_new, last_op, lookup_refusals, prepare_refusals, session_of_client}, Supply.{Codec, block_read, message_given}, Work.{Work}}, proofs.Laws.{block_read_law, prepare_read_law, reply_read_law}}
 use Rattle.df_model.specs.declared.reading.LookupError.TheVariants as lookup
-use Rattle.df_model.proofs.Laws.{block_read_law, prepare_read_law, reply_read_law}
-use Rattle.df_session.specs.Below.{memory, shape, spelling, DataFile}
-use Rattle.df_session.specs.Reading.{shown_of}
-use Rattle.df_session.specs.Serving.{Firm, Grade, KeptFor, Whole, format, next}
+use Rattle.df_session.specs.{Below.{memory, shape, spelling, DataFile}, Reading.{shown_of}, Serving.{Firm, Grade, KeptFor, Whole, format, next}}
 use Rattle.df_lifetime.specs.Reads.{IsAnsweredRead, KeptPreparesAreRead, KeptRepliesAreRead, LiveBlocksAreRead}
 
 -- ---- the tests of a read

@@ -1,23 +1,8 @@
 -- Where an open finds a view, with each block that it references, no unit that is known lacks.
-use Rattle.std.proofs.Common.{◌≡◌, inl, inr, ℕ, zero, suc, ◌+◌, ◌-◌, ◌%◌, ◌^◌, ◌==◌, ◌<◌, ◌≤◌, Bool, true, false, if◌then◌else◌, List, [], ◌∷◌, drop, length, take, Some, refl, sym, ◌∙◌, ap, subst, arith}
-use Rattle.std.specs.List.{slice_get}
-use Rattle.std.proofs.lemmas.Bool.{cases_lt}
-use Rattle.std.proofs.lemmas.Bool.Decides.{nat_tests}
-use Rattle.std.proofs.lemmas.List.{length-take}
-use Rattle.std.proofs.lemmas.Option.{same_Some}
+use Rattle.std.{proofs.{Common.{◌≡◌, inl, inr, ℕ, zero, suc, ◌+◌, ◌-◌, ◌%◌, ◌^◌, ◌==◌, ◌<◌, ◌≤◌, Bool, true, false, if◌then◌else◌, List, [], ◌∷◌, drop, length, take, Some, refl, sym, ◌∙◌, ap, subst, arith}, lemmas.Bool.{cases_lt}, lemmas.Bool.Decides.{nat_tests}, lemmas.List.{length-take}, lemmas.Option.{same_Some}}, specs.List.{slice_get}}
 use Rattle.df_format.specs.declared.kind.Kind.{Kind}
 use Rattle.df_format.specs.declared.kind.Kind.TheVariants as kinds
-use Rattle.df_theory.specs.Found.{IsFound}
-use Rattle.df_theory.specs.Holds.{Stands}
-use Rattle.df_theory.specs.Opens.{AreKnown, Found, IsReadable, IsUsableSuperblock, OpenAnswer, Opens, ReadsTo, Refused, BootSpent, Damaged, named_by}
-use Rattle.df_theory.specs.Opens.Opens.{LacksBlock, Opened, Spent, Unknown}
-use Rattle.df_theory.specs.Sessions.{noted, session_of_header, sessions_after}
-use Rattle.df_theory.specs.Shape.{Shape, slots}
-use Rattle.df_theory.specs.Tails.{Chain, In, last_checksum}
-use Rattle.df_theory.specs.Trailer.{InChain, Links, Says}
-use Rattle.df_theory.specs.Units.{Block, BlockPlace, BlockUnit, Content, CopyPlace, Header, HeaderPlace, Message, Parts, Place, PreparePlace, PrepareUnit, ReplyPlace, ReplyUnit, Session, Units}
-use Rattle.df_theory.specs.View.{View, boot_of, sessions}
-use Rattle.df_theory.proofs.Laws.{chain_ops, in_dropped, known_one, noted_get, one_answer_law, same_says, sessions-drop, take_boot}
+use Rattle.df_theory.{specs.{Found.{IsFound}, Holds.{Stands}, Opens.{AreKnown, Found, IsReadable, IsUsableSuperblock, OpenAnswer, Opens, ReadsTo, Refused, BootSpent, Damaged, named_by}, Opens.Opens.{LacksBlock, Opened, Spent, Unknown}, Sessions.{noted, session_of_header, sessions_after}, Shape.{Shape, slots}, Tails.{Chain, In, last_checksum}, Trailer.{InChain, Links, Says}, Units.{Block, BlockPlace, BlockUnit, Content, CopyPlace, Header, HeaderPlace, Message, Parts, Place, PreparePlace, PrepareUnit, ReplyPlace, ReplyUnit, Session, Units}, View.{View, boot_of, sessions}}, proofs.Laws.{chain_ops, in_dropped, known_one, noted_get, one_answer_law, same_says, sessions-drop, take_boot}}
 use Rattle.df_mirror.specs.Known.{IsKnownAt, IsNamedPrepare, IsRecordedReply, IsReferencedBlock, IsShownAs, ShowsTrailer}
 use Rattle.df_lifetime.specs.Mirrored.{RecordsReplies}
 

@@ -1,56 +1,15 @@
 -- Each thing that happens to a file that is in order leaves it in order.
-use Rattle.std.proofs.Common.{◌≡◌, ◌<◌, ◌^◌, inl, inr, ℕ, zero, suc, List, [], ◌∷◌, ◌++◌, Option, Some, None, refl, sym, ◌∙◌, ap, subst}
-use Rattle.std.specs.Prelude.{take, drop}
-use Rattle.std.proofs.lemmas.List.{append-nil}
-use Rattle.df_base.specs.Image.{Image, IsImage, changed}
-use Rattle.df_base.specs.Log.{AreLoose, Event, IsLeft, IsLog, Log, Stop, Sync, now}
-use Rattle.df_base.specs.Moments.{EachMoment, Extends}
-use Rattle.df_base.proofs.Laws.{changed_is_image, extends_self, from_before, now_is_image, weaker, one_some}
-use Rattle.df_disk.specs.Adds.{AddsPart, after_all}
-use Rattle.df_disk.specs.Told.{IsHonest, Told, did}
+use Rattle.std.{proofs.{Common.{◌≡◌, ◌<◌, ◌^◌, inl, inr, ℕ, zero, suc, List, [], ◌∷◌, ◌++◌, Option, Some, None, refl, sym, ◌∙◌, ap, subst}, lemmas.List.{append-nil}}, specs.Prelude.{take, drop}}
+use Rattle.df_base.{specs.{Image.{Image, IsImage, changed}, Log.{AreLoose, Event, IsLeft, IsLog, Log, Stop, Sync, now}, Moments.{EachMoment, Extends}}, proofs.Laws.{changed_is_image, extends_self, from_before, now_is_image, weaker, one_some}}
+use Rattle.df_disk.specs.{Adds.{AddsPart, after_all}, Told.{IsHonest, Told, did}}
 use Rattle.df_format.specs.declared.superblock.SuperFields.{SuperFields}
 use Rattle.df_layout.specs.declared.layout.Layout.{Layout}
-use Rattle.df_theory.specs.Device.{IsSafeDisk, NoChanceOf, units_log}
-use Rattle.df_theory.specs.Found.{IsFound}
-use Rattle.df_theory.specs.Rests.{RestsOn}
-use Rattle.df_theory.specs.Next.{IsSameBare}
-use Rattle.df_theory.specs.View.{View, boot_of}
-use Rattle.df_theory.proofs.Laws.{disk_stop_law, one_found_law, rests_safe, safe_disk_law, changed_kept}
-use Rattle.df_units.specs.Bytes.{unit_at}
-use Rattle.df_units.specs.Making.{first_view}
-use Rattle.df_units.proofs.Laws.{is_format}
-use Rattle.df_model.specs.Views.{KeepsView}
-use Rattle.df_model.specs.Work.{Work, kept}
-use Rattle.df_model.specs.declared.errors.OpenError.TheVariants.{NotFormatted}
-use Rattle.df_session.specs.Below.{IsOpened, State as Replica, boot_fields, shape, DataFile, IsUnformatted, told_after}
-use Rattle.df_session.specs.Following.{MayOpen}
-use Rattle.df_session.specs.HeldBlocks.{AreInputs}
-use Rattle.df_session.specs.Making.{file_of}
-use Rattle.df_session.specs.Opened.{MendsPartly, StopsOpening, begun_state}
-use Rattle.df_session.specs.Serving.{Grade, IsGoodFor, StandsFor, Whole, format}
-use Rattle.df_session.specs.Session.{Act, Exchange, HasView, IsMidway, acts_in, work_after}
-use Rattle.df_session.proofs.Laws.{added_is_told, found_is_usable, good_left, good_safe, honest_stays, keeps_on, keeps_self}
-use Rattle.df_session.specs.Begun.{begun_work}
-use Rattle.df_session.specs.Links.{CallsMade, events_made, list_of}
-use Rattle.df_session.specs.Programs.{FileRun, LooksOnly, Serves, ServedFile, StopsInOpen, calls_in_run}
-use Rattle.df_session.specs.Acknowledging.{IsUntil, KeepsAnswered, WereAnswered}
-use Rattle.df_session.proofs.Laws.{file_there}
-use Rattle.df_top.proofs.Laws.{second_is_left}
-use Rattle.df_top.specs.Formats.{Formats}
-use Rattle.df_session.specs.Keeping.{KeepsFile, LeavesAll, over}
-use Rattle.df_top.specs.declared.status.Status.{Status}
-use Rattle.df_top.specs.declared.status.Status.TheVariants.{Done, Found, Words, Script, Refused, DiskFault, ReadFault, WriteFault, Memory}
-use Rattle.df_lifetime.specs.Life.{Chapter, EveryLifeGoesOn, EveryLifeIsInOrder, EveryRunGoesAlong, GoesAlong, HaveAnswers, IsInOrder, MayHave, ToAMoment, ToItsEnd, chapter_of, chapters_of, sessions_in}
-use Rattle.df_lifetime.specs.Life.Life.{Begun, Ended, Made, Opened, Ran, Spared, Stopped, Taken}
-use Rattle.df_lifetime.specs.Words.{OtherWord}
-use Rattle.df_lifetime.specs.Words.OtherWord.{ToFormat, ToUpgrade}
-use Rattle.df_lifetime.proofs.Bases.{AnsweredOver, KeepsOver, told_over}
-use Rattle.df_lifetime.proofs.Along.{after_along, along_on, answered_along, extends_along, grows, moment_along, one_end}
-use Rattle.df_lifetime.proofs.Acts.{HasFront, ends_inputs, first_answers, front_and_rest, has_front, work_on}
-use Rattle.df_lifetime.proofs.Files.{one_file}
-use Rattle.df_lifetime.proofs.Haves.{had_on}
-use Rattle.df_lifetime.proofs.Openings.{opened_in_order}
-use Rattle.df_lifetime.proofs.Orders.{Has, Order, after_barrier, goes_on, here, in_order, made_in_order, may, none_referenced, order_of, same_moments, shows, stands_shown, synced, synced_moments, taken_in_order}
+use Rattle.df_theory.{specs.{Device.{IsSafeDisk, NoChanceOf, units_log}, Found.{IsFound}, Rests.{RestsOn}, Next.{IsSameBare}, View.{View, boot_of}}, proofs.Laws.{disk_stop_law, one_found_law, rests_safe, safe_disk_law, changed_kept}}
+use Rattle.df_units.{specs.{Bytes.{unit_at}, Making.{first_view}}, proofs.Laws.{is_format}}
+use Rattle.df_model.specs.{Views.{KeepsView}, Work.{Work, kept}, declared.errors.OpenError.TheVariants.{NotFormatted}}
+use Rattle.df_session.{specs.{Below.{IsOpened, State as Replica, boot_fields, shape, DataFile, IsUnformatted, told_after}, Following.{MayOpen}, HeldBlocks.{AreInputs}, Making.{file_of}, Opened.{MendsPartly, StopsOpening, begun_state}, Serving.{Grade, IsGoodFor, StandsFor, Whole, format}, Session.{Act, Exchange, HasView, IsMidway, acts_in, work_after}, Begun.{begun_work}, Links.{CallsMade, events_made, list_of}, Programs.{FileRun, LooksOnly, Serves, ServedFile, StopsInOpen, calls_in_run}, Acknowledging.{IsUntil, KeepsAnswered, WereAnswered}, Keeping.{KeepsFile, LeavesAll, over}}, proofs.Laws.{added_is_told, found_is_usable, good_left, good_safe, honest_stays, keeps_on, keeps_self, file_there}}
+use Rattle.df_top.{proofs.Laws.{second_is_left}, specs.{Formats.{Formats}, declared.status.Status.{Status}, declared.status.Status.TheVariants.{Done, Found, Words, Script, Refused, DiskFault, ReadFault, WriteFault, Memory}}}
+use Rattle.df_lifetime.{specs.{Life.{Chapter, EveryLifeGoesOn, EveryLifeIsInOrder, EveryRunGoesAlong, GoesAlong, HaveAnswers, IsInOrder, MayHave, ToAMoment, ToItsEnd, chapter_of, chapters_of, sessions_in}, Life.Life.{Begun, Ended, Made, Opened, Ran, Spared, Stopped, Taken}, Words.{OtherWord}, Words.OtherWord.{ToFormat, ToUpgrade}}, proofs.{Bases.{AnsweredOver, KeepsOver, told_over}, Along.{after_along, along_on, answered_along, extends_along, grows, moment_along, one_end}, Acts.{HasFront, ends_inputs, first_answers, front_and_rest, has_front, work_on}, Files.{one_file}, Haves.{had_on}, Openings.{opened_in_order}, Orders.{Has, Order, after_barrier, goes_on, here, in_order, made_in_order, may, none_referenced, order_of, same_moments, shows, stands_shown, synced, synced_moments, taken_in_order}}}
 
 -- the word `format` leaves a disk as it is whose superblock isn't blank
 pub format_spares : (layout : Layout) (cluster : ℕ) (t n : Told) (old new : Option (List ℕ)) (status : Status) → (IsUnformatted t.shown → ⊥) → Formats layout cluster (Some t) (Some n) old new status → t ≡ n

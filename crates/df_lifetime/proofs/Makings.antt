@@ -1,20 +1,12 @@
 -- What the word `format` does, and each call that makes a file, is a making.
 use Rattle.std.proofs.Common.{◌≡◌, inl, inr, ℕ, List, [], Option, Some, Result, Ok, Err, refl, subst}
-use Rattle.df_base.specs.Log.{Event}
-use Rattle.df_base.specs.Moments.{Extends}
-use Rattle.df_base.proofs.Laws.{one_some}
-use Rattle.df_disk.specs.Told.{IsHonest, Told}
-use Rattle.df_disk.proofs.Laws.{goes_told}
+use Rattle.df_base.{specs.{Log.{Event}, Moments.{Extends}}, proofs.Laws.{one_some}}
+use Rattle.df_disk.{specs.Told.{IsHonest, Told}, proofs.Laws.{goes_told}}
 use Rattle.df_layout.specs.declared.layout.Layout.{Layout}
 use Rattle.df_model.specs.declared.errors.FormatError.{FormatError}
 use Rattle.df_model.specs.declared.errors.FormatError.TheVariants as formats
-use Rattle.df_session.specs.Formatting.{AddsFormat}
-use Rattle.df_session.specs.Making.{MakingLeaves, MayMakeOn, making_events}
-use Rattle.df_session.specs.Opened.{ToldBy}
-use Rattle.df_session.proofs.Laws.{part_told}
-use Rattle.df_top.specs.Formats.{Formats, MakesOn}
-use Rattle.df_top.specs.declared.status.Status.{Status}
-use Rattle.df_top.specs.declared.status.Status.TheVariants.{Done, Found, Words, Script, Refused, DiskFault, ReadFault, WriteFault, Memory}
+use Rattle.df_session.{specs.{Formatting.{AddsFormat}, Making.{MakingLeaves, MayMakeOn, making_events}, Opened.{ToldBy}}, proofs.Laws.{part_told}}
+use Rattle.df_top.specs.{Formats.{Formats, MakesOn}, declared.status.Status.{Status}, declared.status.Status.TheVariants.{Done, Found, Words, Script, Refused, DiskFault, ReadFault, WriteFault, Memory}}
 use Rattle.df_lifetime.specs.Programs.{CallIsMaking, WordIsMaking}
 
 -- what was told by events goes on from what was told

@@ -1,18 +1,11 @@
 -- What a life had come to before its file was damaged is found again after a mending.
 use Rattle.std.proofs.Common.{◌≡◌, refl, sym, ◌∙◌, subst}
-use Rattle.df_base.specs.Image.{Image}
-use Rattle.df_base.specs.Log.{now}
-use Rattle.df_theory.specs.Found.{IsFound}
-use Rattle.df_theory.specs.View.{View}
-use Rattle.df_theory.proofs.Laws.{one_found_law}
+use Rattle.df_base.specs.{Image.{Image}, Log.{now}}
+use Rattle.df_theory.{specs.{Found.{IsFound}, View.{View}}, proofs.Laws.{one_found_law}}
 use Rattle.df_units.specs.Bytes.{unit_at}
 use Rattle.df_session.specs.Below.{DataFile, shape}
 use Rattle.df_mirror.proofs.Cited.{ends_well, mended_is_opened}
-use Rattle.df_lifetime.specs.Life.{MayHave}
-use Rattle.df_lifetime.specs.Mending.{MendedLifeGoesOn}
-use Rattle.df_lifetime.proofs.Agains.{every_life_is_lived, may_reopen}
-use Rattle.df_lifetime.proofs.Found.{acknowledged_is_found}
-use Rattle.df_lifetime.proofs.Lives.{every_life_goes_on}
+use Rattle.df_lifetime.{specs.{Life.{MayHave}, Mending.{MendedLifeGoesOn}}, proofs.{Agains.{every_life_is_lived, may_reopen}, Found.{acknowledged_is_found}, Lives.{every_life_goes_on}}}
 
 pub mended_life_goes_on : MendedLifeGoesOn
 mended_life_goes_on first view older b whole t o n chapters old new status is tell well to again life chance same can =

@@ -1,44 +1,15 @@
 -- Each run of `filemirror` over a sound file is a run that makes no calls.
 use Rattle.std.proofs.Common.{◌≡◌, inl, inr, ℕ, List, [], ◌∷◌, ◌++◌, Option, Some, None, Result, Ok, Err, refl, sym, ◌∙◌, ap, subst}
-use Rattle.df_base.specs.Image.{Image, IsImage}
-use Rattle.df_base.specs.Log.{Sync, now}
-use Rattle.df_disk.specs.Adds.{AddsPart}
-use Rattle.df_disk.specs.Told.{Told, after, did}
+use Rattle.df_base.specs.{Image.{Image, IsImage}, Log.{Sync, now}}
+use Rattle.df_disk.specs.{Adds.{AddsPart}, Told.{Told, after, did}}
 use Rattle.df_layout.proofs.Laws.{same_layout}
-use Rattle.df_format.specs.Copies.{content_with}
-use Rattle.df_format.specs.First.{first_content}
-use Rattle.df_format.specs.declared.kind.Kind.{Kind}
-use Rattle.df_theory.specs.Device.{units_log}
-use Rattle.df_theory.specs.First.{AreMade}
-use Rattle.df_theory.specs.Found.{IsFound}
-use Rattle.df_theory.specs.Holds.{Stands}
-use Rattle.df_theory.specs.Units.{Content, CopyPlace, CopyUnit, Layout as Numbers, Place, Units}
-use Rattle.df_theory.specs.UnitLog.{Synced, UnitLog, now as now_units_of, settled}
-use Rattle.df_theory.specs.View.{View}
-use Rattle.df_theory.proofs.Laws.{chosen_same, holds_found, no_choice, now_units, one_chosen_law, one_found_law}
-use Rattle.df_units.specs.Format.{format_of}
-use Rattle.df_units.specs.Meaning.{content_of, layout_of}
-use Rattle.df_units.specs.Wanted.{checksum_of}
-use Rattle.df_units.proofs.Laws.{choice_chosen}
+use Rattle.df_format.specs.{Copies.{content_with}, First.{first_content}, declared.kind.Kind.{Kind}}
+use Rattle.df_theory.{specs.{Device.{units_log}, First.{AreMade}, Found.{IsFound}, Holds.{Stands}, Units.{Content, CopyPlace, CopyUnit, Layout as Numbers, Place, Units}, UnitLog.{Synced, UnitLog, now as now_units_of, settled}, View.{View}}, proofs.Laws.{chosen_same, holds_found, no_choice, now_units, one_chosen_law, one_found_law}}
+use Rattle.df_units.{specs.{Format.{format_of}, Meaning.{content_of, layout_of}, Wanted.{checksum_of}}, proofs.Laws.{choice_chosen}}
 use Rattle.df_damage.proofs.Laws.{super_is_written_as}
-use Rattle.df_session.specs.Below.{DataFile, shape, told_after}
-use Rattle.df_session.specs.Following.{MayOpen}
-use Rattle.df_session.specs.Serving.{format}
-use Rattle.df_session.proofs.Laws.{same_file}
-use Rattle.df_mirror.specs.Known.{IsNext}
-use Rattle.df_mirror.specs.Mends.{AnswersMending, AreInOrder, AreMends, Came, Failed, FailsAt, Mend, mirrored_events, under_way, units_shown}
-use Rattle.df_mirror.specs.Outside.{Outside, Tell}
-use Rattle.df_mirror.specs.Run.{MirrorOutcome, Mirrors}
-use Rattle.df_mirror.specs.Walks.{content_of_superblock}
-use Rattle.df_mirror.specs.declared.ending.Ending.{Ending}
-use Rattle.df_mirror.specs.declared.ending.Ending.TheVariants.{First, Neither, Second, Sink, Unopened}
-use Rattle.df_mirror.specs.declared.status.Status.{Status}
-use Rattle.df_lifetime.specs.Mirrored.{MadeShowsRecords, MirrorIsRun, RecordsReplies, ShowsRecords}
-use Rattle.df_lifetime.proofs.HurtLives.{start_stays}
-use Rattle.df_lifetime.proofs.KnownUnits.{none_lacks}
-use Rattle.df_lifetime.proofs.Lives.{every_life_goes_on}
-use Rattle.df_lifetime.proofs.Records.{EndsIn, ends_settled, grows_records}
-use Rattle.df_lifetime.proofs.WordRuns.{looked}
+use Rattle.df_session.{specs.{Below.{DataFile, shape, told_after}, Following.{MayOpen}, Serving.{format}}, proofs.Laws.{same_file}}
+use Rattle.df_mirror.specs.{Known.{IsNext}, Mends.{AnswersMending, AreInOrder, AreMends, Came, Failed, FailsAt, Mend, mirrored_events, under_way, units_shown}, Outside.{Outside, Tell}, Run.{MirrorOutcome, Mirrors}, Walks.{content_of_superblock}, declared.ending.Ending.{Ending}, declared.ending.Ending.TheVariants.{First, Neither, Second, Sink, Unopened}, declared.status.Status.{Status}}
+use Rattle.df_lifetime.{specs.Mirrored.{MadeShowsRecords, MirrorIsRun, RecordsReplies, ShowsRecords}, proofs.{HurtLives.{start_stays}, KnownUnits.{none_lacks}, Lives.{every_life_goes_on}, Records.{EndsIn, ends_settled, grows_records}, WordRuns.{looked}}}
 
 -- ---- what is recorded
 

@@ -1,21 +1,8 @@
 -- What was acknowledged stays in the view, whatever happens to it next.
-use Rattle.std.proofs.Common.{◌≡◌, inl, inr, ℕ, ◌+◌, ◌-◌, ◌<◌, ◌≤◌, if◌then◌else◌, List, [], ◌∷◌, ◌++◌, drop, length-append, Option, Some, None, sym, ◌∙◌, ap, arith}
-use Rattle.std.specs.Prelude.{nat_lt, Ok}
-use Rattle.std.specs.List.{slice_get}
-use Rattle.std.proofs.lemmas.Bool.{cases_eq}
-use Rattle.std.proofs.lemmas.Bool.Decides.{nat_tests}
-use Rattle.std.proofs.lemmas.List.{length-drop}
-use Rattle.df_theory.specs.Holds.{Sound}
-use Rattle.df_theory.specs.Next.{Append, AreInTurn, Boot, Finish, Next, Reply, Same, checkpointed, kept}
-use Rattle.df_theory.specs.Sessions.{noted, sessions_after}
-use Rattle.df_theory.specs.Shape.{Shape}
-use Rattle.df_theory.specs.Units.{Message, Session}
-use Rattle.df_theory.specs.View.{View, head, sequence, sessions}
-use Rattle.df_theory.proofs.Laws.{noted_get, sessions-append, sessions-drop, in_front, in_drop, stored_else}
+use Rattle.std.{proofs.{Common.{◌≡◌, inl, inr, ℕ, ◌+◌, ◌-◌, ◌<◌, ◌≤◌, if◌then◌else◌, List, [], ◌∷◌, ◌++◌, drop, length-append, Option, Some, None, sym, ◌∙◌, ap, arith}, lemmas.Bool.{cases_eq}, lemmas.Bool.Decides.{nat_tests}, lemmas.List.{length-drop}}, specs.{Prelude.{nat_lt, Ok}, List.{slice_get}}}
+use Rattle.df_theory.{specs.{Holds.{Sound}, Next.{Append, AreInTurn, Boot, Finish, Next, Reply, Same, checkpointed, kept}, Sessions.{noted, sessions_after}, Shape.{Shape}, Units.{Message, Session}, View.{View, head, sequence, sessions}}, proofs.Laws.{noted_get, sessions-append, sessions-drop, in_front, in_drop, stored_else}}
 use Rattle.df_model.specs.Commands as commands
-use Rattle.df_model.specs.Commands.{Answer, Command, Given, ToAdvance, ToAppend, ToFlush, ToReply, supplied_sums}
-use Rattle.df_model.specs.Making.{first_of}
-use Rattle.df_model.specs.declared.answers.Progress.TheVariants.{Done}
+use Rattle.df_model.specs.{Commands.{Answer, Command, Given, ToAdvance, ToAppend, ToFlush, ToReply, supplied_sums}, Making.{first_of}, declared.answers.Progress.TheVariants.{Done}}
 use Rattle.df_lifetime.specs.There.{HasPrepare, HasReply, HavePrepares, IsAnswerThere, Promised}
 
 -- ---- prepares

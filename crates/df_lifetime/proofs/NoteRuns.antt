@@ -4,16 +4,10 @@ use Rattle.df_base.specs.Log.{Sync}
 use Rattle.df_disk.specs.Told.{IsHonest, Told, did}
 use Rattle.df_layout.specs.declared.layout.Layout.{Layout}
 use Rattle.df_model.specs.declared.errors.FormatError.TheVariants.{DiskFault}
-use Rattle.df_session.specs.Below.{IsUnformatted}
-use Rattle.df_session.specs.Making.{FormatsFile}
-use Rattle.df_session.specs.Programs.{FileRun}
-use Rattle.df_session.proofs.Laws.{honest_stays}
-use Rattle.df_notes.specs.Run.{FindsNotes, NotesOutcome, OpensNotes, notes_cluster}
+use Rattle.df_session.{specs.{Below.{IsUnformatted}, Making.{FormatsFile}, Programs.{FileRun}}, proofs.Laws.{honest_stays}}
+use Rattle.df_notes.specs.{Run.{FindsNotes, NotesOutcome, OpensNotes, notes_cluster}, declared.ended.Ended.{Ended}}
 use Rattle.df_notes.specs.Serving as noted
-use Rattle.df_notes.specs.declared.ended.Ended.{Ended}
-use Rattle.df_lifetime.specs.Programs.{NotesBegin, NotesFindAs, NotesGoAs, NotesIsRun}
-use Rattle.df_lifetime.proofs.Makings.{call_is_making}
-use Rattle.df_lifetime.proofs.WordRuns.{barred, session, stopped, untouched}
+use Rattle.df_lifetime.{specs.Programs.{NotesBegin, NotesFindAs, NotesGoAs, NotesIsRun}, proofs.{Makings.{call_is_making}, WordRuns.{barred, session, stopped, untouched}}}
 
 module _ (layout : Layout) (t n : Told) (notes : List (List ℕ)) (old new : noted.Outside) (result : Result (Unit {0}) Ended) (to : new.told ≡ Some n) where
   notes_find : (finds : FindsNotes layout t notes old new result) → (run : FileRun t n) × NotesFindAs run layout notes old new result finds

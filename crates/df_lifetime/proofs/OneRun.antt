@@ -1,54 +1,16 @@
 -- A generated run over what is shown goes one way, and the numbers of its file follow from its answers.
 use Rattle.std.proofs.Common.{◌≡◌, ℕ, ◌+◌, List, [], ◌∷◌, length, map, Option, Some, None, Ok, refl, sym, ◌∙◌, ap, subst}
-use Rattle.df_base.specs.Image.{Image, IsImage}
-use Rattle.df_base.specs.Streams.{Appends}
+use Rattle.df_base.specs.{Image.{Image, IsImage}, Streams.{Appends}}
 use Rattle.df_disk.specs.Told.{Told}
-use Rattle.df_inspect.specs.Reports.{workload_text}
-use Rattle.df_inspect.specs.declared.counts.Workload.{Workload}
+use Rattle.df_inspect.specs.{Reports.{workload_text}, declared.counts.Workload.{Workload}}
 use Rattle.df_layout.specs.declared.layout.Layout.{Layout}
-use Rattle.df_theory.specs.Found.{IsFound}
-use Rattle.df_theory.specs.Shape.{Shape}
-use Rattle.df_theory.specs.Units.{AnyUnit, Message, Parts, Place}
-use Rattle.df_theory.specs.View.{View, head, sequence}
+use Rattle.df_theory.specs.{Found.{IsFound}, Shape.{Shape}, Units.{AnyUnit, Message, Parts, Place}, View.{View, head, sequence}}
 use Rattle.df_units.specs.Bytes.{unit_at}
-use Rattle.df_model.specs.After.{after_running, after_step_of, outcome, to_check, with_group, with_prepare, with_reply, with_staged}
-use Rattle.df_model.specs.Changing.{appended_in, begun_in, checked_in, course_on, flushed_in, memory_after, replied_in, staged_in, step_in, unless_refused}
-use Rattle.df_model.specs.Commands.{Advance, Answer, Append, Begin, Command, Flush, Given, Reply, Scrub, Stage, ToAdvance, ToAppend, ToFlush, ToReply, ToStage, after, supplied_sum, supplied_sums, supplied_verdict}
-use Rattle.df_model.specs.Making.{group_of, needed_of, place_of_reply, prepare_of, reply_of}
-use Rattle.df_model.specs.Memory.{Course, Memory, course, course_of, memory_of}
-use Rattle.df_model.specs.Refusals.{append_refusals, begin_refusals, first_refusal, flush_refusals, reply_refusals, stage_refusals}
-use Rattle.df_model.specs.Supply.{Codec, Shown, begun_from, next, result, shown_after}
-use Rattle.df_model.specs.Work.{Request, Running, Work, opened}
-use Rattle.df_model.specs.declared.errors.AppendError.{AppendError}
-use Rattle.df_model.specs.declared.errors.BeginError.{BeginError}
-use Rattle.df_model.specs.declared.errors.FlushError.{FlushError}
-use Rattle.df_model.specs.declared.errors.ReplyError.{ReplyError}
-use Rattle.df_model.specs.declared.answers.Progress.TheVariants.{Done as Ended}
-use Rattle.df_model.specs.declared.answers.Verdict.{Verdict}
-use Rattle.df_model.specs.declared.answers.Verdict.TheVariants.{Sound, Failing}
-use Rattle.df_model.proofs.Laws.{change_law, length_in}
-use Rattle.df_session.specs.Below.{DataFile, State as Replica, memory, shape, spelling}
-use Rattle.df_session.specs.Reading.{shown_of}
-use Rattle.df_session.specs.Serving.{Firm, Keeps, next as next_work}
-use Rattle.df_session.specs.Session.{Act, Exchange, acts_in, answers_in, command_in}
-use Rattle.df_session.specs.Codec.{codec}
-use Rattle.df_session.specs.Agreeing.{AgreeShown}
-use Rattle.df_workload.specs.Asking.{asks}
-use Rattle.df_workload.specs.Following.{Follows}
-use Rattle.df_workload.specs.Hearing.{heard}
-use Rattle.df_workload.specs.Rounds.{start}
-use Rattle.df_workload.specs.declared.state.State.{State as Run}
-use Rattle.df_session.specs.Begun.{begun_work}
-use Rattle.df_session.specs.Found.{FoundFile}
-use Rattle.df_session.specs.Links.{AreCalls, EndsCalls, More, NoCalls}
-use Rattle.df_session.proofs.Laws.{file_there, layout_there, view_there, agree_self}
-use Rattle.df_top.specs.Outside.{Outside}
-use Rattle.df_top.specs.Working.{WorksThrough}
-use Rattle.df_top.specs.Works.{WritesReport, asked_by, workload_of}
-use Rattle.df_top.specs.declared.status.Status.{Status}
-use Rattle.df_top.specs.declared.status.Status.TheVariants.{Done, Script, Words, Refused, Memory as NoMemory, DiskFault, ReadFault, WriteFault, Found}
-use Rattle.df_lifetime.specs.Printed.{HasEnded, OnFile, PrintsOne, Twice, WorkloadHasOneText}
-use Rattle.df_lifetime.proofs.Alike.{agree_there, file_alike, units_alike, view_alike}
+use Rattle.df_model.{specs.{After.{after_running, after_step_of, outcome, to_check, with_group, with_prepare, with_reply, with_staged}, Changing.{appended_in, begun_in, checked_in, course_on, flushed_in, memory_after, replied_in, staged_in, step_in, unless_refused}, Commands.{Advance, Answer, Append, Begin, Command, Flush, Given, Reply, Scrub, Stage, ToAdvance, ToAppend, ToFlush, ToReply, ToStage, after, supplied_sum, supplied_sums, supplied_verdict}, Making.{group_of, needed_of, place_of_reply, prepare_of, reply_of}, Memory.{Course, Memory, course, course_of, memory_of}, Refusals.{append_refusals, begin_refusals, first_refusal, flush_refusals, reply_refusals, stage_refusals}, Supply.{Codec, Shown, begun_from, next, result, shown_after}, Work.{Request, Running, Work, opened}, declared.errors.AppendError.{AppendError}, declared.errors.BeginError.{BeginError}, declared.errors.FlushError.{FlushError}, declared.errors.ReplyError.{ReplyError}, declared.answers.Progress.TheVariants.{Done as Ended}, declared.answers.Verdict.{Verdict}, declared.answers.Verdict.TheVariants.{Sound, Failing}}, proofs.Laws.{change_law, length_in}}
+use Rattle.df_session.{specs.{Below.{DataFile, State as Replica, memory, shape, spelling}, Reading.{shown_of}, Serving.{Firm, Keeps, next as next_work}, Session.{Act, Exchange, acts_in, answers_in, command_in}, Codec.{codec}, Agreeing.{AgreeShown}, Begun.{begun_work}, Found.{FoundFile}, Links.{AreCalls, EndsCalls, More, NoCalls}}, proofs.Laws.{file_there, layout_there, view_there, agree_self}}
+use Rattle.df_workload.specs.{Asking.{asks}, Following.{Follows}, Hearing.{heard}, Rounds.{start}, declared.state.State.{State as Run}}
+use Rattle.df_top.specs.{Outside.{Outside}, Working.{WorksThrough}, Works.{WritesReport, asked_by, workload_of}, declared.status.Status.{Status}, declared.status.Status.TheVariants.{Done, Script, Words, Refused, Memory as NoMemory, DiskFault, ReadFault, WriteFault, Found}}
+use Rattle.df_lifetime.{specs.Printed.{HasEnded, OnFile, PrintsOne, Twice, WorkloadHasOneText}, proofs.Alike.{agree_there, file_alike, units_alike, view_alike}}
 
 -- ---- one way
 

@@ -1,21 +1,12 @@
 -- A word that is carried out twice, over disks that show the same, prints one text.
 use Rattle.std.proofs.Common.{◌≡◌, inl, inr, ℕ, List, Option, refl, sym, ◌∙◌, ap, subst}
-use Rattle.df_base.specs.Image.{Image}
-use Rattle.df_base.specs.Streams.{Appends}
+use Rattle.df_base.specs.{Image.{Image}, Streams.{Appends}}
 use Rattle.df_disk.specs.Told.{Told}
 use Rattle.df_inspect.specs.Reports.{summary_text}
 use Rattle.df_layout.specs.declared.layout.Layout.{Layout}
-use Rattle.df_session.specs.Below.{IsOpened, State as Replica}
-use Rattle.df_session.specs.Replica.{summary_of}
-use Rattle.df_session.specs.Found.{FoundFile}
-use Rattle.df_top.specs.OneText.{ShowSame}
-use Rattle.df_top.specs.Outside.{Outside, PrintsLine}
-use Rattle.df_top.specs.Reporting.{Recovers}
-use Rattle.df_top.specs.declared.status.Status.{Status}
-use Rattle.df_top.specs.declared.status.Status.TheVariants.{Done}
-use Rattle.df_top.proofs.Laws.{summary_same}
-use Rattle.df_lifetime.specs.Printed.{Carried, HasEnded, OnFile, PrintsOne, RecoverHasOneText}
-use Rattle.df_lifetime.proofs.Alike.{fields_alike, file_alike, memory_alike, summary_there}
+use Rattle.df_session.specs.{Below.{IsOpened, State as Replica}, Replica.{summary_of}, Found.{FoundFile}}
+use Rattle.df_top.{specs.{OneText.{ShowSame}, Outside.{Outside, PrintsLine}, Reporting.{Recovers}, declared.status.Status.{Status}, declared.status.Status.TheVariants.{Done}}, proofs.Laws.{summary_same}}
+use Rattle.df_lifetime.{specs.Printed.{Carried, HasEnded, OnFile, PrintsOne, RecoverHasOneText}, proofs.Alike.{fields_alike, file_alike, memory_alike, summary_there}}
 
 -- ---- a text that is printed
 

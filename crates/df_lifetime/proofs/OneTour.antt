@@ -1,32 +1,15 @@
 -- Two tours of the scrubber over what agrees list the same blocks.
-use Rattle.std.proofs.Common.{◌≡◌, inl, inr, ℕ, zero, suc, ◌+◌, ◌≤◌, List, ◌++◌, length, Option, Some, None, refl, sym, ◌∙◌, ap, subst, arith}
-use Rattle.std.specs.List.{range_with_len}
-use Rattle.std.proofs.lemmas.Bool.{and_from, le-leb}
+use Rattle.std.{proofs.{Common.{◌≡◌, inl, inr, ℕ, zero, suc, ◌+◌, ◌≤◌, List, ◌++◌, length, Option, Some, None, refl, sym, ◌∙◌, ap, subst, arith}, lemmas.Bool.{and_from, le-leb}}, specs.List.{range_with_len}}
 use Rattle.df_base.specs.Image.{Image}
 use Rattle.df_inspect.specs.Reports.{failing_texts}
-use Rattle.df_layout.specs.declared.damage.Finding.{Finding}
-use Rattle.df_layout.specs.declared.layout.Layout.{Layout}
+use Rattle.df_layout.specs.{declared.damage.Finding.{Finding}, declared.layout.Layout.{Layout}}
 use Rattle.df_theory.specs.Units.{AnyUnit, BlockPlace}
-use Rattle.df_model.specs.Blocks.{Blocks, entries, entry, reference_in, referenced_in}
-use Rattle.df_model.specs.Memory.{Memory}
-use Rattle.df_model.specs.Reading.{failing, with_finding}
-use Rattle.df_model.specs.Supply.{Shown, block_given, check_of, class_at, class_or, verdict_of}
-use Rattle.df_model.specs.declared.answers.Scrubbed.TheVariants.{TourEnd}
+use Rattle.df_model.specs.{Blocks.{Blocks, entries, entry, reference_in, referenced_in}, Memory.{Memory}, Reading.{failing, with_finding}, Supply.{Shown, block_given, check_of, class_at, class_or, verdict_of}, declared.answers.Scrubbed.TheVariants.{TourEnd}}
 use Rattle.df_units.specs.Meaning.{layout_of}
-use Rattle.df_session.specs.Below.{DataFile, State as Replica, failing_in, grid_with}
-use Rattle.df_session.specs.Leaving.{SparesReads}
-use Rattle.df_session.specs.Reading.{shown_of}
-use Rattle.df_session.specs.Agreeing.{AgreeShown}
+use Rattle.df_session.{specs.{Below.{DataFile, State as Replica, failing_in, grid_with}, Leaving.{SparesReads}, Reading.{shown_of}, Agreeing.{AgreeShown}, Found.{FoundFile}}, proofs.Laws.{file_there, layout_there}}
 use Rattle.df_script_model.specs.Texts.{scrubbed_text}
-use Rattle.df_session.specs.Found.{FoundFile}
-use Rattle.df_session.proofs.Laws.{file_there, layout_there}
-use Rattle.df_top.specs.Outside.{PrintsLine}
-use Rattle.df_top.specs.Scrubs.{PrintsTour, ScrubsFile, failing_blocks, tour_report, tour_status}
-use Rattle.df_top.specs.declared.status.Status.{Status}
-use Rattle.df_top.proofs.Laws.{unit_spared}
-use Rattle.df_lifetime.specs.Printed.{HasEnded, OnFile, PrintsOne, ScrubHasOneText, Twice}
-use Rattle.df_lifetime.proofs.Alike.{agree_there, blocks_there, file_alike, memory_alike}
-use Rattle.df_lifetime.proofs.OneText.{same_prints}
+use Rattle.df_top.{specs.{Outside.{PrintsLine}, Scrubs.{PrintsTour, ScrubsFile, failing_blocks, tour_report, tour_status}, declared.status.Status.{Status}}, proofs.Laws.{unit_spared}}
+use Rattle.df_lifetime.{specs.Printed.{HasEnded, OnFile, PrintsOne, ScrubHasOneText, Twice}, proofs.{Alike.{agree_there, blocks_there, file_alike, memory_alike}, OneText.{same_prints}}}
 
 -- ---- a check
 

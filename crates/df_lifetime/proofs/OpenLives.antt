@@ -1,12 +1,8 @@
 -- A life begins at the end of any open that answered, with the calls that a program made on it.
 use Rattle.std.proofs.Common.{◌∙◌, [], refl}
 use Rattle.df_disk.specs.Told.{Told}
-use Rattle.df_session.specs.Anew.{begun_after}
-use Rattle.df_session.specs.Links.{CallsMade}
-use Rattle.df_lifetime.specs.Hurt.{at_end}
-use Rattle.df_lifetime.specs.Life.{EveryOpenBegins, ToItsEnd}
-use Rattle.df_lifetime.specs.Life.Life.{Opened}
-use Rattle.df_lifetime.proofs.HurtSessions.{served_adds, shows_begun}
+use Rattle.df_session.specs.{Anew.{begun_after}, Links.{CallsMade}}
+use Rattle.df_lifetime.{specs.{Hurt.{at_end}, Life.{EveryOpenBegins, ToItsEnd}, Life.Life.{Opened}}, proofs.HurtSessions.{served_adds, shows_begun}}
 
 pub every_open_begins : EveryOpenBegins
 every_open_begins file first t n served shows =

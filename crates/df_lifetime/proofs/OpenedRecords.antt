@@ -1,28 +1,12 @@
 -- The superblock that an open wrote records the replies that the file had.
 use Rattle.std.proofs.Common.{◌≡◌, ◌<◌, ◌^◌, inl, subst}
 use Rattle.df_base.specs.Image.{Image, IsImage}
-use Rattle.df_theory.specs.Found.{IsFound}
-use Rattle.df_theory.specs.Holds.{Holds}
-use Rattle.df_theory.specs.View.{View, boot_of}
-use Rattle.df_theory.proofs.Laws.{holds_found, one_found_law}
-use Rattle.df_units.specs.Bytes.{unit_at}
-use Rattle.df_units.specs.Meaning.{layout_of}
-use Rattle.df_units.proofs.Laws.{of_places}
+use Rattle.df_theory.{specs.{Found.{IsFound}, Holds.{Holds}, View.{View, boot_of}}, proofs.Laws.{holds_found, one_found_law}}
+use Rattle.df_units.{specs.{Bytes.{unit_at}, Meaning.{layout_of}}, proofs.Laws.{of_places}}
 use Rattle.df_trailer.specs.Text.{parse_of}
-use Rattle.df_model.specs.Memory.{memory_of}
-use Rattle.df_model.specs.Sense.{IsWork}
-use Rattle.df_model.specs.Supply.{boot_sum}
-use Rattle.df_model.specs.Work.{Work, kept, opened}
-use Rattle.df_model.proofs.Laws.{found_law, raised_law}
-use Rattle.df_session.specs.Anew.{begun_after}
-use Rattle.df_session.specs.Begun.{begun_work}
-use Rattle.df_session.specs.Below.{DataFile, shape, spelling}
-use Rattle.df_session.specs.Codec.{codec}
-use Rattle.df_session.specs.Serving.{Whole}
-use Rattle.df_session.proofs.Laws.{codec_of, second_found}
-use Rattle.df_lifetime.specs.Mirrored.{OpenedShowsRecords, RecordsReplies}
-use Rattle.df_lifetime.proofs.Openings.{anew, one, unspent_begun}
-use Rattle.df_lifetime.proofs.Records.{recorded_low}
+use Rattle.df_model.{specs.{Memory.{memory_of}, Sense.{IsWork}, Supply.{boot_sum}, Work.{Work, kept, opened}}, proofs.Laws.{found_law, raised_law}}
+use Rattle.df_session.{specs.{Anew.{begun_after}, Begun.{begun_work}, Below.{DataFile, shape, spelling}, Codec.{codec}, Serving.{Whole}}, proofs.Laws.{codec_of, second_found}}
+use Rattle.df_lifetime.{specs.Mirrored.{OpenedShowsRecords, RecordsReplies}, proofs.{Openings.{anew, one, unspent_begun}, Records.{recorded_low}}}
 
 -- the boot update of an open that finds a view records its replies
 begun_records : (file : DataFile) (image : Image) (view : View) → file.version ≡ 2 → IsImage image → IsFound (shape file) (unit_at file.layout file.cluster image) view → boot_of view < 2 ^ 62 → RecordsReplies (kept (begun_work file image view))

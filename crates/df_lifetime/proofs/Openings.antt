@@ -1,45 +1,14 @@
 -- Calls on a file that was opened, whatever was done to its disk before: what they leave by the log that is restarted at the end of the open.
-use Rattle.std.proofs.Common.{◌≡◌, ◌<◌, ◌^◌, inl, inr, ℕ, List, [], ◌∷◌, ◌++◌, Option, Some, None, refl, sym, ◌∙◌, ap, subst}
-use Rattle.std.specs.Prelude.{take, drop}
-use Rattle.std.proofs.lemmas.List.{append-nil}
-use Rattle.df_base.specs.Image.{Image}
-use Rattle.df_base.specs.Log.{IsLeft, Log, Sync}
-use Rattle.df_base.specs.Moments.{EachMoment, Extends}
-use Rattle.df_base.proofs.Laws.{extends_self, one_some}
+use Rattle.std.{proofs.{Common.{◌≡◌, ◌<◌, ◌^◌, inl, inr, ℕ, List, [], ◌∷◌, ◌++◌, Option, Some, None, refl, sym, ◌∙◌, ap, subst}, lemmas.List.{append-nil}}, specs.Prelude.{take, drop}}
+use Rattle.df_base.{specs.{Image.{Image}, Log.{IsLeft, Log, Sync}, Moments.{EachMoment, Extends}}, proofs.Laws.{extends_self, one_some}}
 use Rattle.df_disk.specs.Told.{IsHonest, Told, did}
 use Rattle.df_format.specs.Copies.{content_with}
 use Rattle.df_layout.specs.declared.layout.Layout.{Layout}
-use Rattle.df_theory.specs.Device.{IsSafeDisk, NoChanceOf, units_log}
-use Rattle.df_theory.specs.Found.{IsFound}
-use Rattle.df_theory.specs.Next.{booted}
-use Rattle.df_theory.specs.UnitLog.{UnitLog}
-use Rattle.df_theory.specs.Units.{Content, Units}
-use Rattle.df_theory.specs.View.{View, boot_of}
-use Rattle.df_theory.proofs.Laws.{one_found_law, pool_pools}
-use Rattle.df_units.specs.Bytes.{unit_at}
-use Rattle.df_units.specs.Meaning.{content_of}
-use Rattle.df_model.specs.Sense.{IsWork}
-use Rattle.df_model.specs.Work.{Work}
-use Rattle.df_session.specs.Below.{AreDistinctUnits, DataFile, IsOpened, shape, spelling, told_after}
-use Rattle.df_session.specs.HeldBlocks.{AreInputs}
-use Rattle.df_session.specs.Opened.{HistoryBegins}
-use Rattle.df_session.specs.Serving.{Firm, Grade, StandsFor, Whole, format}
-use Rattle.df_session.specs.Session.{Act, Exchange, HasView, IsMidway, acts_in, answers_in, answers_of, work_after}
-use Rattle.df_session.proofs.Laws.{added_is_told, keeps_self}
-use Rattle.df_session.specs.Acknowledging.{IsUntil, KeepsAnswered}
-use Rattle.df_session.specs.Anew.{KeepsAnew, begun_after}
-use Rattle.df_session.specs.Begun.{begun_work}
-use Rattle.df_session.specs.Found.{FoundFile}
-use Rattle.df_session.specs.Keeping.{KeepsFile, LeavesAll, over}
-use Rattle.df_session.specs.Laws.{CallsKeep}
-use Rattle.df_session.specs.Links.{CallsMade, events_made, list_of}
-use Rattle.df_session.proofs.Laws.{file_there}
-use Rattle.df_lifetime.specs.Hurt.{StoppedOpensBegin}
-use Rattle.df_lifetime.specs.Life.{AreMade, Extent, IsInOrder, ShowsFile, ToAMoment, ToItsEnd, chapter_of}
-use Rattle.df_lifetime.proofs.Acts.{ends_inputs, first_answers, front_and_rest, has_front, work_on}
-use Rattle.df_lifetime.proofs.Along.{grows}
-use Rattle.df_lifetime.proofs.Files.{one_file}
-use Rattle.df_lifetime.proofs.Orders.{in_order}
+use Rattle.df_theory.{specs.{Device.{IsSafeDisk, NoChanceOf, units_log}, Found.{IsFound}, Next.{booted}, UnitLog.{UnitLog}, Units.{Content, Units}, View.{View, boot_of}}, proofs.Laws.{one_found_law, pool_pools}}
+use Rattle.df_units.specs.{Bytes.{unit_at}, Meaning.{content_of}}
+use Rattle.df_model.specs.{Sense.{IsWork}, Work.{Work}}
+use Rattle.df_session.{specs.{Below.{AreDistinctUnits, DataFile, IsOpened, shape, spelling, told_after}, HeldBlocks.{AreInputs}, Opened.{HistoryBegins}, Serving.{Firm, Grade, StandsFor, Whole, format}, Session.{Act, Exchange, HasView, IsMidway, acts_in, answers_in, answers_of, work_after}, Acknowledging.{IsUntil, KeepsAnswered}, Anew.{KeepsAnew, begun_after}, Begun.{begun_work}, Found.{FoundFile}, Keeping.{KeepsFile, LeavesAll, over}, Laws.{CallsKeep}, Links.{CallsMade, events_made, list_of}}, proofs.Laws.{added_is_told, keeps_self, file_there}}
+use Rattle.df_lifetime.{specs.{Hurt.{StoppedOpensBegin}, Life.{AreMade, Extent, IsInOrder, ShowsFile, ToAMoment, ToItsEnd, chapter_of}}, proofs.{Acts.{ends_inputs, first_answers, front_and_rest, has_front, work_on}, Along.{grows}, Files.{one_file}, Orders.{in_order}}}
 
 -- ---- what an open found
 

@@ -1,26 +1,12 @@
 -- A file in order: as it was made or taken, as it is opened, and after a barrier.
 use Rattle.std.proofs.Common.{◌≡◌, ℕ, List, [], Some, None, Ok, refl, sym, subst}
-use Rattle.df_base.specs.Image.{Image}
-use Rattle.df_base.specs.Log.{IsLeft, IsLog, Log, Sync, add, now}
-use Rattle.df_base.specs.Moments.{EachMoment, Extends}
-use Rattle.df_base.proofs.Laws.{extends_self, from_before, now_is_image, started}
+use Rattle.df_base.{specs.{Image.{Image}, Log.{IsLeft, IsLog, Log, Sync, add, now}, Moments.{EachMoment, Extends}}, proofs.Laws.{extends_self, from_before, now_is_image, started}}
 use Rattle.df_disk.specs.Told.{IsHonest, Told}
 use Rattle.df_layout.specs.declared.layout.Layout.{Layout}
-use Rattle.df_theory.specs.Device.{IsSafeDisk, NoChanceOf, units_log}
-use Rattle.df_theory.specs.Holds.{Held, Stands}
-use Rattle.df_theory.specs.TidyLaws.{IsTidy}
-use Rattle.df_theory.specs.View.{View}
-use Rattle.df_theory.proofs.Laws.{disk_barrier_law, firm_units, found_law, rests_holds, rests_safe, safe_disk_law}
-use Rattle.df_units.specs.Bytes.{unit_at}
-use Rattle.df_units.specs.Making.{first_view}
-use Rattle.df_units.specs.Meaning.{layout_of}
-use Rattle.df_units.proofs.Laws.{is_format, of_places}
+use Rattle.df_theory.{specs.{Device.{IsSafeDisk, NoChanceOf, units_log}, Holds.{Held, Stands}, TidyLaws.{IsTidy}, View.{View}}, proofs.Laws.{disk_barrier_law, firm_units, found_law, rests_holds, rests_safe, safe_disk_law}}
+use Rattle.df_units.{specs.{Bytes.{unit_at}, Making.{first_view}, Meaning.{layout_of}}, proofs.Laws.{is_format, of_places}}
 use Rattle.df_trailer.specs.Text.{parse_of}
-use Rattle.df_session.specs.Below.{shape, DataFile, restarted}
-use Rattle.df_session.specs.Following.{MayOpen}
-use Rattle.df_session.specs.Making.{MayMakeOn, file_of}
-use Rattle.df_session.specs.Serving.{format}
-use Rattle.df_session.proofs.Laws.{begun_may_open, keeps_self}
+use Rattle.df_session.{specs.{Below.{shape, DataFile, restarted}, Following.{MayOpen}, Making.{MayMakeOn, file_of}, Serving.{format}}, proofs.Laws.{begun_may_open, keeps_self}}
 use Rattle.df_lifetime.specs.Life.{Chapter, IsInOrder, MadeOn, MayBeOpened, MayHave, MayTake}
 
 -- what is there now is one of the images that a stop may leave

@@ -4,22 +4,14 @@ use Rattle.df_base.specs.Image.{IsImage}
 use Rattle.df_disk.specs.Told.{Told}
 use Rattle.df_layout.specs.declared.layout.Layout.{Layout}
 use Rattle.df_rows.specs.Tables.{Table}
-use Rattle.df_session.specs.Below.{IsOpened, State as Replica}
-use Rattle.df_session.specs.Found.{FoundFile, no_calls}
-use Rattle.df_session.specs.Links.{CallsMade, NoCalls}
-use Rattle.df_session.specs.Opened.{MendsAll}
-use Rattle.df_session.specs.Programs.{FileRun}
-use Rattle.df_session.proofs.Laws.{calls_keep}
+use Rattle.df_session.{specs.{Below.{IsOpened, State as Replica}, Found.{FoundFile, no_calls}, Links.{CallsMade, NoCalls}, Opened.{MendsAll}, Programs.{FileRun}}, proofs.Laws.{calls_keep}}
 use Rattle.df_program.specs.Two as two
 use Rattle.df_table.specs.Outside as table
-use Rattle.df_table.specs.Run.{DoesTable, TableOutcome}
-use Rattle.df_table.specs.Session.{AreCallsOf, NotOpened, Served, ServesFoundTable}
-use Rattle.df_table.specs.declared.ending.Ending.{Ending}
+use Rattle.df_table.specs.{Run.{DoesTable, TableOutcome}, Session.{AreCallsOf, NotOpened, Served, ServesFoundTable}, declared.ending.Ending.{Ending}}
 use Rattle.df_table.specs.declared.status.Status as table_status
 use Rattle.df_copy.specs.Run.{CopyOutcome, DoesCopy}
 use Rattle.df_copy.specs.declared.status.Status as copy_status
-use Rattle.df_lifetime.specs.Programs.{CopyDoesAs, CopyGoesAs, SourceIsRun, TableDoesAs, TableGoesAs, TableIsRun}
-use Rattle.df_lifetime.proofs.WordRuns.{barred, session, stopped, untouched}
+use Rattle.df_lifetime.{specs.Programs.{CopyDoesAs, CopyGoesAs, SourceIsRun, TableDoesAs, TableGoesAs, TableIsRun}, proofs.WordRuns.{barred, session, stopped, untouched}}
 
 -- ---- a table
 

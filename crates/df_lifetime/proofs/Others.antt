@@ -1,36 +1,16 @@
 -- The words `format` and `upgrade` leave a file as it is that was damaged: two copies of its superblock stand, of version 2.
-use Rattle.std.proofs.Common.{◌≡◌, inl, inr, ℕ, List, ◌∷◌, Option, Some, None, ◌∙◌, ap, arith, refl, subst, sym, ◌<◌}
-use Rattle.std.proofs.lemmas.Bool.{both_ways}
-use Rattle.std.specs.Prelude.{true}
-use Rattle.df_base.specs.Image.{Image}
+use Rattle.std.{proofs.{Common.{◌≡◌, inl, inr, ℕ, List, ◌∷◌, Option, Some, None, ◌∙◌, ap, arith, refl, subst, sym, ◌<◌}, lemmas.Bool.{both_ways}}, specs.Prelude.{true}}
+use Rattle.df_base.{specs.{Image.{Image}, Log.{Log, Sync}}, proofs.Laws.{one_some}}
 use Rattle.df_base.specs.Log as logs
-use Rattle.df_base.specs.Log.{Log, Sync}
-use Rattle.df_base.proofs.Laws.{one_some}
 use Rattle.df_disk.specs.Told.{Told}
-use Rattle.df_format.specs.Copies.{content_in_copy as content_of_copy, copy_at, copy_in, if_here, is_blank_copy}
-use Rattle.df_format.specs.declared.superblock.SuperCopy.{SuperCopy}
-use Rattle.df_format.proofs.Laws.{copy_is_not_blank}
-use Rattle.df_history.specs.Histories.{MayHurtCopies, MayStart}
-use Rattle.df_history.specs.OpenLaws.{StartsWith}
-use Rattle.df_history.proofs.Laws.{choice_stays_law, synced_settled}
-use Rattle.df_theory.specs.Copies.{Agree}
-use Rattle.df_theory.specs.Device.{NoChanceOf}
-use Rattle.df_theory.specs.Units.{AnyUnit, Content, CopyPlace, CopyUnit, Units}
-use Rattle.df_theory.proofs.Laws.{now_units}
-use Rattle.df_units.specs.Bytes.{copy_unit, unit_at}
-use Rattle.df_units.specs.Meaning.{content_of}
-use Rattle.df_units.proofs.Laws.{choice_chosen}
-use Rattle.df_session.specs.Below.{DataFile, IsUnformatted, MayReopen, shape, units_logs}
-use Rattle.df_session.specs.Serving.{format}
-use Rattle.df_upgrade.specs.Below.{IsLayoutShownAs}
-use Rattle.df_upgrade.proofs.Laws.{super_as}
+use Rattle.df_format.{specs.{Copies.{content_in_copy as content_of_copy, copy_at, copy_in, if_here, is_blank_copy}, declared.superblock.SuperCopy.{SuperCopy}}, proofs.Laws.{copy_is_not_blank}}
+use Rattle.df_history.{specs.{Histories.{MayHurtCopies, MayStart}, OpenLaws.{StartsWith}}, proofs.Laws.{choice_stays_law, synced_settled}}
+use Rattle.df_theory.{specs.{Copies.{Agree}, Device.{NoChanceOf}, Units.{AnyUnit, Content, CopyPlace, CopyUnit, Units}}, proofs.Laws.{now_units}}
+use Rattle.df_units.{specs.{Bytes.{copy_unit, unit_at}, Meaning.{content_of}}, proofs.Laws.{choice_chosen}}
+use Rattle.df_session.specs.{Below.{DataFile, IsUnformatted, MayReopen, shape, units_logs}, Serving.{format}}
+use Rattle.df_upgrade.{specs.Below.{IsLayoutShownAs}, proofs.Laws.{super_as}}
 use Rattle.df_layout.specs.declared.layout.Layout.{Layout}
-use Rattle.df_lifetime.specs.Again.{IsSpared, OtherWordsLeaveIt}
-use Rattle.df_lifetime.specs.Words.{OtherWord}
-use Rattle.df_lifetime.specs.Words.OtherWord.{ToFormat, ToUpgrade}
-use Rattle.df_lifetime.proofs.Agains.{IsSound, every_life_is_lived, may_reopen}
-use Rattle.df_lifetime.proofs.Lives.{format_spares}
-use Rattle.df_lifetime.proofs.Orders.{now_left}
+use Rattle.df_lifetime.{specs.{Again.{IsSpared, OtherWordsLeaveIt}, Words.{OtherWord}, Words.OtherWord.{ToFormat, ToUpgrade}}, proofs.{Agains.{IsSound, every_life_is_lived, may_reopen}, Lives.{format_spares}, Orders.{now_left}}}
 
 -- ---- a sector of zeros is no copy
 

@@ -1,21 +1,7 @@
 -- What is staged after an answer is what the answers so far say of it.
 use Rattle.std.proofs.Common.{◌≡◌, ℕ, ◌+◌, ◌-◌, List, [], ◌∷◌, ◌++◌, length, Option, Some, None, refl, sym, ap, arith, length-drop}
-use Rattle.df_theory.specs.Shape.{Shape}
-use Rattle.df_theory.specs.Units.{Message, Parts}
-use Rattle.df_theory.specs.View.{head}
-use Rattle.df_model.specs.After.{finished, outcome, with_group, with_staged, with_verdict}
-use Rattle.df_model.specs.Change.{Appends, Change, Checks, Ends, One, Staged, Stages}
-use Rattle.df_model.specs.Commands.{Command, Flush, Given, Stage, ToFlush, ToStage, after, supplied_sum, supplied_sums, supplied_verdict}
-use Rattle.df_model.specs.Making.{group_of}
-use Rattle.df_model.specs.Memory.{memory_of}
-use Rattle.df_model.specs.Refusals.{first_refusal, flush_refusals, stage_refusals}
-use Rattle.df_model.specs.Sense.{IsWork}
-use Rattle.df_model.specs.Work.{Request, Work}
-use Rattle.df_model.specs.declared.answers.Verdict.{Verdict}
-use Rattle.df_model.specs.declared.answers.Verdict.TheVariants.{Sound, Failing}
-use Rattle.df_model.specs.declared.errors.AppendError.{AppendError}
-use Rattle.df_model.specs.declared.errors.FlushError.{FlushError}
-use Rattle.df_model.proofs.Laws.{one_thing_law}
+use Rattle.df_theory.specs.{Shape.{Shape}, Units.{Message, Parts}, View.{head}}
+use Rattle.df_model.{specs.{After.{finished, outcome, with_group, with_staged, with_verdict}, Change.{Appends, Change, Checks, Ends, One, Staged, Stages}, Commands.{Command, Flush, Given, Stage, ToFlush, ToStage, after, supplied_sum, supplied_sums, supplied_verdict}, Making.{group_of}, Memory.{memory_of}, Refusals.{first_refusal, flush_refusals, stage_refusals}, Sense.{IsWork}, Work.{Request, Work}, declared.answers.Verdict.{Verdict}, declared.answers.Verdict.TheVariants.{Sound, Failing}, declared.errors.AppendError.{AppendError}, declared.errors.FlushError.{FlushError}}, proofs.Laws.{one_thing_law}}
 use Rattle.df_lifetime.specs.There.{Promised, promised_by, promised_from, promised_in}
 
 -- with a request more

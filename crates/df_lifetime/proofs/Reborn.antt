@@ -2,23 +2,13 @@
 use Rattle.std.proofs.Common.{◌≡◌, inl, inr, [], refl, sym, ◌∙◌, ap, arith}
 use Rattle.df_base.specs.Image.{Image, IsImage}
 use Rattle.df_disk.specs.Told.{Told}
-use Rattle.df_theory.specs.Found.{IsClean, IsFound}
-use Rattle.df_theory.specs.Holds.{Holds}
-use Rattle.df_theory.specs.Units.{Units}
-use Rattle.df_theory.specs.View.{View, boot_of, head}
-use Rattle.df_theory.proofs.Laws.{clean_start_law, one_found_law}
-use Rattle.df_history.specs.Lives.{Starts}
-use Rattle.df_history.specs.OpenLaws.{BeginsHistory}
+use Rattle.df_theory.{specs.{Found.{IsClean, IsFound}, Holds.{Holds}, Units.{Units}, View.{View, boot_of, head}}, proofs.Laws.{clean_start_law, one_found_law}}
+use Rattle.df_history.specs.{Lives.{Starts}, OpenLaws.{BeginsHistory}}
 use Rattle.df_trailer.specs.Text.{parse_of}
-use Rattle.df_units.specs.Bytes.{unit_at}
-use Rattle.df_units.specs.Meaning.{layout_of}
-use Rattle.df_units.proofs.Laws.{of_places}
-use Rattle.df_model.specs.Memory.{Memory}
-use Rattle.df_model.specs.Result.{AgreeReads}
+use Rattle.df_units.{specs.{Bytes.{unit_at}, Meaning.{layout_of}}, proofs.Laws.{of_places}}
+use Rattle.df_model.specs.{Memory.{Memory}, Result.{AgreeReads}}
 use Rattle.df_session.specs.Below.{State as Replica, shape}
-use Rattle.df_upgrade.specs.Base.{base_fields}
-use Rattle.df_upgrade.specs.Below.{IsOpenedAs}
-use Rattle.df_upgrade.specs.Upgrading.{second, upgraded}
+use Rattle.df_upgrade.specs.{Base.{base_fields}, Below.{IsOpenedAs}, Upgrading.{second, upgraded}}
 use Rattle.df_lifetime.specs.Upgraded.{IsOld}
 
 module _ (t : Told) (s : Replica) (view : View) (old : IsOld s.file view t.shown) (opened : IsOpenedAs 1 s.file.layout t.shown s) (image : Image) (whole : IsImage image)

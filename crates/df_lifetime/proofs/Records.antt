@@ -1,18 +1,7 @@
 -- The superblock of a log that has grown records replies of sessions that had theirs, where that of its first image did.
-use Rattle.std.proofs.Common.{◌≡◌, inl, inr, ℕ, ◌+◌, ◌-◌, ◌<◌, ◌≤◌, List, [], ◌∷◌, drop, slice_index, Option, Some, None, refl, sym, ◌∙◌, ap, subst, arith}
-use Rattle.std.specs.List.{slice_get}
-use Rattle.std.proofs.lemmas.Bool.{cases_lt}
-use Rattle.df_theory.specs.Grown.{Grows}
-use Rattle.df_theory.specs.Holds.{Holds, Sound}
-use Rattle.df_theory.specs.Next.{Append, Boot, Finish, Next, Records, Reply, Same, checkpointed}
-use Rattle.df_theory.specs.Sessions.{sessions_after}
-use Rattle.df_theory.specs.Shape.{Shape}
-use Rattle.df_theory.specs.UnitLog.{Stopped, Synced, UnitEvent, Wrote, now_of, settled_of}
-use Rattle.df_theory.specs.Units.{Content, Message, Session, Units}
-use Rattle.df_theory.specs.View.{View, head, sessions}
-use Rattle.df_theory.proofs.Laws.{grows_sound, sessions-append, sessions-drop}
-use Rattle.df_lifetime.specs.Mirrored.{RecordsReplies}
-use Rattle.df_lifetime.proofs.Next.{old_session, same_op}
+use Rattle.std.{proofs.{Common.{◌≡◌, inl, inr, ℕ, ◌+◌, ◌-◌, ◌<◌, ◌≤◌, List, [], ◌∷◌, drop, slice_index, Option, Some, None, refl, sym, ◌∙◌, ap, subst, arith}, lemmas.Bool.{cases_lt}}, specs.List.{slice_get}}
+use Rattle.df_theory.{specs.{Grown.{Grows}, Holds.{Holds, Sound}, Next.{Append, Boot, Finish, Next, Records, Reply, Same, checkpointed}, Sessions.{sessions_after}, Shape.{Shape}, UnitLog.{Stopped, Synced, UnitEvent, Wrote, now_of, settled_of}, Units.{Content, Message, Session, Units}, View.{View, head, sessions}}, proofs.Laws.{grows_sound, sessions-append, sessions-drop}}
+use Rattle.df_lifetime.{specs.Mirrored.{RecordsReplies}, proofs.Next.{old_session, same_op}}
 
 -- ---- one step
 

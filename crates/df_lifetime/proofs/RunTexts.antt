@@ -1,52 +1,16 @@
 -- What a generated run prints: its counts count its answers, and so they say how far the numbers of the file went on.
-use Rattle.std.proofs.Common.{◌≡◌, ℕ, ◌+◌, Bool, true, false, if◌then◌else◌, List, [], ◌∷◌, map, Some, Result, Ok, Err, refl, sym, ◌∙◌, ap, subst, arith}
-use Rattle.std.specs.Prelude.{slice_index}
-use Rattle.df_base.specs.Image.{IsImage}
-use Rattle.df_base.specs.Streams.{Appends}
+use Rattle.std.{proofs.Common.{◌≡◌, ℕ, ◌+◌, Bool, true, false, if◌then◌else◌, List, [], ◌∷◌, map, Some, Result, Ok, Err, refl, sym, ◌∙◌, ap, subst, arith}, specs.Prelude.{slice_index}}
+use Rattle.df_base.specs.{Image.{IsImage}, Streams.{Appends}}
 use Rattle.df_disk.specs.Told.{Told}
-use Rattle.df_inspect.specs.Reports.{workload_text}
-use Rattle.df_inspect.specs.declared.counts.Workload.{Workload}
+use Rattle.df_inspect.specs.{Reports.{workload_text}, declared.counts.Workload.{Workload}}
 use Rattle.df_layout.specs.declared.layout.Layout.{Layout}
-use Rattle.df_theory.specs.Found.{IsFound}
-use Rattle.df_theory.specs.Shape.{Shape}
-use Rattle.df_theory.specs.View.{View, head, sequence}
+use Rattle.df_theory.specs.{Found.{IsFound}, Shape.{Shape}, View.{View, head, sequence}}
 use Rattle.df_units.specs.Bytes.{unit_at}
-use Rattle.df_model.specs.After.{after_advance, after_begin, after_block, after_release}
-use Rattle.df_model.specs.Commands.{Advance, Answer, Command, ToAdvance, ToAppend, ToBegin, ToFlush, ToRelease, ToReply, ToWriteBlock, WriteBlock}
-use Rattle.df_model.specs.Memory.{memory_of}
-use Rattle.df_model.specs.Supply.{Codec, Shown, checksum_given, next, result, shown_after}
-use Rattle.df_model.specs.Work.{Work}
-use Rattle.df_model.specs.declared.answers.Progress.{Progress}
-use Rattle.df_model.specs.declared.answers.Progress.TheVariants.{Done as Ended, Working}
-use Rattle.df_model.specs.declared.errors.AppendError.{AppendError}
-use Rattle.df_model.specs.declared.errors.BeginError.{BeginError}
-use Rattle.df_model.specs.declared.errors.BlockError.{BlockError}
-use Rattle.df_model.specs.declared.errors.NotLive.{NotLive}
-use Rattle.df_model.specs.declared.errors.ReplyError.{ReplyError}
-use Rattle.df_model.specs.declared.errors.StepError.{StepError}
-use Rattle.df_session.specs.Below.{DataFile, memory, shape}
-use Rattle.df_session.specs.Reading.{shown_of}
-use Rattle.df_session.specs.Codec.{codec}
-use Rattle.df_workload.specs.Asking.{asks_at, number_body}
-use Rattle.df_workload.specs.Draw.{drawn_body}
-use Rattle.df_workload.specs.Following.{Follows}
-use Rattle.df_workload.specs.Hearing.{append_heard, begin_heard, block_heard, heard, outcome_of, release_heard, reply_heard, stepped, told_at}
-use Rattle.df_workload.specs.Rounds.{after_reply, start, to_begin, to_block, to_next, to_release, to_replies, to_step}
-use Rattle.df_workload.specs.declared.state.Point.{Point}
-use Rattle.df_workload.specs.declared.state.Point.TheVariants.{Appending, Replying, Stepping, Writing, Releasing, Beginning, Ending}
-use Rattle.df_workload.specs.declared.state.State.{State as Run}
-use Rattle.df_workload.proofs.Laws.{asks_end}
-use Rattle.df_session.specs.Begun.{begun_work}
-use Rattle.df_session.specs.Found.{FoundFile}
-use Rattle.df_session.proofs.Laws.{layout_there, agree_self}
-use Rattle.df_session.specs.Session.{acts_in, answers_in, command_in}
-use Rattle.df_top.specs.Outside.{Outside}
-use Rattle.df_top.specs.Working.{WorksThrough}
-use Rattle.df_top.specs.Works.{workload_of, workload_with}
-use Rattle.df_top.specs.declared.status.Status.{Status}
-use Rattle.df_top.specs.declared.status.Status.TheVariants.{Done}
-use Rattle.df_lifetime.specs.Printed.{HasEnded, IsRun, OneRun, RunTextIsResult, run_text, workload_by}
-use Rattle.df_lifetime.proofs.OneRun.{Numbers, after_answer, after_answers, asks_none, by_end, first_numbers, last_numbers, numbers_in, same_run}
+use Rattle.df_model.specs.{After.{after_advance, after_begin, after_block, after_release}, Commands.{Advance, Answer, Command, ToAdvance, ToAppend, ToBegin, ToFlush, ToRelease, ToReply, ToWriteBlock, WriteBlock}, Memory.{memory_of}, Supply.{Codec, Shown, checksum_given, next, result, shown_after}, Work.{Work}, declared.answers.Progress.{Progress}, declared.answers.Progress.TheVariants.{Done as Ended, Working}, declared.errors.AppendError.{AppendError}, declared.errors.BeginError.{BeginError}, declared.errors.BlockError.{BlockError}, declared.errors.NotLive.{NotLive}, declared.errors.ReplyError.{ReplyError}, declared.errors.StepError.{StepError}}
+use Rattle.df_session.{specs.{Below.{DataFile, memory, shape}, Reading.{shown_of}, Codec.{codec}, Begun.{begun_work}, Found.{FoundFile}, Session.{acts_in, answers_in, command_in}}, proofs.Laws.{layout_there, agree_self}}
+use Rattle.df_workload.{specs.{Asking.{asks_at, number_body}, Draw.{drawn_body}, Following.{Follows}, Hearing.{append_heard, begin_heard, block_heard, heard, outcome_of, release_heard, reply_heard, stepped, told_at}, Rounds.{after_reply, start, to_begin, to_block, to_next, to_release, to_replies, to_step}, declared.state.Point.{Point}, declared.state.Point.TheVariants.{Appending, Replying, Stepping, Writing, Releasing, Beginning, Ending}, declared.state.State.{State as Run}}, proofs.Laws.{asks_end}}
+use Rattle.df_top.specs.{Outside.{Outside}, Working.{WorksThrough}, Works.{workload_of, workload_with}, declared.status.Status.{Status}, declared.status.Status.TheVariants.{Done}}
+use Rattle.df_lifetime.{specs.Printed.{HasEnded, IsRun, OneRun, RunTextIsResult, run_text, workload_by}, proofs.OneRun.{Numbers, after_answer, after_answers, asks_none, by_end, first_numbers, last_numbers, numbers_in, same_run}}
 
 -- ---- what is counted
 

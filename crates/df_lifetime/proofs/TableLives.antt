@@ -1,59 +1,21 @@
 -- Whatever life a file has had in which each session keeps the table: it is in order, with a table that it may have come to.
 use Rattle.std.proofs.Common.{◌≡◌, ◌⊎◌, inl, inr, ℕ, zero, suc, List, [], ◌∷◌, ◌++◌, take, drop, append_assoc, Option, Some, Ok, Err, refl, sym, ◌∙◌, ap, subst}
-use Rattle.df_base.specs.Image.{Image, changed}
-use Rattle.df_base.specs.Log.{Event, IsLeft, Log, Stop, Sync, now}
-use Rattle.df_base.specs.Moments.{EachMoment, Extends}
-use Rattle.df_base.proofs.Laws.{extends_self, from_before, one_some, started}
-use Rattle.df_disk.specs.Adds.{AddsPart}
-use Rattle.df_disk.specs.Told.{IsHonest, Told, did}
+use Rattle.df_base.{specs.{Image.{Image, changed}, Log.{Event, IsLeft, Log, Stop, Sync, now}, Moments.{EachMoment, Extends}}, proofs.Laws.{extends_self, from_before, one_some, started}}
+use Rattle.df_disk.specs.{Adds.{AddsPart}, Told.{IsHonest, Told, did}}
 use Rattle.df_layout.specs.declared.layout.Layout.{Layout}
-use Rattle.df_theory.specs.Device.{NoChanceOf}
-use Rattle.df_theory.specs.View.{View}
-use Rattle.df_units.specs.Bytes.{unit_at}
-use Rattle.df_units.specs.Making.{first_view}
-use Rattle.df_rows.specs.declared.command.Command.{Command as Change}
-use Rattle.df_rows.specs.Tables.{Table, with_commands}
-use Rattle.df_rows.proofs.Laws.{commands_more}
-use Rattle.df_session.specs.Acknowledging.{WereAnswered}
-use Rattle.df_session.specs.Anew.{begun_after}
-use Rattle.df_session.specs.Below.{DataFile, restarted, told_after}
-use Rattle.df_session.specs.Following.{MayOpen}
-use Rattle.df_session.specs.Found.{FoundFile, no_calls}
-use Rattle.df_session.specs.Keeping.{over}
-use Rattle.df_session.specs.Laws.{CallsKeep}
-use Rattle.df_session.specs.Links.{CallsMade, events_made}
-use Rattle.df_session.specs.Making.{file_of}
-use Rattle.df_session.specs.Opened.{StopsOpening}
-use Rattle.df_session.specs.Programs.{FileRun, IsSession, LooksOnly, Serves, ServedFile, StopsInOpen, calls_in_run}
-use Rattle.df_session.specs.Serving.{Whole, format}
-use Rattle.df_session.specs.Session.{Exchange}
-use Rattle.df_session.proofs.Laws.{added_is_told}
-use Rattle.df_table.specs.declared.ending.Ending.TheVariants.{Disk}
-use Rattle.df_table.specs.declared.status.Status.{Status}
-use Rattle.df_table.specs.Keeping.{AreChanges, KeepsTable}
-use Rattle.df_table.specs.Laws.{FindsIn}
-use Rattle.df_table.specs.Outside.{Outside}
+use Rattle.df_theory.specs.{Device.{NoChanceOf}, View.{View}}
+use Rattle.df_units.specs.{Bytes.{unit_at}, Making.{first_view}}
+use Rattle.df_rows.{specs.{declared.command.Command.{Command as Change}, Tables.{Table, with_commands}}, proofs.Laws.{commands_more}}
+use Rattle.df_session.{specs.{Acknowledging.{WereAnswered}, Anew.{begun_after}, Below.{DataFile, restarted, told_after}, Following.{MayOpen}, Found.{FoundFile, no_calls}, Keeping.{over}, Laws.{CallsKeep}, Links.{CallsMade, events_made}, Making.{file_of}, Opened.{StopsOpening}, Programs.{FileRun, IsSession, LooksOnly, Serves, ServedFile, StopsInOpen, calls_in_run}, Serving.{Whole, format}, Session.{Exchange}}, proofs.Laws.{added_is_told}}
+use Rattle.df_table.{specs.{declared.ending.Ending.TheVariants.{Disk}, declared.status.Status.{Status}, Keeping.{AreChanges, KeepsTable}, Laws.{FindsIn}, Outside.{Outside}, Run.{DoesTable, ServesTable, TableOutcome}, Table.{IsObjectTable, empty_table}}, proofs.Laws.{Has, KeptOn, Order, OwnView, behind_barrier, cut_order, each_order, ends_order, finds, first_is_empty, found_is_table, found_of, found_own, here, is_shown, kept_anew, kept_on, leaving_keeps_table, may, mends_order, none_taken, order_as, shown_there, stopped, synced, view_has, were_since}}
 use Rattle.df_table.specs.Outside as table
-use Rattle.df_table.specs.Run.{DoesTable, ServesTable, TableOutcome}
-use Rattle.df_table.specs.Table.{IsObjectTable, empty_table}
-use Rattle.df_table.proofs.Laws.{Has, KeptOn, Order, OwnView, behind_barrier, cut_order, each_order, ends_order, finds, first_is_empty, found_is_table, found_of, found_own, here, is_shown, kept_anew, kept_on, leaving_keeps_table, may, mends_order, none_taken, order_as, shown_there, stopped, synced, view_has, were_since}
-use Rattle.df_lifetime.specs.Life.{AreMade, Chapter, Extent, GoesAlong, HaveAnswers, IsInOrder, Life, MayTake, ShowsFile, ToAMoment, ToItsEnd}
-use Rattle.df_lifetime.specs.Life.Life.{Begun, Ended, Made, Opened, Ran, Spared, Stopped, Taken}
+use Rattle.df_lifetime.{specs.{Life.{AreMade, Chapter, Extent, GoesAlong, HaveAnswers, IsInOrder, Life, MayTake, ShowsFile, ToAMoment, ToItsEnd}, Life.Life.{Begun, Ended, Made, Opened, Ran, Spared, Stopped, Taken}, Programs.{CopyDoesAs, CopyGoesAs, TableDoesAs, TableGoesAs}, Tables.{AsksNothing, CopiesLeaveIt, EveryTableGoesOn, IsTableLife, KeepsCalls, KeepsChapter, KeepsOfRun, LeavesIt, LeavingRunsKeepIt, MayHaveTable, NextRunServesIt, QuietRunsLeaveIt, TableChapter, TableGoesOn, TableRunsKeepIt, WordsLeaveIt, no_changes}, Words.{ComesAs, GoesAs, IsQuiet, Outcome, WorksAs, outcome_of}}, proofs.{Along.{after_along, along_on, answered_along, extends_along, moment_along, one_end}, Bases.{told_over}, Lives.{every_life_is_in_order, left_by, other_same}, Orders.{taken_in_order}}}
 use Rattle.df_program.specs.Two as two
 use Rattle.df_copy.specs.Run.{CopyOutcome, DoesCopy}
 use Rattle.df_copy.specs.declared.status.Status as copy_status
 use Rattle.df_top.specs.Outside as top
-use Rattle.df_top.specs.Run.{ComesTo, Works}
-use Rattle.df_top.specs.declared.mode.Mode.{Mode}
-use Rattle.df_top.specs.declared.mode.Mode.TheVariants.{Format, Inspect, Paced, Recover, Run, Scrub, Upgrade, Workload}
+use Rattle.df_top.specs.{Run.{ComesTo, Works}, declared.mode.Mode.{Mode}, declared.mode.Mode.TheVariants.{Format, Inspect, Paced, Recover, Run, Scrub, Upgrade, Workload}}
 use Rattle.df_top.specs.declared.status.Status as top_status
-use Rattle.df_lifetime.specs.Programs.{CopyDoesAs, CopyGoesAs, TableDoesAs, TableGoesAs}
-use Rattle.df_lifetime.specs.Tables.{AsksNothing, CopiesLeaveIt, EveryTableGoesOn, IsTableLife, KeepsCalls, KeepsChapter, KeepsOfRun, LeavesIt, LeavingRunsKeepIt, MayHaveTable, NextRunServesIt, QuietRunsLeaveIt, TableChapter, TableGoesOn, TableRunsKeepIt, WordsLeaveIt, no_changes}
-use Rattle.df_lifetime.specs.Words.{ComesAs, GoesAs, IsQuiet, Outcome, WorksAs, outcome_of}
-use Rattle.df_lifetime.proofs.Along.{after_along, along_on, answered_along, extends_along, moment_along, one_end}
-use Rattle.df_lifetime.proofs.Bases.{told_over}
-use Rattle.df_lifetime.proofs.Lives.{every_life_is_in_order, left_by, other_same}
-use Rattle.df_lifetime.proofs.Orders.{taken_in_order}
 
 -- ---- after a run that made no calls, at a moment of it or at its end
 

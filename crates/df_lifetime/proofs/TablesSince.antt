@@ -1,44 +1,16 @@
 -- A table that an opening finds after damage is that of a view which the file had: each block that it read is the one that was written there with the known checksum.
 use Rattle.std.proofs.Common.{◌≡◌, ◌⊎◌, inl, inr, List, [], ◌∷◌, ◌++◌, Some, Ok, Err, refl, sym, ◌∙◌, ap, subst}
 use Rattle.df_base.specs.Log.{Log, Sync, add}
-use Rattle.df_disk.specs.Adds.{after_all}
-use Rattle.df_disk.specs.Told.{Told}
+use Rattle.df_disk.specs.{Adds.{after_all}, Told.{Told}}
 use Rattle.df_history.specs.Histories.{Among, InHistoryPool, InHistoryPools, NoChanceOver, all_settled}
 use Rattle.df_layout.specs.declared.layout.Layout.{Layout}
-use Rattle.df_theory.specs.Chance.{InImages}
-use Rattle.df_theory.specs.Found.{IsFound}
-use Rattle.df_theory.specs.Holds.{Stands}
-use Rattle.df_theory.specs.UnitLog.{UnitLog, settled}
-use Rattle.df_theory.specs.Units.{AnyUnit, BlockPlace, BlockUnit, Place, Units}
-use Rattle.df_theory.specs.View.{View}
-use Rattle.df_theory.proofs.Laws.{pool_pools}
+use Rattle.df_theory.{specs.{Chance.{InImages}, Found.{IsFound}, Holds.{Stands}, UnitLog.{UnitLog, settled}, Units.{AnyUnit, BlockPlace, BlockUnit, Place, Units}, View.{View}}, proofs.Laws.{pool_pools}}
 use Rattle.df_units.specs.Bytes.{unit_at}
 use Rattle.df_model.specs.Memory.{memory_of}
 use Rattle.df_rows.specs.Tables.{Table}
-use Rattle.df_session.specs.Anew.{begun_after}
-use Rattle.df_session.specs.Begun.{begun_work}
-use Rattle.df_session.specs.Below.{DataFile, FindsSince, IsOpened, shape, spelling, units_logs}
-use Rattle.df_session.specs.Found.{FoundFile}
-use Rattle.df_session.specs.Links.{events_made}
-use Rattle.df_session.specs.Reading.{shown_of}
-use Rattle.df_session.specs.Serving.{Firm, Whole}
-use Rattle.df_session.proofs.Laws.{file_there}
-use Rattle.df_table.specs.declared.ending.Ending.TheVariants.{Disk}
-use Rattle.df_table.specs.declared.status.Status.{Status}
-use Rattle.df_table.specs.Laws.{FindsIn}
-use Rattle.df_table.specs.Opening.{FindsTable}
-use Rattle.df_table.specs.Outside.{Outside}
-use Rattle.df_table.specs.Run.{ServesTable}
-use Rattle.df_table.specs.Table.{IsObjectTable, IsTableBy, references_of}
-use Rattle.df_table.proofs.Laws.{OneBlock, bodies_as, found_is_table, made_on_found, one_table_by, serves_finds, stands_shown, table_as, table_seen}
-use Rattle.df_lifetime.specs.Hurt.{at_end}
-use Rattle.df_lifetime.specs.Life.{ShowsFile, ToItsEnd}
-use Rattle.df_lifetime.specs.Life.Life.{Opened}
-use Rattle.df_lifetime.specs.Since.{IsTableOfLogs, ServedTableBegins, ServedTableWasHad}
-use Rattle.df_lifetime.proofs.Agains.{every_life_is_lived, every_open_finds_since, may_reopen, own_rooms}
-use Rattle.df_lifetime.proofs.Files.{one_file}
-use Rattle.df_lifetime.proofs.HurtSessions.{shows_begun}
-use Rattle.df_lifetime.proofs.TableLives.{keeps_calls}
+use Rattle.df_session.{specs.{Anew.{begun_after}, Begun.{begun_work}, Below.{DataFile, FindsSince, IsOpened, shape, spelling, units_logs}, Found.{FoundFile}, Links.{events_made}, Reading.{shown_of}, Serving.{Firm, Whole}}, proofs.Laws.{file_there}}
+use Rattle.df_table.{specs.{declared.ending.Ending.TheVariants.{Disk}, declared.status.Status.{Status}, Laws.{FindsIn}, Opening.{FindsTable}, Outside.{Outside}, Run.{ServesTable}, Table.{IsObjectTable, IsTableBy, references_of}}, proofs.Laws.{OneBlock, bodies_as, found_is_table, made_on_found, one_table_by, serves_finds, stands_shown, table_as, table_seen}}
+use Rattle.df_lifetime.{specs.{Hurt.{at_end}, Life.{ShowsFile, ToItsEnd}, Life.Life.{Opened}, Since.{IsTableOfLogs, ServedTableBegins, ServedTableWasHad}}, proofs.{Agains.{every_life_is_lived, every_open_finds_since, may_reopen, own_rooms}, Files.{one_file}, HurtSessions.{shows_begun}, TableLives.{keeps_calls}}}
 
 -- ---- what is shown, or was settled, was written
 

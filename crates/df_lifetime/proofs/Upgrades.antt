@@ -1,41 +1,15 @@
 -- Where the word `upgrade` ends, a file of version 2 may be taken; and where it is stopped, too, or the file of version 1 is there.
-use Rattle.std.proofs.Common.{◌≡◌, ◌⊎◌, inl, inr, ℕ, List, [], ◌∷◌, ◌++◌, Some, length-append, refl, sym, ◌∙◌, ap, subst, arith}
-use Rattle.std.specs.Prelude.{length}
-use Rattle.df_base.specs.Image.{Image, IsImage}
-use Rattle.df_base.specs.Log.{Event, IsLeft, Log, Sync, now}
-use Rattle.df_base.specs.Moments.{EachMoment, Extends}
-use Rattle.df_base.proofs.Laws.{started, one_some}
-use Rattle.df_disk.specs.Told.{Told, did}
-use Rattle.df_disk.specs.Adds.{after_all}
+use Rattle.std.{proofs.Common.{◌≡◌, ◌⊎◌, inl, inr, ℕ, List, [], ◌∷◌, ◌++◌, Some, length-append, refl, sym, ◌∙◌, ap, subst, arith}, specs.Prelude.{length}}
+use Rattle.df_base.{specs.{Image.{Image, IsImage}, Log.{Event, IsLeft, Log, Sync, now}, Moments.{EachMoment, Extends}}, proofs.Laws.{started, one_some}}
+use Rattle.df_disk.specs.{Told.{Told, did}, Adds.{after_all}}
 use Rattle.df_layout.specs.declared.layout.Layout.{Layout}
-use Rattle.df_theory.specs.Device.{NoChanceOf}
-use Rattle.df_theory.specs.Found.{IsClean, IsFound}
-use Rattle.df_theory.specs.Holds.{Stands}
-use Rattle.df_theory.specs.Next.{IsSameBare}
-use Rattle.df_theory.specs.Units.{BlockPlace, Units}
-use Rattle.df_theory.specs.Upgrades.{as_version}
-use Rattle.df_theory.specs.View.{View}
+use Rattle.df_theory.specs.{Device.{NoChanceOf}, Found.{IsClean, IsFound}, Holds.{Stands}, Next.{IsSameBare}, Units.{BlockPlace, Units}, Upgrades.{as_version}, View.{View}}
 use Rattle.df_units.specs.Bytes.{unit_at}
 use Rattle.df_model.specs.Result.{AgreeReads}
-use Rattle.df_session.specs.Below.{AreDistinctUnits, DataFile, State as Replica, restarted, shape, told_after}
-use Rattle.df_session.specs.Leaving.{SparesReads, image_after}
-use Rattle.df_session.specs.Serving.{format}
-use Rattle.df_session.proofs.Laws.{added_is_told, honest_stays, shown_after}
-use Rattle.df_upgrade.specs.Base.{base_fields}
-use Rattle.df_upgrade.specs.Below.{IsOpenedAs}
-use Rattle.df_upgrade.specs.Upgraded.{UpgradesAll}
-use Rattle.df_upgrade.specs.Upgrading.{IsLeftByUpgrade, UpgradeStaysBare, UpgradesAnew, second, upgraded}
-use Rattle.df_top.specs.Upgrading.{ComesToUpgrade, UpgradesOwn}
-use Rattle.df_top.specs.declared.status.Status.{Status}
-use Rattle.df_top.specs.declared.status.Status.TheVariants.{Done}
-use Rattle.df_lifetime.specs.Life.{GoesAlong}
-use Rattle.df_lifetime.specs.Life.Life.{Taken}
-use Rattle.df_lifetime.specs.Upgraded.{DoneIsUpgraded, IsOld, IsUpgraded, StoppedIsUpgraded, UpgradedBegins}
-use Rattle.df_lifetime.specs.Words.{UpgradeWord}
-use Rattle.df_lifetime.proofs.Along.{after_along, moment_along}
-use Rattle.df_lifetime.proofs.Reborn.{begins_history}
-use Rattle.df_lifetime.proofs.Files.{one_file}
-use Rattle.df_lifetime.proofs.Openings.{distinct_left}
+use Rattle.df_session.{specs.{Below.{AreDistinctUnits, DataFile, State as Replica, restarted, shape, told_after}, Leaving.{SparesReads, image_after}, Serving.{format}}, proofs.Laws.{added_is_told, honest_stays, shown_after}}
+use Rattle.df_upgrade.specs.{Base.{base_fields}, Below.{IsOpenedAs}, Upgraded.{UpgradesAll}, Upgrading.{IsLeftByUpgrade, UpgradeStaysBare, UpgradesAnew, second, upgraded}}
+use Rattle.df_top.specs.{Upgrading.{ComesToUpgrade, UpgradesOwn}, declared.status.Status.{Status}, declared.status.Status.TheVariants.{Done}}
+use Rattle.df_lifetime.{specs.{Life.{GoesAlong}, Life.Life.{Taken}, Upgraded.{DoneIsUpgraded, IsOld, IsUpgraded, StoppedIsUpgraded, UpgradedBegins}, Words.{UpgradeWord}}, proofs.{Along.{after_along, moment_along}, Reborn.{begins_history}, Files.{one_file}, Openings.{distinct_left}}}
 
 -- ---- blocks
 

@@ -1,23 +1,11 @@
 -- Each word that works on a file is a run over it.
 use Rattle.std.proofs.Common.{◌≡◌, inl, inr, [], ◌∷◌, Option, Some, refl, sym, ◌∙◌, ap, subst}
 use Rattle.df_base.specs.Log.{Sync}
-use Rattle.df_disk.specs.Adds.{AddsPart}
-use Rattle.df_disk.specs.Told.{Told, did}
+use Rattle.df_disk.specs.{Adds.{AddsPart}, Told.{Told, did}}
 use Rattle.df_layout.specs.declared.layout.Layout.{Layout}
-use Rattle.df_pace.specs.Beats.{idle}
-use Rattle.df_pace.specs.declared.pace.Pace.{Pace}
-use Rattle.df_session.specs.Found.{FoundFile, no_calls}
-use Rattle.df_session.specs.Laws.{CallsKeep}
-use Rattle.df_session.specs.Links.{CallsMade}
-use Rattle.df_session.specs.Opened.{StopsOpening}
-use Rattle.df_session.specs.Programs.{FileRun, IsSession, LooksOnly, Serves, StopsInOpen}
-use Rattle.df_top.specs.Acknowledging.{run_calls, script_calls}
-use Rattle.df_top.specs.Opening.{StopsBefore}
-use Rattle.df_top.specs.Outside.{Outside}
-use Rattle.df_top.specs.Run.{ComesTo, ServesScript, Works}
-use Rattle.df_top.specs.declared.mode.Mode.{Mode}
-use Rattle.df_top.specs.declared.mode.Mode.TheVariants.{Format, Inspect, Paced, Recover, Run, Scrub, Upgrade, Workload}
-use Rattle.df_top.specs.declared.status.Status.{Status}
+use Rattle.df_pace.specs.{Beats.{idle}, declared.pace.Pace.{Pace}}
+use Rattle.df_session.specs.{Found.{FoundFile, no_calls}, Laws.{CallsKeep}, Links.{CallsMade}, Opened.{StopsOpening}, Programs.{FileRun, IsSession, LooksOnly, Serves, StopsInOpen}}
+use Rattle.df_top.specs.{Acknowledging.{run_calls, script_calls}, Opening.{StopsBefore}, Outside.{Outside}, Run.{ComesTo, ServesScript, Works}, declared.mode.Mode.{Mode}, declared.mode.Mode.TheVariants.{Format, Inspect, Paced, Recover, Run, Scrub, Upgrade, Workload}, declared.status.Status.{Status}}
 use Rattle.df_lifetime.specs.Words.{ComesAs, GoesAs, IsQuiet, Outcome, WordIsRun, WorksAs, outcome_of}
 
 -- ---- kinds of runs

@@ -1,19 +1,7 @@
 -- The first element that passes a test, in a list that is two.
-use Rattle.std.proofs.Common.{◌≡◌, ℕ, suc, ◌+◌, ◌-◌, ◌^◌, ◌<◌, ◌≤◌, Bool, true, false, not, cond, nat_lt, eqb, List, [], ◌∷◌, ◌++◌, length, get_or, take, drop, refl, sym, ap, ◌∙◌, arith, length-append, length-drop, eqb-true}
-use Rattle.std.specs.Prelude.{None, Some, decimal}
-use Rattle.std.specs.List.{before_first, after_first, position_or_len, position}
-use Rattle.std.specs.Char.{digit_value}
-use Rattle.std.specs.Str.Parse.{AllDigits}
-use Rattle.std.proofs.lemmas.List.{take_at, take_all}
-use Rattle.std.proofs.Math.Seq.{drop-append-add}
-use Rattle.std.proofs.lemmas.Bool.{eqb-true}
-use Rattle.std.proofs.lemmas.List.Sums.{split_at_first, passes_at_first}
-use Rattle.std.proofs.lemmas.Str.Parse.{digit_from_value}
-use Rattle.std.proofs.lemmas.Fmt.{decimal_is_IsNumeral_wide}
-use Rattle.std.proofs.lemmas.Bool.Decides.{nat_tests}
+use Rattle.std.{proofs.{Common.{◌≡◌, ℕ, suc, ◌+◌, ◌-◌, ◌^◌, ◌<◌, ◌≤◌, Bool, true, false, not, cond, nat_lt, eqb, List, [], ◌∷◌, ◌++◌, length, get_or, take, drop, refl, sym, ap, ◌∙◌, arith, length-append, length-drop, eqb-true}, lemmas.List.{take_at, take_all}, Math.Seq.{drop-append-add}, lemmas.Bool.{eqb-true}, lemmas.List.Sums.{split_at_first, passes_at_first}, lemmas.Str.Parse.{digit_from_value}, lemmas.Fmt.{decimal_is_IsNumeral_wide}, lemmas.Bool.Decides.{nat_tests}}, specs.{Prelude.{None, Some, decimal}, List.{before_first, after_first, position_or_len, position}, Char.{digit_value}, Str.Parse.{AllDigits}}}
 use borrow.Author.Tests.{ltb-true}
-use Rattle.df_lines.specs.Words.{is_space, space_in, HasNoSpace, Cuts}
-use Rattle.df_lines.proofs.Decimals.{below_wide}
+use Rattle.df_lines.{specs.Words.{is_space, space_in, HasNoSpace, Cuts}, proofs.Decimals.{below_wide}}
 
 head_fails : (b : Bool) (m n : ℕ) → cond (not b) (1 + m) 0 ≡ suc n → (b ≡ false) × (m ≡ n)
 head_fails true m n h = absurd (omega arith)

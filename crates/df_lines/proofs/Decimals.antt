@@ -1,13 +1,5 @@
 -- The one spelling of a number, read from its front.
-use Rattle.std.proofs.Common.{◌≡◌, ℕ, ◌+◌, ◌*◌, ◌/◌, ◌%◌, ◌^◌, ◌<◌, ◌≤◌, zero, suc, List, [], ◌∷◌, ◌++◌, ◌⊎◌, inl, inr, length, get_or, take, drop, refl, sym, subst, ap, ◌∙◌, append_assoc, add-one, arith}
-use Rattle.std.specs.Prelude.{decimal, Option, None, Some, IfSome, IfNone, Result, Ok, Err}
-use Rattle.std.specs.Option.{SomeIff}
-use Rattle.std.specs.Result.{OkIff, result_ok}
-use Rattle.std.specs.Char.{digit_value}
-use Rattle.std.specs.Str.Parse.{AllDigits, digits_value_after}
-use Rattle.std.proofs.lemmas.Str.Parse.{digit_from_value}
-use Rattle.std.proofs.Math.Seq.{split_at}
-use Rattle.std.proofs.lemmas.Fmt.{decimal_is_IsNumeral_wide, decimal_step_wide, decimal_by_steps_wide, decimal_digit}
+use Rattle.std.{proofs.{Common.{◌≡◌, ℕ, ◌+◌, ◌*◌, ◌/◌, ◌%◌, ◌^◌, ◌<◌, ◌≤◌, zero, suc, List, [], ◌∷◌, ◌++◌, ◌⊎◌, inl, inr, length, get_or, take, drop, refl, sym, subst, ap, ◌∙◌, append_assoc, add-one, arith}, lemmas.Str.Parse.{digit_from_value}, Math.Seq.{split_at}, lemmas.Fmt.{decimal_is_IsNumeral_wide, decimal_step_wide, decimal_by_steps_wide, decimal_digit}}, specs.{Prelude.{decimal, Option, None, Some, IfSome, IfNone, Result, Ok, Err}, Option.{SomeIff}, Result.{OkIff, result_ok}, Char.{digit_value}, Str.Parse.{AllDigits, digits_value_after}}}
 
 pub below_wide : (n : ℕ) → n < 2 ^ 128 → n < 10 ^ 64
 below_wide n fits = omega arith

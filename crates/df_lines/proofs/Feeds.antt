@@ -1,9 +1,5 @@
 -- The first byte 10 as `memchr` gives it, and as `position` does.
-use Rattle.std.proofs.Common.{◌≡◌, ◌<◌, ℕ, Bool, true, false, cond, nat_lt, List, length, refl, arith}
-use Rattle.std.specs.Prelude.{Option, None, Some}
-use Rattle.std.specs.List.{position_or_len, position}
-use Rattle.std.proofs.lemmas.List.Sums.{position_or_len_is}
-use Rattle.std.proofs.lemmas.Bool.Decides.{nat_tests}
+use Rattle.std.{proofs.{Common.{◌≡◌, ◌<◌, ℕ, Bool, true, false, cond, nat_lt, List, length, refl, arith}, lemmas.List.Sums.{position_or_len_is}, lemmas.Bool.Decides.{nat_tests}}, specs.{Prelude.{Option, None, Some}, List.{position_or_len, position}}}
 use Rattle.memchr.specs.Find.{IsFirstByte, is_byte}
 use Rattle.df_lines.specs.Window.{is_feed}
 

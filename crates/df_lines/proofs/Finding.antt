@@ -1,11 +1,6 @@
 -- How the search for a line's end goes on from read to read.
-use Rattle.std.proofs.Common.{◌≡◌, ℕ, ◌+◌, ◌-◌, ◌<◌, ◌≤◌, IsTrue, List, length, take, drop, sym, ap, ◌∙◌, arith, length-drop}
-use Rattle.std.specs.Prelude.{Option, None, Some, position}
-use Rattle.std.proofs.lemmas.List.{take-append-drop, take_rest, length-take-le}
-use Rattle.df_lines.specs.Room.{Contents, IsAtEnd}
-use Rattle.df_lines.specs.Text.{unread}
-use Rattle.df_lines.specs.Window.{is_feed, line_end}
-use Rattle.df_lines.proofs.Cutting.{position_past, position_none, position_some}
+use Rattle.std.{proofs.{Common.{◌≡◌, ℕ, ◌+◌, ◌-◌, ◌<◌, ◌≤◌, IsTrue, List, length, take, drop, sym, ap, ◌∙◌, arith, length-drop}, lemmas.List.{take-append-drop, take_rest, length-take-le}}, specs.Prelude.{Option, None, Some, position}}
+use Rattle.df_lines.{specs.{Room.{Contents, IsAtEnd}, Text.{unread}, Window.{is_feed, line_end}}, proofs.Cutting.{position_past, position_none, position_some}}
 
 -- some reads after the start: nothing is lost, and the first bytes are known to have no byte 10
 pub record Searches {S : Type 0} (first source : S) (start now : Contents) (before after : Option (List ℕ)) (faults_before faults_after seen : ℕ) : Type 0 where

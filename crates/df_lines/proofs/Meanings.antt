@@ -1,10 +1,6 @@
 -- What a line says, from its words.
-use Rattle.std.proofs.Common.{◌≡◌, inl, inr, ℕ, ◌<◌, if◌then◌else◌, List, [], ◌∷◌, ◌++◌, length, refl, sym, ap, subst, ◌∙◌, arith}
-use Rattle.std.specs.Prelude.{codes}
-use Rattle.std.specs.Str.{bytes_eq}
-use Rattle.df_lines.specs.Grammar.{Said, Append, Stage, Flush, Reply, Block, Release, Checkpoint, Step, Prepare, Lookup, Read, Scrub, Recent, SaysLine}
-use Rattle.df_lines.specs.Words.{Cuts}
-use Rattle.df_lines.proofs.Naming.{Begun, bare_name, cut_name}
+use Rattle.std.{proofs.Common.{◌≡◌, inl, inr, ℕ, ◌<◌, if◌then◌else◌, List, [], ◌∷◌, ◌++◌, length, refl, sym, ap, subst, ◌∙◌, arith}, specs.{Prelude.{codes}, Str.{bytes_eq}}}
+use Rattle.df_lines.{specs.{Grammar.{Said, Append, Stage, Flush, Reply, Block, Release, Checkpoint, Step, Prepare, Lookup, Read, Scrub, Recent, SaysLine}, Words.{Cuts}}, proofs.Naming.{Begun, bare_name, cut_name}}
 
 -- ---- the first word
 

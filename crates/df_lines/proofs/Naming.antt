@@ -1,8 +1,6 @@
 -- The name that a line begins with: the line is its name, or its name with a space and further words after it.
-use Rattle.std.proofs.Common.{◌≡◌, ◌⊎◌, inl, inr, ℕ, List, ◌∷◌, ◌++◌, length, take, sym, ap, subst, ◌∙◌, arith, length-append}
-use Rattle.std.proofs.lemmas.List.{take_all}
-use Rattle.df_lines.specs.Words.{HasNoSpace, Cuts}
-use Rattle.df_lines.proofs.Cutting.{no_cut, one_cut, one_split}
+use Rattle.std.proofs.{Common.{◌≡◌, ◌⊎◌, inl, inr, ℕ, List, ◌∷◌, ◌++◌, length, take, sym, ap, subst, ◌∙◌, arith, length-append}, lemmas.List.{take_all}}
+use Rattle.df_lines.{specs.Words.{HasNoSpace, Cuts}, proofs.Cutting.{no_cut, one_cut, one_split}}
 
 pub record Begun (line named : List ℕ) : Type 0 where
   pub rest : List ℕ

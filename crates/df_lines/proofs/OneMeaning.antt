@@ -1,16 +1,7 @@
 -- A line says one thing, a text has one list of lines, and one script.
-use Rattle.std.proofs.Common.{◌≡◌, ◌⊎◌, ℕ, ◌-◌, ◌^◌, ◌<◌, inl, inr, List, [], ◌∷◌, ◌++◌, refl, sym, ap, subst, ◌∙◌, arith}
-use Rattle.std.specs.Prelude.{decimal, codes, Ok}
+use Rattle.std.{proofs.Common.{◌≡◌, ◌⊎◌, ℕ, ◌-◌, ◌^◌, ◌<◌, inl, inr, List, [], ◌∷◌, ◌++◌, refl, sym, ap, subst, ◌∙◌, arith}, specs.Prelude.{decimal, codes, Ok}}
 use Rattle.hex.specs.Hex.{decode_of}
-use Rattle.df_lines.specs.Grammar.{AreRequest, IsBody, Said, spaced, Append, Stage, Flush, Reply, Block, Release, Checkpoint, Step, Prepare, Lookup, Read, Scrub, Recent, SaysLine}
-use Rattle.df_lines.specs.Laws.{OneLineMeaning, OneListOfLines, OneScript, WholeScript}
-use Rattle.df_lines.specs.Script.{BeginsWithLines, IsLine, IsRefused}
-use Rattle.df_lines.specs.Text.{line_of, after_line, taken}
-use Rattle.df_lines.proofs.Cutting.{decimal_no_space, one_split}
-use Rattle.df_lines.proofs.Decimals.{one_number}
-use Rattle.df_lines.proofs.WordsBehind.{appended, same_rest, staged}
-use Rattle.df_lines.proofs.Meanings.{begun, name_of, first_of, second_of, body_of, line_named, is_named, nothing_said}
-use Rattle.df_lines.proofs.Naming.{one_name}
+use Rattle.df_lines.{specs.{Grammar.{AreRequest, IsBody, Said, spaced, Append, Stage, Flush, Reply, Block, Release, Checkpoint, Step, Prepare, Lookup, Read, Scrub, Recent, SaysLine}, Laws.{OneLineMeaning, OneListOfLines, OneScript, WholeScript}, Script.{BeginsWithLines, IsLine, IsRefused}, Text.{line_of, after_line, taken}}, proofs.{Cutting.{decimal_no_space, one_split}, Decimals.{one_number}, WordsBehind.{appended, same_rest, staged}, Meanings.{begun, name_of, first_of, second_of, body_of, line_named, is_named, nothing_said}, Naming.{one_name}}}
 
 dash_is_no_hex : (bytes : List ℕ) → decode_of (codes "-") ≡ Ok bytes → ⊥
 dash_is_no_hex bytes is = cc is

@@ -1,7 +1,5 @@
 -- What a buffer holds after bytes were taken from it, and after a read into it.
-use Rattle.std.proofs.Common.{◌≡◌, ℕ, ◌+◌, ◌-◌, ◌≤◌, List, ◌++◌, length, take, drop, refl, sym, ap, ◌∙◌, append_assoc, arith, length-take, []}
-use Rattle.std.specs.Prelude.{Option, None, Some}
-use Rattle.std.proofs.lemmas.List.{take-append-drop, take-take, drop-take, drop-drop}
+use Rattle.std.{proofs.{Common.{◌≡◌, ℕ, ◌+◌, ◌-◌, ◌≤◌, List, ◌++◌, length, take, drop, refl, sym, ap, ◌∙◌, append_assoc, arith, length-take, []}, lemmas.List.{take-append-drop, take-take, drop-take, drop-drop}}, specs.Prelude.{Option, None, Some}}
 use Rattle.df_base.specs.Streams.{Gives}
 use Rattle.df_lines.specs.Text.{unread}
 

@@ -1,18 +1,9 @@
 -- The next line of a text, from what a window holds of it.
-use Rattle.std.proofs.Common.{◌≡◌, ◌≢◌, ℕ, ◌+◌, ◌-◌, ◌<◌, inl, inr, IsTrue, List, [], ◌++◌, length, take, drop, refl, sym, ap, subst, ◌∙◌, arith, length-append, length-drop}
-use Rattle.std.proofs.lemmas.List.{length-take-le}
-use Rattle.std.specs.Prelude.{Option, None, Some, Ok}
-use Rattle.std.proofs.lemmas.List.{append-nil, drop_all, take-append-le, drop-append-le}
+use Rattle.std.{proofs.{Common.{◌≡◌, ◌≢◌, ℕ, ◌+◌, ◌-◌, ◌<◌, inl, inr, IsTrue, List, [], ◌++◌, length, take, drop, refl, sym, ap, subst, ◌∙◌, arith, length-append, length-drop}, lemmas.List.{length-take-le, append-nil, drop_all, take-append-le, drop-append-le}}, specs.Prelude.{Option, None, Some, Ok}}
 use Rattle.df_base.specs.declared.Failed.{Failed}
-use Rattle.df_lines.specs.declared.next.Next.{Next}
+use Rattle.df_lines.{specs.{declared.next.Next.{Next}, Kind.{Grammar}, Reads.{GivesNext, Takes, text_after}, Room.{Contents, ReaderParts, IsAtEnd, HasTextToCome}, Text.{line_of, after_line, unread}, Window.{is_feed, line_end, IsWholeLine, IsOverfull}}, proofs.Cutting.{position_past, position_within, position_le}}
 use Rattle.df_lines.specs.declared.next.Next.TheVariants as nexts
-use Rattle.df_lines.specs.Kind.{Grammar}
-use Rattle.df_lines.specs.Reads.{GivesNext, Takes, text_after}
-use Rattle.df_lines.specs.Room.{Contents, ReaderParts, IsAtEnd, HasTextToCome}
-use Rattle.df_lines.specs.Text.{line_of, after_line, unread}
 use Rattle.df_lines.specs.Text as text
-use Rattle.df_lines.specs.Window.{is_feed, line_end, IsWholeLine, IsOverfull}
-use Rattle.df_lines.proofs.Cutting.{position_past, position_within, position_le}
 
 -- the text whose front is held
 pub parts_of : (bytes all : List ℕ) (left : Option (List ℕ)) → unread bytes left ≡ Some all → (rest : List ℕ) × (left ≡ Some rest) × (all ≡ bytes ++ rest)

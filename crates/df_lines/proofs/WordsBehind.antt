@@ -1,9 +1,6 @@
 -- The words after a line's name.
-use Rattle.std.proofs.Common.{◌≡◌, ℕ, ◌+◌, ◌^◌, ◌<◌, ◌≤◌, List, [], ◌∷◌, ◌++◌, sym, subst, arith}
-use Rattle.std.specs.Prelude.{decimal, codes}
-use Rattle.df_lines.specs.Grammar.{AreRequest, AreSized, IsBody, Append, Block, Checkpoint, Reply, SaysLine, Stage}
-use Rattle.df_lines.specs.Words.{HasNoSpace, Cuts}
-use Rattle.df_lines.proofs.Cutting.{decimal_no_space, no_cut, one_cut}
+use Rattle.std.{proofs.Common.{◌≡◌, ℕ, ◌+◌, ◌^◌, ◌<◌, ◌≤◌, List, [], ◌∷◌, ◌++◌, sym, subst, arith}, specs.Prelude.{decimal, codes}}
+use Rattle.df_lines.{specs.{Grammar.{AreRequest, AreSized, IsBody, Append, Block, Checkpoint, Reply, SaysLine, Stage}, Words.{HasNoSpace, Cuts}}, proofs.Cutting.{decimal_no_space, no_cut, one_cut}}
 
 pub same_rest : (front a b : List ℕ) → front ++ a ≡ front ++ b → a ≡ b
 same_rest [] a b same = same

@@ -1,6 +1,5 @@
 -- A buffer of sectors that is filled one sector after another.
-use Rattle.std.proofs.Common.{◌≡◌, ℕ, zero, suc, ◌+◌, ◌*◌, ◌≤◌, List, ◌++◌, length, take, sym, ap, ◌∙◌, append_assoc, append-nil, arith, add-zero}
-use Rattle.std.proofs.lemmas.Slice.{take-put_mid}
+use Rattle.std.proofs.{Common.{◌≡◌, ℕ, zero, suc, ◌+◌, ◌*◌, ◌≤◌, List, ◌++◌, length, take, sym, ap, ◌∙◌, append_assoc, append-nil, arith, add-zero}, lemmas.Slice.{take-put_mid}}
 use borrow.Rule.Slice.PartMut.{put_mid}
 use Rattle.df_base.specs.Image.{Image, bytes_at}
 

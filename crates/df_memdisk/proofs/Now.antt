@@ -1,8 +1,6 @@
 -- What is shown is what the newest event that changed a sector gave it.
-use Rattle.std.proofs.Common.{◌≡◌, ℕ, ◌==◌, List, [], ◌∷◌, Option, Some, None, Bool, true, false, unwrap_or, refl, sym, ap, ◌∙◌}
-use Rattle.std.specs.Prelude.{if◌then◌else◌}
-use Rattle.df_base.specs.Image.{Image, covers, written, changed}
-use Rattle.df_base.specs.Log.{Event, Write, Sync, Stop, now_of, after_event}
+use Rattle.std.{proofs.Common.{◌≡◌, ℕ, ◌==◌, List, [], ◌∷◌, Option, Some, None, Bool, true, false, unwrap_or, refl, sym, ap, ◌∙◌}, specs.Prelude.{if◌then◌else◌}}
+use Rattle.df_base.specs.{Image.{Image, covers, written, changed}, Log.{Event, Write, Sync, Stop, now_of, after_event}}
 use Rattle.df_memdisk.specs.Newest.{first_some, last_change, given_by, newest_of}
 
 unwrap-first : (a b : Option (List ℕ)) (rest : List ℕ) → unwrap_or (first_some a b) rest ≡ unwrap_or a (unwrap_or b rest)

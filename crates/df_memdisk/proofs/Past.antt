@@ -1,12 +1,7 @@
 -- The events of a past that grows by one, and the last change of a sector in a list that does.
-use Rattle.std.proofs.Common.{◌≡◌, ℕ, ◌+◌, ◌-◌, ◌<◌, ◌≤◌, List, [], ◌∷◌, ◌++◌, length, take, map, get_or, Option, Some, None, refl, sym, ap, ◌∙◌, arith}
-use Rattle.std.specs.Prelude.{reverse}
-use Rattle.std.proofs.lemmas.List.{take_more, map-append, reverse-append}
+use Rattle.std.{proofs.{Common.{◌≡◌, ℕ, ◌+◌, ◌-◌, ◌<◌, ◌≤◌, List, [], ◌∷◌, ◌++◌, length, take, map, get_or, Option, Some, None, refl, sym, ap, ◌∙◌, arith}, lemmas.List.{take_more, map-append, reverse-append}}, specs.Prelude.{reverse}}
 use Rattle.df_base.specs.Log.{Event}
-use Rattle.df_memdisk.specs.History.{changes_of, event_of, events_of}
-use Rattle.df_memdisk.specs.Newest.{first_some, last_change}
-use Rattle.df_memdisk.specs.declared.change.Change.{Change}
-use Rattle.df_memdisk.specs.declared.history.Happened.{Happened}
+use Rattle.df_memdisk.specs.{History.{changes_of, event_of, events_of}, Newest.{first_some, last_change}, declared.change.Change.{Change}, declared.history.Happened.{Happened}}
 
 -- a front of a list and its last element
 take_last : {X : Type 0} → (xs : List X) (k : ℕ) (d : X) → 0 < k → k ≤ length xs → take k xs ≡ take (k - 1) xs ++ get_or xs (k - 1) d ∷ []

@@ -1,11 +1,7 @@
 -- The log of a disk in memory is one that a disk can have.
-use Rattle.std.proofs.Common.{◌≡◌, ℕ, ◌+◌, ◌<◌, true, List, [], ◌∷◌, ◌++◌, length, take, get_or, replicate, refl, sym, ap, subst, ◌∙◌}
-use Rattle.std.proofs.lemmas.List.{take_more, map-append, length-replicate}
-use Rattle.df_base.specs.Image.{IsSector, blank}
-use Rattle.df_base.specs.Log.{Event, AreLoose, loose_of}
-use Rattle.df_base.proofs.Laws.{AreBytes-zeros}
-use Rattle.df_memdisk.specs.History.{changes_of}
-use Rattle.df_memdisk.specs.declared.change.Change.{Change}
+use Rattle.std.proofs.{Common.{◌≡◌, ℕ, ◌+◌, ◌<◌, true, List, [], ◌∷◌, ◌++◌, length, take, get_or, replicate, refl, sym, ap, subst, ◌∙◌}, lemmas.List.{take_more, map-append, length-replicate}}
+use Rattle.df_base.{specs.{Image.{IsSector, blank}, Log.{Event, AreLoose, loose_of}}, proofs.Laws.{AreBytes-zeros}}
+use Rattle.df_memdisk.specs.{History.{changes_of}, declared.change.Change.{Change}}
 
 AreLoose-push : (es : List Event) (cs : List (ℕ × List ℕ)) (c : ℕ × List ℕ) → AreLoose es cs → loose_of es c.0 ≡ true → IsSector c.1 → AreLoose es (cs ++ c ∷ [])
 AreLoose-push es [] c are here whole = (here, whole, tt)

@@ -1,23 +1,8 @@
 -- What a disk shows when an event or a strike is added.
-use Rattle.std.proofs.Common.{◌≡◌, ℕ, ◌≤◌, ◌==◌, Bool, true, false, cond, List, [], ◌∷◌, ◌++◌, length, take, drop, map, Option, Some, None, unwrap_or, refl, sym, ap, ◌∙◌, arith, eq-eqb}
-use Rattle.std.specs.Prelude.{reverse, IfSome, if◌then◌else◌}
-use Rattle.std.proofs.lemmas.List.{take-map, drop-map, reverse-append, reverse-reverse, drop-append-le, length-reverse, length-map, take_all}
-use Rattle.std.proofs.Math.Path.{fun_ext}
-use Rattle.std.proofs.Math.Seq.{drop-length}
-use Rattle.df_base.specs.Image.{Image, blank, changed}
-use Rattle.df_base.specs.Log.{Event, now, now_of, after_event}
+use Rattle.std.{proofs.{Common.{◌≡◌, ℕ, ◌≤◌, ◌==◌, Bool, true, false, cond, List, [], ◌∷◌, ◌++◌, length, take, drop, map, Option, Some, None, unwrap_or, refl, sym, ap, ◌∙◌, arith, eq-eqb}, lemmas.List.{take-map, drop-map, reverse-append, reverse-reverse, drop-append-le, length-reverse, length-map, take_all}, Math.Path.{fun_ext}, Math.Seq.{drop-length}}, specs.Prelude.{reverse, IfSome, if◌then◌else◌}}
+use Rattle.df_base.specs.{Image.{Image, blank, changed}, Log.{Event, now, now_of, after_event}}
 use Rattle.df_disk.specs.Told.{Told, did}
-use Rattle.df_memdisk.specs.History.{event_of, events_of}
-use Rattle.df_memdisk.specs.Newest.{given_by}
-use Rattle.df_memdisk.specs.Struck.{first_events, events_since, strike_of, left_of, shown_after, AreBehind}
-use Rattle.df_memdisk.specs.declared.history.Happened.{Happened}
-use Rattle.df_memdisk.specs.declared.shown.Struck.{Struck}
-use Rattle.df_memdisk.specs.State.{told_by}
-use Rattle.df_memdisk.specs.Strikes.{bytes_by, hit, StrikeShowsLog}
-use Rattle.df_memdisk.specs.declared.strike.Strike.{Strike}
-use Rattle.df_memdisk.specs.declared.strike.Strike.TheVariants.{Fill, Earlier, Like}
-use Rattle.df_memdisk.proofs.Now.{after_is}
-use Rattle.df_memdisk.proofs.Past.{events_of-push}
+use Rattle.df_memdisk.{specs.{History.{event_of, events_of}, Newest.{given_by}, Struck.{first_events, events_since, strike_of, left_of, shown_after, AreBehind}, declared.history.Happened.{Happened}, declared.shown.Struck.{Struck}, State.{told_by}, Strikes.{bytes_by, hit, StrikeShowsLog}, declared.strike.Strike.{Strike}, declared.strike.Strike.TheVariants.{Fill, Earlier, Like}}, proofs.{Now.{after_is}, Past.{events_of-push}}}
 
 -- what is told with this log of a disk that began blank
 abbrev told_with : List Event → Image → Told

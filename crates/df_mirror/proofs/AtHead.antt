@@ -1,44 +1,14 @@
 -- The sessions at the superblock's head, as a table: whose replies are known, and the walk over their places.
-use Rattle.std.proofs.Common.{◌≡◌, ℕ, zero, suc, ◌+◌, ◌-◌, ◌==◌, ◌<◌, ◌≤◌, if◌then◌else◌, List, [], ◌∷◌, length, get_or, map, take, drop, Option, Some, None, sym, ◌∙◌, ap, subst, arith, inl, inr, length-drop, length-take}
-use Rattle.std.proofs.lemmas.List.{get_or-drop, get_or_past, length-map}
-use Rattle.std.proofs.lemmas.List.Elements.{All-get_or}
-use Rattle.std.specs.List.{slice_get}
-use Rattle.std.specs.Prelude.{Result, Ok, Err, OnOk, option_map, slice_index}
-use Rattle.std.proofs.lemmas.Bool.{cases_eq, cases_lt}
-use Rattle.std.proofs.lemmas.Option.{same_Some, slice_get-get_or, slice_get-map, slice_get_within}
+use Rattle.std.{proofs.{Common.{◌≡◌, ℕ, zero, suc, ◌+◌, ◌-◌, ◌==◌, ◌<◌, ◌≤◌, if◌then◌else◌, List, [], ◌∷◌, length, get_or, map, take, drop, Option, Some, None, sym, ◌∙◌, ap, subst, arith, inl, inr, length-drop, length-take}, lemmas.List.{get_or-drop, get_or_past, length-map}, lemmas.List.Elements.{All-get_or}, lemmas.Bool.{cases_eq, cases_lt}, lemmas.Option.{same_Some, slice_get-get_or, slice_get-map, slice_get_within}}, specs.{List.{slice_get}, Prelude.{Result, Ok, Err, OnOk, option_map, slice_index}}}
 use Rattle.df_disk.specs.Told.{Told}
-use Rattle.df_format.specs.declared.kind.Kind.{Kind}
-use Rattle.df_format.specs.declared.kind.Kind.TheVariants.{Block as AsBlock, Prepare, Reply, Trailer}
-use Rattle.df_format.specs.declared.superblock.SuperFields.{SuperFields}
-use Rattle.df_format.specs.Spelling.{IsCheck, no_checksum}
-use Rattle.df_format.specs.SuperRules.{IsUsable}
-use Rattle.df_format.proofs.Laws.{no_check}
-use Rattle.df_journal.specs.Scan.{Scan}
-use Rattle.df_journal.specs.Shows.{ShowsHeader, ShowsPrepare}
-use Rattle.df_sessions.specs.declared.session.Session.{Session}
-use Rattle.df_sessions.specs.Requests.{session_of, sessions_of}
-use Rattle.df_sessions.specs.Table.{Table}
-use Rattle.df_theory.specs.Sessions.{sessions_after}
-use Rattle.df_theory.specs.Units.{AnyUnit, BlockPlace, HeaderPlace, Message, Parts, Place, PreparePlace, ReplyPlace, Units}
+use Rattle.df_format.{specs.{declared.kind.Kind.{Kind}, declared.kind.Kind.TheVariants.{Block as AsBlock, Prepare, Reply, Trailer}, declared.superblock.SuperFields.{SuperFields}, Spelling.{IsCheck, no_checksum}, SuperRules.{IsUsable}}, proofs.Laws.{no_check}}
+use Rattle.df_journal.specs.{Scan.{Scan}, Shows.{ShowsHeader, ShowsPrepare}}
+use Rattle.df_sessions.specs.{declared.session.Session.{Session}, Requests.{session_of, sessions_of}, Table.{Table}}
+use Rattle.df_theory.{specs.{Sessions.{sessions_after}, Units.{AnyUnit, BlockPlace, HeaderPlace, Message, Parts, Place, PreparePlace, ReplyPlace, Units}}, proofs.Laws.{known_one}}
 use Rattle.df_theory.specs.Units as units
-use Rattle.df_theory.proofs.Laws.{known_one}
-use Rattle.df_units.specs.Meaning.{number_of}
-use Rattle.df_units.proofs.Laws.{no_number, one_number}
+use Rattle.df_units.{specs.Meaning.{number_of}, proofs.Laws.{no_number, one_number}}
 use Rattle.df_opening.specs.Below.{shape}
-use Rattle.df_mirror.specs.declared.ending.Ending.{Ending}
-use Rattle.df_mirror.specs.declared.superblock.Superblock.{Superblock}
-use Rattle.df_mirror.specs.Known.{AreShown, ComesBefore, HasSessions, IsKnownAt, IsRecordedReply, IsShownAs}
-use Rattle.df_mirror.specs.Mends.{AreOfKind}
-use Rattle.df_mirror.specs.Outside.{Outside, Tell}
-use Rattle.df_mirror.specs.Walks.{HasHead, HasLater, HasNewer, Mended, MendsRecorded, ShowsKnownReplies, content_of_superblock, superblock_units}
-use Rattle.df_mirror.proofs.Frames.{other_place}
-use Rattle.df_mirror.proofs.Logs.{prepares_shown}
-use Rattle.df_mirror.proofs.Named.{ring_there}
-use Rattle.df_mirror.proofs.Ones.{one_trailer, trailer_there}
-use Rattle.df_mirror.proofs.Orders.{grid_there}
-use Rattle.df_mirror.proofs.Recorded.{recorded_sum}
-use Rattle.df_mirror.proofs.Referenced.{shown_there}
-use Rattle.df_mirror.proofs.Turns.{none_mended, of_one}
+use Rattle.df_mirror.{specs.{declared.ending.Ending.{Ending}, declared.superblock.Superblock.{Superblock}, Known.{AreShown, ComesBefore, HasSessions, IsKnownAt, IsRecordedReply, IsShownAs}, Mends.{AreOfKind}, Outside.{Outside, Tell}, Walks.{HasHead, HasLater, HasNewer, Mended, MendsRecorded, ShowsKnownReplies, content_of_superblock, superblock_units}}, proofs.{Frames.{other_place}, Logs.{prepares_shown}, Named.{ring_there}, Ones.{one_trailer, trailer_there}, Orders.{grid_there}, Recorded.{recorded_sum}, Referenced.{shown_there}, Turns.{none_mended, of_one}}}
 
 -- what stands among the first so many stands there
 front_get : (n : ℕ) (ss : List units.Session) (k : ℕ) (s : units.Session) → slice_get (take n ss) k ≡ Some s → slice_get ss k ≡ Some s

@@ -1,21 +1,12 @@
 -- The chain: what was read of it is shown, no block of it is written over, and each link takes the walk one block further.
-use Rattle.std.proofs.Common.{◌≡◌, ℕ, ◌+◌, ◌-◌, ◌<◌, ◌==◌, ◌||◌, Bool, true, false, List, [], ◌∷◌, length, map, Option, Some, refl, sym, ◌∙◌, ap, subst, arith, inl, inr, eq-eqb, eqb-true}
-use Rattle.std.proofs.lemmas.Bool.{cases_order}
-use Rattle.std.specs.Prelude.{Ok}
-use Rattle.std.specs.List.{list_any}
+use Rattle.std.{proofs.{Common.{◌≡◌, ℕ, ◌+◌, ◌-◌, ◌<◌, ◌==◌, ◌||◌, Bool, true, false, List, [], ◌∷◌, length, map, Option, Some, refl, sym, ◌∙◌, ap, subst, arith, inl, inr, eq-eqb, eqb-true}, lemmas.Bool.{cases_order}}, specs.{Prelude.{Ok}, List.{list_any}}}
 use Rattle.df_layout.specs.declared.damage.Class.TheVariants.{Stale}
-use Rattle.df_format.specs.declared.kind.Kind.{Kind}
-use Rattle.df_format.specs.declared.kind.Kind.TheVariants.{Block as AsBlock, Prepare, Reply, Trailer}
-use Rattle.df_theory.specs.Opens.{AreLinks, Arrives, IsLink, IsShown, ReadsTo}
-use Rattle.df_theory.specs.Shape.{Shape}
-use Rattle.df_theory.specs.Trailer.{InChain, IsCount}
-use Rattle.df_theory.specs.Units.{AnyUnit, Block, BlockPlace, BlockUnit, Content, CopyUnit, HeaderUnit, Place, PreparePlace, PrepareUnit, ReplyPlace, ReplyUnit, Units}
-use Rattle.df_model.proofs.Laws.{count_le}
-use Rattle.df_model.specs.Supply.{Shown, block_given, class_at as class_in, given_if}
+use Rattle.df_format.specs.{declared.kind.Kind.{Kind}, declared.kind.Kind.TheVariants.{Block as AsBlock, Prepare, Reply, Trailer}}
+use Rattle.df_theory.specs.{Opens.{AreLinks, Arrives, IsLink, IsShown, ReadsTo}, Shape.{Shape}, Trailer.{InChain, IsCount}, Units.{AnyUnit, Block, BlockPlace, BlockUnit, Content, CopyUnit, HeaderUnit, Place, PreparePlace, PrepareUnit, ReplyPlace, ReplyUnit, Units}}
+use Rattle.df_model.{proofs.Laws.{count_le}, specs.Supply.{Shown, block_given, class_at as class_in, given_if}}
 use Rattle.df_units.specs.Wanted.{IsOfKind, checksum_of}
 use Rattle.df_grid.specs.Reads.{trailer_alone}
-use Rattle.df_checkpoint.specs.Chain.{asked}
-use Rattle.df_checkpoint.proofs.Laws.{whole_shown}
+use Rattle.df_checkpoint.{specs.Chain.{asked}, proofs.Laws.{whole_shown}}
 use Rattle.df_mirror.specs.Known.{AreShown, IsKnownAt, IsShownAs, IsSparePlace, ShowsTrailer}
 
 -- ---- shown as a block of the trailer

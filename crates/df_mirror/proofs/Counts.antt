@@ -1,15 +1,11 @@
 -- How many blocks the trailer of a superblock has.
-use Rattle.std.proofs.Common.{ℕ, ◌-◌, ◌<◌, ◌≤◌, arith, inl, inr}
-use Rattle.std.proofs.lemmas.Bool.{cases_lt}
-use Rattle.df_format.specs.Copies.{content_with}
-use Rattle.df_format.specs.SuperRules.{IsSuper}
+use Rattle.std.proofs.{Common.{ℕ, ◌-◌, ◌<◌, ◌≤◌, arith, inl, inr}, lemmas.Bool.{cases_lt}}
+use Rattle.df_format.specs.{Copies.{content_with}, SuperRules.{IsSuper}}
 use Rattle.df_theory.specs.Trailer.{IsCount, IsReference}
 use Rattle.df_trailer.specs.Text.{parse_of}
-use Rattle.df_units.specs.Meaning.{layout_of}
-use Rattle.df_units.proofs.Laws.{usable_passes}
+use Rattle.df_units.{specs.Meaning.{layout_of}, proofs.Laws.{usable_passes}}
 use Rattle.df_grid.specs.Laws.{ChainsHaveRoom}
-use Rattle.df_mirror.specs.declared.superblock.Superblock.{Superblock}
-use Rattle.df_mirror.specs.Walks.{IsInsideGrid, content_of_superblock}
+use Rattle.df_mirror.specs.{declared.superblock.Superblock.{Superblock}, Walks.{IsInsideGrid, content_of_superblock}}
 
 module _ (b : Superblock) (usable : IsSuper b.content) where
   pub reference : IsReference (layout_of b.file.layout) (content_of_superblock b)

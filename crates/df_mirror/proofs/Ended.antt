@@ -1,34 +1,15 @@
 -- What the end of a mending says, and whom it blames.
-use Rattle.std.proofs.Common.{◌≡◌, ◌⊎◌, ◌==◌, inl, inr, ℕ, Bool, true, false, List, Option, None, Some, refl, sym, ◌∙◌, ap, subst, eqb-true}
-use Rattle.std.specs.Prelude.{Result, Ok, Err, if◌then◌else◌}
-use Rattle.df_base.specs.Causes.{Blamed, Rose}
-use Rattle.df_base.specs.Image.{Image}
-use Rattle.df_base.specs.Log.{Sync}
+use Rattle.std.{proofs.Common.{◌≡◌, ◌⊎◌, ◌==◌, inl, inr, ℕ, Bool, true, false, List, Option, None, Some, refl, sym, ◌∙◌, ap, subst, eqb-true}, specs.Prelude.{Result, Ok, Err, if◌then◌else◌}}
+use Rattle.df_base.specs.{Causes.{Blamed, Rose}, Image.{Image}, Log.{Sync}}
 use Rattle.df_disk.specs.Told.{Told, after, did}
-use Rattle.df_model.specs.declared.errors.OpenError.{OpenError}
+use Rattle.df_model.specs.{declared.errors.OpenError.{OpenError}, Faults.{is_open_fault}}
 use Rattle.df_model.specs.declared.errors.OpenError.TheVariants as opens
-use Rattle.df_model.specs.Faults.{is_open_fault}
-use Rattle.df_damage.specs.Surveys.{HasFile}
-use Rattle.df_format.specs.SuperRules.{fault_of}
-use Rattle.df_format.specs.declared.superblock.SuperFields.{SuperFields}
-use Rattle.df_format.specs.declared.superblock.SuperFault.TheVariants.{Version as OtherVersion}
+use Rattle.df_damage.specs.{Surveys.{HasFile}, Found.{Syncs, TellsFoundAs}, Opening.{HasSuperAs}}
+use Rattle.df_format.specs.{SuperRules.{fault_of}, declared.superblock.SuperFields.{SuperFields}, declared.superblock.SuperFault.TheVariants.{Version as OtherVersion}}
 use Rattle.df_opening.proofs.Laws.{superblock_refused}
-use Rattle.df_damage.specs.Found.{Syncs, TellsFoundAs}
-use Rattle.df_damage.specs.Opening.{HasSuperAs}
-use Rattle.df_program.specs.Telling.{Blames, PrintsError}
-use Rattle.df_program.specs.Two.{Faults, HasCausesOfTwo, Outside, counts}
-use Rattle.df_program.proofs.Laws.{first_causes, its_blame, neither_causes, no_blame, open_fault, printed_causes, refusal_ends, second_causes, text_ends, unopened_causes}
-use Rattle.df_mirror.specs.declared.ending.Ending.{Ending}
-use Rattle.df_mirror.specs.declared.ending.Ending.TheVariants.{First, Neither, Second, Sink, Unopened}
-use Rattle.df_mirror.specs.declared.status.Status.{Status}
+use Rattle.df_program.{specs.{Telling.{Blames, PrintsError}, Two.{Faults, HasCausesOfTwo, Outside, counts}}, proofs.Laws.{first_causes, its_blame, neither_causes, no_blame, open_fault, printed_causes, refusal_ends, second_causes, text_ends, unopened_causes}}
+use Rattle.df_mirror.specs.{declared.ending.Ending.{Ending}, declared.ending.Ending.TheVariants.{First, Neither, Second, Sink, Unopened}, declared.status.Status.{Status}, Outside.{ended}, declared.superblock.Superblock.{Superblock}, Mends.{AnswersMending, AreInOrder}, Run.{Mirrored, MirroredNothing, Mirrors, RefusesFirstSuperblock, TellsEnd}, Statuses.{AreBlamed, is_first}, Texts.{count_text, neither_text}, Walks.{content_of_superblock}}
 use Rattle.df_mirror.specs.declared.status.Status.TheVariants as ends
-use Rattle.df_mirror.specs.Outside.{ended}
-use Rattle.df_mirror.specs.declared.superblock.Superblock.{Superblock}
-use Rattle.df_mirror.specs.Mends.{AnswersMending, AreInOrder}
-use Rattle.df_mirror.specs.Run.{Mirrored, MirroredNothing, Mirrors, RefusesFirstSuperblock, TellsEnd}
-use Rattle.df_mirror.specs.Statuses.{AreBlamed, is_first}
-use Rattle.df_mirror.specs.Texts.{count_text, neither_text}
-use Rattle.df_mirror.specs.Walks.{content_of_superblock}
 
 -- no status is two of these
 done_or_found : (b : Bool) (other : Status) → (ends.Done ≡ other → ⊥) → (ends.Found ≡ other → ⊥) → (if b then ends.Done else ends.Found) ≡ other → ⊥

@@ -1,18 +1,8 @@
 -- An image has one first known unit that isn't shown.
-use Rattle.std.proofs.Common.{◌≡◌, ℕ, ◌+◌, ◌%◌, ◌<◌, List, refl, sym, ◌∙◌, ap, subst, arith, inl, inr}
-use Rattle.std.proofs.lemmas.Bool.{cases_order}
-use Rattle.std.proofs.lemmas.Option.{same_Some}
-use Rattle.std.specs.Prelude.{slice_index}
-use Rattle.df_format.specs.declared.kind.Kind.{Kind}
-use Rattle.df_format.specs.declared.kind.Kind.TheVariants.{Block as AsBlock, Prepare as AsPrepare, Reply as AsReply, Reserved, Trailer as AsTrailer}
-use Rattle.df_theory.specs.Opens.{AreKnown, named_by}
-use Rattle.df_theory.specs.Shape.{Shape, slots}
-use Rattle.df_theory.specs.Units.{BlockPlace, Content, Message, Place, PreparePlace, PrepareUnit, ReplyPlace, Units}
-use Rattle.df_theory.proofs.Laws.{known_one}
-use Rattle.df_mirror.specs.Known.{ComesBefore, IsNamedPrepare, IsNext, IsReferencedBlock, IsShownAs}
-use Rattle.df_mirror.proofs.Chains.{one_wanted, shown_block}
-use Rattle.df_mirror.proofs.Logs.{named_shown}
-use Rattle.df_mirror.proofs.Ones.{one_trailer}
+use Rattle.std.{proofs.{Common.{◌≡◌, ℕ, ◌+◌, ◌%◌, ◌<◌, List, refl, sym, ◌∙◌, ap, subst, arith, inl, inr}, lemmas.Bool.{cases_order}, lemmas.Option.{same_Some}}, specs.Prelude.{slice_index}}
+use Rattle.df_format.specs.{declared.kind.Kind.{Kind}, declared.kind.Kind.TheVariants.{Block as AsBlock, Prepare as AsPrepare, Reply as AsReply, Reserved, Trailer as AsTrailer}}
+use Rattle.df_theory.{specs.{Opens.{AreKnown, named_by}, Shape.{Shape, slots}, Units.{BlockPlace, Content, Message, Place, PreparePlace, PrepareUnit, ReplyPlace, Units}}, proofs.Laws.{known_one}}
+use Rattle.df_mirror.{specs.Known.{ComesBefore, IsNamedPrepare, IsNext, IsReferencedBlock, IsShownAs}, proofs.{Chains.{one_wanted, shown_block}, Logs.{named_shown}, Ones.{one_trailer}}}
 
 -- one kind, one place and one checksum
 abbrev pub AreOne : (kind other : Kind) (place at : Place) (sum n : ℕ) → Type 0

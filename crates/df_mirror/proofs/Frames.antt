@@ -1,22 +1,13 @@
 -- What mends leave as it was: each place at which none was mended.
-use Rattle.std.proofs.Common.{◌≡◌, ℕ, List, [], ◌∷◌, Option, Some, None, refl, sym, ◌∙◌, ap, subst}
-use Rattle.std.proofs.lemmas.Option.{same_Some}
-use Rattle.std.specs.Prelude.{Ok}
-use Rattle.df_base.specs.Image.{Image, IsImage}
-use Rattle.df_base.proofs.Laws.{written_is_image}
+use Rattle.std.{proofs.{Common.{◌≡◌, ℕ, List, [], ◌∷◌, Option, Some, None, refl, sym, ◌∙◌, ap, subst}, lemmas.Option.{same_Some}}, specs.Prelude.{Ok}}
+use Rattle.df_base.{specs.Image.{Image, IsImage}, proofs.Laws.{written_is_image}}
 use Rattle.df_disk.specs.Told.{Told}
-use Rattle.df_format.specs.declared.kind.Kind.{Kind}
-use Rattle.df_format.specs.declared.kind.Kind.TheVariants.{Block, Prepare, Reply, Trailer}
-use Rattle.df_theory.specs.Shape.{Shape}
-use Rattle.df_theory.specs.UnitLog.{put_one}
-use Rattle.df_theory.specs.Units.{AnyUnit, BlockPlace, Content, Place, PreparePlace, ReplyPlace, Units, or_else}
-use Rattle.df_theory.proofs.Laws.{put_one_law}
-use Rattle.df_units.specs.Bytes.{first_at}
-use Rattle.df_units.specs.Wanted.{checksum_of}
+use Rattle.df_format.specs.{declared.kind.Kind.{Kind}, declared.kind.Kind.TheVariants.{Block, Prepare, Reply, Trailer}}
+use Rattle.df_theory.{specs.{Shape.{Shape}, UnitLog.{put_one}, Units.{AnyUnit, BlockPlace, Content, Place, PreparePlace, ReplyPlace, Units, or_else}}, proofs.Laws.{put_one_law}}
+use Rattle.df_units.specs.{Bytes.{first_at}, Wanted.{checksum_of}}
 use Rattle.df_damage.specs.Anew.{told_after}
 use Rattle.df_opening.specs.Below.{DataFile, shape}
-use Rattle.df_mirror.specs.Known.{IsKnownAt}
-use Rattle.df_mirror.specs.Mends.{AnswersMending, AreAt, AreMends, AreOfKind, Came, Mend, mirrored_events, units_shown}
+use Rattle.df_mirror.specs.{Known.{IsKnownAt}, Mends.{AnswersMending, AreAt, AreMends, AreOfKind, Came, Mend, mirrored_events, units_shown}}
 
 -- the place is one for known units of this kind
 abbrev pub IsPlaceOf : Kind → Place → Type 0

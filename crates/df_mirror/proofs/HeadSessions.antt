@@ -1,31 +1,15 @@
 -- The sessions at the superblock's head: a table that has as many of them as there are places, noted prepare by prepare.
-use Rattle.std.proofs.Common.{◌≡◌, ℕ, zero, suc, ◌+◌, ◌-◌, ◌%◌, ◌<◌, ◌≤◌, ◌==◌, true, false, List, [], ◌∷◌, ◌++◌, length, get_or, take, Option, Some, None, IsSome, refl, sym, ◌∙◌, ap, subst, arith, inl, inr, length-take}
-use Rattle.std.specs.List.{position, slice_get}
-use Rattle.std.specs.Prelude.{is_some}
-use Rattle.std.proofs.lemmas.Bool.{cases_Bool, cases_lt}
-use Rattle.std.proofs.lemmas.List.{length-map, take_all}
-use Rattle.std.proofs.lemmas.Option.{same_Some}
+use Rattle.std.{proofs.{Common.{◌≡◌, ℕ, zero, suc, ◌+◌, ◌-◌, ◌%◌, ◌<◌, ◌≤◌, ◌==◌, true, false, List, [], ◌∷◌, ◌++◌, length, get_or, take, Option, Some, None, IsSome, refl, sym, ◌∙◌, ap, subst, arith, inl, inr, length-take}, lemmas.Bool.{cases_Bool, cases_lt}, lemmas.List.{length-map, take_all}, lemmas.Option.{same_Some}}, specs.{List.{position, slice_get}, Prelude.{is_some}}}
 use Rattle.df_base.proofs.Laws.{none_passes}
 use Rattle.df_format.specs.declared.header.Header as file
 use Rattle.df_format.specs.declared.superblock.SuperFields.{SuperFields}
-use Rattle.df_journal.specs.Scan.{Scan, entry}
-use Rattle.df_journal.specs.Seen.{header_of_seen}
-use Rattle.df_journal.specs.Shows.{TellsRings}
-use Rattle.df_sessions.specs.declared.session.Session.{Session}
-use Rattle.df_sessions.specs.Requests.{session_of, sessions_of}
-use Rattle.df_sessions.specs.Table.{IsKnownClient, has_client}
-use Rattle.df_sessions.proofs.Laws.{first_place}
-use Rattle.df_theory.specs.Opens.{AreKnown}
+use Rattle.df_journal.specs.{Scan.{Scan, entry}, Seen.{header_of_seen}, Shows.{TellsRings}}
+use Rattle.df_sessions.{specs.{declared.session.Session.{Session}, Requests.{session_of, sessions_of}, Table.{IsKnownClient, has_client}}, proofs.Laws.{first_place}}
+use Rattle.df_theory.{specs.{Opens.{AreKnown}, Sessions.{noted}, Units.{Header, Message, PreparePlace, PrepareUnit, Units}}, proofs.Laws.{sessions-append}}
 use Rattle.df_theory.specs.Sessions as theory
-use Rattle.df_theory.specs.Sessions.{noted}
-use Rattle.df_theory.specs.Units.{Header, Message, PreparePlace, PrepareUnit, Units}
 use Rattle.df_theory.specs.Units as units
-use Rattle.df_theory.proofs.Laws.{sessions-append}
 use Rattle.df_units.specs.Meaning.{header_of}
-use Rattle.df_mirror.specs.declared.superblock.Superblock.{Superblock}
-use Rattle.df_mirror.specs.Walks.{HasLater, IsLater, content_of_superblock}
-use Rattle.df_mirror.proofs.Named.{pin_is}
-use Rattle.df_mirror.proofs.RingSeen.{prepare_seen, prepare_shown}
+use Rattle.df_mirror.{specs.{declared.superblock.Superblock.{Superblock}, Walks.{HasLater, IsLater, content_of_superblock}}, proofs.{Named.{pin_is}, RingSeen.{prepare_seen, prepare_shown}}}
 
 -- a known client takes no further place
 known_length : (h : Header) (xs : List Session) (k : ℕ) (d : Session) → k < length xs → has_client h.client (get_or xs k d) ≡ true → length (noted h (sessions_of xs)) ≡ length xs

@@ -1,27 +1,14 @@
 -- Mends one list after the other, and the answers of walks one after the other.
-use Rattle.std.proofs.Common.{◌≡◌, ℕ, ◌+◌, ◌≤◌, List, [], ◌∷◌, ◌++◌, length, Option, Some, None, refl, sym, ◌∙◌, ap, subst, arith, length-append, append_assoc}
-use Rattle.std.proofs.lemmas.Option.{same_Some}
-use Rattle.std.specs.Prelude.{Result, Ok, Err}
-use Rattle.df_base.specs.Image.{Image, IsImage}
-use Rattle.df_base.specs.Log.{Event, Sync, Write}
-use Rattle.df_base.specs.Streams.{Appends}
-use Rattle.df_base.proofs.Laws.{appends_more, written_is_image}
+use Rattle.std.{proofs.{Common.{◌≡◌, ℕ, ◌+◌, ◌≤◌, List, [], ◌∷◌, ◌++◌, length, Option, Some, None, refl, sym, ◌∙◌, ap, subst, arith, length-append, append_assoc}, lemmas.Option.{same_Some}}, specs.Prelude.{Result, Ok, Err}}
+use Rattle.df_base.{specs.{Image.{Image, IsImage}, Log.{Event, Sync, Write}, Streams.{Appends}}, proofs.Laws.{appends_more, written_is_image}}
 use Rattle.df_inspect.proofs.Laws.{appends_none}
-use Rattle.df_disk.specs.Adds.{after_all}
-use Rattle.df_disk.specs.Told.{Told, did}
-use Rattle.df_format.specs.declared.kind.Kind.{Kind}
-use Rattle.df_format.specs.declared.kind.Kind.TheVariants.{Trailer}
+use Rattle.df_disk.specs.{Adds.{after_all}, Told.{Told, did}}
+use Rattle.df_format.specs.{declared.kind.Kind.{Kind}, declared.kind.Kind.TheVariants.{Trailer}}
 use Rattle.df_theory.specs.Units.{Content, Place}
-use Rattle.df_units.specs.Bytes.{first_at}
-use Rattle.df_units.specs.Meaning.{place_of}
+use Rattle.df_units.specs.{Bytes.{first_at}, Meaning.{place_of}}
 use Rattle.df_damage.specs.Anew.{told_after}
 use Rattle.df_opening.specs.Below.{DataFile}
-use Rattle.df_mirror.specs.declared.ending.Ending.{Ending}
-use Rattle.df_mirror.specs.declared.ending.Ending.TheVariants.{First, Neither, Second, Sink, Unopened}
-use Rattle.df_mirror.specs.Known.{rank_of_kind}
-use Rattle.df_mirror.specs.Laws.{MendsGoOn, UnitsComeInOrder}
-use Rattle.df_mirror.specs.Mends.{AnswersMending, AreAt, AreFrom, AreMends, AreOfKind, Came, Failed, FailsAt, IsRefusal, Mend, MendsUnits, lines_of, mirrored_events, under_way}
-use Rattle.df_mirror.specs.Texts.{mended_text}
+use Rattle.df_mirror.specs.{declared.ending.Ending.{Ending}, declared.ending.Ending.TheVariants.{First, Neither, Second, Sink, Unopened}, Known.{rank_of_kind}, Laws.{MendsGoOn, UnitsComeInOrder}, Mends.{AnswersMending, AreAt, AreFrom, AreMends, AreOfKind, Came, Failed, FailsAt, IsRefusal, Mend, MendsUnits, lines_of, mirrored_events, under_way}, Texts.{mended_text}}
 
 -- ---- lists
 

@@ -1,42 +1,16 @@
 -- One link of the chain, as a step of the walk.
-use Rattle.std.proofs.Common.{◌≡◌, ℕ, ◌+◌, ◌-◌, ◌<◌, ◌==◌, ◌||◌, Bool, true, false, List, [], ◌∷◌, ◌++◌, length, map, Option, Some, None, refl, sym, ◌∙◌, ap, subst, arith, inl, inr}
-use Rattle.std.proofs.lemmas.Bool.{cases_eq}
-use Rattle.std.proofs.lemmas.List.{length-map, map-append}
-use Rattle.std.proofs.lemmas.Option.{same_Some}
-use Rattle.std.specs.Prelude.{Result, Ok, Err, IfOk}
-use Rattle.std.specs.List.{list_any}
+use Rattle.std.{proofs.{Common.{◌≡◌, ℕ, ◌+◌, ◌-◌, ◌<◌, ◌==◌, ◌||◌, Bool, true, false, List, [], ◌∷◌, ◌++◌, length, map, Option, Some, None, refl, sym, ◌∙◌, ap, subst, arith, inl, inr}, lemmas.Bool.{cases_eq}, lemmas.List.{length-map, map-append}, lemmas.Option.{same_Some}}, specs.{Prelude.{Result, Ok, Err, IfOk}, List.{list_any}}}
 use Rattle.df_disk.specs.Told.{Told}
 use Rattle.df_layout.specs.declared.fields.Field.TheVariants.{TrailerChain}
-use Rattle.df_format.specs.declared.kind.Kind.TheVariants.{Trailer}
-use Rattle.df_checkpoint.specs.declared.links.Link.{Link}
-use Rattle.df_format.specs.Message.{Message}
-use Rattle.df_format.specs.Spelling.{IsCheck}
-use Rattle.df_buffers.specs.declared.identity.Identity.{Identity}
-use Rattle.df_buffers.specs.Sounds.{Holding}
+use Rattle.df_format.specs.{declared.kind.Kind.TheVariants.{Trailer}, Message.{Message}, Spelling.{IsCheck}}
+use Rattle.df_checkpoint.specs.{declared.links.Link.{Link}, Chain.{is_among}}
+use Rattle.df_buffers.specs.{declared.identity.Identity.{Identity}, Sounds.{Holding}}
 use Rattle.df_model.specs.declared.errors.OpenError.TheVariants.{BadField}
-use Rattle.df_theory.specs.Opens.{Arrives, IsLink, ReadsTo}
-use Rattle.df_theory.specs.Trailer.{InChain, IsCount}
-use Rattle.df_theory.specs.Units.{AnyUnit, Block, BlockPlace, BlockUnit, Units}
-use Rattle.df_theory.proofs.Laws.{arrives_more, links_more}
-use Rattle.df_units.specs.Meaning.{block_of, number_of}
-use Rattle.df_units.specs.Wanted.{IsOfKind, checksum_of}
+use Rattle.df_theory.{specs.{Opens.{Arrives, IsLink, ReadsTo}, Trailer.{InChain, IsCount}, Units.{AnyUnit, Block, BlockPlace, BlockUnit, Units}}, proofs.Laws.{arrives_more, links_more}}
+use Rattle.df_units.specs.{Meaning.{block_of, number_of}, Wanted.{IsOfKind, checksum_of}}
 use Rattle.df_grid.specs.Reads.{at_address, shown_of}
-use Rattle.df_checkpoint.specs.Chain.{is_among}
 use Rattle.df_opening.specs.Below.{shape}
-use Rattle.df_mirror.specs.declared.chain.Walk.{Walk}
-use Rattle.df_mirror.specs.declared.ending.Ending.{Ending}
-use Rattle.df_mirror.specs.declared.superblock.Superblock.{Superblock}
-use Rattle.df_mirror.specs.Known.{IsDue}
-use Rattle.df_mirror.specs.Mends.{AreOfKind}
-use Rattle.df_mirror.specs.Outside.{Outside, Tell}
-use Rattle.df_mirror.specs.Refusals.{RefusesFirstTrailer}
-use Rattle.df_mirror.specs.Taking.{HoldsShown, MendsUnit, ShowsUnit}
-use Rattle.df_mirror.specs.Walks.{HasWalkedChain, Mended, WalkGoesOn, broken_at, content_of_superblock, superblock_units}
-use Rattle.df_mirror.proofs.Chains.{among, arrives_there, asked_shown, chain_named, chain_spare, not_among, not_wanted, read_shown}
-use Rattle.df_mirror.proofs.Frames.{other_place}
-use Rattle.df_mirror.proofs.Joined.{came_with, kind_at, none_came}
-use Rattle.df_mirror.proofs.Orders.{before_trailer}
-use Rattle.df_mirror.proofs.Turns.{MendsDue, due_mended, lent_shown, of_one}
+use Rattle.df_mirror.{specs.{declared.chain.Walk.{Walk}, declared.ending.Ending.{Ending}, declared.superblock.Superblock.{Superblock}, Known.{IsDue}, Mends.{AreOfKind}, Outside.{Outside, Tell}, Refusals.{RefusesFirstTrailer}, Taking.{HoldsShown, MendsUnit, ShowsUnit}, Walks.{HasWalkedChain, Mended, WalkGoesOn, broken_at, content_of_superblock, superblock_units}}, proofs.{Chains.{among, arrives_there, asked_shown, chain_named, chain_spare, not_among, not_wanted, read_shown}, Frames.{other_place}, Joined.{came_with, kind_at, none_came}, Orders.{before_trailer}, Turns.{MendsDue, due_mended, lent_shown, of_one}}}
 
 -- the references have an address where their addresses do
 among_map : (a : ℕ) (refs : List Link) → is_among a refs ≡ list_any (λ other. other == a) (map (λ r. r.address) refs)

@@ -1,32 +1,17 @@
 -- What a shelf holds of what was read, and a unit that is wanted is the theory's.
-use Rattle.std.proofs.Common.{◌≡◌, ℕ, List, Option, Some, None, refl, sym, ◌∙◌, ap, subst}
-use Rattle.std.proofs.lemmas.Option.{same_Some}
-use Rattle.std.specs.Prelude.{IsSome}
+use Rattle.std.{proofs.{Common.{◌≡◌, ℕ, List, Option, Some, None, refl, sym, ◌∙◌, ap, subst}, lemmas.Option.{same_Some}}, specs.Prelude.{IsSome}}
 use Rattle.df_base.specs.Image.{Image, IsImage}
 use Rattle.df_disk.specs.Told.{Told}
-use Rattle.df_layout.specs.declared.damage.Class.{Class}
-use Rattle.df_layout.specs.declared.layout.Layout.{Layout}
-use Rattle.df_layout.specs.declared.places.Zone.TheVariants.{Superblock}
-use Rattle.df_format.specs.declared.kind.Kind.{Kind}
-use Rattle.df_format.specs.declared.kind.Kind.TheVariants.{Block, Prepare, Reply, Reserved, Trailer}
-use Rattle.df_format.specs.Message.{Message}
+use Rattle.df_layout.specs.{declared.damage.Class.{Class}, declared.layout.Layout.{Layout}, declared.places.Zone.TheVariants.{Superblock}}
+use Rattle.df_format.{specs.{declared.kind.Kind.{Kind}, declared.kind.Kind.TheVariants.{Block, Prepare, Reply, Reserved, Trailer}, Message.{Message}}, proofs.Laws.{shown_is_unit}}
 use Rattle.df_format.specs.Shown
 use Rattle.df_format.specs.Wanted as words
-use Rattle.df_format.proofs.Laws.{shown_is_unit}
-use Rattle.df_buffers.specs.declared.identity.Identity.{Identity}
-use Rattle.df_buffers.specs.declared.identity.Wanted.TheVariants.{Checksum}
-use Rattle.df_buffers.specs.Rooms.{StandsIn}
-use Rattle.df_buffers.specs.Sounds.{Holding}
+use Rattle.df_buffers.specs.{declared.identity.Identity.{Identity}, declared.identity.Wanted.TheVariants.{Checksum}, Rooms.{StandsIn}, Sounds.{Holding}}
 use Rattle.df_places.specs.Shelves.{HoldsBlanked, HoldsFound, IsBlanked, IsFoundUnit, IsRead, shown_at}
 use Rattle.df_theory.specs.Units.{AnyUnit, BlockPlace, CopyPlace, HeaderPlace, Place, PreparePlace, ReplyPlace}
-use Rattle.df_units.specs.Bytes.{message_unit}
-use Rattle.df_units.specs.Meaning.{number_of, place_of, unit_of}
-use Rattle.df_units.specs.Wanted.{IsOfKind, checksum_of, class_at}
-use Rattle.df_units.proofs.Laws.{none_wanted, units_told}
+use Rattle.df_units.{specs.{Bytes.{message_unit}, Meaning.{number_of, place_of, unit_of}, Wanted.{IsOfKind, checksum_of, class_at}}, proofs.Laws.{none_wanted, units_told}}
 use Rattle.df_opening.specs.Below.{DataFile}
-use Rattle.df_mirror.specs.Known.{IsShownAs}
-use Rattle.df_mirror.specs.Mends.{units_shown}
-use Rattle.df_mirror.specs.Taking.{IsFor, ShowsUnit}
+use Rattle.df_mirror.specs.{Known.{IsShownAs}, Mends.{units_shown}, Taking.{IsFor, ShowsUnit}}
 
 -- ---- what a shelf holds
 

@@ -1,40 +1,17 @@
 -- The order of what is mended, the prepares that are named, and all of it.
-use Rattle.std.proofs.Common.{◌≡◌, ℕ, ◌+◌, ◌<◌, ◌≤◌, ◌%◌, List, [], ◌∷◌, ◌++◌, length, Option, Some, refl, sym, ◌∙◌, ap, subst, arith, inl, inr}
-use Rattle.std.proofs.lemmas.Bool.{cases_eq}
-use Rattle.std.specs.Prelude.{Result, Ok, Err, OnOk, take}
+use Rattle.std.{proofs.{Common.{◌≡◌, ℕ, ◌+◌, ◌<◌, ◌≤◌, ◌%◌, List, [], ◌∷◌, ◌++◌, length, Option, Some, refl, sym, ◌∙◌, ap, subst, arith, inl, inr}, lemmas.Bool.{cases_eq}}, specs.Prelude.{Result, Ok, Err, OnOk, take}}
 use Rattle.df_base.specs.Image.{IsImage}
 use Rattle.df_disk.specs.Told.{Told}
 use Rattle.df_layout.specs.declared.layout.Layout.{Layout}
-use Rattle.df_format.specs.declared.kind.Kind.{Kind}
-use Rattle.df_format.specs.declared.kind.Kind.TheVariants.{Block as AsBlock, Prepare, Reply, Trailer}
-use Rattle.df_journal.specs.Scan.{Scan}
-use Rattle.df_journal.specs.Scanned.{IsScanned}
-use Rattle.df_journal.specs.Shows.{TellsRings}
-use Rattle.df_journal.specs.declared.table.Start.{Start}
-use Rattle.df_journal.proofs.Laws.{rings_shown}
+use Rattle.df_format.specs.{declared.kind.Kind.{Kind}, declared.kind.Kind.TheVariants.{Block as AsBlock, Prepare, Reply, Trailer}}
+use Rattle.df_journal.{specs.{Scan.{Scan}, Scanned.{IsScanned}, Shows.{TellsRings}, declared.table.Start.{Start}}, proofs.Laws.{rings_shown}}
 use Rattle.df_units.specs.Bytes.{unit_at}
 use Rattle.df_grid.specs.Grid.{GridState}
-use Rattle.df_sessions.specs.declared.session.Session.{Session}
-use Rattle.df_sessions.specs.Requests.{sessions_of}
-use Rattle.df_sessions.specs.Table.{Table}
-use Rattle.df_theory.specs.Opens.{AreKnown, named_by}
-use Rattle.df_theory.specs.Sessions.{sessions_after}
+use Rattle.df_sessions.specs.{declared.session.Session.{Session}, Requests.{sessions_of}, Table.{Table}}
+use Rattle.df_theory.{specs.{Opens.{AreKnown, named_by}, Sessions.{sessions_after}, Units.{BlockPlace, Message, Parts, Place, PreparePlace, PrepareUnit, ReplyPlace, Units}}, proofs.Laws.{known_one}}
 use Rattle.df_theory.specs.Units as model
-use Rattle.df_theory.specs.Units.{BlockPlace, Message, Parts, Place, PreparePlace, PrepareUnit, ReplyPlace, Units}
-use Rattle.df_theory.proofs.Laws.{known_one}
 use Rattle.df_opening.specs.Below.{shape}
-use Rattle.df_mirror.specs.declared.ending.Ending.{Ending}
-use Rattle.df_mirror.specs.declared.ending.Ending.TheVariants.{First, Neither, Second, Sink, Unopened}
-use Rattle.df_mirror.specs.declared.superblock.Superblock.{Superblock}
-use Rattle.df_mirror.specs.Known.{AreShown, IsKnownAt, IsNamedPrepare, IsShownAs, ShowsTrailer, rank_of_kind}
-use Rattle.df_mirror.specs.Mends.{AnswersMending, AreFrom, AreInOrder, AreLate, AreOfKind, IsRefusal, Mend}
-use Rattle.df_mirror.specs.Outside.{Outside, Tell, around}
-use Rattle.df_mirror.specs.Refusals.{RefusesFirstTrailer}
-use Rattle.df_mirror.specs.Walks.{HasHead, HasTrailerText, HasWaiting, Mended, ReadsChainText, ShowsAll, ShowsBlocks, ShowsGrid, ShowsLog, ShowsNamed, content_of_superblock, superblock_units}
-use Rattle.df_mirror.proofs.Frames.{other_kind}
-use Rattle.df_mirror.proofs.Joined.{answers_with, more, none_came, none_failed}
-use Rattle.df_mirror.proofs.Orders.{grid_shown, grid_there}
-use Rattle.df_mirror.proofs.Turns.{none_read, read_behind, shows_more, then_mended}
+use Rattle.df_mirror.{specs.{declared.ending.Ending.{Ending}, declared.ending.Ending.TheVariants.{First, Neither, Second, Sink, Unopened}, declared.superblock.Superblock.{Superblock}, Known.{AreShown, IsKnownAt, IsNamedPrepare, IsShownAs, ShowsTrailer, rank_of_kind}, Mends.{AnswersMending, AreFrom, AreInOrder, AreLate, AreOfKind, IsRefusal, Mend}, Outside.{Outside, Tell, around}, Refusals.{RefusesFirstTrailer}, Walks.{HasHead, HasTrailerText, HasWaiting, Mended, ReadsChainText, ShowsAll, ShowsBlocks, ShowsGrid, ShowsLog, ShowsNamed, content_of_superblock, superblock_units}}, proofs.{Frames.{other_kind}, Joined.{answers_with, more, none_came, none_failed}, Orders.{grid_shown, grid_there}, Turns.{none_read, read_behind, shows_more, then_mended}}}
 
 -- ---- the order
 

@@ -1,31 +1,12 @@
 -- The prepares that the superblock names: each is due where those above it are shown, and the walk goes one prepare further down.
-use Rattle.std.proofs.Common.{◌≡◌, ℕ, ◌+◌, ◌-◌, ◌%◌, ◌==◌, ◌<◌, ◌≤◌, if◌then◌else◌, List, [], ◌∷◌, length, Option, Some, None, refl, sym, ◌∙◌, ap, subst, arith, inl, inr}
-use Rattle.std.proofs.lemmas.Bool.{cases_lt}
-use Rattle.std.proofs.lemmas.Option.{same_Some}
-use Rattle.std.specs.Prelude.{Result, Ok, Err, IfOk}
+use Rattle.std.{proofs.{Common.{◌≡◌, ℕ, ◌+◌, ◌-◌, ◌%◌, ◌==◌, ◌<◌, ◌≤◌, if◌then◌else◌, List, [], ◌∷◌, length, Option, Some, None, refl, sym, ◌∙◌, ap, subst, arith, inl, inr}, lemmas.Bool.{cases_lt}, lemmas.Option.{same_Some}}, specs.Prelude.{Result, Ok, Err, IfOk}}
 use Rattle.df_disk.specs.Told.{Told}
-use Rattle.df_format.specs.declared.kind.Kind.{Kind}
-use Rattle.df_format.specs.declared.kind.Kind.TheVariants.{Block as AsBlock, Prepare, Reply, Trailer}
-use Rattle.df_format.specs.declared.header.Header.{Header}
-use Rattle.df_format.specs.SuperRules.{IsUsable}
-use Rattle.df_buffers.specs.declared.identity.Identity.{Identity}
-use Rattle.df_buffers.specs.Sounds.{Holding}
-use Rattle.df_theory.specs.Opens.{AreKnown, named_by}
-use Rattle.df_theory.specs.Units.{BlockPlace, Message, Place, PreparePlace, PrepareUnit, ReplyPlace, Units}
-use Rattle.df_theory.proofs.Laws.{mod_apart, known_one}
-use Rattle.df_units.specs.Meaning.{message_of, number_of}
-use Rattle.df_units.specs.Wanted.{checksum_of}
+use Rattle.df_format.specs.{declared.kind.Kind.{Kind}, declared.kind.Kind.TheVariants.{Block as AsBlock, Prepare, Reply, Trailer}, declared.header.Header.{Header}, SuperRules.{IsUsable}}
+use Rattle.df_buffers.specs.{declared.identity.Identity.{Identity}, Sounds.{Holding}}
+use Rattle.df_theory.{specs.{Opens.{AreKnown, named_by}, Units.{BlockPlace, Message, Place, PreparePlace, PrepareUnit, ReplyPlace, Units}}, proofs.Laws.{mod_apart, known_one}}
+use Rattle.df_units.specs.{Meaning.{message_of, number_of}, Wanted.{checksum_of}}
 use Rattle.df_opening.specs.Below.{shape}
-use Rattle.df_mirror.specs.declared.ending.Ending.{Ending}
-use Rattle.df_mirror.specs.declared.superblock.Superblock.{Superblock}
-use Rattle.df_mirror.specs.Known.{IsDue, IsKnownAt, IsShownAs, IsSparePlace}
-use Rattle.df_mirror.specs.Mends.{AreOfKind}
-use Rattle.df_mirror.specs.Outside.{Outside, Tell}
-use Rattle.df_mirror.specs.Taking.{HoldsShown, IsFor, MendsUnit}
-use Rattle.df_mirror.specs.Walks.{Mended, NamesPreparesFrom, ShowsGrid, ShowsNamed, content_of_superblock, superblock_units}
-use Rattle.df_mirror.proofs.Frames.{other_place}
-use Rattle.df_mirror.proofs.Orders.{before_prepare, grid_there}
-use Rattle.df_mirror.proofs.Turns.{MendsDue, due_mended, lent_shown, of_one}
+use Rattle.df_mirror.{specs.{declared.ending.Ending.{Ending}, declared.superblock.Superblock.{Superblock}, Known.{IsDue, IsKnownAt, IsShownAs, IsSparePlace}, Mends.{AreOfKind}, Outside.{Outside, Tell}, Taking.{HoldsShown, IsFor, MendsUnit}, Walks.{Mended, NamesPreparesFrom, ShowsGrid, ShowsNamed, content_of_superblock, superblock_units}}, proofs.{Frames.{other_place}, Orders.{before_prepare, grid_there}, Turns.{MendsDue, due_mended, lent_shown, of_one}}}
 
 -- known prepares are known in an image whose ring shows them, too
 pub ring_there : (n : ℕ) (image other : Units) (op sum : ℕ) (ps : List Message) → AreKnown n image op sum ps → ((o : ℕ) → op ≤ o → o < op + length ps → other (PreparePlace (o % n)) ≡ image (PreparePlace (o % n))) → AreKnown n other op sum ps

@@ -2,19 +2,12 @@
 use Rattle.std.proofs.Common.{◌≡◌, ℕ, ◌-◌, ◌<◌, List, [], ◌∷◌, length, Some, refl, sym, ◌∙◌, subst, arith, inl, inr}
 use Rattle.df_sessions.specs.declared.session.Session.{Session}
 use Rattle.df_grid.specs.Grid.{GridState}
-use Rattle.df_theory.specs.Opens.{Arrives, ReadsTo}
-use Rattle.df_theory.specs.Sessions.{Has}
-use Rattle.df_theory.specs.Shape.{Shape}
-use Rattle.df_theory.specs.Trailer.{InChain, Links, Says}
+use Rattle.df_theory.{specs.{Opens.{Arrives, ReadsTo}, Sessions.{Has}, Shape.{Shape}, Trailer.{InChain, Links, Says}, Units.{Block, BlockPlace, BlockUnit, Content, Units}}, proofs.Laws.{same_says}}
 use Rattle.df_theory.specs.Units as model
-use Rattle.df_theory.specs.Units.{Block, BlockPlace, BlockUnit, Content, Units}
-use Rattle.df_theory.proofs.Laws.{same_says}
 use Rattle.df_model.proofs.Laws.{count_le}
 use Rattle.df_checkpoint.proofs.Laws.{one_block}
 use Rattle.df_opening.specs.Below.{shape}
-use Rattle.df_mirror.specs.declared.superblock.Superblock.{Superblock}
-use Rattle.df_mirror.specs.Known.{PassesTrailer, ShowsTrailer}
-use Rattle.df_mirror.specs.Walks.{HasTrailerText, HasWaiting, content_of_superblock}
+use Rattle.df_mirror.specs.{declared.superblock.Superblock.{Superblock}, Known.{PassesTrailer, ShowsTrailer}, Walks.{HasTrailerText, HasWaiting, content_of_superblock}}
 
 abbrev Shown : Units → List (ℕ × Block) → Type 0
 Shown image xs = (a : ℕ) (b : Block) → InChain a b xs → image (BlockPlace a) ≡ Some (BlockUnit b)

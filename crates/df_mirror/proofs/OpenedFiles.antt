@@ -1,37 +1,18 @@
 -- A mended file is opened as it was left.
 use Rattle.std.proofs.Common.{◌≡◌, ◌⊎◌, inl, inr, ℕ, List, [], ◌∷◌, Some, refl, sym, ◌∙◌, ap, subst, arith}
-use Rattle.df_base.specs.Image.{Image}
+use Rattle.df_base.specs.{Image.{Image}, Log.{Log, Sync}}
 use Rattle.df_base.specs.Log as logs
-use Rattle.df_base.specs.Log.{Log, Sync}
 use Rattle.df_disk.specs.Told.{Told, did}
 use Rattle.df_layout.specs.declared.places.Zone.TheVariants.{ClientReplies, Superblock, WalHeaders, WalPrepares}
 use Rattle.df_format.specs.declared.kind.Kind.{Kind}
-use Rattle.df_theory.specs.Chance.{InPool}
-use Rattle.df_theory.specs.Copies.{IsChosen}
-use Rattle.df_theory.specs.Found.{IsFound}
-use Rattle.df_theory.specs.Holds.{Holds}
-use Rattle.df_theory.specs.UnitLog.{UnitLog, now}
-use Rattle.df_theory.specs.Units.{Content, CopyPlace, HeaderPlace, Message, Place, PreparePlace, ReplyPlace, ReplyUnit, Units}
-use Rattle.df_theory.specs.View.{View, boot_of}
-use Rattle.df_theory.proofs.Laws.{chosen_same, holds_found, now_units, one_found_law}
-use Rattle.df_units.specs.Format.{format_of}
-use Rattle.df_units.specs.Meaning.{layout_of}
-use Rattle.df_units.specs.Wanted.{IsOfKind, checksum_of}
-use Rattle.df_units.proofs.Laws.{of_places}
+use Rattle.df_theory.{specs.{Chance.{InPool}, Copies.{IsChosen}, Found.{IsFound}, Holds.{Holds}, UnitLog.{UnitLog, now}, Units.{Content, CopyPlace, HeaderPlace, Message, Place, PreparePlace, ReplyPlace, ReplyUnit, Units}, View.{View, boot_of}}, proofs.Laws.{chosen_same, holds_found, now_units, one_found_law}}
+use Rattle.df_units.{specs.{Format.{format_of}, Meaning.{layout_of}, Wanted.{IsOfKind, checksum_of}}, proofs.Laws.{of_places}}
 use Rattle.df_checkpoint.specs.Below.{parse_of}
-use Rattle.df_history.specs.Histories.{InHistoryPool, IsLived, MayHurtCopies, MayStart}
-use Rattle.df_history.proofs.Laws.{choice_stays_law, synced_settled}
+use Rattle.df_history.{specs.Histories.{InHistoryPool, IsLived, MayHurtCopies, MayStart}, proofs.Laws.{choice_stays_law, synced_settled}}
 use Rattle.df_damage.specs.Histories as histories
-use Rattle.df_damage.specs.Histories.{MayReopen, units_logs}
-use Rattle.df_damage.proofs.Laws.{found_is_not_refused_as}
+use Rattle.df_damage.{specs.Histories.{MayReopen, units_logs}, proofs.Laws.{found_is_not_refused_as}}
 use Rattle.df_opening.specs.Below.{DataFile, shape}
-use Rattle.df_mirror.specs.Known.{AllShown, IsNamedPrepare, IsRecordedReply}
-use Rattle.df_mirror.specs.Laws.{HasWoken, IsHurtKnown, MirroredIsOpened, NoneCameBack}
-use Rattle.df_mirror.specs.Mends.{units_shown}
-use Rattle.df_mirror.proofs.OpenedKnown.{reply_of}
-use Rattle.df_mirror.proofs.OpenedPasts.{raised_own}
-use Rattle.df_mirror.proofs.OpenedPlaces.{IsMendedAt, known_prepare, known_reply, mends_left, no_copy, no_header, place_left}
-use Rattle.df_mirror.proofs.OpenedViews.{IsNamedSlot, IsRecordedAnew, ShowsLeft, ShowsOwn, left_holds}
+use Rattle.df_mirror.{specs.{Known.{AllShown, IsNamedPrepare, IsRecordedReply}, Laws.{HasWoken, IsHurtKnown, MirroredIsOpened, NoneCameBack}, Mends.{units_shown}}, proofs.{OpenedKnown.{reply_of}, OpenedPasts.{raised_own}, OpenedPlaces.{IsMendedAt, known_prepare, known_reply, mends_left, no_copy, no_header, place_left}, OpenedViews.{IsNamedSlot, IsRecordedAnew, ShowsLeft, ShowsOwn, left_holds}}}
 
 -- after mends a place shows what it did, or a unit that was mended there
 abbrev IsMendedOr : DataFile → Content → (old new : Image) → Place → Type 0

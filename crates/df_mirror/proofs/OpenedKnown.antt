@@ -1,17 +1,7 @@
 -- An image that shows each known unit shows the trailer and the named prepares of another one with the same superblock, where one checksum is one unit.
-use Rattle.std.proofs.Common.{◌≡◌, inl, inr, ℕ, zero, suc, ◌+◌, ◌-◌, ◌%◌, ◌<◌, ◌≤◌, List, [], ◌∷◌, ◌++◌, length, take, Some, refl, sym, ◌∙◌, ap, subst, arith, length-append}
-use Rattle.std.proofs.lemmas.Bool.{cases_eq}
-use Rattle.std.proofs.lemmas.List.{length-take}
+use Rattle.std.proofs.{Common.{◌≡◌, inl, inr, ℕ, zero, suc, ◌+◌, ◌-◌, ◌%◌, ◌<◌, ◌≤◌, List, [], ◌∷◌, ◌++◌, length, take, Some, refl, sym, ◌∙◌, ap, subst, arith, length-append}, lemmas.Bool.{cases_eq}, lemmas.List.{length-take}}
 use Rattle.df_format.specs.declared.kind.Kind.TheVariants.{Prepare as AsPrepare, Reply as AsReply, Trailer as AsTrailer}
-use Rattle.df_theory.specs.Units.{AnyUnit, Block, BlockPlace, BlockUnit, Content, CopyUnit, HeaderUnit, Message, Place, PreparePlace, PrepareUnit, ReplyUnit, Session, Units}
-use Rattle.df_theory.specs.Chance.{Distinct}
-use Rattle.df_theory.specs.Found.{AreOfPlaces}
-use Rattle.df_theory.specs.Opens.{AreKnown, AreLinks, IsLink, ReadsTo, named_by}
-use Rattle.df_theory.specs.Sessions.{noted}
-use Rattle.df_theory.specs.Shape.{Shape}
-use Rattle.df_theory.specs.Tails.{Chain, In, last_checksum}
-use Rattle.df_theory.specs.Trailer.{InChain, IsCount, Links}
-use Rattle.df_theory.proofs.Laws.{arrives_more, links_more}
+use Rattle.df_theory.{specs.{Units.{AnyUnit, Block, BlockPlace, BlockUnit, Content, CopyUnit, HeaderUnit, Message, Place, PreparePlace, PrepareUnit, ReplyUnit, Session, Units}, Chance.{Distinct}, Found.{AreOfPlaces}, Opens.{AreKnown, AreLinks, IsLink, ReadsTo, named_by}, Sessions.{noted}, Shape.{Shape}, Tails.{Chain, In, last_checksum}, Trailer.{InChain, IsCount, Links}}, proofs.Laws.{arrives_more, links_more}}
 use Rattle.df_units.specs.Wanted.{IsOfKind, checksum_of}
 use Rattle.df_mirror.specs.Known.{AllShown, IsNamedPrepare, IsShownAs, ShowsTrailer}
 

@@ -1,17 +1,7 @@
 -- Of a lived history each reply of the newest view's boot that its superblock records was stored below the head that the superblock records.
 use Rattle.std.proofs.Common.{◌≡◌, ◌⊎◌, inl, inr, ℕ, ◌<◌, ◌≤◌, List, [], ◌∷◌, ◌++◌, Some, None, refl, sym, ◌∙◌, ap, subst, arith}
-use Rattle.df_theory.specs.Units.{AnyUnit, Content, Message, Place, ReplyPlace, ReplyUnit, Units}
-use Rattle.df_theory.specs.Shape.{Shape}
-use Rattle.df_theory.specs.View.{View, boot_of, sequence}
-use Rattle.df_theory.specs.Shows.{AgreesReply}
-use Rattle.df_theory.specs.Holds.{Holds, Sound}
-use Rattle.df_theory.specs.Next.{Append, Boot, Finish, Next, Reply, Same}
-use Rattle.df_theory.specs.UnitLog.{Stopped, Synced, UnitEvent, UnitLog, Wrote, now, settled, settled_of}
-use Rattle.df_theory.specs.Chance.{InImages}
-use Rattle.df_theory.specs.Grown.{AllInHistory, Grows}
-use Rattle.df_theory.proofs.Laws.{made_reply, one_view, reply_here}
-use Rattle.df_history.specs.Histories.{Among, GrowsOn, InHistoryPool, IsBegunAnew, IsFirstLog, IsLived, IsSettled, StaysBare, all_settled}
-use Rattle.df_history.proofs.Laws.{choice_stays_law, images_either}
+use Rattle.df_theory.{specs.{Units.{AnyUnit, Content, Message, Place, ReplyPlace, ReplyUnit, Units}, Shape.{Shape}, View.{View, boot_of, sequence}, Shows.{AgreesReply}, Holds.{Holds, Sound}, Next.{Append, Boot, Finish, Next, Reply, Same}, UnitLog.{Stopped, Synced, UnitEvent, UnitLog, Wrote, now, settled, settled_of}, Chance.{InImages}, Grown.{AllInHistory, Grows}}, proofs.Laws.{made_reply, one_view, reply_here}}
+use Rattle.df_history.{specs.Histories.{Among, GrowsOn, InHistoryPool, IsBegunAnew, IsFirstLog, IsLived, IsSettled, StaysBare, all_settled}, proofs.Laws.{choice_stays_law, images_either}}
 use Rattle.df_mirror.proofs.OpenedPasts.{Rises, among_low, grows_rises, later_rises, newest_holds, newest_is, not_made, old_replies, old_start, pooled_settled, reply_agrees, rises_sound}
 
 -- a reply of the content's boot that it records was stored below the head that it records

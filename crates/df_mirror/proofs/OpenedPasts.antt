@@ -1,22 +1,7 @@
 -- The replies that a history ever settled, seen from its newest view: each is no newer than it, and in the newest log none is later than the last request of its session.
-use Rattle.std.proofs.Common.{◌≡◌, ◌⊎◌, inl, inr, ℕ, ◌+◌, ◌-◌, ◌<◌, ◌≤◌, List, [], ◌∷◌, drop, Some, refl, sym, ◌∙◌, ap, subst, arith}
-use Rattle.std.proofs.lemmas.Bool.{cases_lt}
-use Rattle.std.specs.List.{slice_get}
-use Rattle.df_theory.specs.Units.{AnyUnit, Content, IsAlone, Message, Place, ReplyPlace, ReplyUnit, Session, Units}
-use Rattle.df_theory.specs.Sessions.{noted, sessions_after}
-use Rattle.df_theory.specs.Shape.{Shape}
-use Rattle.df_theory.specs.View.{View, boot_of, head, sequence, sessions}
-use Rattle.df_theory.specs.Shows.{AgreesReply}
-use Rattle.df_theory.specs.Holds.{Holds, Sound}
-use Rattle.df_theory.specs.Next.{Append, AreInTurn, Boot, Finish, Next, Reply, Same}
-use Rattle.df_theory.specs.UnitLog.{Stopped, Synced, UnitEvent, UnitLog, Wrote, add, now, settled, settled_of}
-use Rattle.df_theory.specs.Chance.{InImages, InPool}
-use Rattle.df_theory.specs.First.{AreMade}
-use Rattle.df_theory.specs.Grown.{Begins, Grows, HasMade}
-use Rattle.df_theory.proofs.Laws.{made_reply, next_grew, no_choice, noted_get, one_view, sessions-append, sessions-drop}
-use Rattle.df_history.specs.Awakened.{IsAwakened}
-use Rattle.df_history.specs.Histories.{Among, GrowsOn, InHistoryPool, IsBegunAnew, IsFirstLog, IsLived, IsSettled, all_settled}
-use Rattle.df_history.proofs.Laws.{choice_stays_law, synced_settled}
+use Rattle.std.{proofs.{Common.{◌≡◌, ◌⊎◌, inl, inr, ℕ, ◌+◌, ◌-◌, ◌<◌, ◌≤◌, List, [], ◌∷◌, drop, Some, refl, sym, ◌∙◌, ap, subst, arith}, lemmas.Bool.{cases_lt}}, specs.List.{slice_get}}
+use Rattle.df_theory.{specs.{Units.{AnyUnit, Content, IsAlone, Message, Place, ReplyPlace, ReplyUnit, Session, Units}, Sessions.{noted, sessions_after}, Shape.{Shape}, View.{View, boot_of, head, sequence, sessions}, Shows.{AgreesReply}, Holds.{Holds, Sound}, Next.{Append, AreInTurn, Boot, Finish, Next, Reply, Same}, UnitLog.{Stopped, Synced, UnitEvent, UnitLog, Wrote, add, now, settled, settled_of}, Chance.{InImages, InPool}, First.{AreMade}, Grown.{Begins, Grows, HasMade}}, proofs.Laws.{made_reply, next_grew, no_choice, noted_get, one_view, sessions-append, sessions-drop}}
+use Rattle.df_history.{specs.{Awakened.{IsAwakened}, Histories.{Among, GrowsOn, InHistoryPool, IsBegunAnew, IsFirstLog, IsLived, IsSettled, all_settled}}, proofs.Laws.{choice_stays_law, synced_settled}}
 
 -- ---- the images of one log
 

@@ -1,34 +1,15 @@
 -- What a place shows of a file of which known units alone are hurt, and what mends leave there.
-use Rattle.std.proofs.Common.{◌≡◌, ◌⊎◌, inl, inr, ℕ, zero, suc, ◌+◌, ◌<◌, ◌≤◌, true, false, List, [], ◌∷◌, Option, Some, None, refl, sym, ◌∙◌, ap, subst, arith}
-use Rattle.std.specs.Prelude.{nat_le}
-use Rattle.std.proofs.lemmas.Bool.{cases_Bool, cases_lt, and_from, and_parts, le-leb, lt-ltb, leb-true, ltb-true}
-use Rattle.df_base.specs.Image.{Image, IsImage}
-use Rattle.df_base.specs.Log.{now}
-use Rattle.df_base.proofs.Laws.{written_is_image}
+use Rattle.std.{proofs.{Common.{◌≡◌, ◌⊎◌, inl, inr, ℕ, zero, suc, ◌+◌, ◌<◌, ◌≤◌, true, false, List, [], ◌∷◌, Option, Some, None, refl, sym, ◌∙◌, ap, subst, arith}, lemmas.Bool.{cases_Bool, cases_lt, and_from, and_parts, le-leb, lt-ltb, leb-true, ltb-true}}, specs.Prelude.{nat_le}}
+use Rattle.df_base.{specs.{Image.{Image, IsImage}, Log.{now}}, proofs.Laws.{written_is_image}}
 use Rattle.df_disk.specs.Told.{Told}
-use Rattle.df_layout.specs.declared.layout.Layout.{Layout}
-use Rattle.df_layout.specs.declared.places.Place.{Place as FilePlace}
-use Rattle.df_layout.specs.declared.places.Zone.{Zone}
-use Rattle.df_layout.specs.declared.places.Zone.TheVariants.{ClientReplies, Grid, Superblock, WalHeaders, WalPrepares}
-use Rattle.df_layout.specs.Zones.{first_sector, zone_sectors}
-use Rattle.df_layout.proofs.Laws.{are_apart, lies_inside, zones_follow}
-use Rattle.df_format.proofs.Laws.{has-true}
-use Rattle.df_format.specs.declared.kind.Kind.{Kind}
+use Rattle.df_layout.{specs.{declared.layout.Layout.{Layout}, declared.places.Place.{Place as FilePlace}, declared.places.Zone.{Zone}, declared.places.Zone.TheVariants.{ClientReplies, Grid, Superblock, WalHeaders, WalPrepares}, Zones.{first_sector, zone_sectors}}, proofs.Laws.{are_apart, lies_inside, zones_follow}}
+use Rattle.df_format.{proofs.Laws.{has-true}, specs.declared.kind.Kind.{Kind}}
 use Rattle.df_format.specs.declared.kind.Kind.TheVariants as kinds
-use Rattle.df_theory.specs.Shape.{Shape}
-use Rattle.df_theory.specs.UnitLog.{put_one}
-use Rattle.df_theory.specs.Units.{AnyUnit, BlockPlace, Content, CopyPlace, HeaderPlace, Place, PreparePlace, ReplyPlace, Units, or_else}
-use Rattle.df_theory.proofs.Laws.{put_one_law}
-use Rattle.df_units.specs.Bytes.{first_at, has, has_place, span_at}
-use Rattle.df_units.specs.Meaning.{place_of}
-use Rattle.df_units.specs.Wanted.{IsOfKind, checksum_of}
-use Rattle.df_units.proofs.Laws.{is_format}
-use Rattle.df_damage.specs.Anew.{told_after}
-use Rattle.df_damage.specs.Hurt.{IsUnhurt}
+use Rattle.df_theory.{specs.{Shape.{Shape}, UnitLog.{put_one}, Units.{AnyUnit, BlockPlace, Content, CopyPlace, HeaderPlace, Place, PreparePlace, ReplyPlace, Units, or_else}}, proofs.Laws.{put_one_law}}
+use Rattle.df_units.{specs.{Bytes.{first_at, has, has_place, span_at}, Meaning.{place_of}, Wanted.{IsOfKind, checksum_of}}, proofs.Laws.{is_format}}
+use Rattle.df_damage.specs.{Anew.{told_after}, Hurt.{IsUnhurt}}
 use Rattle.df_opening.specs.Below.{DataFile, shape}
-use Rattle.df_mirror.specs.Known.{IsKnownAt, IsNamedPrepare, IsRecordedReply}
-use Rattle.df_mirror.specs.Laws.{IsHurtKnown, IsOfKnown}
-use Rattle.df_mirror.specs.Mends.{AreMends, Mend, mirrored_events, units_shown}
+use Rattle.df_mirror.specs.{Known.{IsKnownAt, IsNamedPrepare, IsRecordedReply}, Laws.{IsHurtKnown, IsOfKnown}, Mends.{AreMends, Mend, mirrored_events, units_shown}}
 
 -- ---- where units are known
 

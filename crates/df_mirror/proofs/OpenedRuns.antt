@@ -1,32 +1,15 @@
 -- A run that ends as Done or Found mended known units, and shows them all.
-use Rattle.std.proofs.Common.{◌≡◌, ◌⊎◌, inl, inr, ℕ, List, Option, refl, sym, ◌∙◌, ap, subst}
-use Rattle.std.proofs.lemmas.Option.{same_Some}
-use Rattle.std.specs.Prelude.{Result, Ok, Err}
-use Rattle.df_base.specs.Image.{Image, IsImage}
-use Rattle.df_base.specs.Log.{Sync}
+use Rattle.std.{proofs.{Common.{◌≡◌, ◌⊎◌, inl, inr, ℕ, List, Option, refl, sym, ◌∙◌, ap, subst}, lemmas.Option.{same_Some}}, specs.Prelude.{Result, Ok, Err}}
+use Rattle.df_base.specs.{Image.{Image, IsImage}, Log.{Sync}}
 use Rattle.df_disk.specs.Told.{Told, did}
 use Rattle.df_format.specs.Copies.{content_with}
-use Rattle.df_theory.specs.Copies.{IsChosen}
-use Rattle.df_theory.specs.Found.{IsFound}
+use Rattle.df_theory.specs.{Copies.{IsChosen}, Found.{IsFound}}
 use Rattle.df_units.proofs.Laws.{choice_chosen}
-use Rattle.df_damage.specs.Anew.{told_after}
-use Rattle.df_damage.specs.Histories.{MayReopen}
-use Rattle.df_damage.specs.Unrefused.{IsNotRefused}
-use Rattle.df_damage.proofs.Laws.{same_goes_on, super_is_written_as}
+use Rattle.df_damage.{specs.{Anew.{told_after}, Histories.{MayReopen}, Unrefused.{IsNotRefused}}, proofs.Laws.{same_goes_on, super_is_written_as}}
 use Rattle.df_opening.specs.Below.{shape}
 use Rattle.df_program.proofs.Laws.{refusal_ends, text_ends}
-use Rattle.df_mirror.specs.declared.ending.Ending.{Ending}
-use Rattle.df_mirror.specs.declared.ending.Ending.TheVariants.{First, Neither, Second, Sink, Unopened}
-use Rattle.df_mirror.specs.declared.status.Status.{Status}
+use Rattle.df_mirror.{specs.{declared.ending.Ending.{Ending}, declared.ending.Ending.TheVariants.{First, Neither, Second, Sink, Unopened}, declared.status.Status.{Status}, Known.{AllShown}, Laws.{HasWoken, MendedIsOpened, NoneCameBack}, Mends.{AnswersMending, AreInOrder, Came, mirrored_events, units_shown}, Run.{TellsEnd}, Texts.{neither_text}, Walks.{content_of_superblock}}, proofs.{OpenedFiles.{mirrored_is_opened}, Runs.{mends_alike}}}
 use Rattle.df_mirror.specs.declared.status.Status.TheVariants as ends
-use Rattle.df_mirror.specs.Known.{AllShown}
-use Rattle.df_mirror.specs.Laws.{HasWoken, MendedIsOpened, NoneCameBack}
-use Rattle.df_mirror.specs.Mends.{AnswersMending, AreInOrder, Came, mirrored_events, units_shown}
-use Rattle.df_mirror.specs.Run.{TellsEnd}
-use Rattle.df_mirror.specs.Texts.{neither_text}
-use Rattle.df_mirror.specs.Walks.{content_of_superblock}
-use Rattle.df_mirror.proofs.OpenedFiles.{mirrored_is_opened}
-use Rattle.df_mirror.proofs.Runs.{mends_alike}
 
 -- the two statuses of a run that came to its end
 abbrev pub EndsWell : Status → Type 0

@@ -1,27 +1,10 @@
 -- An image that shows each known unit holds the view that was left, where what else it shows was left so or is of what is recorded.
-use Rattle.std.proofs.Common.{◌≡◌, ◌⊎◌, inl, inr, ℕ, ◌+◌, ◌-◌, ◌%◌, ◌<◌, ◌≤◌, List, ◌∷◌, slice_index, Some, refl, sym, ◌∙◌, ap, subst, arith}
-use Rattle.std.proofs.lemmas.Bool.{cases_lt}
-use Rattle.std.proofs.lemmas.Option.{same_Some}
+use Rattle.std.proofs.{Common.{◌≡◌, ◌⊎◌, inl, inr, ℕ, ◌+◌, ◌-◌, ◌%◌, ◌<◌, ◌≤◌, List, ◌∷◌, slice_index, Some, refl, sym, ◌∙◌, ap, subst, arith}, lemmas.Bool.{cases_lt}, lemmas.Option.{same_Some}}
 use Rattle.df_format.specs.declared.kind.Kind.TheVariants.{Reply as AsReply}
-use Rattle.df_theory.specs.Units.{AnyUnit, BlockPlace, BlockUnit, Content, CopyPlace, HeaderPlace, Message, Place, PreparePlace, PrepareUnit, ReplyPlace, ReplyUnit, Units}
-use Rattle.df_theory.specs.Copies.{IsChosen}
-use Rattle.df_theory.specs.Shape.{Shape, slots}
-use Rattle.df_theory.specs.View.{View, boot_of}
-use Rattle.df_theory.specs.Shows.{Agrees, AgreesReply, Needs}
-use Rattle.df_theory.specs.Holds.{Holds}
-use Rattle.df_theory.specs.UnitLog.{UnitLog, now, settled}
-use Rattle.df_theory.specs.Chance.{Distinct, InImages, InPool}
-use Rattle.df_theory.specs.Found.{AreOfPlaces}
-use Rattle.df_theory.proofs.Laws.{pool_pools, short_same}
+use Rattle.df_theory.{specs.{Units.{AnyUnit, BlockPlace, BlockUnit, Content, CopyPlace, HeaderPlace, Message, Place, PreparePlace, PrepareUnit, ReplyPlace, ReplyUnit, Units}, Copies.{IsChosen}, Shape.{Shape, slots}, View.{View, boot_of}, Shows.{Agrees, AgreesReply, Needs}, Holds.{Holds}, UnitLog.{UnitLog, now, settled}, Chance.{Distinct, InImages, InPool}, Found.{AreOfPlaces}}, proofs.Laws.{pool_pools, short_same}}
 use Rattle.df_units.specs.Wanted.{checksum_of}
-use Rattle.df_history.specs.Histories.{IsLived, MayStart}
-use Rattle.df_history.proofs.Laws.{choice_stays_law, history_pools}
-use Rattle.df_mirror.specs.Known.{AllShown, IsRecordedReply, ShowsTrailer}
-use Rattle.df_mirror.specs.Laws.{FoundHasNoneBack, LeftIsNoneBack, NoneCameBack}
-use Rattle.df_mirror.proofs.OpenedKnown.{chain_shown, front_shown, reply_of}
-use Rattle.df_mirror.proofs.OpenedMarks.{agrees_as, all_counted, same_reply}
-use Rattle.df_mirror.proofs.OpenedPasts.{Rises, newest_rises, old_replies, pooled_settled, reply_low}
-use Rattle.df_mirror.proofs.Logs.{known_there}
+use Rattle.df_history.{specs.Histories.{IsLived, MayStart}, proofs.Laws.{choice_stays_law, history_pools}}
+use Rattle.df_mirror.{specs.{Known.{AllShown, IsRecordedReply, ShowsTrailer}, Laws.{FoundHasNoneBack, LeftIsNoneBack, NoneCameBack}}, proofs.{OpenedKnown.{chain_shown, front_shown, reply_of}, OpenedMarks.{agrees_as, all_counted, same_reply}, OpenedPasts.{Rises, newest_rises, old_replies, pooled_settled, reply_low}, Logs.{known_there}}}
 
 -- ---- what is shown of what was left
 

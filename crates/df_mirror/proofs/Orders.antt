@@ -3,16 +3,9 @@ use Rattle.std.proofs.Common.{◌≡◌, ◌<◌, ℕ, List, Some, sym, ◌∙�
 use Rattle.df_format.specs.declared.kind.Kind.TheVariants.{Block as AsBlock, Prepare, Reply, Reserved, Trailer}
 use Rattle.df_sessions.specs.declared.session.Session.{Session}
 use Rattle.df_grid.specs.Grid.{GridState}
-use Rattle.df_theory.specs.Opens.{ReadsTo}
-use Rattle.df_theory.specs.Shape.{Shape}
-use Rattle.df_theory.specs.Units.{BlockPlace, Content, Parts, Place, Units}
+use Rattle.df_theory.specs.{Opens.{ReadsTo}, Shape.{Shape}, Units.{BlockPlace, Content, Parts, Place, Units}}
 use Rattle.df_opening.specs.Below.{shape}
-use Rattle.df_mirror.specs.declared.superblock.Superblock.{Superblock}
-use Rattle.df_mirror.specs.Known.{AreShownBefore, IsKnownAt, IsShownAs}
-use Rattle.df_mirror.specs.Walks.{ShowsBlocks, ShowsGrid, content_of_superblock}
-use Rattle.df_mirror.proofs.Chains.{all_of_it, arrives_there, shown_block}
-use Rattle.df_mirror.proofs.Ones.{one_trailer, passes_there, trailer_passes, trailer_there}
-use Rattle.df_mirror.proofs.Referenced.{shown_there}
+use Rattle.df_mirror.{specs.{declared.superblock.Superblock.{Superblock}, Known.{AreShownBefore, IsKnownAt, IsShownAs}, Walks.{ShowsBlocks, ShowsGrid, content_of_superblock}}, proofs.{Chains.{all_of_it, arrives_there, shown_block}, Ones.{one_trailer, passes_there, trailer_passes, trailer_there}, Referenced.{shown_there}}}
 
 -- nothing comes before the trailer
 pub before_trailer : (sh : Shape) (image : Units) (c : Content) (place : Place) → AreShownBefore sh image c Trailer place

@@ -1,47 +1,18 @@
 -- A run mends one list of units, and ends with one line and one status, by what both files show.
-use Rattle.std.proofs.Common.{◌≡◌, ◌⊎◌, ℕ, ◌≤◌, ◌^◌, List, [], ◌∷◌, ◌++◌, length, Option, Some, None, refl, sym, ◌∙◌, ap, subst, arith, inl, inr, length-append, append_assoc, append-nil}
-use Rattle.std.proofs.lemmas.Option.{same_Some}
-use Rattle.std.specs.Prelude.{Result, Ok, Err}
-use Rattle.df_base.specs.Image.{Image, written}
-use Rattle.df_base.specs.Log.{Sync}
-use Rattle.df_base.specs.Streams.{Appends, AppendsPart}
-use Rattle.df_base.proofs.Laws.{appends_more}
+use Rattle.std.{proofs.{Common.{◌≡◌, ◌⊎◌, ℕ, ◌≤◌, ◌^◌, List, [], ◌∷◌, ◌++◌, length, Option, Some, None, refl, sym, ◌∙◌, ap, subst, arith, inl, inr, length-append, append_assoc, append-nil}, lemmas.Option.{same_Some}}, specs.Prelude.{Result, Ok, Err}}
+use Rattle.df_base.{specs.{Image.{Image, written}, Log.{Sync}, Streams.{Appends, AppendsPart}}, proofs.Laws.{appends_more}}
 use Rattle.df_disk.specs.Told.{Told, did}
 use Rattle.df_inspect.specs.Opening.{open_refusal}
-use Rattle.df_layout.proofs.Laws.{same_layout}
-use Rattle.df_layout.specs.declared.damage.Class.{Class}
-use Rattle.df_layout.specs.declared.places.Place.{Place as FilePlace}
-use Rattle.df_format.specs.declared.kind.Kind.{Kind}
-use Rattle.df_format.specs.declared.superblock.SuperFields.{SuperFields}
-use Rattle.df_format.specs.Message.{sectors_of}
+use Rattle.df_layout.{proofs.Laws.{same_layout}, specs.{declared.damage.Class.{Class}, declared.places.Place.{Place as FilePlace}}}
+use Rattle.df_format.specs.{declared.kind.Kind.{Kind}, declared.superblock.SuperFields.{SuperFields}, Message.{sectors_of}}
 use Rattle.df_format.specs.Shown
-use Rattle.df_model.specs.declared.errors.OpenError.{OpenError}
-use Rattle.df_model.specs.declared.errors.OpenError.TheVariants.{BadField, DiskFault as Failing}
+use Rattle.df_model.specs.{declared.errors.OpenError.{OpenError}, declared.errors.OpenError.TheVariants.{BadField, DiskFault as Failing}}
 use Rattle.df_theory.specs.Units.{Content, Place}
-use Rattle.df_units.specs.Bytes.{first_at}
-use Rattle.df_units.specs.Meaning.{place_of}
-use Rattle.df_units.specs.Wanted.{IsOfKind, checksum_of, class_at}
+use Rattle.df_units.specs.{Bytes.{first_at}, Meaning.{place_of}, Wanted.{IsOfKind, checksum_of, class_at}}
 use Rattle.df_checkpoint.specs.Chain.{content_in}
-use Rattle.df_damage.specs.Anew.{told_after}
-use Rattle.df_damage.specs.Opening.{HasSuperAs, IsLayoutOf}
-use Rattle.df_damage.specs.Surveys.{HasFile}
-use Rattle.df_damage.proofs.Laws.{one_super, same_file, same_goes_on, super_as}
+use Rattle.df_damage.{specs.{Anew.{told_after}, Opening.{HasSuperAs, IsLayoutOf}, Surveys.{HasFile}}, proofs.Laws.{one_super, same_file, same_goes_on, super_as}}
 use Rattle.df_opening.specs.Below.{DataFile, shape}
-use Rattle.df_mirror.specs.declared.ending.Ending.{Ending}
-use Rattle.df_mirror.specs.declared.ending.Ending.TheVariants.{First, Neither, Second, Sink, Unopened}
-use Rattle.df_mirror.specs.declared.status.Status.{Status}
-use Rattle.df_mirror.specs.declared.status.Status.TheVariants.{DiskFault, Refused, WriteFault}
-use Rattle.df_mirror.specs.declared.superblock.Superblock.{Superblock}
-use Rattle.df_mirror.specs.Known.{AllShown, PassesTrailer}
-use Rattle.df_mirror.specs.Mends.{AnswersMending, AreInOrder, AreMends, Came, Failed, FailsAt, IsMend, IsNeither, Mend, lines_of, mirrored_events, under_way, units_shown}
-use Rattle.df_mirror.specs.Outcome.{ComesTo, IsWhole, Outcome, OutcomeIsOne, RunStopsBefore, StopsAt, StopsBefore}
-use Rattle.df_mirror.specs.Outside.{Outside, Writes, ended}
-use Rattle.df_mirror.specs.Refusals.{RefusesFirstTrailer}
-use Rattle.df_mirror.specs.Run.{Mirrored, TellsEnd}
-use Rattle.df_mirror.specs.Texts.{count_text, mended_text, neither_text}
-use Rattle.df_mirror.specs.Walks.{content_of_superblock}
-use Rattle.df_mirror.proofs.Firsts.{one_next}
-use Rattle.df_mirror.proofs.Refused.{one_refused, refused_or_next, refused_or_passes}
+use Rattle.df_mirror.{specs.{declared.ending.Ending.{Ending}, declared.ending.Ending.TheVariants.{First, Neither, Second, Sink, Unopened}, declared.status.Status.{Status}, declared.status.Status.TheVariants.{DiskFault, Refused, WriteFault}, declared.superblock.Superblock.{Superblock}, Known.{AllShown, PassesTrailer}, Mends.{AnswersMending, AreInOrder, AreMends, Came, Failed, FailsAt, IsMend, IsNeither, Mend, lines_of, mirrored_events, under_way, units_shown}, Outcome.{ComesTo, IsWhole, Outcome, OutcomeIsOne, RunStopsBefore, StopsAt, StopsBefore}, Outside.{Outside, Writes, ended}, Refusals.{RefusesFirstTrailer}, Run.{Mirrored, TellsEnd}, Texts.{count_text, mended_text, neither_text}, Walks.{content_of_superblock}}, proofs.{Firsts.{one_next}, Refused.{one_refused, refused_or_next, refused_or_passes}}}
 
 -- ---- what is mended next, and where nothing is
 

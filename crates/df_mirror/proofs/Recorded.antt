@@ -1,35 +1,15 @@
 -- The replies that the superblock records: which of them are known, what makes one due, and the walk one place further.
-use Rattle.std.proofs.Common.{◌≡◌, ◌⊎◌, ℕ, ◌<◌, ◌==◌, if◌then◌else◌, List, [], length, map, Option, Some, None, refl, sym, ◌∙◌, ap, subst, inl, inr}
-use Rattle.std.specs.List.{slice_get}
-use Rattle.std.specs.Prelude.{Result, Ok, Err, IfOk, OnOk, option_map, slice_index}
-use Rattle.std.proofs.lemmas.Option.{get_or_from_slice_get, same_Some, slice_get-map}
+use Rattle.std.{proofs.{Common.{◌≡◌, ◌⊎◌, ℕ, ◌<◌, ◌==◌, if◌then◌else◌, List, [], length, map, Option, Some, None, refl, sym, ◌∙◌, ap, subst, inl, inr}, lemmas.Option.{get_or_from_slice_get, same_Some, slice_get-map}}, specs.{List.{slice_get}, Prelude.{Result, Ok, Err, IfOk, OnOk, option_map, slice_index}}}
 use Rattle.df_disk.specs.Told.{Told}
-use Rattle.df_format.specs.declared.header.Header.{Header}
-use Rattle.df_format.specs.declared.kind.Kind.{Kind}
-use Rattle.df_format.specs.declared.kind.Kind.TheVariants.{Block as AsBlock, Prepare, Reply, Trailer}
+use Rattle.df_format.specs.{declared.header.Header.{Header}, declared.kind.Kind.{Kind}, declared.kind.Kind.TheVariants.{Block as AsBlock, Prepare, Reply, Trailer}, Shown.{class_at, header_or_class, unit_at}, Spelling.{IsCheck}}
 use Rattle.df_format.specs.Message as format
-use Rattle.df_format.specs.Shown.{class_at, header_or_class, unit_at}
-use Rattle.df_format.specs.Spelling.{IsCheck}
-use Rattle.df_layout.specs.declared.damage.Class.{Class}
-use Rattle.df_layout.specs.declared.places.Place.{Place as FilePlace}
-use Rattle.df_buffers.specs.declared.identity.Identity.{Identity}
-use Rattle.df_buffers.specs.declared.identity.Wanted.TheVariants.{Checksum}
-use Rattle.df_buffers.specs.Sounds.{Holding}
+use Rattle.df_layout.specs.{declared.damage.Class.{Class}, declared.places.Place.{Place as FilePlace}}
+use Rattle.df_buffers.specs.{declared.identity.Identity.{Identity}, declared.identity.Wanted.TheVariants.{Checksum}, Sounds.{Holding}}
 use Rattle.df_places.specs.Units.{IsSeen, header_at}
 use Rattle.df_theory.specs.Units.{BlockPlace, Message, Place, PreparePlace, ReplyPlace, ReplyUnit}
-use Rattle.df_units.specs.Bytes.{message_unit}
-use Rattle.df_units.specs.Meaning.{message_of, number_of, place_of}
+use Rattle.df_units.specs.{Bytes.{message_unit}, Meaning.{message_of, number_of, place_of}}
 use Rattle.df_opening.specs.Below.{shape}
-use Rattle.df_mirror.specs.declared.ending.Ending.{Ending}
-use Rattle.df_mirror.specs.declared.ending.Ending.TheVariants.{First}
-use Rattle.df_mirror.specs.declared.superblock.Superblock.{Superblock}
-use Rattle.df_mirror.specs.Known.{AreShownBefore, IsDue, IsKnownAt, IsRecordedReply, IsShownAs, PassesTrailer}
-use Rattle.df_mirror.specs.Mends.{AreAt}
-use Rattle.df_mirror.specs.Outside.{Outside, Tell, around}
-use Rattle.df_mirror.specs.Taking.{HoldsShown, IsFor, MendsUnit, ShowsHeld}
-use Rattle.df_mirror.specs.Walks.{HasNewer, IsNewer, MendsRecorded, content_of_superblock, superblock_units}
-use Rattle.df_mirror.proofs.Joined.{none_came, none_failed}
-use Rattle.df_mirror.proofs.Turns.{holds}
+use Rattle.df_mirror.{specs.{declared.ending.Ending.{Ending}, declared.ending.Ending.TheVariants.{First}, declared.superblock.Superblock.{Superblock}, Known.{AreShownBefore, IsDue, IsKnownAt, IsRecordedReply, IsShownAs, PassesTrailer}, Mends.{AreAt}, Outside.{Outside, Tell, around}, Taking.{HoldsShown, IsFor, MendsUnit, ShowsHeld}, Walks.{HasNewer, IsNewer, MendsRecorded, content_of_superblock, superblock_units}}, proofs.{Joined.{none_came, none_failed}, Turns.{holds}}}
 
 -- ---- what is seen in a slot
 

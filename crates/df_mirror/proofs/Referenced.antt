@@ -1,33 +1,15 @@
 -- A referenced block, as a turn over the addresses.
-use Rattle.std.proofs.Common.{◌≡◌, ℕ, ◌+◌, ◌<◌, List, Option, Some, None, sym, ◌∙◌, ap, subst, arith, inl, inr}
-use Rattle.std.proofs.lemmas.Bool.{cases_eq}
-use Rattle.std.proofs.lemmas.Option.{same_Some}
-use Rattle.std.specs.Prelude.{Result, Ok, Err, IfOk, OnOk}
+use Rattle.std.{proofs.{Common.{◌≡◌, ℕ, ◌+◌, ◌<◌, List, Option, Some, None, sym, ◌∙◌, ap, subst, arith, inl, inr}, lemmas.Bool.{cases_eq}, lemmas.Option.{same_Some}}, specs.Prelude.{Result, Ok, Err, IfOk, OnOk}}
 use Rattle.df_disk.specs.Told.{Told}
-use Rattle.df_format.specs.declared.kind.Kind.{Kind}
-use Rattle.df_format.specs.declared.kind.Kind.TheVariants.{Block as AsBlock, Prepare, Reply, Trailer}
-use Rattle.df_format.specs.Spelling.{IsCheck}
-use Rattle.df_buffers.specs.declared.identity.Identity.{Identity}
-use Rattle.df_buffers.specs.Sounds.{Holding}
+use Rattle.df_format.specs.{declared.kind.Kind.{Kind}, declared.kind.Kind.TheVariants.{Block as AsBlock, Prepare, Reply, Trailer}, Spelling.{IsCheck}}
+use Rattle.df_buffers.specs.{declared.identity.Identity.{Identity}, Sounds.{Holding}}
 use Rattle.df_model.specs.Blocks.{sum_at}
-use Rattle.df_theory.specs.Trailer.{InChain}
-use Rattle.df_theory.specs.Units.{Block, BlockPlace, Parts, Place, PreparePlace, ReplyPlace, Units}
+use Rattle.df_theory.specs.{Trailer.{InChain}, Units.{Block, BlockPlace, Parts, Place, PreparePlace, ReplyPlace, Units}}
 use Rattle.df_sessions.specs.declared.session.Session.{Session}
 use Rattle.df_units.specs.Meaning.{number_of}
-use Rattle.df_grid.specs.Grid.{GridState}
-use Rattle.df_grid.specs.Reads.{at_address}
+use Rattle.df_grid.specs.{Grid.{GridState}, Reads.{at_address}}
 use Rattle.df_opening.specs.Below.{shape}
-use Rattle.df_mirror.specs.declared.ending.Ending.{Ending}
-use Rattle.df_mirror.specs.declared.superblock.Superblock.{Superblock}
-use Rattle.df_mirror.specs.Known.{ComesBefore, IsDue, IsKnownAt, IsShownAs, IsSparePlace}
-use Rattle.df_mirror.specs.Mends.{AreOfKind}
-use Rattle.df_mirror.specs.Outside.{Outside, Tell}
-use Rattle.df_mirror.specs.Taking.{HoldsShown, MendsUnit}
-use Rattle.df_mirror.specs.Walks.{HasTrailerText, HasWaiting, Mended, ShowsBlocks, content_of_superblock, superblock_units}
-use Rattle.df_mirror.proofs.Chains.{all_of_it, shown_block}
-use Rattle.df_mirror.proofs.Frames.{other_place}
-use Rattle.df_mirror.proofs.Ones.{one_trailer, trailer_passes, trailer_there, wanted_block}
-use Rattle.df_mirror.proofs.Turns.{MendsDue, due_mended, none_mended, of_one}
+use Rattle.df_mirror.{specs.{declared.ending.Ending.{Ending}, declared.superblock.Superblock.{Superblock}, Known.{ComesBefore, IsDue, IsKnownAt, IsShownAs, IsSparePlace}, Mends.{AreOfKind}, Outside.{Outside, Tell}, Taking.{HoldsShown, MendsUnit}, Walks.{HasTrailerText, HasWaiting, Mended, ShowsBlocks, content_of_superblock, superblock_units}}, proofs.{Chains.{all_of_it, shown_block}, Frames.{other_place}, Ones.{one_trailer, trailer_passes, trailer_there, wanted_block}, Turns.{MendsDue, due_mended, none_mended, of_one}}}
 
 -- a place that is as it was shows what it did
 pub shown_there : (image other : Units) (kind : Kind) (place : Place) (sum : ℕ) → other place ≡ image place → IsShownAs image kind place sum → IsShownAs other kind place sum

@@ -1,36 +1,15 @@
 -- A trailer is refused for one thing, and once it is, no known unit is next, and it doesn't pass the tests of an open.
-use Rattle.std.proofs.Common.{◌≡◌, ℕ, ◌+◌, ◌-◌, ◌<◌, ◌≤◌, ◌^◌, true, false, List, [], ◌∷◌, length, min, Option, Some, None, refl, sym, ◌∙◌, ap, subst, arith, inl, inr}
-use Rattle.std.proofs.lemmas.Option.{same_Some}
-use Rattle.std.specs.Prelude.{◌⊎◌, Ok}
+use Rattle.std.{proofs.{Common.{◌≡◌, ℕ, ◌+◌, ◌-◌, ◌<◌, ◌≤◌, ◌^◌, true, false, List, [], ◌∷◌, length, min, Option, Some, None, refl, sym, ◌∙◌, ap, subst, arith, inl, inr}, lemmas.Option.{same_Some}}, specs.Prelude.{◌⊎◌, Ok}}
 use Rattle.df_base.specs.Image.{Image}
-use Rattle.df_format.specs.declared.kind.Kind.{Kind}
-use Rattle.df_format.specs.declared.kind.Kind.TheVariants.{Block as AsBlock, Prepare as AsPrepare, Reply as AsReply, Reserved, Trailer as AsTrailer}
-use Rattle.df_layout.specs.declared.fields.Field.{Field}
-use Rattle.df_layout.specs.declared.fields.Field.TheVariants.{TrailerChain}
-use Rattle.df_model.specs.Supply.{Shown}
-use Rattle.df_model.specs.Work.{is_known}
-use Rattle.df_model.specs.declared.errors.OpenError.{OpenError}
-use Rattle.df_model.specs.declared.errors.OpenError.TheVariants.{BadField}
-use Rattle.df_model.proofs.Laws.{count_le}
-use Rattle.df_theory.specs.Opens.{Arrives, IsLink, IsShown, ReadsTo}
-use Rattle.df_theory.specs.Sessions.{Has}
-use Rattle.df_theory.specs.Shape.{Shape}
-use Rattle.df_theory.specs.Trailer.{InChain, Links, Says, piece_size, text_of}
-use Rattle.df_theory.specs.Units.{Block, BlockPlace, BlockUnit, Content, Parts, Place, Units}
-use Rattle.df_trailer.specs.declared.fault.Fault.{Fault}
-use Rattle.df_trailer.specs.Text.{fault, parse_of, parts_of, unless}
+use Rattle.df_format.specs.{declared.kind.Kind.{Kind}, declared.kind.Kind.TheVariants.{Block as AsBlock, Prepare as AsPrepare, Reply as AsReply, Reserved, Trailer as AsTrailer}}
+use Rattle.df_layout.specs.{declared.fields.Field.{Field}, declared.fields.Field.TheVariants.{TrailerChain}}
+use Rattle.df_model.{specs.{Supply.{Shown}, Work.{is_known}, declared.errors.OpenError.{OpenError}, declared.errors.OpenError.TheVariants.{BadField}}, proofs.Laws.{count_le}}
+use Rattle.df_theory.specs.{Opens.{Arrives, IsLink, IsShown, ReadsTo}, Sessions.{Has}, Shape.{Shape}, Trailer.{InChain, Links, Says, piece_size, text_of}, Units.{Block, BlockPlace, BlockUnit, Content, Parts, Place, Units}}
+use Rattle.df_trailer.specs.{declared.fault.Fault.{Fault}, Text.{fault, parse_of, parts_of, unless}}
 use Rattle.df_grid.specs.Reads.{shown_of}
-use Rattle.df_checkpoint.specs.Chain.{IsBroken}
-use Rattle.df_checkpoint.specs.Laws.{AllChainShown}
-use Rattle.df_checkpoint.specs.Reads.{IsWholeChain}
-use Rattle.df_checkpoint.specs.Tests.{FailsTest}
-use Rattle.df_checkpoint.proofs.Laws.{broken_shown, its_text, one_test, some_chain, whole_shown}
+use Rattle.df_checkpoint.{specs.{Chain.{IsBroken}, Laws.{AllChainShown}, Reads.{IsWholeChain}, Tests.{FailsTest}}, proofs.Laws.{broken_shown, its_text, one_test, some_chain, whole_shown}}
 use Rattle.df_opening.specs.Below.{DataFile, shape}
-use Rattle.df_mirror.specs.Known.{IsNext, IsSparePlace, PassesTrailer, ShowsTrailer}
-use Rattle.df_mirror.specs.Mends.{units_shown}
-use Rattle.df_mirror.specs.Refusals.{ComesAgain, RefusesFirstTrailer}
-use Rattle.df_mirror.proofs.Chains.{all_of_it, asked_shown, one_wanted, read_known, read_shown, shown_block}
-use Rattle.df_mirror.proofs.Ones.{one_chain}
+use Rattle.df_mirror.{specs.{Known.{IsNext, IsSparePlace, PassesTrailer, ShowsTrailer}, Mends.{units_shown}, Refusals.{ComesAgain, RefusesFirstTrailer}}, proofs.{Chains.{all_of_it, asked_shown, one_wanted, read_known, read_shown, shown_block}, Ones.{one_chain}}}
 
 -- ---- a trailer that passes
 

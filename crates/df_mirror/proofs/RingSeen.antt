@@ -1,22 +1,10 @@
 -- What the table of slots says of a prepare: the image shows it, it has a client, and a shown one is in the table.
-use Rattle.std.proofs.Common.{◌≡◌, ◌≢◌, ℕ, ◌<◌, List, length, get_or, Option, Some, None, refl, sym, ◌∙◌, ap, subst, arith, inl, inr}
-use Rattle.std.specs.List.{slice_get}
-use Rattle.std.specs.Prelude.{Result, Ok, Err}
-use Rattle.std.proofs.lemmas.Bool.{cases_lt}
-use Rattle.std.proofs.lemmas.Option.{slice_get-get_or}
+use Rattle.std.{proofs.{Common.{◌≡◌, ◌≢◌, ℕ, ◌<◌, List, length, get_or, Option, Some, None, refl, sym, ◌∙◌, ap, subst, arith, inl, inr}, lemmas.Bool.{cases_lt}, lemmas.Option.{slice_get-get_or}}, specs.{List.{slice_get}, Prelude.{Result, Ok, Err}}}
 use Rattle.df_buffers.specs.declared.slots.SlotSeen.{SlotSeen}
-use Rattle.df_format.specs.declared.header.Header.{Header}
-use Rattle.df_format.specs.declared.kind.Kind.{Kind}
+use Rattle.df_format.{specs.{declared.header.Header.{Header}, declared.kind.Kind.{Kind}, Own.{place_in}, Rules.{ObeysKind, ObeysPrepare}}, proofs.Laws.{valid_belongs}}
 use Rattle.df_format.specs.Message as format
-use Rattle.df_format.specs.Own.{place_in}
-use Rattle.df_format.specs.Rules.{ObeysKind, ObeysPrepare}
-use Rattle.df_format.proofs.Laws.{valid_belongs}
-use Rattle.df_layout.specs.declared.damage.Class.{Class}
-use Rattle.df_layout.specs.declared.layout.Layout.{Layout}
-use Rattle.df_layout.specs.declared.places.Zone.TheVariants.{WalPrepares}
-use Rattle.df_journal.specs.Scan.{Scan, entry, or_blank}
-use Rattle.df_journal.specs.Seen.{header_of_seen}
-use Rattle.df_journal.specs.Shows.{IsSeenTable, ShowsPrepare, TellsRings}
+use Rattle.df_layout.specs.{declared.damage.Class.{Class}, declared.layout.Layout.{Layout}, declared.places.Zone.TheVariants.{WalPrepares}}
+use Rattle.df_journal.specs.{Scan.{Scan, entry, or_blank}, Seen.{header_of_seen}, Shows.{IsSeenTable, ShowsPrepare, TellsRings}}
 use Rattle.df_places.specs.Units.{IsThere}
 use Rattle.df_theory.specs.Units.{AnyUnit, Message, PreparePlace, PrepareUnit, Units}
 use Rattle.df_units.specs.Meaning.{header_of}

@@ -1,24 +1,12 @@
 -- In a run each known unit that is shown stays shown, by the log that begins after its barrier.
-use Rattle.std.proofs.Common.{◌≡◌, ℕ, List, [], ◌∷◌, ◌++◌, Option, Some, None, refl, sym, ◌∙◌, ap, subst, append_assoc, append-nil, inl, inr}
-use Rattle.std.specs.Prelude.{Result, Ok, Err}
-use Rattle.df_base.specs.Image.{Image, IsImage, written}
-use Rattle.df_base.specs.Log.{Event, Log, Sync}
-use Rattle.df_base.specs.Moments.{EachMoment, Extends}
-use Rattle.df_base.proofs.Laws.{extends_on}
-use Rattle.df_disk.specs.Adds.{AddsPart, after_all}
-use Rattle.df_disk.specs.Told.{Told, after, did}
-use Rattle.df_disk.proofs.Laws.{after_append}
+use Rattle.std.{proofs.Common.{◌≡◌, ℕ, List, [], ◌∷◌, ◌++◌, Option, Some, None, refl, sym, ◌∙◌, ap, subst, append_assoc, append-nil, inl, inr}, specs.Prelude.{Result, Ok, Err}}
+use Rattle.df_base.{specs.{Image.{Image, IsImage, written}, Log.{Event, Log, Sync}, Moments.{EachMoment, Extends}}, proofs.Laws.{extends_on}}
+use Rattle.df_disk.{specs.{Adds.{AddsPart, after_all}, Told.{Told, after, did}}, proofs.Laws.{after_append}}
 use Rattle.df_theory.specs.Units.{Content}
 use Rattle.df_units.specs.Bytes.{first_at}
 use Rattle.df_damage.specs.Anew.{restarted, told_after}
 use Rattle.df_opening.specs.Below.{DataFile}
-use Rattle.df_mirror.specs.declared.ending.Ending.{Ending}
-use Rattle.df_mirror.specs.declared.ending.Ending.TheVariants.{First, Neither, Second, Sink, Unopened}
-use Rattle.df_mirror.specs.Laws.{KeepsKnown, LeavesKnownShown, RunKeepsKnown}
-use Rattle.df_mirror.specs.Mends.{AnswersMending, AreInOrder, AreMends, Came, Failed, FailsAt, IsMend, Mend, mirrored_events, under_way}
-use Rattle.df_mirror.specs.Walks.{content_of_superblock}
-use Rattle.df_mirror.proofs.Joined.{after_told, events_append, told_append}
-use Rattle.df_mirror.proofs.Stays.{known_stays, told_extends}
+use Rattle.df_mirror.{specs.{declared.ending.Ending.{Ending}, declared.ending.Ending.TheVariants.{First, Neither, Second, Sink, Unopened}, Laws.{KeepsKnown, LeavesKnownShown, RunKeepsKnown}, Mends.{AnswersMending, AreInOrder, AreMends, Came, Failed, FailsAt, IsMend, Mend, mirrored_events, under_way}, Walks.{content_of_superblock}}, proofs.{Joined.{after_told, events_append, told_append}, Stays.{known_stays, told_extends}}}
 
 -- mends of what a disk shows are mends of what another one shows that shows the same
 pub mends_alike : (file : DataFile) (c : Content) (second : Image) (t u : Told) (ms : List Mend) → u.shown ≡ t.shown → AreMends file c second t ms → AreMends file c second u ms

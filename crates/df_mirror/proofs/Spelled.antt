@@ -1,19 +1,8 @@
 -- The sectors that bring a unit, with zeros after it, are the unit's own.
-use Rattle.std.proofs.Common.{◌≡◌, ◌≢◌, ℕ, ◌+◌, ◌-◌, ◌*◌, ◌≤◌, List, [], ◌++◌, length, take, drop, replicate, Some, refl, sym, ◌∙◌, ap, subst, arith, append-nil, length-append, length-drop}
-use Rattle.std.proofs.lemmas.List.{length-replicate, length-take, take-append-drop, take-append-le, take_at}
+use Rattle.std.proofs.{Common.{◌≡◌, ◌≢◌, ℕ, ◌+◌, ◌-◌, ◌*◌, ◌≤◌, List, [], ◌++◌, length, take, drop, replicate, Some, refl, sym, ◌∙◌, ap, subst, arith, append-nil, length-append, length-drop}, lemmas.List.{length-replicate, length-take, take-append-drop, take-append-le, take_at}}
 use Rattle.df_base.proofs.Laws.{AreBytes-append, AreBytes-zeros}
-use Rattle.df_layout.specs.declared.layout.Layout.{Layout}
-use Rattle.df_layout.specs.declared.places.Place.{Place}
-use Rattle.df_layout.specs.declared.places.Zone.{Zone}
-use Rattle.df_layout.specs.declared.places.Zone.TheVariants.{WalHeaders}
-use Rattle.df_layout.specs.Spans.{place_sectors}
-use Rattle.df_format.specs.declared.header.Header.{Header}
-use Rattle.df_format.specs.Brings.{Brings}
-use Rattle.df_format.specs.Message.{Message, sectors_end, sectors_of, unit_bytes}
-use Rattle.df_format.specs.Shown.{unit_in}
-use Rattle.df_format.specs.UnitLaws.{place_size}
-use Rattle.df_format.specs.Valid.{BeginsWithUnit, HasBody, IsUnit}
-use Rattle.df_format.proofs.Laws.{body_follows, count_is, length-unit, one_unit}
+use Rattle.df_layout.specs.{declared.layout.Layout.{Layout}, declared.places.Place.{Place}, declared.places.Zone.{Zone}, declared.places.Zone.TheVariants.{WalHeaders}, Spans.{place_sectors}}
+use Rattle.df_format.{specs.{declared.header.Header.{Header}, Brings.{Brings}, Message.{Message, sectors_end, sectors_of, unit_bytes}, Shown.{unit_in}, UnitLaws.{place_size}, Valid.{BeginsWithUnit, HasBody, IsUnit}}, proofs.Laws.{body_follows, count_is, length-unit, one_unit}}
 use Rattle.df_buffers.specs.Sounds.{EndsInZeros}
 
 its_size : (zone : Zone) (h : Header) (body : List ℕ) → zone ≢ WalHeaders → HasBody zone h body → h.size ≡ 256 + length body

@@ -1,32 +1,13 @@
 -- A known unit that is shown is shown at every moment of the mends of others.
-use Rattle.std.proofs.Common.{◌≡◌, ℕ, ◌+◌, ◌-◌, ◌%◌, ◌<◌, ◌≤◌, ◌||◌, Bool, List, [], ◌∷◌, ◌++◌, length, Option, Some, refl, sym, ◌∙◌, ap, subst, arith, inl, inr, length-append}
-use Rattle.std.specs.Prelude.{slice_index}
-use Rattle.df_base.specs.Image.{Image, IsImage}
-use Rattle.df_base.specs.Log.{Event, IsLeft, Log, Sync, Write, loose}
-use Rattle.df_base.specs.Moments.{EachMoment, Extends}
-use Rattle.df_base.proofs.Laws.{extends_on, extends_self, from_before, started, written_is_image}
-use Rattle.df_disk.specs.Told.{IsHonest, Told, did}
-use Rattle.df_disk.proofs.Laws.{honest_did}
-use Rattle.df_format.specs.declared.kind.Kind.{Kind}
-use Rattle.df_format.specs.declared.kind.Kind.TheVariants.{Block as AsBlock, Prepare, Reply, Reserved, Trailer}
-use Rattle.df_theory.specs.Opens.{AreKnown, AreLinks, Arrives, ReadsTo}
-use Rattle.df_theory.specs.Shape.{Shape, slots}
-use Rattle.df_theory.specs.Trailer.{InChain, IsCount, Links}
-use Rattle.df_theory.specs.Units.{AnyUnit, Block, BlockPlace, BlockUnit, Content, CopyPlace, HeaderPlace, Message, Place, PreparePlace, PrepareUnit, ReplyPlace, Units, is_some, or_else}
-use Rattle.df_theory.proofs.Laws.{arrives_more, links_more, link_of}
-use Rattle.df_units.specs.Bytes.{first_at}
-use Rattle.df_units.specs.Wanted.{checksum_of}
-use Rattle.df_units.proofs.Laws.{is_format}
+use Rattle.std.{proofs.Common.{◌≡◌, ℕ, ◌+◌, ◌-◌, ◌%◌, ◌<◌, ◌≤◌, ◌||◌, Bool, List, [], ◌∷◌, ◌++◌, length, Option, Some, refl, sym, ◌∙◌, ap, subst, arith, inl, inr, length-append}, specs.Prelude.{slice_index}}
+use Rattle.df_base.{specs.{Image.{Image, IsImage}, Log.{Event, IsLeft, Log, Sync, Write, loose}, Moments.{EachMoment, Extends}}, proofs.Laws.{extends_on, extends_self, from_before, started, written_is_image}}
+use Rattle.df_disk.{specs.Told.{IsHonest, Told, did}, proofs.Laws.{honest_did}}
+use Rattle.df_format.specs.{declared.kind.Kind.{Kind}, declared.kind.Kind.TheVariants.{Block as AsBlock, Prepare, Reply, Reserved, Trailer}}
+use Rattle.df_theory.{specs.{Opens.{AreKnown, AreLinks, Arrives, ReadsTo}, Shape.{Shape, slots}, Trailer.{InChain, IsCount, Links}, Units.{AnyUnit, Block, BlockPlace, BlockUnit, Content, CopyPlace, HeaderPlace, Message, Place, PreparePlace, PrepareUnit, ReplyPlace, Units, is_some, or_else}}, proofs.Laws.{arrives_more, links_more, link_of}}
+use Rattle.df_units.{specs.{Bytes.{first_at}, Wanted.{checksum_of}}, proofs.Laws.{is_format}}
 use Rattle.df_damage.specs.Anew.{IsStill, told_after}
 use Rattle.df_opening.specs.Below.{DataFile, shape}
-use Rattle.df_mirror.specs.Known.{IsKnownAt, IsNamedPrepare, IsShownAs, IsSparePlace}
-use Rattle.df_mirror.specs.Laws.{KnownStays, LeavesKnownShown}
-use Rattle.df_mirror.specs.Mends.{AreMends, IsMend, Mend, mirrored_events, units_shown}
-use Rattle.df_mirror.proofs.Chains.{arrives_there, shown_block}
-use Rattle.df_mirror.proofs.Frames.{put_elsewhere, stays}
-use Rattle.df_mirror.proofs.Ones.{trailer_there}
-use Rattle.df_mirror.proofs.OpenedPlaces.{known_reply}
-use Rattle.df_mirror.proofs.Referenced.{shown_there}
+use Rattle.df_mirror.{specs.{Known.{IsKnownAt, IsNamedPrepare, IsShownAs, IsSparePlace}, Laws.{KnownStays, LeavesKnownShown}, Mends.{AreMends, IsMend, Mend, mirrored_events, units_shown}}, proofs.{Chains.{arrives_there, shown_block}, Frames.{put_elsewhere, stays}, Ones.{trailer_there}, OpenedPlaces.{known_reply}, Referenced.{shown_there}}}
 
 -- ---- each block of a chain is known
 

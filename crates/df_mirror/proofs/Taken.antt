@@ -1,43 +1,16 @@
 -- One unit is mended, or isn't: as a list of mends.
-use Rattle.std.proofs.Common.{◌≡◌, ◌≢◌, ℕ, List, [], ◌∷◌, length, take, Option, Some, None, refl, sym, ◌∙◌, ap, subst, arith}
-use Rattle.std.proofs.lemmas.List.{append-nil, length-take}
-use Rattle.std.proofs.lemmas.Option.{same_Some}
-use Rattle.std.specs.Prelude.{Result, Ok, Err}
-use Rattle.df_base.specs.Image.{IsImage}
-use Rattle.df_base.specs.Log.{Sync, Write}
-use Rattle.df_base.specs.Streams.{Appends}
+use Rattle.std.{proofs.{Common.{◌≡◌, ◌≢◌, ℕ, List, [], ◌∷◌, length, take, Option, Some, None, refl, sym, ◌∙◌, ap, subst, arith}, lemmas.List.{append-nil, length-take}, lemmas.Option.{same_Some}}, specs.Prelude.{Result, Ok, Err}}
+use Rattle.df_base.specs.{Image.{IsImage}, Log.{Sync, Write}, Streams.{Appends}}
 use Rattle.df_inspect.proofs.Laws.{appends_none}
 use Rattle.df_disk.specs.Told.{Told, did}
-use Rattle.df_layout.specs.declared.damage.Class.{Class}
-use Rattle.df_layout.specs.declared.places.Place.{Place as FilePlace}
-use Rattle.df_layout.specs.declared.places.Zone.TheVariants.{ClientReplies, Grid, WalHeaders, WalPrepares}
-use Rattle.df_format.specs.declared.kind.Kind.{Kind}
-use Rattle.df_format.specs.declared.kind.Kind.TheVariants.{Block, Prepare, Reply, Trailer}
-use Rattle.df_format.specs.Brings.{Brings}
-use Rattle.df_format.specs.Message.{sectors_end, sectors_of}
-use Rattle.df_buffers.specs.declared.identity.Identity.{Identity}
-use Rattle.df_buffers.specs.declared.identity.Wanted.TheVariants.{Checksum}
-use Rattle.df_buffers.specs.Sounds.{Holding, IsTidy}
+use Rattle.df_layout.specs.{declared.damage.Class.{Class}, declared.places.Place.{Place as FilePlace}, declared.places.Zone.TheVariants.{ClientReplies, Grid, WalHeaders, WalPrepares}}
+use Rattle.df_format.specs.{declared.kind.Kind.{Kind}, declared.kind.Kind.TheVariants.{Block, Prepare, Reply, Trailer}, Brings.{Brings}, Message.{sectors_end, sectors_of}}
+use Rattle.df_buffers.specs.{declared.identity.Identity.{Identity}, declared.identity.Wanted.TheVariants.{Checksum}, Sounds.{Holding, IsTidy}}
 use Rattle.df_places.specs.Shelves.{IsFoundUnit, IsRead, shown_at}
-use Rattle.df_theory.specs.Device.{IsPut}
-use Rattle.df_theory.specs.UnitLog.{put_one}
-use Rattle.df_theory.specs.Units.{AnyUnit, BlockPlace, Content, Place, PreparePlace, ReplyPlace, or_else}
-use Rattle.df_theory.proofs.Laws.{put_one_law}
-use Rattle.df_units.specs.Bytes.{first_at}
-use Rattle.df_units.specs.Format.{format_of}
-use Rattle.df_units.specs.Meaning.{number_of, place_of}
+use Rattle.df_theory.{specs.{Device.{IsPut}, UnitLog.{put_one}, Units.{AnyUnit, BlockPlace, Content, Place, PreparePlace, ReplyPlace, or_else}}, proofs.Laws.{put_one_law}}
+use Rattle.df_units.specs.{Bytes.{first_at}, Format.{format_of}, Meaning.{number_of, place_of}}
 use Rattle.df_opening.specs.Below.{DataFile, shape}
-use Rattle.df_mirror.specs.declared.ending.Ending.{Ending}
-use Rattle.df_mirror.specs.declared.ending.Ending.TheVariants.{First, Neither, Second, Sink, Unopened}
-use Rattle.df_mirror.specs.Known.{IsDue, IsKnownAt, IsShownAs}
-use Rattle.df_mirror.specs.Mends.{AnswersMending, AreAt, Came, Failed, IsMend, IsNeither, IsRefusal, Mend, units_shown}
-use Rattle.df_mirror.specs.Outside.{Outside}
-use Rattle.df_mirror.specs.Taking.{IsFor, PutsUnit, ShowsUnit, TakesUnit, WritesUnit}
-use Rattle.df_mirror.specs.Texts.{mended_text}
-use Rattle.df_mirror.proofs.Frames.{IsPlaceOf, known_place}
-use Rattle.df_mirror.proofs.Joined.{none_came, none_failed}
-use Rattle.df_mirror.proofs.Loaded.{IsUnitOf, class_is, found_unit, lacks_unit, shows_unit}
-use Rattle.df_mirror.proofs.Spelled.{exact_sectors}
+use Rattle.df_mirror.{specs.{declared.ending.Ending.{Ending}, declared.ending.Ending.TheVariants.{First, Neither, Second, Sink, Unopened}, Known.{IsDue, IsKnownAt, IsShownAs}, Mends.{AnswersMending, AreAt, Came, Failed, IsMend, IsNeither, IsRefusal, Mend, units_shown}, Outside.{Outside}, Taking.{IsFor, PutsUnit, ShowsUnit, TakesUnit, WritesUnit}, Texts.{mended_text}}, proofs.{Frames.{IsPlaceOf, known_place}, Joined.{none_came, none_failed}, Loaded.{IsUnitOf, class_is, found_unit, lacks_unit, shows_unit}, Spelled.{exact_sectors}}}
 
 -- ---- one
 

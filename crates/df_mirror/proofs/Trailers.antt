@@ -1,51 +1,21 @@
 -- What is read of the trailer, in the theory's words.
-use Rattle.std.proofs.Common.{◌≡◌, ◌≢◌, inl, inr, ℕ, ◌-◌, ◌<◌, ◌≤◌, List, [], Option, Some, None, refl, sym, ◌∙◌, ap, subst, arith}
-use Rattle.std.specs.Prelude.{◌^◌, min, Result, Ok, Err}
-use Rattle.df_base.specs.Fields.{AreBytes}
-use Rattle.df_base.specs.Image.{Image, IsImage}
-use Rattle.df_base.proofs.Laws.{some_number}
+use Rattle.std.{proofs.Common.{◌≡◌, ◌≢◌, inl, inr, ℕ, ◌-◌, ◌<◌, ◌≤◌, List, [], Option, Some, None, refl, sym, ◌∙◌, ap, subst, arith}, specs.Prelude.{◌^◌, min, Result, Ok, Err}}
+use Rattle.df_base.{specs.{Fields.{AreBytes}, Image.{Image, IsImage}}, proofs.Laws.{some_number}}
 use Rattle.df_disk.specs.Told.{Told}
-use Rattle.df_layout.specs.declared.fields.Field.TheVariants.{Pending}
-use Rattle.df_layout.specs.declared.layout.Layout.{Layout}
-use Rattle.df_format.specs.declared.kind.Kind.TheVariants.{Trailer}
-use Rattle.df_format.specs.SuperRules.{IsSuper}
-use Rattle.df_model.specs.Blocks.{Blocks, addresses, entries, sum_at}
-use Rattle.df_model.specs.declared.errors.OpenError.TheVariants.{BadField, BootSpent, Damaged, DiskFault, LayoutDiffers, NoQuorum, NotFormatted, Version}
-use Rattle.df_model.proofs.Laws.{entry_at, entry_in}
-use Rattle.df_theory.specs.Sessions.{Has}
-use Rattle.df_theory.specs.Trailer.{no_parts, text_of}
+use Rattle.df_layout.specs.{declared.fields.Field.TheVariants.{Pending}, declared.layout.Layout.{Layout}}
+use Rattle.df_format.specs.{declared.kind.Kind.TheVariants.{Trailer}, SuperRules.{IsSuper}}
+use Rattle.df_model.{specs.{Blocks.{Blocks, addresses, entries, sum_at}, declared.errors.OpenError.TheVariants.{BadField, BootSpent, Damaged, DiskFault, LayoutDiffers, NoQuorum, NotFormatted, Version}}, proofs.Laws.{entry_at, entry_in}}
+use Rattle.df_theory.{specs.{Sessions.{Has}, Trailer.{no_parts, text_of}, Units.{BlockPlace, Parts, Units}}, proofs.Laws.{text_bytes}}
 use Rattle.df_theory.specs.Units as model
-use Rattle.df_theory.specs.Units.{BlockPlace, Parts, Units}
-use Rattle.df_theory.proofs.Laws.{text_bytes}
-use Rattle.df_units.specs.Meaning.{layout_of}
-use Rattle.df_units.proofs.Laws.{of_places}
-use Rattle.df_sessions.specs.declared.session.Session.{Session}
-use Rattle.df_sessions.specs.Requests.{sessions_of}
-use Rattle.df_trailer.specs.Reading.{HasRead}
-use Rattle.df_trailer.specs.Rooms.{AreParts}
-use Rattle.df_trailer.specs.Text.{parse_of, parts_of}
+use Rattle.df_units.{specs.Meaning.{layout_of}, proofs.Laws.{of_places}}
+use Rattle.df_sessions.specs.{declared.session.Session.{Session}, Requests.{sessions_of}}
+use Rattle.df_trailer.{specs.{Reading.{HasRead}, Rooms.{AreParts}, Text.{parse_of, parts_of}, declared.reader.Reader.{Reader}}, proofs.Laws.{text_read}}
 use Rattle.df_trailer.specs.declared.parts.Parts as rooms
-use Rattle.df_trailer.specs.declared.reader.Reader.{Reader}
-use Rattle.df_trailer.proofs.Laws.{text_read}
-use Rattle.df_grid.specs.Grid.{GridState}
-use Rattle.df_grid.specs.Reads.{shown_of}
-use Rattle.df_grid.specs.Table.{no_blocks}
-use Rattle.df_checkpoint.specs.Chain.{OfTold}
-use Rattle.df_checkpoint.specs.Reads.{ChainAnswer, IsAdopted}
-use Rattle.df_checkpoint.specs.Waiting.{IsPendingReply}
-use Rattle.df_checkpoint.specs.declared.fault.TrailerFault.{TrailerFault}
+use Rattle.df_grid.specs.{Grid.{GridState}, Reads.{shown_of}, Table.{no_blocks}}
+use Rattle.df_checkpoint.{specs.{Chain.{OfTold}, Reads.{ChainAnswer, IsAdopted}, Waiting.{IsPendingReply}, declared.fault.TrailerFault.{TrailerFault}}, proofs.Laws.{its_text, some_chain, sessions_back, has_is, has_not}}
 use Rattle.df_checkpoint.specs.declared.fault.TrailerFault.TheVariants as trailer
-use Rattle.df_checkpoint.proofs.Laws.{its_text, some_chain, sessions_back, has_is, has_not}
 use Rattle.df_opening.specs.Below.{shape}
-use Rattle.df_mirror.specs.declared.ending.Ending.{Ending}
-use Rattle.df_mirror.specs.declared.ending.Ending.TheVariants.{First, Neither, Second, Sink, Unopened}
-use Rattle.df_mirror.specs.declared.superblock.Superblock.{Superblock}
-use Rattle.df_mirror.specs.Known.{AreShown}
-use Rattle.df_mirror.specs.Refusals.{RefusesFirstTrailer}
-use Rattle.df_mirror.specs.Trailers.{ReadsNamed, empty_grid, ending_of}
-use Rattle.df_mirror.specs.Walks.{HasTrailerText, ReadsChainText, content_of_superblock, superblock_units}
-use Rattle.df_mirror.proofs.Chains.{asked_shown, block_shown}
-use Rattle.df_mirror.proofs.Counts.{reference}
+use Rattle.df_mirror.{specs.{declared.ending.Ending.{Ending}, declared.ending.Ending.TheVariants.{First, Neither, Second, Sink, Unopened}, declared.superblock.Superblock.{Superblock}, Known.{AreShown}, Refusals.{RefusesFirstTrailer}, Trailers.{ReadsNamed, empty_grid, ending_of}, Walks.{HasTrailerText, ReadsChainText, content_of_superblock, superblock_units}}, proofs.{Chains.{asked_shown, block_shown}, Counts.{reference}}}
 
 -- ---- sessions
 

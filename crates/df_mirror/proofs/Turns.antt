@@ -1,28 +1,15 @@
 -- A turn of a walk over known units: what was mended so far and what it leaves, what is mended next, and both together.
-use Rattle.std.proofs.Common.{◌≡◌, ℕ, ◌+◌, ◌≤◌, List, [], ◌++◌, length, Option, Some, refl, sym, ◌∙◌, subst, arith}
-use Rattle.std.proofs.lemmas.Option.{same_Some}
-use Rattle.std.specs.Prelude.{Result, Ok, Err, IfOk, OnOk}
+use Rattle.std.{proofs.{Common.{◌≡◌, ℕ, ◌+◌, ◌≤◌, List, [], ◌++◌, length, Option, Some, refl, sym, ◌∙◌, subst, arith}, lemmas.Option.{same_Some}}, specs.Prelude.{Result, Ok, Err, IfOk, OnOk}}
 use Rattle.df_base.specs.Image.{Image}
 use Rattle.df_disk.specs.Told.{Told}
-use Rattle.df_format.specs.declared.kind.Kind.{Kind}
-use Rattle.df_format.specs.declared.kind.Kind.TheVariants.{Trailer}
+use Rattle.df_format.specs.{declared.kind.Kind.{Kind}, declared.kind.Kind.TheVariants.{Trailer}}
 use Rattle.df_layout.specs.declared.layout.Layout.{Layout}
-use Rattle.df_buffers.specs.declared.identity.Identity.{Identity}
-use Rattle.df_buffers.specs.Sounds.{Holding}
+use Rattle.df_buffers.specs.{declared.identity.Identity.{Identity}, Sounds.{Holding}}
 use Rattle.df_theory.specs.Units.{Place, Units}
 use Rattle.df_units.specs.Meaning.{number_of}
 use Rattle.df_program.specs.Two.{Faults}
 use Rattle.df_opening.specs.Below.{DataFile, shape}
-use Rattle.df_mirror.specs.declared.ending.Ending.{Ending}
-use Rattle.df_mirror.specs.declared.ending.Ending.TheVariants.{First}
-use Rattle.df_mirror.specs.declared.superblock.Superblock.{Superblock}
-use Rattle.df_mirror.specs.Known.{IsDue}
-use Rattle.df_mirror.specs.Mends.{AnswersMending, AreAt, AreOfKind, IsRefusal, Mend}
-use Rattle.df_mirror.specs.Outside.{Outside, Tell}
-use Rattle.df_mirror.specs.Statuses.{AreBlamed}
-use Rattle.df_mirror.specs.Taking.{HoldsShown, IsFor, MendsUnit, ShowsHeld, ShowsUnit}
-use Rattle.df_mirror.specs.Walks.{Mended, content_of_superblock, superblock_units}
-use Rattle.df_mirror.proofs.Joined.{answers_then, answers_with, kind_at, kinds_append, more, none_came, none_failed, told_is_whole}
+use Rattle.df_mirror.{specs.{declared.ending.Ending.{Ending}, declared.ending.Ending.TheVariants.{First}, declared.superblock.Superblock.{Superblock}, Known.{IsDue}, Mends.{AnswersMending, AreAt, AreOfKind, IsRefusal, Mend}, Outside.{Outside, Tell}, Statuses.{AreBlamed}, Taking.{HoldsShown, IsFor, MendsUnit, ShowsHeld, ShowsUnit}, Walks.{Mended, content_of_superblock, superblock_units}}, proofs.Joined.{answers_then, answers_with, kind_at, kinds_append, more, none_came, none_failed, told_is_whole}}
 
 -- ---- nothing was mended
 

@@ -1,8 +1,7 @@
 // The program: it has no words, and takes its memory once the first file's layout is known.
-ghost use Rattle.std.specs.Prelude.{◌≡◌, ◌⊎◌, ◌≢◌, [], map, string_bytes, Err, IfNone, IfOk, IfSome};
+ghost use Rattle.std.specs.Prelude.{◌≡◌, ◌≢◌, [], map, string_bytes, Err, IfNone, IfOk, IfSome};
 ghost use Rattle.df_base.specs.declared.TheConstants.{VERSION};
-ghost use Rattle.df_base.specs.Log.{Sync};
-ghost use Rattle.df_disk.specs.Told.{Told, after};
+ghost use Rattle.df_disk.specs.Told.{Told};
 ghost use Rattle.df_mirror.specs.Outside.{Blames, HasCausesOfTwo, Tell, Writes, around, counts};
 ghost use Rattle.df_mirror.specs.Run.{IsUndone, Mirrored, RunsMirror, TellsEnd};
 ghost use Rattle.df_mirror.specs.Texts.{mirror_usage};

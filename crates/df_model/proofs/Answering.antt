@@ -1,32 +1,13 @@
 -- Answers and their order.
-use Rattle.std.proofs.Common.{◌≡◌, ℕ, ◌+◌, ◌-◌, ◌^◌, ◌<◌, ◌≤◌, ◌==◌, ◌&&◌, ◌||◌, not, nat_lt, nat_le, Bool, true, false, List, [], ◌∷◌, length, Option, Some, None, Result, Ok, Err, refl, sym, ◌∙◌, ap, arith, eq-eqb, ne_eqb, lt-ltb, le-ltb, le-leb}
-use Rattle.std.specs.List.{slice_get}
-use Rattle.std.proofs.lemmas.Bool.{lt-leb, and_right, and_left, and_from}
-use Rattle.df_theory.specs.Units.{Parts, Session}
-use Rattle.df_theory.specs.Shape.{Shape}
-use Rattle.df_model.specs.Work.{Request, Running, Work}
-use Rattle.df_model.specs.Memory.{Course, Memory, course_of, free_of, block_room, memory_of, message_room}
-use Rattle.df_model.specs.Refusals.{append_refusals, begin_refusals, block_refusals, first_refusal, flush_refusals, is_last_request, is_new, is_running, is_staged, last_op, next_request, release_refusals, reply_refusals, request_refusals, session_of_client, stage_refusals, steps_left}
-use Rattle.df_model.specs.Making.{first_of, group_of, needed_of, next_address, place_of_reply, prepare_of, reply_of}
-use Rattle.df_model.specs.After.{after_check, after_running, after_step_of, begun, lookup_answer, outcome, prepare_answer, read_answer, to_check, with_group, with_live, with_prepare, with_reply, with_running, with_staged}
-use Rattle.df_model.specs.Commands.{Advance, Answer, Append, Begin, Command, Flush, Given, ReadBlock, ReadPrepare, ReadReply, Recent, Release, Reply, Scrub, Stage, ToAdvance, ToAppend, ToBegin, ToFlush, ToReadBlock, ToReadPrepare, ToReadReply, ToRecent, ToRelease, ToReply, ToScrub, ToStage, ToWriteBlock, WriteBlock, after, supplied_block, supplied_message, supplied_sum, supplied_sums, supplied_verdict}
-use Rattle.df_model.specs.Answering.{AppendsInOrder, MemoryLaw, OrderLaw, OthersInOrder, ReplyParentLaw}
-use Rattle.df_model.specs.declared.errors.AppendError.{AppendError}
+use Rattle.std.{proofs.{Common.{◌≡◌, ℕ, ◌+◌, ◌-◌, ◌^◌, ◌<◌, ◌≤◌, ◌==◌, ◌&&◌, ◌||◌, not, nat_lt, nat_le, Bool, true, false, List, [], ◌∷◌, length, Option, Some, None, Result, Ok, Err, refl, sym, ◌∙◌, ap, arith, eq-eqb, ne_eqb, lt-ltb, le-ltb, le-leb}, lemmas.Bool.{lt-leb, and_right, and_left, and_from}}, specs.List.{slice_get}}
+use Rattle.df_theory.specs.{Units.{Parts, Session}, Shape.{Shape}}
+use Rattle.df_model.{specs.{Work.{Request, Running, Work}, Memory.{Course, Memory, course_of, free_of, block_room, memory_of, message_room}, Refusals.{append_refusals, begin_refusals, block_refusals, first_refusal, flush_refusals, is_last_request, is_new, is_running, is_staged, last_op, next_request, release_refusals, reply_refusals, request_refusals, session_of_client, stage_refusals, steps_left}, Making.{first_of, group_of, needed_of, next_address, place_of_reply, prepare_of, reply_of}, After.{after_check, after_running, after_step_of, begun, lookup_answer, outcome, prepare_answer, read_answer, to_check, with_group, with_live, with_prepare, with_reply, with_running, with_staged}, Commands.{Advance, Answer, Append, Begin, Command, Flush, Given, ReadBlock, ReadPrepare, ReadReply, Recent, Release, Reply, Scrub, Stage, ToAdvance, ToAppend, ToBegin, ToFlush, ToReadBlock, ToReadPrepare, ToReadReply, ToRecent, ToRelease, ToReply, ToScrub, ToStage, ToWriteBlock, WriteBlock, after, supplied_block, supplied_message, supplied_sum, supplied_sums, supplied_verdict}, Answering.{AppendsInOrder, MemoryLaw, OrderLaw, OthersInOrder, ReplyParentLaw}, declared.errors.AppendError.{AppendError}, declared.errors.BeginError.{BeginError}, declared.errors.StepError.{StepError}, declared.errors.StepError.TheVariants.{NotRunning}, declared.answers.Progress.{Progress}, declared.answers.Progress.TheVariants.{Working, Done}, declared.answers.Verdict.{Verdict}, declared.answers.Scrubbed.{Scrubbed}, declared.answers.Scrubbed.TheVariants.{Checked, TourEnd}}, proofs.Tests.{behind_decides, first_refuses}}
 use Rattle.df_model.specs.declared.errors.AppendError.TheVariants as append
 use Rattle.df_model.specs.declared.errors.FlushError.TheVariants as flush
 use Rattle.df_model.specs.declared.errors.ReplyError.TheVariants as reply
 use Rattle.df_model.specs.declared.errors.BlockError.TheVariants as block
-use Rattle.df_model.specs.declared.errors.BeginError.{BeginError}
 use Rattle.df_model.specs.declared.errors.BeginError.TheVariants as begin
 use Rattle.df_model.specs.declared.reading.LookupError.TheVariants as lookup
-use Rattle.df_model.specs.declared.errors.StepError.{StepError}
-use Rattle.df_model.specs.declared.errors.StepError.TheVariants.{NotRunning}
-use Rattle.df_model.specs.declared.answers.Progress.{Progress}
-use Rattle.df_model.specs.declared.answers.Progress.TheVariants.{Working, Done}
-use Rattle.df_model.specs.declared.answers.Verdict.{Verdict}
-use Rattle.df_model.specs.declared.answers.Scrubbed.{Scrubbed}
-use Rattle.df_model.specs.declared.answers.Scrubbed.TheVariants.{Checked, TourEnd}
-use Rattle.df_model.proofs.Tests.{behind_decides, first_refuses}
 
 -- ---- answers by what is in memory
 

@@ -1,29 +1,9 @@
 -- An append.
-use Rattle.std.proofs.Common.{◌≡◌, inl, inr, ℕ, ◌+◌, ◌<◌, ◌≤◌, nat_lt, true, false, List, [], ◌∷◌, ◌++◌, length, take, Option, Some, None, refl, sym, ◌∙◌, ap, subst, arith, length-append, ltb-false, eqb-true}
-use Rattle.std.specs.Prelude.{◌-◌, ◌^◌}
-use Rattle.std.proofs.lemmas.List.{take-append-le}
-use Rattle.std.proofs.lemmas.Bool.{or_parts, not-false, eqb-false}
+use Rattle.std.{proofs.{Common.{◌≡◌, inl, inr, ℕ, ◌+◌, ◌<◌, ◌≤◌, nat_lt, true, false, List, [], ◌∷◌, ◌++◌, length, take, Option, Some, None, refl, sym, ◌∙◌, ap, subst, arith, length-append, ltb-false, eqb-true}, lemmas.List.{take-append-le}, lemmas.Bool.{or_parts, not-false, eqb-false}}, specs.Prelude.{◌-◌, ◌^◌}}
 use Rattle.df_base.proofs.Laws.{and_false}
-use Rattle.df_theory.specs.Units.{Header, Message, Session, Parts}
-use Rattle.df_theory.specs.Sessions.{MayAsk}
-use Rattle.df_theory.specs.Shape.{Shape}
-use Rattle.df_theory.specs.View.{View, head, sessions}
-use Rattle.df_theory.specs.Next.{IsStamped, MayAppend, appended}
-use Rattle.df_theory.proofs.Laws.{in_either, in_single, sessions-append, append_sound}
-use Rattle.df_model.specs.Work.{Request, Running, Work}
-use Rattle.df_model.specs.Codec.{AreLawful}
-use Rattle.df_model.specs.Refusals.{append_refusals, first_refusal, is_new, is_staged, last_op, next_request, request_refusals, session_of_client}
-use Rattle.df_model.specs.After.{with_group}
-use Rattle.df_model.specs.Sense.{AreWaiting, IsCapture, IsWork}
-use Rattle.df_model.specs.Laws.{AppendMayLaw}
+use Rattle.df_theory.{specs.{Units.{Header, Message, Session, Parts}, Sessions.{MayAsk}, Shape.{Shape}, View.{View, head, sessions}, Next.{IsStamped, MayAppend, appended}}, proofs.Laws.{in_either, in_single, sessions-append, append_sound}}
+use Rattle.df_model.{specs.{Work.{Request, Running, Work}, Codec.{AreLawful}, Refusals.{append_refusals, first_refusal, is_new, is_staged, last_op, next_request, request_refusals, session_of_client}, After.{with_group}, Sense.{AreWaiting, IsCapture, IsWork}, Laws.{AppendMayLaw}, Memory.{Memory, memory_of}, Making.{prepare_of}}, proofs.{Captures.{capture_on}, Tests.{get_front, get_last, all_pass, pass_both}, Groups.{nothing_staged}, Knows.{group_knows, one_fewer}, Sessions.{known_asks, new_asks, noted_lawful}}}
 use Rattle.df_model.specs.declared.errors.AppendError.TheVariants as append
-use Rattle.df_model.proofs.Captures.{capture_on}
-use Rattle.df_model.proofs.Tests.{get_front, get_last, all_pass, pass_both}
-use Rattle.df_model.proofs.Groups.{nothing_staged}
-use Rattle.df_model.proofs.Knows.{group_knows, one_fewer}
-use Rattle.df_model.proofs.Sessions.{known_asks, new_asks, noted_lawful}
-use Rattle.df_model.specs.Memory.{Memory, memory_of}
-use Rattle.df_model.specs.Making.{prepare_of}
 
 -- what is known of a request that isn't refused
 pub record IsAllowed (m : Memory) (client request : ℕ) (session : Option Session) : Type 0 where

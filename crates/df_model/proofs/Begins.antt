@@ -1,24 +1,7 @@
 -- A checkpoint that may be finished may be begun.
-use Rattle.std.proofs.Common.{◌≡◌, inl, inr, ℕ, zero, suc, ◌+◌, ◌-◌, ◌*◌, ◌^◌, ◌<◌, ◌≤◌, ◌==◌, ◌||◌, not, nat_lt, Bool, true, false, cond, if◌then◌else◌, List, [], ◌∷◌, length, refl, sym, ◌∙◌, ap, subst, arith, ne_eqb, le-ltb, eqb-true}
-use Rattle.std.specs.List.{filter, range_with_len}
-use Rattle.std.proofs.lemmas.Bool.Decides.{nat_tests}
-use Rattle.std.proofs.Math.Nat.{mul-add}
-use Rattle.std.proofs.lemmas.Bool.{eqb-false, or_right}
-use Rattle.df_theory.specs.Units.{Block, Parts}
-use Rattle.df_theory.specs.Trailer.{InChain, IsCount, Says, text_of}
-use Rattle.df_theory.specs.Shape.{Shape}
-use Rattle.df_theory.specs.View.{sequence}
-use Rattle.df_model.specs.Work.{Work, is_in}
-use Rattle.df_model.specs.Codec.{AreBytes, IsLawful}
-use Rattle.df_model.specs.Memory.{free_of, block_room, course_of, memory_of}
-use Rattle.df_model.specs.Refusals.{begin_refusals, is_running}
-use Rattle.df_model.specs.Making.{needed_of, parts_of, pieces_of}
-use Rattle.df_model.specs.Blocks.{blocks_of, is_held_in}
-use Rattle.df_model.proofs.Entries.{held_is}
-use Rattle.df_model.specs.Sense.{IsWork}
-use Rattle.df_model.specs.Answering.{AreDistinctBlocks, BeginExactLaw}
-use Rattle.df_model.proofs.Exact.{pass_all}
-use Rattle.df_model.proofs.Steps.{pieces_count}
+use Rattle.std.{proofs.{Common.{◌≡◌, inl, inr, ℕ, zero, suc, ◌+◌, ◌-◌, ◌*◌, ◌^◌, ◌<◌, ◌≤◌, ◌==◌, ◌||◌, not, nat_lt, Bool, true, false, cond, if◌then◌else◌, List, [], ◌∷◌, length, refl, sym, ◌∙◌, ap, subst, arith, ne_eqb, le-ltb, eqb-true}, lemmas.Bool.Decides.{nat_tests}, Math.Nat.{mul-add}, lemmas.Bool.{eqb-false, or_right}}, specs.List.{filter, range_with_len}}
+use Rattle.df_theory.specs.{Units.{Block, Parts}, Trailer.{InChain, IsCount, Says, text_of}, Shape.{Shape}, View.{sequence}}
+use Rattle.df_model.{specs.{Work.{Work, is_in}, Codec.{AreBytes, IsLawful}, Memory.{free_of, block_room, course_of, memory_of}, Refusals.{begin_refusals, is_running}, Making.{needed_of, parts_of, pieces_of}, Blocks.{blocks_of, is_held_in}, Sense.{IsWork}, Answering.{AreDistinctBlocks, BeginExactLaw}}, proofs.{Entries.{held_is}, Exact.{pass_all}, Steps.{pieces_count}}}
 
 -- ---- as many addresses as there are blocks
 

@@ -1,26 +1,7 @@
 -- Blocks that are written and released.
-use Rattle.std.proofs.Common.{◌≡◌, inl, inr, ℕ, zero, suc, ◌+◌, ◌<◌, ◌≤◌, ◌^◌, not, cond, [], ◌∷◌, ◌==◌, ◌||◌, Bool, true, false, if◌then◌else◌, List, length, Option, Some, None, refl, sym, ◌∙◌, ap, subst, arith, eqb-true}
-use Rattle.df_theory.specs.Units.{AnyUnit, BlockPlace, BlockUnit, Content, CopyPlace, Parts, Place, PreparePlace, Units, or_else, overlay}
-use Rattle.df_theory.specs.Copies.{Agree, IsChosen}
-use Rattle.df_theory.specs.Shows.{Agrees, Needs}
-use Rattle.df_theory.specs.Holds.{Holds}
-use Rattle.df_theory.proofs.Laws.{put_else, short_same, chosen_same}
-use Rattle.std.specs.List.{filter, range_with_len}
-use Rattle.std.proofs.lemmas.Bool.{cases_eq, or_right, eqb-false}
-use Rattle.df_model.specs.Laws.{BlockAsideLaw, BlockMayLaw}
-use Rattle.df_theory.specs.Shape.{Shape}
-use Rattle.df_model.specs.Work.{Work, is_captured, is_held, is_known, is_of}
-use Rattle.df_model.specs.Codec.{AreChecksums, InGrid, IsChecksum}
-use Rattle.df_model.specs.Refusals.{block_refusals, first_refusal}
-use Rattle.df_model.specs.After.{with_live}
-use Rattle.df_model.specs.Blocks.{blocks_of, is_held_in}
-use Rattle.df_model.proofs.Entries.{held_is}
-use Rattle.df_model.specs.Sense.{IsClearAddress, IsWork}
-use Rattle.df_model.proofs.Tests.{all_pass}
-use Rattle.df_model.proofs.Grid.{IsFree, IsNowhere, are_free, each_weaker, each_with, first_each, left_held, nowhere}
-use Rattle.df_model.proofs.Knows.{live_knows, nowhere_new, one_fewer, one_more, release_knows}
-use Rattle.df_model.specs.Memory.{free_of, memory_of}
-use Rattle.df_model.specs.Making.{first_of, next_address}
+use Rattle.std.{proofs.{Common.{◌≡◌, inl, inr, ℕ, zero, suc, ◌+◌, ◌<◌, ◌≤◌, ◌^◌, not, cond, [], ◌∷◌, ◌==◌, ◌||◌, Bool, true, false, if◌then◌else◌, List, length, Option, Some, None, refl, sym, ◌∙◌, ap, subst, arith, eqb-true}, lemmas.Bool.{cases_eq, or_right, eqb-false}}, specs.List.{filter, range_with_len}}
+use Rattle.df_theory.{specs.{Units.{AnyUnit, BlockPlace, BlockUnit, Content, CopyPlace, Parts, Place, PreparePlace, Units, or_else, overlay}, Copies.{Agree, IsChosen}, Shows.{Agrees, Needs}, Holds.{Holds}, Shape.{Shape}}, proofs.Laws.{put_else, short_same, chosen_same}}
+use Rattle.df_model.{specs.{Laws.{BlockAsideLaw, BlockMayLaw}, Work.{Work, is_captured, is_held, is_known, is_of}, Codec.{AreChecksums, InGrid, IsChecksum}, Refusals.{block_refusals, first_refusal}, After.{with_live}, Blocks.{blocks_of, is_held_in}, Sense.{IsClearAddress, IsWork}, Memory.{free_of, memory_of}, Making.{first_of, next_address}}, proofs.{Entries.{held_is}, Tests.{all_pass}, Grid.{IsFree, IsNowhere, are_free, each_weaker, each_with, first_each, left_held, nowhere}, Knows.{live_knows, nowhere_new, one_fewer, one_more, release_knows}}}
 
 -- the next address is free
 pub next_free : (sh : Shape) (spell : Parts → List ℕ) (w : Work) (kind : ℕ) (body : List ℕ) → first_refusal (block_refusals (memory_of sh spell w) kind body) ≡ None → IsFree sh w (next_address (memory_of sh spell w))

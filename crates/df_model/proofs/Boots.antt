@@ -1,36 +1,7 @@
 -- A boot update: it may be made, its state makes sense, and it leads on.
 use Rattle.std.proofs.Common.{◌≡◌, inl, inr, ℕ, ◌+◌, ◌-◌, ◌<◌, ◌^◌, List, [], ◌∷◌, length, take, drop, false, true, refl, sym, ◌∙◌, ap, subst, arith}
-use Rattle.df_theory.specs.Units.{BlockPlace, Content, Message, Parts, PreparePlace, PrepareUnit}
-use Rattle.df_theory.specs.Tails.{In, last_checksum}
-use Rattle.df_theory.specs.Shape.{Shape}
-use Rattle.df_theory.specs.View.{Checkpoint, View, boot_of, head}
-use Rattle.df_theory.specs.Holds.{IsWhole, Stands}
-use Rattle.df_theory.specs.Next.{MayBoot, booted}
-use Rattle.df_theory.specs.UnitLog.{UnitLog, now, settled}
-use Rattle.df_theory.specs.Chance.{EachLeft}
-use Rattle.df_theory.specs.Grown.{IsClear as IsClearOf}
-use Rattle.df_theory.specs.Rests.{IsGoodLog}
-use Rattle.df_theory.specs.Runs.{AtEach, Step, after_step, after_steps}
-use Rattle.df_theory.specs.CopyPuts.{PutsCopies, update_steps}
-use Rattle.df_theory.specs.WholeLaws.{IsStanding}
-use Rattle.df_theory.specs.WriterLaws.{Updates}
-use Rattle.df_theory.specs.TidyLaws.{IsGoodWhole, IsTidy}
-use Rattle.df_theory.specs.Upgrades.{as_version}
-use Rattle.df_theory.proofs.Laws.{boot_law, boot_sound, found_sound, low_steps, low_update, may_raise, prepare_agrees, stands_law, whole_update_law}
-use Rattle.df_model.specs.Work.{Work, opened, raised}
-use Rattle.df_model.specs.Memory.{Memory, memory_of}
-use Rattle.df_model.specs.Making.{boot_content, named_sums}
-use Rattle.df_model.specs.Sense.{Captured, Chained, Durable, IsBacked, IsClearAddress, Live, Written}
-use Rattle.df_model.specs.Laws.{BacksOn, LeadsOn}
-use Rattle.df_model.specs.Boots.{BootCommandLaw, BootMayLaw, IsMendedFor, RaisedLaw, Raises}
-use Rattle.df_model.proofs.Captures.{capture_raised}
-use Rattle.df_model.proofs.Grid.{each_weaker}
-use Rattle.df_model.proofs.Groups.{staged_on}
-use Rattle.df_model.proofs.Knows.{KnowsNoMore, one_fewer}
-use Rattle.df_model.proofs.NoBlocks.{blocks_stay, spare_all, update_no_blocks}
-use Rattle.df_model.proofs.Recording.{IsRecordable, named_count, recordable, records_now}
-use Rattle.df_model.proofs.Runs.{found_few}
-use Rattle.df_model.proofs.Writing.{own_same}
+use Rattle.df_theory.{specs.{Units.{BlockPlace, Content, Message, Parts, PreparePlace, PrepareUnit}, Tails.{In, last_checksum}, Shape.{Shape}, View.{Checkpoint, View, boot_of, head}, Holds.{IsWhole, Stands}, Next.{MayBoot, booted}, UnitLog.{UnitLog, now, settled}, Chance.{EachLeft}, Grown.{IsClear as IsClearOf}, Rests.{IsGoodLog}, Runs.{AtEach, Step, after_step, after_steps}, CopyPuts.{PutsCopies, update_steps}, WholeLaws.{IsStanding}, WriterLaws.{Updates}, TidyLaws.{IsGoodWhole, IsTidy}, Upgrades.{as_version}}, proofs.Laws.{boot_law, boot_sound, found_sound, low_steps, low_update, may_raise, prepare_agrees, stands_law, whole_update_law}}
+use Rattle.df_model.{specs.{Work.{Work, opened, raised}, Memory.{Memory, memory_of}, Making.{boot_content, named_sums}, Sense.{Captured, Chained, Durable, IsBacked, IsClearAddress, Live, Written}, Laws.{BacksOn, LeadsOn}, Boots.{BootCommandLaw, BootMayLaw, IsMendedFor, RaisedLaw, Raises}}, proofs.{Captures.{capture_raised}, Grid.{each_weaker}, Groups.{staged_on}, Knows.{KnowsNoMore, one_fewer}, NoBlocks.{blocks_stay, spare_all, update_no_blocks}, Recording.{IsRecordable, named_count, recordable, records_now}, Runs.{found_few}, Writing.{own_same}}}
 
 -- ---- what may be raised
 

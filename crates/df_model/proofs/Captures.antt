@@ -1,15 +1,7 @@
 -- What was captured goes on by an append, by a reply and by a boot update: the checkpoint is the same but for its boot, and so is the front of the tail.
 use Rattle.std.proofs.Common.{◌≡◌, ℕ, ◌+◌, ◌-◌, ◌≤◌, List, [], ◌∷◌, length, take, Option, refl, sym, ◌∙◌, ap}
-use Rattle.df_theory.specs.Units.{Block, Content, Message, Parts}
-use Rattle.df_theory.specs.Sessions.{sessions_after}
-use Rattle.df_theory.specs.Tails.{EndsAt, last_checksum}
-use Rattle.df_theory.specs.Trailer.{Links, piece_size}
-use Rattle.df_theory.specs.Shape.{Shape}
-use Rattle.df_theory.specs.View.{View}
-use Rattle.df_model.specs.Work.{Running, Work, raised}
-use Rattle.df_model.specs.Memory.{block_room, last_address, last_sum, memory_of}
-use Rattle.df_model.specs.Making.{boot_content}
-use Rattle.df_model.specs.Sense.{IsCapture, draft}
+use Rattle.df_theory.specs.{Units.{Block, Content, Message, Parts}, Sessions.{sessions_after}, Tails.{EndsAt, last_checksum}, Trailer.{Links, piece_size}, Shape.{Shape}, View.{View}}
+use Rattle.df_model.specs.{Work.{Running, Work, raised}, Memory.{block_room, last_address, last_sum, memory_of}, Making.{boot_content}, Sense.{IsCapture, draft}}
 
 pub capture_on :
     (sh : Shape) (spell : Parts → List ℕ) (v : View) (r : Running) → IsCapture sh spell v r → (tail : List Message) (replies : ℕ) (stored : ℕ → Option Message)

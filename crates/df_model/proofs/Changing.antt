@@ -1,22 +1,7 @@
 -- How commands change what is kept of the grid.
-use Rattle.std.proofs.Common.{◌≡◌, ℕ, zero, suc, ◌+◌, ◌<◌, ◌≤◌, ◌==◌, nat_lt, Bool, true, false, if◌then◌else◌, List, [], ◌∷◌, length, Option, Some, None, refl, sym, ◌∙◌, ap, arith, lt-ltb, le-ltb, eq-eqb, ne_eqb}
-use Rattle.std.specs.List.{range_with_len}
-use Rattle.std.proofs.lemmas.Bool.Decides.{nat_tests}
-use Rattle.df_theory.specs.Units.{Parts}
-use Rattle.df_theory.specs.Shape.{Shape}
-use Rattle.df_model.specs.Work.{Running, Work}
-use Rattle.df_model.specs.Blocks.{Blocks, addresses, blocks_of, captured_of, entries, entry, left_of, sum_at, with_entry, without_entry, written_of}
-use Rattle.df_model.specs.Memory.{course_of, memory_of}
-use Rattle.df_model.specs.Refusals.{append_refusals, begin_refusals, block_refusals, first_refusal, flush_refusals, release_refusals, reply_refusals, stage_refusals}
-use Rattle.df_model.specs.Making.{group_of, needed_of, next_address, place_of_reply, prepare_of, reply_of}
-use Rattle.df_model.specs.After.{after_check, after_running, after_step_of, begun, outcome, to_check, with_group, with_live, with_prepare, with_reply, with_running, with_staged}
-use Rattle.df_model.specs.Commands.{Advance, Append, Begin, Command, Flush, Given, Release, Reply, Scrub, Stage, WriteBlock, after, supplied_sum, supplied_sums, supplied_verdict}
-use Rattle.df_model.specs.Changing.{BlocksLaw, after_step_in, blocks_after, trailer_step, unless_refused}
-use Rattle.df_model.specs.declared.answers.Verdict.{Verdict}
-use Rattle.df_model.specs.declared.answers.Verdict.TheVariants.{Sound, Failing}
-use Rattle.df_model.proofs.Entries.{entry_at}
-use Rattle.df_model.proofs.Blocks.{next_free}
-use Rattle.df_model.proofs.Rising.{RisePairs, entries_pairs}
+use Rattle.std.{proofs.{Common.{◌≡◌, ℕ, zero, suc, ◌+◌, ◌<◌, ◌≤◌, ◌==◌, nat_lt, Bool, true, false, if◌then◌else◌, List, [], ◌∷◌, length, Option, Some, None, refl, sym, ◌∙◌, ap, arith, lt-ltb, le-ltb, eq-eqb, ne_eqb}, lemmas.Bool.Decides.{nat_tests}}, specs.List.{range_with_len}}
+use Rattle.df_theory.specs.{Units.{Parts}, Shape.{Shape}}
+use Rattle.df_model.{specs.{Work.{Running, Work}, Blocks.{Blocks, addresses, blocks_of, captured_of, entries, entry, left_of, sum_at, with_entry, without_entry, written_of}, Memory.{course_of, memory_of}, Refusals.{append_refusals, begin_refusals, block_refusals, first_refusal, flush_refusals, release_refusals, reply_refusals, stage_refusals}, Making.{group_of, needed_of, next_address, place_of_reply, prepare_of, reply_of}, After.{after_check, after_running, after_step_of, begun, outcome, to_check, with_group, with_live, with_prepare, with_reply, with_running, with_staged}, Commands.{Advance, Append, Begin, Command, Flush, Given, Release, Reply, Scrub, Stage, WriteBlock, after, supplied_sum, supplied_sums, supplied_verdict}, Changing.{BlocksLaw, after_step_in, blocks_after, trailer_step, unless_refused}, declared.answers.Verdict.{Verdict}, declared.answers.Verdict.TheVariants.{Sound, Failing}}, proofs.{Entries.{entry_at}, Blocks.{next_free}, Rising.{RisePairs, entries_pairs}}}
 
 -- ---- a map that changes at one address
 

@@ -2,18 +2,9 @@
 use Rattle.std.proofs.Common.{ℕ, List, sym, subst}
 use Rattle.df_base.specs.Log as Log
 use Rattle.df_base.specs.Log.{Event}
-use Rattle.df_theory.specs.Units.{Parts, Units}
-use Rattle.df_theory.specs.Shape.{Shape}
-use Rattle.df_theory.specs.UnitLog.{UnitLog, now}
-use Rattle.df_theory.specs.Device.{AreSteps, Format, IsFormat, units_log}
+use Rattle.df_theory.{specs.{Units.{Parts, Units}, Shape.{Shape}, UnitLog.{UnitLog, now}, Device.{AreSteps, Format, IsFormat, units_log}}, proofs.Laws.{now_units, same_log, standing_moments_law, tidy_moments_law}}
 use Rattle.df_theory.specs.Runs as runs
-use Rattle.df_theory.proofs.Laws.{now_units, same_log, standing_moments_law, tidy_moments_law}
-use Rattle.df_model.specs.Work.{Work, kept}
-use Rattle.df_model.specs.Sense.{IsBacked}
-use Rattle.df_model.specs.Laws.{BacksOn, DoesCommand, IsKeptBy, LeadsOn}
-use Rattle.df_model.specs.OnDisk.{BacksOnDisk, DiskCommandLaw, DoesOnDisk, LeadsOnDisk}
-use Rattle.df_model.specs.Commands.{Command, Given, after}
-use Rattle.df_model.proofs.Does.{command_law}
+use Rattle.df_model.{specs.{Work.{Work, kept}, Sense.{IsBacked}, Laws.{BacksOn, DoesCommand, IsKeptBy, LeadsOn}, OnDisk.{BacksOnDisk, DiskCommandLaw, DoesOnDisk, LeadsOnDisk}, Commands.{Command, Given, after}}, proofs.Does.{command_law}}
 
 does_there : (f : Format) (sh : Shape) (spell : Parts → List ℕ) (log : Log.Log) (w : Work) (given : Given) (command : Command) (events : List Event) (does : DoesOnDisk f sh spell log w given command events) → DoesCommand sh spell (now (units_log f log)) w given command does.steps
 does_there f sh spell log w given command events does = subst (λ (image : Units). DoesCommand sh spell image w given command does.steps) (sym (now_units f log.start log.events)) does.does

@@ -1,31 +1,7 @@
 -- What each command does to the device leads on.
 use Rattle.std.proofs.Common.{◌≡◌, inl, inr, ℕ, ◌+◌, ◌==◌, Bool, true, false, if◌then◌else◌, List, [], ◌∷◌, Option, Some, None, refl, sym, ◌∙◌, ap, subst, arith}
-use Rattle.df_theory.specs.Units.{Block, BlockPlace, BlockUnit, Content, CopyPlace, CopyUnit, Parts, Units, overlay}
-use Rattle.df_theory.specs.Trailer.{InChain}
-use Rattle.df_theory.specs.Shape.{Shape}
-use Rattle.df_theory.specs.View.{Checkpoint}
-use Rattle.df_theory.specs.UnitLog.{PutsOne, UnitLog, now}
-use Rattle.df_theory.specs.Runs.{Step}
-use Rattle.df_theory.specs.CopyPuts.{PutsCopies}
-use Rattle.df_theory.specs.WholeLaws.{IsStanding}
-use Rattle.df_theory.proofs.Laws.{put_else, tidy_block_law, tidy_finish_law}
-use Rattle.df_model.specs.Work.{Running, Work}
-use Rattle.df_model.specs.Memory.{Memory, memory_of}
-use Rattle.df_model.specs.Blocks.{addresses}
-use Rattle.df_model.specs.Making.{block_of, next_address}
-use Rattle.df_model.specs.Refusals.{append_refusals, block_refusals, first_refusal, flush_refusals, reply_refusals}
-use Rattle.df_model.specs.After.{begun, checkpoint_of, finished, next_trailer, with_live, with_running, with_trailer_block}
-use Rattle.df_model.specs.Change.{Appends, Begins, Change, Checks, Ends, LetsGo, Lives, One, Replies, Staged, Stages, Stays, TourEnds, Writes}
-use Rattle.df_model.specs.Commands.{Command, Given, IsInput, after, supplied_sum, supplied_sums, supplied_verdict}
-use Rattle.df_model.specs.Sense.{AtEachOf, IsBacked, IsClearAddress, IsSpare, RiseFrom, ShowsOwnBlock, ShowsWritten}
-use Rattle.df_model.specs.Laws.{CommandLaw, DoesAdvance, DoesAdvanceTo, DoesBlock, DoesCommand, DoesFinish, IsKeptBy, UnlessRefused}
-use Rattle.df_model.proofs.Entries.{entry_in}
-use Rattle.df_model.proofs.Blocks.{first_small, kind_some, next_free, release_keeps}
-use Rattle.df_model.proofs.Finishes.{finish_keeps, may_finish}
-use Rattle.df_model.proofs.Staging.{stage_keeps}
-use Rattle.df_model.proofs.Writing.{Both, SameBlocks, append_on, block_else, block_on, flush_on, idle, own_same, put_at, reply_on, stay}
-use Rattle.df_model.proofs.OneThing.{one_thing_law}
-use Rattle.df_model.proofs.Keeps.{IsTour, begin_keeps, check_tours, end_tours, trailer_keeps}
+use Rattle.df_theory.{specs.{Units.{Block, BlockPlace, BlockUnit, Content, CopyPlace, CopyUnit, Parts, Units, overlay}, Trailer.{InChain}, Shape.{Shape}, View.{Checkpoint}, UnitLog.{PutsOne, UnitLog, now}, Runs.{Step}, CopyPuts.{PutsCopies}, WholeLaws.{IsStanding}}, proofs.Laws.{put_else, tidy_block_law, tidy_finish_law}}
+use Rattle.df_model.{specs.{Work.{Running, Work}, Memory.{Memory, memory_of}, Blocks.{addresses}, Making.{block_of, next_address}, Refusals.{append_refusals, block_refusals, first_refusal, flush_refusals, reply_refusals}, After.{begun, checkpoint_of, finished, next_trailer, with_live, with_running, with_trailer_block}, Change.{Appends, Begins, Change, Checks, Ends, LetsGo, Lives, One, Replies, Staged, Stages, Stays, TourEnds, Writes}, Commands.{Command, Given, IsInput, after, supplied_sum, supplied_sums, supplied_verdict}, Sense.{AtEachOf, IsBacked, IsClearAddress, IsSpare, RiseFrom, ShowsOwnBlock, ShowsWritten}, Laws.{CommandLaw, DoesAdvance, DoesAdvanceTo, DoesBlock, DoesCommand, DoesFinish, IsKeptBy, UnlessRefused}}, proofs.{Entries.{entry_in}, Blocks.{first_small, kind_some, next_free, release_keeps}, Finishes.{finish_keeps, may_finish}, Staging.{stage_keeps}, Writing.{Both, SameBlocks, append_on, block_else, block_on, flush_on, idle, own_same, put_at, reply_on, stay}, OneThing.{one_thing_law}, Keeps.{IsTour, begin_keeps, check_tours, end_tours, trailer_keeps}}}
 
 -- ---- the steps of a checkpoint
 

@@ -1,12 +1,8 @@
 -- Maps as lists of their entries.
-use Rattle.std.proofs.Common.{◌≡◌, ℕ, zero, suc, map, ◌||◌, ◌+◌, ◌<◌, ◌≤◌, ◌==◌, Bool, true, false, cond, if◌then◌else◌, List, [], ◌∷◌, Option, Some, None, refl, sym, ◌∙◌, ap, subst, arith, eqb-true}
-use Rattle.std.specs.List.{filter, range_with_len}
-use Rattle.std.proofs.lemmas.Bool.{eqb-false}
+use Rattle.std.{proofs.{Common.{◌≡◌, ℕ, zero, suc, map, ◌||◌, ◌+◌, ◌<◌, ◌≤◌, ◌==◌, Bool, true, false, cond, if◌then◌else◌, List, [], ◌∷◌, Option, Some, None, refl, sym, ◌∙◌, ap, subst, arith, eqb-true}, lemmas.Bool.{eqb-false}}, specs.List.{filter, range_with_len}}
 use Rattle.df_base.proofs.Laws.{same_test}
-use Rattle.df_theory.specs.Units.{Block, Layout}
-use Rattle.df_theory.specs.Shape.{Shape}
-use Rattle.df_model.specs.Work.{Running, Work, captured_sum, is_captured, is_held, is_in, is_known, is_of, or_known, reference_of, sum_in}
-use Rattle.df_model.specs.Blocks.{Blocks, blocks_of, captured_of, entries, entry, is_held_in, left_of, pair_of, reference_in, sum_at, without_entry, written_of}
+use Rattle.df_theory.specs.{Units.{Block, Layout}, Shape.{Shape}}
+use Rattle.df_model.specs.{Work.{Running, Work, captured_sum, is_captured, is_held, is_in, is_known, is_of, or_known, reference_of, sum_in}, Blocks.{Blocks, blocks_of, captured_of, entries, entry, is_held_in, left_of, pair_of, reference_in, sum_at, without_entry, written_of}}
 
 -- what is looked up is what the map says there
 in_case : (f : ℕ → Option ℕ) (a x : ℕ) (o : Option ℕ) (rest : List (ℕ × ℕ)) (c : ℕ) → f x ≡ o → sum_at a (entry x o rest) ≡ Some c → (sum_at a rest ≡ Some c → f a ≡ Some c) → f a ≡ Some c

@@ -1,20 +1,8 @@
 -- What may be done isn't refused.
-use Rattle.std.proofs.Common.{◌≡◌, inl, inr, ℕ, ◌+◌, ◌<◌, ◌≤◌, ◌==◌, ◌&&◌, not, nat_le, nat_lt, Bool, true, false, if◌then◌else◌, List, [], ◌∷◌, ◌++◌, length, Option, Some, None, refl, sym, ◌∙◌, ap, subst, arith, length-append, ne_eqb, le-ltb, eqb-true, eq-eqb}
-use Rattle.std.specs.Prelude.{◌^◌}
-use Rattle.std.proofs.lemmas.Bool.Decides.{nat_tests}
-use Rattle.std.proofs.lemmas.Bool.{or_from, eqb-false}
-use Rattle.df_theory.specs.Units.{Header, Session}
-use Rattle.df_theory.specs.Sessions.{MayAsk}
-use Rattle.df_theory.specs.View.{head, sessions}
+use Rattle.std.{proofs.{Common.{◌≡◌, inl, inr, ℕ, ◌+◌, ◌<◌, ◌≤◌, ◌==◌, ◌&&◌, not, nat_le, nat_lt, Bool, true, false, if◌then◌else◌, List, [], ◌∷◌, ◌++◌, length, Option, Some, None, refl, sym, ◌∙◌, ap, subst, arith, length-append, ne_eqb, le-ltb, eqb-true, eq-eqb}, lemmas.Bool.Decides.{nat_tests}, lemmas.Bool.{or_from, eqb-false}}, specs.Prelude.{◌^◌}}
+use Rattle.df_theory.specs.{Units.{Header, Session}, Sessions.{MayAsk}, View.{head, sessions}}
 use Rattle.df_model.specs.declared.errors.AppendError.TheVariants as append
-use Rattle.df_model.specs.Refusals.{counted_staged, first_refusal, is_last_request, is_new, is_staged, last_op, next_request, reply_refusals, request_refusals, session_of_client}
-use Rattle.df_model.specs.Work.{Request}
-use Rattle.df_model.specs.After.{with_staged}
-use Rattle.df_model.specs.Laws.{AppendExactLaw, ReplyExactLaw, StageExactLaw}
-use Rattle.df_model.proofs.Tests.{AllPass, behind_decides}
-use Rattle.df_model.proofs.Groups.{alike_sessions, asks_behind, length_in}
-use Rattle.df_model.specs.Memory.{Memory, memory_of, message_room}
-use Rattle.df_model.specs.Making.{prepare_in, prepare_of}
+use Rattle.df_model.{specs.{Refusals.{counted_staged, first_refusal, is_last_request, is_new, is_staged, last_op, next_request, reply_refusals, request_refusals, session_of_client}, Work.{Request}, After.{with_staged}, Laws.{AppendExactLaw, ReplyExactLaw, StageExactLaw}, Memory.{Memory, memory_of, message_room}, Making.{prepare_in, prepare_of}}, proofs.{Tests.{AllPass, behind_decides}, Groups.{alike_sessions, asks_behind, length_in}}}
 
 pass_one : {E : Type 0} (b : Bool) (e : E) (ts : List (Bool × E)) → b ≡ false → first_refusal ts ≡ None → (if b then Some e else first_refusal ts) ≡ None
 pass_one true e ts is rest = absurd (cc)

@@ -1,22 +1,8 @@
 -- What a tour lists: exactly what is referenced and not shown.
-use Rattle.std.proofs.Common.{◌≡◌, ◌⊎◌, inl, inr, ℕ, zero, suc, ◌+◌, ◌<◌, ◌≤◌, ◌==◌, Bool, true, false, List, [], ◌∷◌, map, Option, Some, None, refl, sym, ◌∙◌, ap, subst, arith, eqb-true}
-use Rattle.std.specs.List.{range_with_len}
-use Rattle.std.proofs.lemmas.Bool.{eqb-false}
-use Rattle.df_layout.specs.declared.damage.Class.{Class}
-use Rattle.df_layout.specs.declared.damage.Finding.{Finding}
+use Rattle.std.{proofs.{Common.{◌≡◌, ◌⊎◌, inl, inr, ℕ, zero, suc, ◌+◌, ◌<◌, ◌≤◌, ◌==◌, Bool, true, false, List, [], ◌∷◌, map, Option, Some, None, refl, sym, ◌∙◌, ap, subst, arith, eqb-true}, lemmas.Bool.{eqb-false}}, specs.List.{range_with_len}}
+use Rattle.df_layout.specs.{declared.damage.Class.{Class}, declared.damage.Finding.{Finding}}
 use Rattle.df_theory.specs.Units.{AnyUnit, Block, BlockPlace, BlockUnit, CopyUnit, HeaderUnit, PrepareUnit, ReplyUnit}
-use Rattle.df_model.specs.Work.{reference_of}
-use Rattle.df_model.specs.Codec.{InGrid}
-use Rattle.df_model.specs.Blocks.{blocks_of, reference_in, addresses, entries, entry}
-use Rattle.df_model.specs.Supply.{Shown, block_given, check_of, class_at, given_if, verdict_of}
-use Rattle.df_model.specs.Reading.{FailingLaw, InFindings, address_of, failing, with_finding}
-use Rattle.df_model.specs.Sense.{RiseFrom, ShowsBlock}
-use Rattle.df_model.proofs.Entries.{EachPair, reference_is, within}
-use Rattle.df_model.proofs.Grid.{rise_lower}
-use Rattle.df_model.proofs.Kept.{block_shown}
-use Rattle.df_model.proofs.Rising.{RisePairs, entries_pairs}
-use Rattle.df_model.specs.declared.answers.Verdict.{Verdict}
-use Rattle.df_model.specs.declared.answers.Verdict.TheVariants.{Sound, Failing}
+use Rattle.df_model.{specs.{Work.{reference_of}, Codec.{InGrid}, Blocks.{blocks_of, reference_in, addresses, entries, entry}, Supply.{Shown, block_given, check_of, class_at, given_if, verdict_of}, Reading.{FailingLaw, InFindings, address_of, failing, with_finding}, Sense.{RiseFrom, ShowsBlock}, declared.answers.Verdict.{Verdict}, declared.answers.Verdict.TheVariants.{Sound, Failing}}, proofs.{Entries.{EachPair, reference_is, within}, Grid.{rise_lower}, Kept.{block_shown}, Rising.{RisePairs, entries_pairs}}}
 
 -- ---- one check
 

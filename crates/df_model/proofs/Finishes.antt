@@ -1,24 +1,7 @@
 -- The end of a checkpoint.
-use Rattle.std.proofs.Common.{◌≡◌, inl, ℕ, zero, suc, ◌+◌, ◌-◌, ◌*◌, ◌<◌, ◌||◌, Bool, true, false, List, [], ◌∷◌, length, drop, Option, Some, refl, sym, ◌∙◌, ap, subst, arith, length-drop}
-use Rattle.std.proofs.lemmas.List.{take_all}
-use Rattle.std.proofs.Math.Nat.{mul-add}
-use Rattle.df_theory.specs.Units.{Block, Content, Parts, Session}
-use Rattle.df_theory.specs.Sessions.{sessions_after}
-use Rattle.df_theory.specs.Trailer.{InChain, IsCount, IsReference, IsTrailer, Says, text_of}
-use Rattle.df_theory.specs.Shape.{Shape}
-use Rattle.df_theory.specs.View.{Checkpoint, View, head, sequence, sessions}
-use Rattle.df_theory.specs.Next.{IsFinish, MayFinish, Records, checkpointed}
-use Rattle.df_theory.proofs.Laws.{checkpoint_sound, sessions-drop, in_dropped}
-use Rattle.df_model.specs.Work.{Running, Work, is_captured, is_in, is_known, is_of}
-use Rattle.df_model.specs.Codec.{AreLawful, IsCodec}
-use Rattle.df_model.specs.After.{checkpoint_of, finished}
-use Rattle.df_model.specs.Sense.{IsCapture, IsSpare, IsWork, draft}
-use Rattle.df_model.proofs.Knows.{finish_knows, one_fewer}
-use Rattle.df_model.specs.Laws.{FinishExactLaw, FinishMayLaw}
-use Rattle.df_model.specs.Memory.{block_room, last_address, last_sum, memory_of}
-use Rattle.df_model.proofs.Captures.{same_links}
-use Rattle.df_model.proofs.Groups.{staged_on}
-use Rattle.df_model.proofs.Recording.{IsRecordable, named_count, recordable, records_now}
+use Rattle.std.proofs.{Common.{◌≡◌, inl, ℕ, zero, suc, ◌+◌, ◌-◌, ◌*◌, ◌<◌, ◌||◌, Bool, true, false, List, [], ◌∷◌, length, drop, Option, Some, refl, sym, ◌∙◌, ap, subst, arith, length-drop}, lemmas.List.{take_all}, Math.Nat.{mul-add}}
+use Rattle.df_theory.{specs.{Units.{Block, Content, Parts, Session}, Sessions.{sessions_after}, Trailer.{InChain, IsCount, IsReference, IsTrailer, Says, text_of}, Shape.{Shape}, View.{Checkpoint, View, head, sequence, sessions}, Next.{IsFinish, MayFinish, Records, checkpointed}}, proofs.Laws.{checkpoint_sound, sessions-drop, in_dropped}}
+use Rattle.df_model.{specs.{Work.{Running, Work, is_captured, is_in, is_known, is_of}, Codec.{AreLawful, IsCodec}, After.{checkpoint_of, finished}, Sense.{IsCapture, IsSpare, IsWork, draft}, Laws.{FinishExactLaw, FinishMayLaw}, Memory.{block_room, last_address, last_sum, memory_of}}, proofs.{Knows.{finish_knows, one_fewer}, Captures.{same_links}, Groups.{staged_on}, Recording.{IsRecordable, named_count, recordable, records_now}}}
 
 -- the last block of a chain that isn't empty
 last_in : (chain : List (ℕ × Block)) → 0 < length chain → (b : Block) × InChain (last_address chain) b chain

@@ -1,28 +1,7 @@
 -- A flush of all that is staged.
-use Rattle.std.proofs.Common.{◌≡◌, inl, inr, ℕ, zero, suc, ◌+◌, ◌<◌, ◌≤◌, List, [], ◌∷◌, ◌++◌, length, map, take, Some, None, refl, sym, ap, subst, arith, length-append, ltb-true}
-use Rattle.std.specs.Prelude.{◌-◌}
-use Rattle.std.specs.List.{slice_get}
-use Rattle.std.proofs.lemmas.List.{length-map, take-append-le}
-use Rattle.std.proofs.lemmas.Bool.{not-false}
-use Rattle.df_theory.specs.Units.{Message, Parts}
-use Rattle.df_theory.specs.Tails.{In}
-use Rattle.df_theory.specs.Shape.{Shape}
-use Rattle.df_theory.specs.View.{View, head, sessions}
-use Rattle.df_theory.specs.Holds.{Sound}
-use Rattle.df_theory.specs.Next.{AreInTurn, MayAppend, appended}
-use Rattle.df_theory.proofs.Laws.{append_sound, in_either, sessions-append}
-use Rattle.df_model.specs.Work.{Running, Work}
-use Rattle.df_model.specs.Codec.{AreLawful}
-use Rattle.df_model.specs.Memory.{Memory, memory_of, sum_of_message}
-use Rattle.df_model.specs.Making.{group_of}
-use Rattle.df_model.specs.Refusals.{first_refusal, flush_refusals, is_staged}
-use Rattle.df_model.specs.After.{with_group}
-use Rattle.df_model.specs.Sense.{AreStaged, AreWaiting, IsCapture, IsWork}
-use Rattle.df_model.specs.Laws.{FlushMayLaw}
-use Rattle.df_model.proofs.Captures.{capture_on}
-use Rattle.df_model.proofs.Groups.{in_turn, length_in, member, nothing_staged, staged_on}
-use Rattle.df_model.proofs.Knows.{group_knows, one_fewer}
-use Rattle.df_model.proofs.Tests.{all_pass, get_before, get_behind}
+use Rattle.std.{proofs.{Common.{◌≡◌, inl, inr, ℕ, zero, suc, ◌+◌, ◌<◌, ◌≤◌, List, [], ◌∷◌, ◌++◌, length, map, take, Some, None, refl, sym, ap, subst, arith, length-append, ltb-true}, lemmas.List.{length-map, take-append-le}, lemmas.Bool.{not-false}}, specs.{Prelude.{◌-◌}, List.{slice_get}}}
+use Rattle.df_theory.{specs.{Units.{Message, Parts}, Tails.{In}, Shape.{Shape}, View.{View, head, sessions}, Holds.{Sound}, Next.{AreInTurn, MayAppend, appended}}, proofs.Laws.{append_sound, in_either, sessions-append}}
+use Rattle.df_model.{specs.{Work.{Running, Work}, Codec.{AreLawful}, Memory.{Memory, memory_of, sum_of_message}, Making.{group_of}, Refusals.{first_refusal, flush_refusals, is_staged}, After.{with_group}, Sense.{AreStaged, AreWaiting, IsCapture, IsWork}, Laws.{FlushMayLaw}}, proofs.{Captures.{capture_on}, Groups.{in_turn, length_in, member, nothing_staged, staged_on}, Knows.{group_knows, one_fewer}, Tests.{all_pass, get_before, get_behind}}}
 
 -- the ops and checksums of prepares in turn
 turn_from : (op parent : ℕ) (ps : List Message) (q : Message) → AreInTurn op parent ps → In q ps → op ≤ q.header.op

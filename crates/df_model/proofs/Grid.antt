@@ -1,17 +1,7 @@
 -- Addresses that are held, and those that are free.
-use Rattle.std.proofs.Common.{◌≡◌, inl, inr, ℕ, ◌+◌, ◌<◌, ◌≤◌, ◌==◌, ◌||◌, not, Bool, true, false, cond, List, [], ◌∷◌, length, take, Option, Some, None, refl, sym, ◌∙◌, ap, subst, zero, suc, arith, eqb-true, eq-eqb}
-use Rattle.std.specs.List.{filter, range_with_len}
-use Rattle.std.proofs.lemmas.Bool.{or_left, or_right, or_parts, eqb-false}
-use Rattle.df_theory.specs.Units.{Block, Parts}
-use Rattle.df_theory.specs.Trailer.{InChain}
-use Rattle.df_theory.specs.Shape.{Shape}
-use Rattle.df_model.specs.Work.{Running, Work, is_captured, is_held, is_in, is_known, is_of}
-use Rattle.df_model.specs.Memory.{free_of, memory_of}
-use Rattle.df_model.specs.Blocks.{blocks_of, is_held_in}
-use Rattle.df_model.proofs.Entries.{held_is}
-use Rattle.df_model.specs.Codec.{InGrid}
-use Rattle.df_model.specs.Sense.{AtEachOf, RiseFrom}
-use Rattle.df_model.specs.Making.{first_of}
+use Rattle.std.{proofs.{Common.{◌≡◌, inl, inr, ℕ, ◌+◌, ◌<◌, ◌≤◌, ◌==◌, ◌||◌, not, Bool, true, false, cond, List, [], ◌∷◌, length, take, Option, Some, None, refl, sym, ◌∙◌, ap, subst, zero, suc, arith, eqb-true, eq-eqb}, lemmas.Bool.{or_left, or_right, or_parts, eqb-false}}, specs.List.{filter, range_with_len}}
+use Rattle.df_theory.specs.{Units.{Block, Parts}, Trailer.{InChain}, Shape.{Shape}}
+use Rattle.df_model.{specs.{Work.{Running, Work, is_captured, is_held, is_in, is_known, is_of}, Memory.{free_of, memory_of}, Blocks.{blocks_of, is_held_in}, Codec.{InGrid}, Sense.{AtEachOf, RiseFrom}, Making.{first_of}}, proofs.Entries.{held_is}}
 
 -- ---- lists of addresses
 

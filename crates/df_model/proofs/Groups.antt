@@ -1,17 +1,7 @@
 -- Prepares of one group, and that what is staged stays so.
 use Rattle.std.proofs.Common.{◌≡◌, inl, inr, ℕ, ◌+◌, ◌≤◌, ◌==◌, if◌then◌else◌, List, [], ◌∷◌, ◌++◌, length, drop, refl, sym, ◌∙◌, ap, subst, arith}
-use Rattle.df_theory.specs.Units.{Header, Message, Session}
-use Rattle.df_theory.specs.Sessions.{MayAsk, noted, session_of_header, sessions_after}
-use Rattle.df_theory.specs.Tails.{In}
-use Rattle.df_theory.specs.Shape.{Shape, clients}
-use Rattle.df_theory.specs.View.{View, head, sessions}
-use Rattle.df_theory.specs.Holds.{Sound}
-use Rattle.df_theory.specs.Next.{AreInTurn, MayAskInTurn}
-use Rattle.df_model.specs.Work.{Request}
-use Rattle.df_model.specs.Codec.{AreLawful}
-use Rattle.df_model.specs.Memory.{Memory}
-use Rattle.df_model.specs.Making.{first_of, prepare_in, prepares_in}
-use Rattle.df_model.specs.Sense.{AreStaged}
+use Rattle.df_theory.specs.{Units.{Header, Message, Session}, Sessions.{MayAsk, noted, session_of_header, sessions_after}, Tails.{In}, Shape.{Shape, clients}, View.{View, head, sessions}, Holds.{Sound}, Next.{AreInTurn, MayAskInTurn}}
+use Rattle.df_model.specs.{Work.{Request}, Codec.{AreLawful}, Memory.{Memory}, Making.{first_of, prepare_in, prepares_in}, Sense.{AreStaged}}
 
 -- ---- what sessions go by
 

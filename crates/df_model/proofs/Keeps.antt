@@ -1,46 +1,8 @@
 -- Each command keeps the state's sense.
-use Rattle.std.proofs.Common.{◌≡◌, ◌⊎◌, inl, inr, ℕ, ◌+◌, ◌-◌, ◌<◌, ◌≤◌, ◌==◌, ◌||◌, Bool, true, false, if◌then◌else◌, List, [], ◌∷◌, ◌++◌, length, Option, Some, None, refl, sym, ◌∙◌, ap, subst, zero, suc, nat_lt, arith, length-drop, eqb-true}
-use Rattle.std.specs.List.{slice_get}
-use Rattle.std.proofs.lemmas.Bool.Decides.{nat_tests}
-use Rattle.std.proofs.lemmas.List.FromFn.{length-map-range_with_len}
-use Rattle.std.proofs.lemmas.Bool.{or_right, or_cases}
+use Rattle.std.{proofs.{Common.{◌≡◌, ◌⊎◌, inl, inr, ℕ, ◌+◌, ◌-◌, ◌<◌, ◌≤◌, ◌==◌, ◌||◌, Bool, true, false, if◌then◌else◌, List, [], ◌∷◌, ◌++◌, length, Option, Some, None, refl, sym, ◌∙◌, ap, subst, zero, suc, nat_lt, arith, length-drop, eqb-true}, lemmas.Bool.Decides.{nat_tests}, lemmas.List.FromFn.{length-map-range_with_len}, lemmas.Bool.{or_right, or_cases}}, specs.List.{slice_get}}
 use Rattle.df_layout.specs.declared.damage.Finding.{Finding}
-use Rattle.df_theory.specs.Units.{Block, BlockUnit, Content, Message, Session, Parts}
-use Rattle.df_theory.specs.Sessions.{noted}
-use Rattle.df_theory.specs.Tails.{Chain, In}
-use Rattle.df_theory.specs.Trailer.{InChain, Links, Says, text_of}
-use Rattle.df_model.specs.Blocks.{addresses, entries, sum_at}
-use Rattle.df_model.proofs.Entries.{entry_known}
-use Rattle.df_model.proofs.Sessions.{chain_lawful}
-use Rattle.df_theory.specs.Shape.{Shape}
-use Rattle.df_theory.specs.View.{View, head, sessions}
-use Rattle.df_theory.specs.Holds.{Sound}
-use Rattle.df_theory.specs.Next.{Append, Finish, Next, Reply, Same}
-use Rattle.df_theory.proofs.Laws.{chain_ops}
-use Rattle.df_model.specs.Work.{Running, Tour, Work, first_tour, prepare_checksum, is_captured, is_in, is_known, is_of, opened, waiting_checksum}
-use Rattle.df_model.specs.Codec.{AreBytes, AreLawful, IsCodec, IsLawful}
-use Rattle.df_model.specs.Refusals.{begin_refusals, first_refusal}
-use Rattle.df_model.specs.After.{newest, with_running, next_trailer, begun, checkpoint_of, with_trailer_block, with_verdict}
-use Rattle.df_model.specs.Change.{Appends, Begins, Change, Checks, Ends, LetsGo, Lives, One, Replies, Staged, Stages, Stays, TourEnds, Writes}
-use Rattle.df_model.specs.Sense.{AtEachOf, IsCapture, IsClearAddress, IsWork}
-use Rattle.df_model.specs.declared.answers.Verdict.{Verdict}
-use Rattle.df_model.specs.declared.answers.Verdict.TheVariants.{Sound as IsFine, Failing}
-use Rattle.df_model.specs.Laws.{HasFields, NextLaw, OpenedLaw, SenseLaw}
-use Rattle.df_model.proofs.Grid.{IsFree, are_free, each_take, each_weaker, in_each, nowhere}
-use Rattle.df_model.proofs.Knows.{begin_knows, one_fewer, one_more, opened_one, scrub_one, trailer_knows, trailer_new}
-use Rattle.df_model.proofs.Appends.{append_keeps, may_append}
-use Rattle.df_model.proofs.Groups.{nothing_staged}
-use Rattle.df_model.proofs.Staging.{stage_keeps}
-use Rattle.df_model.proofs.Flushing.{flush_keeps, may_flush}
-use Rattle.df_model.proofs.Replies.{may_reply, reply_keeps}
-use Rattle.df_model.proofs.Blocks.{first_small, live_keeps, next_free, release_keeps}
-use Rattle.df_model.proofs.Steps.{begin_capture, step_capture}
-use Rattle.df_model.proofs.Finishes.{finish_keeps, is_finish}
-use Rattle.df_model.proofs.Recording.{get_range}
-use Rattle.df_model.specs.Memory.{free_of, memory_of}
-use Rattle.df_model.specs.Making.{needed_of, next_address, place_of_reply, reply_of}
-use Rattle.df_model.specs.Commands.{Command, Given, IsInput, after, supplied_sum, supplied_sums, supplied_verdict}
-use Rattle.df_model.proofs.OneThing.{one_thing_law}
+use Rattle.df_theory.{specs.{Units.{Block, BlockUnit, Content, Message, Session, Parts}, Sessions.{noted}, Tails.{Chain, In}, Trailer.{InChain, Links, Says, text_of}, Shape.{Shape}, View.{View, head, sessions}, Holds.{Sound}, Next.{Append, Finish, Next, Reply, Same}}, proofs.Laws.{chain_ops}}
+use Rattle.df_model.{specs.{Blocks.{addresses, entries, sum_at}, Work.{Running, Tour, Work, first_tour, prepare_checksum, is_captured, is_in, is_known, is_of, opened, waiting_checksum}, Codec.{AreBytes, AreLawful, IsCodec, IsLawful}, Refusals.{begin_refusals, first_refusal}, After.{newest, with_running, next_trailer, begun, checkpoint_of, with_trailer_block, with_verdict}, Change.{Appends, Begins, Change, Checks, Ends, LetsGo, Lives, One, Replies, Staged, Stages, Stays, TourEnds, Writes}, Sense.{AtEachOf, IsCapture, IsClearAddress, IsWork}, declared.answers.Verdict.{Verdict}, declared.answers.Verdict.TheVariants.{Sound as IsFine, Failing}, Laws.{HasFields, NextLaw, OpenedLaw, SenseLaw}, Memory.{free_of, memory_of}, Making.{needed_of, next_address, place_of_reply, reply_of}, Commands.{Command, Given, IsInput, after, supplied_sum, supplied_sums, supplied_verdict}}, proofs.{Entries.{entry_known}, Sessions.{chain_lawful}, Grid.{IsFree, are_free, each_take, each_weaker, in_each, nowhere}, Knows.{begin_knows, one_fewer, one_more, opened_one, scrub_one, trailer_knows, trailer_new}, Appends.{append_keeps, may_append}, Groups.{nothing_staged}, Staging.{stage_keeps}, Flushing.{flush_keeps, may_flush}, Replies.{may_reply, reply_keeps}, Blocks.{first_small, live_keeps, next_free, release_keeps}, Steps.{begin_capture, step_capture}, Finishes.{finish_keeps, is_finish}, Recording.{get_range}, OneThing.{one_thing_law}}}
 
 -- ---- a begin
 

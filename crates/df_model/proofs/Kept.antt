@@ -1,37 +1,10 @@
 -- What is kept is read.
-use Rattle.std.proofs.Common.{◌≡◌, inl, inr, ℕ, zero, suc, ◌+◌, ◌-◌, ◌%◌, ◌<◌, ◌≤◌, ◌==◌, nat_lt, nat_le, not, Bool, true, false, if◌then◌else◌, List, [], ◌∷◌, length, map, Option, Some, None, Result, Ok, refl, sym, ◌∙◌, ap, subst, arith, ltb-true, leb-true, ltb-false, eqb-true, eq-eqb}
-use Rattle.std.specs.List.{range_with_len, slice_get}
-use Rattle.std.proofs.lemmas.Option.{slice_get-map, slice_get_within}
-use Rattle.std.specs.Option.{option_map}
-use Rattle.std.proofs.lemmas.Bool.{and_parts, not-false}
+use Rattle.std.{proofs.{Common.{◌≡◌, inl, inr, ℕ, zero, suc, ◌+◌, ◌-◌, ◌%◌, ◌<◌, ◌≤◌, ◌==◌, nat_lt, nat_le, not, Bool, true, false, if◌then◌else◌, List, [], ◌∷◌, length, map, Option, Some, None, Result, Ok, refl, sym, ◌∙◌, ap, subst, arith, ltb-true, leb-true, ltb-false, eqb-true, eq-eqb}, lemmas.Option.{slice_get-map, slice_get_within}, lemmas.Bool.{and_parts, not-false}}, specs.{List.{range_with_len, slice_get}, Option.{option_map}}}
 use Rattle.df_base.proofs.Laws.{not_zero}
-use Rattle.df_layout.specs.declared.damage.Class.{Class}
-use Rattle.df_layout.specs.declared.damage.Class.TheVariants.{Stale}
-use Rattle.df_theory.specs.Units.{AnyUnit, Block, BlockPlace, BlockUnit, Message, Parts, PreparePlace, PrepareUnit, ReplyPlace, ReplyUnit, Session, Units}
-use Rattle.df_theory.specs.Sessions.{Answers, noted}
-use Rattle.df_theory.specs.Tails.{Chain, In}
-use Rattle.df_theory.specs.Trailer.{InChain}
-use Rattle.df_theory.specs.Shape.{Shape}
-use Rattle.df_theory.specs.View.{head, sessions}
-use Rattle.df_theory.specs.UnitLog.{UnitLog, now}
-use Rattle.df_model.specs.Work.{Running, Work, captured_sum, is_known, or_known, reference_of, sum_in}
-use Rattle.df_model.specs.Memory.{memory_of, sum_of_message, joined, stored_sum}
-use Rattle.df_model.specs.Blocks.{blocks_of, reference_in, referenced_in, addresses, entries, sum_at}
-use Rattle.df_model.specs.Refusals.{first_refusal, is_new, last_op, lookup_refusals, prepare_refusals, read_refusals, session_of_client}
-use Rattle.df_model.specs.After.{after_check, place_of_client, shown_or}
-use Rattle.df_model.specs.Commands.{ToReadBlock, ToReadPrepare, ToReadReply, ToScrub}
-use Rattle.df_model.specs.Supply.{block_given, first_check, given_if, is_sum, no_trailer, prepare_given, reply_given, verdict_of}
-use Rattle.df_model.specs.Sense.{IsBacked, ShowsBlock, ShowsOwnBlock}
-use Rattle.df_model.specs.Laws.{IsKeptBy}
-use Rattle.df_model.specs.Reading.{BlockReadLaw, PrepareReadLaw, ReplyReadLaw, ScrubLaw, shown_by}
-use Rattle.df_model.proofs.Tests.{all_pass}
-use Rattle.df_model.proofs.Entries.{entry_there, filtered_each, reference_is, within}
-use Rattle.df_model.proofs.Keeps.{chain_get}
-use Rattle.df_model.proofs.Recording.{get_range}
-use Rattle.df_model.proofs.Grid.{live_held}
+use Rattle.df_layout.specs.{declared.damage.Class.{Class}, declared.damage.Class.TheVariants.{Stale}}
+use Rattle.df_theory.specs.{Units.{AnyUnit, Block, BlockPlace, BlockUnit, Message, Parts, PreparePlace, PrepareUnit, ReplyPlace, ReplyUnit, Session, Units}, Sessions.{Answers, noted}, Tails.{Chain, In}, Trailer.{InChain}, Shape.{Shape}, View.{head, sessions}, UnitLog.{UnitLog, now}}
+use Rattle.df_model.{specs.{Work.{Running, Work, captured_sum, is_known, or_known, reference_of, sum_in}, Memory.{memory_of, sum_of_message, joined, stored_sum}, Blocks.{blocks_of, reference_in, referenced_in, addresses, entries, sum_at}, Refusals.{first_refusal, is_new, last_op, lookup_refusals, prepare_refusals, read_refusals, session_of_client}, After.{after_check, place_of_client, shown_or}, Commands.{ToReadBlock, ToReadPrepare, ToReadReply, ToScrub}, Supply.{block_given, first_check, given_if, is_sum, no_trailer, prepare_given, reply_given, verdict_of}, Sense.{IsBacked, ShowsBlock, ShowsOwnBlock}, Laws.{IsKeptBy}, Reading.{BlockReadLaw, PrepareReadLaw, ReplyReadLaw, ScrubLaw, shown_by}, declared.answers.Verdict.{Verdict}, declared.answers.Scrubbed.TheVariants.{Checked}}, proofs.{Tests.{all_pass}, Entries.{entry_there, filtered_each, reference_is, within}, Keeps.{chain_get}, Recording.{get_range}, Grid.{live_held}}}
 use Rattle.df_model.specs.declared.reading.ReadError.TheVariants as read
-use Rattle.df_model.specs.declared.answers.Verdict.{Verdict}
-use Rattle.df_model.specs.declared.answers.Scrubbed.TheVariants.{Checked}
 
 -- the prepare with an op of a chain
 chain_at : (clients op parent mark : ℕ) (ss : List Session) (ps : List Message) (i : ℕ) → Chain clients op parent mark ss ps → i < length ps → (p : Message) × In p ps × (p.header.op ≡ op + i)

@@ -1,16 +1,7 @@
 -- One block an address.
 use Rattle.std.proofs.Common.{◌≡◌, ◌⊎◌, inl, inr, ℕ, ◌+◌, ◌==◌, Bool, true, false, if◌then◌else◌, List, ◌∷◌, Option, Some, None, refl, sym, ◌∙◌, ap, subst, arith, eqb-true}
-use Rattle.df_theory.specs.Units.{Block, Message, Parts}
-use Rattle.df_theory.specs.Trailer.{InChain}
-use Rattle.df_theory.specs.Shape.{Shape}
-use Rattle.df_theory.specs.View.{View}
-use Rattle.df_theory.specs.Holds.{Sound}
-use Rattle.df_model.specs.Work.{Request, Running, Work}
-use Rattle.df_model.specs.After.{with_running, begun, finished, with_group, with_live, with_reply, with_staged, with_trailer_block}
-use Rattle.df_model.specs.Sense.{AreOne, AtEachOf, Captured, Chained, Durable, IsCapture, IsClearAddress, IsKnown, IsSpare, Live, RiseFrom, Written}
-use Rattle.df_model.proofs.Grid.{IsNowhere}
-use Rattle.df_model.specs.Blocks.{addresses, entries, sum_at}
-use Rattle.df_model.proofs.Entries.{entry_in}
+use Rattle.df_theory.specs.{Units.{Block, Message, Parts}, Trailer.{InChain}, Shape.{Shape}, View.{View}, Holds.{Sound}}
+use Rattle.df_model.{specs.{Work.{Request, Running, Work}, After.{with_running, begun, finished, with_group, with_live, with_reply, with_staged, with_trailer_block}, Sense.{AreOne, AtEachOf, Captured, Chained, Durable, IsCapture, IsClearAddress, IsKnown, IsSpare, Live, RiseFrom, Written}, Blocks.{addresses, entries, sum_at}}, proofs.{Grid.{IsNowhere}, Entries.{entry_in}}}
 
 -- what was known is known
 abbrev pub KnowsNoMore : Work → Work → Type 0

@@ -1,15 +1,6 @@
 -- Steps that write no block: of copies and of headers. They leave each block as it was.
 use Rattle.std.proofs.Common.{◌≡◌, ℕ, ◌%◌, List, [], ◌∷◌, ◌++◌, Option, Some, None, refl, ◌∙◌, ap}
-use Rattle.df_theory.specs.Units.{AnyUnit, BlockPlace, Content, CopyPlace, CopyUnit, Header, Message, PreparePlace, PrepareUnit, Units, or_else}
-use Rattle.df_theory.specs.Shape.{Shape, slots}
-use Rattle.df_theory.specs.View.{View}
-use Rattle.df_theory.specs.UnitLog.{PutsOne, Synced, UnitLog, add, now, wrote}
-use Rattle.df_theory.specs.Runs.{Puts, Step, Syncs, after_steps}
-use Rattle.df_theory.specs.CopyPuts.{PutsCopies, update_steps}
-use Rattle.df_theory.specs.MakingLaws.{all_puts}
-use Rattle.df_theory.specs.MendLaws.{AllPutCopy, AllPutTable, PutsTable, copy_steps, header_steps, mend_steps}
-use Rattle.df_theory.specs.WholeLaws.{AllSpare}
-use Rattle.df_theory.specs.WriterLaws.{AllPutPrepare, flush_steps}
+use Rattle.df_theory.specs.{Units.{AnyUnit, BlockPlace, Content, CopyPlace, CopyUnit, Header, Message, PreparePlace, PrepareUnit, Units, or_else}, Shape.{Shape, slots}, View.{View}, UnitLog.{PutsOne, Synced, UnitLog, add, now, wrote}, Runs.{Puts, Step, Syncs, after_steps}, CopyPuts.{PutsCopies, update_steps}, MakingLaws.{all_puts}, MendLaws.{AllPutCopy, AllPutTable, PutsTable, copy_steps, header_steps, mend_steps}, WholeLaws.{AllSpare}, WriterLaws.{AllPutPrepare, flush_steps}}
 
 abbrev pub PutsNoBlock : Units → Type 0
 PutsNoBlock put = (a : ℕ) → put (BlockPlace a) ≡ None

@@ -1,18 +1,7 @@
 -- A command leaves the state, or does one of ten things.
 use Rattle.std.proofs.Common.{◌≡◌, ℕ, List, [], ◌∷◌, ◌+◌, ◌++◌, length, Option, Some, None, refl, sym, subst}
-use Rattle.df_theory.specs.Units.{Message, Parts}
-use Rattle.df_theory.specs.Next.{appended}
-use Rattle.df_theory.specs.Runs.{Step}
-use Rattle.df_theory.specs.Shape.{Shape}
-use Rattle.df_model.specs.Work.{Request, Running, Work}
-use Rattle.df_model.specs.Memory.{Memory, memory_of}
-use Rattle.df_model.specs.Refusals.{append_refusals, begin_refusals, block_refusals, first_refusal, flush_refusals, release_refusals, reply_refusals, stage_refusals}
-use Rattle.df_model.specs.Making.{group_of, needed_of, next_address, place_of_reply, prepare_of, reply_of}
-use Rattle.df_model.specs.After.{after_check, after_running, after_step_of, begun, outcome, to_check, with_group, with_live, with_prepare, with_reply, with_running, with_staged}
-use Rattle.df_model.specs.Laws.{DoesAdvance, DoesNothing, UnlessRefused}
-use Rattle.df_model.specs.Change.{Appends, Begins, Change, Checks, Ends, IsIdle, LetsGo, Lives, One, OneThingLaw, Replies, Staged, Stages, Stays, TourEnds, Writes}
-use Rattle.df_model.specs.Commands.{Advance, Append, Begin, Command, Flush, Given, ReadBlock, ReadPrepare, ReadReply, Recent, Release, Reply, Scrub, Stage, WriteBlock, after, supplied_sum, supplied_sums, supplied_verdict}
-use Rattle.df_model.proofs.Appends.{both_pass}
+use Rattle.df_theory.specs.{Units.{Message, Parts}, Next.{appended}, Runs.{Step}, Shape.{Shape}}
+use Rattle.df_model.{specs.{Work.{Request, Running, Work}, Memory.{Memory, memory_of}, Refusals.{append_refusals, begin_refusals, block_refusals, first_refusal, flush_refusals, release_refusals, reply_refusals, stage_refusals}, Making.{group_of, needed_of, next_address, place_of_reply, prepare_of, reply_of}, After.{after_check, after_running, after_step_of, begun, outcome, to_check, with_group, with_live, with_prepare, with_reply, with_running, with_staged}, Laws.{DoesAdvance, DoesNothing, UnlessRefused}, Change.{Appends, Begins, Change, Checks, Ends, IsIdle, LetsGo, Lives, One, OneThingLaw, Replies, Staged, Stages, Stays, TourEnds, Writes}, Commands.{Advance, Append, Begin, Command, Flush, Given, ReadBlock, ReadPrepare, ReadReply, Recent, Release, Reply, Scrub, Stage, WriteBlock, after, supplied_sum, supplied_sums, supplied_verdict}}, proofs.Appends.{both_pass}}
 
 refused_idle : {E : Type 0} (o : Option E) (e : E) (steps : List Step) (Done : Type 0) → o ≡ Some e → UnlessRefused o steps Done → DoesNothing steps
 refused_idle (Some e) x steps Done is does = does

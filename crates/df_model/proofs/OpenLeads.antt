@@ -1,28 +1,7 @@
 -- An open, after its barrier: the mending, and the boot update after that, in one log.
 use Rattle.std.proofs.Common.{◌≡◌, inl, inr, ℕ, ◌<◌, ◌^◌, List, ◌++◌, sym, ◌∙◌, subst}
-use Rattle.df_theory.specs.Units.{Content, Header, Parts, Units}
-use Rattle.df_theory.specs.Shape.{Shape}
-use Rattle.df_theory.specs.View.{View, boot_of}
-use Rattle.df_theory.specs.UnitLog.{UnitLog, now}
-use Rattle.df_theory.specs.Rests.{IsDry, IsGoodLog, RestsOn}
-use Rattle.df_theory.specs.Runs.{AtEach, Step, after_steps}
-use Rattle.df_theory.specs.CopyPuts.{PutsCopies, update_steps}
-use Rattle.df_theory.specs.WholeLaws.{IsStanding}
-use Rattle.df_theory.specs.TidyLaws.{IsGoodWhole, IsTidy}
-use Rattle.df_theory.specs.MendLaws.{copy_steps, header_steps, mend_steps}
-use Rattle.df_theory.specs.Upgrades.{raise_steps}
-use Rattle.df_theory.specs.Device.{units_log}
-use Rattle.df_theory.proofs.Laws.{after_append, dry_copies, dry_headers, dry_quiet, each_append, each_weaker as each_moment, mend_law, mends_whole_law, stands_law}
-use Rattle.df_model.specs.Work.{Work, raised}
-use Rattle.df_model.specs.Memory.{memory_of}
-use Rattle.df_model.specs.Making.{boot_content}
-use Rattle.df_model.specs.Sense.{IsBacked}
-use Rattle.df_model.specs.Laws.{BacksOn, IsKeptBy, LeadsOn}
-use Rattle.df_model.specs.Boots.{DiskOpenLaw, IsMendedFor, MayOpenFor, OpenCommandLaw}
-use Rattle.df_model.proofs.NoBlocks.{NoBlocks, blocks_stay, mend_no_blocks, spare_all}
-use Rattle.df_model.proofs.Writing.{own_same}
-use Rattle.df_model.proofs.Disks.{on_disk}
-use Rattle.df_model.proofs.Boots.{stands_each, stands_last, update_backs, update_leads}
+use Rattle.df_theory.{specs.{Units.{Content, Header, Parts, Units}, Shape.{Shape}, View.{View, boot_of}, UnitLog.{UnitLog, now}, Rests.{IsDry, IsGoodLog, RestsOn}, Runs.{AtEach, Step, after_steps}, CopyPuts.{PutsCopies, update_steps}, WholeLaws.{IsStanding}, TidyLaws.{IsGoodWhole, IsTidy}, MendLaws.{copy_steps, header_steps, mend_steps}, Upgrades.{raise_steps}, Device.{units_log}}, proofs.Laws.{after_append, dry_copies, dry_headers, dry_quiet, each_append, each_weaker as each_moment, mend_law, mends_whole_law, stands_law}}
+use Rattle.df_model.{specs.{Work.{Work, raised}, Memory.{memory_of}, Making.{boot_content}, Sense.{IsBacked}, Laws.{BacksOn, IsKeptBy, LeadsOn}, Boots.{DiskOpenLaw, IsMendedFor, MayOpenFor, OpenCommandLaw}}, proofs.{NoBlocks.{NoBlocks, blocks_stay, mend_no_blocks, spare_all}, Writing.{own_same}, Disks.{on_disk}, Boots.{stands_each, stands_last, update_backs, update_leads}}}
 
 -- what leaves the view leaves one of two views
 either_good : (sh : Shape) (v u : View) (l : UnitLog) → IsGoodLog sh v v l → IsGoodLog sh v u l

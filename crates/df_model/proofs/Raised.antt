@@ -1,28 +1,7 @@
 -- A log that is restarted after an open is kept by the state after its boot update.
 use Rattle.std.proofs.Common.{◌≡◌, inl, inr, ℕ, List, false, true, refl, ap, subst, arith}
-use Rattle.df_theory.specs.Units.{Content, Header, Parts, Units}
-use Rattle.df_theory.specs.Shape.{Shape}
-use Rattle.df_theory.specs.View.{View}
-use Rattle.df_theory.specs.Holds.{Stands}
-use Rattle.df_theory.specs.Next.{booted}
-use Rattle.df_theory.specs.UnitLog.{UnitLog, now, settled}
-use Rattle.df_theory.specs.Grown.{IsClear}
-use Rattle.df_theory.specs.Runs.{after_steps}
-use Rattle.df_theory.specs.MendLaws.{mend_steps}
-use Rattle.df_theory.specs.CopyPuts.{PutsCopies, update_steps}
-use Rattle.df_theory.specs.WholeLaws.{IsStanding}
-use Rattle.df_theory.specs.Upgrades.{BeginsRaised, EndsRaised, IsCleanBeyond, MayRaise, of_version, raise_steps, restarted_at}
-use Rattle.df_theory.proofs.Laws.{raise_ends_law, stands_law}
-use Rattle.df_model.specs.Work.{Work, opened, raised}
-use Rattle.df_model.specs.Codec.{IsCodec}
-use Rattle.df_model.specs.Memory.{memory_of}
-use Rattle.df_model.specs.Making.{boot_content}
-use Rattle.df_model.specs.Sense.{IsBacked, IsVersionTwo, IsWork}
-use Rattle.df_model.specs.Laws.{IsKeptBy}
-use Rattle.df_model.specs.Boots.{RaisedKeptLaw, Raises}
-use Rattle.df_model.proofs.Boots.{raised_law, stands_last}
-use Rattle.df_model.proofs.NoBlocks.{mend_no_blocks, no_blocks_both, spare_all, update_no_blocks}
-use Rattle.df_model.proofs.Runs.{found_law}
+use Rattle.df_theory.{specs.{Units.{Content, Header, Parts, Units}, Shape.{Shape}, View.{View}, Holds.{Stands}, Next.{booted}, UnitLog.{UnitLog, now, settled}, Grown.{IsClear}, Runs.{after_steps}, MendLaws.{mend_steps}, CopyPuts.{PutsCopies, update_steps}, WholeLaws.{IsStanding}, Upgrades.{BeginsRaised, EndsRaised, IsCleanBeyond, MayRaise, of_version, raise_steps, restarted_at}}, proofs.Laws.{raise_ends_law, stands_law}}
+use Rattle.df_model.{specs.{Work.{Work, opened, raised}, Codec.{IsCodec}, Memory.{memory_of}, Making.{boot_content}, Sense.{IsBacked, IsVersionTwo, IsWork}, Laws.{IsKeptBy}, Boots.{RaisedKeptLaw, Raises}}, proofs.{Boots.{raised_law, stands_last}, NoBlocks.{mend_no_blocks, no_blocks_both, spare_all, update_no_blocks}, Runs.{found_law}}}
 
 -- ---- what is begun after it
 

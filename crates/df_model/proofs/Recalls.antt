@@ -1,33 +1,7 @@
 -- How commands change what is in memory, the grid aside.
-use Rattle.std.proofs.Common.{◌≡◌, inl, inr, ℕ, zero, suc, ◌+◌, ◌-◌, ◌<◌, ◌≤◌, ◌==◌, nat_lt, Bool, true, false, if◌then◌else◌, List, [], ◌∷◌, ◌++◌, length, drop, map, Option, Some, None, refl, sym, ◌∙◌, ap, arith, length-append}
-use Rattle.std.specs.Prelude.{slice_set}
-use Rattle.std.specs.List.{range_with_len, slice_get}
-use Rattle.std.proofs.lemmas.Bool.Decides.{nat_tests}
-use Rattle.std.proofs.lemmas.Bool.{cases_lt}
-use Rattle.std.proofs.lemmas.List.{drop-map, map-append}
-use Rattle.df_theory.specs.Units.{Header, Message, Parts, Session}
-use Rattle.df_theory.specs.Sessions.{noted, session_of_header, sessions_after}
-use Rattle.df_theory.specs.Tails.{last_checksum}
-use Rattle.df_theory.specs.Shape.{Shape}
-use Rattle.df_theory.specs.View.{View, head, sessions}
-use Rattle.df_theory.specs.Next.{AreInTurn, appended, checkpointed, kept as kept_at}
-use Rattle.df_theory.proofs.Laws.{noted_get, sessions-append, tracks, last_checksum-append}
-use Rattle.df_model.specs.Work.{Request, Running, Work}
-use Rattle.df_model.specs.Blocks.{Blocks, blocks_of}
-use Rattle.df_model.specs.Memory.{Memory, course, course_of, memory_of, stored_sum, sum_of_message}
-use Rattle.df_model.specs.Refusals.{append_refusals, begin_refusals, block_refusals, first_refusal, flush_refusals, release_refusals, reply_refusals, stage_refusals}
-use Rattle.df_model.specs.Making.{group_of, needed_of, next_address, place_of_reply, prepare_of, reply_of}
-use Rattle.df_model.specs.After.{after_check, after_running, after_step_of, begun, checkpoint_of, finished, next_trailer, outcome, to_check, with_group, with_live, with_prepare, with_reply, with_running, with_staged, with_trailer_block}
-use Rattle.df_model.specs.Commands.{Advance, Append, Begin, Command, Flush, Given, Release, Reply, Scrub, Stage, WriteBlock, after, supplied_sum, supplied_sums, supplied_verdict}
-use Rattle.df_model.proofs.Recording.{last_split}
-use Rattle.df_model.specs.Changing.{ChangeLaw, ListsLaw, appended_in, blocks_after, checked_in, course_on, flushed_in, memory_after, replied_in, staged_in, step_in, unless_refused, unstored, unstored_all}
-use Rattle.df_model.specs.Sense.{IsWork}
-use Rattle.df_model.specs.declared.answers.Verdict.{Verdict}
-use Rattle.df_model.specs.declared.answers.Verdict.TheVariants.{Sound, Failing}
-use Rattle.df_model.proofs.Changing.{blocks_law}
-use Rattle.df_model.proofs.Entries.{held_is, reference_is}
-use Rattle.df_model.proofs.Groups.{in_turn}
-use Rattle.df_model.proofs.Finishes.{head_same, same_sessions}
+use Rattle.std.{proofs.{Common.{◌≡◌, inl, inr, ℕ, zero, suc, ◌+◌, ◌-◌, ◌<◌, ◌≤◌, ◌==◌, nat_lt, Bool, true, false, if◌then◌else◌, List, [], ◌∷◌, ◌++◌, length, drop, map, Option, Some, None, refl, sym, ◌∙◌, ap, arith, length-append}, lemmas.Bool.Decides.{nat_tests}, lemmas.Bool.{cases_lt}, lemmas.List.{drop-map, map-append}}, specs.{Prelude.{slice_set}, List.{range_with_len, slice_get}}}
+use Rattle.df_theory.{specs.{Units.{Header, Message, Parts, Session}, Sessions.{noted, session_of_header, sessions_after}, Tails.{last_checksum}, Shape.{Shape}, View.{View, head, sessions}, Next.{AreInTurn, appended, checkpointed, kept as kept_at}}, proofs.Laws.{noted_get, sessions-append, tracks, last_checksum-append}}
+use Rattle.df_model.{specs.{Work.{Request, Running, Work}, Blocks.{Blocks, blocks_of}, Memory.{Memory, course, course_of, memory_of, stored_sum, sum_of_message}, Refusals.{append_refusals, begin_refusals, block_refusals, first_refusal, flush_refusals, release_refusals, reply_refusals, stage_refusals}, Making.{group_of, needed_of, next_address, place_of_reply, prepare_of, reply_of}, After.{after_check, after_running, after_step_of, begun, checkpoint_of, finished, next_trailer, outcome, to_check, with_group, with_live, with_prepare, with_reply, with_running, with_staged, with_trailer_block}, Commands.{Advance, Append, Begin, Command, Flush, Given, Release, Reply, Scrub, Stage, WriteBlock, after, supplied_sum, supplied_sums, supplied_verdict}, Changing.{ChangeLaw, ListsLaw, appended_in, blocks_after, checked_in, course_on, flushed_in, memory_after, replied_in, staged_in, step_in, unless_refused, unstored, unstored_all}, Sense.{IsWork}, declared.answers.Verdict.{Verdict}, declared.answers.Verdict.TheVariants.{Sound, Failing}}, proofs.{Recording.{last_split}, Changing.{blocks_law}, Entries.{held_is, reference_is}, Groups.{in_turn}, Finishes.{head_same, same_sessions}}}
 
 pub lists_law : ListsLaw
 lists_law sh w a inside = (held_is sh w a (omega (arith, inside.0)) (omega (arith, inside.1)), reference_is sh w a (omega (arith, inside.0)) (omega (arith, inside.1)))

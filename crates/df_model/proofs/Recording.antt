@@ -1,21 +1,7 @@
 -- What a superblock records of the state as it is.
-use Rattle.std.proofs.Common.{◌≡◌, inl, inr, ℕ, zero, suc, ◌+◌, ◌-◌, ◌<◌, ◌≤◌, List, [], ◌∷◌, length, map, take, drop, slice_index, Option, Some, None, refl, ◌∙◌, ap, arith, length-drop}
-use Rattle.std.specs.List.{range_with_len, slice_get}
-use Rattle.std.proofs.lemmas.Bool.{cases_lt}
-use Rattle.std.proofs.lemmas.List.{get_or_past, take_all}
-use Rattle.std.proofs.lemmas.List.FromFn.{get_or-map-range_with_len, length-map-range_with_len}
-use Rattle.std.proofs.lemmas.Option.{slice_get_past, slice_get_within}
-use Rattle.df_theory.specs.Units.{Content, Layout, Message, Parts, Session}
-use Rattle.df_theory.specs.Sessions.{Answers}
-use Rattle.df_theory.specs.Tails.{last_checksum}
-use Rattle.df_theory.specs.Shape.{Shape, clients}
-use Rattle.df_theory.specs.View.{View, head, sessions}
-use Rattle.df_theory.specs.Holds.{Sound}
-use Rattle.df_theory.specs.Next.{Records}
-use Rattle.df_theory.specs.Upgrades.{as_version}
-use Rattle.df_model.specs.Work.{Work}
-use Rattle.df_model.specs.Memory.{Memory, joined, memory_of, reply_sum, stored_sum}
-use Rattle.df_model.specs.Making.{named_places, named_sums, recorded, sum_or_zero}
+use Rattle.std.{proofs.{Common.{◌≡◌, inl, inr, ℕ, zero, suc, ◌+◌, ◌-◌, ◌<◌, ◌≤◌, List, [], ◌∷◌, length, map, take, drop, slice_index, Option, Some, None, refl, ◌∙◌, ap, arith, length-drop}, lemmas.Bool.{cases_lt}, lemmas.List.{get_or_past, take_all}, lemmas.List.FromFn.{get_or-map-range_with_len, length-map-range_with_len}, lemmas.Option.{slice_get_past, slice_get_within}}, specs.List.{range_with_len, slice_get}}
+use Rattle.df_theory.specs.{Units.{Content, Layout, Message, Parts, Session}, Sessions.{Answers}, Tails.{last_checksum}, Shape.{Shape, clients}, View.{View, head, sessions}, Holds.{Sound}, Next.{Records}, Upgrades.{as_version}}
+use Rattle.df_model.specs.{Work.{Work}, Memory.{Memory, joined, memory_of, reply_sum, stored_sum}, Making.{named_places, named_sums, recorded, sum_or_zero}}
 
 -- ---- lists
 

@@ -1,23 +1,7 @@
 -- A reply.
-use Rattle.std.proofs.Common.{◌≡◌, ℕ, suc, ◌+◌, ◌<◌, List, [], ◌∷◌, drop, length, None, refl, sym, ap, arith}
-use Rattle.std.proofs.lemmas.Bool.{eqb-false}
-use Rattle.df_theory.specs.Units.{Message, Parts}
-use Rattle.df_theory.specs.Shape.{Shape}
-use Rattle.df_theory.specs.View.{View, head, sessions}
-use Rattle.df_theory.specs.Next.{MayReply, replied}
-use Rattle.df_theory.proofs.Laws.{reply_sound, tracks}
-use Rattle.df_model.specs.Work.{Work}
-use Rattle.df_model.specs.Refusals.{first_refusal, reply_refusals}
-use Rattle.df_model.specs.After.{with_reply}
-use Rattle.df_model.specs.Sense.{AreStaged, AreWaiting, IsWork}
-use Rattle.df_model.specs.Laws.{ReplyMayLaw}
-use Rattle.df_model.proofs.Captures.{capture_on}
-use Rattle.df_model.proofs.Tests.{all_pass}
-use Rattle.df_model.proofs.Groups.{staged_on}
-use Rattle.df_model.proofs.Knows.{one_fewer, reply_knows}
-use Rattle.df_model.proofs.Sessions.{IsAtOp, op_found}
-use Rattle.df_model.specs.Memory.{memory_of}
-use Rattle.df_model.specs.Making.{client_of, group_of, place_of_reply, reply_of, request_of}
+use Rattle.std.proofs.{Common.{◌≡◌, ℕ, suc, ◌+◌, ◌<◌, List, [], ◌∷◌, drop, length, None, refl, sym, ap, arith}, lemmas.Bool.{eqb-false}}
+use Rattle.df_theory.{specs.{Units.{Message, Parts}, Shape.{Shape}, View.{View, head, sessions}, Next.{MayReply, replied}}, proofs.Laws.{reply_sound, tracks}}
+use Rattle.df_model.{specs.{Work.{Work}, Refusals.{first_refusal, reply_refusals}, After.{with_reply}, Sense.{AreStaged, AreWaiting, IsWork}, Laws.{ReplyMayLaw}, Memory.{memory_of}, Making.{client_of, group_of, place_of_reply, reply_of, request_of}}, proofs.{Captures.{capture_on}, Tests.{all_pass}, Groups.{staged_on}, Knows.{one_fewer, reply_knows}, Sessions.{IsAtOp, op_found}}}
 
 module _ (sh : Shape) (spell : Parts → List ℕ) (w : Work) (sum op : ℕ) (body : List ℕ) (work : IsWork sh spell w) (none : first_refusal (reply_refusals (memory_of sh spell w) op body) ≡ None) where
   abbrev v : View

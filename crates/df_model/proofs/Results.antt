@@ -1,26 +1,8 @@
 -- Calls over a device answer the fold of the machine.
 use Rattle.std.proofs.Common.{◌≡◌, ℕ, ◌+◌, ◌%◌, List, [], ◌∷◌, ◌++◌, map, Option, Some, None, refl, sym, ◌∙◌, ap, subst}
 use Rattle.df_layout.specs.declared.damage.Class.{Class}
-use Rattle.df_theory.specs.Units.{AnyUnit, Block, BlockPlace, BlockUnit, Content, CopyPlace, CopyUnit, Header, HeaderPlace, Message, Parts, Place, PreparePlace, PrepareUnit, ReplyPlace, ReplyUnit, Units, or_else, overlay}
-use Rattle.df_theory.specs.Shape.{Shape}
-use Rattle.df_theory.specs.View.{View}
-use Rattle.df_theory.specs.UnitLog.{PutsOne, Synced, UnitLog, add, now, put_one, wrote}
-use Rattle.df_theory.specs.Runs.{Step, Syncs, after_steps}
-use Rattle.df_theory.specs.MakingLaws.{all_puts}
-use Rattle.df_theory.specs.MendLaws.{AllPutTable, PutsTable}
-use Rattle.df_theory.specs.WriterLaws.{AllPutPrepare, IsHeaderSector}
-use Rattle.df_theory.proofs.Laws.{after_append, put_else, put_one_law, else_join}
-use Rattle.df_model.specs.Work.{Running, Work}
-use Rattle.df_model.specs.Memory.{Memory, course, course_of, memory_of, prepare_sum, reply_sum}
-use Rattle.df_model.specs.Blocks.{sum_at}
-use Rattle.df_model.specs.Refusals.{append_refusals, block_refusals, first_refusal, flush_refusals, reply_refusals}
-use Rattle.df_model.specs.Making.{block_of, group_of, next_address, place_of_reply, prepare_of, reply_of}
-use Rattle.df_model.specs.After.{checkpoint_of, next_trailer, place_of_client, to_check}
-use Rattle.df_model.specs.Commands.{Advance, Answer, Append, Command, Flush, ForReadBlock, ForReadPrepare, ForReadReply, ForScrub, Given, ReadBlock, ReadPrepare, ReadReply, Reply, Scrub, WriteBlock, after, supplied_sum, supplied_sums}
-use Rattle.df_model.specs.Supply.{Codec, Shown, block_at, block_given, block_read, checksums_given, class_or, copies_of, first_check, group_puts, message_given, next, no_trailer, nothing, prepare_at, prepare_given, puts_of, reply_at, reply_given, result, step_puts, supplied, trailer_puts, unless, verdict_of}
-use Rattle.df_model.specs.Laws.{DoesAdvance, DoesAdvanceTo, DoesAppend, DoesBlock, DoesCommand, DoesFinish, DoesFlush, DoesReply, UnlessRefused}
-use Rattle.df_model.specs.Runs.{Stepped, act_of, command_in, run_answers}
-use Rattle.df_model.specs.Result.{AgreeReads, AreServed, ResultLaw, WritesLaw}
+use Rattle.df_theory.{specs.{Units.{AnyUnit, Block, BlockPlace, BlockUnit, Content, CopyPlace, CopyUnit, Header, HeaderPlace, Message, Parts, Place, PreparePlace, PrepareUnit, ReplyPlace, ReplyUnit, Units, or_else, overlay}, Shape.{Shape}, View.{View}, UnitLog.{PutsOne, Synced, UnitLog, add, now, put_one, wrote}, Runs.{Step, Syncs, after_steps}, MakingLaws.{all_puts}, MendLaws.{AllPutTable, PutsTable}, WriterLaws.{AllPutPrepare, IsHeaderSector}}, proofs.Laws.{after_append, put_else, put_one_law, else_join}}
+use Rattle.df_model.specs.{Work.{Running, Work}, Memory.{Memory, course, course_of, memory_of, prepare_sum, reply_sum}, Blocks.{sum_at}, Refusals.{append_refusals, block_refusals, first_refusal, flush_refusals, reply_refusals}, Making.{block_of, group_of, next_address, place_of_reply, prepare_of, reply_of}, After.{checkpoint_of, next_trailer, place_of_client, to_check}, Commands.{Advance, Answer, Append, Command, Flush, ForReadBlock, ForReadPrepare, ForReadReply, ForScrub, Given, ReadBlock, ReadPrepare, ReadReply, Reply, Scrub, WriteBlock, after, supplied_sum, supplied_sums}, Supply.{Codec, Shown, block_at, block_given, block_read, checksums_given, class_or, copies_of, first_check, group_puts, message_given, next, no_trailer, nothing, prepare_at, prepare_given, puts_of, reply_at, reply_given, result, step_puts, supplied, trailer_puts, unless, verdict_of}, Laws.{DoesAdvance, DoesAdvanceTo, DoesAppend, DoesBlock, DoesCommand, DoesFinish, DoesFlush, DoesReply, UnlessRefused}, Runs.{Stepped, act_of, command_in, run_answers}, Result.{AgreeReads, AreServed, ResultLaw, WritesLaw}}
 
 -- ---- what is supplied
 

@@ -1,25 +1,7 @@
 -- Runs of commands, and what they begin with.
 use Rattle.std.proofs.Common.{◌≡◌, ℕ, ◌%◌, ◌≤◌, List, [], ◌∷◌, length, map, Some, None, refl, sym, ap, subst, arith}
-use Rattle.df_theory.specs.Units.{Block, BlockPlace, BlockUnit, Message, Parts, PreparePlace, PrepareUnit, Units}
-use Rattle.df_theory.specs.Sessions.{session_of_header}
-use Rattle.df_theory.specs.Tails.{In}
-use Rattle.df_theory.specs.Trailer.{InChain, no_parts, text_of}
-use Rattle.df_theory.specs.Shape.{Shape}
-use Rattle.df_theory.specs.View.{View, sessions}
-use Rattle.df_theory.specs.Found.{AreOfPlaces, IsFound, IsInRange}
-use Rattle.df_theory.specs.UnitLog.{UnitLog, now}
-use Rattle.df_theory.specs.Runs.{after_steps, steps_of}
-use Rattle.df_theory.specs.TidyLaws.{KeepStanding, LeadTidily}
-use Rattle.df_theory.proofs.Laws.{after_append, found_sound, standing_run_law, text_bytes, tidy_run_law}
-use Rattle.df_model.specs.Work.{Work, kept}
-use Rattle.df_model.specs.Codec.{AreBytes, IsCodec, IsLawfulSession}
-use Rattle.df_model.specs.Commands.{after}
-use Rattle.df_model.specs.Sense.{IsBacked}
-use Rattle.df_model.specs.Laws.{FoundStateLaw, HasFields, IsKeptBy}
-use Rattle.df_model.specs.Runs.{DoAll, FirstKeptLaw, OpenedKeptLaw, RunLaw, Stepped, act_of, led_by, work_after}
-use Rattle.df_model.proofs.Keeps.{opened_law, sessions_lawful}
-use Rattle.df_model.proofs.Does.{command_law}
-use Rattle.df_model.proofs.Writing.{Both}
+use Rattle.df_theory.{specs.{Units.{Block, BlockPlace, BlockUnit, Message, Parts, PreparePlace, PrepareUnit, Units}, Sessions.{session_of_header}, Tails.{In}, Trailer.{InChain, no_parts, text_of}, Shape.{Shape}, View.{View, sessions}, Found.{AreOfPlaces, IsFound, IsInRange}, UnitLog.{UnitLog, now}, Runs.{after_steps, steps_of}, TidyLaws.{KeepStanding, LeadTidily}}, proofs.Laws.{after_append, found_sound, standing_run_law, text_bytes, tidy_run_law}}
+use Rattle.df_model.{specs.{Work.{Work, kept}, Codec.{AreBytes, IsCodec, IsLawfulSession}, Commands.{after}, Sense.{IsBacked}, Laws.{FoundStateLaw, HasFields, IsKeptBy}, Runs.{DoAll, FirstKeptLaw, OpenedKeptLaw, RunLaw, Stepped, act_of, led_by, work_after}}, proofs.{Keeps.{opened_law, sessions_lawful}, Does.{command_law}, Writing.{Both}}}
 
 -- ---- runs
 

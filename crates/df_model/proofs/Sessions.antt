@@ -1,16 +1,7 @@
 -- Who may ask, and what a request makes of lawful sessions.
-use Rattle.std.proofs.Common.{◌≡◌, inl, inr, ℕ, ◌+◌, ◌<◌, ◌≤◌, ◌==◌, Bool, true, false, if◌then◌else◌, List, [], ◌∷◌, length, Some, None, refl, sym, ◌∙◌, ap, subst, zero, suc, arith, eqb-true}
-use Rattle.std.specs.Prelude.{◌-◌}
-use Rattle.std.specs.List.{slice_get}
-use Rattle.std.proofs.lemmas.Bool.{eqb-false}
-use Rattle.df_theory.specs.Units.{Header, Message, Session}
-use Rattle.df_theory.specs.Sessions.{Has, MayAsk, noted, session_of_header, sessions_after}
-use Rattle.df_theory.specs.Tails.{Chain, In}
-use Rattle.df_theory.proofs.Laws.{noted_get}
-use Rattle.df_model.specs.Codec.{AreLawful, IsLawfulSession}
-use Rattle.df_model.specs.Refusals.{session_of_client, is_new}
-use Rattle.df_model.specs.Making.{place_of_op}
-use Rattle.df_model.specs.After.{place_of_client}
+use Rattle.std.{proofs.{Common.{◌≡◌, inl, inr, ℕ, ◌+◌, ◌<◌, ◌≤◌, ◌==◌, Bool, true, false, if◌then◌else◌, List, [], ◌∷◌, length, Some, None, refl, sym, ◌∙◌, ap, subst, zero, suc, arith, eqb-true}, lemmas.Bool.{eqb-false}}, specs.{Prelude.{◌-◌}, List.{slice_get}}}
+use Rattle.df_theory.{specs.{Units.{Header, Message, Session}, Sessions.{Has, MayAsk, noted, session_of_header, sessions_after}, Tails.{Chain, In}}, proofs.Laws.{noted_get}}
+use Rattle.df_model.specs.{Codec.{AreLawful, IsLawfulSession}, Refusals.{session_of_client, is_new}, Making.{place_of_op}, After.{place_of_client}}
 
 -- ---- a client's session
 

@@ -1,21 +1,7 @@
 -- A request that is staged.
-use Rattle.std.proofs.Common.{◌≡◌, ℕ, ◌+◌, ◌<◌, List, [], ◌∷◌, ◌++◌, length, None, refl, sym, subst, arith, length-append}
-use Rattle.std.specs.Prelude.{◌^◌}
-use Rattle.df_theory.specs.Units.{Message, Parts, Session}
-use Rattle.df_theory.specs.Sessions.{MayAsk, noted, sessions_after}
-use Rattle.df_theory.specs.Shape.{Shape}
-use Rattle.df_theory.specs.View.{View, head, sessions}
-use Rattle.df_model.specs.Work.{Request, Work}
-use Rattle.df_model.specs.Codec.{AreLawful}
-use Rattle.df_model.specs.Memory.{Memory, memory_of}
-use Rattle.df_model.specs.Making.{group_of, prepare_in, prepares_in}
-use Rattle.df_model.specs.Refusals.{counted_staged, first_refusal, session_of_client, stage_refusals}
-use Rattle.df_model.specs.After.{with_staged}
-use Rattle.df_model.specs.Sense.{AreStaged, IsWork}
-use Rattle.df_model.proofs.Appends.{IsAllowed, allowed, allowed_asks, some_request}
-use Rattle.df_model.proofs.Groups.{alike_sessions, ask_on, asks_more, length_in, sessions_more, staged_on}
-use Rattle.df_model.proofs.Knows.{one_fewer, stage_knows}
-use Rattle.df_model.proofs.Sessions.{noted_lawful}
+use Rattle.std.{proofs.Common.{◌≡◌, ℕ, ◌+◌, ◌<◌, List, [], ◌∷◌, ◌++◌, length, None, refl, sym, subst, arith, length-append}, specs.Prelude.{◌^◌}}
+use Rattle.df_theory.specs.{Units.{Message, Parts, Session}, Sessions.{MayAsk, noted, sessions_after}, Shape.{Shape}, View.{View, head, sessions}}
+use Rattle.df_model.{specs.{Work.{Request, Work}, Codec.{AreLawful}, Memory.{Memory, memory_of}, Making.{group_of, prepare_in, prepares_in}, Refusals.{counted_staged, first_refusal, session_of_client, stage_refusals}, After.{with_staged}, Sense.{AreStaged, IsWork}}, proofs.{Appends.{IsAllowed, allowed, allowed_asks, some_request}, Groups.{alike_sessions, ask_on, asks_more, length_in, sessions_more, staged_on}, Knows.{one_fewer, stage_knows}, Sessions.{noted_lawful}}}
 
 -- ---- a request is staged
 

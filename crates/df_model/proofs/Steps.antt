@@ -1,28 +1,8 @@
 -- A checkpoint that is begun, and the steps of its trailer.
-use Rattle.std.proofs.Common.{◌≡◌, inl, inr, ℕ, zero, suc, ◌+◌, ◌-◌, ◌*◌, ◌/◌, ◌%◌, ◌^◌, ◌<◌, ◌≤◌, min, List, ◌∷◌, ◌++◌, length, take, drop, None, refl, sym, ◌∙◌, ap, subst, arith, length-drop, ltb-false}
-use Rattle.std.proofs.lemmas.List.{length-take, length-take-le, take_all}
-use Rattle.std.proofs.Math.Seq.{take-add}
-use Rattle.std.proofs.Math.Nat.{mul-suc}
-use Rattle.std.proofs.lemmas.Bool.{eqb-false}
+use Rattle.std.proofs.{Common.{◌≡◌, inl, inr, ℕ, zero, suc, ◌+◌, ◌-◌, ◌*◌, ◌/◌, ◌%◌, ◌^◌, ◌<◌, ◌≤◌, min, List, ◌∷◌, ◌++◌, length, take, drop, None, refl, sym, ◌∙◌, ap, subst, arith, length-drop, ltb-false}, lemmas.List.{length-take, length-take-le, take_all}, Math.Seq.{take-add}, Math.Nat.{mul-suc}, lemmas.Bool.{eqb-false}}
 use Rattle.df_base.proofs.Laws.{split_n}
-use Rattle.df_theory.specs.Units.{Block, Parts}
-use Rattle.df_theory.specs.Sessions.{sessions_after}
-use Rattle.df_theory.specs.Tails.{last_checksum}
-use Rattle.df_theory.specs.Trailer.{InChain, IsCount, piece_size, text_of}
-use Rattle.df_theory.specs.Shape.{Shape}
-use Rattle.df_theory.specs.View.{View, head, sequence}
-use Rattle.df_theory.proofs.Laws.{tracks}
-use Rattle.df_model.specs.Work.{Running, Work}
-use Rattle.df_model.specs.Codec.{AreBytes, IsLawful}
-use Rattle.df_model.specs.Refusals.{begin_refusals, first_refusal}
-use Rattle.df_model.specs.After.{next_trailer, begun}
-use Rattle.df_model.specs.Sense.{AtEachOf, IsCapture, IsSpare, IsWork, RiseFrom}
-use Rattle.df_model.specs.Blocks.{addresses}
-use Rattle.df_model.proofs.Entries.{entry_in, entry_none}
-use Rattle.df_model.proofs.Tests.{all_pass}
-use Rattle.df_model.proofs.Grid.{IsFree, are_free, each_take, each_weaker, free_rise, live_held, nowhere, rise_lower, rise_take}
-use Rattle.df_model.specs.Memory.{free_of, block_room, memory_of}
-use Rattle.df_model.specs.Making.{needed_of, parts_of, pieces_of}
+use Rattle.df_theory.{specs.{Units.{Block, Parts}, Sessions.{sessions_after}, Tails.{last_checksum}, Trailer.{InChain, IsCount, piece_size, text_of}, Shape.{Shape}, View.{View, head, sequence}}, proofs.Laws.{tracks}}
+use Rattle.df_model.{specs.{Work.{Running, Work}, Codec.{AreBytes, IsLawful}, Refusals.{begin_refusals, first_refusal}, After.{next_trailer, begun}, Sense.{AtEachOf, IsCapture, IsSpare, IsWork, RiseFrom}, Blocks.{addresses}, Memory.{free_of, block_room, memory_of}, Making.{needed_of, parts_of, pieces_of}}, proofs.{Entries.{entry_in, entry_none}, Tests.{all_pass}, Grid.{IsFree, are_free, each_take, each_weaker, free_rise, live_held, nowhere, rise_lower, rise_take}}}
 
 -- ---- pieces
 

@@ -1,22 +1,8 @@
 -- A tour of the scrubber, from its start to its end.
-use Rattle.std.proofs.Common.{◌≡◌, ℕ, suc, ◌+◌, ◌-◌, ◌≤◌, List, [], ◌∷◌, ◌++◌, length, drop, refl, sym, ◌∙◌, ap, arith, length-append, length-drop}
-use Rattle.std.proofs.lemmas.List.{append-nil, append_assoc, drop-append-le, drop-drop}
+use Rattle.std.proofs.{Common.{◌≡◌, ℕ, suc, ◌+◌, ◌-◌, ◌≤◌, List, [], ◌∷◌, ◌++◌, length, drop, refl, sym, ◌∙◌, ap, arith, length-append, length-drop}, lemmas.List.{append-nil, append_assoc, drop-append-le, drop-drop}}
 use Rattle.df_layout.specs.declared.damage.Finding.{Finding}
-use Rattle.df_theory.specs.Units.{Parts}
-use Rattle.df_theory.specs.Shape.{Shape}
-use Rattle.df_model.specs.Work.{Tour, Work, first_tour}
-use Rattle.df_model.specs.Memory.{referenced_of, Memory, memory_of}
-use Rattle.df_model.specs.Blocks.{blocks_of, reference_in, addresses, entries}
-use Rattle.df_model.specs.After.{after_check, newest, to_check, with_verdict}
-use Rattle.df_model.specs.Commands.{Answer, Scrub, ToScrub}
-use Rattle.df_model.specs.Supply.{Codec, Shown, check_of, first_check, last_work, result, shown_after}
-use Rattle.df_model.specs.Reading.{TourLaw, checks, failing, scrubs, with_finding}
-use Rattle.df_model.proofs.Keeps.{newest_few}
-use Rattle.df_model.proofs.Rising.{above, all_above, entries_rise, is_next}
-use Rattle.df_model.specs.declared.answers.Verdict.{Verdict}
-use Rattle.df_model.specs.declared.answers.Verdict.TheVariants.{Sound, Failing}
-use Rattle.df_model.specs.declared.answers.Scrubbed.{Scrubbed}
-use Rattle.df_model.specs.declared.answers.Scrubbed.TheVariants.{Checked, TourEnd}
+use Rattle.df_theory.specs.{Units.{Parts}, Shape.{Shape}}
+use Rattle.df_model.{specs.{Work.{Tour, Work, first_tour}, Memory.{referenced_of, Memory, memory_of}, Blocks.{blocks_of, reference_in, addresses, entries}, After.{after_check, newest, to_check, with_verdict}, Commands.{Answer, Scrub, ToScrub}, Supply.{Codec, Shown, check_of, first_check, last_work, result, shown_after}, Reading.{TourLaw, checks, failing, scrubs, with_finding}, declared.answers.Verdict.{Verdict}, declared.answers.Verdict.TheVariants.{Sound, Failing}, declared.answers.Scrubbed.{Scrubbed}, declared.answers.Scrubbed.TheVariants.{Checked, TourEnd}}, proofs.{Keeps.{newest_few}, Rising.{above, all_above, entries_rise, is_next}}}
 
 -- ---- the newest 64
 

@@ -1,29 +1,7 @@
 -- Writes that lead on, whatever stands at the referenced blocks; and where they are shown, they stay so.
-use Rattle.std.proofs.Common.{◌≡◌, ℕ, ◌^◌, ◌<◌, ◌==◌, ◌%◌, Bool, true, false, if◌then◌else◌, List, [], ◌∷◌, Option, Some, None, refl, sym, ◌∙◌, ap, subst, eqb-true}
-use Rattle.std.proofs.lemmas.Bool.{eqb-false}
-use Rattle.df_theory.specs.Units.{AnyUnit, Block, BlockPlace, BlockUnit, Message, Parts, Place, PreparePlace, PrepareUnit, ReplyPlace, ReplyUnit, Units, or_else, overlay}
-use Rattle.df_theory.specs.Trailer.{InChain}
-use Rattle.df_theory.specs.Shape.{Shape}
-use Rattle.df_theory.specs.View.{View}
-use Rattle.df_theory.specs.UnitLog.{PutsOne, UnitLog, now}
-use Rattle.df_theory.specs.Runs.{Step, after_steps}
-use Rattle.df_theory.specs.WriterLaws.{IsHeaderSector, flush_steps}
-use Rattle.df_theory.specs.TidyLaws.{IsTidy, KeepsStanding, LeadsTidily}
-use Rattle.df_theory.proofs.Laws.{put_else, tidy_append_law, tidy_block_law, tidy_flush_law, tidy_idle_law, tidy_reply_law}
-use Rattle.df_model.specs.Work.{Work}
-use Rattle.df_model.specs.Codec.{IsChecksum}
-use Rattle.df_model.specs.Memory.{memory_of}
-use Rattle.df_model.specs.Making.{group_of, place_of_reply, prepare_of, reply_of}
-use Rattle.df_model.specs.Refusals.{append_refusals, first_refusal, flush_refusals, reply_refusals}
-use Rattle.df_model.specs.After.{with_group, with_live, with_reply}
-use Rattle.df_model.specs.Sense.{IsBacked, IsWork, ShowsOwnBlock, ShowsWritten}
-use Rattle.df_model.specs.Laws.{BacksOn, DoesAppend, DoesBlock, DoesFlush, DoesReply, IsKeptBy, LeadsOn}
-use Rattle.df_model.proofs.Grid.{IsFree, nowhere}
-use Rattle.df_model.proofs.Appends.{append_keeps, may_append}
-use Rattle.df_model.proofs.NoBlocks.{blocks_stay, flush_no_blocks}
-use Rattle.df_model.proofs.Replies.{may_reply, reply_keeps}
-use Rattle.df_model.proofs.Flushing.{flush_keeps, may_flush}
-use Rattle.df_model.proofs.Blocks.{live_keeps}
+use Rattle.std.proofs.{Common.{◌≡◌, ℕ, ◌^◌, ◌<◌, ◌==◌, ◌%◌, Bool, true, false, if◌then◌else◌, List, [], ◌∷◌, Option, Some, None, refl, sym, ◌∙◌, ap, subst, eqb-true}, lemmas.Bool.{eqb-false}}
+use Rattle.df_theory.{specs.{Units.{AnyUnit, Block, BlockPlace, BlockUnit, Message, Parts, Place, PreparePlace, PrepareUnit, ReplyPlace, ReplyUnit, Units, or_else, overlay}, Trailer.{InChain}, Shape.{Shape}, View.{View}, UnitLog.{PutsOne, UnitLog, now}, Runs.{Step, after_steps}, WriterLaws.{IsHeaderSector, flush_steps}, TidyLaws.{IsTidy, KeepsStanding, LeadsTidily}}, proofs.Laws.{put_else, tidy_append_law, tidy_block_law, tidy_flush_law, tidy_idle_law, tidy_reply_law}}
+use Rattle.df_model.{specs.{Work.{Work}, Codec.{IsChecksum}, Memory.{memory_of}, Making.{group_of, place_of_reply, prepare_of, reply_of}, Refusals.{append_refusals, first_refusal, flush_refusals, reply_refusals}, After.{with_group, with_live, with_reply}, Sense.{IsBacked, IsWork, ShowsOwnBlock, ShowsWritten}, Laws.{BacksOn, DoesAppend, DoesBlock, DoesFlush, DoesReply, IsKeptBy, LeadsOn}}, proofs.{Grid.{IsFree, nowhere}, Appends.{append_keeps, may_append}, NoBlocks.{blocks_stay, flush_no_blocks}, Replies.{may_reply, reply_keeps}, Flushing.{flush_keeps, may_flush}, Blocks.{live_keeps}}}
 
 -- a command leads on, and where the blocks are shown, keeps them so
 abbrev pub Both : Shape → (Parts → List ℕ) → UnitLog → Work → Work → List Step → Type 0

@@ -1,18 +1,11 @@
 -- What an ending blames: a call of the replica blames the disk, and never the sink.
-use Rattle.std.proofs.Common.{◌≡◌, ◌∙◌, ℕ, Bool, true, false, refl, ap, Result, Ok, Err}
-use Rattle.std.proofs.lemmas.Result.{err_from_is_err_and}
-use Rattle.std.specs.Prelude.{OnOk, Option}
-use Rattle.std.specs.Result.{IsErr, IsErrAnd}
+use Rattle.std.{proofs.{Common.{◌≡◌, ◌∙◌, ℕ, Bool, true, false, refl, ap, Result, Ok, Err}, lemmas.Result.{err_from_is_err_and}}, specs.{Prelude.{OnOk, Option}, Result.{IsErr, IsErrAnd}}}
 use Rattle.df_base.specs.Causes.{Blamed}
 use Rattle.df_disk.specs.Told.{Told}
 use Rattle.df_model.specs.Commands.{Command}
-use Rattle.df_session.specs.Below.{State as Replica}
-use Rattle.df_session.specs.Endings.{is_disk_fault}
-use Rattle.df_session.specs.declared.hearing.Fault.{Fault}
+use Rattle.df_session.specs.{Below.{State as Replica}, Endings.{is_disk_fault}, declared.hearing.Fault.{Fault}}
 use Rattle.df_session.specs.declared.hearing.Fault.TheVariants as faults
-use Rattle.df_notes.specs.Calling.{EndsIn, Fails, IsRefusal}
-use Rattle.df_notes.specs.Ending.{IsOfRun, ended_at, ended_by, is_disk_at_fault, is_sink}
-use Rattle.df_notes.specs.declared.ended.Ended.{Ended}
+use Rattle.df_notes.specs.{Calling.{EndsIn, Fails, IsRefusal}, Ending.{IsOfRun, ended_at, ended_by, is_disk_at_fault, is_sink}, declared.ended.Ended.{Ended}}
 
 pub on_ok : {T P : Type 0} (r : Result T Ended) → P → OnOk r P
 on_ok (Ok x) p = p

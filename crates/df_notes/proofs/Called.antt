@@ -1,29 +1,13 @@
 -- What each call comes to, by what is heard of its answer.
-use Rattle.std.proofs.Common.{◌≡◌, ℕ, Bool, true, false, List, [], Option, Some, None, Result, Ok, Err, refl, sym, subst}
-use Rattle.std.specs.Prelude.{if◌then◌else◌}
+use Rattle.std.{proofs.Common.{◌≡◌, ℕ, Bool, true, false, List, [], Option, Some, None, Result, Ok, Err, refl, sym, subst}, specs.Prelude.{if◌then◌else◌}}
 use Rattle.df_base.specs.Causes.{IsBlamed}
 use Rattle.df_disk.specs.Told.{Told}
-use Rattle.df_model.specs.Commands.{Advance, Answer as Answered, Append, Command, ReadPrepare, Reply, ToAppend, ToReadPrepare, ToReply}
-use Rattle.df_model.specs.Faults.{is_append_fault, is_reply_fault}
-use Rattle.df_model.specs.declared.answers.Receipt.{Receipt}
-use Rattle.df_model.specs.declared.commands.Answer.{Answer}
+use Rattle.df_model.specs.{Commands.{Advance, Answer as Answered, Append, Command, ReadPrepare, Reply, ToAppend, ToReadPrepare, ToReply}, Faults.{is_append_fault, is_reply_fault}, declared.answers.Receipt.{Receipt}, declared.commands.Answer.{Answer}, declared.errors.AppendError.{AppendError}, declared.errors.ReplyError.{ReplyError}}
 use Rattle.df_model.specs.declared.commands.Answer.TheVariants as answers
-use Rattle.df_model.specs.declared.errors.AppendError.{AppendError}
-use Rattle.df_model.specs.declared.errors.ReplyError.{ReplyError}
-use Rattle.df_session.specs.Answering.{ServesRead, as_append, as_reply}
-use Rattle.df_session.specs.Below.{State as Replica}
-use Rattle.df_session.specs.Calls.{machine_answer}
-use Rattle.df_session.specs.Endings.{EndsBy, GivesAnswer}
-use Rattle.df_session.specs.Links.{Makes}
-use Rattle.df_session.specs.Reading.{IsReadPrepare}
-use Rattle.df_session.proofs.Laws.{reads_prepare}
+use Rattle.df_session.{specs.{Answering.{ServesRead, as_append, as_reply}, Below.{State as Replica}, Calls.{machine_answer}, Endings.{EndsBy, GivesAnswer}, Links.{Makes}, Reading.{IsReadPrepare}, declared.hearing.Fault.{Fault}}, proofs.Laws.{reads_prepare}}
 use Rattle.df_theory.specs.Units.{Message}
-use Rattle.df_notes.specs.Showing.{IsNoteRead}
-use Rattle.df_session.specs.declared.hearing.Fault.{Fault}
+use Rattle.df_notes.specs.{Showing.{IsNoteRead}, Calling.{EndsIn, Fails, IsRefusal, IsRefused}, Ending.{ended_at, ended_by, is_disk_at_fault}, Keeping.{AppendsNote, StoresReply, receipt_in, stored_in}}
 use Rattle.df_session.specs.declared.hearing.Fault.TheVariants as faults
-use Rattle.df_notes.specs.Calling.{EndsIn, Fails, IsRefusal, IsRefused}
-use Rattle.df_notes.specs.Ending.{ended_at, ended_by, is_disk_at_fault}
-use Rattle.df_notes.specs.Keeping.{AppendsNote, StoresReply, receipt_in, stored_in}
 
 -- what is told of an answer, where the disk didn't fail
 told_if : (b : Bool) (x y : Answered) → (if b then None else Some x) ≡ Some y → x ≡ y

@@ -1,29 +1,15 @@
 -- A file that is opened is served by calls that keep it; one that isn't is refused, or the disk failed; and what a making leaves.
 use Rattle.std.proofs.Common.{◌≡◌, ◌<◌, inl, inr, ◌⊎◌, ℕ, true, false, List, Option, Some, Result, Ok, Err, refl, sym, ◌∙◌, ap, subst, arith}
-use Rattle.df_base.specs.Image.{IsImage}
-use Rattle.df_base.specs.Log.{Sync}
+use Rattle.df_base.specs.{Image.{IsImage}, Log.{Sync}}
 use Rattle.df_disk.specs.Told.{Told, after, did}
 use Rattle.df_layout.specs.declared.layout.Layout.{Layout}
-use Rattle.df_model.specs.declared.errors.FormatError.{FormatError}
+use Rattle.df_model.specs.{declared.errors.FormatError.{FormatError}, declared.errors.OpenError.{OpenError}, Faults.{is_open_fault}}
 use Rattle.df_model.specs.declared.errors.FormatError.TheVariants as formats
-use Rattle.df_model.specs.declared.errors.OpenError.{OpenError}
 use Rattle.df_model.specs.declared.errors.OpenError.TheVariants as opens
-use Rattle.df_model.specs.Faults.{is_open_fault}
 use Rattle.df_opening.proofs.Laws.{added_is_told, shown_after, stays_whole}
 use Rattle.df_program.proofs.Laws.{open_fault}
-use Rattle.df_session.specs.Below.{IsOpened, IsUnformatted, State as Replica, told_after}
-use Rattle.df_session.specs.Formatting.{RefusesCluster, TellsBlank}
-use Rattle.df_session.specs.Found.{FoundFile}
-use Rattle.df_session.specs.Making.{FormatsFile, making_events, making_steps}
-use Rattle.df_session.specs.Opened.{MendsAll, StopsOpening}
-use Rattle.df_session.specs.Surveying.{TellsSurvey}
-use Rattle.df_session.proofs.Laws.{calls_keep}
-use Rattle.df_notes.specs.Ending.{ended_by}
-use Rattle.df_notes.specs.Run.{FailsToFindNotes, MakesFirst, MakesNotes, NotesOutcome, RefusesNotes, ServesFile, notes_cluster}
-use Rattle.df_notes.specs.Serving.{Outside, ServesNotes, around, made_serving}
-use Rattle.df_notes.specs.declared.ended.Ended.{Ended}
-use Rattle.df_notes.specs.declared.ended.Ended.TheVariants.{DiskFault}
-use Rattle.df_notes.proofs.Served.{all_calls}
+use Rattle.df_session.{specs.{Below.{IsOpened, IsUnformatted, State as Replica, told_after}, Formatting.{RefusesCluster, TellsBlank}, Found.{FoundFile}, Making.{FormatsFile, making_events, making_steps}, Opened.{MendsAll, StopsOpening}, Surveying.{TellsSurvey}}, proofs.Laws.{calls_keep}}
+use Rattle.df_notes.{specs.{Ending.{ended_by}, Run.{FailsToFindNotes, MakesFirst, MakesNotes, NotesOutcome, RefusesNotes, ServesFile, notes_cluster}, Serving.{Outside, ServesNotes, around, made_serving}, declared.ended.Ended.{Ended}, declared.ended.Ended.TheVariants.{DiskFault}}, proofs.Served.{all_calls}}
 
 -- ---- it is opened
 

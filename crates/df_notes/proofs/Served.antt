@@ -1,21 +1,10 @@
 -- All calls of a run over a file that was opened, one after the other.
-use Rattle.std.proofs.Common.{◌≡◌, ℕ, Bool, true, false, List, [], ◌∷◌, ◌++◌, Option, Some, None, Result, Ok, Err, refl, sym, ap, subst}
-use Rattle.std.proofs.lemmas.Bool.{false≢true}
-use Rattle.std.specs.Prelude.{IfErr}
+use Rattle.std.{proofs.{Common.{◌≡◌, ℕ, Bool, true, false, List, [], ◌∷◌, ◌++◌, Option, Some, None, Result, Ok, Err, refl, sym, ap, subst}, lemmas.Bool.{false≢true}}, specs.Prelude.{IfErr}}
 use Rattle.df_disk.specs.Told.{Told}
 use Rattle.df_model.specs.Commands.{Answer, Command}
-use Rattle.df_session.specs.Below.{State as Replica}
-use Rattle.df_session.specs.Links.{AreCalls, EndsCalls, Makes, More, NoCalls}
-use Rattle.df_session.specs.Session.{Act, Exchange}
-use Rattle.df_session.proofs.Laws.{calls_join}
-use Rattle.df_notes.specs.Calling.{EndsIn, Fails, IsRefusal, exchange, made_in}
-use Rattle.df_notes.specs.Ending.{IsOfRun}
-use Rattle.df_notes.specs.Keeping.{AreKept, Begun, HasCaughtUp, InAppend, InLine, InReply, Kept, KeepsNotes, KeepsSome, Moment, NoneWaits, NoteFails, Replied, append_exchange, caught_exchanges, kept_exchanges, made_failing, made_keeping, moment}
-use Rattle.df_notes.specs.Serving.{NotCaughtUp, NotKept, Outside, ServesNotes, WereKept, around, made_serving}
-use Rattle.df_notes.specs.Showing.{AreNotesShown, InPrint, InRead, NoteHides, Shown, ShowsNotes, made_hiding, made_showing, read_exchange, shown_exchanges}
+use Rattle.df_session.{specs.{Below.{State as Replica}, Links.{AreCalls, EndsCalls, Makes, More, NoCalls}, Session.{Act, Exchange}}, proofs.Laws.{calls_join}}
+use Rattle.df_notes.{specs.{Calling.{EndsIn, Fails, IsRefusal, exchange, made_in}, Ending.{IsOfRun}, Keeping.{AreKept, Begun, HasCaughtUp, InAppend, InLine, InReply, Kept, KeepsNotes, KeepsSome, Moment, NoneWaits, NoteFails, Replied, append_exchange, caught_exchanges, kept_exchanges, made_failing, made_keeping, moment}, Serving.{NotCaughtUp, NotKept, Outside, ServesNotes, WereKept, around, made_serving}, Showing.{AreNotesShown, InPrint, InRead, NoteHides, Shown, ShowsNotes, made_hiding, made_showing, read_exchange, shown_exchanges}, declared.ended.Ended.{Ended}}, proofs.Blame.{ends_of_run}}
 use Rattle.df_notes.specs.Showing as show
-use Rattle.df_notes.specs.declared.ended.Ended.{Ended}
-use Rattle.df_notes.proofs.Blame.{ends_of_run}
 
 -- ---- one call, and calls after others
 

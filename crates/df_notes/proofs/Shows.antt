@@ -2,8 +2,7 @@
 use Rattle.std.proofs.Common.{◌≡◌, ℕ, ◌+◌, ◌-◌, ◌≤◌, List, Option, Result, Err, subst, sym, arith}
 use Rattle.df_disk.specs.Told.{Told}
 use Rattle.df_session.specs.Below.{State}
-use Rattle.df_notes.specs.declared.ended.Ended.{Ended}
-use Rattle.df_notes.specs.Showing.{AreNotesShown, Begun, IsNoteShown, NoteHides, Shown, ShowsNotes}
+use Rattle.df_notes.specs.{declared.ended.Ended.{Ended}, Showing.{AreNotesShown, Begun, IsNoteShown, NoteHides, Shown, ShowsNotes}}
 
 module _ (s : State) (told : Option Told) (old : Option (List ℕ)) where
   pub shows_none : (before : ℕ) → before ≡ s.fields.op → AreNotesShown s told old (before - s.fields.op) old

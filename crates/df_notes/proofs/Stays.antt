@@ -4,8 +4,7 @@ use Rattle.df_base.specs.Log.{Event}
 use Rattle.df_model.specs.Commands.{Append, Command, Reply}
 use Rattle.df_session.specs.Session.{Exchange, IsServed, acts_in}
 use Rattle.df_replica.proofs.Laws.{answered_is_there, nothing_is_served, one_more_is_served}
-use Rattle.df_notes.specs.Keeping.{AreKept, Begun, Kept, Moment, append_exchange, reply_exchange}
-use Rattle.df_notes.specs.Staying.{AreNotesThere, note_in, notes_in}
+use Rattle.df_notes.specs.{Keeping.{AreKept, Begun, Kept, Moment, append_exchange, reply_exchange}, Staying.{AreNotesThere, note_in, notes_in}}
 
 -- the notes of calls after others
 notes_on : (xs ys : List Exchange) → notes_in (acts_in (xs ++ ys)) ≡ notes_in (acts_in xs) ++ notes_in (acts_in ys)

@@ -1,12 +1,9 @@
 -- The notes before one that a loop has come to are kept; one more is, or isn't, or there is none.
-use Rattle.std.proofs.Common.{◌≡◌, ℕ, ◌+◌, ◌<◌, ◌≤◌, suc, List, [], ◌∷◌, length, get_or, map, take, drop, Option, sym, ◌∙◌, ap, subst, Result, Ok, Err}
-use Rattle.std.proofs.lemmas.List.{map-append, take_all, take_more}
-use Rattle.std.proofs.Math.Seq.{split_at}
+use Rattle.std.proofs.{Common.{◌≡◌, ℕ, ◌+◌, ◌<◌, ◌≤◌, suc, List, [], ◌∷◌, length, get_or, map, take, drop, Option, sym, ◌∙◌, ap, subst, Result, Ok, Err}, lemmas.List.{map-append, take_all, take_more}, Math.Seq.{split_at}}
 use Rattle.df_disk.specs.Told.{Told}
 use Rattle.df_model.specs.declared.answers.Receipt.{Receipt}
 use Rattle.df_session.specs.Below.{State}
-use Rattle.df_notes.specs.Keeping.{AppendsNote, AreKept, NoteFails, InReply, IsNoteKept, Kept, KeepsNote, KeepsNotes, Moment, StoresReply}
-use Rattle.df_notes.specs.declared.ended.Ended.{Ended}
+use Rattle.df_notes.specs.{Keeping.{AppendsNote, AreKept, NoteFails, InReply, IsNoteKept, Kept, KeepsNote, KeepsNotes, Moment, StoresReply}, declared.ended.Ended.{Ended}}
 
 -- a note whose reply isn't stored
 pub in_reply : (note : List ℕ) (m n : Moment) (receipt : Receipt) (between : State) (mid : Option Told) (ended : Ended) (r : Result (Unit {0}) Ended) → r ≡ Err ended → AppendsNote note m.replica between m.told mid (Ok receipt)

@@ -1,18 +1,10 @@
 -- After the barrier of an open the log rests on the view that is found.
 use Rattle.std.proofs.Common.{◌≡◌, inl, inr, List, ◌∷◌, Some, refl, sym, ◌∙◌, ap, subst}
 use Rattle.df_theory.specs.Units
-use Rattle.df_theory.specs.Units.{AnyUnit, Place}
-use Rattle.df_theory.specs.Chance.{InPool, InPools}
-use Rattle.df_theory.specs.Device.{units_log}
-use Rattle.df_theory.specs.Holds.{Stands}
-use Rattle.df_theory.specs.UnitLog.{Synced, UnitEvent, UnitLog, add, now, now_of}
-use Rattle.df_theory.specs.View.{View}
+use Rattle.df_theory.{specs.{Units.{AnyUnit, Place}, Chance.{InPool, InPools}, Device.{units_log}, Holds.{Stands}, UnitLog.{Synced, UnitEvent, UnitLog, add, now, now_of}, View.{View}}, proofs.Laws.{disk_barrier_law, now_units}}
 use Rattle.df_units.specs.Bytes.{unit_at}
-use Rattle.df_theory.proofs.Laws.{disk_barrier_law, now_units}
-use Rattle.df_opening.specs.Mending.{BarrierRests}
-use Rattle.df_opening.specs.Keeping.{Firm, Grade, StandingFor, StandsFor, Whole, format}
+use Rattle.df_opening.{specs.{Mending.{BarrierRests}, Keeping.{Firm, Grade, StandingFor, StandsFor, Whole, format}}, proofs.Followed.{in_pools}}
 use Rattle.df_damage.specs.Below.{shape}
-use Rattle.df_opening.proofs.Followed.{in_pools}
 
 -- a sync adds no unit to the pools
 pools_before : (start : Units.Units) (es : List UnitEvent) (place : Place) (x : AnyUnit) → ((p : Place) (z : AnyUnit) → now_of start es p ≡ Some z → InPool (record { start = start; events = es }) p z)

@@ -2,24 +2,11 @@
 use Rattle.std.proofs.Common.{◌≡◌, ◌∙◌, ◌<◌, ◌^◌, None, ap, subst, sym}
 use Rattle.df_base.specs.Image.{IsImage}
 use Rattle.df_disk.specs.Told.{Told}
-use Rattle.df_theory.specs.Found.{IsFound}
-use Rattle.df_theory.specs.Units.{Content}
-use Rattle.df_theory.specs.View.{View, boot_of}
-use Rattle.df_theory.proofs.Laws.{one_found_law}
+use Rattle.df_theory.{specs.{Found.{IsFound}, Units.{Content}, View.{View, boot_of}}, proofs.Laws.{one_found_law}}
 use Rattle.df_units.specs.Bytes.{unit_at}
-use Rattle.df_model.specs.Making.{boot_content}
-use Rattle.df_model.specs.Memory.{Memory, memory_of}
-use Rattle.df_model.specs.Sense.{IsWork}
-use Rattle.df_model.specs.Work.{Work, raised}
-use Rattle.df_model.proofs.Laws.{raised_law}
-use Rattle.df_damage.specs.Below.{State, boot_fields, memory, shape, spelling}
-use Rattle.df_damage.specs.Surveys.{IsOpenedAs}
-use Rattle.df_damage.proofs.Laws.{super_as}
-use Rattle.df_opening.specs.Keeping.{Firm, Keeps}
-use Rattle.df_opening.specs.Mending.{begun_state, first_state, raised_state}
-use Rattle.df_opening.specs.Raising.{raised_content}
-use Rattle.df_opening.proofs.Opens.{found_keeps}
-use Rattle.df_opening.proofs.RaiseSteps.{raised_is, sum_of}
+use Rattle.df_model.{specs.{Making.{boot_content}, Memory.{Memory, memory_of}, Sense.{IsWork}, Work.{Work, raised}}, proofs.Laws.{raised_law}}
+use Rattle.df_damage.{specs.{Below.{State, boot_fields, memory, shape, spelling}, Surveys.{IsOpenedAs}}, proofs.Laws.{super_as}}
+use Rattle.df_opening.{specs.{Keeping.{Firm, Keeps}, Mending.{begun_state, first_state, raised_state}, Raising.{raised_content}}, proofs.{Opens.{found_keeps}, RaiseSteps.{raised_is, sum_of}}}
 
 pub begun_keeps : (s : State) (t : Told) (view : View) → IsImage t.shown → IsOpenedAs 2 s.file.layout t.shown s → IsFound (shape s.file) (unit_at s.file.layout s.file.cluster t.shown) view → Keeps Firm (raised_state s) (begun_state s.file t view (boot_fields s)) None
 begun_keeps s t view whole is found =

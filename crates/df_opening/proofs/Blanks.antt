@@ -1,15 +1,10 @@
 -- Whether the sectors of the copies are blank, by the slots that they were read into.
-use Rattle.std.specs.Prelude.{Ok, Err}
-use Rattle.std.proofs.Common.{◌≡◌, inr, ◌∙◌, ℕ, ◌<◌, List, get_or, Option, Some, None, sym, arith}
-use Rattle.std.proofs.lemmas.Bool.{false_from_ne_true}
+use Rattle.std.{specs.Prelude.{Ok, Err}, proofs.{Common.{◌≡◌, inr, ◌∙◌, ℕ, ◌<◌, List, get_or, Option, Some, None, sym, arith}, lemmas.Bool.{false_from_ne_true}}}
 use Rattle.df_base.specs.Image.{Image}
 use Rattle.df_disk.specs.Told.{Told}
 use Rattle.df_model.specs.declared.errors.FormatError.TheVariants.{NotBlank}
-use Rattle.df_quorum.specs.declared.slot.Slot.{Slot}
-use Rattle.df_quorum.specs.Quorum.{nothing}
-use Rattle.df_superblock.specs.Calls.{slot_at, ShowsSlots}
-use Rattle.df_superblock.specs.Blank.{AreBlank, IsFirstWrittenOf}
-use Rattle.df_superblock.proofs.Laws.{blank_shown, shown_blank, unformatted}
+use Rattle.df_quorum.specs.{declared.slot.Slot.{Slot}, Quorum.{nothing}}
+use Rattle.df_superblock.{specs.{Calls.{slot_at, ShowsSlots}, Blank.{AreBlank, IsFirstWrittenOf}}, proofs.Laws.{blank_shown, shown_blank, unformatted}}
 use Rattle.df_opening.specs.Formatting.{IsFirstWritten, OnlyOnBlank, TellsBlank}
 
 first_written : (image : Image) (slots : List Slot) (copy : ℕ) → ((n : ℕ) → n < 4 → get_or slots n nothing ≡ slot_at image n) → IsFirstWrittenOf slots copy → IsFirstWritten image copy

@@ -1,11 +1,7 @@
 -- The superblock of a new file can be used.
-use Rattle.std.proofs.Common.{inr, ◌≡◌, ℕ, ◌<◌, ◌+◌, drop, length-drop, None, refl, ◌∙◌, arith}
-use Rattle.std.proofs.lemmas.List.{get_or-drop}
-use Rattle.df_format.specs.Super.{AreNone, no_checksums}
+use Rattle.std.proofs.{Common.{inr, ◌≡◌, ℕ, ◌<◌, ◌+◌, drop, length-drop, None, refl, ◌∙◌, arith}, lemmas.List.{get_or-drop}}
+use Rattle.df_format.{specs.{Super.{AreNone, no_checksums}, SuperRules.{IsSuper, fault_of}, First.{first_super}}, proofs.Laws.{faults, no_names}}
 use Rattle.df_layout.specs.declared.layout.Layout.{Layout}
-use Rattle.df_format.specs.SuperRules.{IsSuper, fault_of}
-use Rattle.df_format.proofs.Laws.{faults, no_names}
-use Rattle.df_format.specs.First.{first_super}
 
 -- no place is named, from any one on
 none_from : (n : ℕ) → AreNone (drop n no_checksums)

@@ -1,24 +1,13 @@
 -- A file that is tidy, or that a stop left, is one that may be opened.
 use Rattle.std.proofs.Common.{◌≡◌, inl, inr, refl, List, [], ◌∷◌, Some, subst}
-use Rattle.df_base.specs.Image.{Image, changed}
-use Rattle.df_base.proofs.Laws.{now_is_image}
+use Rattle.df_base.{specs.{Image.{Image, changed}, Log.{IsLog, Stop}}, proofs.Laws.{now_is_image}}
 use Rattle.df_base.specs.Log as logs
-use Rattle.df_base.specs.Log.{IsLog, Stop}
-use Rattle.df_theory.specs.Chance.{InPool, InPools}
-use Rattle.df_theory.specs.Device.{units_log}
-use Rattle.df_theory.specs.Holds.{Holds}
-use Rattle.df_theory.specs.UnitLog.{Stopped, UnitEvent, UnitLog}
+use Rattle.df_theory.{specs.{Chance.{InPool, InPools}, Device.{units_log}, Holds.{Holds}, UnitLog.{Stopped, UnitEvent, UnitLog}, Units.{AnyUnit, Place}, Rests.{RestsOn}}, proofs.Laws.{clean_start_law, disk_stop_law, found_law, now_units, rests_safe, safe_disk_law}}
 use Rattle.df_theory.specs.Units
-use Rattle.df_theory.specs.Units.{AnyUnit, Place}
-use Rattle.df_theory.specs.Rests.{RestsOn}
-use Rattle.df_theory.proofs.Laws.{clean_start_law, disk_stop_law, found_law, now_units, rests_safe, safe_disk_law}
-use Rattle.df_damage.specs.Anew.{restarted}
+use Rattle.df_damage.specs.{Anew.{restarted}, Below.{shape}}
 use Rattle.df_trailer.specs.Text.{parse_of}
-use Rattle.df_units.specs.Meaning.{layout_of}
-use Rattle.df_units.proofs.Laws.{is_format, of_places}
-use Rattle.df_damage.specs.Below.{shape}
-use Rattle.df_opening.specs.Following.{BegunMayOpen, FaultedMayOpen, StoppedMayOpen, TidyMayOpen}
-use Rattle.df_opening.specs.Keeping.{format}
+use Rattle.df_units.{specs.Meaning.{layout_of}, proofs.Laws.{is_format, of_places}}
+use Rattle.df_opening.specs.{Following.{BegunMayOpen, FaultedMayOpen, StoppedMayOpen, TidyMayOpen}, Keeping.{format}}
 
 -- a unit of the pool is one of the pools
 pub in_pools : (start : Units.Units) (es : List UnitEvent) (place : Place) (x : AnyUnit) → InPool (record { start = start; events = es }) place x → InPools start es place x

@@ -1,18 +1,11 @@
 -- What a making answers, put together: on a disk that is blank where the copies stand it makes the file or a part of it, and on another one nothing.
 use Rattle.std.proofs.Common.{◌≡◌, ◌<◌, ℕ, List, Option, Some, None, sym, ◌∙◌, ap, subst, refl, arith, Ok, Err}
 use Rattle.df_base.specs.Log.{Event}
-use Rattle.df_disk.specs.Told.{Told}
-use Rattle.df_disk.specs.Adds.{AddsPart, after_all}
-use Rattle.df_disk.proofs.Laws.{nothing_is_part}
+use Rattle.df_disk.{specs.{Told.{Told}, Adds.{AddsPart, after_all}}, proofs.Laws.{nothing_is_part}}
 use Rattle.df_layout.specs.declared.layout.Layout.{Layout}
-use Rattle.df_format.specs.First.{first_super}
-use Rattle.df_format.specs.SuperRules.{IsUsable}
-use Rattle.df_model.specs.declared.errors.FormatError.{FormatError}
-use Rattle.df_model.specs.declared.errors.FormatError.TheVariants.{ClusterZero, NotBlank, DiskFault}
-use Rattle.df_opening.specs.Formatting.{RefusesCluster, TellsBlank}
-use Rattle.df_opening.specs.Making.{FormatsFile, MakingLeaves, MayMakeOn, making_events}
-use Rattle.df_opening.proofs.Blanks.{blank_alone}
-use Rattle.df_opening.proofs.NewFile.{all_reserved, makes_call, makes_part, named_of, steps_of_making, unchanged_adds}
+use Rattle.df_format.specs.{First.{first_super}, SuperRules.{IsUsable}}
+use Rattle.df_model.specs.{declared.errors.FormatError.{FormatError}, declared.errors.FormatError.TheVariants.{ClusterZero, NotBlank, DiskFault}}
+use Rattle.df_opening.{specs.{Formatting.{RefusesCluster, TellsBlank}, Making.{FormatsFile, MakingLeaves, MayMakeOn, making_events}}, proofs.{Blanks.{blank_alone}, NewFile.{all_reserved, makes_call, makes_part, named_of, steps_of_making, unchanged_adds}}}
 
 -- a fault tells nothing of what the disk shows
 fault_tells : (old : Option Told) → TellsBlank {T = Unit {0}} old (Err DiskFault)

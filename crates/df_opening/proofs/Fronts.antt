@@ -1,15 +1,10 @@
 -- A front of device calls: which steps it is, and which log it leaves.
 use Rattle.std.proofs.Common.{◌≡◌, List, [], ◌∷◌, Option, Some, None, refl, ◌∙◌, ap, ℕ, Bool, ◌||◌, inl, inr, true, false}
-use Rattle.df_base.specs.Image.{covers}
-use Rattle.df_base.specs.Log.{Event, Stop, Sync, Write}
-use Rattle.df_theory.specs.Device.{AreSteps, Format}
-use Rattle.df_theory.specs.Runs.{Puts, Step, Syncs}
-use Rattle.df_theory.specs.Units.{AnyUnit, Place, Units, or_else}
-use Rattle.df_opening.specs.Sparing.{writes_to}
-use Rattle.df_opening.proofs.StepShows.{some_stays, unit_after}
+use Rattle.df_base.specs.{Image.{covers}, Log.{Event, Stop, Sync, Write}}
+use Rattle.df_theory.specs.{Device.{AreSteps, Format}, Runs.{Puts, Step, Syncs}, Units.{AnyUnit, Place, Units, or_else}}
+use Rattle.df_opening.{specs.Sparing.{writes_to}, proofs.StepShows.{some_stays, unit_after}}
 use Rattle.df_disk.specs.Told as told
-use Rattle.df_disk.specs.Told.{Told}
-use Rattle.df_disk.specs.Adds.{AddsPart, after_all}
+use Rattle.df_disk.specs.{Told.{Told}, Adds.{AddsPart, after_all}}
 
 -- it is a front of the steps, and puts nothing where these put nothing
 pub record FrontSteps (f : Format) (part : List Event) (whole : List Step) : Type 0 where

@@ -1,12 +1,9 @@
 -- What a survey answers of a disk that may be hurt, or was before any number of opens.
 use Rattle.std.proofs.Common.{Err, Ok, Option, Some, Result, subst}
-use Rattle.df_damage.specs.Answers.{TellsHurt}
-use Rattle.df_damage.specs.Histories.{TellsLived}
-use Rattle.df_damage.proofs.Laws.{answer_is_of_hurt_as, found_was_since}
+use Rattle.df_damage.{specs.{Answers.{TellsHurt}, Histories.{TellsLived}, Below.{State}}, proofs.Laws.{answer_is_of_hurt_as, found_was_since}}
 use Rattle.df_disk.specs.Told.{Told}
 use Rattle.df_layout.specs.declared.layout.Layout.{Layout}
 use Rattle.df_model.specs.declared.errors.OpenError.{OpenError}
-use Rattle.df_damage.specs.Below.{State}
 use Rattle.df_opening.specs.Surveying.{AnswersSurvey, TellsSurvey}
 
 tells_hurt : (layout : Layout) (told : Option Told) (result : Result State OpenError) → TellsSurvey layout told result → TellsHurt layout told result

@@ -1,13 +1,8 @@
 -- What is kept of a file, however much of it: its log is safe, and it is kept for the machine's state.
 use Rattle.std.proofs.Common.{ℕ, List}
 use Rattle.df_base.specs.Log.{Log}
-use Rattle.df_theory.specs.Device.{IsSafeDisk, units_log}
-use Rattle.df_theory.specs.Shape.{Shape}
-use Rattle.df_theory.specs.UnitLog.{UnitLog}
-use Rattle.df_theory.specs.Units.{Parts}
-use Rattle.df_theory.specs.View.{View}
-use Rattle.df_model.specs.Laws.{IsKeptBy}
-use Rattle.df_model.specs.Work.{Work}
+use Rattle.df_theory.specs.{Device.{IsSafeDisk, units_log}, Shape.{Shape}, UnitLog.{UnitLog}, Units.{Parts}, View.{View}}
+use Rattle.df_model.specs.{Laws.{IsKeptBy}, Work.{Work}}
 use Rattle.df_damage.specs.Below.{DataFile, State, shape, spelling}
 use Rattle.df_opening.specs.Keeping.{Firm, Grade, IsGoodFor, IsKept, KeptFor, Whole, format}
 

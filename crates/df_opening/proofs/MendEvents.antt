@@ -1,17 +1,12 @@
 -- The device calls of a mending, sector by sector.
-use Rattle.std.proofs.Common.{◌≡◌, ℕ, zero, suc, ◌+◌, ◌-◌, ◌<◌, ◌||◌, List, [], ◌∷◌, ◌++◌, Bool, true, false, Option, refl, sym, ◌∙◌, ap, subst, append-nil, append_assoc, arith}
-use Rattle.std.specs.List.{filter, range_with_len}
+use Rattle.std.{proofs.Common.{◌≡◌, ℕ, zero, suc, ◌+◌, ◌-◌, ◌<◌, ◌||◌, List, [], ◌∷◌, ◌++◌, Bool, true, false, Option, refl, sym, ◌∙◌, ap, subst, append-nil, append_assoc, arith}, specs.List.{filter, range_with_len}}
 use Rattle.df_base.specs.Log.{Event, Sync}
-use Rattle.df_disk.specs.Told.{Told}
-use Rattle.df_disk.specs.Adds.{AddsPart, after_all}
-use Rattle.df_disk.proofs.Laws.{all_then, part_then, after_append}
-use Rattle.df_layout.specs.declared.damage.Mend.{Mend}
-use Rattle.df_layout.specs.declared.layout.Layout.{Layout}
+use Rattle.df_disk.{specs.{Told.{Told}, Adds.{AddsPart, after_all}}, proofs.Laws.{all_then, part_then, after_append}}
+use Rattle.df_layout.specs.{declared.damage.Mend.{Mend}, declared.layout.Layout.{Layout}}
 use Rattle.df_format.specs.declared.header.Header.{Header}
 use Rattle.df_headers.specs.Ring.{sector_events, sector_writes}
 use Rattle.df_opening.specs.Mending.{header_events, needs_sector, sectors_to, some_of, wanted_writes}
-use Rattle.df_damage.specs.Plan.{if_wanted}
-use Rattle.df_damage.proofs.Laws.{filter_more}
+use Rattle.df_damage.{specs.Plan.{if_wanted}, proofs.Laws.{filter_more}}
 
 -- ---- sectors
 

@@ -1,28 +1,13 @@
 -- A mending and a boot update put headers and copies of the superblock, and so leave each place that a call reads as it was; and after them the four copies show the superblock that was written.
 use Rattle.std.proofs.Common.{◌≡◌, ℕ, zero, suc, ◌+◌, ◌<◌, List, [], ◌∷◌, ◌++◌, Bool, true, false, Option, None, Some, refl, ◌∙◌, ap, arith}
-use Rattle.df_base.specs.Image.{Image, IsImage}
-use Rattle.df_base.specs.Log.{Event}
-use Rattle.df_layout.specs.declared.damage.Mend.{Mend}
-use Rattle.df_layout.specs.declared.layout.Layout.{Layout}
-use Rattle.df_format.specs.Copies.{content_with}
-use Rattle.df_format.specs.declared.header.Header.{Header}
-use Rattle.df_format.specs.declared.superblock.SuperFields.{SuperFields}
+use Rattle.df_base.specs.{Image.{Image, IsImage}, Log.{Event}}
+use Rattle.df_layout.specs.{declared.damage.Mend.{Mend}, declared.layout.Layout.{Layout}}
+use Rattle.df_format.specs.{Copies.{content_with}, declared.header.Header.{Header}, declared.superblock.SuperFields.{SuperFields}}
 use Rattle.df_superblock.specs.Steps.{repaired}
-use Rattle.df_theory.specs.CopyPuts.{update_steps}
-use Rattle.df_theory.specs.Device.{AreSteps}
-use Rattle.df_theory.specs.MakingLaws.{all_puts}
-use Rattle.df_theory.specs.MendLaws.{copy_steps, header_steps}
-use Rattle.df_theory.specs.Runs.{Puts, Step, Syncs}
-use Rattle.df_theory.specs.Units.{AnyUnit, BlockPlace, CopyPlace, CopyUnit, Place, PreparePlace, ReplyPlace, or_else}
-use Rattle.df_units.specs.Bytes.{unit_at}
-use Rattle.df_units.specs.Meaning.{content_of}
-use Rattle.df_units.specs.Puts.{put_copies, put_copy}
+use Rattle.df_theory.specs.{CopyPuts.{update_steps}, Device.{AreSteps}, MakingLaws.{all_puts}, MendLaws.{copy_steps, header_steps}, Runs.{Puts, Step, Syncs}, Units.{AnyUnit, BlockPlace, CopyPlace, CopyUnit, Place, PreparePlace, ReplyPlace, or_else}}
+use Rattle.df_units.specs.{Bytes.{unit_at}, Meaning.{content_of}, Puts.{put_copies, put_copy}}
 use Rattle.df_damage.specs.Below.{DataFile}
-use Rattle.df_opening.specs.Sparing.{SparesReads, image_after}
-use Rattle.df_opening.specs.Mending.{mending_steps, raising_events, raising_steps, sector_put, sector_puts, sectors_of}
-use Rattle.df_opening.specs.Keeping.{format}
-use Rattle.df_opening.proofs.Fronts.{FrontSteps, all_front}
-use Rattle.df_opening.proofs.StepShows.{shown_by, spared_by, unit_after}
+use Rattle.df_opening.{specs.{Sparing.{SparesReads, image_after}, Mending.{mending_steps, raising_events, raising_steps, sector_put, sector_puts, sectors_of}, Keeping.{format}}, proofs.{Fronts.{FrontSteps, all_front}, StepShows.{shown_by, spared_by, unit_after}}}
 
 module _ (place : Place) where
   after_both : (ss ts : List Step) (o : Option AnyUnit) → unit_after (ss ++ ts) place o ≡ unit_after ts place (unit_after ss place o)

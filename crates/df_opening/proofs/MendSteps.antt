@@ -1,31 +1,15 @@
 -- The device calls of a mending are the theory's steps, and what they leave is the theory's.
 use Rattle.std.proofs.Common.{◌≡◌, ◌⊎◌, inl, inr, ℕ, zero, suc, ◌+◌, ◌/◌, ◌<◌, ◌≤◌, List, [], ◌∷◌, ◌++◌, length, Bool, true, false, Option, Some, None, refl, sym, ◌∙◌, ap, subst, append_assoc, arith}
 use Rattle.df_base.specs.Log.{Sync}
-use Rattle.df_layout.specs.declared.damage.Mend.{Mend}
-use Rattle.df_layout.specs.declared.layout.Layout.{Layout}
-use Rattle.df_format.specs.declared.header.Header.{Header}
-use Rattle.df_format.specs.declared.superblock.SuperFields.{SuperFields}
-use Rattle.df_format.specs.SuperRules.{IsUsable}
+use Rattle.df_layout.specs.{declared.damage.Mend.{Mend}, declared.layout.Layout.{Layout}}
+use Rattle.df_format.specs.{declared.header.Header.{Header}, declared.superblock.SuperFields.{SuperFields}, SuperRules.{IsUsable}}
 use Rattle.df_theory.specs.Units
-use Rattle.df_theory.specs.Units.{AnyUnit, HeaderPlace, HeaderUnit, Place, or_else}
-use Rattle.df_theory.specs.Device.{AreSteps}
-use Rattle.df_theory.specs.MakingLaws.{all_puts}
-use Rattle.df_theory.specs.MendLaws.{AllPutTable, PutsTable, Reaches, copy_steps, header_steps, mend_steps}
-use Rattle.df_theory.specs.Runs.{Puts, Step, Syncs, after_steps}
-use Rattle.df_theory.specs.UnitLog.{Synced, UnitLog, add, now, wrote}
-use Rattle.df_theory.proofs.Laws.{steps_join_law}
-use Rattle.df_units.specs.Format.{format_of}
-use Rattle.df_units.proofs.Laws.{headers_put}
-use Rattle.df_headers.specs.Ring.{IsHeaderTable, in_sector, sector_writes}
-use Rattle.df_headers.proofs.Laws.{table_written}
-use Rattle.df_superblock.specs.Events.{repair_events}
-use Rattle.df_superblock.specs.Steps.{repaired}
-use Rattle.df_damage.specs.Below.{DataFile}
-use Rattle.df_damage.specs.Plan.{if_wanted}
-use Rattle.df_opening.specs.Mending.{header_events, mending_events, mending_steps, needs_sector, sector_puts, sectors_of, sectors_to}
-use Rattle.df_opening.specs.Keeping.{format}
-use Rattle.df_superblock.proofs.Laws.{repair_from}
-use Rattle.df_opening.proofs.MendEvents.{sectors_more}
+use Rattle.df_theory.{specs.{Units.{AnyUnit, HeaderPlace, HeaderUnit, Place, or_else}, Device.{AreSteps}, MakingLaws.{all_puts}, MendLaws.{AllPutTable, PutsTable, Reaches, copy_steps, header_steps, mend_steps}, Runs.{Puts, Step, Syncs, after_steps}, UnitLog.{Synced, UnitLog, add, now, wrote}}, proofs.Laws.{steps_join_law}}
+use Rattle.df_units.{specs.Format.{format_of}, proofs.Laws.{headers_put}}
+use Rattle.df_headers.{specs.Ring.{IsHeaderTable, in_sector, sector_writes}, proofs.Laws.{table_written}}
+use Rattle.df_superblock.{specs.{Events.{repair_events}, Steps.{repaired}}, proofs.Laws.{repair_from}}
+use Rattle.df_damage.specs.{Below.{DataFile}, Plan.{if_wanted}}
+use Rattle.df_opening.{specs.{Mending.{header_events, mending_events, mending_steps, needs_sector, sector_puts, sectors_of, sectors_to}, Keeping.{format}}, proofs.MendEvents.{sectors_more}}
 
 -- ---- the calls are steps
 

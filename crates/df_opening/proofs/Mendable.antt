@@ -1,48 +1,20 @@
 -- What is planned of a file that is found may be mended: each slot and each copy that isn't as it should be is written, and no member.
-use Rattle.std.proofs.Common.{◌≡◌, ◌⊎◌, inl, inr, ℕ, zero, suc, ◌+◌, ◌*◌, ◌/◌, ◌%◌, ◌<◌, ◌==◌, List, [], ◌∷◌, ◌++◌, length, Bool, true, false, IsTrue, get_or, Some, None, refl, sym, ◌∙◌, ap, subst, arith}
-use Rattle.std.specs.List.{list_any, slice_get}
-use Rattle.std.proofs.lemmas.Bool.{cases_eq, cond-true, eq-eqb, cases_Bool, or_right, or_left}
-use Rattle.std.proofs.lemmas.List.{map-append}
-use Rattle.std.proofs.lemmas.List.Folds.{list_any-append}
-use Rattle.std.proofs.lemmas.Option.{slice_get-get_or}
-use Rattle.df_base.specs.Image.{IsImage}
+use Rattle.std.{proofs.{Common.{◌≡◌, ◌⊎◌, inl, inr, ℕ, zero, suc, ◌+◌, ◌*◌, ◌/◌, ◌%◌, ◌<◌, ◌==◌, List, [], ◌∷◌, ◌++◌, length, Bool, true, false, IsTrue, get_or, Some, None, refl, sym, ◌∙◌, ap, subst, arith}, lemmas.Bool.{cases_eq, cond-true, eq-eqb, cases_Bool, or_right, or_left}, lemmas.List.{map-append}, lemmas.List.Folds.{list_any-append}, lemmas.Option.{slice_get-get_or}}, specs.List.{list_any, slice_get}}
+use Rattle.df_base.{specs.Image.{IsImage}, proofs.Laws.{now_is_image}}
 use Rattle.df_base.specs.Log
-use Rattle.df_base.proofs.Laws.{now_is_image}
 use Rattle.df_disk.specs.Told.{Told}
-use Rattle.df_layout.specs.declared.damage.Class.{Class}
-use Rattle.df_layout.specs.declared.damage.Mend.{Mend}
-use Rattle.df_format.specs.declared.header.Header.{Header}
-use Rattle.df_format.specs.declared.superblock.SuperFields.{SuperFields}
-use Rattle.df_format.specs.Copies.{content_at, content_with}
+use Rattle.df_layout.specs.{declared.damage.Class.{Class}, declared.damage.Mend.{Mend}}
+use Rattle.df_format.specs.{declared.header.Header.{Header}, declared.superblock.SuperFields.{SuperFields}, Copies.{content_at, content_with}}
 use Rattle.df_quorum.specs.Quorum
 use Rattle.df_theory.specs.Units
-use Rattle.df_theory.specs.Units.{AnyUnit, CopyPlace, CopyUnit, HeaderPlace, HeaderUnit, Place}
-use Rattle.df_theory.specs.Chance.{InPools}
+use Rattle.df_theory.{specs.{Units.{AnyUnit, CopyPlace, CopyUnit, HeaderPlace, HeaderUnit, Place}, Chance.{InPools}, Device.{units_log}, Found.{IsFound}, Copies.{Agree}, MendLaws.{AllPutCopy, AllPutTable, IsNumber, IsTable, PutsTable, Reaches}, Shape.{Shape, slots}, UnitLog.{now}, View.{View}}, proofs.Laws.{dry_quiet, found_law, now_units, one_chosen_law, put_one_law}}
 use Rattle.df_theory.specs.Copies
-use Rattle.df_theory.specs.Device.{units_log}
-use Rattle.df_theory.specs.Found.{IsFound}
-use Rattle.df_theory.specs.Copies.{Agree}
-use Rattle.df_theory.specs.MendLaws.{AllPutCopy, AllPutTable, IsNumber, IsTable, PutsTable, Reaches}
-use Rattle.df_theory.specs.Shape.{Shape, slots}
-use Rattle.df_theory.specs.UnitLog.{now}
-use Rattle.df_theory.specs.View.{View}
-use Rattle.df_theory.proofs.Laws.{dry_quiet, found_law, now_units, one_chosen_law, put_one_law}
-use Rattle.df_units.specs.Bytes.{copy_unit, unit_at}
-use Rattle.df_units.specs.Meaning.{content_of, header_of}
-use Rattle.df_units.specs.Puts.{header_unit}
-use Rattle.df_units.specs.Sample.{reserved_header}
-use Rattle.df_units.proofs.Laws.{choice_chosen, sector_puts as sector_puts_law}
-use Rattle.df_headers.specs.Ring.{in_sector}
-use Rattle.df_headers.proofs.Laws.{sector_at, sector_has}
+use Rattle.df_units.{specs.{Bytes.{copy_unit, unit_at}, Meaning.{content_of, header_of}, Puts.{header_unit}, Sample.{reserved_header}}, proofs.Laws.{choice_chosen, sector_puts as sector_puts_law}}
+use Rattle.df_headers.{specs.Ring.{in_sector}, proofs.Laws.{sector_at, sector_has}}
 use Rattle.df_superblock.specs.Steps.{repaired}
 use Rattle.df_journal.specs.declared.table.Start.{Start}
-use Rattle.df_damage.specs.Below.{DataFile, shape}
-use Rattle.df_opening.specs.Mending.{IsPlanned, PlannedMayMend, RestsOnDisk, lies_in, needs_sector, sector_put, sector_puts, sectors_of, sectors_to}
-use Rattle.df_damage.specs.Plan.{AreDistinctUnits, IsScanOf, copy_mends, header_or_none, headers_in, if_wanted, needs_header, shown_class, slot_mend, slot_mends}
-use Rattle.df_opening.specs.Keeping.{Grade, format}
-use Rattle.df_opening.proofs.Followed.{in_pools}
-use Rattle.df_opening.proofs.MendEvents.{sectors_more}
-use Rattle.df_damage.proofs.Laws.{slot_mends_more, super_is_written_as, written_as}
+use Rattle.df_damage.{specs.{Below.{DataFile, shape}, Plan.{AreDistinctUnits, IsScanOf, copy_mends, header_or_none, headers_in, if_wanted, needs_header, shown_class, slot_mend, slot_mends}}, proofs.Laws.{slot_mends_more, super_is_written_as, written_as}}
+use Rattle.df_opening.{specs.{Mending.{IsPlanned, PlannedMayMend, RestsOnDisk, lies_in, needs_sector, sector_put, sector_puts, sectors_of, sectors_to}, Keeping.{Grade, format}}, proofs.{Followed.{in_pools}, MendEvents.{sectors_more}}}
 
 -- ---- copies
 

@@ -1,37 +1,17 @@
 -- A new file is made by writes of reserved headers and of four copies: these are the theory's making, at every moment and at its end.
-use Rattle.std.proofs.Common.{◌≡◌, inl, ℕ, zero, suc, ◌+◌, ◌*◌, ◌/◌, ◌^◌, ◌<◌, ◌≤◌, List, length, Option, Some, None, refl, sym, ◌∙◌, ap, subst, arith, Result, Ok, Err}
-use Rattle.std.specs.Prelude.{slice_get}
-use Rattle.std.proofs.lemmas.List.{ext_get_or}
-use Rattle.std.proofs.lemmas.List.FromFn.{get_or-map-range_with_len, length-map-range_with_len}
-use Rattle.std.proofs.lemmas.Option.{get_or_from_slice_get, slice_get-get_or, slice_get_within, same_Some}
-use Rattle.df_base.specs.Log.{Event, Log}
-use Rattle.df_base.specs.Moments.{adds}
-use Rattle.df_base.proofs.Laws.{zero_plus}
-use Rattle.df_disk.specs.Told.{Told, after}
-use Rattle.df_disk.specs.Adds.{Adds, AddsPart, after_all}
-use Rattle.df_disk.proofs.Laws.{adds_part, nothing_is_part}
+use Rattle.std.{proofs.{Common.{◌≡◌, inl, ℕ, zero, suc, ◌+◌, ◌*◌, ◌/◌, ◌^◌, ◌<◌, ◌≤◌, List, length, Option, Some, None, refl, sym, ◌∙◌, ap, subst, arith, Result, Ok, Err}, lemmas.List.{ext_get_or}, lemmas.List.FromFn.{get_or-map-range_with_len, length-map-range_with_len}, lemmas.Option.{get_or_from_slice_get, slice_get-get_or, slice_get_within, same_Some}}, specs.Prelude.{slice_get}}
+use Rattle.df_base.{specs.{Log.{Event, Log}, Moments.{adds}}, proofs.Laws.{zero_plus}}
+use Rattle.df_disk.{specs.{Told.{Told, after}, Adds.{Adds, AddsPart, after_all}}, proofs.Laws.{adds_part, nothing_is_part}}
 use Rattle.df_layout.specs.declared.layout.Layout.{Layout}
-use Rattle.df_format.specs.declared.header.Header.{Header}
-use Rattle.df_format.specs.declared.kind.Kind.TheVariants.{Reserved}
-use Rattle.df_format.specs.First.{first_super}
-use Rattle.df_format.specs.SuperRules.{IsUsable}
-use Rattle.df_theory.specs.MakingLaws.{all_puts}
-use Rattle.df_theory.specs.Device.{AreSteps, IsSafeDisk}
-use Rattle.df_theory.proofs.Laws.{steps_join_law}
-use Rattle.df_units.specs.Format.{format_of}
-use Rattle.df_units.specs.Meaning.{layout_of}
+use Rattle.df_format.specs.{declared.header.Header.{Header}, declared.kind.Kind.TheVariants.{Reserved}, First.{first_super}, SuperRules.{IsUsable}}
+use Rattle.df_theory.{specs.{MakingLaws.{all_puts}, Device.{AreSteps, IsSafeDisk}}, proofs.Laws.{steps_join_law}}
+use Rattle.df_units.{specs.{Format.{format_of}, Meaning.{layout_of}, Making.{AreReservedSectors, IsMadeOnDisk, first_view, header_puts, header_writes}, Sample.{reserved_header}}, proofs.Laws.{all_added, copy_put, format_on_disk, part_moments, headers_are_steps}}
 use Rattle.df_trailer.specs.Text.{parse_of}
 use Rattle.df_damage.specs.Below.{shape}
-use Rattle.df_units.specs.Making.{AreReservedSectors, IsMadeOnDisk, first_view, header_puts, header_writes}
-use Rattle.df_units.specs.Sample.{reserved_header}
-use Rattle.df_units.proofs.Laws.{all_added, copy_put, format_on_disk, part_moments, headers_are_steps}
 use Rattle.df_headers.specs.Ring
-use Rattle.df_headers.specs.Ring.{IsHeaderTable, in_sector}
-use Rattle.df_headers.proofs.Laws.{reserved_table as reserved_is_table, sector_at, table_written}
-use Rattle.df_model.specs.declared.errors.FormatError.{FormatError}
-use Rattle.df_model.specs.declared.errors.FormatError.TheVariants.{ClusterZero, NotBlank, DiskFault}
-use Rattle.df_opening.specs.Formatting.{AddsFormat, OnlyOnBlank}
-use Rattle.df_opening.specs.Making.{AreWritable, MakingLeaves, MayMakeOn, file_of, making_events, making_steps, reserved_table, sectors_in, sectors_of}
+use Rattle.df_headers.{specs.Ring.{IsHeaderTable, in_sector}, proofs.Laws.{reserved_table as reserved_is_table, sector_at, table_written}}
+use Rattle.df_model.specs.{declared.errors.FormatError.{FormatError}, declared.errors.FormatError.TheVariants.{ClusterZero, NotBlank, DiskFault}}
+use Rattle.df_opening.specs.{Formatting.{AddsFormat, OnlyOnBlank}, Making.{AreWritable, MakingLeaves, MayMakeOn, file_of, making_events, making_steps, reserved_table, sectors_in, sectors_of}}
 
 -- ---- the table of reserved headers
 

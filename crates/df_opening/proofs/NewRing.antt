@@ -1,16 +1,11 @@
 -- The header ring of a new file: its sectors are written one after the other, and each is one of reserved headers.
 use Rattle.std.proofs.Common.{◌≡◌, ℕ, zero, suc, ◌+◌, ◌-◌, ◌*◌, ◌<◌, List, ◌∷◌, ◌++◌, Option, sym, ◌∙◌, ap, subst, arith}
-use Rattle.df_base.specs.Log.{Event, Write}
-use Rattle.df_base.proofs.Laws.{zero_plus}
-use Rattle.df_disk.specs.Told.{Told}
-use Rattle.df_disk.specs.Adds.{AddsPart, after_all}
-use Rattle.df_disk.proofs.Laws.{all_then, part_then, after_append}
+use Rattle.df_base.{specs.Log.{Event, Write}, proofs.Laws.{zero_plus}}
+use Rattle.df_disk.{specs.{Told.{Told}, Adds.{AddsPart, after_all}}, proofs.Laws.{all_then, part_then, after_append}}
 use Rattle.df_layout.specs.declared.layout.Layout.{Layout}
-use Rattle.df_format.specs.declared.header.Header.{Header}
-use Rattle.df_format.specs.UnitLaws.{headers_bytes}
+use Rattle.df_format.specs.{declared.header.Header.{Header}, UnitLaws.{headers_bytes}}
 use Rattle.df_theory.specs.Units.{HeaderPlace}
-use Rattle.df_units.specs.Bytes.{first_at}
-use Rattle.df_units.specs.Making.{header_writes}
+use Rattle.df_units.specs.{Bytes.{first_at}, Making.{header_writes}}
 use Rattle.df_headers.specs.Ring.{in_sector, sector_events}
 use Rattle.df_opening.specs.Making.{sectors_of}
 

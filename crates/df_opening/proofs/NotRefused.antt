@@ -1,10 +1,7 @@
 -- A disk on which a file may be opened shows an image in which its view is found.
 use Rattle.std.proofs.Common.{◌≡◌, sym, subst}
-use Rattle.df_base.specs.Image.{Image, IsImage}
-use Rattle.df_base.specs.Log.{now}
-use Rattle.df_base.proofs.Laws.{now_is_image}
-use Rattle.df_damage.proofs.Laws.{found_is_not_refused}
-use Rattle.df_damage.specs.Below.{shape}
+use Rattle.df_base.{specs.{Image.{Image, IsImage}, Log.{now}}, proofs.Laws.{now_is_image}}
+use Rattle.df_damage.{proofs.Laws.{found_is_not_refused}, specs.Below.{shape}}
 use Rattle.df_theory.specs.Found.{IsFound}
 use Rattle.df_units.specs.Bytes.{unit_at}
 use Rattle.df_opening.specs.Completeness.{SafeIsNotRefused}

@@ -1,25 +1,16 @@
 -- An image is mended in one way, since it has one superblock, one view, and of these one table of headers and one list.
-use Rattle.std.proofs.Common.{◌≡◌, ◌<◌, ℕ, false, List, ◌++◌, get_or, Some, sym, ◌∙◌, ap, subst, arith}
-use Rattle.std.proofs.lemmas.List.{ext_get_or}
-use Rattle.df_base.specs.Log.{Event}
-use Rattle.df_base.proofs.Laws.{same_bit}
+use Rattle.std.proofs.{Common.{◌≡◌, ◌<◌, ℕ, false, List, ◌++◌, get_or, Some, sym, ◌∙◌, ap, subst, arith}, lemmas.List.{ext_get_or}}
+use Rattle.df_base.{specs.Log.{Event}, proofs.Laws.{same_bit}}
 use Rattle.df_disk.specs.Told.{Told}
 use Rattle.df_layout.proofs.Laws.{same_layout}
-use Rattle.df_format.specs.Copies.{Content, content_at}
-use Rattle.df_format.specs.declared.superblock.SuperFields.{SuperFields}
+use Rattle.df_format.specs.{Copies.{Content, content_at}, declared.superblock.SuperFields.{SuperFields}}
 use Rattle.df_quorum.proofs.Laws.{one_law}
-use Rattle.df_theory.specs.Found.{IsFound}
-use Rattle.df_theory.specs.View.{View}
-use Rattle.df_theory.proofs.Laws.{one_found_law}
+use Rattle.df_theory.{specs.{Found.{IsFound}, View.{View}}, proofs.Laws.{one_found_law}}
 use Rattle.df_units.specs.Bytes.{unit_at}
-use Rattle.df_model.specs.Memory.{Memory, memory_of}
-use Rattle.df_model.specs.Work.{opened}
-use Rattle.df_damage.specs.Below.{DataFile, State, memory, shape, spelling}
-use Rattle.df_damage.proofs.Laws.{same_file}
+use Rattle.df_model.specs.{Memory.{Memory, memory_of}, Work.{opened}}
+use Rattle.df_damage.{specs.Below.{DataFile, State, memory, shape, spelling}, proofs.Laws.{same_file}}
 use Rattle.df_superblock.specs.Events.{update_events}
-use Rattle.df_opening.specs.Mending.{mending_events, raising_events}
-use Rattle.df_opening.specs.Opened.{AreRaisingTo, OneMending}
-use Rattle.df_opening.specs.Surveying.{headers_of, mends_of}
+use Rattle.df_opening.specs.{Mending.{mending_events, raising_events}, Opened.{AreRaisingTo, OneMending}, Surveying.{headers_of, mends_of}}
 
 module _ (version : ℕ) (d e : SuperFields) (t : Told) (s u : State) (es ds : List Event) (one : AreRaisingTo version d t s es) (other : AreRaisingTo version e t u ds) where
   fields : s.fields ≡ u.fields

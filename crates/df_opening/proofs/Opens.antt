@@ -1,60 +1,18 @@
 -- What an open leaves: which device calls it makes, what stays settled, and what an open finds in an image.
-use Rattle.std.proofs.Common.{◌≡◌, ◌+◌, ℕ, List, [], ◌∷◌, map, Bool, true, false, Option, Some, None, refl, sym, ◌∙◌, ap, subst, arith}
-use Rattle.std.specs.Prelude.{Ok}
-use Rattle.df_base.specs.Image.{Image, IsImage}
+use Rattle.std.{proofs.{Common.{◌≡◌, ◌+◌, ℕ, List, [], ◌∷◌, map, Bool, true, false, Option, Some, None, refl, sym, ◌∙◌, ap, subst, arith, length}, lemmas.List.{length-map}}, specs.Prelude.{Ok}}
+use Rattle.df_base.{specs.{Image.{Image, IsImage}, Log.{Event, Sync}, Moments.{EachMoment}}, proofs.Laws.{now_is_image}}
 use Rattle.df_base.specs.Log
-use Rattle.df_base.specs.Log.{Event, Sync}
-use Rattle.df_base.specs.Moments.{EachMoment}
-use Rattle.df_base.proofs.Laws.{now_is_image}
-use Rattle.df_disk.specs.Told.{Told, did}
-use Rattle.df_disk.specs.Adds.{AddsPart, after_all}
-use Rattle.df_damage.specs.Anew.{told_after}
-use Rattle.df_damage.proofs.Laws.{added_is_told}
-use Rattle.df_layout.specs.declared.damage.Mend.{Mend}
-use Rattle.df_format.specs.Copies.{Content}
-use Rattle.df_format.specs.declared.header.Header.{Header}
-use Rattle.df_format.specs.declared.superblock.SuperFields.{SuperFields}
+use Rattle.df_disk.specs.{Told.{Told, did}, Adds.{AddsPart, after_all}}
+use Rattle.df_damage.{specs.{Anew.{told_after}, Below.{DataFile, Represents, State, boot_fields, shape, spelling}, Opening.{HasSuperAs}, Found.{IsLayoutShownAs}, Surveying.{TellsSurveyAs}, Surveys.{IsOpenedAs}}, proofs.Laws.{added_is_told}}
+use Rattle.df_layout.specs.{declared.damage.Mend.{Mend}, declared.layout.Layout.{Layout}}
+use Rattle.df_format.specs.{Copies.{Content}, declared.header.Header.{Header}, declared.superblock.SuperFields.{SuperFields}}
 use Rattle.df_theory.specs.Units
-use Rattle.df_theory.specs.Units.{BlockPlace}
-use Rattle.df_theory.specs.Device.{AreSteps}
-use Rattle.df_theory.specs.Found.{IsFound}
-use Rattle.df_theory.specs.MakingLaws.{all_puts}
-use Rattle.df_theory.specs.MendLaws.{copy_steps, header_steps}
-use Rattle.df_theory.specs.Runs.{Syncs}
-use Rattle.df_theory.specs.View.{View}
-use Rattle.df_theory.proofs.Laws.{one_found_law}
-use Rattle.df_units.specs.Bytes.{unit_at}
-use Rattle.df_units.proofs.Laws.{all_added, chosen_choice, of_places, part_moments}
-use Rattle.df_model.specs.Codec.{IsCodec}
-use Rattle.df_model.specs.Work.{Work, opened}
-use Rattle.df_model.proofs.Laws.{found_law}
-use Rattle.df_trailer.specs.Text.{parse_of}
-use Rattle.df_trailer.proofs.Laws.{codec}
-use Rattle.df_units.specs.Meaning.{layout_of, number_of}
-use Rattle.df_opening.proofs.Fronts.{Front, front_of}
-use Rattle.df_opening.proofs.StepShows.{stays_firm, unit_after, unwritten, after_join}
-use Rattle.df_opening.specs.Sparing.{AreSettled}
+use Rattle.df_theory.{specs.{Units.{BlockPlace}, Device.{AreSteps}, Found.{IsFound}, MakingLaws.{all_puts}, MendLaws.{copy_steps, header_steps}, Runs.{Syncs}, View.{View}, CopyPuts.{update_steps}}, proofs.Laws.{one_found_law}}
+use Rattle.df_units.{specs.{Bytes.{unit_at}, Meaning.{layout_of, number_of}, Puts.{put_copies}}, proofs.Laws.{all_added, chosen_choice, of_places, part_moments, by_second, shown_checks}}
+use Rattle.df_model.{specs.{Codec.{IsCodec}, Work.{Work, opened}, Sense.{IsVersionTwo}}, proofs.Laws.{found_law}}
+use Rattle.df_trailer.{specs.Text.{parse_of}, proofs.Laws.{codec}}
+use Rattle.df_opening.{proofs.{Fronts.{Front, front_of}, StepShows.{stays_firm, unit_after, unwritten, after_join}}, specs.{Sparing.{AreSettled}, Survey.{Survey}, Surveying.{IsMendable, TellsMends, TellsSurvey}, Following.{MayOpen}, Mending.{IsPlanned, first_state, mending_steps, sector_puts, sectors_of, raising_events}, Keeping.{Firm, Keeps, format}, Opened.{AreRaisingTo}, Raising.{opening_events, opening_steps}}}
 use Rattle.df_superblock.specs.Steps.{repaired}
-use Rattle.df_damage.specs.Below.{DataFile, Represents, State, boot_fields, shape, spelling}
-use Rattle.df_layout.specs.declared.layout.Layout.{Layout}
-use Rattle.df_opening.specs.Survey.{Survey}
-use Rattle.df_opening.specs.Surveying.{IsMendable, TellsMends, TellsSurvey}
-use Rattle.df_opening.specs.Following.{MayOpen}
-use Rattle.df_opening.specs.Mending.{IsPlanned, first_state, mending_steps, sector_puts, sectors_of}
-use Rattle.df_opening.specs.Keeping.{Firm, Keeps, format}
-use Rattle.df_damage.specs.Opening.{HasSuperAs}
-use Rattle.std.proofs.Common.{length}
-use Rattle.std.proofs.lemmas.List.{length-map}
-use Rattle.df_theory.specs.CopyPuts.{update_steps}
-use Rattle.df_units.specs.Puts.{put_copies}
-use Rattle.df_units.proofs.Laws.{by_second, shown_checks}
-use Rattle.df_model.specs.Sense.{IsVersionTwo}
-use Rattle.df_damage.specs.Found.{IsLayoutShownAs}
-use Rattle.df_damage.specs.Surveying.{TellsSurveyAs}
-use Rattle.df_damage.specs.Surveys.{IsOpenedAs}
-use Rattle.df_opening.specs.Mending.{raising_events}
-use Rattle.df_opening.specs.Opened.{AreRaisingTo}
-use Rattle.df_opening.specs.Raising.{opening_events, opening_steps}
 
 -- ---- what an open leaves
 

@@ -1,60 +1,20 @@
 -- What an open does after its survey keeps the bare view in a log that is restarted, whatever the copies showed.
-use Rattle.std.proofs.Common.{◌≡◌, ◌⊎◌, inl, inr, ℕ, ◌<◌, ◌≤◌, ◌^◌, List, [], ◌∷◌, length, Option, Some, None, ◌∙◌, ap, subst, arith, refl, sym}
-use Rattle.std.proofs.lemmas.Bool.{and_parts, cases_lt, ltb-true}
-use Rattle.std.proofs.lemmas.Option.{slice_get_within}
+use Rattle.std.proofs.{Common.{◌≡◌, ◌⊎◌, inl, inr, ℕ, ◌<◌, ◌≤◌, ◌^◌, List, [], ◌∷◌, length, Option, Some, None, ◌∙◌, ap, subst, arith, refl, sym}, lemmas.Bool.{and_parts, cases_lt, ltb-true}, lemmas.Option.{slice_get_within}}
 use Rattle.df_base.specs.Log as Log
-use Rattle.df_base.specs.Image.{Image, IsImage, blank}
-use Rattle.df_base.specs.Moments.{EachMoment, Extends, adds}
-use Rattle.df_base.proofs.Laws.{adds_extends, extends_self, now_is_image}
+use Rattle.df_base.{specs.{Image.{Image, IsImage, blank}, Moments.{EachMoment, Extends, adds}}, proofs.Laws.{adds_extends, extends_self, now_is_image}}
 use Rattle.df_disk.specs.Told.{Told}
-use Rattle.df_format.specs.Copies.{content_with}
-use Rattle.df_format.specs.declared.header.Header.{Header}
+use Rattle.df_format.specs.{Copies.{content_with}, declared.header.Header.{Header}}
 use Rattle.df_theory.specs.Units
-use Rattle.df_theory.specs.Units.{AnyUnit, BlockPlace, Content, CopyPlace, CopyUnit, HeaderPlace, HeaderUnit, Place, or_else}
-use Rattle.df_theory.specs.CopyPuts.{PutsCopies, update_steps}
-use Rattle.df_theory.specs.Device.{AreSteps, NoChanceOf, units_log}
-use Rattle.df_theory.specs.Found.{AreOfPlaces, IsFound}
-use Rattle.df_theory.specs.Holds.{Stands}
-use Rattle.df_theory.specs.Next.{IsSameBare, booted}
-use Rattle.df_theory.specs.Chance.{EachLeft}
-use Rattle.df_theory.specs.MendLaws.{mend_steps}
-use Rattle.df_theory.specs.Runs.{AtEach, Puts, Step, Syncs, after_steps}
-use Rattle.df_theory.specs.Shape.{Shape}
+use Rattle.df_theory.{specs.{Units.{AnyUnit, BlockPlace, Content, CopyPlace, CopyUnit, HeaderPlace, HeaderUnit, Place, or_else}, CopyPuts.{PutsCopies, update_steps}, Device.{AreSteps, NoChanceOf, units_log}, Found.{AreOfPlaces, IsFound}, Holds.{Stands}, Next.{IsSameBare, booted}, Chance.{EachLeft}, MendLaws.{mend_steps}, Runs.{AtEach, Puts, Step, Syncs, after_steps}, Shape.{Shape}, Upgrades.{BeginsRaised, EndsRaised, IsCleanBeyond, MayRaise, of_version, raise_steps}, UnitLog.{UnitLog, now}, View.{View}, WholeLaws.{AllSpare, IsStanding}}, proofs.Laws.{after_append, firm_units, moments, now_units, open_law, raise_ends_law, stands_law}}
 use Rattle.df_theory.specs.Upgrades as UnitsUpgrades
-use Rattle.df_theory.specs.Upgrades.{BeginsRaised, EndsRaised, IsCleanBeyond, MayRaise, of_version, raise_steps}
-use Rattle.df_theory.specs.UnitLog.{UnitLog, now}
-use Rattle.df_theory.specs.View.{View}
-use Rattle.df_theory.specs.WholeLaws.{AllSpare, IsStanding}
-use Rattle.df_theory.proofs.Laws.{after_append, firm_units, moments, now_units, open_law, raise_ends_law, stands_law}
-use Rattle.df_history.specs.Lives.{Starts}
-use Rattle.df_history.specs.OpenLaws.{BeginsHistory}
-use Rattle.df_units.specs.Bytes.{unit_at}
-use Rattle.df_units.specs.Meaning.{content_of, layout_of}
-use Rattle.df_units.specs.Puts.{put_copies}
-use Rattle.df_units.proofs.Laws.{all_added, blank_empty, call_ends, is_format, of_places}
+use Rattle.df_history.specs.{Lives.{Starts}, OpenLaws.{BeginsHistory}}
+use Rattle.df_units.{specs.{Bytes.{unit_at}, Meaning.{content_of, layout_of}, Puts.{put_copies}}, proofs.Laws.{all_added, blank_empty, call_ends, is_format, of_places}}
 use Rattle.df_trailer.specs.Text.{parse_of}
 use Rattle.df_superblock.specs.Steps.{repaired}
 use Rattle.df_journal.specs.Append.{ShowsRing}
-use Rattle.df_model.specs.Boots.{Raises}
-use Rattle.df_model.specs.Making.{boot_content}
-use Rattle.df_model.specs.Memory.{Memory, memory_of}
-use Rattle.df_model.specs.Sense.{IsBacked, IsVersionTwo, IsWork}
-use Rattle.df_model.specs.Laws.{IsKeptBy}
-use Rattle.df_model.specs.Work.{Work, raised}
-use Rattle.df_model.proofs.Laws.{found_law as sense_found, raised_kept_law, raised_law}
-use Rattle.df_damage.specs.Anew.{restarted, told_after}
-use Rattle.df_damage.specs.Below.{DataFile, IsState, Represents, boot_fields, memory, shape, spelling}
-use Rattle.df_damage.specs.Plan.{AreDistinctUnits, header_or_none, headers_in}
-use Rattle.df_damage.proofs.Laws.{added_is_told, begun_is_honest, honest_stays}
-use Rattle.df_opening.specs.Keeping.{Firm, Grade, KeptFor, StandsFor, Whole, format}
-use Rattle.df_opening.specs.Mending.{StaysFound, begun_state, first_state, raised_state, sector_puts, sectors_of}
-use Rattle.df_opening.specs.Raising.{IsPlannedOf, RaisesAnew, opening_events, opening_steps, raised_content}
-use Rattle.df_opening.specs.Survey.{Survey}
-use Rattle.df_opening.proofs.Mendable.{IsPlannedIn, content_is, planned_in}
-use Rattle.df_opening.proofs.MendSteps.{kept as kept_there, slot_ends}
-use Rattle.df_opening.proofs.Opens.{codec_of, opening_aside, second_found}
-use Rattle.df_opening.proofs.RaiseSteps.{raised_is, sum_of}
-use Rattle.df_opening.proofs.StepShows.{some_stays, unit_after}
+use Rattle.df_model.{specs.{Boots.{Raises}, Making.{boot_content}, Memory.{Memory, memory_of}, Sense.{IsBacked, IsVersionTwo, IsWork}, Laws.{IsKeptBy}, Work.{Work, raised}}, proofs.Laws.{found_law as sense_found, raised_kept_law, raised_law}}
+use Rattle.df_damage.{specs.{Anew.{restarted, told_after}, Below.{DataFile, IsState, Represents, boot_fields, memory, shape, spelling}, Plan.{AreDistinctUnits, header_or_none, headers_in}}, proofs.Laws.{added_is_told, begun_is_honest, honest_stays}}
+use Rattle.df_opening.{specs.{Keeping.{Firm, Grade, KeptFor, StandsFor, Whole, format}, Mending.{StaysFound, begun_state, first_state, raised_state, sector_puts, sectors_of}, Raising.{IsPlannedOf, RaisesAnew, opening_events, opening_steps, raised_content}, Survey.{Survey}}, proofs.{Mendable.{IsPlannedIn, content_is, planned_in}, MendSteps.{kept as kept_there, slot_ends}, Opens.{codec_of, opening_aside, second_found}, RaiseSteps.{raised_is, sum_of}, StepShows.{some_stays, unit_after}}}
 
 -- there are four copies
 beyond_four : (file : DataFile) (image : Image) (n : ℕ) → 4 ≤ n → unit_at file.layout file.cluster image (CopyPlace n) ≡ None

@@ -1,56 +1,20 @@
 -- What an open does after its survey leads, in one log, to a file that is kept by the state after the boot update.
-use Rattle.std.proofs.Common.{◌≡◌, inl, ℕ, ◌+◌, ◌<◌, ◌^◌, List, ◌∷◌, length, Option, Some, refl, sym, ◌∙◌, ap, subst, arith}
+use Rattle.std.proofs.{Common.{◌≡◌, inl, ℕ, ◌+◌, ◌<◌, ◌^◌, List, ◌∷◌, length, Option, Some, refl, sym, ◌∙◌, ap, subst, arith}, lemmas.Option.{slice_get_within}}
 use Rattle.df_base.specs.Log as Log
-use Rattle.df_base.specs.Moments.{EachMoment, Extends, adds}
-use Rattle.df_base.proofs.Laws.{adds_extends, extends_self}
+use Rattle.df_base.{specs.Moments.{EachMoment, Extends, adds}, proofs.Laws.{adds_extends, extends_self}}
 use Rattle.df_disk.specs.Told.{Told}
-use Rattle.std.proofs.lemmas.Option.{slice_get_within}
-use Rattle.df_format.specs.declared.header.Header.{Header}
+use Rattle.df_format.specs.{declared.header.Header.{Header}, Copies.{content_with}}
 use Rattle.df_headers.specs.Ring.{IsHeaderTable}
 use Rattle.df_journal.specs.Append.{ShowsRing}
-use Rattle.df_format.specs.Copies.{content_with}
 use Rattle.df_theory.specs.Units
-use Rattle.df_theory.specs.Units.{Content, HeaderPlace, HeaderUnit}
-use Rattle.df_theory.specs.CopyPuts.{PutsCopies, update_steps}
-use Rattle.df_theory.specs.Device.{AreSteps, IsGoodDisk, IsGoodWholeDisk, units_log}
-use Rattle.df_theory.specs.Next.{IsSameBare, booted}
-use Rattle.df_theory.specs.MendLaws.{mend_steps}
-use Rattle.df_theory.specs.Runs.{Step, after_steps}
-use Rattle.df_theory.specs.Upgrades.{raise_steps}
-use Rattle.df_theory.specs.UnitLog.{UnitLog, now}
-use Rattle.df_theory.specs.View.{View, boot_of}
-use Rattle.df_theory.specs.WholeLaws.{IsStanding}
-use Rattle.df_theory.proofs.Laws.{after_append, moments, now_units, steps_join_law}
-use Rattle.df_units.specs.Bytes.{unit_at}
-use Rattle.df_units.specs.Meaning.{content_of, layout_of, number_of}
-use Rattle.df_units.specs.Puts.{put_copies}
-use Rattle.df_units.proofs.Laws.{all_added, call_ends, is_format, of_places}
+use Rattle.df_theory.{specs.{Units.{Content, HeaderPlace, HeaderUnit}, CopyPuts.{PutsCopies, update_steps}, Device.{AreSteps, IsGoodDisk, IsGoodWholeDisk, units_log}, Next.{IsSameBare, booted}, MendLaws.{mend_steps}, Runs.{Step, after_steps}, Upgrades.{raise_steps}, UnitLog.{UnitLog, now}, View.{View, boot_of}, WholeLaws.{IsStanding}}, proofs.Laws.{after_append, moments, now_units, steps_join_law}}
+use Rattle.df_units.{specs.{Bytes.{unit_at}, Meaning.{content_of, layout_of, number_of}, Puts.{put_copies}}, proofs.Laws.{all_added, call_ends, is_format, of_places}}
 use Rattle.df_trailer.specs.Text.{parse_of}
-use Rattle.df_superblock.specs.Events.{update_events}
-use Rattle.df_superblock.specs.Steps.{AreStepsOfCopies, repaired}
-use Rattle.df_model.specs.Boots.{DoesOpenOnDisk, MayOpenFor, Raises}
-use Rattle.df_model.specs.Making.{boot_content}
-use Rattle.df_model.specs.Memory.{Memory, memory_of}
-use Rattle.df_model.specs.OnDisk.{BacksOnDisk, LeadsOnDisk}
-use Rattle.df_model.specs.Sense.{IsBacked, IsWork}
-use Rattle.df_model.specs.Work.{Work, raised}
-use Rattle.df_model.proofs.Laws.{disk_open_law, found_law as sense_found, raised_law}
-use Rattle.df_history.specs.Awakened.{IsAwakened}
-use Rattle.df_history.specs.Histories.{IsLivedMoment}
-use Rattle.df_history.proofs.Laws.{raise_lived_law}
-use Rattle.df_damage.specs.Anew.{told_after}
-use Rattle.df_damage.specs.Histories.{HasLived, IsLivedDisk, LivesOn, unit_log_in, units_logs}
-use Rattle.df_damage.specs.Below.{DataFile, IsState, Represents, State, boot_fields, memory, shape, spelling}
-use Rattle.df_damage.specs.Plan.{header_or_none, headers_in}
-use Rattle.df_damage.proofs.Laws.{added_is_told, moment_on_disk, recorded_content}
-use Rattle.df_opening.specs.Keeping.{Firm, Grade, IsGoodFor, KeptFor, StandingFor, Whole, format}
-use Rattle.df_opening.specs.Mending.{RestsOnDisk, begun_state, first_state, mending_events, mending_steps, raised_state, sector_puts, sectors_of}
-use Rattle.df_opening.specs.Raising.{IsPlannedOf, RaisesOver, opening_events, opening_steps, raised_content}
-use Rattle.df_opening.specs.Survey.{Survey}
-use Rattle.df_opening.proofs.Mendable.{content_is, planned_may_mend, rest_distinct, rest_found, rest_whole}
-use Rattle.df_opening.proofs.MendSteps.{kept as kept_there, slot_ends}
-use Rattle.df_opening.proofs.KeptFiles.{firm_of, good_safe}
-use Rattle.df_opening.proofs.Opens.{codec_of, second_found}
+use Rattle.df_superblock.specs.{Events.{update_events}, Steps.{AreStepsOfCopies, repaired}}
+use Rattle.df_model.{specs.{Boots.{DoesOpenOnDisk, MayOpenFor, Raises}, Making.{boot_content}, Memory.{Memory, memory_of}, OnDisk.{BacksOnDisk, LeadsOnDisk}, Sense.{IsBacked, IsWork}, Work.{Work, raised}}, proofs.Laws.{disk_open_law, found_law as sense_found, raised_law}}
+use Rattle.df_history.{specs.{Awakened.{IsAwakened}, Histories.{IsLivedMoment}}, proofs.Laws.{raise_lived_law}}
+use Rattle.df_damage.{specs.{Anew.{told_after}, Histories.{HasLived, IsLivedDisk, LivesOn, unit_log_in, units_logs}, Below.{DataFile, IsState, Represents, State, boot_fields, memory, shape, spelling}, Plan.{header_or_none, headers_in}}, proofs.Laws.{added_is_told, moment_on_disk, recorded_content}}
+use Rattle.df_opening.{specs.{Keeping.{Firm, Grade, IsGoodFor, KeptFor, StandingFor, Whole, format}, Mending.{RestsOnDisk, begun_state, first_state, mending_events, mending_steps, raised_state, sector_puts, sectors_of}, Raising.{IsPlannedOf, RaisesOver, opening_events, opening_steps, raised_content}, Survey.{Survey}}, proofs.{Mendable.{content_is, planned_may_mend, rest_distinct, rest_found, rest_whole}, MendSteps.{kept as kept_there, slot_ends}, KeptFiles.{firm_of, good_safe}, Opens.{codec_of, second_found}}}
 
 -- ---- the calls are steps
 

@@ -1,10 +1,8 @@
 -- The state after a boot update makes sense, and what it writes obeys the rules of a superblock.
 use Rattle.std.proofs.Common.{◌≡◌, ◌<◌, ◌+◌, ◌^◌, Option, Some, None, refl, arith}
-use Rattle.df_format.specs.SuperRules.{IsSuper, IsUsable, fault_of}
-use Rattle.df_format.proofs.Laws.{faults}
+use Rattle.df_format.{specs.SuperRules.{IsSuper, IsUsable, fault_of}, proofs.Laws.{faults}}
 use Rattle.df_sessions.specs.Table.{IsSessionTable}
-use Rattle.df_damage.specs.Below.{IsCourse, IsState, RunningState, State, boot_fields}
-use Rattle.df_damage.proofs.Laws.{boot_may_record, recorded_is_super, second_as}
+use Rattle.df_damage.{specs.Below.{IsCourse, IsState, RunningState, State, boot_fields}, proofs.Laws.{boot_may_record, recorded_is_super, second_as}}
 use Rattle.df_opening.specs.Mending.{raised_state}
 
 pub no_fault : (s : State) → IsState s → IsSessionTable s.table → IsSuper s.fields → s.fields.boot < 2 ^ 62 → fault_of (boot_fields s) ≡ None

@@ -1,28 +1,15 @@
 -- What an open answers where its mending or its boot update failed; and that another refusal than the disk's is one of the superblock, where no more was read.
-use Rattle.std.proofs.Common.{◌≡◌, ◌∙◌, ℕ, List, ◌++◌, Option, Some, None, refl, ap, subst, sym}
-use Rattle.std.specs.Prelude.{Result, Ok, Err}
-use Rattle.df_base.specs.Causes.{Blamed}
-use Rattle.df_base.specs.Log.{Event, Sync}
-use Rattle.df_disk.specs.Adds.{AddsPart, after_all}
-use Rattle.df_disk.proofs.Laws.{after_append, all_is_part, all_then, none_after, part_then}
-use Rattle.df_disk.specs.Told.{Told, after, did}
-use Rattle.df_layout.specs.declared.damage.Class.{Class}
-use Rattle.df_layout.specs.declared.layout.Layout.{Layout}
-use Rattle.df_layout.specs.declared.places.Place.{Place}
+use Rattle.std.{proofs.Common.{◌≡◌, ◌∙◌, ℕ, List, ◌++◌, Option, Some, None, refl, ap, subst, sym}, specs.Prelude.{Result, Ok, Err}}
+use Rattle.df_base.specs.{Causes.{Blamed}, Log.{Event, Sync}}
+use Rattle.df_disk.{specs.{Adds.{AddsPart, after_all}, Told.{Told, after, did}}, proofs.Laws.{after_append, all_is_part, all_then, none_after, part_then}}
+use Rattle.df_layout.specs.{declared.damage.Class.{Class}, declared.layout.Layout.{Layout}, declared.places.Place.{Place}}
 use Rattle.df_format.specs.declared.superblock.SuperFields.{SuperFields}
-use Rattle.df_model.specs.Faults.{is_mend_fault, is_open_fault}
-use Rattle.df_model.specs.declared.errors.MendError.{MendError}
-use Rattle.df_model.specs.declared.errors.MendError.TheVariants.{Damaged, DiskFault}
-use Rattle.df_model.specs.declared.errors.OpenError.{OpenError}
+use Rattle.df_model.specs.{Faults.{is_mend_fault, is_open_fault}, declared.errors.MendError.{MendError}, declared.errors.MendError.TheVariants.{Damaged, DiskFault}, declared.errors.OpenError.{OpenError}}
 use Rattle.df_model.specs.declared.errors.OpenError.TheVariants as opens
-use Rattle.df_superblock.specs.Calls.{IsUndamaged}
-use Rattle.df_superblock.specs.declared.updates.UpdateError.{UpdateError}
+use Rattle.df_superblock.specs.{Calls.{IsUndamaged}, declared.updates.UpdateError.{UpdateError}}
 use Rattle.df_superblock.specs.declared.updates.UpdateError.TheVariants as updates
-use Rattle.df_damage.proofs.Laws.{added_is_told}
-use Rattle.df_opening.specs.Below.{Refuses, TellsLayout}
-use Rattle.df_opening.specs.Mending.{AddsRaising, AddsUpdating, IsReadBack, IsUnharmed}
-use Rattle.df_opening.specs.Opened.{refusal_of}
-use Rattle.df_damage.specs.Surveying.{TellsSurveyAs}
+use Rattle.df_damage.{proofs.Laws.{added_is_told}, specs.Surveying.{TellsSurveyAs}}
+use Rattle.df_opening.specs.{Below.{Refuses, TellsLayout}, Mending.{AddsRaising, AddsUpdating, IsReadBack, IsUnharmed}, Opened.{refusal_of}}
 
 -- a superblock isn't found, and the disk didn't fail
 pub superblock_refused : (t : Told) (e : OpenError) → (e ≡ opens.DiskFault → ⊥) → TellsLayout (Some t) (Err e) → Refuses t.shown e

@@ -1,25 +1,13 @@
 -- What steps put, and what their device calls leave as it was.
-use Rattle.std.proofs.Common.{◌≡◌, ℕ, ◌+◌, ◌<◌, ◌||◌, Bool, true, false, List, [], ◌∷◌, Option, Some, None, refl, sym, ◌∙◌, ap, arith, ◌++◌}
-use Rattle.std.proofs.lemmas.Bool.{and_from, le-leb, lt-ltb, or_parts}
-use Rattle.df_base.specs.Image.{Image, IsImage, covers, written}
-use Rattle.df_base.specs.Log.{Event, Log, Stop, Sync, Write, add, loose, now}
-use Rattle.df_base.specs.Moments.{adds}
-use Rattle.df_base.proofs.Laws.{written_is_image, written_else}
+use Rattle.std.proofs.{Common.{◌≡◌, ℕ, ◌+◌, ◌<◌, ◌||◌, Bool, true, false, List, [], ◌∷◌, Option, Some, None, refl, sym, ◌∙◌, ap, arith, ◌++◌}, lemmas.Bool.{and_from, le-leb, lt-ltb, or_parts}}
+use Rattle.df_base.{specs.{Image.{Image, IsImage, covers, written}, Log.{Event, Log, Stop, Sync, Write, add, loose, now}, Moments.{adds}}, proofs.Laws.{written_is_image, written_else}}
 use Rattle.df_disk.specs.Told.{Told, did}
-use Rattle.df_damage.specs.Anew.{told_after}
+use Rattle.df_damage.specs.{Anew.{told_after}, Below.{DataFile}}
 use Rattle.df_layout.specs.declared.layout.Layout.{Layout}
 use Rattle.df_format.proofs.Laws.{same_shown}
-use Rattle.df_theory.specs.Units.{AnyUnit, BlockPlace, CopyPlace, HeaderPlace, Place, PreparePlace, ReplyPlace, is_some, or_else}
-use Rattle.df_theory.specs.Device.{AreSteps}
-use Rattle.df_theory.specs.Runs.{Puts, Step, Syncs}
-use Rattle.df_units.specs.Bytes.{has, has_place, span_at, unit_at}
-use Rattle.df_units.specs.Format.{format_of}
-use Rattle.df_units.specs.Meaning.{place_of}
-use Rattle.df_units.specs.Wanted.{class_at}
-use Rattle.df_units.proofs.Laws.{is_format}
-use Rattle.df_damage.specs.Below.{DataFile}
-use Rattle.df_opening.specs.Sparing.{IsReadPlace, SparesReads, image_after, writes_to}
-use Rattle.df_opening.specs.Keeping.{format}
+use Rattle.df_theory.specs.{Units.{AnyUnit, BlockPlace, CopyPlace, HeaderPlace, Place, PreparePlace, ReplyPlace, is_some, or_else}, Device.{AreSteps}, Runs.{Puts, Step, Syncs}}
+use Rattle.df_units.{specs.{Bytes.{has, has_place, span_at, unit_at}, Format.{format_of}, Meaning.{place_of}, Wanted.{class_at}}, proofs.Laws.{is_format}}
+use Rattle.df_opening.specs.{Sparing.{IsReadPlace, SparesReads, image_after, writes_to}, Keeping.{format}}
 
 -- the unit at a place after these steps
 abbrev pub unit_after : List Step → Place → Option AnyUnit → Option AnyUnit

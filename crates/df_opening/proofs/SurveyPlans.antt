@@ -1,23 +1,13 @@
 -- What a survey hands out is planned from what the disk shows after the barrier.
-use Rattle.std.proofs.Common.{◌≡◌, ℕ, Option, Some, None, sym, ◌∙◌, ap, subst}
-use Rattle.std.specs.Prelude.{Ok}
-use Rattle.std.proofs.lemmas.Option.{same_Some}
+use Rattle.std.{proofs.{Common.{◌≡◌, ℕ, Option, Some, None, sym, ◌∙◌, ap, subst}, lemmas.Option.{same_Some}}, specs.Prelude.{Ok}}
 use Rattle.df_base.specs.Log.{Sync}
 use Rattle.df_disk.specs.Told.{Told, after, did}
 use Rattle.df_layout.specs.declared.layout.Layout.{Layout}
 use Rattle.df_units.specs.Bytes.{unit_at}
-use Rattle.df_journal.specs.Scan.{Scan}
-use Rattle.df_journal.specs.Shows.{TellsRings}
-use Rattle.df_journal.specs.declared.table.Start.{Start}
-use Rattle.df_journal.proofs.Laws.{rings_shown}
-use Rattle.df_damage.specs.Opening.{fault_as}
-use Rattle.df_damage.proofs.Laws.{head_found}
-use Rattle.df_damage.specs.Found.{IsFoundAs}
+use Rattle.df_journal.{specs.{Scan.{Scan}, Shows.{TellsRings}, declared.table.Start.{Start}}, proofs.Laws.{rings_shown}}
+use Rattle.df_damage.{specs.{Opening.{fault_as}, Found.{IsFoundAs}, Surveying.{IsPlannedFor, IsReadOf, TellsSurveyAs, state_found}, Types.{Surveyed}}, proofs.Laws.{head_found}}
 use Rattle.df_damage.specs.Surveying as recovered
-use Rattle.df_damage.specs.Surveying.{IsPlannedFor, IsReadOf, TellsSurveyAs, state_found}
-use Rattle.df_damage.specs.Types.{Surveyed}
-use Rattle.df_opening.specs.Raising.{IsPlannedOf}
-use Rattle.df_opening.specs.Surveying.{TellsMends, survey_found}
+use Rattle.df_opening.specs.{Raising.{IsPlannedOf}, Surveying.{TellsMends, survey_found}}
 
 module _ (version : ℕ) (y : Surveyed) (layout : Layout) (plan : IsPlannedFor y) where
   shown_planned : (t : Told) → IsReadOf version layout (Some t) y.scanned → TellsSurveyAs version layout (Some t) (Ok (state_found y)) → IsPlannedOf (survey_found y) (did Sync t)

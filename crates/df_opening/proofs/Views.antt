@@ -1,8 +1,6 @@
 -- Views that keep one another: each keeps itself, and they do so back and on.
 use Rattle.std.proofs.Common.{◌∙◌, refl, sym}
-use Rattle.df_theory.specs.Next.{SameCheckpoint}
-use Rattle.df_theory.specs.Units.{Content}
-use Rattle.df_theory.specs.View.{View}
+use Rattle.df_theory.specs.{Next.{SameCheckpoint}, Units.{Content}, View.{View}}
 use Rattle.df_model.specs.Views.{KeepsView}
 
 same_self : (c : Content) → SameCheckpoint c c

@@ -1,29 +1,9 @@
 -- What is due is done piece by piece, and what was accepted is counted by the head.
-use Rattle.std.proofs.Common.{◌≡◌, ◌<◌, ℕ, zero, suc, ◌+◌, ◌-◌, ◌&&◌, nat_lt, Bool, true, false, if◌then◌else◌, min, List, [], ◌∷◌, ◌++◌, length, Option, Some, None, replicate, refl, sym, ◌∙◌, ap, subst, arith, length-append, length-drop}
-use Rattle.std.proofs.lemmas.Bool.Decides.{nat_tests}
-use Rattle.df_theory.specs.Units.{Message, Parts}
-use Rattle.df_theory.specs.Shape.{Shape}
-use Rattle.df_theory.specs.View.{head}
-use Rattle.df_model.specs.Work.{Request, Running, Work}
-use Rattle.df_model.specs.Memory.{Course, course_of, memory_of}
-use Rattle.df_model.specs.Refusals.{append_refusals, begin_refusals, first_refusal, flush_refusals, is_running, stage_refusals, steps_left}
-use Rattle.df_model.specs.Making.{group_of, needed_of, prepare_of}
-use Rattle.df_model.specs.After.{after_check, after_running, after_step_of, begun, outcome, to_check, with_group, with_prepare, with_running, with_staged, with_verdict}
-use Rattle.df_model.specs.Change.{Appends, Change, Checks, Ends, One, Staged}
-use Rattle.df_model.specs.Commands.{Advance, Append, Command, Flush, Given, Scrub, Stage, ToAppend, ToBegin, ToFlush, ToStage, after, supplied_sum, supplied_sums, supplied_verdict}
-use Rattle.df_model.specs.Sense.{IsWork}
-use Rattle.df_model.specs.Supply.{Codec, supplied}
-use Rattle.df_model.specs.declared.answers.Verdict.{Verdict}
-use Rattle.df_model.specs.declared.answers.Verdict.TheVariants.{Sound, Failing}
-use Rattle.df_model.specs.declared.errors.AppendError.{AppendError}
-use Rattle.df_model.specs.declared.errors.BeginError.{BeginError}
-use Rattle.df_model.specs.declared.errors.FlushError.{FlushError}
-use Rattle.df_model.proofs.Laws.{length_in, one_thing_law}
-use Rattle.df_pace.specs.declared.beat.Piece.{Piece}
+use Rattle.std.proofs.{Common.{◌≡◌, ◌<◌, ℕ, zero, suc, ◌+◌, ◌-◌, ◌&&◌, nat_lt, Bool, true, false, if◌then◌else◌, min, List, [], ◌∷◌, ◌++◌, length, Option, Some, None, replicate, refl, sym, ◌∙◌, ap, subst, arith, length-append, length-drop}, lemmas.Bool.Decides.{nat_tests}}
+use Rattle.df_theory.specs.{Units.{Message, Parts}, Shape.{Shape}, View.{head}}
+use Rattle.df_model.{specs.{Work.{Request, Running, Work}, Memory.{Course, course_of, memory_of}, Refusals.{append_refusals, begin_refusals, first_refusal, flush_refusals, is_running, stage_refusals, steps_left}, Making.{group_of, needed_of, prepare_of}, After.{after_check, after_running, after_step_of, begun, outcome, to_check, with_group, with_prepare, with_running, with_staged, with_verdict}, Change.{Appends, Change, Checks, Ends, One, Staged}, Commands.{Advance, Append, Command, Flush, Given, Scrub, Stage, ToAppend, ToBegin, ToFlush, ToStage, after, supplied_sum, supplied_sums, supplied_verdict}, Sense.{IsWork}, Supply.{Codec, supplied}, declared.answers.Verdict.{Verdict}, declared.answers.Verdict.TheVariants.{Sound, Failing}, declared.errors.AppendError.{AppendError}, declared.errors.BeginError.{BeginError}, declared.errors.FlushError.{FlushError}}, proofs.Laws.{length_in, one_thing_law}}
+use Rattle.df_pace.specs.{declared.beat.Piece.{Piece}, declared.pace.Due.{Due}, Loop.{Stand, answer_at, by_loop, by_script, counted_answer, recounted}, Beats.{FewerDue, IsHeadCounted, LineCounts, NothingDue, PieceCounts, PieceDue, StartsIdle, WholeDue, command_of_piece, is_begun, pieces_left, rest_due, without}}
 use Rattle.df_pace.specs.declared.beat.Piece.TheVariants as piece
-use Rattle.df_pace.specs.declared.pace.Due.{Due}
-use Rattle.df_pace.specs.Loop.{Stand, answer_at, by_loop, by_script, counted_answer, recounted}
-use Rattle.df_pace.specs.Beats.{FewerDue, IsHeadCounted, LineCounts, NothingDue, PieceCounts, PieceDue, StartsIdle, WholeDue, command_of_piece, is_begun, pieces_left, rest_due, without}
 
 -- ---- what is left
 

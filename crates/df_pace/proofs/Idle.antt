@@ -1,14 +1,9 @@
 -- Beside a script where nothing is due nothing is done.
 use Rattle.std.proofs.Common.{◌≡◌, ℕ, ◌&&◌, Bool, true, false, not, List, [], ◌∷◌, replicate, ◌++◌, refl, ap, ◌∙◌}
 use Rattle.df_theory.specs.Shape.{Shape}
-use Rattle.df_model.specs.Commands.{Advance, Command}
-use Rattle.df_model.specs.Refusals.{is_running, steps_left}
-use Rattle.df_model.specs.Supply.{Codec}
+use Rattle.df_model.specs.{Commands.{Advance, Command}, Refusals.{is_running, steps_left}, Supply.{Codec}}
 use Rattle.df_script_model.specs.Script.{answer_text, printed}
-use Rattle.df_pace.specs.declared.pace.Pace.{Pace}
-use Rattle.df_pace.specs.Loop.{Stand, all_by_loop, answer_at, begin_due, begin_if, by_script, course_at, paced, passed, stand_after, steps_due}
-use Rattle.df_pace.specs.Laws.{AnsweredLaw, IdleLaw}
-use Rattle.df_pace.proofs.Beats.{none_min}
+use Rattle.df_pace.{specs.{declared.pace.Pace.{Pace}, Loop.{Stand, all_by_loop, answer_at, begin_due, begin_if, by_script, course_at, paced, passed, stand_after, steps_due}, Laws.{AnsweredLaw, IdleLaw}}, proofs.Beats.{none_min}}
 
 abbrev idle : Pace
 idle = record { scrub = 0; every = 0; steps = 0 }

@@ -1,39 +1,14 @@
 -- Lines of the log: what they print and what they change is a function of what is told.
-use Rattle.std.proofs.Common.{◌≡◌, ℕ, ◌+◌, ◌-◌, ◌^◌, ◌%◌, ◌==◌, ◌&&◌, ◌||◌, not, nat_lt, nat_le, Bool, true, false, if◌then◌else◌, codes, List, [], ◌∷◌, ◌++◌, length, Option, Some, None, Result, Ok, Err, refl, sym, ◌∙◌, ap, subst, arith, length-append}
-use Rattle.std.specs.List.{slice_get}
-use Rattle.std.proofs.lemmas.List.{take-append-le}
-use Rattle.std.proofs.lemmas.Bool.Decides.{nat_tests}
-use Rattle.df_layout.specs.declared.damage.Class.{Class}
-use Rattle.df_layout.specs.declared.places.Zone.TheVariants.{ClientReplies}
-use Rattle.df_theory.specs.Units.{AnyUnit, Message, PreparePlace, PrepareUnit, ReplyPlace, ReplyUnit, Session, Units, or_else, overlay}
-use Rattle.df_theory.specs.Sessions.{session_of_header, sessions_after}
-use Rattle.df_theory.specs.Shape.{Shape}
-use Rattle.df_theory.specs.View.{View, head, sessions}
-use Rattle.df_theory.specs.Next.{appended, kept, replied}
-use Rattle.df_theory.specs.UnitLog.{put_one}
-use Rattle.df_model.specs.Work.{Request, Running, Work}
-use Rattle.df_model.specs.Memory.{Memory, joined, memory_of, message_room, reply_sum, stored_sum}
-use Rattle.df_model.specs.Refusals.{append_refusals, first_refusal, flush_refusals, is_last_request, is_new, last_op, next_request, reply_refusals, session_of_client, stage_refusals}
-use Rattle.df_model.specs.Making.{client_of, group_of, place_of_op, place_of_reply, prepare_of, reply_of, request_of}
-use Rattle.df_model.specs.After.{outcome, place_of_client, shown_or, with_group, with_prepare, with_reply, with_staged}
-use Rattle.df_model.specs.Commands.{Append, Command, Flush, ReadReply, Reply, Stage, ToAppend, ToFlush, ToReadReply, ToReply, ToStage}
-use Rattle.df_model.specs.Supply.{Codec, Shown, checksums_given, class_or, group_puts, reply_at, reply_given, unless}
-use Rattle.df_model.specs.declared.errors.AppendError.{AppendError}
+use Rattle.std.{proofs.{Common.{◌≡◌, ℕ, ◌+◌, ◌-◌, ◌^◌, ◌%◌, ◌==◌, ◌&&◌, ◌||◌, not, nat_lt, nat_le, Bool, true, false, if◌then◌else◌, codes, List, [], ◌∷◌, ◌++◌, length, Option, Some, None, Result, Ok, Err, refl, sym, ◌∙◌, ap, subst, arith, length-append}, lemmas.List.{take-append-le}, lemmas.Bool.Decides.{nat_tests}}, specs.List.{slice_get}}
+use Rattle.df_layout.specs.{declared.damage.Class.{Class}, declared.places.Zone.TheVariants.{ClientReplies}}
+use Rattle.df_theory.specs.{Units.{AnyUnit, Message, PreparePlace, PrepareUnit, ReplyPlace, ReplyUnit, Session, Units, or_else, overlay}, Sessions.{session_of_header, sessions_after}, Shape.{Shape}, View.{View, head, sessions}, Next.{appended, kept, replied}, UnitLog.{put_one}}
+use Rattle.df_model.{specs.{Work.{Request, Running, Work}, Memory.{Memory, joined, memory_of, message_room, reply_sum, stored_sum}, Refusals.{append_refusals, first_refusal, flush_refusals, is_last_request, is_new, last_op, next_request, reply_refusals, session_of_client, stage_refusals}, Making.{client_of, group_of, place_of_op, place_of_reply, prepare_of, reply_of, request_of}, After.{outcome, place_of_client, shown_or, with_group, with_prepare, with_reply, with_staged}, Commands.{Append, Command, Flush, ReadReply, Reply, Stage, ToAppend, ToFlush, ToReadReply, ToReply, ToStage}, Supply.{Codec, Shown, checksums_given, class_or, group_puts, reply_at, reply_given, unless}, declared.errors.AppendError.{AppendError}, declared.errors.FlushError.{FlushError}, declared.errors.ReplyError.{ReplyError}, declared.reading.LookupError.{LookupError}}, proofs.Laws.{length_in, place_known}}
 use Rattle.df_model.specs.declared.errors.AppendError.TheVariants as append
-use Rattle.df_model.specs.declared.errors.FlushError.{FlushError}
 use Rattle.df_model.specs.declared.errors.FlushError.TheVariants as flush
-use Rattle.df_model.specs.declared.errors.ReplyError.{ReplyError}
 use Rattle.df_model.specs.declared.errors.ReplyError.TheVariants as reply
-use Rattle.df_model.specs.declared.reading.LookupError.{LookupError}
 use Rattle.df_model.specs.declared.reading.LookupError.TheVariants as lookup
-use Rattle.df_model.proofs.Laws.{length_in, place_known}
-use Rattle.df_script_model.specs.Script.{answer_text}
-use Rattle.df_script_model.specs.Texts.{append_refusal, flush_refusal, line_of, lookup_refusal, message_text, numbered, reply_refusal, text_or}
-use Rattle.df_pace.specs.declared.pace.Pace.{Pace}
-use Rattle.df_pace.specs.Loop.{Stand, answer_at, answered, by_script, ended, passed}
-use Rattle.df_pace.specs.Laws.{EachOf, IsNotFull, IsOfLog, PacingLaw, bare_texts, is_full, is_ring_full, unnumbered}
-use Rattle.df_pace.proofs.Told.{Goes, IsOnItsWay, Told, behind_stays, plainly, read_of, told, told_at}
-use Rattle.df_pace.proofs.Replies.{asked_all, get_mapped, kept_read, put_session, puts_aside, read_kept, read_new, sessions_all, sessions_group, sessions_more}
+use Rattle.df_script_model.specs.{Script.{answer_text}, Texts.{append_refusal, flush_refusal, line_of, lookup_refusal, message_text, numbered, reply_refusal, text_or}}
+use Rattle.df_pace.{specs.{declared.pace.Pace.{Pace}, Loop.{Stand, answer_at, answered, by_script, ended, passed}, Laws.{EachOf, IsNotFull, IsOfLog, PacingLaw, bare_texts, is_full, is_ring_full, unnumbered}}, proofs.{Told.{Goes, IsOnItsWay, Told, behind_stays, plainly, read_of, told, told_at}, Replies.{asked_all, get_mapped, kept_read, put_session, puts_aside, read_kept, read_new, sessions_all, sessions_group, sessions_more}}}
 
 -- ---- refusals
 

@@ -1,8 +1,7 @@
 -- Commands of the loop in turn.
 use Rattle.std.proofs.Common.{◌≡◌, List, [], ◌∷◌, ◌++◌, refl}
 use Rattle.df_theory.specs.Shape.{Shape}
-use Rattle.df_model.specs.Commands.{Command}
-use Rattle.df_model.specs.Supply.{Codec}
+use Rattle.df_model.specs.{Commands.{Command}, Supply.{Codec}}
 use Rattle.df_pace.specs.Loop.{Stand, all_by_loop, by_loop}
 
 pub loop_join : (sh : Shape) (codec : Codec) (x : Stand) (cs ds : List Command) → all_by_loop sh codec x (cs ++ ds) ≡ all_by_loop sh codec (all_by_loop sh codec x cs) ds

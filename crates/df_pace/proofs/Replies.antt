@@ -1,16 +1,8 @@
 -- What is read at the places of the replies, and the table of sessions, after a prepare or a reply more.
-use Rattle.std.proofs.Common.{◌≡◌, ℕ, zero, suc, ◌+◌, ◌<◌, ◌==◌, nat_lt, Bool, true, false, if◌then◌else◌, List, [], ◌∷◌, ◌++◌, drop, map, length, Option, Some, None, Result, Ok, Err, refl, ◌∙◌, ap, arith, eq-eqb}
-use Rattle.std.specs.List.{range_with_len, slice_get}
-use Rattle.df_layout.specs.declared.damage.Class.{Class}
-use Rattle.df_layout.specs.declared.damage.Class.TheVariants.{Stale}
-use Rattle.df_theory.specs.Units.{AnyUnit, BlockUnit, CopyUnit, Header, HeaderUnit, Message, PrepareUnit, ReplyPlace, ReplyUnit, Session, or_else}
-use Rattle.df_theory.specs.Sessions.{noted, session_of_header, sessions_after}
-use Rattle.df_theory.specs.Next.{kept}
-use Rattle.df_theory.proofs.Laws.{sessions-append}
-use Rattle.df_model.specs.Work.{Request}
-use Rattle.df_model.specs.Memory.{Memory, stored_sum}
-use Rattle.df_model.specs.Making.{first_of, group_of, prepare_in, prepares_in}
-use Rattle.df_model.specs.Supply.{class_or, given_if, group_puts, is_sum, reply_given}
+use Rattle.std.{proofs.Common.{◌≡◌, ℕ, zero, suc, ◌+◌, ◌<◌, ◌==◌, nat_lt, Bool, true, false, if◌then◌else◌, List, [], ◌∷◌, ◌++◌, drop, map, length, Option, Some, None, Result, Ok, Err, refl, ◌∙◌, ap, arith, eq-eqb}, specs.List.{range_with_len, slice_get}}
+use Rattle.df_layout.specs.{declared.damage.Class.{Class}, declared.damage.Class.TheVariants.{Stale}}
+use Rattle.df_theory.{specs.{Units.{AnyUnit, BlockUnit, CopyUnit, Header, HeaderUnit, Message, PrepareUnit, ReplyPlace, ReplyUnit, Session, or_else}, Sessions.{noted, session_of_header, sessions_after}, Next.{kept}}, proofs.Laws.{sessions-append}}
+use Rattle.df_model.specs.{Work.{Request}, Memory.{Memory, stored_sum}, Making.{first_of, group_of, prepare_in, prepares_in}, Supply.{class_or, given_if, group_puts, is_sum, reply_given}}
 use Rattle.df_pace.proofs.Told.{plain, plainly}
 
 -- ---- the table of sessions, by sessions

@@ -1,22 +1,9 @@
 -- What the scrubber keeps, its tour and its findings, changes no answer of another command.
 use Rattle.std.proofs.Common.{◌≡◌, ℕ, zero, suc, ◌+◌, min, Bool, true, false, List, [], ◌∷◌, ◌++◌, length, Option, Some, None, replicate, refl, sym, ◌∙◌, ap}
-use Rattle.df_theory.specs.Units.{Parts}
-use Rattle.df_theory.specs.Shape.{Shape}
-use Rattle.df_model.specs.Work.{Running, Work, first_tour}
-use Rattle.df_model.specs.Memory.{memory_of}
-use Rattle.df_model.specs.Refusals.{append_refusals, begin_refusals, block_refusals, first_refusal, flush_refusals, is_running, release_refusals, reply_refusals, stage_refusals, steps_left}
-use Rattle.df_model.specs.Making.{group_of, named_sums, needed_of, next_address, place_of_reply, prepare_of, reply_of}
-use Rattle.df_model.specs.After.{after_check, after_running, after_step_of, begun, outcome, to_check, with_group, with_live, with_prepare, with_reply, with_running, with_staged}
-use Rattle.df_model.specs.Commands.{Advance, Append, Begin, Command, Flush, Recent, Release, Reply, Scrub, Stage, WriteBlock, supplied_sum, supplied_verdict}
-use Rattle.df_model.specs.Supply.{Codec, Shown, checksums_given, next, shown_after, supplied}
-use Rattle.df_model.specs.declared.answers.Verdict.{Verdict}
-use Rattle.df_model.specs.declared.answers.Verdict.TheVariants.{Sound, Failing}
-use Rattle.df_model.proofs.Laws.{answer_from, answer_is}
+use Rattle.df_theory.specs.{Units.{Parts}, Shape.{Shape}}
+use Rattle.df_model.{specs.{Work.{Running, Work, first_tour}, Memory.{memory_of}, Refusals.{append_refusals, begin_refusals, block_refusals, first_refusal, flush_refusals, is_running, release_refusals, reply_refusals, stage_refusals, steps_left}, Making.{group_of, named_sums, needed_of, next_address, place_of_reply, prepare_of, reply_of}, After.{after_check, after_running, after_step_of, begun, outcome, to_check, with_group, with_live, with_prepare, with_reply, with_running, with_staged}, Commands.{Advance, Append, Begin, Command, Flush, Recent, Release, Reply, Scrub, Stage, WriteBlock, supplied_sum, supplied_verdict}, Supply.{Codec, Shown, checksums_given, next, shown_after, supplied}, declared.answers.Verdict.{Verdict}, declared.answers.Verdict.TheVariants.{Sound, Failing}}, proofs.Laws.{answer_from, answer_is}}
 use Rattle.df_script_model.specs.Script.{answer_text}
-use Rattle.df_pace.specs.declared.pace.Pace.{Pace}
-use Rattle.df_pace.specs.Loop.{Stand, all_by_loop, answer_at, begin_due, begin_if, stand_after, by_loop, by_script, course_at, counted_answer, ended, is_begin_due, led, paced, passed, recounted, scrubs_due, steps_due}
-use Rattle.df_pace.specs.Laws.{AsksOfOthers, EachOf, ScrubbingLaw}
-use Rattle.df_pace.proofs.Lists.{loop_join}
+use Rattle.df_pace.{specs.{declared.pace.Pace.{Pace}, Loop.{Stand, all_by_loop, answer_at, begin_due, begin_if, stand_after, by_loop, by_script, course_at, counted_answer, ended, is_begin_due, led, paced, passed, recounted, scrubs_due, steps_due}, Laws.{AsksOfOthers, EachOf, ScrubbingLaw}}, proofs.Lists.{loop_join}}
 
 -- ---- a state in which nothing was scrubbed
 

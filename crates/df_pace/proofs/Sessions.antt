@@ -1,13 +1,8 @@
 -- A script with the work beside it is one session.
 use Rattle.std.proofs.Common.{◌≡◌, List, [], ◌∷◌, ◌++◌, refl, sym, ◌∙◌}
 use Rattle.df_theory.specs.Shape.{Shape}
-use Rattle.df_model.specs.Work.{Work}
-use Rattle.df_model.specs.Memory.{memory_of}
-use Rattle.df_model.specs.Commands.{Command}
-use Rattle.df_model.specs.Supply.{Codec, Shown, last_shown, last_work, next, shown_after}
-use Rattle.df_pace.specs.declared.pace.Pace.{Pace}
-use Rattle.df_pace.specs.Loop.{Stand, all_by_loop, by_script, all_commands, stand_after, by_loop, by_script, commands_due, passed}
-use Rattle.df_pace.specs.Laws.{IsOneSession, SessionLaw}
+use Rattle.df_model.specs.{Work.{Work}, Memory.{memory_of}, Commands.{Command}, Supply.{Codec, Shown, last_shown, last_work, next, shown_after}}
+use Rattle.df_pace.specs.{declared.pace.Pace.{Pace}, Loop.{Stand, all_by_loop, by_script, all_commands, stand_after, by_loop, commands_due, passed}, Laws.{IsOneSession, SessionLaw}}
 
 module _ (sh : Shape) (codec : Codec) where
   work_join : (shown : Shown) (w : Work) (cs ds : List Command) → last_work sh codec shown w (cs ++ ds) ≡ last_work sh codec (last_shown sh codec shown w cs) (last_work sh codec shown w cs) ds

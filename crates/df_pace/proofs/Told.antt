@@ -1,24 +1,9 @@
 -- What is told of the log: the work beside a script changes nothing of it.
-use Rattle.std.proofs.Common.{◌≡◌, ℕ, zero, suc, ◌+◌, ◌-◌, ◌≤◌, min, Bool, true, false, List, [], ◌∷◌, ◌++◌, length, take, drop, Option, Some, None, Result, Ok, Err, replicate, refl, sym, ◌∙◌, ap, subst, arith, length-drop}
-use Rattle.std.proofs.lemmas.List.{take_all}
+use Rattle.std.proofs.{Common.{◌≡◌, ℕ, zero, suc, ◌+◌, ◌-◌, ◌≤◌, min, Bool, true, false, List, [], ◌∷◌, ◌++◌, length, take, drop, Option, Some, None, Result, Ok, Err, replicate, refl, sym, ◌∙◌, ap, subst, arith, length-drop}, lemmas.List.{take_all}}
 use Rattle.df_layout.specs.declared.damage.Class.{Class}
-use Rattle.df_theory.specs.Units.{Message, Parts, ReplyPlace, Session, Units, overlay}
-use Rattle.df_theory.specs.Sessions.{sessions_after}
-use Rattle.df_theory.specs.Shape.{Shape}
-use Rattle.df_theory.specs.View.{View, head, sessions}
-use Rattle.df_theory.proofs.Laws.{sessions-drop}
-use Rattle.df_model.specs.Work.{Request, Running, Work}
-use Rattle.df_model.specs.Memory.{Memory, course, course_of, memory_of, stored_sum}
-use Rattle.df_model.specs.Refusals.{begin_refusals, first_refusal, is_running, steps_left}
-use Rattle.df_model.specs.Making.{needed_of}
-use Rattle.df_model.specs.After.{after_check, after_running, after_step_of, begun, outcome, to_check, with_running}
-use Rattle.df_model.specs.Commands.{Advance, Begin, Scrub, supplied_sum, supplied_verdict}
-use Rattle.df_model.specs.Supply.{Codec, Shown, class_at, reply_given, step_puts, supplied, trailer_puts}
-use Rattle.df_model.specs.declared.answers.Verdict.{Verdict}
-use Rattle.df_model.specs.declared.answers.Verdict.TheVariants.{Sound, Failing}
-use Rattle.df_pace.specs.declared.pace.Pace.{Pace}
-use Rattle.df_pace.specs.Loop.{Stand, all_by_loop, begin_due, begin_if, by_loop, course_at, is_begin_due, scrubs_due, stand_after, steps_due}
-use Rattle.df_pace.proofs.Lists.{loop_join}
+use Rattle.df_theory.{specs.{Units.{Message, Parts, ReplyPlace, Session, Units, overlay}, Sessions.{sessions_after}, Shape.{Shape}, View.{View, head, sessions}}, proofs.Laws.{sessions-drop}}
+use Rattle.df_model.specs.{Work.{Request, Running, Work}, Memory.{Memory, course, course_of, memory_of, stored_sum}, Refusals.{begin_refusals, first_refusal, is_running, steps_left}, Making.{needed_of}, After.{after_check, after_running, after_step_of, begun, outcome, to_check, with_running}, Commands.{Advance, Begin, Scrub, supplied_sum, supplied_verdict}, Supply.{Codec, Shown, class_at, reply_given, step_puts, supplied, trailer_puts}, declared.answers.Verdict.{Verdict}, declared.answers.Verdict.TheVariants.{Sound, Failing}}
+use Rattle.df_pace.{specs.{declared.pace.Pace.{Pace}, Loop.{Stand, all_by_loop, begin_due, begin_if, by_loop, course_at, is_begin_due, scrubs_due, stand_after, steps_due}}, proofs.Lists.{loop_join}}
 
 -- ---- what is told
 

@@ -1,17 +1,9 @@
 -- The sectors of a place are sectors of the disk, and what is read of them is what the place shows.
-use Rattle.std.proofs.Common.{◌≡◌, ◌≢◌, ℕ, ◌/◌, ◌%◌, ◌<◌, ◌≤◌, List, length, Option, Some, None, refl, sym, ◌∙◌, ap, subst, arith}
-use Rattle.std.specs.Prelude.{Result}
+use Rattle.std.{proofs.Common.{◌≡◌, ◌≢◌, ℕ, ◌/◌, ◌%◌, ◌<◌, ◌≤◌, List, length, Option, Some, None, refl, sym, ◌∙◌, ap, subst, arith}, specs.Prelude.{Result}}
 use Rattle.df_base.specs.Image.{Image, bytes_at}
 use Rattle.df_disk.specs.Told.{AreSectors, Shows, Told}
-use Rattle.df_layout.specs.declared.damage.Class.{Class}
-use Rattle.df_layout.specs.declared.layout.Layout.{Layout}
-use Rattle.df_layout.specs.declared.places.Place.{Place}
-use Rattle.df_layout.specs.declared.places.Zone.{Zone}
-use Rattle.df_layout.specs.declared.places.Zone.TheVariants.{Superblock, WalHeaders, WalPrepares, ClientReplies, Grid}
-use Rattle.df_layout.specs.Spans.{HasPlace, span_of}
-use Rattle.df_layout.proofs.Laws.{lies_inside, zones_follow}
-use Rattle.df_format.specs.declared.header.Header.{Header}
-use Rattle.df_format.specs.Shown.{bytes_of, part_in, class_at, class_of, header_or_class, unit_at, unit_in}
+use Rattle.df_layout.{specs.{declared.damage.Class.{Class}, declared.layout.Layout.{Layout}, declared.places.Place.{Place}, declared.places.Zone.{Zone}, declared.places.Zone.TheVariants.{Superblock, WalHeaders, WalPrepares, ClientReplies, Grid}, Spans.{HasPlace, span_of}}, proofs.Laws.{lies_inside, zones_follow}}
+use Rattle.df_format.specs.{declared.header.Header.{Header}, Shown.{bytes_of, part_in, class_at, class_of, header_or_class, unit_at, unit_in}}
 use Rattle.df_buffers.specs.Rooms.{room_size}
 use Rattle.df_places.specs.Units.{IsSeen, header_at}
 

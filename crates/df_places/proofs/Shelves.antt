@@ -1,30 +1,11 @@
 -- What was read into a room is what the disk shows at the place.
-use Rattle.std.proofs.Common.{◌≡◌, ◌≢◌, ℕ, List, ◌++◌, length, take, drop, arith, Option, Some, None, refl, sym, ◌∙◌, ap, subst}
-use Rattle.std.specs.Prelude.{Result}
-use Rattle.std.proofs.lemmas.Grind.{common_steps}
+use Rattle.std.{proofs.{Common.{◌≡◌, ◌≢◌, ℕ, List, ◌++◌, length, take, drop, arith, Option, Some, None, refl, sym, ◌∙◌, ap, subst}, lemmas.Grind.{common_steps}}, specs.Prelude.{Result}}
 use Rattle.df_base.specs.Fields.{AreBytes}
 use Rattle.df_disk.specs.Told.{Shows, Told}
-use Rattle.df_layout.specs.declared.damage.Class.{Class}
-use Rattle.df_layout.specs.declared.layout.Layout.{Layout}
-use Rattle.df_layout.specs.declared.places.Place.{Place}
-use Rattle.df_layout.specs.declared.places.Zone.{Zone}
-use Rattle.df_layout.specs.declared.places.Zone.TheVariants.{Superblock, WalHeaders, WalPrepares, ClientReplies, Grid}
-use Rattle.df_layout.specs.Spans.{span_of}
-use Rattle.df_format.specs.declared.kind.Kind.{Kind}
-use Rattle.df_format.specs.declared.kind.Kind.TheVariants.{Reserved, Prepare, Reply, Block, Trailer}
-use Rattle.df_format.specs.declared.header.Header.{Header}
-use Rattle.df_format.specs.Message.{Message}
-use Rattle.df_format.specs.Shown.{bytes_of, class_at, class_of, header_or_class, unit_at, unit_in}
-use Rattle.df_format.specs.UnitLaws.{place_size}
-use Rattle.df_format.proofs.Laws.{one_unit}
-use Rattle.df_buffers.specs.declared.identity.Identity.{Identity}
-use Rattle.df_buffers.specs.Found.{FindsKind, IsValidUnit, class_for}
-use Rattle.df_buffers.specs.Rooms.{FillsRoom, StandsIn, room_size}
-use Rattle.df_buffers.specs.Sounds.{Holding}
-use Rattle.df_buffers.proofs.Laws.{is_no_ring}
-use Rattle.df_places.specs.Shelves.{IsRead, shown_at}
-use Rattle.df_places.specs.Units.{IsThere as IsThereSeen}
-use Rattle.df_places.proofs.Rooms.{place_part, read_part}
+use Rattle.df_layout.specs.{declared.damage.Class.{Class}, declared.layout.Layout.{Layout}, declared.places.Place.{Place}, declared.places.Zone.{Zone}, declared.places.Zone.TheVariants.{Superblock, WalHeaders, WalPrepares, ClientReplies, Grid}, Spans.{span_of}}
+use Rattle.df_format.{specs.{declared.kind.Kind.{Kind}, declared.kind.Kind.TheVariants.{Reserved, Prepare, Reply, Block, Trailer}, declared.header.Header.{Header}, Message.{Message}, Shown.{bytes_of, class_at, class_of, header_or_class, unit_at, unit_in}, UnitLaws.{place_size}}, proofs.Laws.{one_unit}}
+use Rattle.df_buffers.{specs.{declared.identity.Identity.{Identity}, Found.{FindsKind, IsValidUnit, class_for}, Rooms.{FillsRoom, StandsIn, room_size}, Sounds.{Holding}}, proofs.Laws.{is_no_ring}}
+use Rattle.df_places.{specs.{Shelves.{IsRead, shown_at}, Units.{IsThere as IsThereSeen}}, proofs.Rooms.{place_part, read_part}}
 
 -- bytes that were lent and not written are as they were
 pub unwritten : (w bytes : List ℕ) → w ≡ bytes → take (length bytes) (w ++ drop (length w) bytes) ≡ bytes

@@ -1,26 +1,11 @@
 -- The events of the write of a sound room's unit are steps of the theory: the unit is put into its place, and synced.
-use Rattle.std.proofs.Common.{◌≡◌, ℕ, List, Some, refl, sym, ◌∙◌, ap, subst, take}
-use Rattle.std.proofs.lemmas.Option.{same_Some}
-use Rattle.df_layout.specs.declared.layout.Layout.{Layout}
-use Rattle.df_layout.specs.declared.places.Place.{Place}
-use Rattle.df_layout.specs.declared.places.Zone.{Zone}
-use Rattle.df_layout.specs.declared.places.Zone.TheVariants.{WalHeaders}
-use Rattle.df_layout.specs.Spans.{span_of}
-use Rattle.df_format.specs.declared.kind.Kind.{Kind}
-use Rattle.df_format.specs.Message.{Message, sectors_end}
-use Rattle.df_format.specs.Own.{own_place}
-use Rattle.df_format.specs.Valid.{IsUnit}
-use Rattle.df_format.specs.Brings.{Brings}
-use Rattle.df_buffers.specs.Rooms.{StandsIn}
-use Rattle.df_buffers.specs.Sounds.{BringsOwn, Holding}
-use Rattle.df_buffers.proofs.Laws.{is_no_ring}
-use Rattle.df_theory.specs.Device.{AreSteps, IsPut}
+use Rattle.std.proofs.{Common.{◌≡◌, ℕ, List, Some, refl, sym, ◌∙◌, ap, subst, take}, lemmas.Option.{same_Some}}
+use Rattle.df_layout.specs.{declared.layout.Layout.{Layout}, declared.places.Place.{Place}, declared.places.Zone.{Zone}, declared.places.Zone.TheVariants.{WalHeaders}, Spans.{span_of}}
+use Rattle.df_format.specs.{declared.kind.Kind.{Kind}, Message.{Message, sectors_end}, Own.{own_place}, Valid.{IsUnit}, Brings.{Brings}}
+use Rattle.df_buffers.{specs.{Rooms.{StandsIn}, Sounds.{BringsOwn, Holding}}, proofs.Laws.{is_no_ring}}
+use Rattle.df_theory.specs.{Device.{AreSteps, IsPut}, Units.{AnyUnit, BlockPlace, CopyPlace, HeaderPlace, PreparePlace, ReplyPlace}, UnitLog.{put_one}}
 use Rattle.df_theory.specs.Units
-use Rattle.df_theory.specs.Units.{AnyUnit, BlockPlace, CopyPlace, HeaderPlace, PreparePlace, ReplyPlace}
-use Rattle.df_theory.specs.UnitLog.{put_one}
-use Rattle.df_units.specs.Format.{format_of}
-use Rattle.df_units.specs.Meaning.{place_of, unit_of}
-use Rattle.df_units.proofs.Laws.{block_put, prepare_put, reply_put}
+use Rattle.df_units.{specs.{Format.{format_of}, Meaning.{place_of, unit_of}}, proofs.Laws.{block_put, prepare_put, reply_put}}
 use Rattle.df_places.specs.Units.{put_events, put_steps, unit_events, unit_steps}
 
 -- a unit has one own place in a zone

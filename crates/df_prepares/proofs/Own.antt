@@ -1,12 +1,7 @@
 -- A sound prepare stands in the slot that its header names.
 use Rattle.std.proofs.Common.{◌≡◌, sym, subst}
-use Rattle.df_layout.specs.declared.layout.Layout.{Layout}
-use Rattle.df_layout.specs.declared.places.Place.{Place}
-use Rattle.df_layout.specs.declared.places.Zone.{Zone}
-use Rattle.df_layout.specs.declared.places.Zone.TheVariants.{WalPrepares}
-use Rattle.df_format.specs.declared.kind.Kind.TheVariants.{Prepare as AsPrepare}
-use Rattle.df_format.specs.Valid.{IsInSlot, IsUnit, Belongs}
-use Rattle.df_format.proofs.Laws.{valid_belongs}
+use Rattle.df_layout.specs.{declared.layout.Layout.{Layout}, declared.places.Place.{Place}, declared.places.Zone.{Zone}, declared.places.Zone.TheVariants.{WalPrepares}}
+use Rattle.df_format.{specs.{declared.kind.Kind.TheVariants.{Prepare as AsPrepare}, Valid.{IsInSlot, IsUnit, Belongs}}, proofs.Laws.{valid_belongs}}
 use Rattle.df_buffers.specs.Sounds.{Holding, IsSound}
 use Rattle.df_prepares.specs.Slots.{slot_place, IsInOwnSlot}
 

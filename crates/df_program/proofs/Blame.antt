@@ -2,11 +2,9 @@
 use Rattle.std.proofs.Common.{◌≡◌, ◌⊎◌, ◌∙◌, ℕ, Bool, false, List, Option, Err, inl, inr, refl, sym, subst}
 use Rattle.df_base.specs.Causes.{Blamed, IsBlamed, Rose}
 use Rattle.df_inspect.specs.Opening.{open_refusal}
-use Rattle.df_model.specs.declared.errors.OpenError.{OpenError}
+use Rattle.df_model.specs.{declared.errors.OpenError.{OpenError}, Faults.{is_open_fault}}
 use Rattle.df_model.specs.declared.errors.OpenError.TheVariants as opens
-use Rattle.df_model.specs.Faults.{is_open_fault}
-use Rattle.df_program.specs.One.{Faults, HasCausesOfOne, NoneFailed}
-use Rattle.df_program.specs.Telling.{Blames, PrintsError, Writes}
+use Rattle.df_program.specs.{One.{Faults, HasCausesOfOne, NoneFailed}, Telling.{Blames, PrintsError, Writes}}
 
 -- ---- one fault
 

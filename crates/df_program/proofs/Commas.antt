@@ -1,13 +1,6 @@
 -- Five numbers with commas between them, read from the front.
-use Rattle.std.proofs.Common.{◌≡◌, ◌≢◌, ℕ, false, true, ◌^◌, ◌<◌, List, [], ◌∷◌, ◌++◌, ◌↔◌, length, get_or, refl, sym, ◌∙◌, arith}
-use Rattle.std.specs.Prelude.{decimal, Option, IfSome, IfNone, Result, Ok, Err, IsOk, IfOk}
-use Rattle.std.specs.Result.{result_ok}
-use Rattle.std.specs.Str.Parse.{AllDigits}
-use Rattle.std.proofs.lemmas.Str.Parse.{digit_from_value, digit_at}
-use Rattle.std.proofs.lemmas.Fmt.{decimal_is_IsNumeral, decimal_injective}
-use Rattle.df_layout.specs.declared.layout.Layout.{Layout}
-use Rattle.df_layout.specs.declared.fields.Field.{Field}
-use Rattle.df_layout.specs.Limits.{AreWithinLimits}
+use Rattle.std.{proofs.{Common.{◌≡◌, ◌≢◌, ℕ, false, true, ◌^◌, ◌<◌, List, [], ◌∷◌, ◌++◌, ◌↔◌, length, get_or, refl, sym, ◌∙◌, arith}, lemmas.Str.Parse.{digit_from_value, digit_at}, lemmas.Fmt.{decimal_is_IsNumeral, decimal_injective}}, specs.{Prelude.{decimal, Option, IfSome, IfNone, Result, Ok, Err, IsOk, IfOk}, Result.{result_ok}, Str.Parse.{AllDigits}}}
+use Rattle.df_layout.specs.{declared.layout.Layout.{Layout}, declared.fields.Field.{Field}, Limits.{AreWithinLimits}}
 use Rattle.df_program.specs.Names.{numbers_of}
 
 are_digits : (n : ℕ) → n < 2 ^ 32 → AllDigits 10 (decimal n)

@@ -2,11 +2,8 @@
 use Rattle.std.proofs.Common.{◌≡◌, ◌≤◌, ℕ, Bool, List, Option, Err, inl, inr, arith, subst}
 use Rattle.df_base.specs.Causes.{Blamed, IsBlamed, Rose}
 use Rattle.df_inspect.specs.Opening.{open_refusal}
-use Rattle.df_model.specs.declared.errors.OpenError.{OpenError}
-use Rattle.df_model.specs.Faults.{is_open_fault}
-use Rattle.df_program.specs.Telling.{Blames, PrintsError, Writes}
-use Rattle.df_program.specs.Two.{Faults, HasCausesOfTwo}
-use Rattle.df_program.proofs.Blame.{open_fault, text_ends}
+use Rattle.df_model.specs.{declared.errors.OpenError.{OpenError}, Faults.{is_open_fault}}
+use Rattle.df_program.{specs.{Telling.{Blames, PrintsError, Writes}, Two.{Faults, HasCausesOfTwo}}, proofs.Blame.{open_fault, text_ends}}
 
 module _ {S : Type 0} (disks sink : S) (before now : Faults) (status : S) (blame : Blames sink before.sink now.sink status) where
   -- neither disk failed

@@ -1,13 +1,7 @@
 -- A name is of one layout: no number begins as `small` and `large` do, and five numbers are read in one way.
-use Rattle.std.proofs.Common.{◌≡◌, ℕ, ◌≤◌, ◌<◌, List, [], ◌∷◌, ◌++◌, length, get_or, inl, inr, refl, sym, ap, ◌∙◌, arith}
-use Rattle.std.specs.Prelude.{decimal, codes}
-use Rattle.std.specs.Str.Parse.{AllDigits}
-use Rattle.std.proofs.lemmas.Str.Parse.{digit_from_value}
-use Rattle.std.proofs.lemmas.Fmt.{decimal_is_IsNumeral}
-use Rattle.df_layout.specs.declared.layout.Layout.{Layout}
-use Rattle.df_layout.proofs.Laws.{same_layout}
-use Rattle.df_program.specs.Names.{HasNumbers, OneLayout, numbers_of}
-use Rattle.df_program.proofs.Commas.{fit, from_message_size, from_clients, from_block_size, from_blocks, Five, one_five}
+use Rattle.std.{proofs.{Common.{◌≡◌, ℕ, ◌≤◌, ◌<◌, List, [], ◌∷◌, ◌++◌, length, get_or, inl, inr, refl, sym, ap, ◌∙◌, arith}, lemmas.Str.Parse.{digit_from_value}, lemmas.Fmt.{decimal_is_IsNumeral}}, specs.{Prelude.{decimal, codes}, Str.Parse.{AllDigits}}}
+use Rattle.df_layout.{specs.declared.layout.Layout.{Layout}, proofs.Laws.{same_layout}}
+use Rattle.df_program.{specs.Names.{HasNumbers, OneLayout, numbers_of}, proofs.Commas.{fit, from_message_size, from_clients, from_block_size, from_blocks, Five, one_five}}
 
 -- what begins with digits begins with one
 first_digit : (ds rest : List ℕ) (x : ℕ) (xs : List ℕ) → AllDigits 10 ds → 0 < length ds → x ∷ xs ≡ ds ++ rest → (48 ≤ x) × (x ≤ 57)

@@ -1,10 +1,7 @@
 -- The best of the first copies, one copy further.
-use Rattle.std.proofs.Common.{◌≡◌, inl, inr, ℕ, ◌+◌, ◌≤◌, ◌<◌, Bool, true, false, nat_lt, if◌then◌else◌, Option, Some, None, refl, sym, ◌∙◌, ap, subst, arith}
-use Rattle.std.proofs.lemmas.Bool.{cases_lt, cases_eq}
+use Rattle.std.proofs.{Common.{◌≡◌, inl, inr, ℕ, ◌+◌, ◌≤◌, ◌<◌, Bool, true, false, nat_lt, if◌then◌else◌, Option, Some, None, refl, sym, ◌∙◌, ap, subst, arith}, lemmas.Bool.{cases_lt, cases_eq}}
 use Rattle.df_format.specs.Copies.{Content, rank_of_copy}
-use Rattle.df_quorum.specs.Quorum.{Copies, CopiesAgree, IfChosen}
-use Rattle.df_quorum.specs.Best.{IsCandidate, Votes, better_of, RanksBelow, BestAt, Best}
-use Rattle.df_quorum.proofs.Choices.{same_content, same_rank, agree_at}
+use Rattle.df_quorum.{specs.{Quorum.{Copies, CopiesAgree, IfChosen}, Best.{IsCandidate, Votes, better_of, RanksBelow, BestAt, Best}}, proofs.Choices.{same_content, same_rank, agree_at}}
 
 -- a candidate at this copy is the content that this copy shows
 at_last : (copies : Copies) (n i : ℕ) (c d : Content) → i ≡ n → IsCandidate copies n c → IsCandidate copies i d → rank_of_copy d ≡ rank_of_copy c

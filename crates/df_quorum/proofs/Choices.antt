@@ -1,9 +1,7 @@
 -- The laws of the choice.
-use Rattle.std.proofs.Common.{◌≡◌, inl, inr, ℕ, zero, suc, ◌≤◌, ◌<◌, ◌⊎◌, Option, Some, sym, ◌∙◌, ap, arith}
-use Rattle.std.proofs.lemmas.Bool.{cases_lt, cases_eq}
+use Rattle.std.proofs.{Common.{◌≡◌, inl, inr, ℕ, zero, suc, ◌≤◌, ◌<◌, ◌⊎◌, Option, Some, sym, ◌∙◌, ap, arith}, lemmas.Bool.{cases_lt, cases_eq}}
 use Rattle.df_format.specs.Copies.{Content, rank_of_copy}
-use Rattle.df_quorum.specs.Quorum.{Copies, CopiesAgree, IsChosenContent}
-use Rattle.df_quorum.specs.Laws.{OneLaw, ThreeLaw, TwoLaw, SameLaw}
+use Rattle.df_quorum.specs.{Quorum.{Copies, CopiesAgree, IsChosenContent}, Laws.{OneLaw, ThreeLaw, TwoLaw, SameLaw}}
 
 -- one place shows one content
 pub same_content : (copies : Copies) (n : ℕ) (c d : Content) → copies n ≡ Some c → copies n ≡ Some d → c ≡ d

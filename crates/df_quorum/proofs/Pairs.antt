@@ -1,6 +1,5 @@
 -- Pairs of sequence and boot are in the order of their ranks.
-use Rattle.std.proofs.Common.{inl, inr, ◌≡◌, ◌<◌, ◌+◌, ◌*◌, ◌&&◌, ◌==◌, ℕ, Bool, true, false, nat_lt, refl, sym, arith}
-use Rattle.std.proofs.lemmas.Bool.{and_parts, and_from, or_cases, or_left, or_right, ltb-true, lt-ltb, eqb-true, eq-eqb, cases_lt}
+use Rattle.std.proofs.{Common.{inl, inr, ◌≡◌, ◌<◌, ◌+◌, ◌*◌, ◌&&◌, ◌==◌, ℕ, Bool, true, false, nat_lt, refl, sym, arith}, lemmas.Bool.{and_parts, and_from, or_cases, or_left, or_right, ltb-true, lt-ltb, eqb-true, eq-eqb, cases_lt}}
 use Rattle.df_quorum.specs.Best.{is_below}
 
 same_answer : (a b : Bool) → (a ≡ true → b ≡ true) → (b ≡ true → a ≡ true) → a ≡ b

@@ -1,20 +1,10 @@
 -- A superblock that an open takes is of the version that is asked for and can be used, and so back.
-use Rattle.std.proofs.Common.{inl, inr, ℕ, ◌≡◌, ◌==◌, Some, None, sym, ◌∙◌, subst}
-use Rattle.std.proofs.lemmas.Bool.{cases_eq, cond-true, cond-false, eq-eqb, ne_eqb}
-use Rattle.df_format.specs.Copies.{content_with}
-use Rattle.df_format.specs.declared.superblock.SuperFields.{SuperFields}
-use Rattle.df_format.specs.declared.superblock.SuperFault.TheVariants.{Version as OtherVersion}
-use Rattle.df_format.specs.SuperRules.{IsSuper, fault_of}
-use Rattle.df_format.proofs.Laws.{faults}
-use Rattle.df_theory.specs.Trailer.{IsReference}
-use Rattle.df_theory.specs.View.{PassesTests}
-use Rattle.df_units.specs.Format.{shape_as}
-use Rattle.df_units.specs.Meaning.{content_of, layout_of}
-use Rattle.df_units.specs.Superblocks.{AreFieldsOf}
-use Rattle.df_units.proofs.Laws.{usable_passes}
+use Rattle.std.proofs.{Common.{inl, inr, ℕ, ◌≡◌, ◌==◌, Some, None, sym, ◌∙◌, subst}, lemmas.Bool.{cases_eq, cond-true, cond-false, eq-eqb, ne_eqb}}
+use Rattle.df_format.{specs.{Copies.{content_with}, declared.superblock.SuperFields.{SuperFields}, declared.superblock.SuperFault.TheVariants.{Version as OtherVersion}, SuperRules.{IsSuper, fault_of}}, proofs.Laws.{faults}}
+use Rattle.df_theory.specs.{Trailer.{IsReference}, View.{PassesTests}}
+use Rattle.df_units.{specs.{Format.{shape_as}, Meaning.{content_of, layout_of}, Superblocks.{AreFieldsOf}}, proofs.Laws.{usable_passes}}
 use Rattle.df_trailer.specs.Text.{parse_of}
-use Rattle.df_rooms.specs.State.{shape}
-use Rattle.df_rooms.specs.declared.file.DataFile.{DataFile}
+use Rattle.df_rooms.specs.{State.{shape}, declared.file.DataFile.{DataFile}}
 use Rattle.df_recovery.specs.Opening.{fault_as}
 
 pub super_as : (version : ℕ) (f : SuperFields) → fault_as version f ≡ None → (f.version ≡ version) × IsSuper f

@@ -1,46 +1,21 @@
 -- The checkpoint of a superblock: with the trailer that was read, or with none.
-use Rattle.std.proofs.Common.{◌≡◌, ◌≢◌, inl, inr, ℕ, zero, suc, ◌-◌, ◌<◌, List, [], ◌∷◌, Option, Some, None, refl, sym, ◌∙◌, ap, subst, arith}
-use Rattle.std.specs.Prelude.{Ok, Err, IfSome}
-use Rattle.df_base.specs.Image.{Image}
-use Rattle.df_base.proofs.Laws.{some_number}
+use Rattle.std.{proofs.Common.{◌≡◌, ◌≢◌, inl, inr, ℕ, zero, suc, ◌-◌, ◌<◌, List, [], ◌∷◌, Option, Some, None, refl, sym, ◌∙◌, ap, subst, arith}, specs.Prelude.{Ok, Err, IfSome}}
+use Rattle.df_base.{specs.Image.{Image}, proofs.Laws.{some_number}}
 use Rattle.df_disk.specs.Told.{Told}
-use Rattle.df_layout.specs.declared.fields.Field.TheVariants.{Pending}
-use Rattle.df_layout.specs.declared.layout.Layout.{Layout}
-use Rattle.df_format.specs.Copies.{content_with}
-use Rattle.df_format.specs.SuperRules.{IsSuper}
-use Rattle.df_format.specs.declared.superblock.SuperFields.{SuperFields}
+use Rattle.df_layout.specs.{declared.fields.Field.TheVariants.{Pending}, declared.layout.Layout.{Layout}}
+use Rattle.df_format.specs.{Copies.{content_with}, SuperRules.{IsSuper}, declared.superblock.SuperFields.{SuperFields}}
 use Rattle.df_sessions.specs.Requests.{sessions_of}
 use Rattle.df_theory.specs.Units
-use Rattle.df_theory.specs.Sessions.{Has, Tracks}
-use Rattle.df_theory.specs.Trailer.{InChain, IsReference, IsTrailer, no_parts, text_of}
-use Rattle.df_model.specs.Blocks.{addresses, entries}
-use Rattle.df_model.specs.Supply.{Shown}
+use Rattle.df_theory.specs.{Sessions.{Has, Tracks}, Trailer.{InChain, IsReference, IsTrailer, no_parts, text_of}}
+use Rattle.df_model.specs.{Blocks.{addresses, entries}, Supply.{Shown}}
 use Rattle.df_model.specs.declared.errors.OpenError.TheVariants as OpenError
-use Rattle.df_units.specs.Bytes.{unit_at}
-use Rattle.df_units.specs.Meaning.{layout_of}
-use Rattle.df_units.specs.Superblocks.{AreFieldsOf}
-use Rattle.df_units.proofs.Laws.{usable_passes}
-use Rattle.df_trailer.specs.Reading.{HasRead}
-use Rattle.df_trailer.specs.Rooms.{AreParts}
-use Rattle.df_trailer.specs.Sessions.{AreReadSessions}
-use Rattle.df_trailer.specs.Text.{parse_of, parts_of}
+use Rattle.df_units.{specs.{Bytes.{unit_at}, Meaning.{layout_of}, Superblocks.{AreFieldsOf}}, proofs.Laws.{usable_passes}}
+use Rattle.df_trailer.specs.{Reading.{HasRead}, Rooms.{AreParts}, Sessions.{AreReadSessions}, Text.{parse_of, parts_of}, declared.reader.Reader.{Reader}}
 use Rattle.df_trailer.specs.declared.parts.Parts as rooms
-use Rattle.df_trailer.specs.declared.reader.Reader.{Reader}
-use Rattle.df_grid.specs.Grid.{GridState}
-use Rattle.df_grid.specs.Reads.{shown_of}
-use Rattle.df_grid.specs.Table.{IsIdle, no_blocks}
-use Rattle.df_checkpoint.specs.Chain.{OfTold, content_in, error_of}
-use Rattle.df_checkpoint.specs.Reads.{ChainAnswer, IsAdopted, blocks_read}
-use Rattle.df_checkpoint.specs.Waiting.{IsPendingReply, IsUntracked}
-use Rattle.df_checkpoint.specs.declared.fault.TrailerFault.{TrailerFault}
-use Rattle.df_checkpoint.specs.declared.fault.TrailerFault.TheVariants.{BadField, Damaged, DiskFault}
-use Rattle.df_checkpoint.proofs.Laws.{its_text, some_chain, sessions_back, has_is, has_not}
-use Rattle.df_rooms.specs.State.{shape}
-use Rattle.df_rooms.specs.declared.file.DataFile.{DataFile}
-use Rattle.df_rooms.specs.declared.trailer_rooms.ReaderRoom.{ReaderRoom}
-use Rattle.df_recovery.specs.Checkpoints.{Base, HasCheckpoint, HasText, RefusesTrailer, TellsCheckpoint, TellsText}
-use Rattle.df_recovery.specs.Scanning.{AreRoomsOf, FitsFile}
-use Rattle.df_recovery.proofs.Tracked.{tracked, none_tracked}
+use Rattle.df_grid.specs.{Grid.{GridState}, Reads.{shown_of}, Table.{IsIdle, no_blocks}}
+use Rattle.df_checkpoint.{specs.{Chain.{OfTold, content_in, error_of}, Reads.{ChainAnswer, IsAdopted, blocks_read}, Waiting.{IsPendingReply, IsUntracked}, declared.fault.TrailerFault.{TrailerFault}, declared.fault.TrailerFault.TheVariants.{BadField, Damaged, DiskFault}}, proofs.Laws.{its_text, some_chain, sessions_back, has_is, has_not}}
+use Rattle.df_rooms.specs.{State.{shape}, declared.file.DataFile.{DataFile}, declared.trailer_rooms.ReaderRoom.{ReaderRoom}}
+use Rattle.df_recovery.{specs.{Checkpoints.{Base, HasCheckpoint, HasText, RefusesTrailer, TellsCheckpoint, TellsText}, Scanning.{AreRoomsOf, FitsFile}}, proofs.Tracked.{tracked, none_tracked}}
 
 -- ---- the rooms
 

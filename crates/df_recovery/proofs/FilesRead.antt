@@ -1,36 +1,18 @@
 -- What was read of a file is so in the theory's words.
-use Rattle.std.proofs.Common.{◌≡◌, inl, inr, ℕ, zero, suc, ◌<◌, ◌≤◌, Bool, true, false, List, [], ◌∷◌, length, get_or, Option, Some, None, refl, sym, ◌∙◌, ap, subst, arith}
-use Rattle.std.specs.Prelude.{nat_lt}
-use Rattle.std.specs.List.{position, position_or_len}
+use Rattle.std.{proofs.{Common.{◌≡◌, inl, inr, ℕ, zero, suc, ◌<◌, ◌≤◌, Bool, true, false, List, [], ◌∷◌, length, get_or, Option, Some, None, refl, sym, ◌∙◌, ap, subst, arith}, lemmas.Bool.{cases_Bool, cases_lt}, lemmas.List.Quantifiers.{position-Some}, lemmas.List.Sums.{fails_before_first}}, specs.{Prelude.{nat_lt}, List.{position, position_or_len}}}
 use borrow.Author.Tests.{ltb-false}
-use Rattle.std.proofs.lemmas.Bool.{cases_Bool, cases_lt}
-use Rattle.std.proofs.lemmas.List.Quantifiers.{position-Some}
-use Rattle.std.proofs.lemmas.List.Sums.{fails_before_first}
 use Rattle.df_disk.specs.Told.{Told}
 use Rattle.df_layout.specs.declared.layout.Layout.{Layout}
-use Rattle.df_format.specs.Copies.{Content, content_at, content_with}
-use Rattle.df_format.specs.SuperRules.{IsSuper}
-use Rattle.df_recovery.proofs.Asked.{passes_as, super_as}
-use Rattle.df_quorum.specs.Quorum.{AreMembers, IsChosenContent}
-use Rattle.df_quorum.proofs.Laws.{one_law}
+use Rattle.df_format.specs.{Copies.{Content, content_at, content_with}, SuperRules.{IsSuper}}
+use Rattle.df_recovery.{proofs.{Asked.{passes_as, super_as}, Written.{super_is_written_as}}, specs.{Checkpoints.{Base, base_of}, Finding.{FileIsRead, IsOfFile, Read, lowest_of, or_first}}}
+use Rattle.df_quorum.{specs.Quorum.{AreMembers, IsChosenContent}, proofs.Laws.{one_law}}
 use Rattle.df_sessions.specs.Requests.{sessions_of}
 use Rattle.df_theory.specs.Units
-use Rattle.df_theory.specs.Opens.{IsLowest, IsReadable}
-use Rattle.df_theory.specs.Trailer.{IsReference}
-use Rattle.df_theory.specs.View.{PassesTests}
-use Rattle.df_units.specs.Bytes.{copy_unit, unit_at}
-use Rattle.df_units.specs.Meaning.{content_of, layout_of}
-use Rattle.df_units.specs.Superblocks.{AreFieldsOf}
-use Rattle.df_units.proofs.Laws.{choice_chosen, one_content, shown_checks, copy_parts}
-use Rattle.df_journal.specs.Shows.{TellsRings}
-use Rattle.df_journal.proofs.Laws.{rings_shown as slots_shown}
-use Rattle.df_replies.specs.Shown.{ShowsReplies}
-use Rattle.df_replies.proofs.Laws.{scanned_shown as replies_shown}
-use Rattle.df_recovery.specs.Checkpoints.{Base, base_of}
-use Rattle.df_recovery.specs.Finding.{FileIsRead, IsOfFile, Read, lowest_of, or_first}
-use Rattle.df_rooms.specs.State.{shape}
-use Rattle.df_rooms.specs.declared.file.DataFile.{DataFile}
-use Rattle.df_recovery.proofs.Written.{super_is_written_as}
+use Rattle.df_theory.specs.{Opens.{IsLowest, IsReadable}, Trailer.{IsReference}, View.{PassesTests}}
+use Rattle.df_units.{specs.{Bytes.{copy_unit, unit_at}, Meaning.{content_of, layout_of}, Superblocks.{AreFieldsOf}}, proofs.Laws.{choice_chosen, one_content, shown_checks, copy_parts}}
+use Rattle.df_journal.{specs.Shows.{TellsRings}, proofs.Laws.{rings_shown as slots_shown}}
+use Rattle.df_replies.{specs.Shown.{ShowsReplies}, proofs.Laws.{scanned_shown as replies_shown}}
+use Rattle.df_rooms.specs.{State.{shape}, declared.file.DataFile.{DataFile}}
 
 -- ---- the lowest member
 

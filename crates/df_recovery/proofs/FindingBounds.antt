@@ -1,39 +1,17 @@
 -- How many prepares wait after a tail that is found: by an image that shows what the tables say.
-use Rattle.std.proofs.Common.{◌≡◌, ◌≢◌, ◌^◌, inl, inr, ℕ, ◌+◌, ◌<◌, ◌≤◌, List, [], ◌∷◌, length, Option, Some, None, refl, sym, ap, subst, arith}
-use Rattle.std.specs.Prelude.{Result, Ok, Err}
-use Rattle.std.specs.List.{slice_get}
-use Rattle.std.proofs.lemmas.Bool.{cases_lt}
-use Rattle.std.proofs.lemmas.Option.{slice_get_past}
-use Rattle.df_layout.specs.declared.damage.Class.{Class}
-use Rattle.df_layout.specs.declared.layout.Layout.{Layout}
-use Rattle.df_format.specs.Copies.{content_with}
-use Rattle.df_format.specs.SuperRules.{IsSuper}
-use Rattle.df_format.specs.declared.header.Header.{Header}
-use Rattle.df_format.specs.declared.superblock.SuperFields.{SuperFields}
+use Rattle.std.{proofs.{Common.{◌≡◌, ◌≢◌, ◌^◌, inl, inr, ℕ, ◌+◌, ◌<◌, ◌≤◌, List, [], ◌∷◌, length, Option, Some, None, refl, sym, ap, subst, arith}, lemmas.Bool.{cases_lt}, lemmas.Option.{slice_get_past}}, specs.{Prelude.{Result, Ok, Err}, List.{slice_get}}}
+use Rattle.df_layout.specs.{declared.damage.Class.{Class}, declared.layout.Layout.{Layout}}
+use Rattle.df_format.specs.{Copies.{content_with}, SuperRules.{IsSuper}, declared.header.Header.{Header}, declared.superblock.SuperFields.{SuperFields}}
 use Rattle.df_buffers.specs.declared.slots.SlotSeen.{SlotSeen}
-use Rattle.df_sessions.specs.declared.session.Session.{Session}
-use Rattle.df_stamps.specs.declared.counters.Counters.{Counters}
-use Rattle.df_stamps.specs.Evidence.{IsComplete}
-use Rattle.df_sessions.specs.Requests.{sessions_of}
+use Rattle.df_sessions.specs.{declared.session.Session.{Session}, Requests.{sessions_of}}
+use Rattle.df_stamps.specs.{declared.counters.Counters.{Counters}, Evidence.{IsComplete}}
 use Rattle.df_theory.specs.Units
-use Rattle.df_theory.specs.Units.{AnyUnit, BlockPlace, CopyPlace, HeaderPlace, HeaderUnit, Message, PreparePlace, PrepareUnit, ReplyPlace, ReplyUnit}
-use Rattle.df_theory.specs.Found.{IsReplies}
-use Rattle.df_theory.specs.Sessions.{MayAsk, Tracks, noted, sessions_after}
-use Rattle.df_theory.proofs.Laws.{tracks_chain, chain_near}
-use Rattle.df_rooms.specs.State.{AreAsked}
-use Rattle.df_theory.specs.Tails.{Chain, last_mark}
-use Rattle.df_theory.specs.Shape.{Shape}
-use Rattle.df_theory.specs.View.{Checkpoint}
-use Rattle.df_units.specs.Format.{shape_of}
-use Rattle.df_units.specs.Meaning.{content_of, header_of}
-use Rattle.df_journal.specs.Shows.{ShowsHeader, ShowsPrepare, ShowsTable}
-use Rattle.df_journal.specs.Counts.{CountsReplies}
-use Rattle.df_journal.specs.Tail.{IsReached}
-use Rattle.df_journal.proofs.Laws.{own_within}
-use Rattle.df_group.specs.declared.reach.Reach.{Reach}
-use Rattle.df_group.specs.declared.groups.Tail.{Tail}
+use Rattle.df_theory.{specs.{Units.{AnyUnit, BlockPlace, CopyPlace, HeaderPlace, HeaderUnit, Message, PreparePlace, PrepareUnit, ReplyPlace, ReplyUnit}, Found.{IsReplies}, Sessions.{MayAsk, Tracks, noted, sessions_after}, Tails.{Chain, last_mark}, Shape.{Shape}, View.{Checkpoint}}, proofs.Laws.{tracks_chain, chain_near}}
+use Rattle.df_rooms.{specs.State.{AreAsked}, proofs.Laws.{asked_noted}}
+use Rattle.df_units.specs.{Format.{shape_of}, Meaning.{content_of, header_of}}
+use Rattle.df_journal.{specs.{Shows.{ShowsHeader, ShowsPrepare, ShowsTable}, Counts.{CountsReplies}, Tail.{IsReached}}, proofs.Laws.{own_within}}
+use Rattle.df_group.specs.{declared.reach.Reach.{Reach}, declared.groups.Tail.{Tail}}
 use Rattle.df_replies.specs.Shown.{ShowsReplies, ShowsReply}
-use Rattle.df_rooms.proofs.Laws.{asked_noted}
 use Rattle.df_recovery.specs.Known.{IsBaseOf}
 
 -- ---- an image that shows what the tables say

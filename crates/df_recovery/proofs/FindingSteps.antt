@@ -1,33 +1,19 @@
 -- Each step of what an open finds is the theory's.
-use Rattle.std.proofs.Common.{inl, inr, ◌≡◌, ◌≢◌, ◌↔◌, ℕ, ◌+◌, ◌<◌, ◌≤◌, ◌%◌, ◌^◌, List, length, refl, sym, ◌∙◌, ap, subst, arith}
-use Rattle.std.specs.List.{slice_get}
-use Rattle.std.proofs.lemmas.Bool.{cases_lt}
+use Rattle.std.{proofs.{Common.{inl, inr, ◌≡◌, ◌≢◌, ◌↔◌, ℕ, ◌+◌, ◌<◌, ◌≤◌, ◌%◌, ◌^◌, List, length, refl, sym, ◌∙◌, ap, subst, arith}, lemmas.Bool.{cases_lt}}, specs.List.{slice_get}}
 use Rattle.df_disk.specs.Told.{Told}
-use Rattle.df_layout.specs.declared.damage.Class.{Class}
-use Rattle.df_layout.specs.declared.layout.Layout.{Layout}
-use Rattle.df_format.specs.Copies.{content_with}
-use Rattle.df_format.specs.declared.superblock.SuperFields.{SuperFields}
-use Rattle.df_sessions.specs.declared.session.Session.{Session}
-use Rattle.df_sessions.specs.Requests.{sessions_of}
+use Rattle.df_layout.specs.{declared.damage.Class.{Class}, declared.layout.Layout.{Layout}}
+use Rattle.df_format.specs.{Copies.{content_with}, declared.superblock.SuperFields.{SuperFields}}
+use Rattle.df_sessions.specs.{declared.session.Session.{Session}, Requests.{sessions_of}}
 use Rattle.df_stamps.specs.declared.counters.Counters.{Counters}
 use Rattle.df_theory.specs.Units
-use Rattle.df_theory.specs.Units.{Content, CopyPlace, PreparePlace, ReplyPlace}
+use Rattle.df_theory.specs.{Units.{Content, CopyPlace, PreparePlace, ReplyPlace}, Found.{IsReplies, NotBehind, NotLost}, Opens.{Behind, BootSpent as NoBoot, Damaged as Damages, LacksReply, Lost, Opens, ReachesReplies, ReachesTail, Refused, Spent, Unanswered, Unfit, Unknown}, Sessions.{sessions_after}, Shape.{Shape, slots}, View.{Checkpoint, View}}
 use Rattle.df_theory.specs.Found
-use Rattle.df_theory.specs.Found.{IsReplies, NotBehind, NotLost}
-use Rattle.df_theory.specs.Opens.{Behind, BootSpent as NoBoot, Damaged as Damages, LacksReply, Lost, Opens, ReachesReplies, ReachesTail, Refused, Spent, Unanswered, Unfit, Unknown}
-use Rattle.df_theory.specs.Sessions.{sessions_after}
-use Rattle.df_theory.specs.Shape.{Shape, slots}
-use Rattle.df_theory.specs.View.{Checkpoint, View}
 use Rattle.df_model.specs.declared.errors.OpenError.{OpenError}
 use Rattle.df_units.specs.Meaning.{content_of}
-use Rattle.df_journal.specs.Counts.{CountsAll, CountsBound, CountsReplies, CountsRings, RepliesWithin, RingsWithin, in_boot}
-use Rattle.df_group.specs.declared.reach.Reach.{Reach}
-use Rattle.df_journal.specs.Tail.{IsReached}
-use Rattle.df_group.specs.declared.groups.Tail.{Tail}
+use Rattle.df_journal.specs.{Counts.{CountsAll, CountsBound, CountsReplies, CountsRings, RepliesWithin, RingsWithin, in_boot}, Tail.{IsReached}}
+use Rattle.df_group.specs.{declared.reach.Reach.{Reach}, declared.groups.Tail.{Tail}}
 use Rattle.df_replies.specs.Answers.{AllAnswered, StoredAreFound, stored_by}
-use Rattle.df_recovery.specs.Finding.{EachOpens, FindsView, IsReadFrom, IsRefusedOpen, IsScannedFrom, Read, damage, lowest_of}
-use Rattle.df_recovery.specs.Surveys.{class_there}
-use Rattle.df_recovery.specs.Known.{BlamesKnown, IsBaseOf}
+use Rattle.df_recovery.specs.{Finding.{EachOpens, FindsView, IsReadFrom, IsRefusedOpen, IsScannedFrom, Read, damage, lowest_of}, Surveys.{class_there}, Known.{BlamesKnown, IsBaseOf}}
 
 -- ---- the counters
 

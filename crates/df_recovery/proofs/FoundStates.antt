@@ -3,10 +3,8 @@ use Rattle.std.proofs.Common.{◌≡◌, List, [], ◌∙◌, arith}
 use Rattle.df_format.specs.SuperRules.{IsSuper}
 use Rattle.df_sessions.specs.Requests.{sessions_of}
 use Rattle.df_model.specs.Work.{Request}
-use Rattle.df_rooms.specs.State.{AwaitsReplies, EndsLog, Stages}
-use Rattle.df_rooms.proofs.Laws.{staging_none}
-use Rattle.df_recovery.specs.Surveying.{IsWellFound, state_found}
-use Rattle.df_recovery.specs.declared.surveying.Surveyed.{Surveyed}
+use Rattle.df_rooms.{specs.State.{AwaitsReplies, EndsLog, Stages}, proofs.Laws.{staging_none}}
+use Rattle.df_recovery.specs.{Surveying.{IsWellFound, state_found}, declared.surveying.Surveyed.{Surveyed}}
 
 pub found_ends : (s : Surveyed) → IsWellFound s → IsSuper s.scanned.copies.found.content
     → EndsLog s.scanned.file.layout.slots s.scanned.copies.found.content.op s.scanned.copies.found.content.op_checksum s.traces.tail.op s.traces.tail.checksum

@@ -1,18 +1,10 @@
 -- Which replies are stored in the table, session by session.
-use Rattle.std.proofs.Common.{◌≡◌, inl, inr, ℕ, zero, suc, ◌<◌, ◌≤◌, List, [], ◌∷◌, length, Option, Some, None, refl, sym, ◌∙◌, ap, arith}
-use Rattle.std.specs.Prelude.{nat_le, Result, Ok, Err}
-use Rattle.std.specs.List.{slice_get}
-use Rattle.std.specs.Option.{option_map}
-use Rattle.std.proofs.lemmas.Bool.{cases_lt, cond-false, cond-true, le-leb, lt-leb}
-use Rattle.std.proofs.lemmas.Option.{slice_get_cases, slice_get-map}
+use Rattle.std.{proofs.{Common.{◌≡◌, inl, inr, ℕ, zero, suc, ◌<◌, ◌≤◌, List, [], ◌∷◌, length, Option, Some, None, refl, sym, ◌∙◌, ap, arith}, lemmas.Bool.{cases_lt, cond-false, cond-true, le-leb, lt-leb}, lemmas.Option.{slice_get_cases, slice_get-map}}, specs.{Prelude.{nat_le, Result, Ok, Err}, List.{slice_get}, Option.{option_map}}}
 use Rattle.df_layout.specs.declared.damage.Class.{Class}
 use Rattle.df_format.specs.declared.header.Header.{Header}
-use Rattle.df_sessions.specs.declared.session.Session.{Session}
-use Rattle.df_sessions.specs.Requests.{session_of}
-use Rattle.df_sessions.specs.Table.{with_reply_stored}
+use Rattle.df_sessions.specs.{declared.session.Session.{Session}, Requests.{session_of}, Table.{with_reply_stored}}
 use Rattle.df_theory.specs.Units
-use Rattle.df_theory.specs.Units.{AnyUnit, Message, ReplyPlace, ReplyUnit}
-use Rattle.df_theory.specs.View.{sessions}
+use Rattle.df_theory.specs.{Units.{AnyUnit, Message, ReplyPlace, ReplyUnit}, View.{sessions}}
 use Rattle.df_model.specs.Memory
 use Rattle.df_units.specs.Meaning.{header_of}
 use Rattle.df_replies.specs.Shown.{ShowsReply}

@@ -1,26 +1,13 @@
 -- What a superblock of either version names: how the search for named prepares and the walk after its checkpoint begin, and which of them is blamed.
-use Rattle.std.proofs.Common.{inl, inr, ◌≡◌, ℕ, ◌+◌, ◌≤◌, ◌%◌, List, sym, ◌∙◌, ap, subst, arith}
-use Rattle.std.specs.Prelude.{Result, Ok, Err, IfErr, IfOk}
-use Rattle.std.proofs.lemmas.Bool.{cases_eq}
+use Rattle.std.{proofs.{Common.{inl, inr, ◌≡◌, ℕ, ◌+◌, ◌≤◌, ◌%◌, List, sym, ◌∙◌, ap, subst, arith}, lemmas.Bool.{cases_eq}}, specs.Prelude.{Result, Ok, Err, IfErr, IfOk}}
 use Rattle.df_layout.specs.declared.layout.Layout.{Layout}
-use Rattle.df_format.specs.Spelling.{IsCheck}
-use Rattle.df_format.specs.SuperRules.{IsSuper, IsUsable}
-use Rattle.df_format.specs.declared.superblock.SuperFields.{SuperFields}
+use Rattle.df_format.specs.{Spelling.{IsCheck}, SuperRules.{IsSuper, IsUsable}, declared.superblock.SuperFields.{SuperFields}}
 use Rattle.df_sessions.specs.declared.session.Session.{Session}
-use Rattle.df_theory.specs.Units.{Content, Units}
-use Rattle.df_theory.specs.Shape.{Shape, slots}
-use Rattle.df_theory.specs.Opens.{LacksKnown}
-use Rattle.df_theory.specs.View.{Checkpoint}
-use Rattle.df_units.specs.Meaning.{number_of, pin_checksum_of, pin_of}
-use Rattle.df_units.proofs.Laws.{by_other, by_second}
-use Rattle.df_journal.specs.Known.{AllKnown, NamesFrom}
-use Rattle.df_journal.specs.Scan.{Scan}
-use Rattle.df_journal.specs.Shows.{TellsRings}
-use Rattle.df_journal.specs.Tail.{BeginsAt, IsReached, StopsAt}
+use Rattle.df_theory.specs.{Units.{Content, Units}, Shape.{Shape, slots}, Opens.{LacksKnown}, View.{Checkpoint}}
+use Rattle.df_units.{specs.Meaning.{number_of, pin_checksum_of, pin_of}, proofs.Laws.{by_other, by_second}}
+use Rattle.df_journal.specs.{Known.{AllKnown, NamesFrom}, Scan.{Scan}, Shows.{TellsRings}, Tail.{BeginsAt, IsReached, StopsAt}, declared.table.Start.{Start}, Starting.{start_of}}
 use Rattle.df_group.specs.declared.reach.Reach.{Reach}
-use Rattle.df_journal.specs.declared.table.Start.{Start}
 use Rattle.df_recovery.specs.Known.{BlamesKnown, IsBaseOf}
-use Rattle.df_journal.specs.Starting.{start_of}
 
 -- the prepares up to the pin: those of the checkpoint, or in version 2 those up to the head
 pub pin_from : (f : SuperFields) → IsSuper f → f.op ≤ pin_of f

@@ -1,17 +1,10 @@
 -- An image has one answer.
-use Rattle.std.proofs.Common.{◌≡◌, ℕ, true, List, replicate, Some, None, refl, sym, ◌∙◌, ap, subst}
-use Rattle.std.proofs.lemmas.Slice.Eq.{bytes_eq-Decides}
+use Rattle.std.proofs.{Common.{◌≡◌, ℕ, true, List, replicate, Some, None, refl, sym, ◌∙◌, ap, subst}, lemmas.Slice.Eq.{bytes_eq-Decides}}
 use Rattle.df_base.specs.Image.{Image, blank}
 use Rattle.df_layout.specs.declared.damage.Class.{Class}
-use Rattle.df_format.specs.Copies.{Content, content_at, is_blank_copy}
-use Rattle.df_format.proofs.Laws.{same_copy, blank_copy_none}
-use Rattle.df_format.specs.declared.superblock.SuperFault.{SuperFault}
-use Rattle.df_format.specs.declared.superblock.SuperFault.TheVariants.{Version as OtherVersion, BadField as BrokenField}
-use Rattle.df_format.specs.declared.superblock.SuperFields.{SuperFields}
-use Rattle.df_quorum.specs.Quorum.{CopiesAgree, IsChosenContent}
-use Rattle.df_quorum.proofs.Laws.{one_law}
-use Rattle.df_recovery.specs.Opening.{IsUnformatted, HasFaultAs, HasSuperAs, fault_as}
-use Rattle.df_recovery.specs.OpeningLaws.{SuperOrRefusal, OneSuper, OneRefusal}
+use Rattle.df_format.{specs.{Copies.{Content, content_at, is_blank_copy}, declared.superblock.SuperFault.{SuperFault}, declared.superblock.SuperFault.TheVariants.{Version as OtherVersion, BadField as BrokenField}, declared.superblock.SuperFields.{SuperFields}}, proofs.Laws.{same_copy, blank_copy_none}}
+use Rattle.df_quorum.{specs.Quorum.{CopiesAgree, IsChosenContent}, proofs.Laws.{one_law}}
+use Rattle.df_recovery.specs.{Opening.{IsUnformatted, HasFaultAs, HasSuperAs, fault_as}, OpeningLaws.{SuperOrRefusal, OneSuper, OneRefusal}}
 use Rattle.df_model.specs.declared.errors.OpenError.TheVariants.{NotFormatted, NoQuorum, Version, BadField, LayoutDiffers, Damaged, DiskFault, BootSpent}
 
 one_content : (image : Image) (c d : Content) → IsChosenContent (content_at image) c → IsChosenContent (content_at image) d → c ≡ d

@@ -1,33 +1,16 @@
 -- An image has one refusal: of its superblock, or else of the one file that its superblock is of.
-use Rattle.std.proofs.Common.{◌≡◌, ℕ, refl, sym, ◌∙◌, ap, subst, inl, inr}
-use Rattle.std.specs.Prelude.{◌⊎◌, ◌≢◌, Err}
+use Rattle.std.{proofs.Common.{◌≡◌, ℕ, refl, sym, ◌∙◌, ap, subst, inl, inr}, specs.Prelude.{◌⊎◌, ◌≢◌, Err}}
 use Rattle.df_base.specs.Image.{Image}
-use Rattle.df_layout.proofs.Laws.{same_layout}
-use Rattle.df_layout.specs.declared.damage.Class.{Class}
-use Rattle.df_layout.specs.declared.fields.Field.{Field}
-use Rattle.df_layout.specs.declared.layout.Layout.{Layout}
-use Rattle.df_layout.specs.declared.places.Place.{Place}
-use Rattle.df_recovery.proofs.Asked.{super_as}
-use Rattle.df_format.specs.SuperRules.{IsSuper}
-use Rattle.df_format.specs.declared.superblock.SuperFields.{SuperFields}
+use Rattle.df_layout.{proofs.Laws.{same_layout}, specs.{declared.damage.Class.{Class}, declared.fields.Field.{Field}, declared.layout.Layout.{Layout}, declared.places.Place.{Place}}}
+use Rattle.df_recovery.{proofs.{Asked.{super_as}, OneAnswer.{one_refusal_as, one_super_as, super_or_refusal_as}}, specs.{Opening.{HasSuperAs, IsLayoutOf, RefusesAs}, SurveyLaws.{OneSurvey}, Surveys.{FailsTrailer, HasFile, HasOther, IsAsked, IsDamagedFile, IsSpent, SurveysAs, class_there}}}
+use Rattle.df_format.specs.{SuperRules.{IsSuper}, declared.superblock.SuperFields.{SuperFields}}
 use Rattle.df_theory.specs.Units
-use Rattle.df_theory.specs.Opens.{BadField as BadTest, BootSpent as NoBoot, Damaged as Damages, OpenAnswer, Opens, Refused}
-use Rattle.df_theory.proofs.Laws.{one_answer_law}
-use Rattle.df_model.specs.declared.errors.OpenError.{OpenError}
-use Rattle.df_model.specs.declared.errors.OpenError.TheVariants.{NotFormatted, NoQuorum, Version, BadField, LayoutDiffers, Damaged, DiskFault, BootSpent}
-use Rattle.df_units.specs.Bytes.{unit_at}
-use Rattle.df_units.specs.Meaning.{place_of}
+use Rattle.df_theory.{specs.Opens.{BadField as BadTest, BootSpent as NoBoot, Damaged as Damages, OpenAnswer, Opens, Refused}, proofs.Laws.{one_answer_law}}
+use Rattle.df_model.specs.{declared.errors.OpenError.{OpenError}, declared.errors.OpenError.TheVariants.{NotFormatted, NoQuorum, Version, BadField, LayoutDiffers, Damaged, DiskFault, BootSpent}}
+use Rattle.df_units.specs.{Bytes.{unit_at}, Meaning.{place_of}}
 use Rattle.df_grid.specs.Reads.{shown_of}
-use Rattle.df_checkpoint.specs.Chain.{content_in}
-use Rattle.df_checkpoint.specs.Tests.{FailsTest}
-use Rattle.df_checkpoint.proofs.Laws.{one_test}
-use Rattle.df_rooms.proofs.Laws.{same_file}
-use Rattle.df_rooms.specs.State.{shape}
-use Rattle.df_rooms.specs.declared.file.DataFile.{DataFile}
-use Rattle.df_recovery.specs.Opening.{HasSuperAs, IsLayoutOf, RefusesAs}
-use Rattle.df_recovery.specs.SurveyLaws.{OneSurvey}
-use Rattle.df_recovery.specs.Surveys.{FailsTrailer, HasFile, HasOther, IsAsked, IsDamagedFile, IsSpent, SurveysAs, class_there}
-use Rattle.df_recovery.proofs.OneAnswer.{one_refusal_as, one_super_as, super_or_refusal_as}
+use Rattle.df_checkpoint.{specs.{Chain.{content_in}, Tests.{FailsTest}}, proofs.Laws.{one_test}}
+use Rattle.df_rooms.{proofs.Laws.{same_file}, specs.{State.{shape}, declared.file.DataFile.{DataFile}}}
 
 one_layout : (a b : Layout) (f : SuperFields) → IsLayoutOf a f → IsLayoutOf b f → a ≡ b
 one_layout a b f one two = same_layout a b (one.slots ∙ sym two.slots) (one.message_size ∙ sym two.message_size) (one.clients ∙ sym two.clients) (one.block_size ∙ sym two.block_size) (one.blocks ∙ sym two.blocks)

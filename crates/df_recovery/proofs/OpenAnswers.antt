@@ -1,36 +1,18 @@
 -- What is found of a file is the answer to an open.
-use Rattle.std.specs.Prelude.{Ok, map}
-use Rattle.std.specs.List.{range_with_len}
-use Rattle.std.proofs.Common.{◌≡◌, ℕ, ◌+◌, ◌-◌, List, length, refl, sym, ◌∙◌, ap, subst}
-use Rattle.df_format.specs.Copies.{content_with}
-use Rattle.df_format.specs.declared.superblock.SuperFields.{SuperFields}
+use Rattle.std.{specs.{Prelude.{Ok, map}, List.{range_with_len}}, proofs.Common.{◌≡◌, ℕ, ◌+◌, ◌-◌, List, length, refl, sym, ◌∙◌, ap, subst}}
+use Rattle.df_format.specs.{Copies.{content_with}, declared.superblock.SuperFields.{SuperFields}}
 use Rattle.df_sessions.specs.declared.session.Session.{Session}
 use Rattle.df_theory.specs.Units
-use Rattle.df_theory.specs.Found.{IsFound}
-use Rattle.df_theory.specs.View.{Checkpoint, View, head}
-use Rattle.df_theory.proofs.Laws.{one_found_law}
-use Rattle.df_theory.specs.Opens.{BootSpent as NoBoot, Damaged as Damages, Opens, Refusal, Refused}
-use Rattle.df_model.specs.declared.errors.OpenError.TheVariants.{NotFormatted, NoQuorum, Version, BadField, LayoutDiffers, Damaged, DiskFault, BootSpent}
-use Rattle.df_model.specs.Memory.{Memory}
-use Rattle.df_units.specs.Bytes.{unit_at}
-use Rattle.df_units.specs.Meaning.{content_of, layout_of, number_of}
+use Rattle.df_theory.{specs.{Found.{IsFound}, View.{Checkpoint, View, head}, Opens.{BootSpent as NoBoot, Damaged as Damages, Opens, Refusal, Refused}}, proofs.Laws.{one_found_law}}
+use Rattle.df_model.specs.{declared.errors.OpenError.TheVariants.{NotFormatted, NoQuorum, Version, BadField, LayoutDiffers, Damaged, DiskFault, BootSpent}, Memory.{Memory}}
+use Rattle.df_units.specs.{Bytes.{unit_at}, Meaning.{content_of, layout_of, number_of}}
 use Rattle.df_checkpoint.specs.Reads.{blocks_read}
-use Rattle.df_journal.specs.Tail.{EndsAt}
-use Rattle.df_recovery.specs.Checkpoints.{Base, base_of}
-use Rattle.df_journal.specs.declared.table.Start.{Start}
-use Rattle.df_recovery.specs.Waiting.{waiting_sum}
-use Rattle.df_recovery.specs.Finding.{AnswersFinding, EachOpens, HasHeaders, IsOfFile, IsReadFrom, KeepsTraces, KeptIsAnswer, Read, RefusedIsAnswer, StateKeepsView, StoresTo, base_with}
-use Rattle.df_rooms.specs.State.{State, shape}
-use Rattle.df_recovery.specs.declared.finding.Traces.{Traces}
+use Rattle.df_journal.specs.{Tail.{EndsAt}, declared.table.Start.{Start}}
+use Rattle.df_recovery.{specs.{Checkpoints.{Base, base_of}, Waiting.{waiting_sum}, Finding.{AnswersFinding, EachOpens, HasHeaders, IsOfFile, IsReadFrom, KeepsTraces, KeptIsAnswer, Read, RefusedIsAnswer, StateKeepsView, StoresTo, base_with}, declared.finding.Traces.{Traces}, Surveys.{HasFile, SurveysAs, class_there}}, proofs.{KeptReplies.{stored_kept}, FilesRead.{file_is_read}, OpenedStates.{state_is_opened}, Waits.{waiting_known}}}
+use Rattle.df_rooms.specs.{State.{State, shape}, declared.file.DataFile.{DataFile}}
 use Rattle.df_base.specs.Image.{Image}
 use Rattle.df_disk.specs.Told.{Told}
 use Rattle.df_layout.specs.declared.layout.Layout.{Layout}
-use Rattle.df_recovery.specs.Surveys.{HasFile, SurveysAs, class_there}
-use Rattle.df_rooms.specs.declared.file.DataFile.{DataFile}
-use Rattle.df_recovery.proofs.KeptReplies.{stored_kept}
-use Rattle.df_recovery.proofs.FilesRead.{file_is_read}
-use Rattle.df_recovery.proofs.OpenedStates.{state_is_opened}
-use Rattle.df_recovery.proofs.Waits.{waiting_known}
 
 -- of what was read the theory says so of the file's own image
 opens_here : (t : Told) (file : DataFile) (read : Read) (base : Base) (r : Refusal) → IsOfFile t file read base → EachOpens read r → Opens (shape file) (unit_at file.layout file.cluster t.shown) (Refused r)

@@ -1,27 +1,14 @@
 -- What is kept of a view that an open finds stands for what the machine begins with.
-use Rattle.std.proofs.Common.{◌≡◌, inl, inr, ℕ, zero, suc, ◌+◌, ◌-◌, ◌%◌, ◌<◌, ◌≤◌, Bool, true, false, List, [], ◌∷◌, length, map, Option, Some, refl, sym, ◌∙◌, ap, arith}
-use Rattle.std.specs.List.{range_with_len, slice_get}
-use Rattle.std.specs.Prelude.{nat_lt, if◌then◌else◌}
-use Rattle.std.proofs.lemmas.Bool.{cases_lt, le-ltb}
-use Rattle.std.proofs.lemmas.List.{length-map}
-use Rattle.std.proofs.lemmas.Option.{slice_get_cases}
-use Rattle.std.proofs.lemmas.Nat.{mod_below}
+use Rattle.std.{proofs.{Common.{◌≡◌, inl, inr, ℕ, zero, suc, ◌+◌, ◌-◌, ◌%◌, ◌<◌, ◌≤◌, Bool, true, false, List, [], ◌∷◌, length, map, Option, Some, refl, sym, ◌∙◌, ap, arith}, lemmas.Bool.{cases_lt, le-ltb}, lemmas.List.{length-map}, lemmas.Option.{slice_get_cases}, lemmas.Nat.{mod_below}}, specs.{List.{range_with_len, slice_get}, Prelude.{nat_lt, if◌then◌else◌}}}
 use Rattle.df_format.specs.declared.header.Header.{Header}
-use Rattle.df_sessions.specs.declared.session.Session.{Session}
-use Rattle.df_sessions.specs.Requests.{session_of}
+use Rattle.df_sessions.specs.{declared.session.Session.{Session}, Requests.{session_of}}
 use Rattle.df_theory.specs.Units
-use Rattle.df_theory.specs.Units.{Content, Message, PreparePlace}
-use Rattle.df_theory.specs.Found.{IsFound}
-use Rattle.df_theory.specs.Sessions.{noted}
-use Rattle.df_theory.specs.Tails.{Chain, In}
-use Rattle.df_theory.specs.View.{View, head, sessions}
+use Rattle.df_theory.specs.{Units.{Content, Message, PreparePlace}, Found.{IsFound}, Sessions.{noted}, Tails.{Chain, In}, View.{View, head, sessions}}
 use Rattle.df_model.specs.Memory
-use Rattle.df_model.specs.Memory.{sum_of_message}
-use Rattle.df_model.specs.Work.{checksum_of_op, opened, prepare_checksum, waiting_checksum}
+use Rattle.df_model.specs.{Memory.{sum_of_message}, Work.{checksum_of_op, opened, prepare_checksum, waiting_checksum}}
 use Rattle.df_units.specs.Meaning.{layout_of, number_of}
-use Rattle.df_recovery.specs.Finding.{StateIsOpened, StateKeepsView}
+use Rattle.df_recovery.specs.{Finding.{StateIsOpened, StateKeepsView}, Waiting.{waiting_sum}}
 use Rattle.df_rooms.specs.State.{State, course_in, memory, prepare_sum, shape, spelling, stored_sum, sum_of_header}
-use Rattle.df_recovery.specs.Waiting.{waiting_sum}
 
 -- ---- lists
 

@@ -1,26 +1,13 @@
 -- What the slots of the four places say of the image that they were read from.
-use Rattle.std.specs.Prelude.{Ok, Err}
-use Rattle.std.proofs.Common.{◌≡◌, ℕ, ◌<◌, ◌==◌, Bool, true, List, [], ◌∷◌, length, get_or, Option, Some, None, refl, sym, ◌∙◌, ap, arith}
-use Rattle.std.proofs.lemmas.Bool.{cond-true, eq-eqb}
+use Rattle.std.{specs.Prelude.{Ok, Err}, proofs.{Common.{◌≡◌, ℕ, ◌<◌, ◌==◌, Bool, true, List, [], ◌∷◌, length, get_or, Option, Some, None, refl, sym, ◌∙◌, ap, arith}, lemmas.Bool.{cond-true, eq-eqb}}}
 use Rattle.df_base.specs.Image.{Image}
-use Rattle.df_layout.specs.declared.damage.Class.{Class}
-use Rattle.df_layout.specs.declared.damage.Class.TheVariants.{Blank, Elsewhere, Stale}
-use Rattle.df_layout.specs.declared.places.Zone.TheVariants.{Superblock}
-use Rattle.df_format.specs.Own.{place_in}
-use Rattle.df_format.specs.declared.superblock.SuperCopy.{SuperCopy}
-use Rattle.df_format.specs.Copies.{Content, copy_in, if_here, copy_at, content_at, class_of_copy, copy_or_class}
-use Rattle.df_format.proofs.Laws.{is_here, valid_is_stale}
-use Rattle.df_quorum.specs.declared.slot.Slot.{Slot}
-use Rattle.df_quorum.specs.Quorum.{Copies, IsChosenContent, CopiesAreSplit, HasChosen, AreMembers, AreClasses, class_in, copies_of, nothing}
-use Rattle.df_quorum.proofs.Laws.{same_law}
-use Rattle.df_quorum.specs.declared.choice.Chosen.{Chosen}
+use Rattle.df_layout.specs.{declared.damage.Class.{Class}, declared.damage.Class.TheVariants.{Blank, Elsewhere, Stale}, declared.places.Zone.TheVariants.{Superblock}}
+use Rattle.df_format.{specs.{Own.{place_in}, declared.superblock.SuperCopy.{SuperCopy}, Copies.{Content, copy_in, if_here, copy_at, content_at, class_of_copy, copy_or_class}}, proofs.Laws.{is_here, valid_is_stale}}
+use Rattle.df_quorum.{specs.{declared.slot.Slot.{Slot}, Quorum.{Copies, IsChosenContent, CopiesAreSplit, HasChosen, AreMembers, AreClasses, class_in, copies_of, nothing}, declared.choice.Chosen.{Chosen}}, proofs.Laws.{same_law}}
 use Rattle.df_disk.specs.Told.{Told}
-use Rattle.df_recovery.specs.Opening.{IsUnformatted, shown_classes, HasNoQuorum}
-use Rattle.df_recovery.specs.Found.{IsChoiceOf, TellsChoice}
-use Rattle.df_superblock.specs.Blank.{AreBlank, IsFirstWrittenOf}
-use Rattle.df_superblock.proofs.Laws.{shown_blank, unformatted}
+use Rattle.df_recovery.specs.{Opening.{IsUnformatted, shown_classes, HasNoQuorum}, Found.{IsChoiceOf, TellsChoice}}
+use Rattle.df_superblock.{specs.{Blank.{AreBlank, IsFirstWrittenOf}, Calls.{slot_of, slot_at, ShowsSlots, ShowsCopies}}, proofs.Laws.{shown_blank, unformatted}}
 use Rattle.df_model.specs.declared.errors.OpenError.TheVariants.{NotFormatted, NoQuorum}
-use Rattle.df_superblock.specs.Calls.{slot_of, slot_at, ShowsSlots, ShowsCopies}
 
 -- a slot that isn't used has the class of its sector
 class_of_slot : (n : ℕ) (bytes : List ℕ) (o : Option SuperCopy) → if_here n (copy_in bytes) ≡ o → class_in n (slot_of (copy_or_class o (class_of_copy n bytes))) ≡ class_of_copy n bytes

@@ -1,40 +1,15 @@
 -- What a plan means on an image that is found: where each header comes from, and that a slot that isn't listed shows it already.
-use Rattle.std.proofs.Common.{◌≡◌, inl, inr, ℕ, ◌+◌, ◌<◌, ◌≤◌, ◌%◌, List, [], length, Bool, true, false, Option, Some, None, refl, sym, ◌∙◌, ap, subst, arith}
-use Rattle.std.specs.Prelude.{Result, Ok, Err, nat_le, nat_lt, not}
-use Rattle.std.proofs.lemmas.Bool.{cases_lt, cond-false, cond-true, eqb-true, le-leb, le-ltb, lt-leb, lt-ltb, not-false}
-use Rattle.std.proofs.lemmas.Option.{slice_get_past}
-use Rattle.std.proofs.Math.Nat.{mod-lt}
-use Rattle.df_layout.specs.declared.damage.Class.{Class}
-use Rattle.df_layout.specs.declared.layout.Layout.{Layout}
-use Rattle.df_layout.specs.declared.places.Zone.TheVariants.{WalHeaders, WalPrepares}
-use Rattle.df_format.specs.declared.header.Header.{Header}
-use Rattle.df_format.specs.declared.kind.Kind.{Kind}
-use Rattle.df_format.specs.Own.{place_in}
-use Rattle.df_format.specs.Rules.{ObeysKind, ObeysReserved}
-use Rattle.df_format.specs.Valid.{IsInSlot}
-use Rattle.df_format.proofs.Laws.{valid_belongs}
-use Rattle.df_cases.specs.declared.cases.Decision.{Decision}
-use Rattle.df_cases.specs.declared.cases.Decision.TheVariants.{Behind, Empty, Lost, Take}
+use Rattle.std.{proofs.{Common.{◌≡◌, inl, inr, ℕ, ◌+◌, ◌<◌, ◌≤◌, ◌%◌, List, [], length, Bool, true, false, Option, Some, None, refl, sym, ◌∙◌, ap, subst, arith}, lemmas.Bool.{cases_lt, cond-false, cond-true, eqb-true, le-leb, le-ltb, lt-leb, lt-ltb, not-false}, lemmas.Option.{slice_get_past}, Math.Nat.{mod-lt}}, specs.Prelude.{Result, Ok, Err, nat_le, nat_lt, not}}
+use Rattle.df_layout.specs.{declared.damage.Class.{Class}, declared.layout.Layout.{Layout}, declared.places.Zone.TheVariants.{WalHeaders, WalPrepares}}
+use Rattle.df_format.{specs.{declared.header.Header.{Header}, declared.kind.Kind.{Kind}, Own.{place_in}, Rules.{ObeysKind, ObeysReserved}, Valid.{IsInSlot}}, proofs.Laws.{valid_belongs}}
+use Rattle.df_cases.specs.{declared.cases.Decision.{Decision}, declared.cases.Decision.TheVariants.{Behind, Empty, Lost, Take}, Cases.{decision_of}}
 use Rattle.df_theory.specs.Units
-use Rattle.df_theory.specs.Units.{AnyUnit, BlockUnit, CopyUnit, HeaderPlace, HeaderUnit, Message, PreparePlace, PrepareUnit, ReplyUnit}
+use Rattle.df_theory.{specs.{Units.{AnyUnit, BlockUnit, CopyUnit, HeaderPlace, HeaderUnit, Message, PreparePlace, PrepareUnit, ReplyUnit}, Cases.{IsNow, SaysOfSlot, cut, decision, is_nothing, seen_header}, MendLaws.{IsFromSlot, IsSlotHeader, IsTable}, Shape.{Shape, clients, slots}, Tails.{Chain, In}, View.{View, head}}, proofs.Laws.{chain_at, chain_ops, decision_law, in_one}}
 use Rattle.df_theory.specs.Cases
-use Rattle.df_theory.specs.Cases.{IsNow, SaysOfSlot, cut, decision, is_nothing, seen_header}
-use Rattle.df_theory.specs.MendLaws.{IsFromSlot, IsSlotHeader, IsTable}
-use Rattle.df_theory.specs.Shape.{Shape, clients, slots}
-use Rattle.df_theory.specs.Tails.{Chain, In}
-use Rattle.df_theory.specs.View.{View, head}
-use Rattle.df_theory.proofs.Laws.{chain_at, chain_ops, decision_law, in_one}
 use Rattle.df_units.specs.Meaning.{header_of}
-use Rattle.df_cases.specs.Cases.{decision_of}
 use Rattle.df_places.specs.Units.{IsThere}
-use Rattle.df_journal.specs.Planned.{named, planned, shows_header}
-use Rattle.df_journal.specs.Scan.{Scan, entry}
-use Rattle.df_journal.specs.Seen.{IsOpOf, header_of_seen}
-use Rattle.df_journal.specs.Shows.{IsHeaderThere, IsSlot, ShowsHeader, ShowsPrepare, ShowsSlot}
-use Rattle.df_journal.specs.declared.table.Start.{Start}
-use Rattle.df_journal.proofs.Laws.{one_op}
-use Rattle.df_recovery.specs.Plan.{AreDistinctUnits, ArePlanned, IsScanOf, OthersAreShown, header_by, header_or_none, header_or_reserved, headers_in, is_mended, op_above_in_slot}
-use Rattle.df_recovery.proofs.Plans.{entry_there, op_in_is}
+use Rattle.df_journal.{specs.{Planned.{named, planned, shows_header}, Scan.{Scan, entry}, Seen.{IsOpOf, header_of_seen}, Shows.{IsHeaderThere, IsSlot, ShowsHeader, ShowsPrepare, ShowsSlot}, declared.table.Start.{Start}}, proofs.Laws.{one_op}}
+use Rattle.df_recovery.{specs.Plan.{AreDistinctUnits, ArePlanned, IsScanOf, OthersAreShown, header_by, header_or_none, header_or_reserved, headers_in, is_mended, op_above_in_slot}, proofs.Plans.{entry_there, op_in_is}}
 
 -- ---- what is shown of a slot
 

@@ -1,34 +1,14 @@
 -- A plan slot by slot: the list grows by one entry or none, and each header is valid in its slot.
-use Rattle.std.proofs.Common.{◌≡◌, inl, inr, ℕ, ◌+◌, ◌<◌, ◌^◌, List, [], ◌∷◌, ◌++◌, map, length, Bool, true, false, Some, refl, sym, ◌∙◌, ap, subst, arith}
-use Rattle.std.specs.Prelude.{Result, Ok, Err, cond}
-use Rattle.std.specs.List.{filter, range_with_len, slice_get}
-use Rattle.std.proofs.lemmas.Bool.{cases_eq}
-use Rattle.std.proofs.lemmas.List.{length-set, map-append, map-id}
-use Rattle.std.proofs.lemmas.List.FromFn.{filter_of_map_range_with_len_more}
-use Rattle.std.proofs.lemmas.Option.{slice_get-get_or, slice_get_within, same_Some}
+use Rattle.std.{proofs.{Common.{◌≡◌, inl, inr, ℕ, ◌+◌, ◌<◌, ◌^◌, List, [], ◌∷◌, ◌++◌, map, length, Bool, true, false, Some, refl, sym, ◌∙◌, ap, subst, arith}, lemmas.Bool.{cases_eq}, lemmas.List.{length-set, map-append, map-id}, lemmas.List.FromFn.{filter_of_map_range_with_len_more}, lemmas.Option.{slice_get-get_or, slice_get_within, same_Some}}, specs.{Prelude.{Result, Ok, Err, cond}, List.{filter, range_with_len, slice_get}}}
 use Rattle.df_base.proofs.Laws.{get_set, get_set_other}
-use Rattle.df_layout.specs.declared.damage.Class.{Class}
-use Rattle.df_layout.specs.declared.damage.Class.TheVariants.{Blank}
-use Rattle.df_layout.specs.declared.layout.Layout.{Layout}
-use Rattle.df_layout.specs.declared.places.Zone.TheVariants.{WalPrepares}
-use Rattle.df_layout.proofs.Laws.{some_slots}
-use Rattle.df_format.specs.declared.header.Header.{Header}
-use Rattle.df_format.specs.Message.{Message}
-use Rattle.df_format.specs.Own.{place_in}
-use Rattle.df_format.specs.Valid.{IsInSlot, IsUnit}
-use Rattle.df_format.proofs.Laws.{valid_belongs}
-use Rattle.df_cases.specs.Cases.{decision_of}
-use Rattle.df_cases.specs.declared.cases.Decision.{Decision}
-use Rattle.df_cases.specs.declared.cases.Decision.TheVariants.{Behind, Empty, Lost, Take}
-use Rattle.df_units.specs.Sample.{reserved_header}
-use Rattle.df_units.proofs.Laws.{reserved_unit}
+use Rattle.df_layout.{specs.{declared.damage.Class.{Class}, declared.damage.Class.TheVariants.{Blank}, declared.layout.Layout.{Layout}, declared.places.Zone.TheVariants.{WalPrepares}}, proofs.Laws.{some_slots}}
+use Rattle.df_format.{specs.{declared.header.Header.{Header}, Message.{Message}, Own.{place_in}, Valid.{IsInSlot, IsUnit}}, proofs.Laws.{valid_belongs}}
+use Rattle.df_cases.specs.{Cases.{decision_of}, declared.cases.Decision.{Decision}, declared.cases.Decision.TheVariants.{Behind, Empty, Lost, Take}}
+use Rattle.df_units.{specs.Sample.{reserved_header}, proofs.Laws.{reserved_unit}}
 use Rattle.df_places.specs.Units.{IsThere}
 use Rattle.df_buffers.specs.declared.slots.SlotSeen.{SlotSeen}
 use Rattle.df_headers.specs.Ring.{IsHeader, IsHeaderTable}
-use Rattle.df_journal.specs.Scan.{Scan, entry, or_blank}
-use Rattle.df_journal.specs.Seen.{IsOpOf, header_of_seen}
-use Rattle.df_journal.specs.Shows.{IsHeaderThere, IsSeenTable as AreSlots, IsSlot}
-use Rattle.df_journal.proofs.Laws.{in_header_ring, op_of_slot}
+use Rattle.df_journal.{specs.{Scan.{Scan, entry, or_blank}, Seen.{IsOpOf, header_of_seen}, Shows.{IsHeaderThere, IsSeenTable as AreSlots, IsSlot}}, proofs.Laws.{in_header_ring, op_of_slot}}
 use Rattle.df_recovery.specs.Plan.{ArePlanned, IsDecided, PutsHeader, header_by, header_or_reserved, if_wanted, op_above_in_slot, slot_mend, slot_mends}
 
 -- ---- lists

@@ -1,37 +1,17 @@
 -- A trailer that is refused is the answer to an open.
-use Rattle.std.specs.Prelude.{◌≢◌, Err}
-use Rattle.std.proofs.Common.{◌≡◌, inl, inr, ℕ, ◌<◌, ◌==◌, Bool, true, false, Option, Some, None, refl, sym, ◌∙◌, ap}
+use Rattle.std.{specs.Prelude.{◌≢◌, Err}, proofs.Common.{◌≡◌, inl, inr, ℕ, ◌<◌, ◌==◌, Bool, true, false, Option, Some, None, refl, sym, ◌∙◌, ap}}
 use Rattle.df_base.specs.Image.{Image, IsImage}
-use Rattle.df_layout.specs.declared.damage.Class.{Class}
-use Rattle.df_layout.specs.declared.damage.Class.TheVariants.{Blank, Elsewhere, Garbled, Stale}
-use Rattle.df_layout.specs.declared.fields.Field.{Field}
-use Rattle.df_layout.specs.declared.layout.Layout.{Layout}
-use Rattle.df_format.specs.Copies.{content_at, content_with}
-use Rattle.df_format.specs.SuperRules.{IsSuper}
-use Rattle.df_format.specs.declared.superblock.SuperFields.{SuperFields}
-use Rattle.df_recovery.proofs.Asked.{passes_as, super_as}
+use Rattle.df_layout.specs.{declared.damage.Class.{Class}, declared.damage.Class.TheVariants.{Blank, Elsewhere, Garbled, Stale}, declared.fields.Field.{Field}, declared.layout.Layout.{Layout}}
+use Rattle.df_format.specs.{Copies.{content_at, content_with}, SuperRules.{IsSuper}, declared.superblock.SuperFields.{SuperFields}}
+use Rattle.df_recovery.{proofs.{Asked.{passes_as, super_as}, Written.{super_is_written_as}}, specs.{Checkpoints.{RefusesTrailer}, Surveys.{HasFile, SurveysAs}}}
 use Rattle.df_quorum.specs.Quorum.{IsChosenContent}
 use Rattle.df_theory.specs.Units
-use Rattle.df_theory.specs.Units.{AnyUnit, BlockPlace, BlockUnit, CopyUnit, HeaderUnit, PrepareUnit, ReplyUnit}
-use Rattle.df_theory.specs.Opens.{BadTrailer, IsReadable, IsUsableSuperblock, LacksBlock}
-use Rattle.df_theory.specs.View.{Checkpoint}
-use Rattle.df_model.specs.Supply.{block_given, class_or, given_if}
-use Rattle.df_model.specs.declared.errors.OpenError.{OpenError}
-use Rattle.df_model.specs.declared.errors.OpenError.TheVariants.{NotFormatted, NoQuorum, Version, BadField, LayoutDiffers, Damaged, DiskFault, BootSpent}
-use Rattle.df_units.specs.Bytes.{unit_at}
-use Rattle.df_units.specs.Superblocks.{AreFieldsOf}
-use Rattle.df_units.specs.Wanted.{class_at}
-use Rattle.df_units.proofs.Laws.{choice_chosen, classes_told}
+use Rattle.df_theory.specs.{Units.{AnyUnit, BlockPlace, BlockUnit, CopyUnit, HeaderUnit, PrepareUnit, ReplyUnit}, Opens.{BadTrailer, IsReadable, IsUsableSuperblock, LacksBlock}, View.{Checkpoint}}
+use Rattle.df_model.specs.{Supply.{block_given, class_or, given_if}, declared.errors.OpenError.{OpenError}, declared.errors.OpenError.TheVariants.{NotFormatted, NoQuorum, Version, BadField, LayoutDiffers, Damaged, DiskFault, BootSpent}}
+use Rattle.df_units.{specs.{Bytes.{unit_at}, Superblocks.{AreFieldsOf}, Wanted.{class_at}}, proofs.Laws.{choice_chosen, classes_told}}
 use Rattle.df_grid.specs.Reads.{shown_of, trailer_alone}
-use Rattle.df_checkpoint.specs.Chain.{asked, content_in}
-use Rattle.df_checkpoint.specs.Laws.{AllChainShown}
-use Rattle.df_checkpoint.proofs.Laws.{broken_shown, broken_unreadable, damage_missed, referenced_unreadable, text_unreadable, untracked_unreadable, whole_shown}
-use Rattle.df_rooms.specs.State.{shape}
-use Rattle.df_rooms.specs.declared.file.DataFile.{DataFile}
-use Rattle.df_checkpoint.specs.Tests.{FailsTest}
-use Rattle.df_recovery.specs.Checkpoints.{RefusesTrailer}
-use Rattle.df_recovery.specs.Surveys.{HasFile, SurveysAs}
-use Rattle.df_recovery.proofs.Written.{super_is_written_as}
+use Rattle.df_checkpoint.{specs.{Chain.{asked, content_in}, Laws.{AllChainShown}, Tests.{FailsTest}}, proofs.Laws.{broken_shown, broken_unreadable, damage_missed, referenced_unreadable, text_unreadable, untracked_unreadable, whole_shown}}
+use Rattle.df_rooms.specs.{State.{shape}, declared.file.DataFile.{DataFile}}
 
 -- ---- the class of what a block's address shows
 

@@ -1,32 +1,15 @@
 -- What is read after the barrier is what the disk showed before it, and a refusal is the answer to the open.
-use Rattle.std.proofs.Common.{◌≡◌, ◌∙◌, ℕ, List, Option, Some, None, Result, Ok, Err, refl, sym, ap, subst}
-use Rattle.std.specs.Prelude.{IfErr, IfOk}
-use Rattle.df_base.specs.Image.{Image, IsImage}
-use Rattle.df_base.specs.Log.{Sync}
+use Rattle.std.{proofs.Common.{◌≡◌, ◌∙◌, ℕ, List, Option, Some, None, Result, Ok, Err, refl, sym, ap, subst}, specs.Prelude.{IfErr, IfOk}}
+use Rattle.df_base.specs.{Image.{Image, IsImage}, Log.{Sync}}
 use Rattle.df_disk.specs.Told.{Told, after}
-use Rattle.df_layout.specs.declared.layout.Layout.{Layout}
-use Rattle.df_format.specs.declared.superblock.SuperFields.{SuperFields}
+use Rattle.df_layout.specs.{declared.layout.Layout.{Layout}, declared.damage.Class.{Class}}
+use Rattle.df_format.specs.{declared.superblock.SuperFields.{SuperFields}, declared.header.Header.{Header}}
 use Rattle.df_model.specs.declared.errors.OpenError.{OpenError}
-use Rattle.df_format.specs.declared.header.Header.{Header}
-use Rattle.df_layout.specs.declared.damage.Class.{Class}
-use Rattle.df_journal.specs.Scan.{Scan}
+use Rattle.df_journal.specs.{Scan.{Scan}, declared.table.Start.{Start}, Starting.{start_of}}
 use Rattle.df_journal.specs.Scanned as rings
-use Rattle.df_journal.specs.declared.table.Start.{Start}
 use Rattle.df_replies.specs.Shown as slots
-use Rattle.df_rooms.specs.declared.file.DataFile.{DataFile}
-use Rattle.df_rooms.specs.declared.rooms.Rooms.{Rooms}
-use Rattle.df_recovery.specs.Checkpoints.{Base, TellsCheckpoint}
-use Rattle.df_recovery.specs.Finding.{IsOfFile, read_of}
-use Rattle.df_recovery.specs.Found.{IsFoundAs, IsFoundFile}
-use Rattle.df_recovery.specs.Opening.{HasSuperAs, IsLayoutOf}
-use Rattle.df_journal.specs.Starting.{start_of}
-use Rattle.df_recovery.specs.Scanning.{AreCopies, AreScanned, IsFileOf, IsFileScan, IsReadBehind, IsScanAs, IsServed, RefusesBase, TellsReadAs, base_scanned, without_rooms}
-use Rattle.df_recovery.specs.Surveys.{SurveysAs}
-use Rattle.df_recovery.specs.declared.scanned.Scanned.{Scanned}
-use Rattle.df_recovery.specs.declared.scanning.Copies.{Copies}
-use Rattle.df_recovery.proofs.Asked.{super_as}
-use Rattle.df_recovery.proofs.Refusals.{trailer_refused}
-use Rattle.df_recovery.proofs.Synced.{synced}
+use Rattle.df_rooms.specs.{declared.file.DataFile.{DataFile}, declared.rooms.Rooms.{Rooms}}
+use Rattle.df_recovery.{specs.{Checkpoints.{Base, TellsCheckpoint}, Finding.{IsOfFile, read_of}, Found.{IsFoundAs, IsFoundFile}, Opening.{HasSuperAs, IsLayoutOf}, Scanning.{AreCopies, AreScanned, IsFileOf, IsFileScan, IsReadBehind, IsScanAs, IsServed, RefusesBase, TellsReadAs, base_scanned, without_rooms}, Surveys.{SurveysAs}, declared.scanned.Scanned.{Scanned}, declared.scanning.Copies.{Copies}}, proofs.{Asked.{super_as}, Refusals.{trailer_refused}, Synced.{synced}}}
 
 pub refuses_base : (layout : Layout) (f : SuperFields) (told : Option Told) (e : OpenError) (file : DataFile) → TellsCheckpoint file told f (Err e) → IsFileOf layout f file → RefusesBase layout f told e
 refuses_base layout f told e file tells of = record { file = file; of = of; tells = tells }

@@ -1,13 +1,10 @@
 -- The laws of an image's answer where version 2 is asked for, as an open does.
 use Rattle.std.proofs.Common.{◌≡◌}
 use Rattle.df_base.specs.Image.{Image, IsImage}
-use Rattle.df_format.specs.Copies.{content_at, content_with}
-use Rattle.df_format.specs.declared.superblock.SuperFields.{SuperFields}
+use Rattle.df_format.specs.{Copies.{content_at, content_with}, declared.superblock.SuperFields.{SuperFields}}
 use Rattle.df_quorum.specs.Quorum.{IsChosenContent}
 use Rattle.df_model.specs.declared.errors.OpenError.{OpenError}
-use Rattle.df_recovery.specs.Opening.{HasSuper, Refuses}
-use Rattle.df_recovery.proofs.OneAnswer.{one_refusal_as, one_super_as, super_or_refusal_as}
-use Rattle.df_recovery.proofs.Written.{super_is_written_as, written_as}
+use Rattle.df_recovery.{specs.Opening.{HasSuper, Refuses}, proofs.{OneAnswer.{one_refusal_as, one_super_as, super_or_refusal_as}, Written.{super_is_written_as, written_as}}}
 
 pub super_or_refusal : (image : Image) (f : SuperFields) (e : OpenError) → HasSuper image f → Refuses image e → ⊥
 super_or_refusal image f e has refuses = super_or_refusal_as 2 image f e has refuses

@@ -1,59 +1,20 @@
 -- A surveyed file that keeps what was read and found is the answer to an open, and so is a refusal; and the list that was planned is what is to be mended of the image.
-use Rattle.std.proofs.Common.{◌≡◌, ◌∙◌, ℕ, zero, suc, ◌+◌, ◌<◌, ◌≤◌, ◌^◌, Bool, true, false, cond, not, List, ◌∷◌, ◌++◌, length, get_or, map, Option, Some, None, Result, Ok, Err, refl, sym, ap, subst, arith}
-use Rattle.std.specs.Prelude.{IfOk, option_map}
-use Rattle.std.specs.List.{filter, range_with_len, slice_get}
-use Rattle.std.proofs.lemmas.List.{ext_get_or}
-use Rattle.std.proofs.lemmas.List.FromFn.{get_or-map-range_with_len, length-map-range_with_len}
-use Rattle.std.proofs.lemmas.Option.{get_or_from_slice_get, same_Some, slice_get-map}
+use Rattle.std.{proofs.{Common.{◌≡◌, ◌∙◌, ℕ, zero, suc, ◌+◌, ◌<◌, ◌≤◌, ◌^◌, Bool, true, false, cond, not, List, ◌∷◌, ◌++◌, length, get_or, map, Option, Some, None, Result, Ok, Err, refl, sym, ap, subst, arith}, lemmas.List.{ext_get_or}, lemmas.List.FromFn.{get_or-map-range_with_len, length-map-range_with_len}, lemmas.Option.{get_or_from_slice_get, same_Some, slice_get-map}}, specs.{Prelude.{IfOk, option_map}, List.{filter, range_with_len, slice_get}}}
 use Rattle.df_disk.specs.Told.{Told}
-use Rattle.df_layout.specs.declared.damage.Class.{Class}
-use Rattle.df_layout.specs.declared.damage.Mend.{Mend}
-use Rattle.df_layout.specs.declared.layout.Layout.{Layout}
-use Rattle.df_layout.specs.declared.places.Zone.TheVariants.{Superblock, WalHeaders}
-use Rattle.df_format.specs.Own.{place_in}
-use Rattle.df_format.specs.Shown.{class_at}
-use Rattle.df_format.specs.declared.superblock.SuperFields.{SuperFields}
-use Rattle.df_cases.specs.Cases.{decision_of}
-use Rattle.df_cases.specs.declared.cases.Decision.{Decision}
-use Rattle.df_format.specs.declared.header.Header.{Header}
-use Rattle.df_journal.specs.Scan.{Scan, entry}
+use Rattle.df_layout.specs.{declared.damage.Class.{Class}, declared.damage.Mend.{Mend}, declared.layout.Layout.{Layout}, declared.places.Zone.TheVariants.{Superblock, WalHeaders}}
+use Rattle.df_format.specs.{Own.{place_in}, Shown.{class_at}, declared.superblock.SuperFields.{SuperFields}, declared.header.Header.{Header}}
+use Rattle.df_cases.specs.{Cases.{decision_of}, declared.cases.Decision.{Decision}}
+use Rattle.df_journal.{specs.{Scan.{Scan, entry}, Scanned.{seen_at}, Shows.{IsSeenTable as AreSlots, TellsRings}, Tail.{AreNumbered, AreUnstored}, declared.table.Start.{Start}, Starting.{start_of}}, proofs.Laws.{class_shown, rings_shown}}
 use Rattle.df_journal.specs.Scanned as rings
-use Rattle.df_journal.specs.Scanned.{seen_at}
-use Rattle.df_journal.specs.Shows.{IsSeenTable as AreSlots, TellsRings}
-use Rattle.df_journal.specs.Tail.{AreNumbered, AreUnstored}
-use Rattle.df_journal.specs.declared.table.Start.{Start}
-use Rattle.df_journal.proofs.Laws.{class_shown, rings_shown}
 use Rattle.df_model.specs.declared.errors.OpenError.{OpenError}
 use Rattle.df_quorum.specs.declared.slot.Slot.{Slot}
-use Rattle.df_sessions.specs.Requests.{session_of, sessions_of}
-use Rattle.df_sessions.specs.declared.session.Session.{Session}
+use Rattle.df_sessions.specs.{Requests.{session_of, sessions_of}, declared.session.Session.{Session}}
 use Rattle.df_superblock.specs.Calls.{ShowsSlots}
 use Rattle.df_theory.specs.Units
-use Rattle.df_theory.specs.Units.{Content}
-use Rattle.df_theory.specs.Found.{IsFound}
-use Rattle.df_theory.specs.MendLaws.{IsSlotHeader}
-use Rattle.df_theory.specs.View.{Checkpoint, View, head}
-use Rattle.df_theory.proofs.Laws.{one_chosen_law, one_found_law}
+use Rattle.df_theory.{specs.{Units.{Content}, Found.{IsFound}, MendLaws.{IsSlotHeader}, View.{Checkpoint, View, head}}, proofs.Laws.{one_chosen_law, one_found_law}}
 use Rattle.df_units.specs.Bytes.{unit_at}
-use Rattle.df_rooms.specs.State.{State, shape}
-use Rattle.df_rooms.specs.declared.file.DataFile.{DataFile}
-use Rattle.df_recovery.specs.Checkpoints.{Base, base_of}
-use Rattle.df_recovery.specs.Finding.{AnswersFinding, HasHeaders, IsOfFile, IsRefusedOpen, KeepsTraces, StoresTo, base_with, read_of}
-use Rattle.df_recovery.specs.Found.{IsChoiceOf, TellsFoundAs}
-use Rattle.df_recovery.specs.Plan.{ArePlanned, IsDecided, class_of_slot, copy_mend, copy_mends, decision_at, header_by, header_or_none, needs_header, op_above_in_slot, shown_class, slot_mend, slot_mends}
-use Rattle.df_recovery.specs.Scanning.{AreCopies, IsFileOf, IsScanAs, TellsReadAs, base_scanned}
-use Rattle.df_journal.specs.Starting.{start_of}
-use Rattle.df_recovery.specs.Surveying.{ArePlannedFrom, IsLawfulScan, IsPlannedFor, IsReadOf, IsSurveyMendable, KeepsRead, KeepsScannedFile, TellsPlannedMends, TellsSurveyAs, copy_mend_at, headers_of, mends_of, planned_header, state_found}
-use Rattle.df_recovery.specs.Surveys.{SurveysAs}
-use Rattle.df_recovery.specs.Waiting.{waiting_in}
-use Rattle.df_recovery.specs.declared.finding.Traces.{Traces}
-use Rattle.df_recovery.specs.declared.scanned.Scanned.{Scanned}
-use Rattle.df_recovery.specs.declared.scanning.Copies.{Copies}
-use Rattle.df_recovery.specs.declared.surveying.Surveyed.{Surveyed}
-use Rattle.df_recovery.proofs.FilesRead.{file_is_read}
-use Rattle.df_recovery.proofs.OpenAnswers.{kept_is_answer, refused_is_answer}
-use Rattle.df_recovery.proofs.Plans.{entry_there, op_in_is}
-use Rattle.df_recovery.proofs.Scans.{scanned_as}
+use Rattle.df_rooms.specs.{State.{State, shape}, declared.file.DataFile.{DataFile}}
+use Rattle.df_recovery.{specs.{Checkpoints.{Base, base_of}, Finding.{AnswersFinding, HasHeaders, IsOfFile, IsRefusedOpen, KeepsTraces, StoresTo, base_with, read_of}, Found.{IsChoiceOf, TellsFoundAs}, Plan.{ArePlanned, IsDecided, class_of_slot, copy_mend, copy_mends, decision_at, header_by, header_or_none, needs_header, op_above_in_slot, shown_class, slot_mend, slot_mends}, Scanning.{AreCopies, IsFileOf, IsScanAs, TellsReadAs, base_scanned}, Surveying.{ArePlannedFrom, IsLawfulScan, IsPlannedFor, IsReadOf, IsSurveyMendable, KeepsRead, KeepsScannedFile, TellsPlannedMends, TellsSurveyAs, copy_mend_at, headers_of, mends_of, planned_header, state_found}, Surveys.{SurveysAs}, Waiting.{waiting_in}, declared.finding.Traces.{Traces}, declared.scanned.Scanned.{Scanned}, declared.scanning.Copies.{Copies}, declared.surveying.Surveyed.{Surveyed}}, proofs.{FilesRead.{file_is_read}, OpenAnswers.{kept_is_answer, refused_is_answer}, Plans.{entry_there, op_in_is}, Scans.{scanned_as}}}
 
 -- ---- what was read makes sense by itself
 

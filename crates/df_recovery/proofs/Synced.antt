@@ -2,8 +2,7 @@
 use Rattle.std.proofs.Common.{ℕ, List, Option, Some, None, Result}
 use Rattle.df_base.specs.Log.{Sync}
 use Rattle.df_disk.specs.Told.{Told, after}
-use Rattle.df_layout.specs.declared.damage.Class.{Class}
-use Rattle.df_layout.specs.declared.layout.Layout.{Layout}
+use Rattle.df_layout.specs.{declared.damage.Class.{Class}, declared.layout.Layout.{Layout}}
 use Rattle.df_format.specs.declared.header.Header.{Header}
 use Rattle.df_journal.specs.Scan.{Scan}
 use Rattle.df_recovery.specs.Scanning.{AreScanned}

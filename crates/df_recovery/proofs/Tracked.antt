@@ -1,16 +1,11 @@
 -- The sessions that a trailer's text has, and the ops that wait for their replies.
-use Rattle.std.proofs.Common.{◌≡◌, ℕ, ◌<◌, ◌≤◌, Option, Some, None, List, [], refl, sym, ap, ◌∙◌, subst, arith}
-use Rattle.std.specs.List.{slice_get}
-use Rattle.std.specs.Option.{option_map}
-use Rattle.std.proofs.lemmas.Option.{slice_get-map}
+use Rattle.std.{proofs.{Common.{◌≡◌, ℕ, ◌<◌, ◌≤◌, Option, Some, None, List, [], refl, sym, ap, ◌∙◌, subst, arith}, lemmas.Option.{slice_get-map}}, specs.{List.{slice_get}, Option.{option_map}}}
 use Rattle.df_format.specs.declared.superblock.SuperFields.{SuperFields}
-use Rattle.df_sessions.specs.declared.session.Session.{Session}
-use Rattle.df_sessions.specs.Requests.{session_of, sessions_of}
+use Rattle.df_sessions.specs.{declared.session.Session.{Session}, Requests.{session_of, sessions_of}}
 use Rattle.df_theory.specs.Units
 use Rattle.df_theory.specs.Sessions.{Tracks}
 use Rattle.df_trailer.specs.Sessions.{AreReadSessions}
-use Rattle.df_checkpoint.specs.Waiting.{IsPendingReply}
-use Rattle.df_checkpoint.proofs.Laws.{has_is}
+use Rattle.df_checkpoint.{specs.Waiting.{IsPendingReply}, proofs.Laws.{has_is}}
 use Rattle.df_recovery.specs.Checkpoints.{AreOfCheckpoint}
 
 -- a session of the theory's list is one of the table

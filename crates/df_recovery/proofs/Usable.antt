@@ -1,12 +1,9 @@
 -- The choice of an image answers for it, once its fields are tested.
-use Rattle.std.specs.Prelude.{Err}
-use Rattle.std.proofs.Common.{ℕ, Option, Some, None}
+use Rattle.std.{specs.Prelude.{Err}, proofs.Common.{ℕ, Option, Some, None}}
 use Rattle.df_base.specs.Image.{Image}
 use Rattle.df_disk.specs.Told.{Told}
-use Rattle.df_recovery.specs.Opening.{RefusesAs}
-use Rattle.df_recovery.specs.Found.{IsFoundAs, AnswersAs, TellsChoice, TellsFoundAs}
-use Rattle.df_model.specs.declared.errors.OpenError.{OpenError}
-use Rattle.df_model.specs.declared.errors.OpenError.TheVariants.{NotFormatted, NoQuorum, Version, BadField, LayoutDiffers, Damaged, DiskFault, BootSpent}
+use Rattle.df_recovery.specs.{Opening.{RefusesAs}, Found.{IsFoundAs, AnswersAs, TellsChoice, TellsFoundAs}}
+use Rattle.df_model.specs.{declared.errors.OpenError.{OpenError}, declared.errors.OpenError.TheVariants.{NotFormatted, NoQuorum, Version, BadField, LayoutDiffers, Damaged, DiskFault, BootSpent}}
 
 -- a refusal is an answer
 refusal_answers : {T : Type 0} (version : ℕ) (P : T → Type 0) (image : Image) (e : OpenError) → RefusesAs version image e → AnswersAs version P image (Err e)

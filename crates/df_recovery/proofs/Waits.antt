@@ -1,22 +1,14 @@
 -- The checksums that wait, one more op at a time, and in the words of the machine.
-use Rattle.std.proofs.Common.{◌≡◌, ◌∙◌, inl, inr, ℕ, ◌+◌, ◌-◌, ◌%◌, ◌==◌, ◌≤◌, Bool, true, false, List, [], ◌∷◌, ◌++◌, length, map, Option, Some, None, refl, sym, ap, arith}
-use Rattle.std.specs.Prelude.{Result, Ok, Err, nat_lt, if◌then◌else◌}
-use Rattle.std.specs.List.{range_with_len, slice_get}
-use Rattle.std.proofs.lemmas.List.FromFn.{length-map-range_with_len, map-range_with_len_more}
-use Rattle.std.proofs.lemmas.Option.{slice_get_cases}
+use Rattle.std.{proofs.{Common.{◌≡◌, ◌∙◌, inl, inr, ℕ, ◌+◌, ◌-◌, ◌%◌, ◌==◌, ◌≤◌, Bool, true, false, List, [], ◌∷◌, ◌++◌, length, map, Option, Some, None, refl, sym, ap, arith}, lemmas.List.FromFn.{length-map-range_with_len, map-range_with_len_more}, lemmas.Option.{slice_get_cases}}, specs.{Prelude.{Result, Ok, Err, nat_lt, if◌then◌else◌}, List.{range_with_len, slice_get}}}
 use Rattle.df_base.specs.Fields.{field_at}
 use Rattle.df_layout.specs.declared.damage.Class.{Class}
-use Rattle.df_format.specs.Spelling.{no_checksum}
-use Rattle.df_format.specs.declared.header.Header.{Header}
+use Rattle.df_format.specs.{Spelling.{no_checksum}, declared.header.Header.{Header}}
 use Rattle.df_theory.specs.Units
 use Rattle.df_theory.specs.Units.{AnyUnit, PreparePlace}
 use Rattle.df_model.specs.Work.{checksum_of_op}
-use Rattle.df_units.specs.Meaning.{number_of}
-use Rattle.df_units.proofs.Laws.{no_number}
+use Rattle.df_units.{specs.Meaning.{number_of}, proofs.Laws.{no_number}}
 use Rattle.df_buffers.specs.declared.slots.SlotSeen.{SlotSeen}
-use Rattle.df_journal.specs.Scan.{Scan, entry, or_blank}
-use Rattle.df_journal.specs.Seen.{header_of_seen}
-use Rattle.df_journal.specs.Shows.{ShowsPrepare, ShowsTable}
+use Rattle.df_journal.specs.{Scan.{Scan, entry, or_blank}, Seen.{header_of_seen}, Shows.{ShowsPrepare, ShowsTable}}
 use Rattle.df_rooms.specs.State.{State, prepare_sum, sum_of_header}
 use Rattle.df_recovery.specs.Waiting.{header_checksum, known_sum, shown_sum, waiting_at, waiting_in, waiting_sum}
 

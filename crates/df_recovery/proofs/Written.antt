@@ -1,18 +1,9 @@
 -- A superblock that can be used was written: its content is the one that its fields give.
 use Rattle.std.proofs.Common.{◌≡◌, ℕ, ◌==◌, Bool, true, false, cond, List, Option, Some, None, refl, sym, ◌∙◌, ap, subst}
-use Rattle.df_base.specs.Fields.{check_of}
-use Rattle.df_base.specs.Image.{Image, IsImage, IsSector}
-use Rattle.df_format.specs.Super.{covered_bytes}
-use Rattle.df_format.specs.SuperRules.{IsSuper}
-use Rattle.df_format.specs.Copies.{Content, copy_in, if_here, copy_at, content_in_copy, content_at, content_with}
-use Rattle.df_format.specs.CopyLaws.{IsWrittenCopy}
-use Rattle.df_format.specs.declared.superblock.SuperCopy.{SuperCopy}
-use Rattle.df_format.specs.declared.superblock.SuperFields.{SuperFields}
-use Rattle.df_format.proofs.Laws.{was_written}
-use Rattle.df_recovery.proofs.Asked.{super_as}
+use Rattle.df_base.specs.{Fields.{check_of}, Image.{Image, IsImage, IsSector}}
+use Rattle.df_format.{specs.{Super.{covered_bytes}, SuperRules.{IsSuper}, Copies.{Content, copy_in, if_here, copy_at, content_in_copy, content_at, content_with}, CopyLaws.{IsWrittenCopy}, declared.superblock.SuperCopy.{SuperCopy}, declared.superblock.SuperFields.{SuperFields}}, proofs.Laws.{was_written}}
+use Rattle.df_recovery.{proofs.Asked.{super_as}, specs.{Opening.{HasSuperAs}, OpeningLaws.{SuperIsWritten}}}
 use Rattle.df_quorum.specs.Quorum.{IsChosenContent}
-use Rattle.df_recovery.specs.Opening.{HasSuperAs}
-use Rattle.df_recovery.specs.OpeningLaws.{SuperIsWritten}
 
 -- a content that a sector shows is that of the copy that the sector is
 record IsFrom (bytes : List ℕ) (c : Content) : Type 0 where

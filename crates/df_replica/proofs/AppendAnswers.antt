@@ -1,43 +1,17 @@
 -- Each append is the machine's: its answer, the state after it, and what it does to the disk.
-use Rattle.std.proofs.Common.{◌≡◌, ℕ, ◌+◌, ◌%◌, ◌^◌, ◌<◌, ◌≤◌, true, false, List, [], ◌∷◌, length, Option, Some, None, refl, sym, ◌∙◌, ap, subst, arith}
-use Rattle.std.specs.Prelude.{Ok, Err}
-use Rattle.std.proofs.Math.Nat.{mod-lt}
+use Rattle.std.{proofs.{Common.{◌≡◌, ℕ, ◌+◌, ◌%◌, ◌^◌, ◌<◌, ◌≤◌, true, false, List, [], ◌∷◌, length, Option, Some, None, refl, sym, ◌∙◌, ap, subst, arith}, Math.Nat.{mod-lt}}, specs.Prelude.{Ok, Err}}
 use Rattle.df_base.proofs.Laws.{AreBytes-check_of, field_at-lt}
-use Rattle.df_disk.specs.Told.{Told}
-use Rattle.df_disk.specs.Adds.{AddsPart, after_all}
-use Rattle.df_format.specs.Making.{for_body}
-use Rattle.df_format.specs.Message.{Message}
-use Rattle.df_format.specs.Spelling.{spelling_rest}
+use Rattle.df_disk.specs.{Told.{Told}, Adds.{AddsPart, after_all}}
+use Rattle.df_format.specs.{Making.{for_body}, Message.{Message}, Spelling.{spelling_rest}}
 use Rattle.df_journal.specs.Below.{IsInOwnSlot}
 use Rattle.df_sessions.specs.Table.{IsSessionTable}
 use Rattle.df_theory.specs.Shape.{Shape}
 use Rattle.df_units.specs.Meaning.{number_of}
-use Rattle.df_model.specs.After.{outcome, with_prepare}
-use Rattle.df_model.specs.Changing.{appended_in, blocks_after, unless_refused}
-use Rattle.df_model.specs.Codec.{AreChecksums}
-use Rattle.df_model.specs.Commands.{Answer, Append, Command, ForAppend, Given, IsInput, ToAppend, as_answer, supplied_sum, supplied_sums}
-use Rattle.df_model.specs.Faults.{is_append_fault}
-use Rattle.df_model.specs.Making.{prepare_of}
-use Rattle.df_model.specs.Memory.{Memory, memory_of}
-use Rattle.df_model.specs.Refusals.{append_refusals, first_refusal}
-use Rattle.df_model.specs.Sense.{IsWork}
-use Rattle.df_model.specs.Work.{Work}
+use Rattle.df_model.{specs.{After.{outcome, with_prepare}, Changing.{appended_in, blocks_after, unless_refused}, Codec.{AreChecksums}, Commands.{Answer, Append, Command, ForAppend, Given, IsInput, ToAppend, as_answer, supplied_sum, supplied_sums}, Faults.{is_append_fault}, Making.{prepare_of}, Memory.{Memory, memory_of}, Refusals.{append_refusals, first_refusal}, Sense.{IsWork}, Work.{Work}, declared.answers.Receipt.{Receipt}, declared.errors.AppendError.{AppendError}}, proofs.Laws.{change_law}}
 use Rattle.df_theory.specs.Units as theory
-use Rattle.df_model.proofs.Laws.{change_law}
-use Rattle.df_model.specs.declared.answers.Receipt.{Receipt}
-use Rattle.df_model.specs.declared.errors.AppendError.{AppendError}
 use Rattle.df_model.specs.declared.errors.AppendError.TheVariants as append
-use Rattle.df_replica.specs.Answering.{Serves, answer_of, as_append}
-use Rattle.df_replica.specs.Appending.{IsAppendCall, append_events, header_given, next_unit, receipt_of, with_prepare_appended}
-use Rattle.df_replica.specs.Serving.{IsCall, format, next}
-use Rattle.df_replica.specs.Supply.{IsSupplied}
+use Rattle.df_replica.{specs.{Answering.{Serves, answer_of, as_append}, Appending.{IsAppendCall, append_events, header_given, next_unit, receipt_of, with_prepare_appended}, Serving.{IsCall, format, next}, Supply.{IsSupplied}}, proofs.{AppendCalls.{allowed_does, allowed_makes, allowed_puts, refused_does, refused_makes, refused_puts, ring_then, test_is}, AppendMemory.{appended_memory}, AppendTests.{may_next}, Calls.{AreCalls, Answered, answered_call, answered_still, stopped_call}, WritesOn.{StandsIn}, Unblamed.{append_unblamed, refused_answer}}}
 use Rattle.df_opening.specs.Below.{IsState, Represents, State, memory, shape, spelling}
-use Rattle.df_replica.proofs.AppendCalls.{allowed_does, allowed_makes, allowed_puts, refused_does, refused_makes, refused_puts, ring_then, test_is}
-use Rattle.df_replica.proofs.AppendMemory.{appended_memory}
-use Rattle.df_replica.proofs.AppendTests.{may_next}
-use Rattle.df_replica.proofs.Calls.{AreCalls, Answered, answered_call, answered_still, stopped_call}
-use Rattle.df_replica.proofs.WritesOn.{StandsIn}
-use Rattle.df_replica.proofs.Unblamed.{append_unblamed, refused_answer}
 
 module _ (s : State) (client request : ℕ) (body : List ℕ) (given : Given) (is : IsState s) (live : s.live ≡ true) (fits : client < 2 ^ 128) (sum : given ≡ ForAppend (number_of (next_unit s client request body).header.checksum ∷ [])) where
   abbrev u : Message

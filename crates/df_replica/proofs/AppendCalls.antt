@@ -1,55 +1,17 @@
 -- What an append does to the disk is the machine's append, and after it the header ring shows the table.
-use Rattle.std.specs.Prelude.{Ok, if◌then◌else◌, slice_get}
-use Rattle.std.proofs.Common.{◌≡◌, inl, inr, ℕ, ◌+◌, ◌/◌, ◌%◌, ◌==◌, Bool, true, false, List, [], ◌∷◌, Option, Some, None, refl, sym, ◌∙◌, ap, subst}
-use Rattle.std.proofs.lemmas.Bool.{cond-true, eq-eqb}
-use Rattle.std.proofs.lemmas.Option.{same_Some}
-use Rattle.df_base.specs.Image.{Image}
-use Rattle.df_base.specs.Log.{now}
-use Rattle.df_disk.specs.Told.{Told}
-use Rattle.df_disk.specs.Adds.{after_all}
-use Rattle.df_layout.specs.declared.layout.Layout.{Layout}
-use Rattle.df_layout.specs.declared.places.Zone.TheVariants.{WalPrepares}
-use Rattle.df_format.specs.Brings.{Brings}
-use Rattle.df_format.specs.declared.header.Header.{Header}
-use Rattle.df_format.specs.Message.{Message, sectors_of}
-use Rattle.df_format.specs.Own.{place_in}
-use Rattle.df_format.proofs.Laws.{made_brings}
-use Rattle.df_journal.specs.Below.{IsInOwnSlot}
-use Rattle.df_journal.specs.Append.{EndsAppended, MayAppendOn, ShowsRing, journal_steps, new_sector, with_header}
-use Rattle.df_journal.proofs.Laws.{append_steps, ends_appended, next_sector}
+use Rattle.std.{specs.Prelude.{Ok, if◌then◌else◌, slice_get}, proofs.{Common.{◌≡◌, inl, inr, ℕ, ◌+◌, ◌/◌, ◌%◌, ◌==◌, Bool, true, false, List, [], ◌∷◌, Option, Some, None, refl, sym, ◌∙◌, ap, subst}, lemmas.Bool.{cond-true, eq-eqb}, lemmas.Option.{same_Some}}}
+use Rattle.df_base.specs.{Image.{Image}, Log.{now}}
+use Rattle.df_disk.specs.{Told.{Told}, Adds.{after_all}}
+use Rattle.df_layout.specs.{declared.layout.Layout.{Layout}, declared.places.Zone.TheVariants.{WalPrepares}}
+use Rattle.df_format.{specs.{Brings.{Brings}, declared.header.Header.{Header}, Message.{Message, sectors_of}, Own.{place_in}}, proofs.Laws.{made_brings}}
+use Rattle.df_journal.{specs.{Below.{IsInOwnSlot}, Append.{EndsAppended, MayAppendOn, ShowsRing, journal_steps, new_sector, with_header}}, proofs.Laws.{append_steps, ends_appended, next_sector}}
 use Rattle.df_theory.specs.Units as theory
-use Rattle.df_theory.specs.Units.{AnyUnit, BlockPlace, CopyPlace, HeaderPlace, HeaderUnit, Place, PreparePlace, PrepareUnit, ReplyPlace, or_else}
-use Rattle.df_theory.specs.Next.{MayAppend}
-use Rattle.df_theory.specs.Device.{units_log}
-use Rattle.df_theory.specs.Shape.{Shape}
-use Rattle.df_theory.specs.TidyLaws.{IsTidy}
-use Rattle.df_units.specs.Format.{format_of, shape_as, shape_of}
-use Rattle.df_theory.specs.UnitLog.{put_one}
-use Rattle.df_theory.specs.WriterLaws.{IsHeaderSector}
-use Rattle.df_theory.proofs.Laws.{put_one_law}
+use Rattle.df_theory.{specs.{Units.{AnyUnit, BlockPlace, CopyPlace, HeaderPlace, HeaderUnit, Place, PreparePlace, PrepareUnit, ReplyPlace, or_else}, Next.{MayAppend}, Device.{units_log}, Shape.{Shape}, TidyLaws.{IsTidy}, UnitLog.{put_one}, WriterLaws.{IsHeaderSector}}, proofs.Laws.{put_one_law}}
+use Rattle.df_units.{specs.{Format.{format_of, shape_as, shape_of}, Bytes.{unit_at}, Meaning.{header_of, layout_of, message_of, number_of, number_or}, Puts.{IsNextSector, header_unit, put_headers}}, proofs.Laws.{sector_puts}}
 use Rattle.df_trailer.specs.Text.{parse_of}
-use Rattle.df_units.specs.Bytes.{unit_at}
-use Rattle.df_units.specs.Meaning.{header_of, layout_of, message_of, number_of, number_or}
-use Rattle.df_units.specs.Puts.{IsNextSector, header_unit, put_headers}
-use Rattle.df_units.proofs.Laws.{sector_puts}
-use Rattle.df_model.specs.Commands.{Append, Command, ForAppend, Given, supplied_sum, supplied_sums}
-use Rattle.df_model.specs.Laws.{DoesAppend, UnlessRefused}
-use Rattle.df_model.specs.Making.{prepare_of}
-use Rattle.df_model.specs.Memory.{Memory, memory_of}
-use Rattle.df_model.specs.OnDisk.{DoesOnDisk}
-use Rattle.df_model.specs.Refusals.{append_refusals, first_refusal}
-use Rattle.df_model.specs.Supply.{puts_of, unless}
-use Rattle.df_model.specs.Work.{Work}
-use Rattle.df_model.specs.declared.errors.AppendError.{AppendError}
-use Rattle.df_model.proofs.Laws.{append_may_law}
-use Rattle.df_opening.specs.Below.{IsState, Represents, State, memory, shape, spelling}
-use Rattle.df_replica.specs.Appending.{append_events, next_unit}
-use Rattle.df_replica.specs.Serving.{Grade, IsKept, format}
-use Rattle.df_replica.proofs.Calls.{AreCalls}
-use Rattle.df_opening.proofs.Laws.{firmly}
-use Rattle.df_replica.proofs.Leaves.{Makes, makes_nothing}
-use Rattle.df_replica.proofs.Makes.{OfMade, Unless}
-use Rattle.df_replica.proofs.WritesOn.{StandsIn, steps_stand}
+use Rattle.df_model.{specs.{Commands.{Append, Command, ForAppend, Given, supplied_sum, supplied_sums}, Laws.{DoesAppend, UnlessRefused}, Making.{prepare_of}, Memory.{Memory, memory_of}, OnDisk.{DoesOnDisk}, Refusals.{append_refusals, first_refusal}, Supply.{puts_of, unless}, Work.{Work}, declared.errors.AppendError.{AppendError}}, proofs.Laws.{append_may_law}}
+use Rattle.df_opening.{specs.Below.{IsState, Represents, State, memory, shape, spelling}, proofs.Laws.{firmly}}
+use Rattle.df_replica.{specs.{Appending.{append_events, next_unit}, Serving.{Grade, IsKept, format}}, proofs.{Calls.{AreCalls}, Leaves.{Makes, makes_nothing}, Makes.{OfMade, Unless}, WritesOn.{StandsIn, steps_stand}}}
 
 -- ---- a header sector with one new header, in the words of the theory
 

@@ -1,21 +1,14 @@
 -- What an append leaves in memory is what the machine's append leaves there.
-use Rattle.std.proofs.Common.{◌≡◌, ◌≢◌, inl, inr, ℕ, zero, suc, ◌+◌, ◌-◌, ◌%◌, ◌<◌, ◌≤◌, List, [], ◌∷◌, ◌++◌, length, map, Option, refl, ◌∙◌, ap, arith}
-use Rattle.std.specs.Prelude.{slice_set}
-use Rattle.std.specs.List.{range_with_len, slice_get}
-use Rattle.std.proofs.lemmas.Bool.{cases_Bool}
-use Rattle.std.proofs.lemmas.List.{map-append}
+use Rattle.std.{proofs.{Common.{◌≡◌, ◌≢◌, inl, inr, ℕ, zero, suc, ◌+◌, ◌-◌, ◌%◌, ◌<◌, ◌≤◌, List, [], ◌∷◌, ◌++◌, length, map, Option, refl, ◌∙◌, ap, arith}, lemmas.Bool.{cases_Bool}, lemmas.List.{map-append}}, specs.{Prelude.{slice_set}, List.{range_with_len, slice_get}}}
 use Rattle.df_base.proofs.Laws.{get_set, get_set_other}
-use Rattle.df_format.specs.declared.header.Header.{Header}
-use Rattle.df_format.specs.Message.{Message}
+use Rattle.df_format.specs.{declared.header.Header.{Header}, Message.{Message}}
 use Rattle.df_journal.proofs.Laws.{one_op}
 use Rattle.df_sessions.specs.declared.session.Session as told
-use Rattle.df_sessions.specs.Requests.{session_of, sessions_of}
-use Rattle.df_sessions.specs.Table.{has_client, with_request}
+use Rattle.df_sessions.specs.{Requests.{session_of, sessions_of}, Table.{has_client, with_request}}
 use Rattle.df_theory.specs.Sessions.{noted}
 use Rattle.df_theory.specs.Units as theory
 use Rattle.df_units.specs.Meaning.{header_of, message_of, number_of}
-use Rattle.df_model.specs.Memory.{Memory}
-use Rattle.df_model.specs.Changing.{appended_in, unstored}
+use Rattle.df_model.specs.{Memory.{Memory}, Changing.{appended_in, unstored}}
 use Rattle.df_opening.specs.Below.{IsState, State, memory, prepare_sum, stored_sum, sum_of_header}
 use Rattle.df_replica.specs.Appending.{next_unit, with_prepare_appended}
 

@@ -1,26 +1,14 @@
 -- What an append that isn't refused may rely on, and where a client's session is found.
-use Rattle.std.proofs.Common.{◌≡◌, inl, inr, ℕ, zero, suc, ◌^◌, ◌<◌, ◌≤◌, Bool, true, false, List, [], ◌∷◌, length, get_or, map, Option, Some, None, IsSome, refl, sym, ◌∙◌, ap, subst, arith, rules, ltb-false, eqb-true}
-use Rattle.std.specs.Prelude.{option_map, if◌then◌else◌, IfSome}
-use Rattle.std.specs.List.{position}
-use Rattle.std.proofs.lemmas.Bool.{cases_Bool, or_parts, not-false, eqb-false}
-use Rattle.std.proofs.lemmas.List.{length-map}
+use Rattle.std.{proofs.{Common.{◌≡◌, inl, inr, ℕ, zero, suc, ◌^◌, ◌<◌, ◌≤◌, Bool, true, false, List, [], ◌∷◌, length, get_or, map, Option, Some, None, IsSome, refl, sym, ◌∙◌, ap, subst, arith, rules, ltb-false, eqb-true, ◌%◌}, lemmas.Bool.{cases_Bool, or_parts, not-false, eqb-false}, lemmas.List.{length-map}, lemmas.List.Quantifiers.{position-Some}, lemmas.Option.{slice_get-get_or}, Math.Nat.{mod-lt}}, specs.{Prelude.{option_map, if◌then◌else◌, IfSome}, List.{position}}}
 use borrow.Author.Tests.{ltb-false}
-use Rattle.std.proofs.lemmas.List.Quantifiers.{position-Some}
-use Rattle.std.proofs.lemmas.Option.{slice_get-get_or}
-use Rattle.std.proofs.Common.{◌%◌}
-use Rattle.std.proofs.Math.Nat.{mod-lt}
 use Rattle.df_base.proofs.Laws.{and_false, none_passes, no_elements}
 use Rattle.df_sessions.specs.declared.session.Session as told
-use Rattle.df_sessions.specs.Requests.{session_of, sessions_of}
-use Rattle.df_sessions.specs.Table.{IsKnownClient, IsSessionTable, has_client, requested, with_request}
-use Rattle.df_theory.specs.Sessions.{MayAsk}
-use Rattle.df_theory.specs.Units.{Header, Session}
-use Rattle.df_model.specs.Refusals.{append_refusals, first_refusal, is_new, last_op, next_request, session_of_client}
+use Rattle.df_sessions.specs.{Requests.{session_of, sessions_of}, Table.{IsKnownClient, IsSessionTable, has_client, requested, with_request}}
+use Rattle.df_theory.specs.{Sessions.{MayAsk}, Units.{Header, Session}}
+use Rattle.df_model.{specs.Refusals.{append_refusals, first_refusal, is_new, last_op, next_request, session_of_client}, proofs.Laws.{all_pass, known_asks, new_asks, some_request}}
 use Rattle.df_journal.specs.Tail.{AreNumbered}
-use Rattle.df_model.proofs.Laws.{all_pass, known_asks, new_asks, some_request}
 use Rattle.df_opening.specs.Below.{IsState, State, memory}
-use Rattle.df_replica.specs.Refusing.{session_at}
-use Rattle.df_replica.specs.Appending.{MayNext}
+use Rattle.df_replica.specs.{Refusing.{session_at}, Appending.{MayNext}}
 
 -- ---- a client's session
 

@@ -1,31 +1,12 @@
 -- Each begin is the machine's: its answer, and the state after it. It does nothing to the disk.
-use Rattle.std.proofs.Common.{◌≡◌, ◌∙◌, ℕ, true, List, [], take, Option, Some, None, refl, sym, ap, subst}
-use Rattle.std.specs.Prelude.{Ok, Err}
-use Rattle.std.proofs.lemmas.Option.{same_Some}
-use Rattle.df_base.specs.Fields.{AreBytes}
-use Rattle.df_base.specs.Log.{now}
+use Rattle.std.{proofs.{Common.{◌≡◌, ◌∙◌, ℕ, true, List, [], take, Option, Some, None, refl, sym, ap, subst}, lemmas.Option.{same_Some}}, specs.Prelude.{Ok, Err}}
+use Rattle.df_base.specs.{Fields.{AreBytes}, Log.{now}}
 use Rattle.df_disk.specs.Told.{Told}
 use Rattle.df_journal.specs.Append.{ShowsRing}
 use Rattle.df_theory.specs.Units.{Parts}
-use Rattle.df_model.specs.After.{begun as begun_by, outcome, with_running}
-use Rattle.df_model.specs.Blocks.{blocks_captured}
-use Rattle.df_model.specs.Changing.{begun_in, unless_refused}
-use Rattle.df_model.specs.Commands.{Answer, Begin, Command, ForBegin, Given, IsInput, ToBegin, as_answer}
-use Rattle.df_model.specs.Making.{needed_of}
-use Rattle.df_model.specs.Memory.{Memory, free_of, memory_of}
-use Rattle.df_model.specs.Refusals.{begin_refusals, first_refusal}
-use Rattle.df_model.specs.Sense.{IsWork}
-use Rattle.df_model.specs.Work.{Work}
-use Rattle.df_model.proofs.Laws.{change_law}
-use Rattle.df_model.specs.declared.errors.BeginError.{BeginError}
+use Rattle.df_model.{specs.{After.{begun as begun_by, outcome, with_running}, Blocks.{blocks_captured}, Changing.{begun_in, unless_refused}, Commands.{Answer, Begin, Command, ForBegin, Given, IsInput, ToBegin, as_answer}, Making.{needed_of}, Memory.{Memory, free_of, memory_of}, Refusals.{begin_refusals, first_refusal}, Sense.{IsWork}, Work.{Work}, declared.errors.BeginError.{BeginError}}, proofs.Laws.{change_law}}
 use Rattle.df_opening.specs.Below.{Represents, State, shape, spelling}
-use Rattle.df_replica.specs.Answering.{Serves, begin_answer}
-use Rattle.df_replica.specs.Beginning.{begin_refusal, needed, with_checkpoint_begun}
-use Rattle.df_replica.specs.Serving.{IsCall, next}
-use Rattle.df_replica.specs.Supply.{IsSupplied}
-use Rattle.df_replica.proofs.Calls.{AreCalls, Answered, answered_call, answered_still}
-use Rattle.df_replica.proofs.Leaves.{Makes, makes_nothing}
-use Rattle.df_replica.proofs.ReadCalls.{no_sums}
+use Rattle.df_replica.{specs.{Answering.{Serves, begin_answer}, Beginning.{begin_refusal, needed, with_checkpoint_begun}, Serving.{IsCall, next}, Supply.{IsSupplied}}, proofs.{Calls.{AreCalls, Answered, answered_call, answered_still}, Leaves.{Makes, makes_nothing}, ReadCalls.{no_sums}}}
 
 -- what a begin makes of the memory
 abbrev begun_memory : (Parts → List ℕ) → Memory → List ℕ → Memory

@@ -1,18 +1,11 @@
 -- How long the trailer of a checkpoint is that is begun: what the code counts is what the machine does.
-use Rattle.std.proofs.Common.{◌≡◌, ◌∙◌, ℕ, zero, suc, ◌+◌, ◌-◌, ◌*◌, ◌/◌, ◌%◌, ◌<◌, ◌≤◌, List, [], ◌∷◌, ◌++◌, length, map, take, Some, sym, ap, subst, arith}
-use Rattle.std.specs.Prelude.{slice_get}
-use Rattle.std.proofs.Math.Nat.{div-add-mod, lt_of_mul-lt-mul_left}
-use Rattle.std.proofs.lemmas.List.{length-map}
+use Rattle.std.{proofs.{Common.{◌≡◌, ◌∙◌, ℕ, zero, suc, ◌+◌, ◌-◌, ◌*◌, ◌/◌, ◌%◌, ◌<◌, ◌≤◌, List, [], ◌∷◌, ◌++◌, length, map, take, Some, sym, ap, subst, arith}, Math.Nat.{div-add-mod, lt_of_mul-lt-mul_left}, lemmas.List.{length-map}}, specs.Prelude.{slice_get}}
 use Rattle.df_base.proofs.Laws.{suc_minus}
 use Rattle.df_sessions.specs.Requests.{session_of}
 use Rattle.df_theory.specs.Trailer.{IsCount}
 use Rattle.df_units.specs.Meaning.{layout_of}
-use Rattle.df_model.specs.Blocks.{sum_at}
-use Rattle.df_model.specs.Making.{parts_of, pieces_of}
-use Rattle.df_trailer.specs.Spelling.{is_referenced, text_size}
-use Rattle.df_trailer.specs.Text.{ones}
-use Rattle.df_trailer.specs.Writing.{captured_blocks}
-use Rattle.df_trailer.proofs.Laws.{text_sized}
+use Rattle.df_model.specs.{Blocks.{sum_at}, Making.{parts_of, pieces_of}}
+use Rattle.df_trailer.{specs.{Spelling.{is_referenced, text_size}, Text.{ones}, Writing.{captured_blocks}}, proofs.Laws.{text_sized}}
 use Rattle.df_opening.specs.Below.{State, memory}
 use Rattle.df_replica.specs.Beginning.{IsPlan, text_to_write}
 

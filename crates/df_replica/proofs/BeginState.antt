@@ -1,13 +1,10 @@
 -- The state with a checkpoint that was begun makes sense.
-use Rattle.std.proofs.Common.{◌≡◌, ◌∙◌, ℕ, ◌-◌, List, length, take, Option, refl, subst, arith}
-use Rattle.std.proofs.lemmas.List.{length-take}
+use Rattle.std.proofs.{Common.{◌≡◌, ◌∙◌, ℕ, ◌-◌, List, length, take, Option, refl, subst, arith}, lemmas.List.{length-take}}
 use Rattle.df_sessions.specs.Table.{IsSessionTable}
 use Rattle.df_theory.specs.Trailer.{IsCount}
-use Rattle.df_model.specs.Blocks.{Blocks}
-use Rattle.df_model.specs.Memory.{free_of}
+use Rattle.df_model.specs.{Blocks.{Blocks}, Memory.{free_of}}
 use Rattle.df_opening.specs.Below.{RunningState, IsCourse, IsLevel, IsRunningCheckpoint, IsState, State, memory}
-use Rattle.df_replica.specs.declared.begin.Plan.{Plan}
-use Rattle.df_replica.specs.Beginning.{MayBeginCheckpoint, captured, needed, with_checkpoint_begun}
+use Rattle.df_replica.specs.{declared.begin.Plan.{Plan}, Beginning.{MayBeginCheckpoint, captured, needed, with_checkpoint_begun}}
 
 -- a state makes sense with other blocks and another course, where those do
 pub with_course : (s : State) (b : Blocks) (r : Option RunningState) → IsState s → IsCourse s.file s.fields s.head b r → IsLevel s.head s.head_checksum r → IsState (record s { blocks = b; running = r })

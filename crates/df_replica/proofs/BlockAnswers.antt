@@ -1,56 +1,18 @@
 -- Each write of a block is the machine's: its answer, the state after it, and what it does to the disk.
-use Rattle.std.proofs.Common.{◌≡◌, ◌∙◌, ℕ, true, false, List, [], ◌∷◌, Option, Some, None, refl, sym, ap, subst}
-use Rattle.std.specs.Prelude.{Ok, Err}
-use Rattle.std.proofs.lemmas.Option.{same_Some}
-use Rattle.df_base.proofs.Laws.{AreBytes-check_of, field_at-lt, now_is_image}
-use Rattle.df_base.specs.Image.{IsImage}
-use Rattle.df_base.specs.Log.{now}
-use Rattle.df_disk.specs.Told.{Told}
-use Rattle.df_disk.specs.Adds.{AddsPart, after_all}
+use Rattle.std.{proofs.{Common.{◌≡◌, ◌∙◌, ℕ, true, false, List, [], ◌∷◌, Option, Some, None, refl, sym, ap, subst}, lemmas.Option.{same_Some}}, specs.Prelude.{Ok, Err}}
+use Rattle.df_base.{proofs.Laws.{AreBytes-check_of, field_at-lt, now_is_image}, specs.{Image.{IsImage}, Log.{now}}}
+use Rattle.df_disk.specs.{Told.{Told}, Adds.{AddsPart, after_all}}
 use Rattle.df_layout.specs.declared.places.Zone.TheVariants.{Grid}
-use Rattle.df_format.proofs.Laws.{made_brings}
-use Rattle.df_format.specs.Making.{for_body}
-use Rattle.df_format.specs.Message.{Message, sectors_of}
-use Rattle.df_format.specs.Own.{place_in}
-use Rattle.df_format.specs.Spelling.{spelling_rest}
-use Rattle.df_format.specs.Valid.{IsUnit}
-use Rattle.df_format.specs.declared.reference.Reference.{Reference}
+use Rattle.df_format.{proofs.Laws.{made_brings}, specs.{Making.{for_body}, Message.{Message, sectors_of}, Own.{place_in}, Spelling.{spelling_rest}, Valid.{IsUnit}, declared.reference.Reference.{Reference}}}
 use Rattle.df_grid.specs.Writes.{block_steps}
 use Rattle.df_journal.specs.Append.{ShowsRing}
-use Rattle.df_theory.specs.Device.{AreSteps}
+use Rattle.df_theory.{specs.{Device.{AreSteps}, Units.{AnyUnit, BlockPlace, BlockUnit, CopyPlace, HeaderPlace, Place, PreparePlace, ReplyPlace, or_else}, UnitLog.{put_one}}, proofs.Laws.{put_one_law}}
 use Rattle.df_theory.specs.Units as theory
-use Rattle.df_theory.specs.Units.{AnyUnit, BlockPlace, BlockUnit, CopyPlace, HeaderPlace, Place, PreparePlace, ReplyPlace, or_else}
-use Rattle.df_theory.specs.UnitLog.{put_one}
-use Rattle.df_theory.proofs.Laws.{put_one_law}
-use Rattle.df_units.specs.Format.{format_of}
+use Rattle.df_units.{specs.{Format.{format_of}, Meaning.{number_of}}, proofs.Laws.{block_put, no_number}}
 use Rattle.df_units.specs.Meaning as meaning
-use Rattle.df_units.specs.Meaning.{number_of}
-use Rattle.df_units.proofs.Laws.{block_put, no_number}
-use Rattle.df_model.specs.After.{outcome, with_live}
-use Rattle.df_model.specs.Blocks.{block_written, with_entry}
-use Rattle.df_model.specs.Changing.{unless_refused}
-use Rattle.df_model.specs.Codec.{AreChecksums}
-use Rattle.df_model.specs.Commands.{Answer, Command, ForWriteBlock, Given, IsInput, ToWriteBlock, WriteBlock, as_answer, supplied_sum, supplied_sums}
-use Rattle.df_model.specs.Faults.{is_block_fault}
-use Rattle.df_model.specs.Laws.{DoesBlock, UnlessRefused}
-use Rattle.df_model.specs.Making.{block_of, next_address}
-use Rattle.df_model.specs.Memory.{Memory, memory_of}
-use Rattle.df_model.specs.OnDisk.{DoesOnDisk}
-use Rattle.df_model.specs.Refusals.{block_refusals, first_refusal}
-use Rattle.df_model.specs.Sense.{IsWork}
-use Rattle.df_model.specs.Supply.{puts_of, unless}
-use Rattle.df_model.specs.Work.{Work}
-use Rattle.df_model.proofs.Laws.{change_law}
-use Rattle.df_model.specs.declared.errors.BlockError.{BlockError}
+use Rattle.df_model.{specs.{After.{outcome, with_live}, Blocks.{block_written, with_entry}, Changing.{unless_refused}, Codec.{AreChecksums}, Commands.{Answer, Command, ForWriteBlock, Given, IsInput, ToWriteBlock, WriteBlock, as_answer, supplied_sum, supplied_sums}, Faults.{is_block_fault}, Laws.{DoesBlock, UnlessRefused}, Making.{block_of, next_address}, Memory.{Memory, memory_of}, OnDisk.{DoesOnDisk}, Refusals.{block_refusals, first_refusal}, Sense.{IsWork}, Supply.{puts_of, unless}, Work.{Work}, declared.errors.BlockError.{BlockError}}, proofs.Laws.{change_law}}
 use Rattle.df_opening.specs.Below.{IsState, Represents, State, memory, shape, spelling}
-use Rattle.df_replica.specs.Answering.{Serves, answer_of, as_write_block}
-use Rattle.df_replica.specs.Blocks.{block_events, block_header_given, next_block, reference_of, written}
-use Rattle.df_replica.specs.Serving.{Grade, IsCall, IsKept, format, next}
-use Rattle.df_replica.specs.Supply.{IsSupplied}
-use Rattle.df_replica.proofs.Calls.{AreCalls, Answered, answered_call, answered_still, stopped_call}
-use Rattle.df_replica.proofs.Leaves.{Makes, makes_nothing}
-use Rattle.df_replica.proofs.BlockStates.{blocks_memory}
-use Rattle.df_replica.proofs.Unblamed.{block_unblamed, refused_answer}
+use Rattle.df_replica.{specs.{Answering.{Serves, answer_of, as_write_block}, Blocks.{block_events, block_header_given, next_block, reference_of, written}, Serving.{Grade, IsCall, IsKept, format, next}, Supply.{IsSupplied}}, proofs.{Calls.{AreCalls, Answered, answered_call, answered_still, stopped_call}, Leaves.{Makes, makes_nothing}, BlockStates.{blocks_memory}, Unblamed.{block_unblamed, refused_answer}}}
 
 module _ (s : State) (kind : ℕ) (body : List ℕ) (given : Given) (is : IsState s) (live : s.live ≡ true) (sum : given ≡ ForWriteBlock (number_of (next_block s kind body).header.checksum ∷ [])) where
   abbrev u : Message

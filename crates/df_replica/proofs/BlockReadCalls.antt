@@ -1,38 +1,20 @@
 -- Each read of a block is the machine's: it does nothing to the disk, and what it found is what it was supplied with.
-use Rattle.std.proofs.Common.{◌≡◌, ℕ, Bool, true, false, cond, not, List, [], Option, Some, None, refl, sym, ◌∙◌, ap, subst}
-use Rattle.std.specs.Prelude.{Result, Ok, Err, is_some}
-use Rattle.std.proofs.lemmas.Option.{same_Some}
+use Rattle.std.{proofs.{Common.{◌≡◌, ℕ, Bool, true, false, cond, not, List, [], Option, Some, None, refl, sym, ◌∙◌, ap, subst}, lemmas.Option.{same_Some}}, specs.Prelude.{Result, Ok, Err, is_some}}
 use Rattle.df_base.specs.Log.{now}
 use Rattle.df_disk.specs.Told.{Told}
-use Rattle.df_layout.specs.declared.damage.Class.{Class}
-use Rattle.df_layout.specs.declared.places.Place.{Place}
-use Rattle.df_layout.specs.declared.places.Zone.TheVariants.{Grid}
-use Rattle.df_format.specs.declared.kind.Kind.TheVariants.{Block}
-use Rattle.df_format.specs.Message.{Message}
-use Rattle.df_format.specs.Own.{place_in}
+use Rattle.df_layout.specs.{declared.damage.Class.{Class}, declared.places.Place.{Place}, declared.places.Zone.TheVariants.{Grid}}
+use Rattle.df_format.specs.{declared.kind.Kind.TheVariants.{Block}, Message.{Message}, Own.{place_in}}
 use Rattle.df_buffers.specs.Sounds.{Holding}
 use Rattle.df_trailer.specs.Rooms.{number_in}
-use Rattle.df_grid.specs.Grid.{IsKnownBlock}
-use Rattle.df_grid.specs.Reads.{HoldsKnown, Loads, ReadsBlock}
+use Rattle.df_grid.specs.{Grid.{IsKnownBlock}, Reads.{HoldsKnown, Loads, ReadsBlock}}
 use Rattle.df_units.specs.Meaning.{block_of}
 use Rattle.df_journal.specs.Append.{ShowsRing}
 use Rattle.df_theory.specs.Units
 use Rattle.df_model.specs.After as after
-use Rattle.df_model.specs.After.{shown_or}
-use Rattle.df_model.specs.Blocks.{sum_at}
-use Rattle.df_model.specs.Commands.{ForReadBlock, Given, IsInput, ReadBlock, ToReadBlock, supplied_block}
-use Rattle.df_model.specs.Memory.{Memory}
-use Rattle.df_model.specs.Refusals.{first_refusal, read_refusals}
-use Rattle.df_model.specs.Work.{is_known}
-use Rattle.df_model.specs.declared.reading.ReadError.{ReadError}
+use Rattle.df_model.specs.{After.{shown_or}, Blocks.{sum_at}, Commands.{ForReadBlock, Given, IsInput, ReadBlock, ToReadBlock, supplied_block}, Memory.{Memory}, Refusals.{first_refusal, read_refusals}, Work.{is_known}, declared.reading.ReadError.{ReadError}}
 use Rattle.df_model.specs.declared.reading.ReadError.TheVariants as read
 use Rattle.df_opening.specs.Below.{State, memory}
-use Rattle.df_replica.specs.Answering.{GivesBlock, ServesBlockRead}
-use Rattle.df_replica.specs.BlockReads.{IsBlockFound, IsReadBlock}
-use Rattle.df_replica.specs.Supply.{IsSupplied}
-use Rattle.df_replica.proofs.Calls.{AreCalls, Answered, answered_call, stopped_call}
-use Rattle.df_replica.proofs.Leaves.{makes_nothing}
-use Rattle.df_replica.proofs.ReadCalls.{no_sums}
+use Rattle.df_replica.{specs.{Answering.{GivesBlock, ServesBlockRead}, BlockReads.{IsBlockFound, IsReadBlock}, Supply.{IsSupplied}}, proofs.{Calls.{AreCalls, Answered, answered_call, stopped_call}, Leaves.{makes_nothing}, ReadCalls.{no_sums}}}
 
 module _ (s : State) (address : ℕ) (live : s.live ≡ true) where
   abbrev damaged : Class → ReadError

@@ -1,16 +1,10 @@
 -- The state whose live blocks changed: it makes sense, and what it is in the words of the machine.
-use Rattle.std.proofs.Common.{◌≡◌, ℕ, false, List, Option, Some, None, refl, sym, ap, subst}
-use Rattle.std.specs.Prelude.{Result, Ok, Err, OnErr, OnOk}
+use Rattle.std.{proofs.Common.{◌≡◌, ℕ, false, List, Option, Some, None, refl, sym, ap, subst}, specs.Prelude.{Result, Ok, Err, OnErr, OnOk}}
 use Rattle.df_format.specs.declared.superblock.SuperFields.{SuperFields}
 use Rattle.df_grid.specs.Grid.{GridState, with_blocks as grid_of}
-use Rattle.df_model.specs.Blocks.{Blocks, block_released, sum_at}
-use Rattle.df_model.specs.Memory.{Course}
-use Rattle.df_model.specs.Work.{is_known}
-use Rattle.df_model.proofs.Laws.{known_none, without_none}
-use Rattle.df_model.specs.declared.errors.BlockError.{BlockError}
+use Rattle.df_model.{specs.{Blocks.{Blocks, block_released, sum_at}, Memory.{Course}, Work.{is_known}, declared.errors.BlockError.{BlockError}}, proofs.Laws.{known_none, without_none}}
 use Rattle.df_opening.specs.Below.{DataFile, RunningState, IsCourse, IsState, State, course_in, memory}
-use Rattle.df_replica.specs.Blocks.{address_or, with_grid_blocks}
-use Rattle.df_replica.proofs.BeginState.{with_course}
+use Rattle.df_replica.{specs.Blocks.{address_or, with_grid_blocks}, proofs.BeginState.{with_course}}
 
 -- ---- other live blocks
 

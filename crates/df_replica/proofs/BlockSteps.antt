@@ -1,38 +1,15 @@
 -- Each step that writes a trailer block is the machine's.
-use Rattle.std.proofs.Common.{◌≡◌, ◌≢◌, inl, ◌∙◌, ℕ, ◌+◌, true, false, List, [], ◌∷◌, length, Option, Some, None, refl, sym, ap, subst, arith}
-use Rattle.std.specs.Prelude.{Ok}
+use Rattle.std.{proofs.Common.{◌≡◌, ◌≢◌, inl, ◌∙◌, ℕ, ◌+◌, true, false, List, [], ◌∷◌, length, Option, Some, None, refl, sym, ap, subst, arith}, specs.Prelude.{Ok}}
 use Rattle.df_base.specs.Log.{now}
-use Rattle.df_disk.specs.Told.{Told}
-use Rattle.df_disk.specs.Adds.{AddsPart, after_all}
+use Rattle.df_disk.specs.{Told.{Told}, Adds.{AddsPart, after_all}}
 use Rattle.df_journal.specs.Append.{ShowsRing}
-use Rattle.df_theory.specs.Device.{AreSteps}
-use Rattle.df_theory.specs.Runs.{Step}
-use Rattle.df_theory.specs.UnitLog.{put_one}
-use Rattle.df_theory.proofs.Laws.{put_one_law}
+use Rattle.df_theory.{specs.{Device.{AreSteps}, Runs.{Step}, UnitLog.{put_one}, Units.{BlockPlace, BlockUnit, CopyPlace, PreparePlace, ReplyPlace, or_else}}, proofs.Laws.{put_one_law}}
 use Rattle.df_theory.specs.Units as theory
-use Rattle.df_theory.specs.Units.{BlockPlace, BlockUnit, CopyPlace, PreparePlace, ReplyPlace, or_else}
-use Rattle.df_units.specs.Format.{format_of}
-use Rattle.df_units.specs.Meaning.{block_of}
+use Rattle.df_units.specs.{Format.{format_of}, Meaning.{block_of}}
 use Rattle.df_grid.specs.Writes.{block_steps}
-use Rattle.df_model.specs.After.{next_trailer}
-use Rattle.df_model.specs.Commands.{Advance, Answer, ForAdvance, Given, ToAdvance, supplied_sum, supplied_sums}
-use Rattle.df_model.specs.Laws.{DoesBlock}
-use Rattle.df_model.specs.Making.{first_of, piece_of, trailer_block}
-use Rattle.df_model.specs.Memory.{Course, block_room}
-use Rattle.df_model.specs.Supply.{puts_of}
-use Rattle.df_model.specs.Work.{Work}
-use Rattle.df_model.specs.declared.answers.Progress.TheVariants.{Working}
+use Rattle.df_model.specs.{After.{next_trailer}, Commands.{Advance, Answer, ForAdvance, Given, ToAdvance, supplied_sum, supplied_sums}, Laws.{DoesBlock}, Making.{first_of, piece_of, trailer_block}, Memory.{Course, block_room}, Supply.{puts_of}, Work.{Work}, declared.answers.Progress.TheVariants.{Working}}
 use Rattle.df_opening.specs.Below.{RunningState, IsCourse, IsRunningCheckpoint, IsState, Represents, State, course_in, course_of, memory, shape, spelling}
-use Rattle.df_replica.specs.Answering.{Serves}
-use Rattle.df_replica.specs.Serving.{Grade, IsCall, IsKept, format, next}
-use Rattle.df_replica.specs.Stepping.{OfRunning, advanced, block_events, block_sum, block_to_write, made_by, made_for, trailer_unit}
-use Rattle.df_replica.proofs.Calls.{AreCalls}
-use Rattle.df_replica.proofs.Leaves.{IsWhole, Makes}
-use Rattle.df_replica.proofs.RingSpared.{ring_spared}
-use Rattle.df_replica.proofs.Makes.{OfStep}
-use Rattle.df_replica.proofs.StepAnswers.{does_step, fault_call, makes_step, next_is, runs, step_puts_are, stepped_call, sum_is}
-use Rattle.df_replica.proofs.StepMemory.{block_memory, step_memory}
-use Rattle.df_replica.proofs.WritesOn.{StandsIn, steps_stand}
+use Rattle.df_replica.{specs.{Answering.{Serves}, Serving.{Grade, IsCall, IsKept, format, next}, Stepping.{OfRunning, advanced, block_events, block_sum, block_to_write, made_by, made_for, trailer_unit}}, proofs.{Calls.{AreCalls}, Leaves.{IsWhole, Makes}, RingSpared.{ring_spared}, Makes.{OfStep}, StepAnswers.{does_step, fault_call, makes_step, next_is, runs, step_puts_are, stepped_call, sum_is}, StepMemory.{block_memory, step_memory}, WritesOn.{StandsIn, steps_stand}}}
 
 module _ (s : State) (r : RunningState) (a : ℕ) (more : List ℕ) (given : Given) (is : IsRunningCheckpoint s.file s.fields s.head s.blocks r) (booted : s.boot ≡ s.fields.boot) (running : s.running ≡ Some r) (left : s.blocks.left ≡ a ∷ more)
     (unit : block_of (trailer_unit s r) ≡ block_to_write s r (block_sum s r)) (steps : AreSteps (format_of s.file.layout s.file.cluster) (block_events s r) (block_steps (trailer_unit s r)))

@@ -1,30 +1,13 @@
 -- Every call: whose device calls are the machine's has good moments, and where it answered what is kept goes on.
-use Rattle.std.proofs.Common.{◌≡◌, inl, inr, true, false, List, [], ◌∷◌, Option, Some, None, refl, sym, ap, subst}
-use Rattle.std.proofs.lemmas.Option.{same_Some}
-use Rattle.df_base.specs.Log.{Event, IsLog, Log, now}
-use Rattle.df_base.specs.Moments.{EachMoment, Extends, adds}
-use Rattle.df_base.proofs.Laws.{extends_self, extends_on}
-use Rattle.df_disk.specs.Told.{Told, did}
-use Rattle.df_disk.specs.Adds.{AddsPart, after_all}
-use Rattle.df_disk.proofs.Laws.{all_is_part, tells_on}
-use Rattle.df_opening.specs.Below.{IsWritten, DataFile, Represents, State, shape, spelling}
+use Rattle.std.proofs.{Common.{◌≡◌, inl, inr, true, false, List, [], ◌∷◌, Option, Some, None, refl, sym, ap, subst}, lemmas.Option.{same_Some}}
+use Rattle.df_base.{specs.{Log.{Event, IsLog, Log, now}, Moments.{EachMoment, Extends, adds}}, proofs.Laws.{extends_self, extends_on}}
+use Rattle.df_disk.{specs.{Told.{Told, did}, Adds.{AddsPart, after_all}}, proofs.Laws.{all_is_part, tells_on}}
+use Rattle.df_opening.{specs.Below.{IsWritten, DataFile, Represents, State, shape, spelling}, proofs.Laws.{front_of, all_front, good_safe, firmly}}
 use Rattle.df_journal.specs.Append.{ShowsRing}
-use Rattle.df_theory.specs.Device.{Format, units_log}
-use Rattle.df_theory.specs.Shape.{Shape}
-use Rattle.df_theory.specs.Units.{AnyUnit, BlockPlace, BlockUnit, Place}
+use Rattle.df_theory.specs.{Device.{Format, units_log}, Shape.{Shape}, Units.{AnyUnit, BlockPlace, BlockUnit, Place}}
 use Rattle.df_units.proofs.Laws.{all_added, is_format, part_moments, steps_within}
-use Rattle.df_model.specs.Commands.{Answer, Command, Given, IsInput}
-use Rattle.df_model.specs.OnDisk.{BacksOnDisk, DoesOnDisk, LeadsOnDisk}
-use Rattle.df_model.specs.Sense.{IsBacked, IsWork}
-use Rattle.df_model.specs.Work.{Work, kept}
-use Rattle.df_model.proofs.Laws.{disk_command_law, sense_law}
-use Rattle.df_replica.specs.Serving.{EachIsGood, Firm, GoesOnTo, Grade, IsCall, IsGoodFor, IsKept, Keeps, KeptFor, Whole, format, next}
-use Rattle.df_replica.specs.Supply.{IsSupplied}
-use Rattle.df_replica.specs.WrittenFor.{IsWrittenFor, WritesOn}
-use Rattle.df_opening.proofs.Laws.{front_of, all_front, good_safe, firmly}
-use Rattle.df_replica.proofs.Leaves.{others_spared, Makes, leaves_copies, leaves_shown, settles_on, spares_held}
-use Rattle.df_replica.proofs.Makes.{HasEach, OfMade, after_has, made_weaker}
-use Rattle.df_replica.proofs.WritesOn.{StandsIn, brought_is_written, stays_written}
+use Rattle.df_model.{specs.{Commands.{Answer, Command, Given, IsInput}, OnDisk.{BacksOnDisk, DoesOnDisk, LeadsOnDisk}, Sense.{IsBacked, IsWork}, Work.{Work, kept}}, proofs.Laws.{disk_command_law, sense_law}}
+use Rattle.df_replica.{specs.{Serving.{EachIsGood, Firm, GoesOnTo, Grade, IsCall, IsGoodFor, IsKept, Keeps, KeptFor, Whole, format, next}, Supply.{IsSupplied}, WrittenFor.{IsWrittenFor, WritesOn}}, proofs.{Leaves.{others_spared, Makes, leaves_copies, leaves_shown, settles_on, spares_held}, Makes.{HasEach, OfMade, after_has, made_weaker}, WritesOn.{StandsIn, brought_is_written, stays_written}}}
 
 -- ---- logs that go on
 

@@ -1,20 +1,13 @@
 -- What the superblock says that ends a checkpoint obeys the rules, and the state after it makes sense.
-use Rattle.std.proofs.Common.{◌≡◌, ℕ, ◌+◌, ◌*◌, ◌/◌, ◌≤◌, List, [], ◌∷◌, Some, None, refl, sym, ◌∙◌, ap, subst, arith}
-use Rattle.std.proofs.lemmas.Option.{same_Some}
+use Rattle.std.proofs.{Common.{◌≡◌, ℕ, ◌+◌, ◌*◌, ◌/◌, ◌≤◌, List, [], ◌∷◌, Some, None, refl, sym, ◌∙◌, ap, subst, arith}, lemmas.Option.{same_Some}}
 use Rattle.df_base.specs.Fields.{spelled}
-use Rattle.df_format.proofs.Laws.{faults}
-use Rattle.df_format.specs.Spelling.{IsCheck}
-use Rattle.df_format.specs.SuperRules.{IsSuper, IsUsable, fault_of}
-use Rattle.df_format.specs.declared.superblock.SuperFields.{SuperFields}
+use Rattle.df_format.{proofs.Laws.{faults}, specs.{Spelling.{IsCheck}, SuperRules.{IsSuper, IsUsable, fault_of}, declared.superblock.SuperFields.{SuperFields}}}
 use Rattle.df_sessions.specs.Table.{IsSessionTable}
 use Rattle.df_theory.specs.Trailer.{greatest_trailer}
 use Rattle.df_model.specs.Blocks.{Blocks}
-use Rattle.df_units.specs.Meaning.{layout_of, number_of}
-use Rattle.df_units.proofs.Laws.{whole_check}
-use Rattle.df_grid.specs.Table.{last_trailer_block}
-use Rattle.df_grid.specs.Writes.{first_address, first_sum}
-use Rattle.df_opening.specs.Below.{IsLevel, IsRunningCheckpoint, IsState, MayRecord, RunningState, State}
-use Rattle.df_opening.proofs.Laws.{recorded_is_super, second_as, staging_on}
+use Rattle.df_units.{specs.Meaning.{layout_of, number_of}, proofs.Laws.{whole_check}}
+use Rattle.df_grid.specs.{Table.{last_trailer_block}, Writes.{first_address, first_sum}}
+use Rattle.df_opening.{specs.Below.{IsLevel, IsRunningCheckpoint, IsState, MayRecord, RunningState, State}, proofs.Laws.{recorded_is_super, second_as, staging_on}}
 use Rattle.df_replica.specs.Stepping.{captured_fields, finished, next_fields}
 
 -- the last trailer block is the first of those that are listed

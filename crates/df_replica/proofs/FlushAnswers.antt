@@ -1,38 +1,13 @@
 -- Each flush is the machine's: its answer, the state after it, and what it does to the disk.
-use Rattle.std.proofs.Common.{◌≡◌, ℕ, ◌+◌, true, false, List, [], ◌∷◌, length, Option, Some, None, refl, sym, ◌∙◌, ap, subst}
-use Rattle.std.specs.Prelude.{Ok, Err}
+use Rattle.std.{proofs.Common.{◌≡◌, ℕ, ◌+◌, true, false, List, [], ◌∷◌, length, Option, Some, None, refl, sym, ◌∙◌, ap, subst}, specs.Prelude.{Ok, Err}}
 use Rattle.df_base.proofs.Laws.{AreBytes-check_of, field_at-lt}
-use Rattle.df_disk.specs.Told.{Told}
-use Rattle.df_disk.specs.Adds.{AddsPart, after_all}
-use Rattle.df_format.specs.Making.{for_body}
-use Rattle.df_format.specs.Message.{Message}
-use Rattle.df_format.specs.Spelling.{spelling_rest}
+use Rattle.df_disk.specs.{Told.{Told}, Adds.{AddsPart, after_all}}
+use Rattle.df_format.specs.{Making.{for_body}, Message.{Message}, Spelling.{spelling_rest}}
 use Rattle.df_theory.specs.Shape.{Shape}
 use Rattle.df_theory.specs.Units as theory
-use Rattle.df_model.specs.After.{outcome, with_group}
-use Rattle.df_model.specs.Changing.{flushed_in, unless_refused}
-use Rattle.df_model.specs.Codec.{AreChecksums}
-use Rattle.df_model.specs.Commands.{Answer, Flush, ForFlush, Given, IsInput, ToFlush, as_answer, supplied_sums}
-use Rattle.df_model.specs.Faults.{is_flush_fault}
-use Rattle.df_model.specs.Making.{group_of}
-use Rattle.df_model.specs.Memory.{Memory, memory_of}
-use Rattle.df_model.specs.Refusals.{first_refusal, flush_refusals}
-use Rattle.df_model.specs.Sense.{IsWork}
-use Rattle.df_model.specs.Work.{Request, Work}
-use Rattle.df_model.specs.declared.errors.FlushError.{FlushError}
-use Rattle.df_model.proofs.Laws.{change_law}
+use Rattle.df_model.{specs.{After.{outcome, with_group}, Changing.{flushed_in, unless_refused}, Codec.{AreChecksums}, Commands.{Answer, Flush, ForFlush, Given, IsInput, ToFlush, as_answer, supplied_sums}, Faults.{is_flush_fault}, Making.{group_of}, Memory.{Memory, memory_of}, Refusals.{first_refusal, flush_refusals}, Sense.{IsWork}, Work.{Request, Work}, declared.errors.FlushError.{FlushError}}, proofs.Laws.{change_law}}
 use Rattle.df_opening.specs.Below.{IsState, Represents, State, memory, shape, spelling}
-use Rattle.df_replica.specs.declared.flush.Group.{Group}
-use Rattle.df_replica.specs.Answering.{Serves, answer_of, as_flush}
-use Rattle.df_replica.specs.Appending.{unit_made}
-use Rattle.df_replica.specs.Flushing.{AreHeld, flush_events, flush_units, flushed, group_in, group_prepares, header_in, sums_of}
-use Rattle.df_replica.specs.Serving.{IsCall, format, next}
-use Rattle.df_replica.specs.Supply.{IsSupplied}
-use Rattle.df_replica.proofs.Calls.{AreCalls, Answered, answered_call, answered_still, stopped_call}
-use Rattle.df_replica.proofs.FlushCalls.{allowed_does, allowed_makes, allowed_puts, group_is, refused_does, refused_makes, refused_puts, ring_then, test_is}
-use Rattle.df_replica.proofs.FlushMemory.{flushed_memory}
-use Rattle.df_replica.proofs.Unblamed.{flush_unblamed, refused_answer}
-use Rattle.df_replica.proofs.WritesOn.{StandsIn}
+use Rattle.df_replica.{specs.{declared.flush.Group.{Group}, Answering.{Serves, answer_of, as_flush}, Appending.{unit_made}, Flushing.{AreHeld, flush_events, flush_units, flushed, group_in, group_prepares, header_in, sums_of}, Serving.{IsCall, format, next}, Supply.{IsSupplied}}, proofs.{Calls.{AreCalls, Answered, answered_call, answered_still, stopped_call}, FlushCalls.{allowed_does, allowed_makes, allowed_puts, group_is, refused_does, refused_makes, refused_puts, ring_then, test_is}, FlushMemory.{flushed_memory}, Unblamed.{flush_unblamed, refused_answer}, WritesOn.{StandsIn}}}
 
 -- each checksum is one
 sums_are : (g : Group) (op : ℕ) (parent : List ℕ) (rs : List Request) → AreChecksums (sums_of (group_prepares g op parent rs))

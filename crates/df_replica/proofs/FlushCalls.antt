@@ -1,55 +1,18 @@
 -- What a flush does to the disk is the machine's flush, and after it the header ring shows the table.
-use Rattle.std.specs.Prelude.{Ok}
-use Rattle.std.proofs.Common.{◌≡◌, inl, inr, ℕ, zero, suc, ◌+◌, ◌%◌, ◌<◌, ◌==◌, true, List, [], ◌∷◌, ◌++◌, length, Option, Some, None, refl, sym, ◌∙◌, ap, subst, arith, ne_eqb, ltb-true}
-use Rattle.std.proofs.lemmas.Bool.{cond-false, not-false}
-use Rattle.std.proofs.lemmas.Option.{same_Some}
-use Rattle.std.specs.List.{slice_get}
+use Rattle.std.{specs.{Prelude.{Ok}, List.{slice_get}}, proofs.{Common.{◌≡◌, inl, inr, ℕ, zero, suc, ◌+◌, ◌%◌, ◌<◌, ◌==◌, true, List, [], ◌∷◌, ◌++◌, length, Option, Some, None, refl, sym, ◌∙◌, ap, subst, arith, ne_eqb, ltb-true}, lemmas.Bool.{cond-false, not-false}, lemmas.Option.{same_Some}}}
 use Rattle.df_base.specs.Log.{Event, now}
-use Rattle.df_disk.specs.Told.{Told}
-use Rattle.df_disk.specs.Adds.{after_all}
-use Rattle.df_format.specs.declared.header.Header.{Header}
-use Rattle.df_format.specs.Message.{Message}
-use Rattle.df_theory.specs.Device.{AreSteps, units_log}
-use Rattle.df_theory.specs.Next.{MayAppend}
-use Rattle.df_theory.specs.Runs.{Step, Syncs}
-use Rattle.df_theory.specs.Shape.{Shape}
-use Rattle.df_theory.specs.TidyLaws.{IsTidy}
-use Rattle.df_theory.specs.UnitLog.{put_one}
+use Rattle.df_disk.specs.{Told.{Told}, Adds.{after_all}}
+use Rattle.df_format.specs.{declared.header.Header.{Header}, Message.{Message}}
+use Rattle.df_theory.{specs.{Device.{AreSteps, units_log}, Next.{MayAppend}, Runs.{Step, Syncs}, Shape.{Shape}, TidyLaws.{IsTidy}, UnitLog.{put_one}, Units.{AnyUnit, BlockPlace, CopyPlace, Place, PreparePlace, PrepareUnit, ReplyPlace, or_else}, View.{boot_of}}, proofs.Laws.{put_one_law, else_join}}
 use Rattle.df_theory.specs.Units as theory
-use Rattle.df_theory.specs.Units.{AnyUnit, BlockPlace, CopyPlace, Place, PreparePlace, PrepareUnit, ReplyPlace, or_else}
-use Rattle.df_theory.specs.View.{boot_of}
-use Rattle.df_theory.proofs.Laws.{put_one_law, else_join}
 use Rattle.df_trailer.specs.Text.{parse_of}
-use Rattle.df_units.specs.Bytes.{unit_at}
-use Rattle.df_units.specs.Format.{format_of, shape_as, shape_of}
-use Rattle.df_units.specs.Meaning.{layout_of, message_of, number_of, number_or}
-use Rattle.df_units.specs.Puts.{put_headers}
+use Rattle.df_units.specs.{Bytes.{unit_at}, Format.{format_of, shape_as, shape_of}, Meaning.{layout_of, message_of, number_of, number_or}, Puts.{put_headers}}
 use Rattle.df_headers.specs.Ring.{header_write_steps, in_sector}
-use Rattle.df_journal.specs.Append.{ShowsRing, settle_events, settle_steps}
+use Rattle.df_journal.{specs.{Append.{ShowsRing, settle_events, settle_steps}, Flush.{EndsFlushed, MayFlushOn, MayPutGroup, flush_steps, group_steps, held_prepares, messages_of, with_headers}}, proofs.Laws.{GroupPuts, flush_are_steps, flush_puts, group_ends, length_of_units}}
 use Rattle.df_journal.specs.Flush as journal
-use Rattle.df_journal.specs.Flush.{EndsFlushed, MayFlushOn, MayPutGroup, flush_steps, group_steps, held_prepares, messages_of, with_headers}
-use Rattle.df_journal.proofs.Laws.{GroupPuts, flush_are_steps, flush_puts, group_ends, length_of_units}
-use Rattle.df_model.specs.Commands.{Flush, ForFlush, Given, supplied_sums}
-use Rattle.df_model.specs.Laws.{DoesFlush, UnlessRefused}
-use Rattle.df_model.specs.Making.{group_of, prepares_in}
-use Rattle.df_model.specs.Memory.{Memory, memory_of}
-use Rattle.df_model.specs.OnDisk.{DoesOnDisk}
-use Rattle.df_model.specs.Refusals.{first_refusal, flush_refusals, is_staged}
-use Rattle.df_model.specs.Supply.{group_puts, puts_of, unless}
-use Rattle.df_model.specs.Work.{Request, Work}
-use Rattle.df_model.specs.declared.errors.FlushError.{FlushError}
-use Rattle.df_model.proofs.Laws.{all_pass, flush_may_law}
-use Rattle.df_opening.specs.Below.{IsState, Represents, State, memory, shape, spelling}
-use Rattle.df_opening.proofs.Laws.{boot_made, firmly, unit_after, after_join}
-use Rattle.df_replica.specs.declared.flush.Group.{Group}
-use Rattle.df_replica.specs.Appending.{unit_made}
-use Rattle.df_replica.specs.Flushing.{AreHeld, flush_events, flush_units, group_events, group_in, group_prepares, header_in, sums_of}
-use Rattle.df_replica.specs.Serving.{Grade, IsKept, format}
-use Rattle.df_replica.proofs.Calls.{AreCalls}
-use Rattle.df_replica.proofs.FlushUnits.{length_units, puts_same}
-use Rattle.df_replica.proofs.Leaves.{Makes, makes_nothing}
-use Rattle.df_replica.proofs.Makes.{OfMade, OfPrepares, Unless}
-use Rattle.df_replica.proofs.WritesOn.{PutsIn, StandsIn, steps_stand}
+use Rattle.df_model.{specs.{Commands.{Flush, ForFlush, Given, supplied_sums}, Laws.{DoesFlush, UnlessRefused}, Making.{group_of, prepares_in}, Memory.{Memory, memory_of}, OnDisk.{DoesOnDisk}, Refusals.{first_refusal, flush_refusals, is_staged}, Supply.{group_puts, puts_of, unless}, Work.{Request, Work}, declared.errors.FlushError.{FlushError}}, proofs.Laws.{all_pass, flush_may_law}}
+use Rattle.df_opening.{specs.Below.{IsState, Represents, State, memory, shape, spelling}, proofs.Laws.{boot_made, firmly, unit_after, after_join}}
+use Rattle.df_replica.{specs.{declared.flush.Group.{Group}, Appending.{unit_made}, Flushing.{AreHeld, flush_events, flush_units, group_events, group_in, group_prepares, header_in, sums_of}, Serving.{Grade, IsKept, format}}, proofs.{Calls.{AreCalls}, FlushUnits.{length_units, puts_same}, Leaves.{Makes, makes_nothing}, Makes.{OfMade, OfPrepares, Unless}, WritesOn.{PutsIn, StandsIn, steps_stand}}}
 
 -- ---- the machine's group
 

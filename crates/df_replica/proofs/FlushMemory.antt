@@ -1,29 +1,15 @@
 -- What a flush leaves in memory is what the machine's flush leaves there.
-use Rattle.std.proofs.Common.{◌≡◌, ℕ, suc, ◌+◌, ◌-◌, ◌%◌, ◌<◌, ◌≤◌, List, [], ◌∷◌, ◌++◌, length, map, refl, sym, ◌∙◌, ap, arith, append_assoc, append-nil}
-use Rattle.std.specs.Prelude.{slice_set}
-use Rattle.std.specs.List.{range_with_len}
-use Rattle.std.proofs.Math.Nat.{mod-lt}
-use Rattle.std.proofs.lemmas.List.{length-set, map-append}
-use Rattle.df_format.specs.declared.header.Header.{Header}
-use Rattle.df_format.specs.Message.{Message}
-use Rattle.df_journal.specs.Flush.{messages_of, with_headers}
+use Rattle.std.{proofs.{Common.{◌≡◌, ℕ, suc, ◌+◌, ◌-◌, ◌%◌, ◌<◌, ◌≤◌, List, [], ◌∷◌, ◌++◌, length, map, refl, sym, ◌∙◌, ap, arith, append_assoc, append-nil}, Math.Nat.{mod-lt}, lemmas.List.{length-set, map-append}}, specs.{Prelude.{slice_set}, List.{range_with_len}}}
+use Rattle.df_format.specs.{declared.header.Header.{Header}, Message.{Message}}
+use Rattle.df_journal.{specs.Flush.{messages_of, with_headers}, proofs.Laws.{length_messages}}
 use Rattle.df_sessions.specs.declared.session.Session as told
-use Rattle.df_sessions.specs.Requests.{sessions_of}
-use Rattle.df_sessions.specs.Table.{with_request}
-use Rattle.df_theory.specs.Sessions.{sessions_after}
-use Rattle.df_theory.specs.Tails.{last_checksum}
+use Rattle.df_sessions.specs.{Requests.{sessions_of}, Table.{with_request}}
+use Rattle.df_theory.specs.{Sessions.{sessions_after}, Tails.{last_checksum}}
 use Rattle.df_theory.specs.Units as theory
 use Rattle.df_units.specs.Meaning.{header_of, number_of}
-use Rattle.df_model.specs.Changing.{flushed_in, unstored_all}
-use Rattle.df_model.specs.Memory.{Memory, sum_of_message}
-use Rattle.df_model.specs.Work.{Request}
-use Rattle.df_journal.proofs.Laws.{length_messages}
+use Rattle.df_model.specs.{Changing.{flushed_in, unstored_all}, Memory.{Memory, sum_of_message}, Work.{Request}}
 use Rattle.df_opening.specs.Below.{IsState, State, memory, prepare_sum, stored_sum}
-use Rattle.df_replica.specs.declared.flush.Group.{Group}
-use Rattle.df_replica.specs.Appending.{unit_made}
-use Rattle.df_replica.specs.Flushing.{checks_of, flush_units, flushed, group_in, group_prepares, header_in, last_check, with_requests}
-use Rattle.df_replica.proofs.AppendMemory.{noted_table, stored_table, sum_at, sums_on}
-use Rattle.df_replica.proofs.FlushUnits.{length_units}
+use Rattle.df_replica.{specs.{declared.flush.Group.{Group}, Appending.{unit_made}, Flushing.{checks_of, flush_units, flushed, group_in, group_prepares, header_in, last_check, with_requests}}, proofs.{AppendMemory.{noted_table, stored_table, sum_at, sums_on}, FlushUnits.{length_units}}}
 
 -- ---- one after the other
 

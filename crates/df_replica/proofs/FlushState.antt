@@ -1,35 +1,19 @@
 -- The state after a group that is noted makes sense.
-use Rattle.std.proofs.Common.{◌≡◌, ◌⊎◌, inl, inr, ℕ, suc, ◌+◌, ◌^◌, ◌<◌, ◌≤◌, ◌==◌, Bool, true, false, if◌then◌else◌, List, [], ◌∷◌, ◌++◌, length, Option, Some, None, refl, sym, ◌∙◌, ap, subst, arith, append_assoc, length-append}
-use Rattle.std.specs.List.{slice_get}
-use Rattle.std.proofs.lemmas.Bool.{cond-true, eq-eqb}
-use Rattle.std.proofs.lemmas.List.{append-nil}
+use Rattle.std.{proofs.{Common.{◌≡◌, ◌⊎◌, inl, inr, ℕ, suc, ◌+◌, ◌^◌, ◌<◌, ◌≤◌, ◌==◌, Bool, true, false, if◌then◌else◌, List, [], ◌∷◌, ◌++◌, length, Option, Some, None, refl, sym, ◌∙◌, ap, subst, arith, append_assoc, length-append}, lemmas.Bool.{cond-true, eq-eqb}, lemmas.List.{append-nil}}, specs.List.{slice_get}}
 use Rattle.df_layout.specs.declared.layout.Layout.{Layout}
-use Rattle.df_base.specs.Fields.{check_of}
-use Rattle.df_base.proofs.Laws.{AreBytes-check_of, length-check_of}
-use Rattle.df_format.specs.declared.header.Header.{Header}
-use Rattle.df_format.specs.Message.{Message}
-use Rattle.df_format.specs.Spelling.{IsCheck}
+use Rattle.df_base.{specs.Fields.{check_of}, proofs.Laws.{AreBytes-check_of, length-check_of}}
+use Rattle.df_format.specs.{declared.header.Header.{Header}, Message.{Message}, Spelling.{IsCheck}}
 use Rattle.df_headers.specs.Ring.{IsHeaderTable}
 use Rattle.df_buffers.specs.Sounds.{Holding}
 use Rattle.df_journal.specs.Flush.{held_prepares}
-use Rattle.df_model.specs.Refusals.{is_new, session_of_client}
-use Rattle.df_model.specs.Work.{Request}
-use Rattle.df_opening.specs.Below.{AreAsked, IsRequest, IsState, State, asker_of, asks_of}
-use Rattle.df_opening.proofs.Laws.{asked_noted, course_on, level_beyond, staging_none}
+use Rattle.df_model.specs.{Refusals.{is_new, session_of_client}, Work.{Request}}
+use Rattle.df_opening.{specs.Below.{AreAsked, IsRequest, IsState, State, asker_of, asks_of}, proofs.Laws.{asked_noted, course_on, level_beyond, staging_none}}
 use Rattle.df_sessions.specs.declared.session.Session as told
-use Rattle.df_sessions.specs.Requests.{sessions_of}
-use Rattle.df_sessions.specs.Table.{IsKnownClient, Table, with_request}
-use Rattle.df_theory.specs.Next.{MayAskInTurn}
-use Rattle.df_theory.specs.Sessions.{MayAsk, Tracks, noted}
+use Rattle.df_sessions.{specs.{Requests.{sessions_of}, Table.{IsKnownClient, Table, with_request}}, proofs.Laws.{length_sessions}}
+use Rattle.df_theory.{specs.{Next.{MayAskInTurn}, Sessions.{MayAsk, Tracks, noted}}, proofs.Laws.{tracks_noted}}
 use Rattle.df_theory.specs.Units
-use Rattle.df_theory.proofs.Laws.{tracks_noted}
-use Rattle.df_sessions.proofs.Laws.{length_sessions}
-use Rattle.df_replica.specs.declared.flush.Group.{Group}
+use Rattle.df_replica.{specs.{declared.flush.Group.{Group}, Appending.{unit_made}, Flushing.{HavePlaces, checks_of, flush_units, flushed, group_in, group_prepares, header_in, last_check, with_requests}}, proofs.{AppendMemory.{noted_table}, AppendTests.{known_client, numbered_on}}}
 use Rattle.df_replica.specs.Appending as appending
-use Rattle.df_replica.specs.Appending.{unit_made}
-use Rattle.df_replica.specs.Flushing.{HavePlaces, checks_of, flush_units, flushed, group_in, group_prepares, header_in, last_check, with_requests}
-use Rattle.df_replica.proofs.AppendMemory.{noted_table}
-use Rattle.df_replica.proofs.AppendTests.{known_client, numbered_on}
 
 -- ---- a place for each client
 

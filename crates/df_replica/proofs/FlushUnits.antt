@@ -1,20 +1,14 @@
 -- The prepares of a group: made one after the other, each in the room of its body.
-use Rattle.std.proofs.Common.{◌≡◌, ℕ, suc, ◌+◌, ◌<◌, List, [], ◌∷◌, ◌++◌, length, drop, true, Some, refl, sym, ◌∙◌, ap, subst, arith, append_assoc}
-use Rattle.std.specs.List.{slice_get}
+use Rattle.std.{proofs.Common.{◌≡◌, ℕ, suc, ◌+◌, ◌<◌, List, [], ◌∷◌, ◌++◌, length, drop, true, Some, refl, sym, ◌∙◌, ap, subst, arith, append_assoc}, specs.List.{slice_get}}
 use Rattle.df_base.specs.Log.{Event, Write}
 use Rattle.df_buffers.specs.Sounds.{Holding}
-use Rattle.df_format.specs.Message.{Message, sectors_of}
-use Rattle.df_format.specs.Spelling.{IsCheck}
+use Rattle.df_format.specs.{Message.{Message, sectors_of}, Spelling.{IsCheck}}
 use Rattle.df_theory.specs.Units.{PreparePlace}
 use Rattle.df_units.specs.Bytes.{first_at}
-use Rattle.df_journal.specs.Flush.{AreOwn, group_puts, held_prepares}
+use Rattle.df_journal.{specs.Flush.{AreOwn, group_puts, held_prepares}, proofs.Laws.{length_of_units}}
 use Rattle.df_model.specs.Work.{Request}
-use Rattle.df_journal.proofs.Laws.{length_of_units}
-use Rattle.df_opening.specs.Below.{DataFile, IsState, State, first_request}
-use Rattle.df_opening.proofs.Laws.{boot_made}
-use Rattle.df_replica.specs.declared.flush.Group.{Group}
-use Rattle.df_replica.specs.Appending.{unit_made}
-use Rattle.df_replica.specs.Flushing.{AreHeld, AreMadeFor, MaySeal, flush_units, group_in, group_prepares, group_put_events, header_in}
+use Rattle.df_opening.{specs.Below.{DataFile, IsState, State, first_request}, proofs.Laws.{boot_made}}
+use Rattle.df_replica.specs.{declared.flush.Group.{Group}, Appending.{unit_made}, Flushing.{AreHeld, AreMadeFor, MaySeal, flush_units, group_in, group_prepares, group_put_events, header_in}}
 
 -- ---- the first of them
 

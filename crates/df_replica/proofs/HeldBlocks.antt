@@ -1,38 +1,13 @@
 -- A block stays where it is as long as its address is held: no command puts another one there.
-use Rattle.std.proofs.Common.{◌≡◌, ◌⊎◌, inl, inr, ℕ, ◌<◌, ◌==◌, Bool, true, false, if◌then◌else◌, List, [], ◌∷◌, length, ◌+◌, Option, Some, None, refl, sym, ap, subst, ◌∙◌, arith, eqb-true, eq-eqb}
-use Rattle.std.specs.Prelude.{Ok}
-use Rattle.std.proofs.lemmas.Bool.{or_left, or_right}
-use Rattle.std.proofs.lemmas.Option.{same_Some}
+use Rattle.std.{proofs.{Common.{◌≡◌, ◌⊎◌, inl, inr, ℕ, ◌<◌, ◌==◌, Bool, true, false, if◌then◌else◌, List, [], ◌∷◌, length, ◌+◌, Option, Some, None, refl, sym, ap, subst, ◌∙◌, arith, eqb-true, eq-eqb}, lemmas.Bool.{or_left, or_right}, lemmas.Option.{same_Some}}, specs.Prelude.{Ok}}
 use Rattle.df_base.proofs.Laws.{not_zero}
-use Rattle.df_disk.specs.Told.{Told}
-use Rattle.df_disk.specs.Adds.{after_all}
-use Rattle.df_layout.specs.declared.damage.Class.{Class}
-use Rattle.df_layout.specs.declared.damage.Class.TheVariants.{Stale}
-use Rattle.df_theory.specs.Units.{Block, BlockPlace, BlockUnit, Message}
-use Rattle.df_theory.specs.Device.{units_log}
-use Rattle.df_theory.specs.UnitLog.{now}
-use Rattle.df_theory.proofs.Laws.{shown_law}
+use Rattle.df_disk.specs.{Told.{Told}, Adds.{after_all}}
+use Rattle.df_layout.specs.{declared.damage.Class.{Class}, declared.damage.Class.TheVariants.{Stale}}
+use Rattle.df_theory.{specs.{Units.{Block, BlockPlace, BlockUnit, Message}, Device.{units_log}, UnitLog.{now}}, proofs.Laws.{shown_law}}
 use Rattle.df_units.proofs.Laws.{is_format}
-use Rattle.df_model.specs.After.{begun, finished, with_group, with_live, with_reply, with_running, with_staged, with_trailer_block, with_verdict}
-use Rattle.df_model.specs.Change.{Appends, Begins, Change, Checks, Ends, LetsGo, Lives, Replies, Stages, Stays, TourEnds, Writes}
-use Rattle.df_model.specs.Codec.{InGrid}
-use Rattle.df_model.specs.Commands.{Command, Given, supplied_sum, supplied_verdict}
-use Rattle.df_model.specs.Making.{next_address}
-use Rattle.df_model.specs.Memory.{memory_of}
-use Rattle.df_model.specs.Refusals.{block_refusals, first_refusal}
-use Rattle.df_model.specs.Sense.{IsBacked, IsKnown, IsWork, ShowsOwnBlock}
-use Rattle.df_model.specs.Sense.IsKnown.{Captured, Durable, Live}
-use Rattle.df_model.specs.Supply.{block_given, class_at, given_if, no_trailer}
-use Rattle.df_model.specs.Work.{Request, Running, Work, first_tour, is_captured, is_held, is_known}
-use Rattle.df_model.specs.declared.answers.Verdict.{Verdict}
-use Rattle.df_model.specs.declared.answers.Verdict.TheVariants.{Sound, Failing}
-use Rattle.df_model.proofs.Laws.{block_may_law, entry_at, one_thing_law, sense_law}
+use Rattle.df_model.{specs.{After.{begun, finished, with_group, with_live, with_reply, with_running, with_staged, with_trailer_block, with_verdict}, Change.{Appends, Begins, Change, Checks, Ends, LetsGo, Lives, Replies, Stages, Stays, TourEnds, Writes}, Codec.{InGrid}, Commands.{Command, Given, supplied_sum, supplied_verdict}, Making.{next_address}, Memory.{memory_of}, Refusals.{block_refusals, first_refusal}, Sense.{IsBacked, IsKnown, IsWork, ShowsOwnBlock}, Sense.IsKnown.{Captured, Durable, Live}, Supply.{block_given, class_at, given_if, no_trailer}, Work.{Request, Running, Work, first_tour, is_captured, is_held, is_known}, declared.answers.Verdict.{Verdict}, declared.answers.Verdict.TheVariants.{Sound, Failing}}, proofs.Laws.{block_may_law, entry_at, one_thing_law, sense_law}}
 use Rattle.df_opening.specs.Below.{DataFile, State, shape, spelling}
-use Rattle.df_replica.specs.HeldBlocks.{AreInputs, HeldBlocksAreShown, HoldsBlock, IsCaptured, IsDurable, IsLive, ShowsHeld, StaysHeld}
-use Rattle.df_replica.specs.Reading.{shown_of}
-use Rattle.df_replica.specs.Serving.{IsKept, Keeps, Whole, format, next}
-use Rattle.df_replica.specs.Session.{Act, acts_in, work_after}
-use Rattle.df_replica.proofs.Sessions.{keeps_alone}
+use Rattle.df_replica.{specs.{HeldBlocks.{AreInputs, HeldBlocksAreShown, HoldsBlock, IsCaptured, IsDurable, IsLive, ShowsHeld, StaysHeld}, Reading.{shown_of}, Serving.{IsKept, Keeps, Whole, format, next}, Session.{Act, acts_in, work_after}}, proofs.Sessions.{keeps_alone}}
 
 -- ---- no command puts another block at a held address
 

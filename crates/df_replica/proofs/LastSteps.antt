@@ -1,47 +1,19 @@
 -- The step that ends a checkpoint is the machine's: its answer, the state after it, and what it does to the disk.
-use Rattle.std.proofs.Common.{◌≡◌, ◌∙◌, ℕ, ◌+◌, true, false, List, [], ◌∷◌, Option, Some, None, refl, sym, ap, subst}
-use Rattle.std.specs.Prelude.{Ok, Err}
-use Rattle.df_base.specs.Fields.{spelled}
-use Rattle.df_base.specs.Log.{Event, Sync, now}
-use Rattle.df_disk.specs.Told.{Told}
-use Rattle.df_disk.specs.Adds.{AddsPart, after_all}
-use Rattle.df_disk.proofs.Laws.{all_is_part}
-use Rattle.df_format.specs.Copies.{content_with}
-use Rattle.df_format.specs.declared.superblock.SuperFields.{SuperFields}
+use Rattle.std.{proofs.Common.{◌≡◌, ◌∙◌, ℕ, ◌+◌, true, false, List, [], ◌∷◌, Option, Some, None, refl, sym, ap, subst}, specs.Prelude.{Ok, Err}}
+use Rattle.df_base.specs.{Fields.{spelled}, Log.{Event, Sync, now}}
+use Rattle.df_disk.{specs.{Told.{Told}, Adds.{AddsPart, after_all}}, proofs.Laws.{all_is_part}}
+use Rattle.df_format.specs.{Copies.{content_with}, declared.superblock.SuperFields.{SuperFields}}
 use Rattle.df_journal.specs.Append.{ShowsRing}
-use Rattle.df_superblock.specs.Events.{update_events}
-use Rattle.df_superblock.specs.Steps.{AreStepsOfCopies}
-use Rattle.df_theory.specs.CopyPuts.{PutsCopies, update_steps}
-use Rattle.df_theory.specs.Runs.{Step, Syncs}
+use Rattle.df_superblock.specs.{Events.{update_events}, Steps.{AreStepsOfCopies}}
+use Rattle.df_theory.specs.{CopyPuts.{PutsCopies, update_steps}, Runs.{Step, Syncs}, Units.{BlockPlace, CopyPlace, CopyUnit, PreparePlace, ReplyPlace, or_else}, View.{sequence}}
 use Rattle.df_theory.specs.Units as theory
-use Rattle.df_theory.specs.Units.{BlockPlace, CopyPlace, CopyUnit, PreparePlace, ReplyPlace, or_else}
-use Rattle.df_theory.specs.View.{sequence}
-use Rattle.df_units.specs.Meaning.{content_of, number_of}
-use Rattle.df_units.specs.Puts.{put_copies}
+use Rattle.df_units.specs.{Meaning.{content_of, number_of}, Puts.{put_copies}}
 use Rattle.df_grid.specs.Writes.{first_address, first_sum}
-use Rattle.df_model.specs.After.{checkpoint_of}
-use Rattle.df_model.specs.Commands.{Advance, Answer, ForAdvance, Given, ToAdvance, supplied_sum, supplied_sums}
-use Rattle.df_model.specs.Laws.{DoesFinish}
+use Rattle.df_model.specs.{After.{checkpoint_of}, Commands.{Advance, Answer, ForAdvance, Given, ToAdvance, supplied_sum, supplied_sums}, Laws.{DoesFinish}, Memory.{Memory}, Sense.{IsWork}, Supply.{puts_of, trailer_puts}, Work.{Work}, declared.answers.Progress.TheVariants.{Done}, declared.errors.StepError.{StepError}}
 use Rattle.df_model.specs.Making as making
-use Rattle.df_model.specs.Memory.{Memory}
-use Rattle.df_model.specs.Sense.{IsWork}
-use Rattle.df_model.specs.Supply.{puts_of, trailer_puts}
-use Rattle.df_model.specs.Work.{Work}
-use Rattle.df_model.specs.declared.answers.Progress.TheVariants.{Done}
-use Rattle.df_model.specs.declared.errors.StepError.{StepError}
 use Rattle.df_model.specs.declared.errors.StepError.TheVariants as step
-use Rattle.df_opening.specs.Below.{RunningState, IsCourse, IsRunningCheckpoint, IsState, Represents, State, course_of, memory, shape, spelling}
-use Rattle.df_replica.specs.Answering.{Serves, answer_of, is_step_unanswered}
-use Rattle.df_replica.specs.Serving.{Grade, IsCall, IsKept, format, next}
-use Rattle.df_replica.specs.Stepping.{IsMadeSuperblock, OfRunning, captured_fields, finished, last_events, made_by, made_for, next_fields}
-use Rattle.df_replica.proofs.Calls.{AreCalls}
-use Rattle.df_opening.proofs.Laws.{firmly, recorded_content}
-use Rattle.df_replica.proofs.Leaves.{Makes, copies_made, copies_over}
-use Rattle.df_replica.proofs.RingSpared.{ring_spared}
-use Rattle.df_replica.proofs.Makes.{OfStep}
-use Rattle.df_replica.proofs.StepAnswers.{does_step, fault_call, makes_step, next_is, runs, step_puts_are, stepped_call, sum_is}
-use Rattle.df_replica.proofs.StepMemory.{last_memory, step_memory}
-use Rattle.df_replica.proofs.WritesOn.{StandsIn}
+use Rattle.df_opening.{specs.Below.{RunningState, IsCourse, IsRunningCheckpoint, IsState, Represents, State, course_of, memory, shape, spelling}, proofs.Laws.{firmly, recorded_content}}
+use Rattle.df_replica.{specs.{Answering.{Serves, answer_of, is_step_unanswered}, Serving.{Grade, IsCall, IsKept, format, next}, Stepping.{IsMadeSuperblock, OfRunning, captured_fields, finished, last_events, made_by, made_for, next_fields}}, proofs.{Calls.{AreCalls}, Leaves.{Makes, copies_made, copies_over}, RingSpared.{ring_spared}, Makes.{OfStep}, StepAnswers.{does_step, fault_call, makes_step, next_is, runs, step_puts_are, stepped_call, sum_is}, StepMemory.{last_memory, step_memory}, WritesOn.{StandsIn}}}
 
 module _ (s : State) (r : RunningState) (given : Given) (is : IsState s) (course : IsRunningCheckpoint s.file s.fields s.head s.blocks r) (running : s.running ≡ Some r) (left : s.blocks.left ≡ [])
     (number : number_of (spelled 16 (first_sum s.blocks.written)) ≡ first_sum s.blocks.written) (steps : AreStepsOfCopies (update_events (next_fields s r)) (update_steps (put_copies (next_fields s r))))

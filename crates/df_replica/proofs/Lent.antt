@@ -1,33 +1,11 @@
 -- A read that is Ok gives what was written there.
-use Rattle.std.proofs.Common.{◌≡◌, ℕ, ◌+◌, ◌-◌, ◌%◌, ◌<◌, true, ◌&&◌, nat_lt, Option, Some, None, Ok, refl, sym, ◌∙◌, ap, subst, arith, length}
-use Rattle.std.specs.Prelude.{nat_le}
-use Rattle.std.specs.List.{slice_get}
-use Rattle.std.proofs.lemmas.Bool.Decides.{nat_tests}
-use Rattle.std.proofs.lemmas.Bool.{not-false}
+use Rattle.std.{proofs.{Common.{◌≡◌, ℕ, ◌+◌, ◌-◌, ◌%◌, ◌<◌, true, ◌&&◌, nat_lt, Option, Some, None, Ok, refl, sym, ◌∙◌, ap, subst, arith, length}, lemmas.Bool.Decides.{nat_tests}, lemmas.Bool.{not-false}}, specs.{Prelude.{nat_le}, List.{slice_get}}}
 use Rattle.df_disk.specs.Told.{Told}
 use Rattle.df_opening.specs.Below.{IsTheOne, WasWritten, Represents, State, memory, shape, spelling}
-use Rattle.df_model.specs.After.{place_of_client}
-use Rattle.df_model.specs.Blocks.{addresses, entries, sum_at}
-use Rattle.df_model.specs.Memory.{Memory, memory_of, prepare_sum, reply_sum, stored_sum, sum_of_message}
-use Rattle.df_model.specs.Refusals.{first_refusal, prepare_refusals}
-use Rattle.df_model.specs.Work.{Work, kept}
-use Rattle.df_model.specs.declared.reading.LookupError.{LookupError}
-use Rattle.df_model.specs.declared.reading.PrepareError.{PrepareError}
-use Rattle.df_model.specs.declared.reading.ReadError.{ReadError}
-use Rattle.df_model.proofs.Laws.{all_pass, entry_in}
-use Rattle.df_theory.specs.Device.{NoChanceOf, units_log}
-use Rattle.df_theory.specs.Sessions.{Answers}
-use Rattle.df_theory.specs.Tails.{In}
-use Rattle.df_theory.specs.Units.{AnyUnit, Block, BlockPlace, BlockUnit, Message, Place, PreparePlace, PrepareUnit, ReplyPlace, ReplyUnit}
-use Rattle.df_theory.specs.View.{sessions}
-use Rattle.df_theory.proofs.Laws.{read_law}
+use Rattle.df_model.{specs.{After.{place_of_client}, Blocks.{addresses, entries, sum_at}, Memory.{Memory, memory_of, prepare_sum, reply_sum, stored_sum, sum_of_message}, Refusals.{first_refusal, prepare_refusals}, Work.{Work, kept}, declared.reading.LookupError.{LookupError}, declared.reading.PrepareError.{PrepareError}, declared.reading.ReadError.{ReadError}}, proofs.Laws.{all_pass, entry_in}}
+use Rattle.df_theory.{specs.{Device.{NoChanceOf, units_log}, Sessions.{Answers}, Tails.{In}, Units.{AnyUnit, Block, BlockPlace, BlockUnit, Message, Place, PreparePlace, PrepareUnit, ReplyPlace, ReplyUnit}, View.{sessions}}, proofs.Laws.{read_law}}
 use Rattle.df_units.specs.Bytes.{unit_at}
-use Rattle.df_replica.specs.BlockReads.{IsReadBlock}
-use Rattle.df_replica.specs.Lookups.{IsReadReply, place_for}
-use Rattle.df_replica.specs.Reading.{IsReadPrepare}
-use Rattle.df_replica.specs.Serving.{format}
-use Rattle.df_replica.specs.Lending.{BlockIsLent, BlockIsTheOne, IsReplyTo, LendsWrittenBlock, LendsWrittenPrepare, LendsWrittenReply, PrepareIsLent, PrepareIsTheOne, ReplyIsLent, ReplyIsTheOne}
-use Rattle.df_replica.proofs.LentFinds.{block_in, chain_get, client_at, joined_at, mapped, prepare_in, reply_in, stored_in}
+use Rattle.df_replica.{specs.{BlockReads.{IsReadBlock}, Lookups.{IsReadReply, place_for}, Reading.{IsReadPrepare}, Serving.{format}, Lending.{BlockIsLent, BlockIsTheOne, IsReplyTo, LendsWrittenBlock, LendsWrittenPrepare, LendsWrittenReply, PrepareIsLent, PrepareIsTheOne, ReplyIsLent, ReplyIsTheOne}}, proofs.LentFinds.{block_in, chain_get, client_at, joined_at, mapped, prepare_in, reply_in, stored_in}}
 
 -- ---- the one unit with the checksum that is known
 

@@ -1,18 +1,9 @@
 -- What a state has was written, where a file is kept for it, and where an open found it on a disk that may be hurt.
 use Rattle.std.proofs.Common.{◌≡◌, Some, None, sym, subst}
 use Rattle.df_base.specs.Log.{Sync, add}
-use Rattle.df_opening.specs.Below.{DataFile, IsWritten, WasWritten, shape, spelling}
-use Rattle.df_opening.proofs.Laws.{had_is_written, firm_of}
-use Rattle.df_theory.specs.Device.{units_log}
-use Rattle.df_theory.specs.Next.{booted}
-use Rattle.df_theory.specs.Shape.{Shape}
-use Rattle.df_theory.specs.Shows.{Needs}
-use Rattle.df_theory.specs.UnitLog.{now}
-use Rattle.df_theory.specs.Units.{AnyUnit, BlockPlace, BlockUnit, Content, CopyPlace, HeaderPlace, Place, PreparePlace, ReplyPlace}
-use Rattle.df_theory.specs.View.{View}
-use Rattle.df_theory.proofs.Laws.{pool_pools}
-use Rattle.df_replica.specs.Lending.{KeptIsWritten, OpenedIsWrittenFor}
-use Rattle.df_replica.specs.Serving.{format}
+use Rattle.df_opening.{specs.Below.{DataFile, IsWritten, WasWritten, shape, spelling}, proofs.Laws.{had_is_written, firm_of}}
+use Rattle.df_theory.{specs.{Device.{units_log}, Next.{booted}, Shape.{Shape}, Shows.{Needs}, UnitLog.{now}, Units.{AnyUnit, BlockPlace, BlockUnit, Content, CopyPlace, HeaderPlace, Place, PreparePlace, ReplyPlace}, View.{View}}, proofs.Laws.{pool_pools}}
+use Rattle.df_replica.specs.{Lending.{KeptIsWritten, OpenedIsWrittenFor}, Serving.{format}}
 
 pub kept_is_written : KeptIsWritten
 kept_is_written g s w log is =

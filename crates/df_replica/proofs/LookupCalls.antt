@@ -1,39 +1,19 @@
 -- Each read of a reply is the machine's: it does nothing to the disk, and what it found is what it was supplied with.
-use Rattle.std.proofs.Common.{◌≡◌, ℕ, Bool, true, false, cond, nat_lt, [], Option, Some, None, refl, sym, ◌∙◌, ap, subst}
-use Rattle.std.specs.Prelude.{Result, Ok, Err}
-use Rattle.std.proofs.lemmas.Option.{same_Some}
+use Rattle.std.{proofs.{Common.{◌≡◌, ℕ, Bool, true, false, cond, nat_lt, [], Option, Some, None, refl, sym, ◌∙◌, ap, subst}, lemmas.Option.{same_Some}}, specs.Prelude.{Result, Ok, Err}}
 use Rattle.df_base.specs.Log.{now}
 use Rattle.df_disk.specs.Told.{Told}
-use Rattle.df_layout.specs.declared.damage.Class.{Class}
-use Rattle.df_format.specs.declared.kind.Kind.TheVariants.{Reply}
-use Rattle.df_format.specs.Message.{Message}
-use Rattle.df_format.specs.Own.{place_in}
+use Rattle.df_layout.specs.{declared.damage.Class.{Class}, declared.places.Place.{Place}, declared.places.Zone.TheVariants.{ClientReplies}}
+use Rattle.df_format.specs.{declared.kind.Kind.TheVariants.{Reply}, Message.{Message}, Own.{place_in}}
 use Rattle.df_buffers.specs.Sounds.{Holding}
-use Rattle.df_layout.specs.declared.places.Place.{Place}
 use Rattle.df_units.specs.Meaning.{message_of}
-use Rattle.df_layout.specs.declared.places.Zone.TheVariants.{ClientReplies}
 use Rattle.df_journal.specs.Append.{ShowsRing}
 use Rattle.df_theory.specs.Units
 use Rattle.df_model.specs.After as after
-use Rattle.df_model.specs.After.{shown_or}
-use Rattle.df_model.specs.Commands.{ForReadReply, Given, IsInput, ReadReply, ToReadReply, supplied_message}
-use Rattle.df_model.specs.Faults.{is_lookup_fault}
-use Rattle.df_model.specs.Memory.{Memory}
+use Rattle.df_model.specs.{After.{shown_or}, Commands.{ForReadReply, Given, IsInput, ReadReply, ToReadReply, supplied_message}, Faults.{is_lookup_fault}, Memory.{Memory}, Refusals.{first_refusal, is_new, last_op, lookup_refusals, session_of_client}, declared.reading.LookupError.{LookupError}}
 use Rattle.df_model.specs.Memory as memory
-use Rattle.df_model.specs.Refusals.{first_refusal, is_new, last_op, lookup_refusals, session_of_client}
-use Rattle.df_model.specs.declared.reading.LookupError.{LookupError}
 use Rattle.df_model.specs.declared.reading.LookupError.TheVariants as lookup
 use Rattle.df_opening.specs.Below.{State, memory, reply_sum as known_sum}
-use Rattle.df_replica.specs.Answering.{GivesFound, ServesRead, answer_of}
-use Rattle.df_replica.specs.declared.lookup.Stored.{Stored}
-use Rattle.df_replica.specs.Lookups.{HoldsKnown, IsReadReply, IsStoredFor, TellsShown, place_for, reply_found, reply_shown}
-use Rattle.df_replica.specs.Reading.{IsFoundBy, IsKnownUnit}
-use Rattle.df_replica.specs.Supply.{IsSupplied}
-use Rattle.df_replica.specs.Stopping.{left_by}
-use Rattle.df_replica.proofs.LookupFinds.{reply_found_by, reply_known, reply_lacks_by}
-use Rattle.df_replica.proofs.Calls.{AreCalls, Answered, answered_call, stopped_call}
-use Rattle.df_replica.proofs.Leaves.{makes_nothing}
-use Rattle.df_replica.proofs.ReadCalls.{no_sums}
+use Rattle.df_replica.{specs.{Answering.{GivesFound, ServesRead, answer_of}, declared.lookup.Stored.{Stored}, Lookups.{HoldsKnown, IsReadReply, IsStoredFor, TellsShown, place_for, reply_found, reply_shown}, Reading.{IsFoundBy, IsKnownUnit}, Supply.{IsSupplied}, Stopping.{left_by}}, proofs.{LookupFinds.{reply_found_by, reply_known, reply_lacks_by}, Calls.{AreCalls, Answered, answered_call, stopped_call}, Leaves.{makes_nothing}, ReadCalls.{no_sums}}}
 
 module _ (s : State) (client : ℕ) (live : s.live ≡ true) where
   calls : (given : Given) → AreCalls given (ReadReply client) s []

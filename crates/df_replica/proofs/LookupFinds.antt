@@ -1,32 +1,18 @@
 -- What a read of a reply finds in its room is what the machine finds at the session's place.
-use Rattle.std.proofs.Common.{◌≡◌, ℕ, Option, Some, None, List, refl, sym, ap, subst, ◌∙◌}
-use Rattle.std.specs.Prelude.{Result, Ok, Err, IfOk}
-use Rattle.df_base.specs.declared.Failed.{Failed}
-use Rattle.df_base.specs.Image.{Image}
+use Rattle.std.{proofs.Common.{◌≡◌, ℕ, Option, Some, None, List, refl, sym, ap, subst, ◌∙◌}, specs.Prelude.{Result, Ok, Err, IfOk}}
+use Rattle.df_base.specs.{declared.Failed.{Failed}, Image.{Image}}
 use Rattle.df_disk.specs.Told.{Told}
-use Rattle.df_layout.specs.declared.damage.Class.{Class}
-use Rattle.df_layout.specs.declared.layout.Layout.{Layout}
-use Rattle.df_layout.specs.declared.places.Zone.TheVariants.{ClientReplies}
-use Rattle.df_format.specs.declared.kind.Kind.TheVariants.{Reply}
-use Rattle.df_format.specs.Message.{Message}
-use Rattle.df_format.specs.Own.{place_in}
+use Rattle.df_layout.specs.{declared.damage.Class.{Class}, declared.layout.Layout.{Layout}, declared.places.Zone.TheVariants.{ClientReplies}}
+use Rattle.df_format.{specs.{declared.kind.Kind.TheVariants.{Reply}, Message.{Message}, Own.{place_in}, Spelling.{IsCheck}, Valid.{IsOfSession, IsUnit}}, proofs.Laws.{valid_belongs}}
 use Rattle.df_format.specs.Shown
-use Rattle.df_format.specs.Spelling.{IsCheck}
-use Rattle.df_format.specs.Valid.{IsOfSession, IsUnit}
-use Rattle.df_format.proofs.Laws.{valid_belongs}
 use Rattle.df_buffers.specs.Sounds.{Holding}
 use Rattle.df_places.specs.Shelves.{HoldsFound, IsRead}
 use Rattle.df_theory.specs.Units.{ReplyPlace}
-use Rattle.df_units.specs.Bytes.{message_unit}
-use Rattle.df_units.specs.Meaning.{message_of, number_of}
-use Rattle.df_model.specs.Commands.{ReadReply}
+use Rattle.df_units.specs.{Bytes.{message_unit}, Meaning.{message_of, number_of}}
+use Rattle.df_model.specs.{Commands.{ReadReply}, Supply.{class_or, reply_at, reply_given}}
 use Rattle.df_model.specs.Memory as memory
-use Rattle.df_model.specs.Supply.{class_or, reply_at, reply_given}
 use Rattle.df_opening.specs.Below.{DataFile, State, memory, reply_sum as known_sum}
-use Rattle.df_replica.specs.declared.lookup.Stored.{Stored}
-use Rattle.df_replica.specs.Lookups.{IsStoredFor, TellsShown, place_for, reply_shown}
-use Rattle.df_replica.specs.Reading.{IsFoundBy, IsKnownUnit, message_at, shown_of}
-use Rattle.df_replica.proofs.ReadFinds.{given, held_given, lacks_given, wanted_at}
+use Rattle.df_replica.{specs.{declared.lookup.Stored.{Stored}, Lookups.{IsStoredFor, TellsShown, place_for, reply_shown}, Reading.{IsFoundBy, IsKnownUnit, message_at, shown_of}}, proofs.ReadFinds.{given, held_given, lacks_given, wanted_at}}
 
 reply_case : (known : Option ℕ) (slot : ℕ) (o : Option Message) (class : Class) → reply_given known (message_unit (ReplyPlace slot) o) (class_or (message_unit (ReplyPlace slot) o) class) ≡ given known o class
 reply_case known slot None class = refl

@@ -1,22 +1,12 @@
 -- Which session a read of a reply goes by, and what is known of its reply.
-use Rattle.std.proofs.Common.{◌≡◌, ℕ, zero, suc, ◌<◌, ◌≤◌, Bool, true, false, cond, nat_lt, List, [], ◌∷◌, length, get_or, map, Option, Some, None, refl, sym, ◌∙◌, ap, arith}
-use Rattle.std.specs.Prelude.{option_map}
-use Rattle.std.specs.List.{position, slice_get}
-use Rattle.std.proofs.lemmas.Bool.Decides.{nat_tests}
-use Rattle.std.proofs.lemmas.List.Quantifiers.{position-Some}
+use Rattle.std.{proofs.{Common.{◌≡◌, ℕ, zero, suc, ◌<◌, ◌≤◌, Bool, true, false, cond, nat_lt, List, [], ◌∷◌, length, get_or, map, Option, Some, None, refl, sym, ◌∙◌, ap, arith}, lemmas.Bool.Decides.{nat_tests}, lemmas.List.Quantifiers.{position-Some}}, specs.{Prelude.{option_map}, List.{position, slice_get}}}
 use Rattle.df_sessions.specs.declared.session.Session as told
-use Rattle.df_sessions.specs.Requests.{session_of}
-use Rattle.df_sessions.specs.Table.{IsSessionTable, has_client}
+use Rattle.df_sessions.specs.{Requests.{session_of}, Table.{IsSessionTable, has_client}}
 use Rattle.df_theory.specs.Units.{Session}
-use Rattle.df_model.specs.After.{place_of_client}
+use Rattle.df_model.specs.{After.{place_of_client}, Refusals.{first_refusal, is_new, last_op, lookup_refusals, session_of_client}, declared.reading.LookupError.{LookupError}, declared.reading.LookupError.TheVariants.{NoClient, ReplyPending}}
 use Rattle.df_model.specs.Memory as memory
-use Rattle.df_model.specs.Refusals.{first_refusal, is_new, last_op, lookup_refusals, session_of_client}
-use Rattle.df_model.specs.declared.reading.LookupError.{LookupError}
-use Rattle.df_model.specs.declared.reading.LookupError.TheVariants.{NoClient, ReplyPending}
 use Rattle.df_opening.specs.Below.{IsState, State, memory, reply_sum, stored_sum}
-use Rattle.df_replica.specs.Lookups.{IsStoredFor}
-use Rattle.df_replica.specs.Refusing.{session_at}
-use Rattle.df_replica.proofs.AppendTests.{session_found, no_session}
+use Rattle.df_replica.{specs.{Lookups.{IsStoredFor}, Refusing.{session_at}}, proofs.AppendTests.{session_found, no_session}}
 
 -- why a reply isn't read, by the client's session
 abbrev by_session : ℕ → Option Session → Option LookupError

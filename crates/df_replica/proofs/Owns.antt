@@ -1,19 +1,11 @@
 -- What a call adds to the log are its own device calls: all of them, the first of them, or none.
 use Rattle.std.proofs.Common.{◌≡◌, ℕ, List, [], ◌∷◌, Option, Some, None, Result, Ok, Err, refl, sym, ◌∙◌, ap, subst}
 use Rattle.df_base.specs.Log.{Event}
-use Rattle.df_disk.specs.Adds.{AddsPart, after_all}
-use Rattle.df_disk.specs.Told.{Told}
-use Rattle.df_disk.proofs.Laws.{all_is_part}
-use Rattle.df_model.specs.Changing.{unless_refused}
-use Rattle.df_model.specs.Commands.{Advance, Answer, Command, ToAdvance}
-use Rattle.df_model.specs.declared.answers.Progress.{Progress}
-use Rattle.df_model.specs.declared.answers.Progress.TheVariants.{Done, Working}
-use Rattle.df_model.specs.declared.errors.StepError.{StepError}
+use Rattle.df_disk.{specs.{Adds.{AddsPart, after_all}, Told.{Told}}, proofs.Laws.{all_is_part}}
+use Rattle.df_model.specs.{Changing.{unless_refused}, Commands.{Advance, Answer, Command, ToAdvance}, declared.answers.Progress.{Progress}, declared.answers.Progress.TheVariants.{Done, Working}, declared.errors.StepError.{StepError}}
 use Rattle.df_model.specs.declared.errors.StepError.TheVariants as step
 use Rattle.df_opening.specs.Below.{RunningState, State}
-use Rattle.df_replica.specs.Answering.{answer_of, is_step_unanswered}
-use Rattle.df_replica.specs.Own.{AddsOwn, own_events, running_events}
-use Rattle.df_replica.specs.Stepping.{IsStepCall, OfRunning, block_events, events_for, last_events, step_events}
+use Rattle.df_replica.specs.{Answering.{answer_of, is_step_unanswered}, Own.{AddsOwn, own_events, running_events}, Stepping.{IsStepCall, OfRunning, block_events, events_for, last_events, step_events}}
 
 -- a command that has no device calls of its own, as a read, adds nothing
 pub adds_none : (command : Command) (s : State) (old new : Option Told) (answer : Option Answer) → own_events command s ≡ [] → new ≡ old → AddsOwn command s old new answer

@@ -1,38 +1,19 @@
 -- Each read is the machine's: it does nothing to the disk, and what it found is what it was supplied with.
-use Rattle.std.proofs.Common.{◌≡◌, ℕ, ◌+◌, ◌%◌, Bool, true, false, cond, not, ◌&&◌, nat_lt, [], Option, Some, None, refl, sym, ◌∙◌, ap, subst}
-use Rattle.std.specs.Prelude.{Result, Ok, Err, nat_le, slice_get}
-use Rattle.std.proofs.lemmas.Option.{same_Some}
+use Rattle.std.{proofs.{Common.{◌≡◌, ℕ, ◌+◌, ◌%◌, Bool, true, false, cond, not, ◌&&◌, nat_lt, [], Option, Some, None, refl, sym, ◌∙◌, ap, subst}, lemmas.Option.{same_Some}}, specs.Prelude.{Result, Ok, Err, nat_le, slice_get}}
 use Rattle.df_base.specs.Log.{now}
 use Rattle.df_disk.specs.Told.{Told}
-use Rattle.df_layout.specs.declared.damage.Class.{Class}
-use Rattle.df_format.specs.declared.kind.Kind.TheVariants.{Prepare}
-use Rattle.df_format.specs.Message.{Message}
-use Rattle.df_format.specs.Own.{place_in}
-use Rattle.df_format.specs.Spelling.{IsCheck}
+use Rattle.df_layout.specs.{declared.damage.Class.{Class}, declared.places.Place.{Place}, declared.places.Zone.TheVariants.{WalPrepares}}
+use Rattle.df_format.specs.{declared.kind.Kind.TheVariants.{Prepare}, Message.{Message}, Own.{place_in}, Spelling.{IsCheck}}
 use Rattle.df_buffers.specs.Sounds.{Holding}
 use Rattle.df_places.specs.Shelves.{HoldsFound, IsFoundUnit, IsRead}
-use Rattle.df_layout.specs.declared.places.Place.{Place}
 use Rattle.df_units.specs.Meaning.{message_of}
-use Rattle.df_layout.specs.declared.places.Zone.TheVariants.{WalPrepares}
 use Rattle.df_journal.specs.Append.{ShowsRing}
 use Rattle.df_theory.specs.Units
 use Rattle.df_model.specs.After as after
-use Rattle.df_model.specs.After.{shown_or}
-use Rattle.df_model.specs.Codec.{AreChecksums}
-use Rattle.df_model.specs.Commands.{ForReadPrepare, Given, IsInput, ReadPrepare, ToReadPrepare, supplied_message, supplied_sums}
-use Rattle.df_model.specs.Faults.{is_prepare_fault}
-use Rattle.df_model.specs.Memory.{Memory, prepare_sum}
-use Rattle.df_model.specs.Refusals.{first_refusal, prepare_refusals}
-use Rattle.df_model.specs.declared.reading.PrepareError.{PrepareError}
+use Rattle.df_model.specs.{After.{shown_or}, Codec.{AreChecksums}, Commands.{ForReadPrepare, Given, IsInput, ReadPrepare, ToReadPrepare, supplied_message, supplied_sums}, Faults.{is_prepare_fault}, Memory.{Memory, prepare_sum}, Refusals.{first_refusal, prepare_refusals}, declared.reading.PrepareError.{PrepareError}}
 use Rattle.df_model.specs.declared.reading.PrepareError.TheVariants as prepare
 use Rattle.df_opening.specs.Below.{State, memory}
-use Rattle.df_replica.specs.Answering.{GivesFound, ServesRead, answer_of}
-use Rattle.df_replica.specs.Reading.{IsFoundBy, IsKnownUnit, IsReadPrepare, check_in, prepare_found, prepare_wanted}
-use Rattle.df_replica.specs.Supply.{IsSupplied}
-use Rattle.df_replica.specs.Stopping.{left_by}
-use Rattle.df_replica.proofs.ReadFinds.{prepare_found_by, prepare_known, prepare_lacks_by}
-use Rattle.df_replica.proofs.Calls.{AreCalls, Answered, answered_call, stopped_call}
-use Rattle.df_replica.proofs.Leaves.{makes_nothing}
+use Rattle.df_replica.{specs.{Answering.{GivesFound, ServesRead, answer_of}, Reading.{IsFoundBy, IsKnownUnit, IsReadPrepare, check_in, prepare_found, prepare_wanted}, Supply.{IsSupplied}, Stopping.{left_by}}, proofs.{ReadFinds.{prepare_found_by, prepare_known, prepare_lacks_by}, Calls.{AreCalls, Answered, answered_call, stopped_call}, Leaves.{makes_nothing}}}
 
 -- what makes no unit is supplied with no checksum
 pub no_sums : (given other : Given) → given ≡ other → supplied_sums other ≡ [] → AreChecksums (supplied_sums given)

@@ -1,37 +1,16 @@
 -- What a read finds in a room is what the machine finds at the place.
-use Rattle.std.proofs.Common.{◌≡◌, ◌==◌, ℕ, zero, suc, ◌+◌, ◌-◌, ◌%◌, ◌<◌, ◌≤◌, Bool, true, false, ◌&&◌, nat_lt, not, Option, Some, None, List, map, refl, sym, ap, ◌∙◌, arith, eq-eqb, eqb-true}
-use Rattle.std.specs.Prelude.{Result, Ok, Err, nat_le}
-use Rattle.std.specs.List.{range_with_len, slice_get}
-use Rattle.std.proofs.lemmas.Bool.Decides.{nat_tests}
+use Rattle.std.{proofs.{Common.{◌≡◌, ◌==◌, ℕ, zero, suc, ◌+◌, ◌-◌, ◌%◌, ◌<◌, ◌≤◌, Bool, true, false, ◌&&◌, nat_lt, not, Option, Some, None, List, map, refl, sym, ap, ◌∙◌, arith, eq-eqb, eqb-true}, lemmas.Bool.Decides.{nat_tests}}, specs.{Prelude.{Result, Ok, Err, nat_le}, List.{range_with_len, slice_get}}}
 use Rattle.df_base.specs.Image.{Image}
 use Rattle.df_disk.specs.Told.{Told}
-use Rattle.df_layout.specs.declared.damage.Class.{Class}
-use Rattle.df_layout.specs.declared.damage.Class.TheVariants.{Stale}
-use Rattle.df_layout.specs.declared.layout.Layout.{Layout}
-use Rattle.df_layout.specs.declared.places.Place.{Place}
-use Rattle.df_layout.specs.declared.places.Zone.TheVariants.{WalPrepares}
-use Rattle.df_format.specs.declared.header.Header.{Header}
-use Rattle.df_format.specs.declared.kind.Kind.{Kind}
-use Rattle.df_format.specs.declared.kind.Kind.TheVariants.{Prepare}
-use Rattle.df_format.specs.Message.{Message}
-use Rattle.df_format.specs.Own.{place_in}
+use Rattle.df_layout.specs.{declared.damage.Class.{Class}, declared.damage.Class.TheVariants.{Stale}, declared.layout.Layout.{Layout}, declared.places.Place.{Place}, declared.places.Zone.TheVariants.{WalPrepares}}
+use Rattle.df_format.{specs.{declared.header.Header.{Header}, declared.kind.Kind.{Kind}, declared.kind.Kind.TheVariants.{Prepare}, Message.{Message}, Own.{place_in}, Spelling.{IsCheck}, Valid.{IsInSlot, IsUnit}}, proofs.Laws.{valid_belongs, shown_stale}}
 use Rattle.df_format.specs.Shown
-use Rattle.df_format.specs.Spelling.{IsCheck}
-use Rattle.df_format.specs.Valid.{IsInSlot, IsUnit}
-use Rattle.df_format.proofs.Laws.{valid_belongs, shown_stale}
-use Rattle.df_buffers.specs.declared.identity.Identity.{Identity}
-use Rattle.df_buffers.specs.declared.identity.Wanted.TheVariants.{Checksum}
-use Rattle.df_buffers.specs.Sounds.{Holding}
+use Rattle.df_buffers.specs.{declared.identity.Identity.{Identity}, declared.identity.Wanted.TheVariants.{Checksum}, Sounds.{Holding}}
 use Rattle.df_theory.specs.Units
 use Rattle.df_theory.specs.Units.{PreparePlace}
-use Rattle.df_units.specs.Bytes.{message_unit}
-use Rattle.df_units.specs.Meaning.{message_of, number_of}
-use Rattle.df_units.proofs.Laws.{one_number, sealed_check}
-use Rattle.df_model.specs.Commands.{ReadPrepare}
+use Rattle.df_units.{specs.{Bytes.{message_unit}, Meaning.{message_of, number_of}}, proofs.Laws.{one_number, sealed_check}}
+use Rattle.df_model.{specs.{Commands.{ReadPrepare}, Refusals.{first_refusal, prepare_refusals}, Supply.{class_or, given_if, is_sum, prepare_at, prepare_given}}, proofs.Laws.{all_pass}}
 use Rattle.df_model.specs.Memory as memory
-use Rattle.df_model.specs.Refusals.{first_refusal, prepare_refusals}
-use Rattle.df_model.specs.Supply.{class_or, given_if, is_sum, prepare_at, prepare_given}
-use Rattle.df_model.proofs.Laws.{all_pass}
 use Rattle.df_places.specs.Shelves.{IsFoundUnit, IsOf, IsRead}
 use Rattle.df_opening.specs.Below.{DataFile, State, memory, prepare_sum, sum_of_header}
 use Rattle.df_replica.specs.Reading.{IsFoundBy, IsKnownUnit, check_in, prepare_wanted, shown_of}

@@ -1,29 +1,11 @@
 -- Each release is the machine's: its answer, and the state after it. It does nothing to the disk.
-use Rattle.std.proofs.Common.{◌≡◌, ◌∙◌, ℕ, true, false, Bool, not, cond, [], Option, Some, None, refl, sym, ap, subst}
-use Rattle.std.specs.Prelude.{Ok, Err}
-use Rattle.std.proofs.lemmas.Option.{same_Some}
+use Rattle.std.{proofs.{Common.{◌≡◌, ◌∙◌, ℕ, true, false, Bool, not, cond, [], Option, Some, None, refl, sym, ap, subst}, lemmas.Option.{same_Some}}, specs.Prelude.{Ok, Err}}
 use Rattle.df_base.specs.Log.{now}
 use Rattle.df_disk.specs.Told.{Told}
 use Rattle.df_journal.specs.Append.{ShowsRing}
-use Rattle.df_model.specs.After.{outcome, with_live}
-use Rattle.df_model.specs.Blocks.{block_released, sum_at, without_entry}
-use Rattle.df_model.specs.Changing.{unless_refused}
-use Rattle.df_model.specs.Commands.{Answer, ForRelease, Given, IsInput, Release, ToRelease, as_answer}
-use Rattle.df_model.specs.Memory.{Memory, memory_of}
-use Rattle.df_model.specs.Refusals.{first_refusal, release_refusals}
-use Rattle.df_model.specs.Sense.{IsWork}
-use Rattle.df_model.specs.Work.{Work, is_known}
-use Rattle.df_model.proofs.Laws.{change_law}
-use Rattle.df_model.specs.declared.errors.NotLive.{NotLive}
+use Rattle.df_model.{specs.{After.{outcome, with_live}, Blocks.{block_released, sum_at, without_entry}, Changing.{unless_refused}, Commands.{Answer, ForRelease, Given, IsInput, Release, ToRelease, as_answer}, Memory.{Memory, memory_of}, Refusals.{first_refusal, release_refusals}, Sense.{IsWork}, Work.{Work, is_known}, declared.errors.NotLive.{NotLive}}, proofs.Laws.{change_law}}
 use Rattle.df_opening.specs.Below.{Represents, State, memory, shape, spelling}
-use Rattle.df_replica.specs.Answering.{Serves}
-use Rattle.df_replica.specs.Blocks.{released}
-use Rattle.df_replica.specs.Serving.{IsCall, next}
-use Rattle.df_replica.specs.Supply.{IsSupplied}
-use Rattle.df_replica.proofs.BlockStates.{blocks_memory}
-use Rattle.df_replica.proofs.Calls.{AreCalls, Answered, answered_call}
-use Rattle.df_replica.proofs.Leaves.{makes_nothing}
-use Rattle.df_replica.proofs.ReadCalls.{no_sums}
+use Rattle.df_replica.{specs.{Answering.{Serves}, Blocks.{released}, Serving.{IsCall, next}, Supply.{IsSupplied}}, proofs.{BlockStates.{blocks_memory}, Calls.{AreCalls, Answered, answered_call}, Leaves.{makes_nothing}, ReadCalls.{no_sums}}}
 
 module _ (s : State) (address : ℕ) (live : s.live ≡ true) where
   calls : (given : Given) → AreCalls given (Release address) s []

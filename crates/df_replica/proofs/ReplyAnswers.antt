@@ -1,56 +1,17 @@
 -- Each reply is the machine's: its answer, the state after it, and what it does to the disk.
-use Rattle.std.proofs.Common.{◌≡◌, ◌∙◌, inl, ℕ, ◌<◌, true, false, List, [], ◌∷◌, length, map, Option, Some, None, refl, sym, ap, subst, arith}
-use Rattle.std.specs.Prelude.{Ok, Err}
-use Rattle.std.proofs.lemmas.Option.{same_Some}
-use Rattle.df_base.proofs.Laws.{AreBytes-check_of, field_at-lt, now_is_image}
-use Rattle.df_base.specs.Image.{IsImage}
-use Rattle.df_base.specs.Log.{now}
-use Rattle.df_disk.specs.Told.{Told}
-use Rattle.df_disk.specs.Adds.{AddsPart, after_all}
+use Rattle.std.{proofs.{Common.{◌≡◌, ◌∙◌, inl, ℕ, ◌<◌, true, false, List, [], ◌∷◌, length, map, Option, Some, None, refl, sym, ap, subst, arith}, lemmas.Option.{same_Some}}, specs.Prelude.{Ok, Err}}
+use Rattle.df_base.{proofs.Laws.{AreBytes-check_of, field_at-lt, now_is_image}, specs.{Image.{IsImage}, Log.{now}}}
+use Rattle.df_disk.specs.{Told.{Told}, Adds.{AddsPart, after_all}}
 use Rattle.df_layout.specs.declared.places.Zone.TheVariants.{ClientReplies}
-use Rattle.df_format.proofs.Laws.{made_brings}
-use Rattle.df_format.specs.Making.{for_body}
-use Rattle.df_format.specs.Message.{Message, sectors_of}
-use Rattle.df_format.specs.Own.{place_in}
-use Rattle.df_format.specs.Spelling.{spelling_rest}
+use Rattle.df_format.{proofs.Laws.{made_brings}, specs.{Making.{for_body}, Message.{Message, sectors_of}, Own.{place_in}, Spelling.{spelling_rest}}}
 use Rattle.df_journal.specs.Append.{ShowsRing}
 use Rattle.df_replies.specs.Slots.{IsInReplySlot, reply_write_steps}
-use Rattle.df_theory.specs.Device.{IsPut}
+use Rattle.df_theory.{specs.{Device.{IsPut}, Units.{AnyUnit, BlockPlace, CopyPlace, HeaderPlace, Place, PreparePlace, ReplyPlace, ReplyUnit, or_else}, UnitLog.{put_one}}, proofs.Laws.{put_one_law}}
 use Rattle.df_theory.specs.Units as theory
-use Rattle.df_theory.specs.Units.{AnyUnit, BlockPlace, CopyPlace, HeaderPlace, Place, PreparePlace, ReplyPlace, ReplyUnit, or_else}
-use Rattle.df_theory.specs.UnitLog.{put_one}
-use Rattle.df_theory.proofs.Laws.{put_one_law}
-use Rattle.df_units.specs.Bytes.{first_at}
-use Rattle.df_units.specs.Format.{format_of}
-use Rattle.df_units.specs.Meaning.{message_of, number_of}
-use Rattle.df_units.proofs.Laws.{reply_put}
-use Rattle.df_model.specs.After.{outcome, with_reply}
-use Rattle.df_model.specs.Changing.{blocks_after, replied_in, unless_refused}
-use Rattle.df_model.specs.Codec.{AreChecksums}
-use Rattle.df_model.specs.Commands.{Answer, Command, ForReply, Given, IsInput, Reply, ToReply, as_answer, supplied_sum, supplied_sums}
-use Rattle.df_model.specs.Faults.{is_reply_fault}
-use Rattle.df_model.specs.Laws.{DoesReply, UnlessRefused}
-use Rattle.df_model.specs.Making.{first_of, place_of_reply, reply_of}
-use Rattle.df_model.specs.Memory.{Memory, memory_of}
-use Rattle.df_model.specs.OnDisk.{DoesOnDisk}
-use Rattle.df_model.specs.Refusals.{first_refusal, reply_refusals}
-use Rattle.df_model.specs.Sense.{IsWork}
-use Rattle.df_model.specs.Supply.{puts_of, unless}
-use Rattle.df_model.specs.Work.{Work}
-use Rattle.df_model.proofs.Laws.{change_law}
-use Rattle.df_model.specs.declared.errors.ReplyError.{ReplyError}
+use Rattle.df_units.{specs.{Bytes.{first_at}, Format.{format_of}, Meaning.{message_of, number_of}}, proofs.Laws.{reply_put}}
+use Rattle.df_model.{specs.{After.{outcome, with_reply}, Changing.{blocks_after, replied_in, unless_refused}, Codec.{AreChecksums}, Commands.{Answer, Command, ForReply, Given, IsInput, Reply, ToReply, as_answer, supplied_sum, supplied_sums}, Faults.{is_reply_fault}, Laws.{DoesReply, UnlessRefused}, Making.{first_of, place_of_reply, reply_of}, Memory.{Memory, memory_of}, OnDisk.{DoesOnDisk}, Refusals.{first_refusal, reply_refusals}, Sense.{IsWork}, Supply.{puts_of, unless}, Work.{Work}, declared.errors.ReplyError.{ReplyError}}, proofs.Laws.{change_law}}
 use Rattle.df_opening.specs.Below.{IsState, Represents, State, memory, shape, spelling}
-use Rattle.df_replica.specs.Answering.{Serves, answer_of, as_reply}
-use Rattle.df_replica.specs.Replying.{first_check, next_reply, reply_events, reply_given, with_stored_reply}
-use Rattle.df_replica.specs.Serving.{Grade, IsCall, IsKept, format, next}
-use Rattle.df_replica.specs.Supply.{IsSupplied}
-use Rattle.df_replica.proofs.Calls.{AreCalls, Answered, answered_call, answered_still, stopped_call}
-use Rattle.df_replica.proofs.Leaves.{Makes, makes_nothing}
-use Rattle.df_replica.proofs.Makes.{OfMade, Unless}
-use Rattle.df_replica.proofs.WritesOn.{StandsIn, steps_stand}
-use Rattle.df_replica.proofs.ReplyMemory.{replied_memory}
-use Rattle.df_replica.proofs.ReplyTests.{reply_waits}
-use Rattle.df_replica.proofs.Unblamed.{refused_answer, reply_unblamed}
+use Rattle.df_replica.{specs.{Answering.{Serves, answer_of, as_reply}, Replying.{first_check, next_reply, reply_events, reply_given, with_stored_reply}, Serving.{Grade, IsCall, IsKept, format, next}, Supply.{IsSupplied}}, proofs.{Calls.{AreCalls, Answered, answered_call, answered_still, stopped_call}, Leaves.{Makes, makes_nothing}, Makes.{OfMade, Unless}, WritesOn.{StandsIn, steps_stand}, ReplyMemory.{replied_memory}, ReplyTests.{reply_waits}, Unblamed.{refused_answer, reply_unblamed}}}
 
 -- the checksum that waits the longest, as a number
 first_number : (ws : List (List ℕ)) → 0 < length ws → first_of (map number_of ws) ≡ number_of (first_check ws)

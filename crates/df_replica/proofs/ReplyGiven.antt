@@ -1,25 +1,12 @@
 -- What the maker says of the next reply obeys the rules of a reply, and its place is one of the layout.
-use Rattle.std.proofs.Common.{◌≡◌, ◌∙◌, ℕ, ◌+◌, ◌^◌, ◌<◌, true, List, length, Some, IsSome, refl, sym, ap, subst, arith, rules}
-use Rattle.std.specs.Prelude.{nat_lt}
-use Rattle.std.specs.List.{slice_get}
-use Rattle.std.proofs.lemmas.Bool.Decides.{nat_tests}
+use Rattle.std.{proofs.{Common.{◌≡◌, ◌∙◌, ℕ, ◌+◌, ◌^◌, ◌<◌, true, List, length, Some, IsSome, refl, sym, ap, subst, arith, rules}, lemmas.Bool.Decides.{nat_tests}}, specs.{Prelude.{nat_lt}, List.{slice_get}}}
 use Rattle.df_layout.specs.declared.places.Zone.TheVariants.{ClientReplies}
-use Rattle.df_format.specs.declared.header.Header.{Header}
-use Rattle.df_format.specs.declared.kind.Kind.TheVariants.{Reply as AsReply}
-use Rattle.df_format.specs.Making.{blank_header, for_body}
-use Rattle.df_format.specs.Own.{own_place}
-use Rattle.df_format.specs.Rules.{ObeysRules}
-use Rattle.df_format.specs.Spelling.{IsCheck}
-use Rattle.df_opening.proofs.Laws.{boot_made}
-use Rattle.df_format.proofs.Laws.{given_obeys, of_second}
+use Rattle.df_format.{specs.{declared.header.Header.{Header}, declared.kind.Kind.TheVariants.{Reply as AsReply}, Making.{blank_header, for_body}, Own.{own_place}, Rules.{ObeysRules}, Spelling.{IsCheck}}, proofs.Laws.{given_obeys, of_second}}
+use Rattle.df_opening.{proofs.Laws.{boot_made}, specs.Below.{IsState, State}}
 use Rattle.df_sessions.specs.declared.session.Session as told
-use Rattle.df_sessions.specs.Requests.{session_of}
-use Rattle.df_sessions.specs.Table.{IsSessionTable}
+use Rattle.df_sessions.{specs.{Requests.{session_of}, Table.{IsSessionTable}}, proofs.Laws.{session_at}}
 use Rattle.df_model.specs.Making.{client_of, request_of}
-use Rattle.df_sessions.proofs.Laws.{session_at}
-use Rattle.df_opening.specs.Below.{IsState, State}
-use Rattle.df_replica.specs.Replying.{MayReplyNext, first_check, place_waiting, reply_given, session_waiting}
-use Rattle.df_replica.proofs.ReplyTests.{client_named, place_inside, waiting_told}
+use Rattle.df_replica.{specs.Replying.{MayReplyNext, first_check, place_waiting, reply_given, session_waiting}, proofs.ReplyTests.{client_named, place_inside, waiting_told}}
 
 -- the header of these parts, over a blank one
 pub header_is : (s : State) (blank : Header) (parent : List ℕ) (client place sequence boot : ℕ) (r : told.Session) → blank ≡ blank_header AsReply s.file.cluster → client ≡ r.client → parent ≡ first_check s.waiting → place ≡ place_waiting s → slice_get s.table.sessions place ≡ Some r → sequence ≡ s.fields.sequence → boot ≡ s.fields.boot

@@ -1,15 +1,11 @@
 -- What a reply leaves in memory is what the machine's reply leaves there.
-use Rattle.std.proofs.Common.{◌≡◌, ◌∙◌, ℕ, zero, suc, List, [], ◌∷◌, drop, map, Option, Some, refl, ap}
-use Rattle.std.specs.Prelude.{slice_set}
+use Rattle.std.{proofs.Common.{◌≡◌, ◌∙◌, ℕ, zero, suc, List, [], ◌∷◌, drop, map, Option, Some, refl, ap}, specs.Prelude.{slice_set}}
 use Rattle.df_format.specs.declared.header.Header.{Header}
 use Rattle.df_sessions.specs.declared.session.Session as told
-use Rattle.df_sessions.specs.Requests.{sessions_of}
-use Rattle.df_sessions.specs.Table.{with_reply_stored}
+use Rattle.df_sessions.{specs.{Requests.{sessions_of}, Table.{with_reply_stored}}, proofs.Laws.{reply_unnoted}}
 use Rattle.df_theory.specs.Units as theory
 use Rattle.df_units.specs.Meaning.{number_of}
-use Rattle.df_model.specs.Memory.{Memory}
-use Rattle.df_model.specs.Changing.{replied_in}
-use Rattle.df_sessions.proofs.Laws.{reply_unnoted}
+use Rattle.df_model.specs.{Memory.{Memory}, Changing.{replied_in}}
 use Rattle.df_opening.specs.Below.{State, memory, stored_sum}
 use Rattle.df_replica.specs.Replying.{place_waiting, with_stored_reply}
 

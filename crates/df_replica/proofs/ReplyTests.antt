@@ -1,17 +1,9 @@
 -- What a reply that isn't refused may rely on: the session of the prepare that waits the longest, and its place.
-use Rattle.std.proofs.Common.{◌≡◌, ◌≢◌, ◌∙◌, ℕ, zero, suc, ◌+◌, ◌<◌, ◌==◌, true, false, List, [], ◌∷◌, length, map, Option, Some, None, refl, sym, ap, subst, arith, ltb-false}
-use Rattle.std.specs.Prelude.{option_map}
-use Rattle.std.specs.List.{AllByRecursion, slice_get}
-use Rattle.std.proofs.lemmas.Bool.{eq-eqb, ne_eqb, eqb-false}
-use Rattle.std.proofs.lemmas.Option.{slice_get-map, slice_get_within, same_Some}
+use Rattle.std.{proofs.{Common.{◌≡◌, ◌≢◌, ◌∙◌, ℕ, zero, suc, ◌+◌, ◌<◌, ◌==◌, true, false, List, [], ◌∷◌, length, map, Option, Some, None, refl, sym, ap, subst, arith, ltb-false}, lemmas.Bool.{eq-eqb, ne_eqb, eqb-false}, lemmas.Option.{slice_get-map, slice_get_within, same_Some}}, specs.{Prelude.{option_map}, List.{AllByRecursion, slice_get}}}
 use Rattle.df_sessions.specs.declared.session.Session as told
-use Rattle.df_sessions.specs.Requests.{session_of, sessions_of}
-use Rattle.df_sessions.specs.Table.{clients_of}
+use Rattle.df_sessions.{specs.{Requests.{session_of, sessions_of}, Table.{clients_of}}, proofs.Laws.{session_at}}
 use Rattle.df_theory.specs.Units.{Session}
-use Rattle.df_model.specs.Making.{place_of_op}
-use Rattle.df_model.specs.Refusals.{first_refusal, reply_refusals}
-use Rattle.df_model.proofs.Laws.{all_pass, op_found}
-use Rattle.df_sessions.proofs.Laws.{session_at}
+use Rattle.df_model.{specs.{Making.{place_of_op}, Refusals.{first_refusal, reply_refusals}}, proofs.Laws.{all_pass, op_found}}
 use Rattle.df_opening.specs.Below.{IsState, State, memory}
 use Rattle.df_replica.specs.Replying.{MayReplyNext, place_waiting, session_waiting}
 

@@ -1,19 +1,12 @@
 -- Device calls that put no header leave the header ring as it was shown.
-use Rattle.std.proofs.Common.{◌≡◌, ◌∙◌, ℕ, List, [], ◌∷◌, Some, None, sym, ap, subst}
-use Rattle.std.proofs.lemmas.Option.{same_Some}
-use Rattle.df_base.proofs.Laws.{now_is_image, written_is_image}
-use Rattle.df_base.specs.Image.{IsImage}
-use Rattle.df_base.specs.Log.{Event, IsLog, Stop, Sync, Write, now}
-use Rattle.df_disk.specs.Told.{Told, did}
-use Rattle.df_disk.specs.Adds.{after_all}
+use Rattle.std.proofs.{Common.{◌≡◌, ◌∙◌, ℕ, List, [], ◌∷◌, Some, None, sym, ap, subst}, lemmas.Option.{same_Some}}
+use Rattle.df_base.{proofs.Laws.{now_is_image, written_is_image}, specs.{Image.{IsImage}, Log.{Event, IsLog, Stop, Sync, Write, now}}}
+use Rattle.df_disk.specs.{Told.{Told, did}, Adds.{after_all}}
 use Rattle.df_format.specs.declared.header.Header.{Header}
 use Rattle.df_journal.specs.Append.{ShowsRing}
 use Rattle.df_layout.specs.declared.layout.Layout.{Layout}
-use Rattle.df_theory.specs.Device.{AreSteps}
-use Rattle.df_theory.specs.Runs.{Puts, Step, Syncs}
-use Rattle.df_theory.specs.Units.{HeaderPlace, or_else}
-use Rattle.df_units.specs.Bytes.{unit_at}
-use Rattle.df_units.specs.Format.{format_of}
+use Rattle.df_theory.specs.{Device.{AreSteps}, Runs.{Puts, Step, Syncs}, Units.{HeaderPlace, or_else}}
+use Rattle.df_units.specs.{Bytes.{unit_at}, Format.{format_of}}
 
 -- none of these steps puts a header
 abbrev pub SpareRing : List Step → Type 0

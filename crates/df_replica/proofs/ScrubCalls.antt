@@ -1,29 +1,11 @@
 -- Each step of the scrubber is the machine's: it does nothing to the disk, and what it found is what it was supplied with.
-use Rattle.std.proofs.Common.{◌≡◌, ◌∙◌, ℕ, true, false, List, [], ◌∷◌, Option, Some, None, refl, sym, ap, subst}
-use Rattle.std.specs.Prelude.{Ok, Err}
-use Rattle.std.proofs.lemmas.Option.{same_Some}
-use Rattle.df_base.specs.Log.{now}
-use Rattle.df_base.specs.declared.Failed.{Failed}
+use Rattle.std.{proofs.{Common.{◌≡◌, ◌∙◌, ℕ, true, false, List, [], ◌∷◌, Option, Some, None, refl, sym, ap, subst}, lemmas.Option.{same_Some}}, specs.Prelude.{Ok, Err}}
+use Rattle.df_base.specs.{Log.{now}, declared.Failed.{Failed}}
 use Rattle.df_disk.specs.Told.{Told}
 use Rattle.df_journal.specs.Append.{ShowsRing}
-use Rattle.df_model.specs.After.{after_check, to_check}
-use Rattle.df_model.specs.Changing.{checked_in}
-use Rattle.df_model.specs.Commands.{ForRecent, ForScrub, Given, IsInput, Recent, Scrub, ToRecent, ToScrub, supplied_verdict}
-use Rattle.df_model.specs.Memory.{Memory, memory_of}
-use Rattle.df_model.specs.Sense.{IsWork}
-use Rattle.df_model.specs.Work.{Work}
-use Rattle.df_model.proofs.Laws.{change_law}
-use Rattle.df_model.specs.declared.answers.Scrubbed.{Scrubbed}
-use Rattle.df_model.specs.declared.answers.Verdict.{Verdict}
-use Rattle.df_model.specs.declared.answers.Verdict.TheVariants.{Sound, Failing}
+use Rattle.df_model.{specs.{After.{after_check, to_check}, Changing.{checked_in}, Commands.{ForRecent, ForScrub, Given, IsInput, Recent, Scrub, ToRecent, ToScrub, supplied_verdict}, Memory.{Memory, memory_of}, Sense.{IsWork}, Work.{Work}, declared.answers.Scrubbed.{Scrubbed}, declared.answers.Verdict.{Verdict}, declared.answers.Verdict.TheVariants.{Sound, Failing}}, proofs.Laws.{change_law}}
 use Rattle.df_opening.specs.Below.{IsMachineStep, IsMachines, ScrubState, verdict_in, Represents, State, grid_with, memory, shape, spelling}
-use Rattle.df_replica.specs.Answering.{GivesVerdict, Serves, ServesScrub}
-use Rattle.df_replica.specs.Scrubbing.{scrub_of, with_scrub}
-use Rattle.df_replica.specs.Serving.{next}
-use Rattle.df_replica.specs.Supply.{IsSupplied}
-use Rattle.df_replica.proofs.Calls.{AreCalls, Answered, answered_call, stopped_call}
-use Rattle.df_replica.proofs.Leaves.{makes_nothing}
-use Rattle.df_replica.proofs.ReadCalls.{no_sums}
+use Rattle.df_replica.{specs.{Answering.{GivesVerdict, Serves, ServesScrub}, Scrubbing.{scrub_of, with_scrub}, Serving.{next}, Supply.{IsSupplied}}, proofs.{Calls.{AreCalls, Answered, answered_call, stopped_call}, Leaves.{makes_nothing}, ReadCalls.{no_sums}}}
 
 -- a check leaves the blocks as they are
 blocks_kept : (m : Memory) (v : Verdict) (xs : List (ℕ × ℕ)) → record (checked_in m v xs) { blocks = m.blocks } ≡ checked_in m v xs

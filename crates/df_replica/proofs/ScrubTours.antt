@@ -2,26 +2,12 @@
 use Rattle.std.proofs.Common.{◌≡◌, ◌∙◌, ℕ, ◌++◌, List, length, Option, Some, None, refl, sym, ap, subst}
 use Rattle.df_disk.specs.Told.{Told}
 use Rattle.df_layout.specs.declared.damage.Finding.{Finding}
-use Rattle.df_theory.specs.Device.{units_log}
-use Rattle.df_theory.specs.Shape.{Shape}
-use Rattle.df_theory.specs.UnitLog.{UnitLog}
-use Rattle.df_theory.specs.Units.{Parts}
-use Rattle.df_model.specs.After.{newest}
-use Rattle.df_model.specs.Laws.{IsKeptBy}
-use Rattle.df_model.specs.Memory.{referenced_of}
-use Rattle.df_model.specs.Reading.{IsTour}
-use Rattle.df_model.specs.Sense.{IsBacked, IsKnown, IsWork}
-use Rattle.df_model.specs.Sense.IsKnown.{Captured, Chained, Durable, Live, Written}
-use Rattle.df_model.specs.Work.{Work, first_tour}
-use Rattle.df_model.proofs.Laws.{tour_law, newest_few}
+use Rattle.df_theory.specs.{Device.{units_log}, Shape.{Shape}, UnitLog.{UnitLog}, Units.{Parts}}
+use Rattle.df_model.{specs.{After.{newest}, Laws.{IsKeptBy}, Memory.{referenced_of}, Reading.{IsTour}, Sense.{IsBacked, IsKnown, IsWork}, Sense.IsKnown.{Captured, Chained, Durable, Live, Written}, Work.{Work, first_tour}}, proofs.Laws.{tour_law, newest_few}}
 use Rattle.df_grid.specs.Grid as grid
 use Rattle.df_grid.specs.Grid.{GridState}
 use Rattle.df_opening.specs.Below.{Represents, State, memory, shape, spelling}
-use Rattle.df_replica.specs.Answering.{ServesTour}
-use Rattle.df_replica.specs.Reading.{shown_of}
-use Rattle.df_replica.specs.Scrubbing.{TellsTour, at_start, toured, work_toured}
-use Rattle.df_replica.specs.Serving.{Firm, Grade, Keeps, KeptFor, Whole, format}
-use Rattle.df_replica.specs.WrittenFor.{WritesOn}
+use Rattle.df_replica.specs.{Answering.{ServesTour}, Reading.{shown_of}, Scrubbing.{TellsTour, at_start, toured, work_toured}, Serving.{Firm, Grade, Keeps, KeptFor, Whole, format}, WrittenFor.{WritesOn}}
 
 -- ---- a tour is no matter of blocks
 

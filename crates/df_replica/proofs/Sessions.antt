@@ -1,27 +1,11 @@
 -- Calls one after the other: nothing is served at first, one more call goes on, and a fault stops them.
-use Rattle.std.proofs.Common.{◌≡◌, ◌⊎◌, inl, inr, List, [], ◌∷◌, ◌++◌, Option, Some, None, refl, sym, ◌∙◌, ap, subst}
-use Rattle.std.proofs.lemmas.List.{map-append}
-use Rattle.df_base.specs.Image.{Image}
-use Rattle.df_base.specs.Log.{Event, IsLeft, Log}
-use Rattle.df_base.specs.Moments.{EachMoment, Extends, adds}
-use Rattle.df_base.proofs.Laws.{extends_add, extends_self, more, weaker, same_log, adds_on, extends_on, either_same}
-use Rattle.df_disk.specs.Told.{Told}
-use Rattle.df_disk.specs.Adds.{after_all}
-use Rattle.df_disk.proofs.Laws.{after_append}
-use Rattle.df_theory.specs.Shape.{Shape}
-use Rattle.df_theory.specs.Units.{Units}
-use Rattle.df_theory.specs.View.{View}
-use Rattle.df_theory.specs.Device.{NoChanceOf}
-use Rattle.df_model.specs.Commands.{Answer, ForRecent, Recent}
-use Rattle.df_model.specs.Views.{KeepsView}
-use Rattle.df_model.specs.Work.{Work, kept}
-use Rattle.df_opening.specs.Below.{DataFile, State, shape}
-use Rattle.df_replica.specs.Leaving.{AreSettled}
-use Rattle.df_replica.specs.Serving.{EachIsGood, Firm, Grade, IsGoodFor, IsKept, Keeps, Whole, format, next}
-use Rattle.df_replica.specs.Session.{Act, AnsweredIsThere, Exchange, EachIsMidway, FaultStopsThem, HasView, HoldsFor, HoldsSome, IsMidway, LeavesEither, LeavesView, NothingIsServed, OneMoreIsServed, act_in, acts_in, answer_in, answers_of, work_after}
-use Rattle.df_replica.specs.WrittenFor.{IsWrittenIn}
-use Rattle.df_replica.proofs.Calls.{moments}
-use Rattle.df_opening.proofs.Laws.{firmly, good_safe, keeps_back, keeps_on, keeps_self}
+use Rattle.std.proofs.{Common.{◌≡◌, ◌⊎◌, inl, inr, List, [], ◌∷◌, ◌++◌, Option, Some, None, refl, sym, ◌∙◌, ap, subst}, lemmas.List.{map-append}}
+use Rattle.df_base.{specs.{Image.{Image}, Log.{Event, IsLeft, Log}, Moments.{EachMoment, Extends, adds}}, proofs.Laws.{extends_add, extends_self, more, weaker, same_log, adds_on, extends_on, either_same}}
+use Rattle.df_disk.{specs.{Told.{Told}, Adds.{after_all}}, proofs.Laws.{after_append}}
+use Rattle.df_theory.specs.{Shape.{Shape}, Units.{Units}, View.{View}, Device.{NoChanceOf}}
+use Rattle.df_model.specs.{Commands.{Answer, ForRecent, Recent}, Views.{KeepsView}, Work.{Work, kept}}
+use Rattle.df_opening.{specs.Below.{DataFile, State, shape}, proofs.Laws.{firmly, good_safe, keeps_back, keeps_on, keeps_self}}
+use Rattle.df_replica.{specs.{Leaving.{AreSettled}, Serving.{EachIsGood, Firm, Grade, IsGoodFor, IsKept, Keeps, Whole, format, next}, Session.{Act, AnsweredIsThere, Exchange, EachIsMidway, FaultStopsThem, HasView, HoldsFor, HoldsSome, IsMidway, LeavesEither, LeavesView, NothingIsServed, OneMoreIsServed, act_in, acts_in, answer_in, answers_of, work_after}, WrittenFor.{IsWrittenIn}}, proofs.Calls.{moments}}
 
 -- ---- the acts with one more
 

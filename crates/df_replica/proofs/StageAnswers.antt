@@ -1,28 +1,12 @@
 -- Each stage is the machine's: its answer, and the state after it. It asks nothing of the disk.
-use Rattle.std.proofs.Common.{◌≡◌, ℕ, ◌+◌, ◌^◌, ◌<◌, true, List, [], length, Option, Some, None, refl, sym, ◌∙◌, ap, subst}
-use Rattle.std.specs.Prelude.{Ok, Err}
-use Rattle.std.proofs.lemmas.Option.{same_Some}
+use Rattle.std.{proofs.{Common.{◌≡◌, ℕ, ◌+◌, ◌^◌, ◌<◌, true, List, [], length, Option, Some, None, refl, sym, ◌∙◌, ap, subst}, lemmas.Option.{same_Some}}, specs.Prelude.{Ok, Err}}
 use Rattle.df_base.specs.Log.{now}
 use Rattle.df_disk.specs.Told.{Told}
 use Rattle.df_journal.specs.Append.{ShowsRing}
 use Rattle.df_theory.specs.Shape.{Shape}
-use Rattle.df_model.specs.After.{outcome, with_staged}
-use Rattle.df_model.specs.Changing.{staged_in, unless_refused}
-use Rattle.df_model.specs.Codec.{AreChecksums}
-use Rattle.df_model.specs.Commands.{Answer, Command, ForStage, Given, IsInput, Stage, ToStage, as_answer, supplied_sums}
-use Rattle.df_model.specs.Memory.{Memory, memory_of}
-use Rattle.df_model.specs.Refusals.{first_refusal, stage_refusals}
-use Rattle.df_model.specs.Sense.{IsWork}
-use Rattle.df_model.specs.Work.{Request, Work}
-use Rattle.df_model.specs.declared.errors.AppendError.{AppendError}
-use Rattle.df_model.proofs.Laws.{change_law}
+use Rattle.df_model.{specs.{After.{outcome, with_staged}, Changing.{staged_in, unless_refused}, Codec.{AreChecksums}, Commands.{Answer, Command, ForStage, Given, IsInput, Stage, ToStage, as_answer, supplied_sums}, Memory.{Memory, memory_of}, Refusals.{first_refusal, stage_refusals}, Sense.{IsWork}, Work.{Request, Work}, declared.errors.AppendError.{AppendError}}, proofs.Laws.{change_law}}
 use Rattle.df_opening.specs.Below.{Represents, State, memory, shape, spelling}
-use Rattle.df_replica.specs.Answering.{Serves, stage_answer}
-use Rattle.df_replica.specs.Flushing.{request_made, staged_with}
-use Rattle.df_replica.specs.Serving.{IsCall, next}
-use Rattle.df_replica.specs.Supply.{IsSupplied}
-use Rattle.df_replica.proofs.Calls.{AreCalls, Answered, answered_call, answered_still}
-use Rattle.df_replica.proofs.Leaves.{Makes, makes_nothing}
+use Rattle.df_replica.{specs.{Answering.{Serves, stage_answer}, Flushing.{request_made, staged_with}, Serving.{IsCall, next}, Supply.{IsSupplied}}, proofs.{Calls.{AreCalls, Answered, answered_call, answered_still}, Leaves.{Makes, makes_nothing}}}
 
 module _ (s : State) (client request : ℕ) (body : List ℕ) (given : Given) (live : s.live ≡ true) (fits : client < 2 ^ 128) (none_given : given ≡ ForStage) where
   abbrev command : Command

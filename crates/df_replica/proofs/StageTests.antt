@@ -1,22 +1,10 @@
 -- The sessions as if what is staged were appended, and what a request that isn't refused may rely on.
-use Rattle.std.proofs.Common.{◌≡◌, inl, inr, ℕ, zero, suc, ◌+◌, ◌^◌, ◌<◌, ◌≤◌, ◌==◌, Bool, true, false, if◌then◌else◌, List, [], ◌∷◌, ◌++◌, length, take, drop, Option, Some, None, refl, sym, ◌∙◌, ap, subst, arith, length-append, ltb-false, eqb-true}
-use Rattle.std.specs.Prelude.{is_some, option_map}
-use Rattle.std.specs.List.{slice_get}
-use Rattle.std.proofs.lemmas.Bool.{eq-eqb, eqb-false}
-use Rattle.std.proofs.lemmas.List.{length-map, take_all}
-use Rattle.std.proofs.lemmas.Option.{same_Some}
+use Rattle.std.{proofs.{Common.{◌≡◌, inl, inr, ℕ, zero, suc, ◌+◌, ◌^◌, ◌<◌, ◌≤◌, ◌==◌, Bool, true, false, if◌then◌else◌, List, [], ◌∷◌, ◌++◌, length, take, drop, Option, Some, None, refl, sym, ◌∙◌, ap, subst, arith, length-append, ltb-false, eqb-true}, lemmas.Bool.{eq-eqb, eqb-false}, lemmas.List.{length-map, take_all}, lemmas.Option.{same_Some}}, specs.{Prelude.{is_some, option_map}, List.{slice_get}}}
 use Rattle.df_sessions.specs.declared.session.Session as told
 use Rattle.df_sessions.specs.Requests as requests
-use Rattle.df_sessions.specs.Requests.{sessions_of}
-use Rattle.df_sessions.specs.Table.{IsSessionTable}
-use Rattle.df_theory.specs.Next.{MayAskInTurn}
-use Rattle.df_theory.specs.Sessions.{MayAsk, noted, session_of_header, sessions_after}
-use Rattle.df_theory.specs.Units.{Header, Session}
-use Rattle.df_model.specs.Making.{first_of, prepare_in, prepares_in}
-use Rattle.df_model.specs.Memory.{Memory}
-use Rattle.df_model.specs.Refusals.{counted_staged, first_refusal, session_of_client, stage_refusals}
-use Rattle.df_model.specs.Work.{Request}
-use Rattle.df_model.proofs.Laws.{all_pass, allowed, allowed_asks, ask_on, some_request, noted_alike}
+use Rattle.df_sessions.specs.{Requests.{sessions_of}, Table.{IsSessionTable}}
+use Rattle.df_theory.specs.{Next.{MayAskInTurn}, Sessions.{MayAsk, noted, session_of_header, sessions_after}, Units.{Header, Session}}
+use Rattle.df_model.{specs.{Making.{first_of, prepare_in, prepares_in}, Memory.{Memory}, Refusals.{counted_staged, first_refusal, session_of_client, stage_refusals}, Work.{Request}}, proofs.Laws.{all_pass, allowed, allowed_asks, ask_on, some_request, noted_alike}}
 use Rattle.df_opening.specs.Below.{AreStaging, IsRequest, IsState, State, asker_of, asks_of, memory}
 use Rattle.df_replica.specs.Flushing.{request_made, sessions_staged, staged_with}
 

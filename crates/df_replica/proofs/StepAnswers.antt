@@ -1,37 +1,15 @@
 -- Each step that writes a trailer block is the machine's: its answer, the state after it, and what it does to the disk.
-use Rattle.std.proofs.Common.{◌≡◌, ◌∙◌, ℕ, true, false, List, [], ◌∷◌, Option, Some, None, refl, sym, ap, subst, arith}
-use Rattle.std.specs.Prelude.{Ok, Err}
-use Rattle.std.proofs.lemmas.Option.{same_Some}
-use Rattle.df_base.proofs.Laws.{AreBytes-check_of, field_at-lt}
-use Rattle.df_base.specs.Log.{Event, now}
-use Rattle.df_disk.specs.Told.{Told}
-use Rattle.df_disk.specs.Adds.{AddsPart, after_all}
-use Rattle.df_format.specs.declared.header.Header.{Header}
-use Rattle.df_format.specs.Copies.{content_with}
-use Rattle.df_format.specs.Super.{covered_bytes}
+use Rattle.std.{proofs.{Common.{◌≡◌, ◌∙◌, ℕ, true, false, List, [], ◌∷◌, Option, Some, None, refl, sym, ap, subst, arith}, lemmas.Option.{same_Some}}, specs.Prelude.{Ok, Err}}
+use Rattle.df_base.{proofs.Laws.{AreBytes-check_of, field_at-lt}, specs.Log.{Event, now}}
+use Rattle.df_disk.specs.{Told.{Told}, Adds.{AddsPart, after_all}}
+use Rattle.df_format.specs.{declared.header.Header.{Header}, Copies.{content_with}, Super.{covered_bytes}}
 use Rattle.df_journal.specs.Append.{ShowsRing}
 use Rattle.df_theory.specs.Runs.{Step}
 use Rattle.df_theory.specs.Units as theory
-use Rattle.df_model.specs.After.{after_running, after_step_of}
-use Rattle.df_model.specs.Codec.{AreChecksums, IsChecksum}
-use Rattle.df_model.specs.Commands.{Advance, ForAdvance, Given, IsInput, ToAdvance, as_answer, supplied_sum, supplied_sums}
-use Rattle.df_model.specs.Laws.{DoesAdvance, DoesAdvanceTo}
-use Rattle.df_model.specs.Memory.{Course, Memory, course as course_from, course_of as courses, memory_of}
-use Rattle.df_model.specs.Sense.{IsWork}
-use Rattle.df_model.specs.Supply.{puts_of, step_puts, trailer_puts}
-use Rattle.df_model.specs.Work.{Running, Work}
-use Rattle.df_model.proofs.Laws.{change_law}
-use Rattle.df_model.specs.declared.answers.Progress.{Progress}
+use Rattle.df_model.{specs.{After.{after_running, after_step_of}, Codec.{AreChecksums, IsChecksum}, Commands.{Advance, ForAdvance, Given, IsInput, ToAdvance, as_answer, supplied_sum, supplied_sums}, Laws.{DoesAdvance, DoesAdvanceTo}, Memory.{Course, Memory, course as course_from, course_of as courses, memory_of}, Sense.{IsWork}, Supply.{puts_of, step_puts, trailer_puts}, Work.{Running, Work}, declared.answers.Progress.{Progress}}, proofs.Laws.{change_law}}
 use Rattle.df_model.specs.declared.errors.StepError.TheVariants as step
 use Rattle.df_opening.specs.Below.{DataFile, RunningState, Represents, State, course_in, course_of, memory, shape, spelling}
-use Rattle.df_replica.specs.Serving.{Grade, IsCall, IsKept, format, next}
-use Rattle.df_replica.specs.Stepping.{made_by, made_for, next_fields, pending, trailer_unit}
-use Rattle.df_replica.specs.Supply.{IsSupplied}
-use Rattle.df_replica.proofs.Calls.{AreCalls, Answered, answered_call, answered_still, stopped_call}
-use Rattle.df_replica.proofs.Leaves.{IsWhole, Makes, makes_nothing}
-use Rattle.df_replica.proofs.Makes.{OfLeft, OfStep}
-use Rattle.df_replica.proofs.WritesOn.{StandsIn}
-use Rattle.df_replica.proofs.StepMemory.{step_memory}
+use Rattle.df_replica.{specs.{Serving.{Grade, IsCall, IsKept, format, next}, Stepping.{made_by, made_for, next_fields, pending, trailer_unit}, Supply.{IsSupplied}}, proofs.{Calls.{AreCalls, Answered, answered_call, answered_still, stopped_call}, Leaves.{IsWhole, Makes, makes_nothing}, Makes.{OfLeft, OfStep}, WritesOn.{StandsIn}, StepMemory.{step_memory}}}
 
 -- what is made has a checksum
 made_small : (s : State) (r : RunningState) (l : List ℕ) → IsChecksum (made_for s r l)

@@ -1,13 +1,10 @@
 -- What a step leaves in memory is what the machine's step leaves there.
-use Rattle.std.proofs.Common.{◌≡◌, ◌∙◌, ℕ, zero, suc, ◌+◌, ◌-◌, ◌≤◌, List, [], ◌∷◌, drop, length, map, Option, Some, None, sym, ap, arith}
-use Rattle.std.specs.List.{range_with_len}
+use Rattle.std.{proofs.Common.{◌≡◌, ◌∙◌, ℕ, zero, suc, ◌+◌, ◌-◌, ◌≤◌, List, [], ◌∷◌, drop, length, map, Option, Some, None, sym, ap, arith}, specs.List.{range_with_len}}
 use Rattle.df_format.specs.Copies.{content_with}
 use Rattle.df_theory.specs.Units as theory
 use Rattle.df_units.specs.Meaning.{content_of, number_of}
-use Rattle.df_model.specs.Blocks.{Blocks, capture_finished, trailer_written}
-use Rattle.df_model.specs.Changing.{after_step_in, course_on, step_in, trailer_step}
+use Rattle.df_model.specs.{Blocks.{Blocks, capture_finished, trailer_written}, Changing.{after_step_in, course_on, step_in, trailer_step}, Memory.{Course, Memory}}
 use Rattle.df_model.specs.Making as making
-use Rattle.df_model.specs.Memory.{Course, Memory}
 use Rattle.df_grid.specs.Table.{written_of}
 use Rattle.df_opening.specs.Below.{RunningState, State, course_in, course_of, memory, prepare_sum}
 use Rattle.df_replica.specs.Stepping.{advanced, block_sum, finished, next_fields}

@@ -2,8 +2,7 @@
 use Rattle.std.proofs.Common.{◌≡◌, ◌∙◌, ℕ, ◌+◌, ◌<◌, List, [], ◌∷◌, length, Option, Some, refl, sym, ap, subst, arith}
 use Rattle.df_format.specs.declared.superblock.SuperFields.{SuperFields}
 use Rattle.df_model.specs.Blocks.{Blocks}
-use Rattle.df_grid.specs.Grid.{GridState}
-use Rattle.df_grid.specs.Table.{next_written, written_of}
+use Rattle.df_grid.specs.{Grid.{GridState}, Table.{next_written, written_of}}
 use Rattle.df_opening.specs.Below.{RunningCheckpoint, DataFile, running_state, running_of, RunningState, IsCourse, IsLevel, IsRunningCheckpoint, State, grid_with}
 use Rattle.df_replica.specs.Stepping.{OfRunning}
 

@@ -1,21 +1,9 @@
 -- No refusal blames the disk: no test of the calls' refusals answers a fault.
-use Rattle.std.proofs.Common.{◌≡◌, ℕ, true, false, Bool, List, [], ◌∷◌, Option, Some, None, refl, sym, ap, subst}
-use Rattle.std.specs.Prelude.{if◌then◌else◌, Result, Err}
+use Rattle.std.{proofs.{Common.{◌≡◌, ℕ, true, false, Bool, List, [], ◌∷◌, Option, Some, None, refl, sym, ap, subst}, lemmas.Option.{same_Some}}, specs.Prelude.{if◌then◌else◌, Result, Err}}
 use Rattle.df_base.specs.Causes.{Blamed, IsBlamed}
-use Rattle.std.proofs.lemmas.Option.{same_Some}
-use Rattle.df_model.specs.Commands.{Answer}
-use Rattle.df_model.specs.Faults.{is_append_fault, is_block_fault, is_flush_fault, is_lookup_fault, is_prepare_fault, is_reply_fault}
-use Rattle.df_model.specs.Memory.{Memory}
-use Rattle.df_model.specs.Refusals.{append_refusals, block_refusals, first_refusal, flush_refusals, lookup_refusals, prepare_refusals, reply_refusals}
-use Rattle.df_model.specs.declared.errors.AppendError.{AppendError}
-use Rattle.df_model.specs.declared.errors.BlockError.{BlockError}
-use Rattle.df_model.specs.declared.errors.FlushError.{FlushError}
-use Rattle.df_model.specs.declared.errors.ReplyError.{ReplyError}
-use Rattle.df_model.specs.declared.reading.LookupError.{LookupError}
-use Rattle.df_model.specs.declared.reading.PrepareError.{PrepareError}
+use Rattle.df_model.specs.{Commands.{Answer}, Faults.{is_append_fault, is_block_fault, is_flush_fault, is_lookup_fault, is_prepare_fault, is_reply_fault}, Memory.{Memory}, Refusals.{append_refusals, block_refusals, first_refusal, flush_refusals, lookup_refusals, prepare_refusals, reply_refusals}, declared.errors.AppendError.{AppendError}, declared.errors.BlockError.{BlockError}, declared.errors.FlushError.{FlushError}, declared.errors.ReplyError.{ReplyError}, declared.reading.LookupError.{LookupError}, declared.reading.PrepareError.{PrepareError}}
 use Rattle.df_opening.specs.Below.{State}
-use Rattle.df_replica.specs.Answering.{answer_of}
-use Rattle.df_replica.specs.Stopping.{left_by, stopped}
+use Rattle.df_replica.specs.{Answering.{answer_of}, Stopping.{left_by, stopped}}
 
 -- none of these tests answers a fault
 abbrev AreUnblamed : {E : Type 0} → (is_fault : E → Bool) → List (Bool × E) → Type 0

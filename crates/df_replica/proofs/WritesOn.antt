@@ -1,14 +1,8 @@
 -- What was written stays written as a log goes on, and what one of its writes brings is written.
-use Rattle.std.proofs.Common.{◌≡◌, ◌⊎◌, ℕ, inl, inr, List, [], ◌∷◌, Option, Some, ◌∙◌, ap}
-use Rattle.std.proofs.lemmas.Bool.{cond-true}
-use Rattle.df_base.specs.Image.{blank}
-use Rattle.df_base.specs.Log.{Event, Log, Stop, Sync, Write, add}
-use Rattle.df_base.specs.Moments.{adds}
-use Rattle.df_base.proofs.Laws.{blank_is_image}
+use Rattle.std.proofs.{Common.{◌≡◌, ◌⊎◌, ℕ, inl, inr, List, [], ◌∷◌, Option, Some, ◌∙◌, ap}, lemmas.Bool.{cond-true}}
+use Rattle.df_base.{specs.{Image.{blank}, Log.{Event, Log, Stop, Sync, Write, add}, Moments.{adds}}, proofs.Laws.{blank_is_image}}
 use Rattle.df_opening.specs.Below.{IsWritten}
-use Rattle.df_theory.specs.Device.{AreSteps, Format, IsPut, stands, units_log}
-use Rattle.df_theory.specs.Runs.{Puts, Step, Syncs}
-use Rattle.df_theory.specs.Units.{AnyUnit, Place, Units, is_some, or_else}
+use Rattle.df_theory.specs.{Device.{AreSteps, Format, IsPut, stands, units_log}, Runs.{Puts, Step, Syncs}, Units.{AnyUnit, Place, Units, is_some, or_else}}
 
 -- ---- what a write brings
 

@@ -1,19 +1,12 @@
 -- The greatest numbers of the replies, turn by turn, and what they say of the theory's image.
-use Rattle.std.proofs.Common.{◌≡◌, ◌==◌, ◌⊎◌, ◌↔◌, inl, inr, ℕ, ◌+◌, ◌<◌, ◌≤◌, List, length, get_or, max, Option, Some, None, refl, sym, ◌∙◌, ap, subst, arith}
-use Rattle.std.specs.Prelude.{Result, Ok, Err}
-use Rattle.std.specs.List.{slice_get}
-use Rattle.std.proofs.lemmas.Bool.{cases_eq, cases_lt, cond-true, cond-false, eq-eqb, ne_eqb}
-use Rattle.std.proofs.lemmas.Option.{slice_get_cases, slice_get-get_or}
+use Rattle.std.{proofs.{Common.{◌≡◌, ◌==◌, ◌⊎◌, ◌↔◌, inl, inr, ℕ, ◌+◌, ◌<◌, ◌≤◌, List, length, get_or, max, Option, Some, None, refl, sym, ◌∙◌, ap, subst, arith}, lemmas.Bool.{cases_eq, cases_lt, cond-true, cond-false, eq-eqb, ne_eqb}, lemmas.Option.{slice_get_cases, slice_get-get_or}}, specs.{Prelude.{Result, Ok, Err}, List.{slice_get}}}
 use Rattle.df_layout.specs.declared.damage.Class.{Class}
 use Rattle.df_format.specs.declared.header.Header.{Header}
 use Rattle.df_stamps.specs.declared.counters.Counters.{Counters}
 use Rattle.df_theory.specs.Units
-use Rattle.df_theory.specs.Units.{AnyUnit, Content, Message, ReplyPlace, ReplyUnit}
-use Rattle.df_theory.specs.Found.{IsReplies}
-use Rattle.df_theory.specs.Tails.{last_mark}
+use Rattle.df_theory.specs.{Units.{AnyUnit, Content, Message, ReplyPlace, ReplyUnit}, Found.{IsReplies}, Tails.{last_mark}}
 use Rattle.df_units.specs.Meaning.{header_of}
-use Rattle.df_replies.specs.Shown.{ShowsReplies, ShowsReply}
-use Rattle.df_replies.specs.Counts.{AreNotAbove, CountsSome, IsGreatest, RepliesWithin, boot_in, checkpoint_in, counting_reply, in_boot, mark_in, op_of_reply}
+use Rattle.df_replies.specs.{Shown.{ShowsReplies, ShowsReply}, Counts.{AreNotAbove, CountsSome, IsGreatest, RepliesWithin, boot_in, checkpoint_in, counting_reply, in_boot, mark_in, op_of_reply}}
 
 -- ---- numbers of the first entries
 

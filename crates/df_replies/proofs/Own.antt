@@ -1,12 +1,7 @@
 -- A sound reply stands in the slot that its header names.
 use Rattle.std.proofs.Common.{◌≡◌, sym, subst}
-use Rattle.df_layout.specs.declared.layout.Layout.{Layout}
-use Rattle.df_layout.specs.declared.places.Place.{Place}
-use Rattle.df_layout.specs.declared.places.Zone.{Zone}
-use Rattle.df_layout.specs.declared.places.Zone.TheVariants.{ClientReplies}
-use Rattle.df_format.specs.declared.kind.Kind.TheVariants.{Reply as AsReply}
-use Rattle.df_format.specs.Valid.{Belongs, IsOfSession, IsUnit}
-use Rattle.df_format.proofs.Laws.{valid_belongs}
+use Rattle.df_layout.specs.{declared.layout.Layout.{Layout}, declared.places.Place.{Place}, declared.places.Zone.{Zone}, declared.places.Zone.TheVariants.{ClientReplies}}
+use Rattle.df_format.{specs.{declared.kind.Kind.TheVariants.{Reply as AsReply}, Valid.{Belongs, IsOfSession, IsUnit}}, proofs.Laws.{valid_belongs}}
 use Rattle.df_buffers.specs.Sounds.{Holding, IsSound}
 use Rattle.df_replies.specs.Slots.{IsInReplySlot, reply_place}
 

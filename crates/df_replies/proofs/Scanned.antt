@@ -1,24 +1,13 @@
 -- What was scanned is what the theory's image shows, and the class of a slot that doesn't answer is the shown one.
-use Rattle.std.proofs.Common.{◌≡◌, ℕ, ◌<◌, ◌≤◌, List, Option, Some, None, refl, sym, ◌∙◌, ap, subst, arith}
-use Rattle.std.specs.Prelude.{Result}
-use Rattle.std.specs.List.{slice_get}
-use Rattle.std.proofs.lemmas.Option.{slice_get_within}
+use Rattle.std.{proofs.{Common.{◌≡◌, ℕ, ◌<◌, ◌≤◌, List, Option, Some, None, refl, sym, ◌∙◌, ap, subst, arith}, lemmas.Option.{slice_get_within}}, specs.{Prelude.{Result}, List.{slice_get}}}
 use Rattle.df_base.specs.Image.{Image}
-use Rattle.df_layout.specs.declared.damage.Class.{Class}
-use Rattle.df_layout.specs.declared.layout.Layout.{Layout}
-use Rattle.df_format.specs.declared.header.Header.{Header}
-use Rattle.df_format.specs.Message.{Message}
-use Rattle.df_format.specs.Shown.{bytes_of, class_at, header_or_class, unit_at}
-use Rattle.df_format.proofs.Laws.{shown_belongs, valid_stale}
+use Rattle.df_layout.specs.{declared.damage.Class.{Class}, declared.layout.Layout.{Layout}}
+use Rattle.df_format.{specs.{declared.header.Header.{Header}, Message.{Message}, Shown.{bytes_of, class_at, header_or_class, unit_at}}, proofs.Laws.{shown_belongs, valid_stale}}
 use Rattle.df_theory.specs.Units.{ReplyPlace}
-use Rattle.df_units.specs.Meaning.{message_of}
+use Rattle.df_units.specs.{Meaning.{message_of}, Bytes.{message_unit}}
 use Rattle.df_units.specs.Bytes
-use Rattle.df_units.specs.Bytes.{message_unit}
 use Rattle.df_places.specs.Units.{header_at}
-use Rattle.df_replies.specs.declared.answers.Lacking.{Lacking}
-use Rattle.df_replies.specs.Slots.{reply_place}
-use Rattle.df_replies.specs.Shown.{ScannedIsShown, ShowsReply}
-use Rattle.df_replies.specs.Answers.{HasClass, class_of_reply}
+use Rattle.df_replies.specs.{declared.answers.Lacking.{Lacking}, Slots.{reply_place}, Shown.{ScannedIsShown, ShowsReply}, Answers.{HasClass, class_of_reply}}
 
 entry_shown : (k : ℕ) (o : Option Message) (class : Class) → ShowsReply (message_unit (ReplyPlace k) o) (header_or_class o class)
 entry_shown k None class = refl

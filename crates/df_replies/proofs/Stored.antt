@@ -1,29 +1,12 @@
 -- Which sessions are answered in the theory, where those of the table are; and which replies are found stored.
-use Rattle.std.proofs.Common.{◌≡◌, ◌↔◌, inl, inr, ℕ, ◌<◌, ◌≤◌, List, length, Option, Some, None, refl, sym, ◌∙◌, ap, subst, arith}
-use Rattle.std.specs.Prelude.{Result, Ok, Err, IfSome}
-use Rattle.std.specs.List.{slice_get}
-use Rattle.std.proofs.lemmas.Bool.{cases_lt, cond-true, cond-false, le-leb, lt-leb}
-use Rattle.std.proofs.lemmas.List.{length-map}
-use Rattle.std.proofs.lemmas.Option.{slice_get_cases, slice_get_within}
+use Rattle.std.{proofs.{Common.{◌≡◌, ◌↔◌, inl, inr, ℕ, ◌<◌, ◌≤◌, List, length, Option, Some, None, refl, sym, ◌∙◌, ap, subst, arith}, lemmas.Bool.{cases_lt, cond-true, cond-false, le-leb, lt-leb}, lemmas.List.{length-map}, lemmas.Option.{slice_get_cases, slice_get_within}}, specs.{Prelude.{Result, Ok, Err, IfSome}, List.{slice_get}}}
 use Rattle.df_layout.specs.declared.damage.Class.{Class}
-use Rattle.df_format.specs.Copies.{content_with}
-use Rattle.df_format.specs.declared.header.Header.{Header}
-use Rattle.df_format.specs.declared.superblock.SuperFields.{SuperFields}
-use Rattle.df_sessions.specs.declared.session.Session.{Session}
-use Rattle.df_sessions.specs.Requests.{session_of, sessions_of}
+use Rattle.df_format.specs.{Copies.{content_with}, declared.header.Header.{Header}, declared.superblock.SuperFields.{SuperFields}}
+use Rattle.df_sessions.{specs.{declared.session.Session.{Session}, Requests.{session_of, sessions_of}}, proofs.Laws.{session_at}}
 use Rattle.df_theory.specs.Units
-use Rattle.df_theory.specs.Units.{AnyUnit, BlockUnit, Content, CopyUnit, HeaderUnit, Message, PrepareUnit, ReplyPlace, ReplyUnit}
-use Rattle.df_theory.specs.Holds.{IsNamed}
-use Rattle.df_theory.specs.Opens.{IsAnswered, LacksReply}
-use Rattle.df_theory.specs.Found.{IsStored}
-use Rattle.df_theory.specs.View.{View, sessions}
+use Rattle.df_theory.specs.{Units.{AnyUnit, BlockUnit, Content, CopyUnit, HeaderUnit, Message, PrepareUnit, ReplyPlace, ReplyUnit}, Holds.{IsNamed}, Opens.{IsAnswered, LacksReply}, Found.{IsStored}, View.{View, sessions}}
 use Rattle.df_units.specs.Meaning.{answered_of, content_of, header_of}
-use Rattle.df_sessions.proofs.Laws.{session_at}
-use Rattle.df_replies.specs.declared.answers.Lacking.{Lacking}
-use Rattle.df_replies.specs.Named.{IsNamedBy}
-use Rattle.df_replies.specs.Shown.{ShowsReplies, ShowsReply}
-use Rattle.df_replies.proofs.Scanned.{has_class}
-use Rattle.df_replies.specs.Answers.{AnsweredTo, AnswersIn, FoundAreStored, HasClass, IsFirstLacking, Lacks, LacksHere, StoredAreFound, stored_by}
+use Rattle.df_replies.{specs.{declared.answers.Lacking.{Lacking}, Named.{IsNamedBy}, Shown.{ShowsReplies, ShowsReply}, Answers.{AnsweredTo, AnswersIn, FoundAreStored, HasClass, IsFirstLacking, Lacks, LacksHere, StoredAreFound, stored_by}}, proofs.Scanned.{has_class}}
 
 -- ---- in the theory
 

@@ -2,13 +2,10 @@
 use Rattle.std.proofs.Common.{◌≡◌, ℕ, ◌+◌, ◌≤◌, ◌^◌, ◌==◌, if◌then◌else◌, List, [], ◌∷◌, Some, None, refl, sym, subst, arith}
 use Rattle.df_layout.specs.declared.layout.Layout.{Layout}
 use Rattle.df_sessions.specs.Requests.{sessions_of}
-use Rattle.df_theory.specs.Next.{MayAskInTurn}
-use Rattle.df_theory.specs.Sessions.{noted}
+use Rattle.df_theory.specs.{Next.{MayAskInTurn}, Sessions.{noted}}
 use Rattle.df_theory.specs.Units
-use Rattle.df_model.specs.Work.{Request}
-use Rattle.df_model.proofs.Laws.{ask_on}
-use Rattle.df_rooms.specs.declared.file.DataFile.{DataFile}
-use Rattle.df_rooms.specs.State.{AreStaging, Stages, State, asker_of, asks_of}
+use Rattle.df_model.{specs.Work.{Request}, proofs.Laws.{ask_on}}
+use Rattle.df_rooms.specs.{declared.file.DataFile.{DataFile}, State.{AreStaging, Stages, State, asker_of, asks_of}}
 
 -- a table notes both alike
 noted_as : (fewer more op : ℕ) (r : Request) (ss : List Units.Session) → noted (asker_of fewer op r) ss ≡ noted (asker_of more op r) ss

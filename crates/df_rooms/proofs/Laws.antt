@@ -1,12 +1,10 @@
 -- What the crates above cite of a file, and of a state that goes on.
 use Rattle.std.proofs.Common.{◌<◌, ◌≤◌, inl, inr, ℕ, List, Option, Some, None, ap, arith}
 use Rattle.df_format.specs.declared.superblock.SuperFields.{SuperFields}
-use Rattle.df_theory.specs.Sessions.{noted}
+use Rattle.df_theory.{specs.Sessions.{noted}, proofs.Laws.{noted_get}}
 use Rattle.df_theory.specs.Units
-use Rattle.df_theory.proofs.Laws.{noted_get}
 use Rattle.df_model.specs.Blocks.{Blocks}
-use Rattle.df_rooms.specs.declared.file.DataFile.{DataFile}
-use Rattle.df_rooms.specs.State.{AreAsked, IsBooted, IsCourse, IsLevel, RunningState, State}
+use Rattle.df_rooms.specs.{declared.file.DataFile.{DataFile}, State.{AreAsked, IsBooted, IsCourse, IsLevel, RunningState, State}}
 pub use Rattle.df_rooms.proofs.Asking.{staging_none, staging_on}
 pub use Rattle.df_rooms.proofs.SameFile.{same_file}
 pub use Rattle.df_rooms.proofs.Records.{boot_may_record, numbers_as, recorded_content, recorded_is_super, second_as, second_super}

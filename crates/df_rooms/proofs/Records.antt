@@ -1,27 +1,12 @@
 -- What is recorded of a state is what the machine records of it, and can be used.
-use Rattle.std.proofs.Common.{◌≡◌, inl, inr, ℕ, ◌≤◌, ◌<◌, ◌+◌, ◌^◌, List, [], ◌∷◌, ◌++◌, length, map, drop, length-drop, Option, Some, None, refl, sym, ◌∙◌, ap, arith}
-use Rattle.std.specs.Prelude.{slice_get}
-use Rattle.std.specs.List.{range_with_len}
-use Rattle.std.specs.Option.{option_map}
-use Rattle.std.proofs.lemmas.List.{get_or-drop}
-use Rattle.std.proofs.lemmas.List.FromFn.{get_or-map-range_with_len, length-map-range_with_len}
-use Rattle.std.proofs.lemmas.Option.{slice_get-map, slice_get_past}
-use Rattle.df_format.specs.Copies.{content_with}
-use Rattle.df_format.specs.Super.{AreNone}
-use Rattle.df_format.specs.SuperRules.{IsSuper, IsUsable}
-use Rattle.df_format.specs.declared.superblock.SuperFields.{SuperFields}
-use Rattle.df_sessions.specs.declared.session.Session.{Session}
-use Rattle.df_sessions.specs.Table.{IsSessionTable}
-use Rattle.df_model.specs.Memory.{joined}
+use Rattle.std.{proofs.{Common.{◌≡◌, inl, inr, ℕ, ◌≤◌, ◌<◌, ◌+◌, ◌^◌, List, [], ◌∷◌, ◌++◌, length, map, drop, length-drop, Option, Some, None, refl, sym, ◌∙◌, ap, arith}, lemmas.List.{get_or-drop}, lemmas.List.FromFn.{get_or-map-range_with_len, length-map-range_with_len}, lemmas.Option.{slice_get-map, slice_get_past}}, specs.{Prelude.{slice_get}, List.{range_with_len}, Option.{option_map}}}
+use Rattle.df_format.specs.{Copies.{content_with}, Super.{AreNone}, SuperRules.{IsSuper, IsUsable}, declared.superblock.SuperFields.{SuperFields}}
+use Rattle.df_sessions.specs.{declared.session.Session.{Session}, Table.{IsSessionTable}}
+use Rattle.df_model.specs.{Memory.{joined}, Making.{named_places, named_sums, sum_or_zero}}
 use Rattle.df_model.specs.Making as making
-use Rattle.df_model.specs.Making.{named_places, named_sums, sum_or_zero}
 use Rattle.df_checkpoint.specs.Below.{content_of, number_of}
-use Rattle.df_units.specs.Meaning.{offset_list, or_nothing, reply_checksums_of, rest_of}
-use Rattle.df_units.specs.Superblocks.{AreFieldsOf}
-use Rattle.df_units.proofs.Laws.{by_second, no_number}
-use Rattle.df_rooms.specs.State.{IsSecond, IsState, State, memory, reply_sum, stored_sum}
-use Rattle.df_rooms.specs.declared.file.DataFile.{DataFile}
-use Rattle.df_rooms.specs.Recorded.{MayRecord, check_or_zeros, recorded, stored_check, stored_checks}
+use Rattle.df_units.{specs.{Meaning.{offset_list, or_nothing, reply_checksums_of, rest_of}, Superblocks.{AreFieldsOf}}, proofs.Laws.{by_second, no_number}}
+use Rattle.df_rooms.specs.{State.{IsSecond, IsState, State, memory, reply_sum, stored_sum}, declared.file.DataFile.{DataFile}, Recorded.{MayRecord, check_or_zeros, recorded, stored_check, stored_checks}}
 
 -- ---- in the words of the machine
 

@@ -1,7 +1,5 @@
 -- A file is its layout, its cluster and its version.
-use Rattle.std.proofs.Common.{◌≡◌, ℕ, ◌<◌, ap, subst}
-use Rattle.std.proofs.Math.Bridge.{le_prop}
-use Rattle.std.proofs.Math.Nat.{ℕ_set}
+use Rattle.std.proofs.{Common.{◌≡◌, ℕ, ◌<◌, ap, subst}, Math.Bridge.{le_prop}, Math.Nat.{ℕ_set}}
 use Rattle.df_layout.specs.declared.layout.Layout.{Layout}
 use Rattle.df_rooms.specs.declared.file.DataFile.{DataFile}
 

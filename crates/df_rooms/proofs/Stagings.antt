@@ -1,12 +1,8 @@
 -- Rooms that move from one list to another.
-use Rattle.std.proofs.Common.{◌≡◌, ◌<◌, ◌+◌, ℕ, List, [], ◌∷◌, ◌++◌, length, get_or, map, Some, ◌∙◌, ap, length-append, arith}
-use Rattle.std.proofs.lemmas.List.{length-map}
-use Rattle.std.specs.List.{All}
-use Rattle.std.proofs.lemmas.List.Elements.{All-get_or, All-pop, All-push, All-same}
+use Rattle.std.{proofs.{Common.{◌≡◌, ◌<◌, ◌+◌, ℕ, List, [], ◌∷◌, ◌++◌, length, get_or, map, Some, ◌∙◌, ap, length-append, arith}, lemmas.List.{length-map}, lemmas.List.Elements.{All-get_or, All-pop, All-push, All-same}}, specs.List.{All}}
 use Rattle.df_layout.specs.declared.layout.Layout.{Layout}
 use Rattle.df_buffers.specs.Rooms.{Room}
-use Rattle.df_rooms.specs.Stagings.{AreFree, AreHeld, first_request, request_in}
-use Rattle.df_rooms.specs.declared.staging.Held.{Held}
+use Rattle.df_rooms.specs.{Stagings.{AreFree, AreHeld, first_request, request_in}, declared.staging.Held.{Held}}
 
 -- the last one of a list goes to the free ones: each is of the layout, as it was
 pub moved_fit : {X : Type 0} (of : X → Layout) (layout : Layout) (free new : List Room) (xs ys : List X) (x : X) (room : Room) → new ≡ free ++ room ∷ [] → xs ≡ ys ++ x ∷ [] → room.layout ≡ of x

@@ -1,13 +1,7 @@
 -- The bodies of commands.
-use Rattle.std.proofs.Common.{◌≡◌, ℕ, ◌+◌, ◌≤◌, List, [], ◌∷◌, ◌++◌, length, drop, refl, ap, ◌∙◌, arith, length-append}
-use Rattle.std.proofs.lemmas.List.{take_all, take-append-drop}
-use Rattle.df_base.specs.Fields.{AreBytes, field_at, spelled}
-use Rattle.df_base.proofs.Laws.{length-spelled, spelled-field_at}
-use Rattle.df_rows.specs.declared.command.Command.TheVariants.{Put, Drop}
-use Rattle.df_rows.specs.Rows.{Entry, IsEntry}
-use Rattle.df_rows.specs.Commands.{applied}
-use Rattle.df_rows.specs.Laws.{InTurn, OneCommand}
-use Rattle.df_rows.proofs.Entries.{key_split, one_key, same_entry}
+use Rattle.std.proofs.{Common.{◌≡◌, ℕ, ◌+◌, ◌≤◌, List, [], ◌∷◌, ◌++◌, length, drop, refl, ap, ◌∙◌, arith, length-append}, lemmas.List.{take_all, take-append-drop}}
+use Rattle.df_base.{specs.Fields.{AreBytes, field_at, spelled}, proofs.Laws.{length-spelled, spelled-field_at}}
+use Rattle.df_rows.{specs.{declared.command.Command.TheVariants.{Put, Drop}, Rows.{Entry, IsEntry}, Commands.{applied}, Laws.{InTurn, OneCommand}}, proofs.Entries.{key_split, one_key, same_entry}}
 
 -- ---- a body is one command
 

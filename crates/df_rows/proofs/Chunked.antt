@@ -1,13 +1,6 @@
 -- Rows in chunks: one after the other they are the rows.
-use Rattle.std.proofs.Common.{◌≡◌, ℕ, zero, suc, ◌+◌, ◌*◌, ◌<◌, List, ◌++◌, length, take, drop, map, sym, ap, ◌∙◌, arith}
-use Rattle.std.specs.List.{flat_map, range_with_len}
-use Rattle.std.specs.Fork.{slice_chunk}
-use Rattle.std.proofs.Math.Seq.{take-add}
-use Rattle.std.proofs.lemmas.List.{drop-drop, take_all}
-use Rattle.df_rows.specs.Rows.{Entry}
-use Rattle.df_rows.specs.Limits.{block_count}
-use Rattle.df_rows.specs.Blocks.{chunks_of}
-use Rattle.df_rows.proofs.Counts.{blocks_cover}
+use Rattle.std.{proofs.{Common.{◌≡◌, ℕ, zero, suc, ◌+◌, ◌*◌, ◌<◌, List, ◌++◌, length, take, drop, map, sym, ap, ◌∙◌, arith}, Math.Seq.{take-add}, lemmas.List.{drop-drop, take_all}}, specs.{List.{flat_map, range_with_len}, Fork.{slice_chunk}}}
+use Rattle.df_rows.{specs.{Rows.{Entry}, Limits.{block_count}, Blocks.{chunks_of}}, proofs.Counts.{blocks_cover}}
 
 -- chunks one after the other
 abbrev pub joined : List (List Entry) → List Entry

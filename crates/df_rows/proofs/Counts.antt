@@ -1,11 +1,7 @@
 -- How many blocks rows take, and that a table's rows fit its blocks.
-use Rattle.std.proofs.Common.{◌≡◌, ℕ, suc, ◌+◌, ◌*◌, ◌<◌, ◌≤◌, inl, inr, arith}
-use Rattle.std.proofs.Math.Nat.{mul_comm, mul-le-mul_right}
-use Rattle.std.proofs.lemmas.Bool.{cases_lt}
-use Rattle.std.proofs.lemmas.Grind.{div_ceil_times}
+use Rattle.std.proofs.{Common.{◌≡◌, ℕ, suc, ◌+◌, ◌*◌, ◌<◌, ◌≤◌, inl, inr, arith}, Math.Nat.{mul_comm, mul-le-mul_right}, lemmas.Bool.{cases_lt}, lemmas.Grind.{div_ceil_times}}
 use Rattle.df_layout.specs.declared.layout.Layout.{Layout}
-use Rattle.df_rows.specs.Limits.{block_count, blocks_of_table, rows_in_block}
-use Rattle.df_rows.specs.Laws.{TablesFit}
+use Rattle.df_rows.specs.{Limits.{block_count, blocks_of_table, rows_in_block}, Laws.{TablesFit}}
 
 next_of : (k per : ℕ) → suc k * per ≡ k * per + per
 next_of k per = omega arith

@@ -1,12 +1,6 @@
 -- What an edit at a key's place makes of what is found, and that the keys still rise.
-use Rattle.std.proofs.Common.{◌≡◌, ◌≢◌, ℕ, zero, suc, ◌+◌, ◌-◌, ◌<◌, ◌≤◌, eqb, cond, Bool, true, false, List, [], ◌∷◌, length, set, take, drop, Option, Some, None, refl, sym, ap, subst, ◌∙◌, inl, inr, arith, length-set, get_or-set_same, get_or-set_other}
-use Rattle.std.specs.List.{insert, remove}
-use Rattle.std.proofs.lemmas.Bool.{cases_eq, eq-eqb, ne_eqb}
-use Rattle.std.proofs.lemmas.List.Elements.{All-append, All-cons, All-drop, All-set, All-take}
-use Rattle.std.proofs.lemmas.List.Edits.{length-insert, get_or-insert_below, get_or-insert_at, get_or-insert_above, length-remove, get_or-remove_below, get_or-remove_above}
-use Rattle.df_rows.specs.Rows.{Entry, IsEntry}
-use Rattle.df_rows.specs.Sorted.{AreRows, IsAt, IsGap, KeysRise, key_at}
-use Rattle.df_rows.proofs.Found.{NoneBefore, at_tail, look, look_none, none_tail, none_before_at, none_behind_at}
+use Rattle.std.{proofs.{Common.{◌≡◌, ◌≢◌, ℕ, zero, suc, ◌+◌, ◌-◌, ◌<◌, ◌≤◌, eqb, cond, Bool, true, false, List, [], ◌∷◌, length, set, take, drop, Option, Some, None, refl, sym, ap, subst, ◌∙◌, inl, inr, arith, length-set, get_or-set_same, get_or-set_other}, lemmas.Bool.{cases_eq, eq-eqb, ne_eqb}, lemmas.List.Elements.{All-append, All-cons, All-drop, All-set, All-take}, lemmas.List.Edits.{length-insert, get_or-insert_below, get_or-insert_at, get_or-insert_above, length-remove, get_or-remove_below, get_or-remove_above}}, specs.List.{insert, remove}}
+use Rattle.df_rows.{specs.{Rows.{Entry, IsEntry}, Sorted.{AreRows, IsAt, IsGap, KeysRise, key_at}}, proofs.Found.{NoneBefore, at_tail, look, look_none, none_tail, none_before_at, none_behind_at}}
 
 -- ---- what is found
 

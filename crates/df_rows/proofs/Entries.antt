@@ -1,11 +1,6 @@
 -- The bytes of a row: what stands where in them, and that they are one row.
-use Rattle.std.proofs.Common.{◌≡◌, ℕ, zero, suc, ◌+◌, ◌-◌, ◌^◌, ◌<◌, ◌≤◌, ◌==◌, true, List, [], ◌∷◌, ◌++◌, length, get_or, take, drop, replicate, refl, sym, ap, ◌∙◌, arith, length-append, length-drop}
-use Rattle.std.specs.List.{list_all}
-use Rattle.std.proofs.lemmas.Bool.{and_parts, eqb-true}
-use Rattle.std.proofs.lemmas.List.{append-nil, drop_at, take-append-drop, take_rest, length-replicate, length-take-le, drop-drop, get_or_at}
-use Rattle.df_base.specs.Fields.{AreBytes, field_at, spelled}
-use Rattle.df_base.specs.Text.{total}
-use Rattle.df_base.proofs.Laws.{length-spelled, field_spelled, spelled_back, same_front}
+use Rattle.std.{proofs.{Common.{◌≡◌, ℕ, zero, suc, ◌+◌, ◌-◌, ◌^◌, ◌<◌, ◌≤◌, ◌==◌, true, List, [], ◌∷◌, ◌++◌, length, get_or, take, drop, replicate, refl, sym, ap, ◌∙◌, arith, length-append, length-drop}, lemmas.Bool.{and_parts, eqb-true}, lemmas.List.{append-nil, drop_at, take-append-drop, take_rest, length-replicate, length-take-le, drop-drop, get_or_at}}, specs.List.{list_all}}
+use Rattle.df_base.{specs.{Fields.{AreBytes, field_at, spelled}, Text.{total}}, proofs.Laws.{length-spelled, field_spelled, spelled_back, same_front}}
 use Rattle.df_rows.specs.Rows.{Entry, IsEntry, row_of, row_pieces}
 
 -- ---- two texts of fronts that are as long

@@ -1,23 +1,7 @@
 -- Rows that fit stay such as a table changes.
-use Rattle.std.proofs.Common.{◌≡◌, ℕ, List, [], ◌∷◌, Bool, true, false, cond, eqb, length, get_or, Option, Some, None, refl, sym, ◌∙◌, ap, subst, arith}
-use Rattle.std.specs.List.{All}
-use Rattle.std.specs.Ordering.{nat_cmp}
-use Rattle.std.specs.declared.cmp.Ordering.{Ordering}
-use Rattle.std.specs.declared.cmp.Ordering.TheVariants.{Less, Equal, Greater}
-use Rattle.std.specs.Cmp.{nat_cmp_total}
+use Rattle.std.{proofs.{Common.{◌≡◌, ℕ, List, [], ◌∷◌, Bool, true, false, cond, eqb, length, get_or, Option, Some, None, refl, sym, ◌∙◌, ap, subst, arith}, lemmas.List.Elements.{All-cons, All-from_get_or, All-head, All-nil, All-tail}, lemmas.Bool.{eqb-true}}, specs.{List.{All}, Ordering.{nat_cmp}, declared.cmp.Ordering.{Ordering}, declared.cmp.Ordering.TheVariants.{Less, Equal, Greater}, Cmp.{nat_cmp_total}, FinMap.{entries-insert, get-entries, put}, FinMap.Entries.{by_order}}}
 use Rattle.std.specs.FinMap as finite
-use Rattle.std.specs.FinMap.{entries-insert, get-entries, put}
-use Rattle.std.specs.FinMap.Entries.{by_order}
-use Rattle.std.proofs.lemmas.List.Elements.{All-cons, All-from_get_or, All-head, All-nil, All-tail}
-use Rattle.std.proofs.lemmas.Bool.{eqb-true}
-use Rattle.df_rows.specs.declared.command.Command.{Command}
-use Rattle.df_rows.specs.declared.command.Command.TheVariants.{Drop, Put}
-use Rattle.df_rows.specs.Rows.{Entry, IsEntry}
-use Rattle.df_rows.specs.Commands.{IsCommand, Map}
-use Rattle.df_rows.specs.Tables.{Table, with_command, with_row, with_rows}
-use Rattle.df_rows.proofs.Viewed.{get_removed, no_entries}
-use Rattle.df_rows.proofs.Found.{find_looks, found_at, look}
-use Rattle.df_rows.proofs.Taken.{entries_rise}
+use Rattle.df_rows.{specs.{declared.command.Command.{Command}, declared.command.Command.TheVariants.{Drop, Put}, Rows.{Entry, IsEntry}, Commands.{IsCommand, Map}, Tables.{Table, with_command, with_row, with_rows}}, proofs.{Viewed.{get_removed, no_entries}, Found.{find_looks, found_at, look}, Taken.{entries_rise}}}
 
 put_case : (k : ℕ) (v : List ℕ) (x : Entry) (es rest : List Entry) → IsEntry (k, v) → All IsEntry (x ∷ es) → All IsEntry rest → (o : Ordering) → All IsEntry (by_order o ((k, v) ∷ x ∷ es) ((x.0, v) ∷ es) (x ∷ rest))
 put_case k v x es rest fits all more Less = All-cons IsEntry (k, v) (x ∷ es) fits all

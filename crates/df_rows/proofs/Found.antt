@@ -1,14 +1,6 @@
 -- What is found under a key in a list of rows, whatever their order, and the place of a key where the keys rise.
-use Rattle.std.proofs.Common.{◌≡◌, ◌≢◌, ℕ, zero, suc, ◌<◌, ◌≤◌, eqb, cond, List, [], ◌∷◌, length, get_or, Option, Some, None, Result, Ok, Err, IfOk, IfErr, refl, sym, ap, ◌∙◌, inl, inr, arith}
-use Rattle.std.specs.List.Sorted.{IsSearchInRange, IsBinarySearchResult, IsNonDecreasingBy}
-use Rattle.std.specs.Ordering.{eq_by_cmp, nat_cmp, ordering_index}
-use Rattle.std.specs.FinMap.{find}
-use Rattle.std.proofs.lemmas.Cmp.{ranked}
-use Rattle.std.proofs.lemmas.Bool.{cases_order, eq-eqb, le-ltb, lt-ltb, ne_eqb}
-use Rattle.std.proofs.lemmas.Bool.Decides.{nat_tests}
-use Rattle.std.proofs.lemmas.List.Sorted.{IsNonDecreasingBy-from_default}
-use Rattle.df_rows.specs.Rows.{Entry}
-use Rattle.df_rows.specs.Sorted.{IsAt, IsGap, KeysRise, key_at}
+use Rattle.std.{proofs.{Common.{◌≡◌, ◌≢◌, ℕ, zero, suc, ◌<◌, ◌≤◌, eqb, cond, List, [], ◌∷◌, length, get_or, Option, Some, None, Result, Ok, Err, IfOk, IfErr, refl, sym, ap, ◌∙◌, inl, inr, arith}, lemmas.Cmp.{ranked}, lemmas.Bool.{cases_order, eq-eqb, le-ltb, lt-ltb, ne_eqb}, lemmas.Bool.Decides.{nat_tests}, lemmas.List.Sorted.{IsNonDecreasingBy-from_default}}, specs.{List.Sorted.{IsSearchInRange, IsBinarySearchResult, IsNonDecreasingBy}, Ordering.{eq_by_cmp, nat_cmp, ordering_index}, FinMap.{find}}}
+use Rattle.df_rows.specs.{Rows.{Entry}, Sorted.{IsAt, IsGap, KeysRise, key_at}}
 
 -- the value of the first row with the key
 abbrev pub look : ℕ → List Entry → Option (List ℕ)

@@ -1,16 +1,7 @@
 -- The rows of a vector and the table that they are.
-use Rattle.std.proofs.Common.{◌≡◌, ℕ, ◌<◌, ◌⊎◌, inl, inr, true, List, [], length, get_or, set, Option, Some, None, is_some, refl, sym, ap, subst, ◌∙◌, arith}
-use Rattle.std.specs.Prelude.{IsTrue}
-use Rattle.std.specs.List.{insert, remove}
+use Rattle.std.{proofs.{Common.{◌≡◌, ℕ, ◌<◌, ◌⊎◌, inl, inr, true, List, [], length, get_or, set, Option, Some, None, is_some, refl, sym, ap, subst, ◌∙◌, arith}, lemmas.Bool.{false≢true}}, specs.{Prelude.{IsTrue}, List.{insert, remove}}}
 use Rattle.std.specs.FinMap as map
-use Rattle.std.proofs.lemmas.Bool.{false≢true}
-use Rattle.df_rows.specs.Rows.{Entry}
-use Rattle.df_rows.specs.Commands.{Map}
-use Rattle.df_rows.specs.Sorted.{AreRows, IsAt, IsGap}
-use Rattle.df_rows.specs.Tables.{HasRoom, Table, with_row}
-use Rattle.df_rows.proofs.Found.{found_at, look, missed_in_gap, none_in_gap}
-use Rattle.df_rows.proofs.Edited.{look_insert, look_remove, look_set, only_at}
-use Rattle.df_rows.proofs.Viewed.{entries_of, get_looks, inserted, len_of, map_of, none_removed, removed}
+use Rattle.df_rows.{specs.{Rows.{Entry}, Commands.{Map}, Sorted.{AreRows, IsAt, IsGap}, Tables.{HasRoom, Table, with_row}}, proofs.{Found.{found_at, look, missed_in_gap, none_in_gap}, Edited.{look_insert, look_remove, look_set, only_at}, Viewed.{entries_of, get_looks, inserted, len_of, map_of, none_removed, removed}}}
 
 abbrev pub table_of : ℕ → List Entry → Table
 table_of max es = record { max = max; rows = map_of es }

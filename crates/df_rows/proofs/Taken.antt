@@ -1,26 +1,8 @@
 -- What a table takes: rows in turn, the rows of bodies, and that bodies are one table.
-use Rattle.std.proofs.Common.{◌≡◌, ◌≢◌, ℕ, zero, suc, ◌+◌, ◌*◌, ◌<◌, ◌≤◌, eqb, cond, Bool, true, false, ◌&&◌, List, [], ◌∷◌, ◌++◌, length, take, drop, ◌-◌, map, Option, Some, None, is_some, inl, inr, refl, sym, ap, subst, ◌∙◌, arith, length-append}
-use Rattle.std.proofs.Math.Dec.{T}
-use Rattle.std.specs.List.{All}
-use Rattle.std.specs.Ordering.{is_lt, nat_cmp}
-use Rattle.std.specs.Cmp.{nat_cmp_total}
+use Rattle.std.{proofs.{Common.{◌≡◌, ◌≢◌, ℕ, zero, suc, ◌+◌, ◌*◌, ◌<◌, ◌≤◌, eqb, cond, Bool, true, false, ◌&&◌, List, [], ◌∷◌, ◌++◌, length, take, drop, ◌-◌, map, Option, Some, None, is_some, inl, inr, refl, sym, ap, subst, ◌∙◌, arith, length-append}, Math.Dec.{T}, lemmas.Bool.{cases_eq, eq-eqb, ne_eqb}, lemmas.List.{drop-drop, take-append-drop}, lemmas.List.Elements.{All-cons, All-head, All-nil, All-tail}}, specs.{List.{All}, Ordering.{is_lt, nat_cmp}, Cmp.{nat_cmp_total}, FinMap.{get-entries, get-empty, entries_sorted, is_sorted, len-insert, len-empty, len-entries}, FinMap.Entries.{below_all}}}
 use Rattle.std.specs.FinMap as finite
-use Rattle.std.specs.FinMap.{get-entries, get-empty, entries_sorted, is_sorted, len-insert, len-empty, len-entries}
-use Rattle.std.specs.FinMap.Entries.{below_all}
-use Rattle.std.proofs.lemmas.Bool.{cases_eq, eq-eqb, ne_eqb}
-use Rattle.std.proofs.lemmas.List.{drop-drop, take-append-drop}
-use Rattle.std.proofs.lemmas.List.Elements.{All-cons, All-head, All-nil, All-tail}
 use Rattle.df_base.proofs.Laws.{same_front}
-use Rattle.df_rows.specs.Rows.{Entry, IsEntry, row_of, rows_of}
-use Rattle.df_rows.specs.Commands.{Map}
-use Rattle.df_rows.specs.Sorted.{KeysRise, key_at}
-use Rattle.df_rows.specs.Tables.{AreNew, IsNew, Table, with_row, with_rows}
-use Rattle.df_rows.specs.Blocks.{TableTakes, TakesAll, chunks_of}
-use Rattle.df_rows.specs.Laws.{BlocksAreTable, OneTable}
-use Rattle.df_rows.proofs.Entries.{length-row_of, row_split}
-use Rattle.df_rows.proofs.Found.{find_looks, look, look_none}
-use Rattle.df_rows.proofs.Viewed.{get_inserted, rise_tail, same_maps}
-use Rattle.df_rows.proofs.Chunked.{joined, joined_chunks}
+use Rattle.df_rows.{specs.{Rows.{Entry, IsEntry, row_of, rows_of}, Commands.{Map}, Sorted.{KeysRise, key_at}, Tables.{AreNew, IsNew, Table, with_row, with_rows}, Blocks.{TableTakes, TakesAll, chunks_of}, Laws.{BlocksAreTable, OneTable}}, proofs.{Entries.{length-row_of, row_split}, Found.{find_looks, look, look_none}, Viewed.{get_inserted, rise_tail, same_maps}, Chunked.{joined, joined_chunks}}}
 
 -- ---- the bytes of rows
 

@@ -1,10 +1,7 @@
 -- Lines one after the other: a map answers those of two lists as those of one.
 use Rattle.std.proofs.Common.{◌≡◌, ◌+◌, ℕ, List, [], ◌∷◌, ◌++◌, length, refl, sym, ◌∙◌, ap, append_assoc, add_assoc, length-append}
 use Rattle.df_base.proofs.Laws.{plus_zero}
-use Rattle.df_rows.specs.declared.command.Command.{Command}
-use Rattle.df_rows.specs.Grammar.{Said}
-use Rattle.df_rows.specs.Lines.{accepted, all_accepted, all_behind, line_of_turn, map_text, table_after}
-use Rattle.df_rows.specs.Tables.{Table, with_commands}
+use Rattle.df_rows.specs.{declared.command.Command.{Command}, Grammar.{Said}, Lines.{accepted, all_accepted, all_behind, line_of_turn, map_text, table_after}, Tables.{Table, with_commands}}
 
 pub behind_more : (t : Table) (says more : List Said) → all_behind t (says ++ more) ≡ all_behind (all_behind t says) more
 behind_more t [] more = refl

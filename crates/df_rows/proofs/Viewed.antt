@@ -1,16 +1,7 @@
 -- A list of rows as a map.
-use Rattle.std.proofs.Common.{◌≡◌, ℕ, suc, ◌<◌, eqb, cond, Bool, true, false, List, [], ◌∷◌, length, Option, Some, None, refl, sym, ap, ◌∙◌, arith}
-use Rattle.std.specs.Ordering.{nat_cmp}
-use Rattle.std.specs.Cmp.{nat_cmp_total}
+use Rattle.std.{proofs.{Common.{◌≡◌, ℕ, suc, ◌<◌, eqb, cond, Bool, true, false, List, [], ◌∷◌, length, Option, Some, None, refl, sym, ap, ◌∙◌, arith}, lemmas.Bool.{lt-ltb}, lemmas.List.{nil_from_length}}, specs.{Ordering.{nat_cmp}, Cmp.{nat_cmp_total}, FinMap.{put, nat_cmp-IsAntisymmetric, same_map, get-from_entries, get-insert, get-remove, entries-insert, len-entries, len-empty}}}
 use Rattle.std.specs.FinMap as map
-use Rattle.std.specs.FinMap.{put, nat_cmp-IsAntisymmetric, same_map, get-from_entries, get-insert, get-remove, entries-insert, len-entries, len-empty}
-use Rattle.std.proofs.lemmas.Bool.{lt-ltb}
-use Rattle.std.proofs.lemmas.List.{nil_from_length}
-use Rattle.df_rows.specs.Rows.{Entry}
-use Rattle.df_rows.specs.Commands.{Map}
-use Rattle.df_rows.specs.Sorted.{KeysRise}
-use Rattle.df_rows.proofs.Found.{find_looks, look, tied}
-use Rattle.df_rows.proofs.Edited.{Drops, Puts}
+use Rattle.df_rows.{specs.{Rows.{Entry}, Commands.{Map}, Sorted.{KeysRise}}, proofs.{Found.{find_looks, look, tied}, Edited.{Drops, Puts}}}
 
 -- the map of these rows
 abbrev pub map_of : List Entry → Map

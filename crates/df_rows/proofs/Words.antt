@@ -1,12 +1,7 @@
 -- What a line of a table's script says, from its words.
-use Rattle.std.proofs.Common.{◌≡◌, inl, inr, ℕ, ◌+◌, ◌^◌, ◌≤◌, if◌then◌else◌, List, [], ◌∷◌, ◌++◌, refl, sym, ap, subst, ◌∙◌, arith}
-use Rattle.std.specs.Prelude.{codes}
-use Rattle.std.specs.Str.{bytes_eq}
-use Rattle.df_lines.specs.Grammar.{AreSized}
-use Rattle.df_lines.specs.Words.{Cuts}
-use Rattle.df_lines.proofs.Laws.{Begun, cut_name, one_name, one_word, same_rest, two_words}
-use Rattle.df_rows.specs.Grammar.{Said, Put, Drop, Get, Count, SaysTableLine}
-use Rattle.df_rows.specs.Laws.{OneTableLineMeaning}
+use Rattle.std.{proofs.Common.{◌≡◌, inl, inr, ℕ, ◌+◌, ◌^◌, ◌≤◌, if◌then◌else◌, List, [], ◌∷◌, ◌++◌, refl, sym, ap, subst, ◌∙◌, arith}, specs.{Prelude.{codes}, Str.{bytes_eq}}}
+use Rattle.df_lines.{specs.{Grammar.{AreSized}, Words.{Cuts}}, proofs.Laws.{Begun, cut_name, one_name, one_word, same_rest, two_words}}
+use Rattle.df_rows.specs.{Grammar.{Said, Put, Drop, Get, Count, SaysTableLine}, Laws.{OneTableLineMeaning}}
 
 -- ---- the first word
 

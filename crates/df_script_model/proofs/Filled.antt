@@ -1,18 +1,9 @@
 -- As many lines as the grid has blocks fill it from its first address on.
-use Rattle.std.proofs.Common.{◌≡◌, ℕ, zero, suc, ◌+◌, ◌<◌, ◌≤◌, List, [], ◌∷◌, ◌++◌, false, if◌then◌else◌, codes, Some, None, Ok, refl, sym, ◌∙◌, ap, arith}
-use Rattle.std.specs.Fmt.{digits}
-use Rattle.std.proofs.lemmas.Bool.Decides.{nat_tests}
+use Rattle.std.{proofs.{Common.{◌≡◌, ℕ, zero, suc, ◌+◌, ◌<◌, ◌≤◌, List, [], ◌∷◌, ◌++◌, false, if◌then◌else◌, codes, Some, None, Ok, refl, sym, ◌∙◌, ap, arith}, lemmas.Bool.Decides.{nat_tests}}, specs.Fmt.{digits}}
 use Rattle.df_layout.specs.declared.damage.Class.TheVariants.{Blank}
-use Rattle.df_theory.specs.Units.{BlockPlace, BlockUnit, Place, Units, overlay, CopyPlace, HeaderPlace, PreparePlace, ReplyPlace}
-use Rattle.df_theory.specs.Shape.{Shape}
-use Rattle.df_model.specs.Work.{Work}
-use Rattle.df_model.specs.Memory.{memory_of}
-use Rattle.df_model.specs.Making.{block_of}
-use Rattle.df_model.specs.Commands.{Advance, Begin, Command, ToWriteBlock, WriteBlock}
-use Rattle.df_model.specs.Supply.{Codec, Shown, last_shown, last_work, next, nothing, shown_after}
-use Rattle.df_script_model.specs.Script.{answer_text, printed}
-use Rattle.df_script_model.specs.Sessions.{FillLaw, LongTrailer, blank, equal_blocks, file, first_work, is_among, plain, with_live_blocks, with_units, wrote_from}
-use Rattle.df_script_model.proofs.Fills.{line_is, puts_are, units_over}
+use Rattle.df_theory.specs.{Units.{BlockPlace, BlockUnit, Place, Units, overlay, CopyPlace, HeaderPlace, PreparePlace, ReplyPlace}, Shape.{Shape}}
+use Rattle.df_model.specs.{Work.{Work}, Memory.{memory_of}, Making.{block_of}, Commands.{Advance, Begin, Command, ToWriteBlock, WriteBlock}, Supply.{Codec, Shown, last_shown, last_work, next, nothing, shown_after}}
+use Rattle.df_script_model.{specs.{Script.{answer_text, printed}, Sessions.{FillLaw, LongTrailer, blank, equal_blocks, file, first_work, is_among, plain, with_live_blocks, with_units, wrote_from}}, proofs.Fills.{line_is, puts_are, units_over}}
 
 -- ---- lines after lines
 

@@ -1,20 +1,7 @@
 -- A line that writes a block takes the next address of a grid whose first ones are live.
-use Rattle.std.proofs.Common.{◌≡◌, inl, inr, ℕ, zero, suc, ◌+◌, ◌<◌, ◌≤◌, ◌==◌, ◌||◌, not, nat_lt, cond, Bool, true, false, if◌then◌else◌, List, [], ◌∷◌, length, Option, Some, None, Ok, refl, ◌∙◌, ap, arith}
-use Rattle.std.specs.List.{filter, range_with_len}
-use Rattle.std.proofs.lemmas.Bool.{cases_eq}
-use Rattle.std.proofs.lemmas.Bool.Decides.{nat_tests}
-use Rattle.df_theory.specs.Units.{BlockPlace, BlockUnit, CopyPlace, HeaderPlace, Place, PreparePlace, ReplyPlace, overlay}
-use Rattle.df_theory.specs.Shape.{Shape}
-use Rattle.df_theory.specs.UnitLog.{put_one}
-use Rattle.df_model.specs.Work.{Work, is_known}
-use Rattle.df_model.specs.Memory.{block_room, free_of, memory_of}
-use Rattle.df_model.specs.Blocks.{blocks_of as blocks_in, is_held_in, sum_at}
-use Rattle.df_model.specs.Making.{block_of, next_address, first_of}
-use Rattle.df_model.specs.Refusals.{block_refusals, first_refusal}
-use Rattle.df_model.specs.After.{outcome, with_live}
-use Rattle.df_model.specs.Commands.{ToWriteBlock, WriteBlock, as_answer}
-use Rattle.df_model.specs.Supply.{Shown, next, puts_of, unless}
-use Rattle.df_model.proofs.Laws.{entry_at, pass_all}
+use Rattle.std.{proofs.{Common.{◌≡◌, inl, inr, ℕ, zero, suc, ◌+◌, ◌<◌, ◌≤◌, ◌==◌, ◌||◌, not, nat_lt, cond, Bool, true, false, if◌then◌else◌, List, [], ◌∷◌, length, Option, Some, None, Ok, refl, ◌∙◌, ap, arith}, lemmas.Bool.{cases_eq}, lemmas.Bool.Decides.{nat_tests}}, specs.List.{filter, range_with_len}}
+use Rattle.df_theory.specs.{Units.{BlockPlace, BlockUnit, CopyPlace, HeaderPlace, Place, PreparePlace, ReplyPlace, overlay}, Shape.{Shape}, UnitLog.{put_one}}
+use Rattle.df_model.{specs.{Work.{Work, is_known}, Memory.{block_room, free_of, memory_of}, Blocks.{blocks_of as blocks_in, is_held_in, sum_at}, Making.{block_of, next_address, first_of}, Refusals.{block_refusals, first_refusal}, After.{outcome, with_live}, Commands.{ToWriteBlock, WriteBlock, as_answer}, Supply.{Shown, next, puts_of, unless}}, proofs.Laws.{entry_at, pass_all}}
 use Rattle.df_script_model.specs.Sessions.{is_among, plain, with_live_blocks, with_units}
 
 -- ---- the first that is free

@@ -1,7 +1,6 @@
 -- A script of calls prints the answers' texts.
 use Rattle.std.proofs.Common.{ℕ, List, [], ◌∷◌, refl, ap}
-use Rattle.df_model.specs.Memory.{memory_of}
-use Rattle.df_model.specs.Supply.{next, shown_after}
+use Rattle.df_model.specs.{Memory.{memory_of}, Supply.{next, shown_after}}
 use Rattle.df_script_model.specs.Script.{PrintedLaw, answer_text}
 
 pub printed_law : PrintedLaw

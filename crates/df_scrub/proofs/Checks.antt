@@ -1,29 +1,12 @@
 -- A step checks the first block that is left, and so does each machine over the grid.
-use Rattle.std.proofs.Common.{◌≡◌, ℕ, ◌+◌, ◌<◌, nat_lt, List, [], ◌∷◌, ◌++◌, Option, Some, None, Result, Ok, Err, refl, sym, ◌∙◌, ap, subst, arith}
-use Rattle.std.specs.Prelude.{slice_get}
-use Rattle.std.specs.List.{filter}
+use Rattle.std.{proofs.Common.{◌≡◌, ℕ, ◌+◌, ◌<◌, nat_lt, List, [], ◌∷◌, ◌++◌, Option, Some, None, Result, Ok, Err, refl, sym, ◌∙◌, ap, subst, arith}, specs.{Prelude.{slice_get}, List.{filter}}}
 use Rattle.df_disk.specs.Told.{Told}
-use Rattle.df_layout.specs.declared.damage.Class.{Class}
-use Rattle.df_layout.specs.declared.damage.Finding.{Finding}
+use Rattle.df_layout.specs.{declared.damage.Class.{Class}, declared.damage.Finding.{Finding}}
 use Rattle.df_format.specs.declared.reference.Reference.{Reference}
 use Rattle.df_theory.specs.Units.{Block, Layout}
-use Rattle.df_grid.specs.Below.{layout_of, number_of}
-use Rattle.df_model.specs.Work.{Tour, Work, first_tour}
-use Rattle.df_model.specs.Memory.{Memory}
-use Rattle.df_model.specs.Blocks.{Blocks, reference_in, referenced_in}
-use Rattle.df_model.specs.After.{after_check, newest, to_check}
-use Rattle.df_model.specs.Changing.{checked_in}
-use Rattle.df_model.specs.Supply.{block_at, verdict_of}
-use Rattle.df_model.specs.declared.answers.Scrubbed.{Scrubbed}
-use Rattle.df_model.specs.declared.answers.Scrubbed.TheVariants.{Checked, TourEnd}
-use Rattle.df_model.specs.declared.answers.Verdict.{Verdict}
-use Rattle.df_model.specs.declared.answers.Verdict.TheVariants.{Sound, Failing}
-use Rattle.df_grid.specs.Grid.{GridState, HasAddress, referenced_of}
-use Rattle.df_grid.specs.Reads.{Tests, class_in, shown_of}
-use Rattle.df_grid.specs.Table.{pair_in}
-use Rattle.df_scrub.specs.Scrubber.{IsStep, IsVerdict, ScrubState, after_scrub_step, judged, left_in, verdict_in, with_check}
-use Rattle.df_scrub.specs.Machine.{IsMachines, IsOver, with_scrub}
-use Rattle.df_model.proofs.Laws.{Rise, entries_rise, is_next}
+use Rattle.df_grid.specs.{Below.{layout_of, number_of}, Grid.{GridState, HasAddress, referenced_of}, Reads.{Tests, class_in, shown_of}, Table.{pair_in}}
+use Rattle.df_model.{specs.{Work.{Tour, Work, first_tour}, Memory.{Memory}, Blocks.{Blocks, reference_in, referenced_in}, After.{after_check, newest, to_check}, Changing.{checked_in}, Supply.{block_at, verdict_of}, declared.answers.Scrubbed.{Scrubbed}, declared.answers.Scrubbed.TheVariants.{Checked, TourEnd}, declared.answers.Verdict.{Verdict}, declared.answers.Verdict.TheVariants.{Sound, Failing}}, proofs.Laws.{Rise, entries_rise, is_next}}
+use Rattle.df_scrub.specs.{Scrubber.{IsStep, IsVerdict, ScrubState, after_scrub_step, judged, left_in, verdict_in, with_check}, Machine.{IsMachines, IsOver, with_scrub}}
 
 pub referenced_rise : (g : GridState) → Rise 1 (1 + g.layout.blocks) (referenced_of g)
 referenced_rise g = entries_rise (reference_in g.blocks) 1 g.layout.blocks (1 + g.layout.blocks) (omega arith)

@@ -1,20 +1,10 @@
 -- A tour on its way: what is listed so far, with what is left, is all that fails.
-use Rattle.std.proofs.Common.{◌≡◌, ℕ, ◌+◌, ◌-◌, ◌<◌, ◌≤◌, List, [], ◌∷◌, ◌++◌, length, Option, Some, None, refl, sym, ◌∙◌, ap, subst, arith}
-use Rattle.std.proofs.lemmas.List.{append-nil, append_assoc}
+use Rattle.std.proofs.{Common.{◌≡◌, ℕ, ◌+◌, ◌-◌, ◌<◌, ◌≤◌, List, [], ◌∷◌, ◌++◌, length, Option, Some, None, refl, sym, ◌∙◌, ap, subst, arith}, lemmas.List.{append-nil, append_assoc}}
 use Rattle.df_disk.specs.Told.{Told}
 use Rattle.df_layout.specs.declared.damage.Finding.{Finding}
-use Rattle.df_model.specs.Work.{first_tour}
-use Rattle.df_model.specs.After.{newest}
-use Rattle.df_model.specs.Reading.{with_finding}
-use Rattle.df_model.specs.declared.answers.Scrubbed.{Scrubbed}
-use Rattle.df_model.specs.declared.answers.Scrubbed.TheVariants.{Checked, TourEnd}
-use Rattle.df_model.specs.declared.answers.Verdict.{Verdict}
-use Rattle.df_model.specs.declared.answers.Verdict.TheVariants.{Sound, Failing}
-use Rattle.df_model.proofs.Laws.{above, all_above, is_next, newest_keeps, newest_short, rising_few, put_first}
+use Rattle.df_model.{specs.{Work.{first_tour}, After.{newest}, Reading.{with_finding}, declared.answers.Scrubbed.{Scrubbed}, declared.answers.Scrubbed.TheVariants.{Checked, TourEnd}, declared.answers.Verdict.{Verdict}, declared.answers.Verdict.TheVariants.{Sound, Failing}}, proofs.Laws.{above, all_above, is_next, newest_keeps, newest_short, rising_few, put_first}}
 use Rattle.df_grid.specs.Grid.{GridState, referenced_of}
-use Rattle.df_scrub.specs.Scrubber.{IsStep, IsVerdict, ScrubState, after_scrub_step, left_in, with_check}
-use Rattle.df_scrub.specs.Tours.{ListsSoFar, failing_among}
-use Rattle.df_scrub.proofs.Checks.{referenced_rise}
+use Rattle.df_scrub.{specs.{Scrubber.{IsStep, IsVerdict, ScrubState, after_scrub_step, left_in, with_check}, Tours.{ListsSoFar, failing_among}}, proofs.Checks.{referenced_rise}}
 
 -- so far: the tour counts what it checked, the ring took what is listed, and no more is listed than was checked
 pub record IsTouring (g : GridState) (told : Option Told) (start : List Finding) (s : ScrubState) (report : List Finding) (size : ℕ) : Type 0 where

@@ -1,20 +1,10 @@
 -- What was answered of a session is there from then on, by each log that is told of the disk.
-use Rattle.std.proofs.Common.{◌≡◌, ℕ, zero, suc, true, List, [], ◌∷◌, ◌++◌, Option, Some, None, refl, sym, ◌∙◌, ap, subst}
-use Rattle.std.specs.Prelude.{take, drop}
-use Rattle.std.proofs.lemmas.List.{append-nil}
-use Rattle.df_base.specs.Log.{Event, Log}
-use Rattle.df_base.specs.Moments.{Extends}
-use Rattle.df_disk.specs.Told.{Told}
-use Rattle.df_disk.specs.Adds.{after_all}
-use Rattle.df_disk.proofs.Laws.{after_append}
+use Rattle.std.{proofs.{Common.{◌≡◌, ℕ, zero, suc, true, List, [], ◌∷◌, ◌++◌, Option, Some, None, refl, sym, ◌∙◌, ap, subst}, lemmas.List.{append-nil}}, specs.Prelude.{take, drop}}
+use Rattle.df_base.specs.{Log.{Event, Log}, Moments.{Extends}}
+use Rattle.df_disk.{specs.{Told.{Told}, Adds.{after_all}}, proofs.Laws.{after_append}}
 use Rattle.df_model.specs.Work.{Work}
-use Rattle.df_replica.specs.Below.{DataFile, State as Replica}
-use Rattle.df_replica.specs.Serving.{Grade, Keeps, next}
-use Rattle.df_replica.specs.Session.{Act, EachIsMidway, Exchange, IsMidway, acts_in, work_after}
-use Rattle.df_session.specs.Links.{AreCalls, Calls, CallsMade, EndsCalls, More, NoCalls, call_events, events_to, list_of}
-use Rattle.df_session.specs.Acknowledging.{HadAnswers, HadReturned, IsUntil, KeepsAnswered}
-use Rattle.df_replica.proofs.Laws.{fault_stops_them}
-use Rattle.df_session.proofs.Kept.{all_served}
+use Rattle.df_replica.{specs.{Below.{DataFile, State as Replica}, Serving.{Grade, Keeps, next}, Session.{Act, EachIsMidway, Exchange, IsMidway, acts_in, work_after}}, proofs.Laws.{fault_stops_them}}
+use Rattle.df_session.{specs.{Links.{AreCalls, Calls, CallsMade, EndsCalls, More, NoCalls, call_events, events_to, list_of}, Acknowledging.{HadAnswers, HadReturned, IsUntil, KeepsAnswered}}, proofs.Kept.{all_served}}
 
 module _ (file : DataFile) (g : Grade) where
   -- where a replica stands after the first k of these calls, the calls that it makes from there, and what the base tells then

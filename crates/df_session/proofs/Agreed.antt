@@ -1,29 +1,10 @@
 -- No command tells two things apart that a device may show and that agree: it answers the same and leaves the same, and what it leaves shown agrees.
-use Rattle.std.proofs.Common.{◌≡◌, ℕ, zero, suc, ◌+◌, ◌%◌, ◌<◌, ◌≤◌, ◌==◌, Bool, true, false, if◌then◌else◌, cond, List, [], ◌∷◌, Option, Some, None, Result, refl, ◌∙◌, ap, arith, mod-lt}
-use Rattle.std.specs.Prelude.{nat_lt}
-use Rattle.std.specs.List.{filter, range_with_len}
-use Rattle.std.proofs.lemmas.Bool.{and_from, le-leb, lt-ltb, not-false}
-use Rattle.std.proofs.lemmas.Bool.Decides.{nat_tests}
-use Rattle.df_layout.specs.declared.damage.Class.{Class}
-use Rattle.df_layout.specs.declared.layout.Layout.{Layout}
-use Rattle.df_layout.proofs.Laws.{some_slots}
-use Rattle.df_theory.specs.Units.{AnyUnit, BlockPlace, Message, Place, PreparePlace, ReplyPlace}
-use Rattle.df_theory.specs.View.{sessions}
-use Rattle.df_model.specs.After.{after_check, lookup_answer, place_of_client, prepare_answer, read_answer, shown_or, to_check}
-use Rattle.df_model.specs.Blocks.{addresses, entries, entry, reference_in, sum_at}
-use Rattle.df_model.specs.Commands.{Command, ReadBlock, ReadPrepare, ReadReply, Scrub, ToReadBlock, ToReadPrepare, ToReadReply, ToScrub, Answer, as_answer}
-use Rattle.df_model.specs.Memory.{Memory, memory_of, prepare_sum, reply_sum}
-use Rattle.df_model.specs.Refusals.{first_refusal, lookup_refusals, read_refusals}
-use Rattle.df_model.specs.Sense.{IsWork}
-use Rattle.df_model.specs.Supply.{Shown, block_at, block_given, class_at, class_or, first_check, next, no_trailer, prepare_at, prepare_given, reply_at, reply_given, verdict_of}
-use Rattle.df_model.specs.Work.{Work, is_known}
-use Rattle.df_model.specs.declared.answers.Verdict.{Verdict}
-use Rattle.df_model.proofs.Laws.{all_pass, place_known}
-use Rattle.df_replica.specs.Below.{DataFile, shape, spelling}
-use Rattle.df_replica.specs.Leaving.{IsReadPlace}
-use Rattle.df_session.specs.Agreeing.{AgreeShown}
-use Rattle.df_session.specs.Results.{NextAgrees}
-use Rattle.df_session.specs.Codec.{codec}
+use Rattle.std.{proofs.{Common.{◌≡◌, ℕ, zero, suc, ◌+◌, ◌%◌, ◌<◌, ◌≤◌, ◌==◌, Bool, true, false, if◌then◌else◌, cond, List, [], ◌∷◌, Option, Some, None, Result, refl, ◌∙◌, ap, arith, mod-lt}, lemmas.Bool.{and_from, le-leb, lt-ltb, not-false}, lemmas.Bool.Decides.{nat_tests}}, specs.{Prelude.{nat_lt}, List.{filter, range_with_len}}}
+use Rattle.df_layout.{specs.{declared.damage.Class.{Class}, declared.layout.Layout.{Layout}}, proofs.Laws.{some_slots}}
+use Rattle.df_theory.specs.{Units.{AnyUnit, BlockPlace, Message, Place, PreparePlace, ReplyPlace}, View.{sessions}}
+use Rattle.df_model.{specs.{After.{after_check, lookup_answer, place_of_client, prepare_answer, read_answer, shown_or, to_check}, Blocks.{addresses, entries, entry, reference_in, sum_at}, Commands.{Command, ReadBlock, ReadPrepare, ReadReply, Scrub, ToReadBlock, ToReadPrepare, ToReadReply, ToScrub, Answer, as_answer}, Memory.{Memory, memory_of, prepare_sum, reply_sum}, Refusals.{first_refusal, lookup_refusals, read_refusals}, Sense.{IsWork}, Supply.{Shown, block_at, block_given, class_at, class_or, first_check, next, no_trailer, prepare_at, prepare_given, reply_at, reply_given, verdict_of}, Work.{Work, is_known}, declared.answers.Verdict.{Verdict}}, proofs.Laws.{all_pass, place_known}}
+use Rattle.df_replica.specs.{Below.{DataFile, shape, spelling}, Leaving.{IsReadPlace}}
+use Rattle.df_session.specs.{Agreeing.{AgreeShown}, Results.{NextAgrees}, Codec.{codec}}
 
 -- ---- which places are read
 

@@ -1,31 +1,12 @@
 -- What calls keep by the log that is restarted at the end of their open, whatever was done to the disk before.
 use Rattle.std.proofs.Common.{◌≡◌, ℕ, true, List, [], Option, Some, refl, subst}
-use Rattle.df_base.specs.Image.{Image, IsImage}
-use Rattle.df_base.specs.Log.{Sync}
-use Rattle.df_base.proofs.Laws.{extends_self}
+use Rattle.df_base.{specs.{Image.{Image, IsImage}, Log.{Sync}}, proofs.Laws.{extends_self}}
 use Rattle.df_disk.specs.Told.{Told, did}
-use Rattle.df_theory.specs.Device.{units_log}
-use Rattle.df_theory.specs.Found.{IsFound}
-use Rattle.df_theory.specs.Shape.{Shape}
-use Rattle.df_theory.specs.UnitLog.{Synced, UnitLog, add}
-use Rattle.df_theory.specs.Units.{Parts}
-use Rattle.df_theory.specs.View.{View}
-use Rattle.df_theory.proofs.Laws.{tidy_sync_law}
+use Rattle.df_theory.{specs.{Device.{units_log}, Found.{IsFound}, Shape.{Shape}, UnitLog.{Synced, UnitLog, add}, Units.{Parts}, View.{View}}, proofs.Laws.{tidy_sync_law}}
 use Rattle.df_units.specs.Bytes.{unit_at}
-use Rattle.df_model.specs.Laws.{IsKeptBy}
-use Rattle.df_model.specs.Work.{Work, kept}
-use Rattle.df_session.specs.Begun.{begun_work}
-use Rattle.df_replica.specs.Below.{AreDistinctUnits, State as Replica, restarted, shape, spelling, told_after}
-use Rattle.df_replica.specs.Opened.{HistoryBegins, MendsAll}
-use Rattle.df_replica.specs.Serving.{Firm, Grade, IsKept, KeptFor, StandsFor, Whole, format}
-use Rattle.df_replica.specs.Session.{Act, Exchange}
-use Rattle.df_replica.proofs.Laws.{good_now, keeps_self, same_goes_on}
-use Rattle.df_session.proofs.BegunWorks.{begun_is_work}
-use Rattle.df_session.specs.Anew.{KeepsAnew}
-use Rattle.df_session.specs.Laws.{made_on}
-use Rattle.df_session.specs.Links.{EndsCalls}
-use Rattle.df_session.proofs.Acknowledged.{keeps_answered}
-use Rattle.df_session.proofs.Kept.{OpenedOver, keeps_over}
+use Rattle.df_model.specs.{Laws.{IsKeptBy}, Work.{Work, kept}}
+use Rattle.df_session.{specs.{Begun.{begun_work}, Anew.{KeepsAnew}, Laws.{made_on}, Links.{EndsCalls}}, proofs.{BegunWorks.{begun_is_work}, Acknowledged.{keeps_answered}, Kept.{OpenedOver, keeps_over}}}
+use Rattle.df_replica.{specs.{Below.{AreDistinctUnits, State as Replica, restarted, shape, spelling, told_after}, Opened.{HistoryBegins, MendsAll}, Serving.{Firm, Grade, IsKept, KeptFor, StandsFor, Whole, format}, Session.{Act, Exchange}}, proofs.Laws.{good_now, keeps_self, same_goes_on}}
 
 -- ---- a sync keeps what is kept
 

@@ -3,22 +3,11 @@ use Rattle.std.proofs.Common.{◌≡◌, ◌∙◌, inr, Some, ap, arith, refl, 
 use Rattle.df_base.specs.Image.{Image, IsImage}
 use Rattle.df_disk.specs.Told.{Told}
 use Rattle.df_format.specs.Copies.{content_with}
-use Rattle.df_theory.specs.Found.{IsFound}
-use Rattle.df_theory.specs.Units.{Content, CopyPlace, CopyUnit}
-use Rattle.df_theory.specs.View.{PassesTests, View}
-use Rattle.df_units.specs.Bytes.{unit_at}
-use Rattle.df_units.specs.Meaning.{content_of}
-use Rattle.df_model.specs.Making.{boot_content}
-use Rattle.df_model.specs.Memory.{Memory, memory_of}
-use Rattle.df_model.specs.Supply.{boot_sum}
-use Rattle.df_model.specs.Work.{Work, opened, raised}
-use Rattle.df_replica.specs.Below.{DataFile, IsOpened, State, boot_fields, memory, shape, spelling}
-use Rattle.df_replica.specs.Leaving.{image_after}
-use Rattle.df_replica.specs.Opened.{begun_state}
-use Rattle.df_replica.proofs.Laws.{found_keeps, raised_is, sum_of}
-use Rattle.df_session.specs.Begun.{BegunIsWork, begun_work}
-use Rattle.df_session.specs.Codec.{IsContentOfFile, codec}
-use Rattle.df_session.proofs.Sums.{units_have_sums}
+use Rattle.df_theory.specs.{Found.{IsFound}, Units.{Content, CopyPlace, CopyUnit}, View.{PassesTests, View}}
+use Rattle.df_units.specs.{Bytes.{unit_at}, Meaning.{content_of}}
+use Rattle.df_model.specs.{Making.{boot_content}, Memory.{Memory, memory_of}, Supply.{boot_sum}, Work.{Work, opened, raised}}
+use Rattle.df_replica.{specs.{Below.{DataFile, IsOpened, State, boot_fields, memory, shape, spelling}, Leaving.{image_after}, Opened.{begun_state}}, proofs.Laws.{found_keeps, raised_is, sum_of}}
+use Rattle.df_session.{specs.{Begun.{BegunIsWork, begun_work}, Codec.{IsContentOfFile, codec}}, proofs.Sums.{units_have_sums}}
 
 module _ (t : Told) (f : State) (view : View) (whole : IsImage t.shown) (is : IsOpened f.file.layout t.shown f) (found : IsFound (shape f.file) (unit_at f.file.layout f.file.cluster t.shown) view) (later : Image) (later_whole : IsImage later)
     (shown : unit_at f.file.layout f.file.cluster later (CopyPlace 0) ≡ Some (CopyUnit (content_of (content_with (boot_fields f))))) where

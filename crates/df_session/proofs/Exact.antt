@@ -3,38 +3,13 @@ use Rattle.std.proofs.Common.{◌≡◌, ℕ, Bool, List, [], ◌∷◌, Option,
 use Rattle.df_base.specs.Causes.{Blamed, IsBlamed}
 use Rattle.df_disk.specs.Told.{Told}
 use Rattle.df_format.specs.declared.reference.Reference.{Reference}
-use Rattle.df_layout.specs.declared.damage.Class.{Class}
-use Rattle.df_layout.specs.declared.places.Place.{Place}
-use Rattle.df_model.specs.Commands.{Advance, Append, Begin, Command, Flush, ForAdvance, ForAppend, ForBegin, ForFlush, ForRelease, ForReply, ForStage, ForWriteBlock, ReadBlock, ReadPrepare, ReadReply, Recent, Release, Reply, Stage, WriteBlock}
-use Rattle.df_model.specs.declared.answers.Progress.{Progress}
-use Rattle.df_model.specs.declared.answers.Receipt.{Receipt}
-use Rattle.df_model.specs.declared.commands.Answer.{Answer}
+use Rattle.df_layout.specs.{declared.damage.Class.{Class}, declared.places.Place.{Place}}
+use Rattle.df_model.specs.{Commands.{Advance, Append, Begin, Command, Flush, ForAdvance, ForAppend, ForBegin, ForFlush, ForRelease, ForReply, ForStage, ForWriteBlock, ReadBlock, ReadPrepare, ReadReply, Recent, Release, Reply, Stage, WriteBlock}, declared.answers.Progress.{Progress}, declared.answers.Receipt.{Receipt}, declared.commands.Answer.{Answer}, declared.errors.AppendError.{AppendError}, declared.errors.BeginError.{BeginError}, declared.errors.BlockError.{BlockError}, declared.errors.FlushError.{FlushError}, declared.errors.NotLive.{NotLive}, declared.errors.ReplyError.{ReplyError}, declared.errors.StepError.{StepError}, Faults.{is_append_fault, is_block_fault, is_flush_fault, is_reply_fault, is_step_fault}}
 use Rattle.df_model.specs.declared.commands.Answer.TheVariants as answers
-use Rattle.df_model.specs.declared.errors.AppendError.{AppendError}
-use Rattle.df_model.specs.declared.errors.BeginError.{BeginError}
-use Rattle.df_model.specs.declared.errors.BlockError.{BlockError}
-use Rattle.df_model.specs.declared.errors.FlushError.{FlushError}
-use Rattle.df_model.specs.declared.errors.NotLive.{NotLive}
-use Rattle.df_model.specs.declared.errors.ReplyError.{ReplyError}
-use Rattle.df_model.specs.declared.errors.StepError.{StepError}
 use Rattle.df_model.specs.declared.errors.StepError.TheVariants as step
-use Rattle.df_replica.specs.Answering.{Serves, begin_answer, release_answer, stage_answer}
-use Rattle.df_replica.specs.Appending.{IsAppendCall, next_unit}
-use Rattle.df_replica.specs.Beginning.{IsBegin}
-use Rattle.df_replica.specs.Below.{RunningState, State as Replica}
-use Rattle.df_replica.specs.Blocks.{IsRelease, IsWriteBlock, next_block}
-use Rattle.df_replica.specs.Flushing.{IsFlush, IsStage, flush_units, sums_of}
-use Rattle.df_replica.specs.Replying.{IsReplyCall, next_reply}
-use Rattle.df_replica.specs.Stepping.{IsStepCall, OfRunning, TellsImage, made_by}
+use Rattle.df_replica.{specs.{Answering.{Serves, begin_answer, release_answer, stage_answer}, Appending.{IsAppendCall, next_unit}, Beginning.{IsBegin}, Below.{RunningState, State as Replica}, Blocks.{IsRelease, IsWriteBlock, next_block}, Flushing.{IsFlush, IsStage, flush_units, sums_of}, Replying.{IsReplyCall, next_reply}, Stepping.{IsStepCall, OfRunning, TellsImage, made_by}}, proofs.Laws.{adds_none, on_running}}
 use Rattle.df_units.specs.Meaning.{number_of}
-use Rattle.df_replica.proofs.Laws.{adds_none, on_running}
-use Rattle.df_model.specs.Faults.{is_append_fault, is_block_fault, is_flush_fault, is_reply_fault, is_step_fault}
-use Rattle.df_session.specs.Calls.{IsExact, LendsNothing, blames, is_fault, machine_answer}
-use Rattle.df_session.specs.Endings.{IsDamagedStep, KeepsTour}
-use Rattle.df_session.specs.Links.{Makes}
-use Rattle.df_session.specs.Own.{AddsOwn}
-use Rattle.df_session.specs.declared.hearing.Fault.{Fault}
-use Rattle.df_session.proofs.Joins.{made}
+use Rattle.df_session.{specs.{Calls.{IsExact, LendsNothing, blames, is_fault, machine_answer}, Endings.{IsDamagedStep, KeepsTour}, Links.{Makes}, Own.{AddsOwn}, declared.hearing.Fault.{Fault}}, proofs.Joins.{made}}
 
 -- ---- a running checkpoint
 

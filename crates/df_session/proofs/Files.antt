@@ -1,18 +1,11 @@
 -- What is found of an image is of one file, whatever layout and cluster it is looked for with: those of the superblock that is chosen.
 use Rattle.std.proofs.Common.{◌≡◌, ℕ, sym, ◌∙◌, ap}
 use Rattle.df_base.specs.Image.{Image}
-use Rattle.df_layout.specs.declared.layout.Layout.{Layout}
-use Rattle.df_layout.proofs.Laws.{same_layout}
-use Rattle.df_theory.specs.Copies.{IsChosen}
-use Rattle.df_theory.specs.Found.{IsFound}
+use Rattle.df_layout.{specs.declared.layout.Layout.{Layout}, proofs.Laws.{same_layout}}
+use Rattle.df_theory.{specs.{Copies.{IsChosen}, Found.{IsFound}, Units.{Content}, View.{View}}, proofs.Laws.{one_chosen_law}}
 use Rattle.df_theory.specs.Units
-use Rattle.df_theory.specs.Units.{Content}
-use Rattle.df_theory.specs.View.{View}
-use Rattle.df_theory.proofs.Laws.{one_chosen_law}
-use Rattle.df_units.specs.Bytes.{unit_at}
-use Rattle.df_units.specs.Meaning.{layout_of}
-use Rattle.df_replica.specs.Below.{DataFile, shape}
-use Rattle.df_replica.proofs.Laws.{same_file}
+use Rattle.df_units.specs.{Bytes.{unit_at}, Meaning.{layout_of}}
+use Rattle.df_replica.{specs.Below.{DataFile, shape}, proofs.Laws.{same_file}}
 
 -- what is chosen among the copies is no matter of the file
 chosen_for : (layout other : Layout) (cluster another : ℕ) (image : Image) (c : Content) → IsChosen (unit_at layout cluster image) c → IsChosen (unit_at other another image) c

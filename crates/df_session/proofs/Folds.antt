@@ -1,25 +1,11 @@
 -- Commands one after the other don't tell two things apart that agree.
 use Rattle.std.proofs.Common.{◌≡◌, ℕ, ◌+◌, List, [], ◌∷◌, length, Option, Some, None, refl, ◌∙◌, ap, arith}
 use Rattle.df_base.proofs.Laws.{AreBytes-check_of, field_at-lt}
-use Rattle.df_format.specs.Making.{for_body}
-use Rattle.df_format.specs.Spelling.{spelling_rest}
-use Rattle.df_format.specs.Super.{covered_bytes}
-use Rattle.df_format.specs.declared.header.Header.{Header}
+use Rattle.df_format.specs.{Making.{for_body}, Spelling.{spelling_rest}, Super.{covered_bytes}, declared.header.Header.{Header}}
 use Rattle.df_theory.specs.Units.{AnyUnit, BlockPlace, Place, PreparePlace, ReplyPlace, or_else}
-use Rattle.df_model.specs.Codec.{AreChecksums, IsChecksum}
-use Rattle.df_model.specs.Commands.{Advance, Answer, Append, Command, Flush, Reply, WriteBlock, supplied_sums}
-use Rattle.df_model.specs.Making.{block_of, finishing_content, next_address, place_of_reply, prepare_in, prepare_of, reply_of, trailer_block}
-use Rattle.df_model.specs.Memory.{Course, Memory, memory_of}
-use Rattle.df_model.specs.Sense.{IsWork}
-use Rattle.df_model.specs.Supply.{Shown, checksums_given, group_sums, next as over, puts_of, result, shown_after, step_sum, supplied, trailer_sum}
-use Rattle.df_model.specs.Work.{Request, Work}
-use Rattle.df_model.proofs.Laws.{sense_law}
-use Rattle.df_replica.specs.Below.{DataFile, shape, spelling}
-use Rattle.df_replica.specs.Leaving.{IsReadPlace}
-use Rattle.df_session.specs.Agreeing.{AgreeShown}
-use Rattle.df_session.specs.Results.{ResultAgrees}
-use Rattle.df_session.specs.Codec.{block_header, codec, fields_of, prepare_header, reply_header, sum_of_unit}
-use Rattle.df_session.proofs.Agreed.{next_agrees}
+use Rattle.df_model.{specs.{Codec.{AreChecksums, IsChecksum}, Commands.{Advance, Answer, Append, Command, Flush, Reply, WriteBlock, supplied_sums}, Making.{block_of, finishing_content, next_address, place_of_reply, prepare_in, prepare_of, reply_of, trailer_block}, Memory.{Course, Memory, memory_of}, Sense.{IsWork}, Supply.{Shown, checksums_given, group_sums, next as over, puts_of, result, shown_after, step_sum, supplied, trailer_sum}, Work.{Request, Work}}, proofs.Laws.{sense_law}}
+use Rattle.df_replica.specs.{Below.{DataFile, shape, spelling}, Leaving.{IsReadPlace}}
+use Rattle.df_session.{specs.{Agreeing.{AgreeShown}, Results.{ResultAgrees}, Codec.{block_header, codec, fields_of, prepare_header, reply_header, sum_of_unit}}, proofs.Agreed.{next_agrees}}
 
 -- ---- what is made has a checksum
 

@@ -1,13 +1,7 @@
 -- The prepares of a group, each put into the slot of its op, tell the checksums that they were made with: these are the codec's.
-use Rattle.std.proofs.Common.{◌≡◌, ℕ, ◌+◌, ◌%◌, ◌<◌, ◌≤◌, ◌==◌, Bool, true, false, if◌then◌else◌, List, [], ◌∷◌, drop, length, Option, Some, None, refl, sym, ◌∙◌, ap, arith}
-use Rattle.std.proofs.lemmas.Bool.Decides.{nat_tests}
-use Rattle.df_theory.specs.Units.{AnyUnit, Message, Place, PreparePlace, PrepareUnit, Units, or_else, overlay}
-use Rattle.df_theory.specs.UnitLog.{put_one}
-use Rattle.df_theory.proofs.Laws.{mod_apart, put_one_law}
-use Rattle.df_model.specs.Making.{first_of, prepare_in, prepares_in}
-use Rattle.df_model.specs.Memory.{Memory}
-use Rattle.df_model.specs.Supply.{group_puts, group_sums}
-use Rattle.df_model.specs.Work.{Request}
+use Rattle.std.proofs.{Common.{◌≡◌, ℕ, ◌+◌, ◌%◌, ◌<◌, ◌≤◌, ◌==◌, Bool, true, false, if◌then◌else◌, List, [], ◌∷◌, drop, length, Option, Some, None, refl, sym, ◌∙◌, ap, arith}, lemmas.Bool.Decides.{nat_tests}}
+use Rattle.df_theory.{specs.{Units.{AnyUnit, Message, Place, PreparePlace, PrepareUnit, Units, or_else, overlay}, UnitLog.{put_one}}, proofs.Laws.{mod_apart, put_one_law}}
+use Rattle.df_model.specs.{Making.{first_of, prepare_in, prepares_in}, Memory.{Memory}, Supply.{group_puts, group_sums}, Work.{Request}}
 use Rattle.df_replica.specs.Below.{DataFile}
 use Rattle.df_session.specs.Codec.{HasCodecSum, codec}
 

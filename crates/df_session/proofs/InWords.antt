@@ -1,24 +1,13 @@
 -- What an answer is in the machine's words, and what a call comes to, by what is heard of it.
-use Rattle.std.proofs.Common.{◌≡◌, ℕ, Bool, true, false, Option, Some, None, if◌then◌else◌, refl, sym, ◌∙◌, ap, subst, Result, Ok, Err}
-use Rattle.std.specs.Prelude.{OnOk}
+use Rattle.std.{proofs.Common.{◌≡◌, ℕ, Bool, true, false, Option, Some, None, if◌then◌else◌, refl, sym, ◌∙◌, ap, subst, Result, Ok, Err}, specs.Prelude.{OnOk}}
 use Rattle.df_base.specs.Causes.{Blamed, IsBlamed}
 use Rattle.df_disk.specs.Told.{Told}
-use Rattle.df_model.specs.Commands.{Answer as Answered, Command, ToAdvance, ToAppend, ToBegin, ToFlush, ToReadBlock, ToReadPrepare, ToReadReply, ToRelease, ToReply, ToScrub, ToStage, ToWriteBlock}
-use Rattle.df_model.specs.declared.answers.Progress.TheVariants.{Done, Working}
-use Rattle.df_model.specs.Called.{command_of}
-use Rattle.df_model.specs.declared.commands.Answer.{Answer}
+use Rattle.df_model.specs.{Commands.{Answer as Answered, Command, ToAdvance, ToAppend, ToBegin, ToFlush, ToReadBlock, ToReadPrepare, ToReadReply, ToRelease, ToReply, ToScrub, ToStage, ToWriteBlock}, declared.answers.Progress.TheVariants.{Done, Working}, Called.{command_of}, declared.commands.Answer.{Answer}, declared.commands.Command.{Command as Asked}, Faults.{is_append_fault, is_block_fault, is_flush_fault, is_lookup_fault, is_prepare_fault, is_read_fault, is_reply_fault}}
 use Rattle.df_model.specs.declared.commands.Answer.TheVariants as answers
-use Rattle.df_model.specs.declared.commands.Command.{Command as Asked}
 use Rattle.df_model.specs.declared.errors.StepError.TheVariants as step
-use Rattle.df_model.specs.Faults.{is_append_fault, is_block_fault, is_flush_fault, is_lookup_fault, is_prepare_fault, is_read_fault, is_reply_fault}
 use Rattle.df_replica.specs.Below.{State as Replica}
 use Rattle.df_units.specs.Meaning.{number_of}
-use Rattle.df_session.specs.Calls.{IsExact, LendsNothing, is_fault, machine_answer}
-use Rattle.df_session.specs.Endings.{KeepsTour, MakesTo, heard, is_disk_fault, unless_damaged}
-use Rattle.df_session.specs.Links.{Makes}
-use Rattle.df_session.specs.declared.hearing.Fault.{Fault}
-use Rattle.df_session.specs.declared.hearing.Fault.TheVariants.{Disk, Damaged}
-use Rattle.df_session.proofs.Exact.{Called, exact_damaged, exact_lends}
+use Rattle.df_session.{specs.{Calls.{IsExact, LendsNothing, is_fault, machine_answer}, Endings.{KeepsTour, MakesTo, heard, is_disk_fault, unless_damaged}, Links.{Makes}, declared.hearing.Fault.{Fault}, declared.hearing.Fault.TheVariants.{Disk, Damaged}}, proofs.Exact.{Called, exact_damaged, exact_lends}}
 
 -- ---- in the machine's words
 

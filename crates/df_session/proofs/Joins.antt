@@ -2,16 +2,10 @@
 use Rattle.std.proofs.Common.{List, [], ◌∷◌, ◌++◌, Option, inl, inr, refl}
 use Rattle.df_base.specs.Log.{Event}
 use Rattle.df_disk.specs.Told as told
-use Rattle.df_disk.specs.Told.{Told}
-use Rattle.df_disk.specs.Adds.{AddsPart}
+use Rattle.df_disk.specs.{Told.{Told}, Adds.{AddsPart}}
 use Rattle.df_model.specs.Commands.{Answer, Command, Given}
-use Rattle.df_replica.specs.Below.{State as Replica}
-use Rattle.df_replica.specs.Answering.{Serves}
-use Rattle.df_replica.specs.Opened.{ToldBy}
-use Rattle.df_replica.specs.Session.{Exchange}
-use Rattle.df_replica.specs.Supply.{IsSupplied}
-use Rattle.df_session.specs.Links.{AreCalls, Makes, More, NoCalls}
-use Rattle.df_session.specs.Own.{AddsOwn}
+use Rattle.df_replica.specs.{Below.{State as Replica}, Answering.{Serves}, Opened.{ToldBy}, Session.{Exchange}, Supply.{IsSupplied}}
+use Rattle.df_session.specs.{Links.{AreCalls, Makes, More, NoCalls}, Own.{AddsOwn}}
 
 -- what was told changed by a part of the events
 pub part_told : (es : List Event) (old new : Option Told) → AddsPart es old new → ToldBy old new

@@ -1,27 +1,12 @@
 -- Calls on an open file keep it.
 use Rattle.std.proofs.Common.{◌≡◌, ◌∙◌, Option, None, Some, ap, refl, subst, sym}
-use Rattle.df_base.specs.Image.{Image, IsImage}
-use Rattle.df_base.specs.Log.{Sync, now}
+use Rattle.df_base.specs.{Image.{Image, IsImage}, Log.{Sync, now}}
 use Rattle.df_disk.specs.Told.{Told, did}
-use Rattle.df_theory.specs.Found.{IsFound}
-use Rattle.df_theory.specs.View.{View}
+use Rattle.df_theory.specs.{Found.{IsFound}, View.{View}}
 use Rattle.df_units.specs.Bytes.{unit_at}
 use Rattle.df_model.specs.Work.{Work}
-use Rattle.df_session.specs.Begun.{begun_work}
-use Rattle.df_replica.specs.Below.{DataFile, State as Replica, restarted, shape, told_after}
-use Rattle.df_replica.specs.Following.{MayOpen}
-use Rattle.df_replica.specs.Opened.{MendsAll, begun_state}
-use Rattle.df_replica.specs.Serving.{Firm, Grade, Keeps, StandsFor}
-use Rattle.df_replica.proofs.Laws.{begun_keeps}
-use Rattle.df_session.proofs.BegunWorks.{begun_is_work}
-use Rattle.df_session.specs.Links.{events_to}
-use Rattle.df_session.specs.Laws.{CallsOnOpenFileKeepIt, made_on}
-use Rattle.df_session.proofs.Acknowledged.{keeps_answered}
-use Rattle.df_session.proofs.Anews.{calls_keep_anew}
-use Rattle.df_session.proofs.Kept.{OpenedOver, answers_alone, ends_add, keeps_over, opened_over}
-use Rattle.df_session.proofs.Lived.{calls_lived, safe_each}
-use Rattle.df_session.proofs.Resulted.{opened_answers}
-use Rattle.df_session.proofs.Spared.{spares_blocks}
+use Rattle.df_session.{specs.{Begun.{begun_work}, Links.{events_to}, Laws.{CallsOnOpenFileKeepIt, made_on}}, proofs.{BegunWorks.{begun_is_work}, Acknowledged.{keeps_answered}, Anews.{calls_keep_anew}, Kept.{OpenedOver, answers_alone, ends_add, keeps_over, opened_over}, Lived.{calls_lived, safe_each}, Resulted.{opened_answers}, Spared.{spares_blocks}}}
+use Rattle.df_replica.{specs.{Below.{DataFile, State as Replica, restarted, shape, told_after}, Following.{MayOpen}, Opened.{MendsAll, begun_state}, Serving.{Firm, Grade, Keeps, StandsFor}}, proofs.Laws.{begun_keeps}}
 
 -- what was opened stands for what the machine begins calls with
 pub begun_here : (t : Told) (s : Replica) (mended : Option Told) (over : MendsAll t s mended) (view : View) → IsImage t.shown → IsFound (shape s.file) (unit_at s.file.layout s.file.cluster t.shown) view

@@ -1,32 +1,12 @@
 -- What calls leave of a disk and of a file, after an open, by each log that is told of it.
-use Rattle.std.proofs.Common.{◌≡◌, inl, inr, ℕ, true, List, [], ◌∷◌, ◌++◌, append_assoc, Option, Some, None, refl, sym, ◌∙◌, ap, subst}
-use Rattle.std.proofs.lemmas.List.{append-nil}
-use Rattle.df_base.specs.Image.{Image}
-use Rattle.df_base.specs.Log.{Event, Log, Sync}
-use Rattle.df_base.specs.Moments.{EachMoment, Extends, adds}
-use Rattle.df_base.proofs.Laws.{extends_self, weaker, adds_on, extends_on}
-use Rattle.df_disk.specs.Adds.{after_all}
-use Rattle.df_disk.specs.Told.{IsHonest, Told, did}
-use Rattle.df_disk.proofs.Laws.{Goes, after_append, goes_by, honest_did}
-use Rattle.df_theory.specs.Device.{units_log}
-use Rattle.df_theory.specs.Shape.{Shape}
-use Rattle.df_theory.specs.UnitLog.{UnitLog}
-use Rattle.df_theory.specs.TidyLaws.{IsTidy}
-use Rattle.df_theory.specs.Units.{Parts}
-use Rattle.df_theory.specs.View.{View}
+use Rattle.std.proofs.{Common.{◌≡◌, inl, inr, ℕ, true, List, [], ◌∷◌, ◌++◌, append_assoc, Option, Some, None, refl, sym, ◌∙◌, ap, subst}, lemmas.List.{append-nil}}
+use Rattle.df_base.{specs.{Image.{Image}, Log.{Event, Log, Sync}, Moments.{EachMoment, Extends, adds}}, proofs.Laws.{extends_self, weaker, adds_on, extends_on}}
+use Rattle.df_disk.{specs.{Adds.{after_all}, Told.{IsHonest, Told, did}}, proofs.Laws.{Goes, after_append, goes_by, honest_did}}
+use Rattle.df_theory.specs.{Device.{units_log}, Shape.{Shape}, UnitLog.{UnitLog}, TidyLaws.{IsTidy}, Units.{Parts}, View.{View}}
 use Rattle.df_units.specs.Bytes.{unit_at}
-use Rattle.df_model.specs.Views.{KeepsView}
-use Rattle.df_model.specs.Work.{Work, kept}
-use Rattle.df_replica.specs.Below.{DataFile, State as Replica, shape, spelling, told_after}
-use Rattle.df_replica.specs.Following.{MayOpen}
-use Rattle.df_replica.specs.Leaving.{AreSettled, SparesHeld}
-use Rattle.df_replica.specs.Opened.{MendsAll, ToldBy, begun_state}
-use Rattle.df_replica.specs.Serving.{Firm, Grade, IsGoodFor, IsKept, Keeps, KeptFor, StandsFor, Whole, format}
-use Rattle.df_replica.specs.Session.{Act, EachIsMidway, Exchange, HasView, HoldsSome, IsMidway, IsServed, LeavesEither, LeavesView, acts_in, answers_in, answers_of, work_after}
-use Rattle.df_replica.proofs.Laws.{added_is_told, answered_is_there, fault_stops_them, good_left, good_safe, holds_on, joined, keeps_alone, nothing_is_served, one_more_is_served}
-use Rattle.df_session.specs.Keeping.{KeepsFile}
-use Rattle.df_session.specs.Links.{AreCalls, Calls, EndsCalls, More, NoCalls, call_events, events_to}
-use Rattle.df_session.proofs.Untouched.{settled_told, stay_settled}
+use Rattle.df_model.specs.{Views.{KeepsView}, Work.{Work, kept}}
+use Rattle.df_replica.{specs.{Below.{DataFile, State as Replica, shape, spelling, told_after}, Following.{MayOpen}, Leaving.{AreSettled, SparesHeld}, Opened.{MendsAll, ToldBy, begun_state}, Serving.{Firm, Grade, IsGoodFor, IsKept, Keeps, KeptFor, StandsFor, Whole, format}, Session.{Act, EachIsMidway, Exchange, HasView, HoldsSome, IsMidway, IsServed, LeavesEither, LeavesView, acts_in, answers_in, answers_of, work_after}}, proofs.Laws.{added_is_told, answered_is_there, fault_stops_them, good_left, good_safe, holds_on, joined, keeps_alone, nothing_is_served, one_more_is_served}}
+use Rattle.df_session.{specs.{Keeping.{KeepsFile}, Links.{AreCalls, Calls, EndsCalls, More, NoCalls, call_events, events_to}}, proofs.Untouched.{settled_told, stay_settled}}
 
 -- ---- what is told
 

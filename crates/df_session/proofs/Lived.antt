@@ -1,22 +1,11 @@
 -- Calls on an open file keep its history lived.
-use Rattle.std.proofs.Common.{◌≡◌, List, ◌∷◌, Option, ap, subst, sym, ◌++◌, [], refl}
-use Rattle.std.proofs.lemmas.Option.{same_Some}
-use Rattle.df_base.specs.Image.{IsImage}
-use Rattle.df_base.specs.Log.{Event, Log, Sync, add}
-use Rattle.df_base.specs.Moments.{EachMoment}
-use Rattle.df_base.proofs.Laws.{extends_on}
+use Rattle.std.proofs.{Common.{◌≡◌, List, ◌∷◌, Option, ap, subst, sym, ◌++◌, [], refl}, lemmas.Option.{same_Some}}
+use Rattle.df_base.{specs.{Image.{IsImage}, Log.{Event, Log, Sync, add}, Moments.{EachMoment}}, proofs.Laws.{extends_on}}
 use Rattle.df_disk.specs.Told.{Told, did}
-use Rattle.df_theory.specs.Device.{IsSafeDisk}
-use Rattle.df_theory.specs.View.{View}
+use Rattle.df_theory.specs.{Device.{IsSafeDisk}, View.{View}}
 use Rattle.df_model.specs.Work.{Work}
-use Rattle.df_replica.specs.Below.{DataFile, FindsSince, IsLivedDisk, IsOpened, MayReopen, State as Replica, restarted, shape, told_after}
-use Rattle.df_replica.specs.Following.{MayOpen}
-use Rattle.df_replica.specs.Opened.{MendsAll}
-use Rattle.df_replica.specs.Serving.{Grade, format}
-use Rattle.df_replica.specs.Session.{Act, Exchange}
-use Rattle.df_replica.proofs.Laws.{begun_may_open, found_was_since, joined, raised_goes_on}
-use Rattle.df_session.specs.Keeping.{KeepsFile, over}
-use Rattle.df_session.proofs.Kept.{goes_over}
+use Rattle.df_replica.{specs.{Below.{DataFile, FindsSince, IsLivedDisk, IsOpened, MayReopen, State as Replica, restarted, shape, told_after}, Following.{MayOpen}, Opened.{MendsAll}, Serving.{Grade, format}, Session.{Act, Exchange}}, proofs.Laws.{begun_may_open, found_was_since, joined, raised_goes_on}}
+use Rattle.df_session.{specs.Keeping.{KeepsFile, over}, proofs.Kept.{goes_over}}
 
 -- at each moment of a session the log is safe
 abbrev IsSafeEach : DataFile → (base n : Told) → Type 0

@@ -1,22 +1,11 @@
 -- What a command leaves shown tells the checksums that it was supplied with: they are the codec's.
 use Rattle.std.proofs.Common.{◌≡◌, ℕ, ◌+◌, ◌%◌, ◌<◌, ◌≤◌, List, [], ◌∷◌, length, Option, Some, None, refl, ◌∙◌, ap}
 use Rattle.df_base.specs.Image.{Image}
-use Rattle.df_theory.specs.Units.{AnyUnit, Block, BlockPlace, BlockUnit, Content, CopyPlace, CopyUnit, Message, Place, PreparePlace, PrepareUnit, ReplyPlace, ReplyUnit, Units, or_else, overlay}
-use Rattle.df_theory.specs.UnitLog.{put_one}
-use Rattle.df_theory.proofs.Laws.{put_one_law}
+use Rattle.df_theory.{specs.{Units.{AnyUnit, Block, BlockPlace, BlockUnit, Content, CopyPlace, CopyUnit, Message, Place, PreparePlace, PrepareUnit, ReplyPlace, ReplyUnit, Units, or_else, overlay}, UnitLog.{put_one}}, proofs.Laws.{put_one_law}}
 use Rattle.df_units.specs.Bytes.{unit_at}
-use Rattle.df_model.specs.Commands.{Advance, Append, Command, Flush, Reply, WriteBlock}
-use Rattle.df_model.specs.Making.{block_of, finishing_content, first_of, group_of, next_address, place_of_reply, prepare_of, reply_of, trailer_block}
-use Rattle.df_model.specs.Memory.{Course, Memory}
-use Rattle.df_model.specs.Refusals.{append_refusals, block_refusals, first_refusal, reply_refusals}
-use Rattle.df_model.specs.Supply.{group_puts, puts_of, step_puts, step_sum, trailer_puts, trailer_sum, unless}
-use Rattle.df_model.specs.declared.errors.FlushError.{FlushError}
-use Rattle.df_replica.specs.Below.{DataFile}
-use Rattle.df_replica.specs.Leaving.{LeavesCopies, LeavesShown}
-use Rattle.df_session.specs.Agreeing.{AreSums}
-use Rattle.df_session.specs.Codec.{IsContentOfFile, codec}
-use Rattle.df_session.proofs.Groups.{at_more, puts_each, sums_in}
-use Rattle.df_session.proofs.Sums.{units_have_sums}
+use Rattle.df_model.specs.{Commands.{Advance, Append, Command, Flush, Reply, WriteBlock}, Making.{block_of, finishing_content, first_of, group_of, next_address, place_of_reply, prepare_of, reply_of, trailer_block}, Memory.{Course, Memory}, Refusals.{append_refusals, block_refusals, first_refusal, reply_refusals}, Supply.{group_puts, puts_of, step_puts, step_sum, trailer_puts, trailer_sum, unless}, declared.errors.FlushError.{FlushError}}
+use Rattle.df_replica.specs.{Below.{DataFile}, Leaving.{LeavesCopies, LeavesShown}}
+use Rattle.df_session.{specs.{Agreeing.{AreSums}, Codec.{IsContentOfFile, codec}}, proofs.{Groups.{at_more, puts_each, sums_in}, Sums.{units_have_sums}}}
 
 -- as many checksums are supplied as units are made, if none is refused, and a step of no checkpoint with 0
 abbrev pub AreAsMany : Memory → (sums : List ℕ) → Command → Type 0

@@ -3,31 +3,11 @@ use Rattle.std.proofs.Common.{◌≡◌, inr, ℕ, ◌+◌, ◌<◌, ◌≤◌, 
 use Rattle.df_base.specs.Image.{Image, IsImage}
 use Rattle.df_disk.specs.Told.{Told}
 use Rattle.df_layout.proofs.Laws.{some_slots}
-use Rattle.df_theory.specs.Units.{AnyUnit, BlockPlace, CopyPlace, HeaderPlace, Place, PreparePlace, ReplyPlace, Units, or_else, overlay}
-use Rattle.df_theory.specs.View.{PassesTests}
-use Rattle.df_units.specs.Bytes.{unit_at}
-use Rattle.df_units.specs.Wanted.{class_at}
-use Rattle.df_model.specs.Commands.{Advance, Answer, Append, Command, Flush, Given, ReadBlock, ReadPrepare, ReadReply, Reply, Scrub, WriteBlock, supplied_sum, supplied_sums}
-use Rattle.df_model.specs.Making.{first_of}
-use Rattle.df_model.specs.Memory.{Memory, memory_of}
-use Rattle.df_model.specs.Supply.{Shown, checksums_given, next as over, puts_of, shown_after}
-use Rattle.df_model.specs.Work.{Request, Work}
-use Rattle.df_model.proofs.Laws.{length_in}
-use Rattle.df_replica.specs.Appending.{unit_made}
-use Rattle.df_replica.specs.Below.{RunningState, DataFile, State, course_in, memory, shape, spelling, told_after}
-use Rattle.df_replica.specs.Flushing.{group_in, group_prepares, header_in, sums_of}
-use Rattle.df_replica.specs.Leaving.{IsReadPlace, LeavesShown, image_after}
-use Rattle.df_replica.specs.Reading.{shown_of}
-use Rattle.df_replica.specs.Serving.{Firm, IsCall, Keeps, next}
-use Rattle.df_replica.specs.Stepping.{made_by}
-use Rattle.df_replica.specs.Supply.{IsSupplied}
-use Rattle.df_replica.proofs.Laws.{added_is_told, shown_after as shown_then}
-use Rattle.df_session.specs.Agreeing.{AgreeShown, AreSums, IsFoundIn}
-use Rattle.df_session.specs.Results.{IsResult, OneMoreIsResult, SuppliedIsResult}
-use Rattle.df_session.specs.Codec.{IsContentOfFile, codec}
-use Rattle.df_session.proofs.Agreed.{next_agrees}
-use Rattle.df_session.proofs.Made.{AreAsMany, sums_made}
-use Rattle.df_session.proofs.Supplied.{next_is, puts_are}
+use Rattle.df_theory.specs.{Units.{AnyUnit, BlockPlace, CopyPlace, HeaderPlace, Place, PreparePlace, ReplyPlace, Units, or_else, overlay}, View.{PassesTests}}
+use Rattle.df_units.specs.{Bytes.{unit_at}, Wanted.{class_at}}
+use Rattle.df_model.{specs.{Commands.{Advance, Answer, Append, Command, Flush, Given, ReadBlock, ReadPrepare, ReadReply, Reply, Scrub, WriteBlock, supplied_sum, supplied_sums}, Making.{first_of}, Memory.{Memory, memory_of}, Supply.{Shown, checksums_given, next as over, puts_of, shown_after}, Work.{Request, Work}}, proofs.Laws.{length_in}}
+use Rattle.df_replica.{specs.{Appending.{unit_made}, Below.{RunningState, DataFile, State, course_in, memory, shape, spelling, told_after}, Flushing.{group_in, group_prepares, header_in, sums_of}, Leaving.{IsReadPlace, LeavesShown, image_after}, Reading.{shown_of}, Serving.{Firm, IsCall, Keeps, next}, Stepping.{made_by}, Supply.{IsSupplied}}, proofs.Laws.{added_is_told, shown_after as shown_then}}
+use Rattle.df_session.{specs.{Agreeing.{AgreeShown, AreSums, IsFoundIn}, Results.{IsResult, OneMoreIsResult, SuppliedIsResult}, Codec.{IsContentOfFile, codec}}, proofs.{Agreed.{next_agrees}, Made.{AreAsMany, sums_made}, Supplied.{next_is, puts_are}}}
 
 -- ---- what is shown then
 

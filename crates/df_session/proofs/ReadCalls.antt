@@ -1,25 +1,12 @@
 -- A read or a check that is made: what it is rightly supplied with, and the call that it is. It does nothing to the disk.
 use Rattle.std.proofs.Common.{◌≡◌, ℕ, Option, Some, None, Result, Ok, Err, [], refl, sym, subst}
-use Rattle.df_base.specs.Image.{Image}
-use Rattle.df_base.specs.declared.Failed.{Failed}
+use Rattle.df_base.specs.{Image.{Image}, declared.Failed.{Failed}}
 use Rattle.df_disk.specs.Told.{Told}
-use Rattle.df_layout.specs.declared.damage.Class.{Class}
-use Rattle.df_layout.specs.declared.damage.Class.TheVariants.{Blank}
+use Rattle.df_layout.specs.{declared.damage.Class.{Class}, declared.damage.Class.TheVariants.{Blank}}
 use Rattle.df_theory.specs.Units.{Block, Message}
-use Rattle.df_model.specs.Commands.{Answer, Command, ForReadBlock, ForReadPrepare, ForReadReply, ForScrub, Given, ReadBlock, ReadPrepare, ReadReply, Scrub}
-use Rattle.df_model.specs.declared.answers.Scrubbed.{Scrubbed}
-use Rattle.df_model.specs.declared.answers.Verdict.{Verdict}
-use Rattle.df_model.specs.declared.answers.Verdict.TheVariants.{Sound}
-use Rattle.df_replica.specs.Answering.{GivesBlock, GivesFound, GivesVerdict, ServesBlockRead, ServesRead, ServesScrub, scrub_answer}
-use Rattle.df_replica.specs.Below.{verdict_in, State as Replica}
-use Rattle.df_replica.specs.BlockReads.{block_found}
-use Rattle.df_replica.specs.Reading.{message_at}
-use Rattle.df_replica.specs.Scrubbing.{IsCheckFound, check_found}
-use Rattle.df_replica.specs.Serving.{IsCall}
-use Rattle.df_replica.specs.Supply.{IsSupplied}
-use Rattle.df_session.specs.Links.{Makes}
-use Rattle.df_session.specs.Own.{own_events}
-use Rattle.df_replica.proofs.Laws.{adds_none}
+use Rattle.df_model.specs.{Commands.{Answer, Command, ForReadBlock, ForReadPrepare, ForReadReply, ForScrub, Given, ReadBlock, ReadPrepare, ReadReply, Scrub}, declared.answers.Scrubbed.{Scrubbed}, declared.answers.Verdict.{Verdict}, declared.answers.Verdict.TheVariants.{Sound}}
+use Rattle.df_replica.{specs.{Answering.{GivesBlock, GivesFound, GivesVerdict, ServesBlockRead, ServesRead, ServesScrub, scrub_answer}, Below.{verdict_in, State as Replica}, BlockReads.{block_found}, Reading.{message_at}, Scrubbing.{IsCheckFound, check_found}, Serving.{IsCall}, Supply.{IsSupplied}}, proofs.Laws.{adds_none}}
+use Rattle.df_session.specs.{Links.{Makes}, Own.{own_events}}
 
 -- What a read is rightly supplied with, in its own case: what the image shows, where the disk tells it; else what the call found, or anything where it came to no read.
 record IsRead {U : Type 0} (s : Replica) (command : Command) (form : Result U Class → Given) (shown : Image → Result U Class) (Gives : Option Told → Option (Result U Class) → Given → Type 0) : Type 0 where

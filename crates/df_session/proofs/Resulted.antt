@@ -1,27 +1,13 @@
 -- A session's answers are the result.
 use Rattle.std.proofs.Common.{◌≡◌, List, [], ◌∷◌, map, Option, Some, None, refl, sym, ◌∙◌, subst}
-use Rattle.df_base.specs.Image.{Image, IsImage}
-use Rattle.df_base.specs.Log.{Sync}
+use Rattle.df_base.specs.{Image.{Image, IsImage}, Log.{Sync}}
 use Rattle.df_disk.specs.Told.{Told, did}
 use Rattle.df_layout.specs.declared.layout.Layout.{Layout}
 use Rattle.df_theory.specs.Units.{BlockPlace, CopyPlace, HeaderPlace, Place, PreparePlace, ReplyPlace}
 use Rattle.df_units.specs.Bytes.{unit_at}
-use Rattle.df_model.specs.Memory.{Memory, memory_of}
-use Rattle.df_model.specs.Supply.{Shown, next, result, shown_after}
-use Rattle.df_model.specs.Work.{Work}
-use Rattle.df_replica.specs.Below.{DataFile, State as Replica, shape, told_after}
-use Rattle.df_replica.specs.Leaving.{IsReadPlace, SparesReads}
-use Rattle.df_replica.specs.Opened.{MendsAll}
-use Rattle.df_replica.specs.Reading.{shown_of}
-use Rattle.df_replica.specs.Serving.{Firm, IsCall, Keeps}
-use Rattle.df_replica.specs.Session.{Act, Exchange, acts_in, answers_in, command_in}
-use Rattle.df_replica.proofs.Laws.{added_is_told, shown_after as shown_then}
-use Rattle.df_session.specs.Agreeing.{AgreeShown}
-use Rattle.df_session.specs.Results.{IsResult}
-use Rattle.df_session.specs.Codec.{codec}
-use Rattle.df_session.proofs.OneMore.{one_more_is_result}
-use Rattle.df_session.specs.Links.{AreCalls, EndsCalls, More}
-use Rattle.df_session.specs.Resulting.{AnswersResult}
+use Rattle.df_model.specs.{Memory.{Memory, memory_of}, Supply.{Shown, next, result, shown_after}, Work.{Work}}
+use Rattle.df_replica.{specs.{Below.{DataFile, State as Replica, shape, told_after}, Leaving.{IsReadPlace, SparesReads}, Opened.{MendsAll}, Reading.{shown_of}, Serving.{Firm, IsCall, Keeps}, Session.{Act, Exchange, acts_in, answers_in, command_in}}, proofs.Laws.{added_is_told, shown_after as shown_then}}
+use Rattle.df_session.{specs.{Agreeing.{AgreeShown}, Results.{IsResult}, Codec.{codec}, Links.{AreCalls, EndsCalls, More}, Resulting.{AnswersResult}}, proofs.OneMore.{one_more_is_result}}
 
 -- ---- answers
 

@@ -2,13 +2,8 @@
 use Rattle.std.proofs.Common.{◌≡◌, true, List, [], ◌∷◌, Option, Some, None, refl, ◌∙◌, subst}
 use Rattle.df_disk.specs.Told.{Told}
 use Rattle.df_model.specs.Work.{Work}
-use Rattle.df_replica.specs.Below.{DataFile, State as Replica}
-use Rattle.df_replica.specs.Leaving.{SparesHeld}
-use Rattle.df_replica.specs.Serving.{Firm, Keeps, next}
-use Rattle.df_replica.specs.Session.{Act, Exchange, acts_in, work_after}
-use Rattle.df_session.specs.Links.{AreCalls, CallsMade, EndsCalls, More}
-use Rattle.df_session.specs.Sparing.{AllSpareHeld, SpareHeld, SparesBlocks}
-use Rattle.df_session.proofs.Kept.{all_served}
+use Rattle.df_replica.specs.{Below.{DataFile, State as Replica}, Leaving.{SparesHeld}, Serving.{Firm, Keeps, next}, Session.{Act, Exchange, acts_in, work_after}}
+use Rattle.df_session.{specs.{Links.{AreCalls, CallsMade, EndsCalls, More}, Sparing.{AllSpareHeld, SpareHeld, SparesBlocks}}, proofs.Kept.{all_served}}
 
 module _ (file : DataFile) where
   all_spare : (w : Work) (s t : Replica) (old new : Option Told) (xs : List Exchange) → s.file ≡ file → Keeps Firm s w None → (are : AreCalls s old xs t new) → SpareHeld file w xs are

@@ -1,35 +1,11 @@
 -- Each unit that an image shows has the codec's checksum: what the theory says of it, and its place, are all that its header says.
-use Rattle.std.proofs.Common.{◌≡◌, ◌≢◌, ◌⊎◌, inl, inr, ℕ, suc, ◌<◌, ◌%◌, ◌==◌, Bool, true, false, cond, if◌then◌else◌, List, [], ◌∷◌, map, Option, Some, None, refl, sym, ◌∙◌, ap, subst, arith}
-use Rattle.std.specs.Prelude.{All}
-use Rattle.std.proofs.lemmas.Bool.{cond-true, cond-false, eq-eqb, ne_eqb}
-use Rattle.std.proofs.lemmas.Bool.Decides.{nat_tests}
-use Rattle.std.proofs.lemmas.List.{take_all}
-use Rattle.std.proofs.lemmas.Option.{same_Some}
-use Rattle.df_base.specs.Fields.{check_of, spelled}
-use Rattle.df_base.specs.Image.{Image, IsImage}
-use Rattle.df_base.proofs.Laws.{spelled-field_at}
-use Rattle.df_layout.specs.declared.places.Place.{Place as OfFile}
-use Rattle.df_layout.specs.declared.places.Zone.TheVariants.{WalPrepares, ClientReplies, Grid}
-use Rattle.df_format.specs.declared.header.Header.{Header}
-use Rattle.df_format.specs.declared.kind.Kind.{Kind}
-use Rattle.df_format.specs.declared.kind.Kind.TheVariants.{Prepare, Reply, Block, Trailer}
-use Rattle.df_format.specs.declared.superblock.SuperCopy.{SuperCopy}
-use Rattle.df_format.specs.declared.superblock.SuperFields.{SuperFields}
-use Rattle.df_format.specs.Copies.{Content, content_at, content_in_copy as content_in, copy_at, copy_in, if_here}
-use Rattle.df_format.specs.CopyLaws.{IsWrittenCopy}
-use Rattle.df_format.specs.Making.{blank_header, of_kind}
-use Rattle.df_format.specs.Message.{Message}
-use Rattle.df_format.specs.Own.{place_in}
-use Rattle.df_format.specs.Rules.{HasBoot, IsSealed, ObeysBlock, ObeysKind, ObeysTrailer, ObeysVersion}
+use Rattle.std.{proofs.{Common.{◌≡◌, ◌≢◌, ◌⊎◌, inl, inr, ℕ, suc, ◌<◌, ◌%◌, ◌==◌, Bool, true, false, cond, if◌then◌else◌, List, [], ◌∷◌, map, Option, Some, None, refl, sym, ◌∙◌, ap, subst, arith}, lemmas.Bool.{cond-true, cond-false, eq-eqb, ne_eqb}, lemmas.Bool.Decides.{nat_tests}, lemmas.List.{take_all}, lemmas.Option.{same_Some}}, specs.Prelude.{All}}
+use Rattle.df_base.{specs.{Fields.{check_of, spelled}, Image.{Image, IsImage}}, proofs.Laws.{spelled-field_at}}
+use Rattle.df_layout.specs.{declared.places.Place.{Place as OfFile}, declared.places.Zone.TheVariants.{WalPrepares, ClientReplies, Grid}}
+use Rattle.df_format.{specs.{declared.header.Header.{Header}, declared.kind.Kind.{Kind}, declared.kind.Kind.TheVariants.{Prepare, Reply, Block, Trailer}, declared.superblock.SuperCopy.{SuperCopy}, declared.superblock.SuperFields.{SuperFields}, Copies.{Content, content_at, content_in_copy as content_in, copy_at, copy_in, if_here}, CopyLaws.{IsWrittenCopy}, Making.{blank_header, of_kind}, Message.{Message}, Own.{place_in}, Rules.{HasBoot, IsSealed, ObeysBlock, ObeysKind, ObeysTrailer, ObeysVersion}, Spelling.{IsCheck, no_checksum}, Super.{FitsSuper, NamesNone, covered_bytes, no_checksums}, Valid.{IsBodyOf, IsUnit}}, proofs.Laws.{is_here, made_again, shown_belongs, shown_is_unit, was_written}}
 use Rattle.df_format.specs.Shown
-use Rattle.df_format.specs.Spelling.{IsCheck, no_checksum}
-use Rattle.df_format.specs.Super.{FitsSuper, NamesNone, covered_bytes, no_checksums}
-use Rattle.df_format.specs.Valid.{IsBodyOf, IsUnit}
-use Rattle.df_format.proofs.Laws.{is_here, made_again, shown_belongs, shown_is_unit, was_written}
 use Rattle.df_theory.specs.Units.{AnyUnit, BlockPlace, CopyPlace, HeaderPlace, Place, PreparePlace, ReplyPlace}
-use Rattle.df_units.specs.Bytes.{copy_unit, message_unit, unit_at}
-use Rattle.df_units.specs.Meaning.{block_of, content_of, message_of, number_of, number_or, pin_checksum_of, reply_checksums_of, unnamed_of}
-use Rattle.df_units.proofs.Laws.{by_other, by_second, none_are, nothing_else}
+use Rattle.df_units.{specs.{Bytes.{copy_unit, message_unit, unit_at}, Meaning.{block_of, content_of, message_of, number_of, number_or, pin_checksum_of, reply_checksums_of, unnamed_of}}, proofs.Laws.{by_other, by_second, none_are, nothing_else}}
 use Rattle.df_replica.specs.Below.{DataFile, version_in}
 use Rattle.df_session.specs.Codec.{HasCodecSum, IsContentOfFile, UnitsHaveSums, codec, fields_of, group_in, sum_of_unit, trailer_header}
 

@@ -1,21 +1,8 @@
 -- A command that is rightly supplied, as far as it asks for it, answers and makes what it does over what is shown.
 use Rattle.std.proofs.Common.{◌≡◌, ℕ, ◌+◌, ◌%◌, List, length, Option, Some, None, Result, refl, ap}
 use Rattle.df_layout.specs.declared.damage.Class.{Class}
-use Rattle.df_theory.specs.Units.{Block, BlockPlace, BlockUnit, Message, PreparePlace, PrepareUnit, ReplyPlace, ReplyUnit}
-use Rattle.df_theory.specs.Shape.{Shape}
-use Rattle.df_theory.specs.UnitLog.{put_one}
-use Rattle.df_model.specs.After.{after_check, after_step_of, outcome, prepare_answer, lookup_answer, read_answer, to_check, with_group, with_live, with_prepare, with_reply}
-use Rattle.df_model.specs.Commands.{Advance, Answer, Append, Command, Flush, Given, ReadBlock, ReadPrepare, ReadReply, Reply, Scrub, ToAdvance, ToAppend, ToFlush, ToReadBlock, ToReadPrepare, ToReadReply, ToReply, ToScrub, ToWriteBlock, WriteBlock, after, as_answer, supplied_sums}
-use Rattle.df_model.specs.Making.{block_of, first_of, group_of, next_address, place_of_reply, prepare_of, reply_of}
-use Rattle.df_model.specs.Memory.{Memory, memory_of}
-use Rattle.df_model.specs.Refusals.{append_refusals, block_refusals, first_refusal, flush_refusals, reply_refusals}
-use Rattle.df_model.specs.Supply.{Codec, Shown, checksums_given, group_puts, next, puts_of, step_puts, unless}
-use Rattle.df_model.specs.Work.{Work}
-use Rattle.df_model.specs.declared.answers.Verdict.{Verdict}
-use Rattle.df_model.specs.declared.errors.AppendError.{AppendError}
-use Rattle.df_model.specs.declared.errors.BlockError.{BlockError}
-use Rattle.df_model.specs.declared.errors.FlushError.{FlushError}
-use Rattle.df_model.specs.declared.errors.ReplyError.{ReplyError}
+use Rattle.df_theory.specs.{Units.{Block, BlockPlace, BlockUnit, Message, PreparePlace, PrepareUnit, ReplyPlace, ReplyUnit}, Shape.{Shape}, UnitLog.{put_one}}
+use Rattle.df_model.specs.{After.{after_check, after_step_of, outcome, prepare_answer, lookup_answer, read_answer, to_check, with_group, with_live, with_prepare, with_reply}, Commands.{Advance, Answer, Append, Command, Flush, Given, ReadBlock, ReadPrepare, ReadReply, Reply, Scrub, ToAdvance, ToAppend, ToFlush, ToReadBlock, ToReadPrepare, ToReadReply, ToReply, ToScrub, ToWriteBlock, WriteBlock, after, as_answer, supplied_sums}, Making.{block_of, first_of, group_of, next_address, place_of_reply, prepare_of, reply_of}, Memory.{Memory, memory_of}, Refusals.{append_refusals, block_refusals, first_refusal, flush_refusals, reply_refusals}, Supply.{Codec, Shown, checksums_given, group_puts, next, puts_of, step_puts, unless}, Work.{Work}, declared.answers.Verdict.{Verdict}, declared.errors.AppendError.{AppendError}, declared.errors.BlockError.{BlockError}, declared.errors.FlushError.{FlushError}, declared.errors.ReplyError.{ReplyError}}
 use Rattle.df_session.specs.Agreeing.{AreSums, IsFoundIn}
 
 -- what is made of checksums, where a refusal makes the same of all

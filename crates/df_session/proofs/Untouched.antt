@@ -1,17 +1,9 @@
 -- What isn't written stays out of a stop's reach: the blocks of the durable checkpoint, after a call that answered or not.
-use Rattle.std.proofs.Common.{◌≡◌, inl, inr, ℕ, ◌||◌, Bool, true, false, List, [], ◌∷◌, Some, refl, sym, ◌∙◌, ap, subst}
-use Rattle.std.proofs.lemmas.Bool.{or_parts, or_from, or_cases}
-use Rattle.df_base.specs.Image.{covers}
-use Rattle.df_base.specs.Log.{Event, Log, Stop, Sync, Write, add, loose}
-use Rattle.df_base.specs.Moments.{adds}
-use Rattle.df_disk.specs.Adds.{after_all}
-use Rattle.df_disk.specs.Told.{Told, did}
-use Rattle.df_model.specs.Commands.{Advance, Command}
-use Rattle.df_model.specs.Sense.{AtEachOf, IsClearAddress}
-use Rattle.df_model.specs.Work.{Running, Work, is_captured, is_held, is_known, is_of}
-use Rattle.df_model.proofs.Laws.{some_of}
-use Rattle.df_replica.specs.Below.{DataFile}
-use Rattle.df_replica.specs.Leaving.{AreSettled, SparesHeld, WritesNext, is_durable, writes_to}
+use Rattle.std.proofs.{Common.{◌≡◌, inl, inr, ℕ, ◌||◌, Bool, true, false, List, [], ◌∷◌, Some, refl, sym, ◌∙◌, ap, subst}, lemmas.Bool.{or_parts, or_from, or_cases}}
+use Rattle.df_base.specs.{Image.{covers}, Log.{Event, Log, Stop, Sync, Write, add, loose}, Moments.{adds}}
+use Rattle.df_disk.specs.{Adds.{after_all}, Told.{Told, did}}
+use Rattle.df_model.{specs.{Commands.{Advance, Command}, Sense.{AtEachOf, IsClearAddress}, Work.{Running, Work, is_captured, is_held, is_known, is_of}}, proofs.Laws.{some_of}}
+use Rattle.df_replica.specs.{Below.{DataFile}, Leaving.{AreSettled, SparesHeld, WritesNext, is_durable, writes_to}}
 
 -- ---- tests
 

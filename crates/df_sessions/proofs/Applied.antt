@@ -1,13 +1,6 @@
 -- What a request makes of a table, where the client is known and where it is new.
-use Rattle.std.proofs.Common.{IsSome, Option, ◌≡◌, ◌≢◌, ℕ, ◌<◌, ◌⊎◌, inl, inr, Some, None, List, [], ◌∷◌, ◌++◌, length, get_or, set, arith, sym, subst, ◌∙◌, ap}
-use Rattle.std.specs.List.{position, slice_get}
-use Rattle.df_sessions.specs.declared.session.Session.{Session}
-use Rattle.df_sessions.specs.Table.{Table, IsSessionTable, IsKnownClient, has_client, requested, with_request, with_reply_stored}
-use Rattle.df_sessions.specs.Changes.{Change, changed, sessions_after}
-use Rattle.df_sessions.specs.Changes.Change.{Request, Reply}
-use Rattle.df_sessions.proofs.Kept.{request_keeps, reply_keeps}
-use Rattle.df_sessions.proofs.Noted.{one_more}
-use Rattle.df_sessions.proofs.Places.{IsFirst, first_place, request_known, request_new, place_known, place_new, reply_at, get_set_same, get_set_other, get_push_last, get_push_other}
+use Rattle.std.{proofs.Common.{IsSome, Option, ◌≡◌, ◌≢◌, ℕ, ◌<◌, ◌⊎◌, inl, inr, Some, None, List, [], ◌∷◌, ◌++◌, length, get_or, set, arith, sym, subst, ◌∙◌, ap}, specs.List.{position, slice_get}}
+use Rattle.df_sessions.{specs.{declared.session.Session.{Session}, Table.{Table, IsSessionTable, IsKnownClient, has_client, requested, with_request, with_reply_stored}, Changes.{Change, changed, sessions_after}, Changes.Change.{Request, Reply}}, proofs.{Kept.{request_keeps, reply_keeps}, Noted.{one_more}, Places.{IsFirst, first_place, request_known, request_new, place_known, place_new, reply_at, get_set_same, get_set_other, get_push_last, get_push_other}}}
 
 -- the request of a client is at this place, and nothing else has changed
 pub record HasRequest (client request op : ℕ) (old new : List Session) (place : ℕ) : Type 0 where

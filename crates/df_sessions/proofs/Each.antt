@@ -1,10 +1,6 @@
 -- What holds of each session, and the ops of the sessions.
-use Rattle.std.proofs.Common.{◌≡◌, ℕ, zero, suc, ◌<◌, Bool, false, inl, inr, Some, List, [], ◌∷◌, refl, ap, arith, IsTrue}
-use Rattle.std.specs.Prelude.{nat_eq}
-use Rattle.std.specs.List.{AllByRecursion, IsDistinct, list_all}
-use Rattle.std.proofs.lemmas.Bool.{cases_Bool, eqb-true, and_parts}
-use Rattle.df_sessions.specs.declared.session.Session.{Session}
-use Rattle.df_sessions.specs.Table.{has_client, ops_of, requested, with_request, with_reply_stored}
+use Rattle.std.{proofs.{Common.{◌≡◌, ℕ, zero, suc, ◌<◌, Bool, false, inl, inr, Some, List, [], ◌∷◌, refl, ap, arith, IsTrue}, lemmas.Bool.{cases_Bool, eqb-true, and_parts}}, specs.{Prelude.{nat_eq}, List.{AllByRecursion, IsDistinct, list_all}}}
+use Rattle.df_sessions.specs.{declared.session.Session.{Session}, Table.{has_client, ops_of, requested, with_request, with_reply_stored}}
 
 pub passes_requested : (test : Session → Bool) (client request op : ℕ) (sessions : List Session)
     → IsTrue (list_all test sessions) → IsTrue (test (requested client request op)) → IsTrue (list_all test (with_request client request op sessions))

@@ -1,13 +1,6 @@
 -- A request and a stored reply keep what is always so of a table.
-use Rattle.std.proofs.Common.{Option, Some, None, IsSome, ◌∙◌, ◌≡◌, ◌≢◌, ℕ, zero, suc, ◌+◌, ◌<◌, ◌≤◌, ◌⊎◌, inl, inr, false, List, [], ◌∷◌, length, refl, arith, ap, sym, subst}
-use Rattle.std.specs.Prelude.{nat_eq}
-use Rattle.std.specs.List.{AllByRecursion, IsDistinct, position}
-use Rattle.std.proofs.lemmas.List.{length-set}
-use Rattle.std.proofs.lemmas.Bool.{cases_Bool}
-use Rattle.std.proofs.lemmas.Bool.{eqb-true}
-use Rattle.df_sessions.specs.declared.session.Session.{Session}
-use Rattle.df_sessions.proofs.Places.{first_place, request_known}
-use Rattle.df_sessions.specs.Table.{IsSessionTable, IsKnownClient, clients_of, has_client, requested, with_request, with_reply_stored}
+use Rattle.std.{proofs.{Common.{Option, Some, None, IsSome, ◌∙◌, ◌≡◌, ◌≢◌, ℕ, zero, suc, ◌+◌, ◌<◌, ◌≤◌, ◌⊎◌, inl, inr, false, List, [], ◌∷◌, length, refl, arith, ap, sym, subst}, lemmas.List.{length-set}, lemmas.Bool.{cases_Bool, eqb-true}}, specs.{Prelude.{nat_eq}, List.{AllByRecursion, IsDistinct, position}}}
+use Rattle.df_sessions.{specs.{declared.session.Session.{Session}, Table.{IsSessionTable, IsKnownClient, clients_of, has_client, requested, with_request, with_reply_stored}}, proofs.Places.{first_place, request_known}}
 
 -- what holds of each client, and of a request's, holds after the request
 all_requested : (P : ℕ → Type 0) (client request op : ℕ) (sessions : List Session) → P client → AllByRecursion P (clients_of sessions)

@@ -1,10 +1,6 @@
 -- A list of sessions whose clients have names and differ is a table.
-use Rattle.std.proofs.Common.{◌≡◌, ◌≢◌, ℕ, suc, ◌≤◌, false, inl, inr, Some, List, [], ◌∷◌, length, refl, arith}
-use Rattle.std.specs.Prelude.{nat_eq}
-use Rattle.std.specs.List.{AllByRecursion, IsDistinct, slice_get}
-use Rattle.std.proofs.lemmas.Bool.{cases_Bool, eqb-true}
-use Rattle.df_sessions.specs.declared.session.Session.{Session}
-use Rattle.df_sessions.specs.Table.{AreDistinctClients, AreNamed, IsSessionTable, clients_of}
+use Rattle.std.{proofs.{Common.{◌≡◌, ◌≢◌, ℕ, suc, ◌≤◌, false, inl, inr, Some, List, [], ◌∷◌, length, refl, arith}, lemmas.Bool.{cases_Bool, eqb-true}}, specs.{Prelude.{nat_eq}, List.{AllByRecursion, IsDistinct, slice_get}}}
+use Rattle.df_sessions.specs.{declared.session.Session.{Session}, Table.{AreDistinctClients, AreNamed, IsSessionTable, clients_of}}
 
 named_all : (ss : List Session) → AreNamed ss → AllByRecursion (λ client. client ≢ 0) (clients_of ss)
 named_all [] named = tt

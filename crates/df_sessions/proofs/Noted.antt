@@ -1,17 +1,9 @@
 -- The table is the theory's list of sessions after the same requests, and changes in turn are one list of changes.
-use Rattle.std.proofs.Common.{◌≡◌, ℕ, zero, suc, inl, inr, List, [], ◌∷◌, ◌++◌, refl, sym, ap, ◌∙◌, length, arith, Some}
-use Rattle.std.proofs.lemmas.Bool.{cases_Bool}
-use Rattle.std.specs.List.{slice_get}
-use Rattle.std.specs.Option.{option_map}
-use Rattle.std.proofs.lemmas.Option.{slice_get-map}
+use Rattle.std.{proofs.{Common.{◌≡◌, ℕ, zero, suc, inl, inr, List, [], ◌∷◌, ◌++◌, refl, sym, ap, ◌∙◌, length, arith, Some}, lemmas.Bool.{cases_Bool}, lemmas.Option.{slice_get-map}}, specs.{List.{slice_get}, Option.{option_map}}}
 use Rattle.df_theory.specs.Units
 use Rattle.df_theory.specs.Sessions
 use Rattle.df_theory.specs.Sessions.{noted}
-use Rattle.df_sessions.specs.declared.session.Session.{Session}
-use Rattle.df_sessions.specs.Table.{has_client, with_request, with_reply_stored}
-use Rattle.df_sessions.specs.Changes.{Change, changed, changed_by}
-use Rattle.df_sessions.specs.Changes.Change.{Request, Reply}
-use Rattle.df_sessions.specs.Requests.{requests_in, requests_of, session_of, sessions_of}
+use Rattle.df_sessions.specs.{declared.session.Session.{Session}, Table.{has_client, with_request, with_reply_stored}, Changes.{Change, changed, changed_by}, Changes.Change.{Request, Reply}, Requests.{requests_in, requests_of, session_of, sessions_of}}
 
 -- changes, and then one more
 pub one_more : (changes : List Change) (change : Change) (sessions : List Session) → changed_by (changes ++ change ∷ []) sessions ≡ changed change (changed_by changes sessions)

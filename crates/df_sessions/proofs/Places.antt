@@ -1,15 +1,7 @@
 -- Where a request and a reply change the list of sessions.
-use Rattle.std.proofs.Common.{◌≡◌, ◌≢◌, ℕ, zero, suc, ◌<◌, Bool, true, false, Some, None, List, [], ◌∷◌, ◌++◌, length, get_or, set, refl, arith, rules, ap}
-use Rattle.std.specs.Prelude.{nat_lt}
-use Rattle.std.specs.List.{position, position_or_len, slice_get}
-use Rattle.std.proofs.lemmas.Bool.{eq-eqb}
-use Rattle.std.proofs.lemmas.List.{get_or-set_same, get_or-set_other, get_or_push, get_or_append_left, length-set, length_push}
-use Rattle.std.proofs.lemmas.List.Quantifiers.{position-Some}
-use Rattle.std.proofs.lemmas.List.Sums.{position_or_len_is}
-use Rattle.std.proofs.lemmas.Option.{slice_get-get_or}
+use Rattle.std.{proofs.{Common.{◌≡◌, ◌≢◌, ℕ, zero, suc, ◌<◌, Bool, true, false, Some, None, List, [], ◌∷◌, ◌++◌, length, get_or, set, refl, arith, rules, ap}, lemmas.Bool.{eq-eqb}, lemmas.List.{get_or-set_same, get_or-set_other, get_or_push, get_or_append_left, length-set, length_push}, lemmas.List.Quantifiers.{position-Some}, lemmas.List.Sums.{position_or_len_is}, lemmas.Option.{slice_get-get_or}}, specs.{Prelude.{nat_lt}, List.{position, position_or_len, slice_get}}}
 use Rattle.df_base.proofs.Laws.{none_passes}
-use Rattle.df_sessions.specs.declared.session.Session.{Session}
-use Rattle.df_sessions.specs.Table.{has_client, requested, with_request, with_reply_stored}
+use Rattle.df_sessions.specs.{declared.session.Session.{Session}, Table.{has_client, requested, with_request, with_reply_stored}}
 
 -- the first place whose element passes
 pub record IsFirst {X : Type 0} (p : X → Bool) (xs : List X) (i : ℕ) (d : X) : Type 0 where

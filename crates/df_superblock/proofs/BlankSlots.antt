@@ -1,18 +1,10 @@
 -- A blank slot is a sector of zeros, and a sector of zeros is a blank slot.
 use Rattle.std.proofs.Common.{◌≡◌, ◌∙◌, ℕ, ◌<◌, ◌==◌, Bool, true, false, cond, List, get_or, Option, Some, None, refl, sym}
 use Rattle.df_base.specs.Image.{Image}
-use Rattle.df_layout.specs.declared.damage.Class.TheVariants.{Blank, Elsewhere, Stale}
-use Rattle.df_layout.specs.declared.places.Place.{Place}
-use Rattle.df_layout.specs.declared.places.Zone.TheVariants.{Superblock}
-use Rattle.df_format.specs.Own.{place_in}
-use Rattle.df_format.specs.declared.superblock.SuperCopy.{SuperCopy}
-use Rattle.df_format.specs.Copies.{copy_in, if_here, is_blank_copy, class_of_sound, class_of_copy, copy_or_class, own_copy}
-use Rattle.df_format.proofs.Laws.{copy_is_not_blank}
-use Rattle.df_quorum.specs.declared.slot.Slot.{Slot}
-use Rattle.df_quorum.specs.declared.slot.Slot.TheVariants.{Bad}
-use Rattle.df_quorum.specs.Quorum.{nothing}
-use Rattle.df_superblock.specs.Blank.{AreBlank, IsUnformatted}
-use Rattle.df_superblock.specs.Calls.{slot_of, slot_at}
+use Rattle.df_layout.specs.{declared.damage.Class.TheVariants.{Blank, Elsewhere, Stale}, declared.places.Place.{Place}, declared.places.Zone.TheVariants.{Superblock}}
+use Rattle.df_format.{specs.{Own.{place_in}, declared.superblock.SuperCopy.{SuperCopy}, Copies.{copy_in, if_here, is_blank_copy, class_of_sound, class_of_copy, copy_or_class, own_copy}}, proofs.Laws.{copy_is_not_blank}}
+use Rattle.df_quorum.specs.{declared.slot.Slot.{Slot}, declared.slot.Slot.TheVariants.{Bad}, Quorum.{nothing}}
+use Rattle.df_superblock.specs.{Blank.{AreBlank, IsUnformatted}, Calls.{slot_of, slot_at}}
 
 test_blank : (b : Bool) (place : Place) → cond b Stale (Elsewhere place) ≡ Blank → ⊥
 test_blank true place is = cc

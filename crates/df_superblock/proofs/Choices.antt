@@ -1,10 +1,6 @@
 -- How a content is shown to be chosen, and that contents can be told apart.
-use Rattle.std.proofs.Common.{◌≡◌, ◌⊎◌, inl, inr, ℕ, ◌<◌, Bool, true, false, List, [], ◌∷◌, Option, Some, None, refl, ap, arith}
-use Rattle.std.proofs.lemmas.Bool.{cases_eq}
-use Rattle.std.proofs.lemmas.Slice.Eq.{bytes_eq-Decides}
-use Rattle.std.specs.Str.{bytes_eq}
-use Rattle.df_format.specs.Copies.{Content}
-use Rattle.df_format.specs.declared.superblock.SuperFields.{SuperFields}
+use Rattle.std.{proofs.{Common.{◌≡◌, ◌⊎◌, inl, inr, ℕ, ◌<◌, Bool, true, false, List, [], ◌∷◌, Option, Some, None, refl, ap, arith}, lemmas.Bool.{cases_eq}, lemmas.Slice.Eq.{bytes_eq-Decides}}, specs.Str.{bytes_eq}}
+use Rattle.df_format.specs.{Copies.{Content}, declared.superblock.SuperFields.{SuperFields}}
 use Rattle.df_quorum.specs.Quorum.{Copies, CopiesAgree}
 
 -- another one of two copies that agree

@@ -1,27 +1,10 @@
 -- What a repair's events make of the copies, where the disk tells its log.
-use Rattle.std.proofs.Common.{◌≡◌, inl, inr, ◌<◌, ◌≤◌, ◌+◌, ℕ, suc, Bool, true, false, IsTrue, List, [], ◌∷◌, ◌++◌, length, get_or, Option, Some, None, refl, sym, ◌∙◌, ap, subst, arith, Result, Ok, Err, IsErr, OnOk}
-use Rattle.std.proofs.lemmas.Bool.{cases_Bool}
-use Rattle.df_base.specs.Image.{IsImage}
-use Rattle.df_base.specs.Log.{Event, Write, Sync, Stop, Log, IsLog, now}
-use Rattle.df_base.proofs.Laws.{now_is_image, AtEach, at_weaker, written_else}
-use Rattle.df_disk.specs.Told.{Told, did}
-use Rattle.df_disk.specs.Adds.{Adds, AddsPart, after_all}
-use Rattle.df_format.specs.Super.{copy_bytes}
-use Rattle.df_format.specs.SuperRules.{IsUsable}
-use Rattle.df_format.specs.declared.superblock.SuperFields.{SuperFields}
-use Rattle.df_format.specs.Copies.{Content, content_at, content_with}
-use Rattle.df_quorum.specs.declared.choice.Chosen.{Chosen}
-use Rattle.df_quorum.specs.Quorum.{CopiesAgree}
-use Rattle.df_superblock.specs.Copies.{AreQuiet, AreEqual, IsChoice, Spare}
-use Rattle.df_superblock.specs.Events.{mend_events, repair_events}
-use Rattle.df_base.specs.Moments.{adds}
-use Rattle.df_superblock.specs.Calls.{KeepsMembers, KeepsUnlessMisled, RepairsUnlessMisled, EndsRepaired}
-use Rattle.df_superblock.proofs.Sights.{PutsCopy}
-use Rattle.df_disk.proofs.Laws.{adds_part, part_then, all_then, passes, tells_on, adds_failed}
-use Rattle.df_superblock.proofs.Mends.{Spares, Writes, member_spared, other_written, shown_stays, written_shows}
-use Rattle.df_superblock.proofs.Misleads.{AreOutside, KeepsChoice, each_stays}
-use Rattle.df_superblock.proofs.Puts.{copy_put, one_content}
-use Rattle.df_superblock.proofs.Written.{tells_after}
+use Rattle.std.proofs.{Common.{◌≡◌, inl, inr, ◌<◌, ◌≤◌, ◌+◌, ℕ, suc, Bool, true, false, IsTrue, List, [], ◌∷◌, ◌++◌, length, get_or, Option, Some, None, refl, sym, ◌∙◌, ap, subst, arith, Result, Ok, Err, IsErr, OnOk}, lemmas.Bool.{cases_Bool}}
+use Rattle.df_base.{specs.{Image.{IsImage}, Log.{Event, Write, Sync, Stop, Log, IsLog, now}, Moments.{adds}}, proofs.Laws.{now_is_image, AtEach, at_weaker, written_else}}
+use Rattle.df_disk.{specs.{Told.{Told, did}, Adds.{Adds, AddsPart, after_all}}, proofs.Laws.{adds_part, part_then, all_then, passes, tells_on, adds_failed}}
+use Rattle.df_format.specs.{Super.{copy_bytes}, SuperRules.{IsUsable}, declared.superblock.SuperFields.{SuperFields}, Copies.{Content, content_at, content_with}}
+use Rattle.df_quorum.specs.{declared.choice.Chosen.{Chosen}, Quorum.{CopiesAgree}}
+use Rattle.df_superblock.{specs.{Copies.{AreQuiet, AreEqual, IsChoice, Spare}, Events.{mend_events, repair_events}, Calls.{KeepsMembers, KeepsUnlessMisled, RepairsUnlessMisled, EndsRepaired}}, proofs.{Sights.{PutsCopy}, Mends.{Spares, Writes, member_spared, other_written, shown_stays, written_shows}, Misleads.{AreOutside, KeepsChoice, each_stays}, Puts.{copy_put, one_content}, Written.{tells_after}}}
 
 -- ---- members
 

@@ -1,14 +1,8 @@
 -- A repair, one copy after the other: which copies it writes, and what they show then.
-use Rattle.std.proofs.Common.{◌≡◌, ◌⊎◌, inl, inr, ℕ, zero, suc, ◌<◌, ◌≤◌, ◌+◌, Bool, true, false, List, [], ◌∷◌, length, get_or, Some, ◌∙◌, ap, subst, arith}
-use Rattle.std.proofs.lemmas.Bool.{cases_eq}
-use Rattle.df_base.specs.Image.{Image, written}
-use Rattle.df_base.specs.Log.{Write, Sync, Log, add, now}
-use Rattle.df_format.specs.Super.{copy_bytes}
-use Rattle.df_format.specs.Copies.{Content, content_at}
-use Rattle.df_format.specs.declared.superblock.SuperFields.{SuperFields}
-use Rattle.df_superblock.specs.Events.{repair_events}
-use Rattle.df_base.specs.Moments.{adds}
-use Rattle.df_superblock.proofs.Sights.{PutsCopy, seen_apart}
+use Rattle.std.proofs.{Common.{◌≡◌, ◌⊎◌, inl, inr, ℕ, zero, suc, ◌<◌, ◌≤◌, ◌+◌, Bool, true, false, List, [], ◌∷◌, length, get_or, Some, ◌∙◌, ap, subst, arith}, lemmas.Bool.{cases_eq}}
+use Rattle.df_base.specs.{Image.{Image, written}, Log.{Write, Sync, Log, add, now}, Moments.{adds}}
+use Rattle.df_format.specs.{Super.{copy_bytes}, Copies.{Content, content_at}, declared.superblock.SuperFields.{SuperFields}}
+use Rattle.df_superblock.{specs.Events.{repair_events}, proofs.Sights.{PutsCopy, seen_apart}}
 
 -- this copy isn't among those that are written, from a number on
 abbrev pub Spares : ℕ → ℕ → List Bool → Type 0

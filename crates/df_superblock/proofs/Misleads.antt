@@ -1,18 +1,9 @@
 -- A repair with no word on the history.
-use Rattle.std.proofs.Common.{◌≡◌, ◌⊎◌, inl, inr, ℕ, ◌<◌, ◌≤◌, ◌+◌, Bool, true, false, List, [], ◌∷◌, length, Some, refl, sym, ◌∙◌, ap, arith}
-use Rattle.std.proofs.lemmas.Bool.{cases_lt, cases_eq, cases_Bool}
-use Rattle.df_base.specs.Image.{Image, written}
-use Rattle.df_base.specs.Log.{Write, Sync, Log, add, loose, now}
-use Rattle.df_format.specs.Super.{copy_bytes}
-use Rattle.df_format.specs.Copies.{Content, content_at, rank_of_copy}
-use Rattle.df_format.specs.declared.superblock.SuperFields.{SuperFields}
-use Rattle.df_quorum.specs.Quorum.{Copies, CopiesAgree, IsChosenContent}
-use Rattle.df_superblock.specs.Copies.{IsMisled}
-use Rattle.df_superblock.specs.Events.{repair_events}
-use Rattle.df_quorum.proofs.Laws.{same_content as same_copy, agree_at as agree_of}
-use Rattle.df_superblock.proofs.Choices.{same_content, shows_content, partner}
-use Rattle.df_superblock.proofs.Sights.{Keeps, PutsCopy, firm_shows, loose_wrote, seen_apart}
-use Rattle.df_base.proofs.Laws.{AtEach}
+use Rattle.std.proofs.{Common.{◌≡◌, ◌⊎◌, inl, inr, ℕ, ◌<◌, ◌≤◌, ◌+◌, Bool, true, false, List, [], ◌∷◌, length, Some, refl, sym, ◌∙◌, ap, arith}, lemmas.Bool.{cases_lt, cases_eq, cases_Bool}}
+use Rattle.df_base.{specs.{Image.{Image, written}, Log.{Write, Sync, Log, add, loose, now}}, proofs.Laws.{AtEach}}
+use Rattle.df_format.specs.{Super.{copy_bytes}, Copies.{Content, content_at, rank_of_copy}, declared.superblock.SuperFields.{SuperFields}}
+use Rattle.df_quorum.{specs.Quorum.{Copies, CopiesAgree, IsChosenContent}, proofs.Laws.{same_content as same_copy, agree_at as agree_of}}
+use Rattle.df_superblock.{specs.{Copies.{IsMisled}, Events.{repair_events}}, proofs.{Choices.{same_content, shows_content, partner}, Sights.{Keeps, PutsCopy, firm_shows, loose_wrote, seen_apart}}}
 
 -- how far the copies may have come from those before the call
 pub record IsUnder (before : Copies) (log : Log) (c : Content) : Type 0 where

@@ -1,13 +1,7 @@
 -- The copies that are written are copies, and what they show is spelled in one way.
-use Rattle.std.proofs.Common.{◌≡◌, ◌<◌, ◌==◌, ℕ, Bool, true, false, List, length, Option, Some, None, refl, sym, ◌∙◌, ap, arith, if◌then◌else◌}
-use Rattle.std.proofs.lemmas.Bool.Decides.{nat_tests}
+use Rattle.std.proofs.{Common.{◌≡◌, ◌<◌, ◌==◌, ℕ, Bool, true, false, List, length, Option, Some, None, refl, sym, ◌∙◌, ap, arith, if◌then◌else◌}, lemmas.Bool.Decides.{nat_tests}}
 use Rattle.df_base.specs.Image.{Image, IsSector, covers}
-use Rattle.df_format.specs.Super.{copy_bytes}
-use Rattle.df_format.specs.SuperRules.{IsUsable}
-use Rattle.df_format.specs.declared.superblock.SuperCopy.{SuperCopy}
-use Rattle.df_format.specs.declared.superblock.SuperFields.{SuperFields}
-use Rattle.df_format.specs.Copies.{Content, content_at, content_in_copy, content_with, copy_at, copy_in, if_here}
-use Rattle.df_format.proofs.Laws.{written_copy, one_sector, one_copy_spelling}
+use Rattle.df_format.{specs.{Super.{copy_bytes}, SuperRules.{IsUsable}, declared.superblock.SuperCopy.{SuperCopy}, declared.superblock.SuperFields.{SuperFields}, Copies.{Content, content_at, content_in_copy, content_with, copy_at, copy_in, if_here}}, proofs.Laws.{written_copy, one_sector, one_copy_spelling}}
 use Rattle.df_superblock.proofs.Sights.{PutsCopy}
 
 single : (n m : ℕ) (bytes : List ℕ) → length bytes ≡ 4096 → (m ≡ n → ⊥) → covers n bytes m ≡ false

@@ -1,8 +1,6 @@
 -- What the places of the copies show after a write of one copy, and what a stop leaves of them.
 use Rattle.std.proofs.Common.{◌≡◌, ℕ, false, ◌||◌, List, Some, ap}
-use Rattle.df_base.specs.Image.{Image, covers, written}
-use Rattle.df_base.specs.Log.{Write, Log, add, loose, now}
-use Rattle.df_base.proofs.Laws.{written_else}
+use Rattle.df_base.{specs.{Image.{Image, covers, written}, Log.{Write, Log, add, loose, now}}, proofs.Laws.{written_else}}
 use Rattle.df_format.specs.Copies.{Content, content_at, content_in_copy, copy_at, copy_in, if_here}
 
 -- one sector decides what a place shows

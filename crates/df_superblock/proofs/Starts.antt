@@ -1,10 +1,6 @@
 -- A start that shows a newer copy 1, to which a repair is misled much later.
 use Rattle.std.proofs.Common.{◌≡◌, ◌⊎◌, inl, inr, ℕ, ◌<◌, ◌==◌, if◌then◌else◌, false, List, [], ◌∷◌, Some, None, refl, sym, ◌∙◌, ap, subst, arith}
-use Rattle.df_theory.specs.Units.{CopyPlace, HeaderPlace, PreparePlace, ReplyPlace, BlockPlace, Layout, Content, CopyUnit, Units}
-use Rattle.df_theory.specs.Copies.{rank_of, IsNextContent, Agree, IsChosen}
-use Rattle.df_theory.specs.UnitLog.{UnitLog, Synced, Stopped, add, now, loose, wrote, put_one}
-use Rattle.df_theory.specs.Chance.{InImages}
-use Rattle.df_theory.proofs.Laws.{same_copy, chosen_above, put_one_law, four}
+use Rattle.df_theory.{specs.{Units.{CopyPlace, HeaderPlace, PreparePlace, ReplyPlace, BlockPlace, Layout, Content, CopyUnit, Units}, Copies.{rank_of, IsNextContent, Agree, IsChosen}, UnitLog.{UnitLog, Synced, Stopped, add, now, loose, wrote, put_one}, Chance.{InImages}}, proofs.Laws.{same_copy, chosen_above, put_one_law, four}}
 use Rattle.df_superblock.specs.Misleading.{GrowFrom, KnowsCopies, MayLeaveCopies, MisleadsLaw}
 
 abbrev layout : Layout

@@ -2,16 +2,10 @@
 use Rattle.std.proofs.Common.{ℕ, ◌+◌, ◌<◌, ◌≤◌, Bool, true, false, List, [], ◌∷◌, length, arith}
 use Rattle.df_base.specs.Log.{Sync}
 use Rattle.df_layout.specs.declared.layout.Layout.{Layout}
-use Rattle.df_format.specs.declared.superblock.SuperFields.{SuperFields}
-use Rattle.df_format.specs.SuperRules.{IsUsable}
-use Rattle.df_theory.specs.MendLaws.{copy_steps}
-use Rattle.df_theory.specs.Device.{AreSteps}
-use Rattle.df_theory.specs.CopyPuts.{update_steps}
-use Rattle.df_units.specs.Puts.{put_copies}
-use Rattle.df_units.specs.Format.{format_of}
-use Rattle.df_units.proofs.Laws.{copy_put}
-use Rattle.df_superblock.specs.Events.{copy_written, repair_events, update_events}
-use Rattle.df_superblock.specs.Steps.{AreStepsOfCopies, copy_write_steps, repair_steps, repaired}
+use Rattle.df_format.specs.{declared.superblock.SuperFields.{SuperFields}, SuperRules.{IsUsable}}
+use Rattle.df_theory.specs.{MendLaws.{copy_steps}, Device.{AreSteps}, CopyPuts.{update_steps}}
+use Rattle.df_units.{specs.{Puts.{put_copies}, Format.{format_of}}, proofs.Laws.{copy_put}}
+use Rattle.df_superblock.specs.{Events.{copy_written, repair_events, update_events}, Steps.{AreStepsOfCopies, copy_write_steps, repair_steps, repaired}}
 
 pub write_is_steps : (number : ℕ) (f : SuperFields) → number < 4 → IsUsable f → AreStepsOfCopies (copy_written number f ∷ Sync ∷ []) (copy_write_steps number f)
 write_is_steps number f small is layout cluster = (copy_put layout cluster number f small is, tt)

@@ -1,16 +1,9 @@
 -- An update of four equal copies, step by step.
-use Rattle.std.proofs.Common.{◌≡◌, ◌⊎◌, inl, inr, ℕ, ◌<◌, ◌≤◌, ◌+◌, ◌||◌, false, List, [], ◌∷◌, ◌++◌, Some, refl, sym, ◌∙◌, ap, subst, arith}
-use Rattle.std.proofs.lemmas.Bool.{cases_eq, cases_lt}
-use Rattle.df_base.specs.Image.{Image, written}
-use Rattle.df_base.specs.Log.{Event, Write, Sync, Stop, Log, add, loose, loose_of, now, now_of}
-use Rattle.df_base.specs.Moments.{Extends}
+use Rattle.std.proofs.{Common.{◌≡◌, ◌⊎◌, inl, inr, ℕ, ◌<◌, ◌≤◌, ◌+◌, ◌||◌, false, List, [], ◌∷◌, ◌++◌, Some, refl, sym, ◌∙◌, ap, subst, arith}, lemmas.Bool.{cases_eq, cases_lt}}
+use Rattle.df_base.{specs.{Image.{Image, written}, Log.{Event, Write, Sync, Stop, Log, add, loose, loose_of, now, now_of}, Moments.{Extends}}, proofs.Laws.{AtEach}}
 use Rattle.df_format.specs.Copies.{Content, content_at, rank_of_copy}
-use Rattle.df_quorum.specs.Quorum.{Copies, CopiesAgree, IsChosenContent}
-use Rattle.df_superblock.specs.Copies.{AreQuiet, AreEqual, OfEither, Spare, IsOldOrNew}
-use Rattle.df_quorum.proofs.Laws.{same_content as same_copy, chosen_above}
-use Rattle.df_superblock.proofs.Choices.{shows_content}
-use Rattle.df_superblock.proofs.Sights.{Keeps, PutsCopy, firm_shows, loose_wrote, seen_apart}
-use Rattle.df_base.proofs.Laws.{AtEach}
+use Rattle.df_quorum.{specs.Quorum.{Copies, CopiesAgree, IsChosenContent}, proofs.Laws.{same_content as same_copy, chosen_above}}
+use Rattle.df_superblock.{specs.Copies.{AreQuiet, AreEqual, OfEither, Spare, IsOldOrNew}, proofs.{Choices.{shows_content}, Sights.{Keeps, PutsCopy, firm_shows, loose_wrote, seen_apart}}}
 
 -- ---- the choice among copies of which the first i are new, the next one is any, and the others are old
 

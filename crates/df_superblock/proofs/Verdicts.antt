@@ -1,17 +1,10 @@
 -- What slots that were read say of the copies, and what an update answers of them.
-use Rattle.std.proofs.Common.{◌≡◌, inl, inr, ◌<◌, ◌≤◌, ◌+◌, ◌/◌, ◌==◌, if◌then◌else◌, ◌↔◌, ℕ, zero, suc, Bool, true, false, IsTrue, List, [], ◌∷◌, ◌++◌, length, take, drop, get_or, Option, Some, None, refl, sym, ◌∙◌, ap, subst, arith, Result, Ok, Err, OnOk}
-use Rattle.std.proofs.lemmas.Bool.{cases_lt, eq-eqb}
-use Rattle.std.proofs.lemmas.List.{append-nil}
-use Rattle.std.proofs.Math.Seq.{take-append_seam}
+use Rattle.std.proofs.{Common.{◌≡◌, inl, inr, ◌<◌, ◌≤◌, ◌+◌, ◌/◌, ◌==◌, if◌then◌else◌, ◌↔◌, ℕ, zero, suc, Bool, true, false, IsTrue, List, [], ◌∷◌, ◌++◌, length, take, drop, get_or, Option, Some, None, refl, sym, ◌∙◌, ap, subst, arith, Result, Ok, Err, OnOk}, lemmas.Bool.{cases_lt, eq-eqb}, lemmas.List.{append-nil}, Math.Seq.{take-append_seam}}
 use Rattle.df_base.specs.Image.{Image, bytes_at}
 use Rattle.df_disk.specs.Told.{Told, Shows}
 use Rattle.df_layout.specs.declared.damage.Class.{Class}
-use Rattle.df_format.specs.declared.superblock.SuperCopy.{SuperCopy}
-use Rattle.df_format.specs.declared.superblock.SuperFields.{SuperFields}
-use Rattle.df_format.specs.Copies.{Content, content_at, content_in_copy, copy_at, copy_in, copy_or_class, class_of_copy, if_here, own_copy}
-use Rattle.df_quorum.specs.declared.slot.Slot.{Slot}
-use Rattle.df_quorum.specs.declared.slot.Slot.TheVariants.{Sound}
-use Rattle.df_quorum.specs.Quorum.{copy_of, nothing}
+use Rattle.df_format.specs.{declared.superblock.SuperCopy.{SuperCopy}, declared.superblock.SuperFields.{SuperFields}, Copies.{Content, content_at, content_in_copy, copy_at, copy_in, copy_or_class, class_of_copy, if_here, own_copy}}
+use Rattle.df_quorum.specs.{declared.slot.Slot.{Slot}, declared.slot.Slot.TheVariants.{Sound}, Quorum.{copy_of, nothing}}
 use Rattle.df_superblock.specs.Calls.{slot_of, slot_at, ShowsSector, ShowsCopySlot, ShowsSlots, ShowsCopies, SlotHolds, IsCopyRead, AreEnough, IsFirstMissing}
 
 -- a copy that belongs here belongs here

@@ -1,22 +1,9 @@
 -- What an update's events make of the copies, where the disk tells its log.
 use Rattle.std.proofs.Common.{◌≡◌, ◌<◌, ◌+◌, ℕ, zero, suc, Bool, false, List, [], ◌∷◌, get_or, Option, Some, None, refl, sym, ◌∙◌, ap, subst, arith, Result, Ok, Err, OnOk}
-use Rattle.df_base.specs.Image.{Image}
-use Rattle.df_base.specs.Log.{Event, Write, Log, add, after_event, now}
-use Rattle.df_disk.specs.Told.{Told, did}
-use Rattle.df_disk.specs.Adds.{Adds, after_all}
-use Rattle.df_format.specs.Super.{copy_bytes}
-use Rattle.df_format.specs.SuperRules.{IsUsable}
-use Rattle.df_format.specs.declared.superblock.SuperFields.{SuperFields}
-use Rattle.df_format.specs.Copies.{Content, content_with}
-use Rattle.df_superblock.specs.Copies.{AreEqual, IsOldOrNew, MayUpdate}
-use Rattle.df_superblock.specs.Events.{update_events}
-use Rattle.df_base.specs.Moments.{adds}
-use Rattle.df_superblock.specs.Calls.{UpdatesSafely, TellsLog, ShowsEqual, EndsEqual}
-use Rattle.df_base.proofs.Laws.{AtEach}
-use Rattle.df_disk.proofs.Laws.{passes, told_log, none_after}
-use Rattle.df_superblock.proofs.Turns.{IsAt, at_turn, wrote_turn, synced_at, turn_moment, each_turn}
-use Rattle.df_superblock.proofs.Mends.{Writes, other_written, written_shows}
-use Rattle.df_superblock.proofs.Puts.{copy_put}
+use Rattle.df_base.{specs.{Image.{Image}, Log.{Event, Write, Log, add, after_event, now}, Moments.{adds}}, proofs.Laws.{AtEach}}
+use Rattle.df_disk.{specs.{Told.{Told, did}, Adds.{Adds, after_all}}, proofs.Laws.{passes, told_log, none_after}}
+use Rattle.df_format.specs.{Super.{copy_bytes}, SuperRules.{IsUsable}, declared.superblock.SuperFields.{SuperFields}, Copies.{Content, content_with}}
+use Rattle.df_superblock.{specs.{Copies.{AreEqual, IsOldOrNew, MayUpdate}, Events.{update_events}, Calls.{UpdatesSafely, TellsLog, ShowsEqual, EndsEqual}}, proofs.{Turns.{IsAt, at_turn, wrote_turn, synced_at, turn_moment, each_turn}, Mends.{Writes, other_written, written_shows}, Puts.{copy_put}}}
 
 -- ---- moments
 

@@ -1,18 +1,11 @@
 -- What an opening finds over what a disk shows it finds over all that no command tells apart from it.
-use Rattle.std.proofs.Common.{◌≡◌, inl, inr, ℕ, zero, suc, ◌+◌, ◌<◌, ◌≤◌, ◌%◌, List, [], ◌∷◌, ◌++◌, Option, Some, None, Result, refl, sym, ◌∙◌, ap, subst, arith}
-use Rattle.std.specs.List.{range_with_len}
-use Rattle.df_layout.specs.declared.damage.Class.{Class}
-use Rattle.df_layout.specs.declared.layout.Layout.{Layout}
+use Rattle.std.{proofs.Common.{◌≡◌, inl, inr, ℕ, zero, suc, ◌+◌, ◌<◌, ◌≤◌, ◌%◌, List, [], ◌∷◌, ◌++◌, Option, Some, None, Result, refl, sym, ◌∙◌, ap, subst, arith}, specs.List.{range_with_len}}
+use Rattle.df_layout.specs.{declared.damage.Class.{Class}, declared.layout.Layout.{Layout}}
 use Rattle.df_theory.specs.Units.{AnyUnit, BlockPlace, Message, Place, PreparePlace}
-use Rattle.df_model.specs.Blocks.{entries, entry, sum_at}
-use Rattle.df_model.specs.Commands.{ReadBlock, ReadPrepare}
-use Rattle.df_model.specs.Memory.{Memory, prepare_sum}
-use Rattle.df_model.specs.Supply.{Shown, block_given, block_read, class_at, class_or, message_given, no_trailer, prepare_given}
+use Rattle.df_model.specs.{Blocks.{entries, entry, sum_at}, Commands.{ReadBlock, ReadPrepare}, Memory.{Memory, prepare_sum}, Supply.{Shown, block_given, block_read, class_at, class_or, message_given, no_trailer, prepare_given}}
 use Rattle.df_rows.specs.Tables.{Table}
-use Rattle.df_session.specs.Agreeing.{AgreeShown}
-use Rattle.df_session.specs.Leaving.{IsReadPlace}
-use Rattle.df_table.specs.declared.ending.Ending.{Ending}
-use Rattle.df_table.specs.Opening.{AreFollowed, ArePrepares, AreReadBlocks, AreTakenBlocks, BlockHurt, FindsOf, FindsTable, Found, OtherBlock, OtherClient, OtherPrepare, PrepareHurt}
+use Rattle.df_session.specs.{Agreeing.{AgreeShown}, Leaving.{IsReadPlace}}
+use Rattle.df_table.specs.{declared.ending.Ending.{Ending}, Opening.{AreFollowed, ArePrepares, AreReadBlocks, AreTakenBlocks, BlockHurt, FindsOf, FindsTable, Found, OtherBlock, OtherClient, OtherPrepare, PrepareHurt}}
 
 -- each address is one of the grid
 abbrev pub AreInside : Layout → List (ℕ × ℕ) → Type 0

@@ -1,16 +1,11 @@
 -- The client's next request is that of the first session.
-use Rattle.std.proofs.Common.{◌≡◌, ◌≤◌, ◌+◌, ◌^◌, ℕ, List, [], ◌∷◌, map, Some, None, refl, sym, ◌∙◌, ap, subst}
-use Rattle.std.specs.List.{slice_get}
-use Rattle.std.proofs.lemmas.Option.{none-some}
+use Rattle.std.{proofs.{Common.{◌≡◌, ◌≤◌, ◌+◌, ◌^◌, ℕ, List, [], ◌∷◌, map, Some, None, refl, sym, ◌∙◌, ap, subst}, lemmas.Option.{none-some}}, specs.List.{slice_get}}
 use Rattle.df_sessions.specs.declared.session.Session as told
 use Rattle.df_sessions.specs.Requests.{session_of}
-use Rattle.df_model.specs.Memory.{Memory}
-use Rattle.df_model.specs.Refusals.{next_request, session_of_client}
+use Rattle.df_model.specs.{Memory.{Memory}, Refusals.{next_request, session_of_client}}
 use Rattle.df_session.specs.Below.{State as Replica, memory}
 use Rattle.df_layout.specs.declared.layout.Layout.{Layout}
-use Rattle.df_table.specs.Policy.{the_client}
-use Rattle.df_table.specs.Ready.{IsReadyReplica}
-use Rattle.df_table.proofs.Fine.{own_session}
+use Rattle.df_table.{specs.{Policy.{the_client}, Ready.{IsReadyReplica}}, proofs.Fine.{own_session}}
 
 first_some : (ss : List told.Session) (x : told.Session) → slice_get ss 0 ≡ Some x → slice_get (map session_of ss) 0 ≡ Some (session_of x)
 first_some [] x is = absurd (none-some x is)

@@ -1,28 +1,12 @@
 -- The commands of a line, and of an opening: what was asked for of them, and which puts and drops are among them.
-use Rattle.std.proofs.Common.{◌≡◌, ◌⊎◌, inl, inr, ℕ, zero, suc, Bool, true, false, if◌then◌else◌, List, [], ◌∷◌, ◌++◌, map, Option, Some, None, Ok, refl, sym, subst}
-use Rattle.std.specs.Prelude.{All, replicate}
-use Rattle.std.proofs.lemmas.List.Elements.{All-head, All-tail}
+use Rattle.std.{proofs.{Common.{◌≡◌, ◌⊎◌, inl, inr, ℕ, zero, suc, Bool, true, false, if◌then◌else◌, List, [], ◌∷◌, ◌++◌, map, Option, Some, None, Ok, refl, sym, subst}, lemmas.List.Elements.{All-head, All-tail}}, specs.Prelude.{All, replicate}}
 use Rattle.df_disk.specs.Told.{Told}
 use Rattle.df_layout.specs.declared.layout.Layout.{Layout}
-use Rattle.df_model.specs.Commands.{Advance, Answer, Append, Begin, Command, Flush, ReadBlock, ReadPrepare, ReadReply, Recent, Release, Reply, Scrub, Stage, ToAppend, WriteBlock}
-use Rattle.df_model.specs.Memory.{Memory}
-use Rattle.df_rows.specs.declared.command.Command.{Command as Change}
+use Rattle.df_model.specs.{Commands.{Advance, Answer, Append, Begin, Command, Flush, ReadBlock, ReadPrepare, ReadReply, Recent, Release, Reply, Scrub, Stage, ToAppend, WriteBlock}, Memory.{Memory}}
+use Rattle.df_rows.specs.{declared.command.Command.{Command as Change}, declared.refusal.Refusal.{Refusal}, Answers.{refusal_of}, Commands.{IsCommand, Map, body_of}, Grammar.{Count, Drop, Get, Put, Said}, Lines.{accepted, asked_by_line, line_in, unless_refused}, Tables.{CanApply, Table}}
 use Rattle.df_rows.specs.declared.command.Command.TheVariants as commands
-use Rattle.df_rows.specs.declared.refusal.Refusal.{Refusal}
-use Rattle.df_rows.specs.Answers.{refusal_of}
-use Rattle.df_rows.specs.Commands.{IsCommand, Map, body_of}
-use Rattle.df_rows.specs.Grammar.{Count, Drop, Get, Put, Said}
-use Rattle.df_rows.specs.Lines.{accepted, asked_by_line, line_in, unless_refused}
-use Rattle.df_rows.specs.Tables.{CanApply, Table}
-use Rattle.df_session.specs.Below.{State as Replica}
-use Rattle.df_session.specs.Links.{list_of}
-use Rattle.df_session.specs.Session.{Act, Exchange, acts_in, command_in}
-use Rattle.df_table.specs.declared.ending.Ending.{Ending}
-use Rattle.df_table.specs.Keeping.{AreChanges, AreClients, Changes, IsClients, IsPending}
-use Rattle.df_table.specs.Policy.{block_reads, checkpoint, line_commands, opening, prepare_reads, releases, replies, request, room_for, the_client, writes}
-use Rattle.df_table.specs.Turns.{AreAccepted, AreFit, EndIn, WasAccepted}
-use Rattle.df_table.proofs.Executed.{put_may}
-use Rattle.df_table.proofs.Walked.{ArePlain, Asks, IsNext}
+use Rattle.df_session.specs.{Below.{State as Replica}, Links.{list_of}, Session.{Act, Exchange, acts_in, command_in}}
+use Rattle.df_table.{specs.{declared.ending.Ending.{Ending}, Keeping.{AreChanges, AreClients, Changes, IsClients, IsPending}, Policy.{block_reads, checkpoint, line_commands, opening, prepare_reads, releases, replies, request, room_for, the_client, writes}, Turns.{AreAccepted, AreFit, EndIn, WasAccepted}}, proofs.{Executed.{put_may}, Walked.{ArePlain, Asks, IsNext}}}
 
 -- ---- what was made of commands is what they ask for
 

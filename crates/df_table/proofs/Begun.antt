@@ -1,38 +1,15 @@
 -- What an open of a file leaves, as far as the opening of its table looks at it, and what the opening leaves.
-use Rattle.std.proofs.Common.{◌≡◌, ℕ, ◌+◌, ◌-◌, ◌*◌, ◌<◌, ◌≤◌, ◌==◌, not, Bool, true, false, List, [], ◌∷◌, length, Option, None, refl, sym, ◌∙◌, ap, subst, arith, append-nil, eq-eqb, eqb-true, ne_eqb, le-ltb, Result, Ok, Err}
-use Rattle.std.proofs.lemmas.List.{length-map}
-use Rattle.std.proofs.lemmas.Option.{slice_get_within}
-use Rattle.std.proofs.lemmas.Bool.{eqb-false}
-use Rattle.std.specs.Prelude.{OnOk}
-use Rattle.std.specs.List.{range_with_len}
+use Rattle.std.{proofs.{Common.{◌≡◌, ℕ, ◌+◌, ◌-◌, ◌*◌, ◌<◌, ◌≤◌, ◌==◌, not, Bool, true, false, List, [], ◌∷◌, length, Option, None, refl, sym, ◌∙◌, ap, subst, arith, append-nil, eq-eqb, eqb-true, ne_eqb, le-ltb, Result, Ok, Err}, lemmas.List.{length-map}, lemmas.Option.{slice_get_within}, lemmas.Bool.{eqb-false}}, specs.{Prelude.{OnOk}, List.{range_with_len}}}
 use Rattle.df_disk.specs.Told.{Told}
 use Rattle.df_format.specs.declared.header.Header.{Header}
 use Rattle.df_layout.specs.declared.layout.Layout.{Layout}
-use Rattle.df_sessions.specs.Requests.{sessions_of}
-use Rattle.df_theory.specs.Units.{Block, Content}
-use Rattle.df_theory.specs.Trailer.{IsReference, Links, greatest_trailer}
+use Rattle.df_sessions.{specs.Requests.{sessions_of}, proofs.Laws.{reply_unnoted}}
+use Rattle.df_theory.specs.{Units.{Block, Content}, Trailer.{IsReference, Links, greatest_trailer}}
 use Rattle.df_units.specs.Meaning.{layout_of}
-use Rattle.df_model.specs.Blocks.{Blocks, addresses, entries, pair_of}
-use Rattle.df_model.specs.Memory.{Memory, course_of}
-use Rattle.df_model.specs.Refusals.{first_refusal, reply_refusals}
-use Rattle.df_model.specs.Supply.{Shown}
-use Rattle.df_model.specs.Work.{Work}
-use Rattle.df_model.proofs.Laws.{pass_all}
-use Rattle.df_sessions.proofs.Laws.{reply_unnoted}
-use Rattle.df_session.specs.Replying.{with_stored_reply}
-use Rattle.df_rows.specs.Limits.{blocks_of_table}
-use Rattle.df_rows.specs.Tables.{Table}
-use Rattle.df_session.specs.Below.{DataFile, State as Replica, memory, shape, spelling}
-use Rattle.df_session.specs.Serving.{Firm, Keeps}
-use Rattle.df_table.specs.Opening.{AreTakenBlocks, NoneIsOther}
-use Rattle.df_table.specs.Policy.{opening, the_client}
-use Rattle.df_table.specs.Ready.{HasCaughtUp, IsBegun, IsReadyReplica, places}
-use Rattle.df_table.proofs.Fine.{AreOwn}
-use Rattle.df_table.proofs.Finished.{idle_runs, no_running}
-use Rattle.df_table.proofs.Needed.{few_linked}
-use Rattle.df_table.proofs.Stored.{makes_keep}
-use Rattle.df_table.specs.declared.ending.Ending.{Ending}
-use Rattle.df_table.specs.Calls.{Comes}
+use Rattle.df_model.{specs.{Blocks.{Blocks, addresses, entries, pair_of}, Memory.{Memory, course_of}, Refusals.{first_refusal, reply_refusals}, Supply.{Shown}, Work.{Work}}, proofs.Laws.{pass_all}}
+use Rattle.df_session.specs.{Replying.{with_stored_reply}, Below.{DataFile, State as Replica, memory, shape, spelling}, Serving.{Firm, Keeps}}
+use Rattle.df_rows.specs.{Limits.{blocks_of_table}, Tables.{Table}}
+use Rattle.df_table.{specs.{Opening.{AreTakenBlocks, NoneIsOther}, Policy.{opening, the_client}, Ready.{HasCaughtUp, IsBegun, IsReadyReplica, places}, declared.ending.Ending.{Ending}, Calls.{Comes}}, proofs.{Fine.{AreOwn}, Finished.{idle_runs, no_running}, Needed.{few_linked}, Stored.{makes_keep}}}
 
 -- the live blocks, as a map's entries
 pub begun_entries : (layout : Layout) (w : Work) (s : Replica) → IsBegun layout w s → s.blocks.live ≡ entries w.live (range_with_len 1 layout.blocks)

@@ -1,34 +1,15 @@
 -- After a line the table has no more rows than it may, and the session may take the next line.
-use Rattle.std.proofs.Common.{◌≡◌, inl, inr, ℕ, ◌+◌, ◌-◌, ◌*◌, ◌<◌, ◌≤◌, Bool, true, false, IsTrue, List, [], ◌∷◌, length, Option, Some, None, Ok, Err, cond, refl, sym, ◌∙◌, ap, subst, arith}
+use Rattle.std.{proofs.Common.{◌≡◌, inl, inr, ℕ, ◌+◌, ◌-◌, ◌*◌, ◌<◌, ◌≤◌, Bool, true, false, IsTrue, List, [], ◌∷◌, length, Option, Some, None, Ok, Err, cond, refl, sym, ◌∙◌, ap, subst, arith}, specs.{FinMap.{len-insert, len-remove}, Cmp.{nat_cmp_total}}}
 use Rattle.std.specs.FinMap as map
-use Rattle.std.specs.FinMap.{len-insert, len-remove}
-use Rattle.std.specs.Cmp.{nat_cmp_total}
 use Rattle.df_disk.specs.Told.{Told}
 use Rattle.df_layout.specs.declared.layout.Layout.{Layout}
 use Rattle.df_lines.specs.Room.{IsAtEnd, ReaderParts}
 use Rattle.df_rows.specs.declared.line.Line.TheVariants as lines
-use Rattle.df_rows.specs.declared.refusal.Refusal.{Refusal}
-use Rattle.df_rows.specs.Answers.{refusal_of}
-use Rattle.df_rows.specs.Grammar.{Count, Drop, Get, Put, Said}
-use Rattle.df_rows.specs.Commands.{IsCommand}
-use Rattle.df_rows.specs.Limits.{most_rows, rows_in_block}
-use Rattle.df_rows.specs.Lines.{accepted, line_of_turn, table_after, unless_refused}
-use Rattle.df_rows.specs.Tables.{HasRoom, Table, with_command, with_commands}
-use Rattle.df_rows.specs.declared.command.Command.{Command}
+use Rattle.df_rows.specs.{declared.refusal.Refusal.{Refusal}, Answers.{refusal_of}, Grammar.{Count, Drop, Get, Put, Said}, Commands.{IsCommand}, Limits.{most_rows, rows_in_block}, Lines.{accepted, line_of_turn, table_after, unless_refused}, Tables.{HasRoom, Table, with_command, with_commands}, declared.command.Command.{Command}}
 use Rattle.df_rows.specs.declared.command.Command.TheVariants as commands
-use Rattle.df_table.specs.declared.ending.Ending.{Ending}
-use Rattle.df_table.specs.declared.session.Session.{Session}
-use Rattle.df_table.specs.declared.status.Status.{Status}
-use Rattle.df_table.specs.Outside.{Step}
+use Rattle.df_table.{specs.{declared.ending.Ending.{Ending}, declared.session.Session.{Session}, declared.status.Status.{Status}, Outside.{Step, WritesTableText}, Calls.{IsChanged}, Ready.{IsReadyReplica, IsSteady, LeavesScript}, Serving.{ExecutesLine, IsReadyForNext, IsServing, OnGoing, TellsLine}, Statuses.{ending_text, status_of}}, proofs.{Blamed.{on_going, tells_line, told_line}, Executed.{changed_answers, changed_ends, get_none, put_may, told_answers}}}
 use Rattle.df_program.specs.declared.turn.Turn.TheVariants.{Ends, GoesOn as Goes}
 use Rattle.df_session.specs.Below.{State as Replica}
-use Rattle.df_table.specs.Calls.{IsChanged}
-use Rattle.df_table.specs.Outside.{WritesTableText}
-use Rattle.df_table.specs.Ready.{IsReadyReplica, IsSteady, LeavesScript}
-use Rattle.df_table.specs.Serving.{ExecutesLine, IsReadyForNext, IsServing, OnGoing, TellsLine}
-use Rattle.df_table.specs.Statuses.{ending_text, status_of}
-use Rattle.df_table.proofs.Blamed.{on_going, tells_line, told_line}
-use Rattle.df_table.proofs.Executed.{changed_answers, changed_ends, get_none, put_may, told_answers}
 
 -- ---- rows
 

@@ -1,16 +1,8 @@
 -- Which count a turn raises: that of what ended it, and no other.
 use Rattle.std.proofs.Common.{◌≡◌, inl, inr, ℕ, List, Option, refl, sym, ◌∙◌, subst}
 use Rattle.df_base.specs.Causes.{Blamed}
-use Rattle.df_program.proofs.Laws.{no_blame, text_ends}
-use Rattle.df_table.specs.declared.ending.Ending.{Ending}
-use Rattle.df_table.specs.declared.ending.Ending.TheVariants.{Disk, Damaged, NotTable, OpsSpent, SequenceSpent}
-use Rattle.df_table.specs.declared.status.Status.{Status}
-use Rattle.df_table.specs.declared.status.Status.TheVariants.{DiskFault, Memory, ReadFault, Refused, Words, WriteFault}
-use Rattle.df_table.specs.Outside.{Step}
-use Rattle.df_program.specs.declared.turn.Turn.TheVariants.{Ends, GoesOn as Goes}
-use Rattle.df_table.specs.Outside.{Blames, EndsWithFile, WritesTableText}
-use Rattle.df_table.specs.Serving.{BlamesIfEnds, EndsLine, EndsTurn, OnGoing, TellsLine}
-use Rattle.df_table.specs.Statuses.{ending_text, is_disk, status_of}
+use Rattle.df_program.{proofs.Laws.{no_blame, text_ends}, specs.declared.turn.Turn.TheVariants.{Ends, GoesOn as Goes}}
+use Rattle.df_table.specs.{declared.ending.Ending.{Ending}, declared.ending.Ending.TheVariants.{Disk, Damaged, NotTable, OpsSpent, SequenceSpent}, declared.status.Status.{Status}, declared.status.Status.TheVariants.{DiskFault, Memory, ReadFault, Refused, Words, WriteFault}, Outside.{Step, Blames, EndsWithFile, WritesTableText}, Serving.{BlamesIfEnds, EndsLine, EndsTurn, OnGoing, TellsLine}, Statuses.{ending_text, is_disk, status_of}}
 
 -- what holds holds where the session goes on
 pub on_going : (turn : Step) (P : Type 0) → P → OnGoing turn P

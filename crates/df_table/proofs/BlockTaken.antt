@@ -1,31 +1,14 @@
 -- A live block that is read: the call that was made, and what the opening finds by it.
-use Rattle.std.proofs.Common.{◌≡◌, inl, inr, ℕ, Bool, true, not, List, [], ◌∷◌, Option, Some, None, refl, sym, ◌∙◌, ap, subst, Result, Ok, Err}
-use Rattle.std.proofs.lemmas.Option.{none-some}
+use Rattle.std.proofs.{Common.{◌≡◌, inl, inr, ℕ, Bool, true, not, List, [], ◌∷◌, Option, Some, None, refl, sym, ◌∙◌, ap, subst, Result, Ok, Err}, lemmas.Option.{none-some}}
 use Rattle.df_base.specs.Causes.{Blamed}
 use Rattle.df_disk.specs.Told.{Told}
 use Rattle.df_theory.specs.Units.{Block}
-use Rattle.df_model.specs.Blocks.{sum_at}
-use Rattle.df_model.specs.Commands.{ReadBlock, ToReadBlock}
-use Rattle.df_model.specs.Faults.{is_read_fault}
-use Rattle.df_model.specs.Refusals.{first_refusal}
-use Rattle.df_model.specs.Supply.{block_read}
-use Rattle.df_model.specs.Work.{is_known}
-use Rattle.df_model.specs.declared.reading.ReadError.{ReadError}
+use Rattle.df_model.specs.{Blocks.{sum_at}, Commands.{ReadBlock, ToReadBlock}, Faults.{is_read_fault}, Refusals.{first_refusal}, Supply.{block_read}, Work.{is_known}, declared.reading.ReadError.{ReadError}}
 use Rattle.df_model.specs.declared.reading.ReadError.TheVariants as read
 use Rattle.df_rows.specs.Tables.{Table}
-use Rattle.df_session.specs.Answering.{ServesBlockRead, answer_of}
-use Rattle.df_session.specs.Below.{State as Replica, memory}
-use Rattle.df_session.specs.BlockReads.{IsBlockFound, IsReadBlock, what_block}
-use Rattle.df_session.specs.Reading.{shown_of}
+use Rattle.df_session.{specs.{Answering.{ServesBlockRead, answer_of}, Below.{State as Replica, memory}, BlockReads.{IsBlockFound, IsReadBlock, what_block}, Reading.{shown_of}}, proofs.Laws.{reads_block}}
 use Rattle.df_session.specs.declared.hearing.Fault.TheVariants as faults
-use Rattle.df_session.proofs.Laws.{reads_block}
-use Rattle.df_table.specs.declared.ending.Ending.{Ending}
-use Rattle.df_table.specs.declared.ending.Ending.TheVariants.{Damaged}
-use Rattle.df_table.specs.Calls.{Comes}
-use Rattle.df_table.specs.Opening.{GivesRows, LacksRows, ReadsTableBlock, TakesRows, block_ending}
-use Rattle.df_table.specs.Statuses.{is_disk}
-use Rattle.df_table.proofs.BodyTaken.{body_comes, by_body}
-use Rattle.df_table.proofs.Joined.{one_failed, one_spent}
+use Rattle.df_table.{specs.{declared.ending.Ending.{Ending}, declared.ending.Ending.TheVariants.{Damaged}, Calls.{Comes}, Opening.{GivesRows, LacksRows, ReadsTableBlock, TakesRows, block_ending}, Statuses.{is_disk}}, proofs.{BodyTaken.{body_comes, by_body}, Joined.{one_failed, one_spent}}}
 
 -- ---- the call
 

@@ -4,15 +4,8 @@ use Rattle.df_base.specs.Causes.{IsBlamed}
 use Rattle.df_disk.specs.Told.{Told}
 use Rattle.df_layout.specs.declared.places.Place.{Place}
 use Rattle.df_model.specs.Commands.{Answer, Command}
-use Rattle.df_session.specs.Below.{State as Replica}
-use Rattle.df_session.specs.Links.{Makes}
-use Rattle.df_table.specs.declared.ending.Ending.{Ending}
-use Rattle.df_table.specs.declared.ending.Ending.TheVariants.{NotTable}
-use Rattle.df_table.specs.Calls.{Comes}
-use Rattle.df_table.specs.Opening.{TakesBody}
-use Rattle.df_table.specs.Statuses.{is_disk}
-use Rattle.df_table.specs.Turns.{IsAccepted}
-use Rattle.df_table.proofs.Joined.{one_made, one_spent}
+use Rattle.df_session.specs.{Below.{State as Replica}, Links.{Makes}}
+use Rattle.df_table.{specs.{declared.ending.Ending.{Ending}, declared.ending.Ending.TheVariants.{NotTable}, Calls.{Comes}, Opening.{TakesBody}, Statuses.{is_disk}, Turns.{IsAccepted}}, proofs.Joined.{one_made, one_spent}}
 
 module _ (A : Type 0) (taken : A → Type 0) (other : Place → Type 0) where
   -- it ends in no other way

@@ -1,49 +1,19 @@
 -- What each call of a session comes to, by what is heard of its answer.
-use Rattle.std.proofs.Common.{◌≡◌, ◌⊎◌, inl, inr, ℕ, Bool, true, false, not, List, [], ◌∷◌, Option, Some, None, Result, Ok, Err, refl, sym, ◌∙◌, ap, subst}
-use Rattle.std.specs.Prelude.{IfErr, IfOk, OnOk}
-use Rattle.std.proofs.lemmas.Option.{none-some}
+use Rattle.std.{proofs.{Common.{◌≡◌, ◌⊎◌, inl, inr, ℕ, Bool, true, false, not, List, [], ◌∷◌, Option, Some, None, Result, Ok, Err, refl, sym, ◌∙◌, ap, subst}, lemmas.Option.{none-some}}, specs.Prelude.{IfErr, IfOk, OnOk}}
 use Rattle.df_disk.specs.Told.{Told}
 use Rattle.df_format.specs.declared.reference.Reference.{Reference}
 use Rattle.df_base.specs.Causes.{Blamed, IsBlamed}
-use Rattle.df_model.specs.Blocks.{sum_at}
-use Rattle.df_model.specs.Commands.{Advance, Answer as Answered, Append, Begin, Command, Release, Reply, ToAdvance, ToAppend, ToBegin, ToRelease, WriteBlock}
-use Rattle.df_model.specs.Faults.{is_append_fault, is_block_fault, is_reply_fault, is_step_fault}
-use Rattle.df_model.specs.Refusals.{append_refusals, block_refusals, first_refusal, reply_refusals}
-use Rattle.df_model.specs.Work.{is_known}
-use Rattle.df_model.specs.declared.answers.Progress.{Progress}
+use Rattle.df_model.specs.{Blocks.{sum_at}, Commands.{Advance, Answer as Answered, Append, Begin, Command, Release, Reply, ToAdvance, ToAppend, ToBegin, ToRelease, WriteBlock}, Faults.{is_append_fault, is_block_fault, is_reply_fault, is_step_fault}, Refusals.{append_refusals, block_refusals, first_refusal, reply_refusals}, Work.{is_known}, declared.answers.Progress.{Progress}, declared.answers.Receipt.{Receipt}, declared.errors.AppendError.{AppendError}, declared.errors.BeginError.{BeginError}, declared.errors.BlockError.{BlockError}, declared.errors.NotLive.{NotLive}, declared.errors.ReplyError.{ReplyError}, declared.errors.StepError.{StepError}}
 use Rattle.df_model.specs.declared.answers.Progress.TheVariants as progress
-use Rattle.df_model.specs.declared.answers.Receipt.{Receipt}
 use Rattle.df_model.specs.declared.commands.Answer.TheVariants as answers
-use Rattle.df_model.specs.declared.errors.AppendError.{AppendError}
 use Rattle.df_model.specs.declared.errors.AppendError.TheVariants as append
-use Rattle.df_model.specs.declared.errors.BeginError.{BeginError}
 use Rattle.df_model.specs.declared.errors.BeginError.TheVariants as begin
-use Rattle.df_model.specs.declared.errors.BlockError.{BlockError}
 use Rattle.df_model.specs.declared.errors.BlockError.TheVariants as block
-use Rattle.df_model.specs.declared.errors.NotLive.{NotLive}
-use Rattle.df_model.specs.declared.errors.ReplyError.{ReplyError}
 use Rattle.df_model.specs.declared.errors.ReplyError.TheVariants as reply
-use Rattle.df_model.specs.declared.errors.StepError.{StepError}
 use Rattle.df_model.specs.declared.errors.StepError.TheVariants as step
-use Rattle.df_session.specs.Answering.{Serves, as_append, as_reply, as_write_block}
-use Rattle.df_session.specs.Appending.{IsAppendCall, next_unit, with_prepare_appended}
-use Rattle.df_session.specs.Beginning.{IsBegin, begin_refusal, with_checkpoint_begun}
-use Rattle.df_session.specs.Below.{State as Replica, RunningState, memory}
-use Rattle.df_session.specs.Blocks.{IsRelease, IsWriteBlock, next_block, released, written}
-use Rattle.df_session.specs.Calls.{machine_answer}
-use Rattle.df_session.specs.Links.{Makes}
-use Rattle.df_session.specs.Own.{AddsOwn}
+use Rattle.df_session.{specs.{Answering.{Serves, as_append, as_reply, as_write_block}, Appending.{IsAppendCall, next_unit, with_prepare_appended}, Beginning.{IsBegin, begin_refusal, with_checkpoint_begun}, Below.{State as Replica, RunningState, memory}, Blocks.{IsRelease, IsWriteBlock, next_block, released, written}, Calls.{machine_answer}, Links.{Makes}, Own.{AddsOwn}, Replying.{IsReplyCall, next_reply, with_stored_reply}, Stepping.{IsStepCall, OfRunning}}, proofs.Laws.{heard_made, on_running, step_called}}
 use Rattle.df_session.specs.declared.hearing.Fault.TheVariants as faults
-use Rattle.df_session.specs.Replying.{IsReplyCall, next_reply, with_stored_reply}
-use Rattle.df_session.specs.Stepping.{IsStepCall, OfRunning}
-use Rattle.df_session.proofs.Laws.{heard_made, on_running, step_called}
-use Rattle.df_table.specs.Calls.{CheckpointStepped, Comes, IsCheckpointing, MayAppendCommand, MayBegin, stepped, taken}
-use Rattle.df_table.specs.declared.ending.Ending.{Ending}
-use Rattle.df_table.specs.declared.ending.Ending.TheVariants.{Disk, OpsSpent, SequenceSpent}
-use Rattle.df_table.specs.Policy.{the_client}
-use Rattle.df_table.specs.Statuses.{is_disk}
-use Rattle.df_table.specs.Turns.{EndsFor, IsAccepted, IsOfCall, MakeAll}
-use Rattle.df_table.proofs.Joined.{one_failed, one_made, one_spent}
+use Rattle.df_table.{specs.{Calls.{CheckpointStepped, Comes, IsCheckpointing, MayAppendCommand, MayBegin, stepped, taken}, declared.ending.Ending.{Ending}, declared.ending.Ending.TheVariants.{Disk, OpsSpent, SequenceSpent}, Policy.{the_client}, Statuses.{is_disk}, Turns.{EndsFor, IsAccepted, IsOfCall, MakeAll}}, proofs.Joined.{one_failed, one_made, one_spent}}
 
 -- ---- small
 

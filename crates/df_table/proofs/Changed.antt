@@ -1,20 +1,12 @@
 -- The commands of a put or a drop: those that make room, the append, and the reply to it.
-use Rattle.std.proofs.Common.{◌≡◌, ℕ, ◌+◌, Bool, true, false, if◌then◌else◌, List, [], ◌∷◌, Option, Result, Ok, Err, sym, ◌∙◌, ap, subst}
-use Rattle.std.specs.Prelude.{IfErr, OnOk}
+use Rattle.std.{proofs.Common.{◌≡◌, ℕ, ◌+◌, Bool, true, false, if◌then◌else◌, List, [], ◌∷◌, Option, Result, Ok, Err, sym, ◌∙◌, ap, subst}, specs.Prelude.{IfErr, OnOk}}
 use Rattle.df_disk.specs.Told.{Told}
 use Rattle.df_layout.specs.declared.layout.Layout.{Layout}
 use Rattle.df_theory.specs.Units.{Session}
-use Rattle.df_model.specs.Commands.{Append, Command, Reply}
-use Rattle.df_model.specs.Refusals.{next_request, session_of_client}
-use Rattle.df_rows.specs.declared.command.Command.{Command as Change}
-use Rattle.df_rows.specs.Commands.{Map, body_of}
+use Rattle.df_model.specs.{Commands.{Append, Command, Reply}, Refusals.{next_request, session_of_client}}
+use Rattle.df_rows.specs.{declared.command.Command.{Command as Change}, Commands.{Map, body_of}}
 use Rattle.df_session.specs.Below.{State as Replica, memory}
-use Rattle.df_table.specs.declared.ending.Ending.{Ending}
-use Rattle.df_table.specs.Calls.{Changes, Checkpoints, Comes, GoesOrEnds, MakesRoom}
-use Rattle.df_table.specs.Policy.{checkpoint, is_full, request, room_for, the_client}
-use Rattle.df_table.specs.Ready.{HasRingRoom}
-use Rattle.df_table.specs.Turns.{EndIn, IsOfCall, MakeAll}
-use Rattle.df_table.proofs.Joined.{comes_more, end_front, end_more, make_more, make_none}
+use Rattle.df_table.{specs.{declared.ending.Ending.{Ending}, Calls.{Changes, Checkpoints, Comes, GoesOrEnds, MakesRoom}, Policy.{checkpoint, is_full, request, room_for, the_client}, Ready.{HasRingRoom}, Turns.{EndIn, IsOfCall, MakeAll}}, proofs.Joined.{comes_more, end_front, end_more, make_more, make_none}}
 
 -- ---- room
 

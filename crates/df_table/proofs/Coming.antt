@@ -1,48 +1,14 @@
 -- What is left of a file that was in order, with a table of which something holds: by a log that shows what the disk shows, after a stop, after as much of an open as was done, and after calls that keep the table.
 use Rattle.std.proofs.Common.{◌≡◌, inl, inr, ℕ, false, List, [], ◌∷◌, ◌++◌, take, drop, Option, Some, refl, sym, ◌∙◌, subst}
-use Rattle.df_base.specs.Image.{Image, IsImage, changed}
-use Rattle.df_base.specs.Log.{AreLoose, Event, IsLeft, IsLog, Log, Stop, Sync, add, loose, now}
-use Rattle.df_base.specs.Moments.{EachMoment, Extends}
-use Rattle.df_base.proofs.Laws.{extends_on, extends_self, from_before, now_is_image, one_some}
+use Rattle.df_base.{specs.{Image.{Image, IsImage, changed}, Log.{AreLoose, Event, IsLeft, IsLog, Log, Stop, Sync, add, loose, now}, Moments.{EachMoment, Extends}}, proofs.Laws.{extends_on, extends_self, from_before, now_is_image, one_some}}
 use Rattle.df_disk.specs.Told.{IsHonest, Told, did}
 use Rattle.df_layout.specs.declared.layout.Layout.{Layout}
-use Rattle.df_theory.specs.Device.{IsGoodWholeDisk, IsSafeDisk, NoChanceOf, units_log}
-use Rattle.df_theory.specs.Found.{IsFound}
-use Rattle.df_theory.specs.Holds.{Held, Stands}
-use Rattle.df_theory.specs.Next.{IsSameBare}
-use Rattle.df_theory.specs.View.{View}
-use Rattle.df_theory.proofs.Laws.{disk_barrier_law, disk_stop_law, holds_found, one_view, rests_safe, safe_disk_law}
-use Rattle.df_units.specs.Bytes.{unit_at}
-use Rattle.df_units.proofs.Laws.{is_format}
+use Rattle.df_theory.{specs.{Device.{IsGoodWholeDisk, IsSafeDisk, NoChanceOf, units_log}, Found.{IsFound}, Holds.{Held, Stands}, Next.{IsSameBare}, View.{View}}, proofs.Laws.{disk_barrier_law, disk_stop_law, holds_found, one_view, rests_safe, safe_disk_law}}
+use Rattle.df_units.{specs.Bytes.{unit_at}, proofs.Laws.{is_format}}
 use Rattle.df_model.specs.Work.{Work}
-use Rattle.df_rows.specs.declared.command.Command.{Command as Change}
-use Rattle.df_rows.specs.Tables.{Table, with_commands}
-use Rattle.df_session.specs.Acknowledging.{WereAnswered}
-use Rattle.df_session.specs.Anew.{begun_after}
-use Rattle.df_session.specs.Begun.{begun_work}
-use Rattle.df_session.specs.Below.{AreDistinctUnits, DataFile, IsOpened, State as Replica, shape, told_after}
-use Rattle.df_session.specs.Following.{MayOpen}
-use Rattle.df_session.specs.Found.{FoundFile}
-use Rattle.df_session.specs.Keeping.{KeepsFile, over}
-use Rattle.df_session.specs.Laws.{CallsKeep}
-use Rattle.df_session.specs.Links.{CallsMade, events_made, list_of}
-use Rattle.df_session.specs.Opened.{MendsPartly}
-use Rattle.df_session.specs.Serving.{Whole, format}
-use Rattle.df_session.specs.Session.{acts_in}
-use Rattle.df_session.proofs.Laws.{file_there}
-use Rattle.df_table.specs.Keeping.{AreChanges, AreClients, IsTableMidway, KeepsFrom, KeepsTable}
-use Rattle.df_table.specs.Laws.{FindsIn}
-use Rattle.df_table.specs.Table.{HasTable, IsObjectTable}
-use Rattle.df_table.specs.Written.{IsTableIn}
-use Rattle.df_table.proofs.Finding.{found_own, table_is_found}
-use Rattle.df_table.proofs.FoundTable.{found_is_table}
-use Rattle.df_table.proofs.Lasting.{grew, table_later}
-use Rattle.df_table.proofs.Leads.{bare_by, table_bare}
-use Rattle.df_table.proofs.Leaving.{were_since}
-use Rattle.df_table.proofs.OneFile.{one_file}
-use Rattle.df_table.proofs.Owned.{EachSeen, OwnView, OwnWork, Seen, kept_barrier, kept_seen, own_bare, own_begun}
-use Rattle.df_table.proofs.Started.{shown_there, table_written}
-use Rattle.df_table.proofs.Written.{table_shown}
+use Rattle.df_rows.specs.{declared.command.Command.{Command as Change}, Tables.{Table, with_commands}}
+use Rattle.df_session.{specs.{Acknowledging.{WereAnswered}, Anew.{begun_after}, Begun.{begun_work}, Below.{AreDistinctUnits, DataFile, IsOpened, State as Replica, shape, told_after}, Following.{MayOpen}, Found.{FoundFile}, Keeping.{KeepsFile, over}, Laws.{CallsKeep}, Links.{CallsMade, events_made, list_of}, Opened.{MendsPartly}, Serving.{Whole, format}, Session.{acts_in}}, proofs.Laws.{file_there}}
+use Rattle.df_table.{specs.{Keeping.{AreChanges, AreClients, IsTableMidway, KeepsFrom, KeepsTable}, Laws.{FindsIn}, Table.{HasTable, IsObjectTable}, Written.{IsTableIn}}, proofs.{Finding.{found_own, table_is_found}, FoundTable.{found_is_table}, Lasting.{grew, table_later}, Leads.{bare_by, table_bare}, Leaving.{were_since}, OneFile.{one_file}, Owned.{EachSeen, OwnView, OwnWork, Seen, kept_barrier, kept_seen, own_bare, own_begun}, Started.{shown_there, table_written}, Written.{table_shown}}}
 
 pub now_left : (log : Log) → IsLog log → IsLeft log (now log)
 now_left log is = record { whole = now_is_image log.start log.events is.start is.events; kept = λ sector firm. refl }

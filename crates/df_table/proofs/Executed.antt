@@ -1,38 +1,16 @@
 -- A line that isn't refused, one that is, and one that asks for no command: what each comes to.
-use Rattle.std.proofs.Common.{◌≡◌, inl, inr, ◌+◌, ◌≤◌, ◌&&◌, not, nat_le, nat_lt, ℕ, Bool, true, false, if◌then◌else◌, List, [], ◌∷◌, length, take, Option, Some, None, Ok, Err, refl, sym, ◌∙◌, ap, subst, arith}
+use Rattle.std.{proofs.{Common.{◌≡◌, inl, inr, ◌+◌, ◌≤◌, ◌&&◌, not, nat_le, nat_lt, ℕ, Bool, true, false, if◌then◌else◌, List, [], ◌∷◌, length, take, Option, Some, None, Ok, Err, refl, sym, ◌∙◌, ap, subst, arith}, lemmas.Bool.Decides.{nat_tests}, lemmas.List.{length-take-le}, lemmas.List.Elements.{All-nil}}, specs.Prelude.{decimal, is_some}}
 use Rattle.std.specs.FinMap as map
-use Rattle.std.specs.Prelude.{decimal, is_some}
-use Rattle.std.proofs.lemmas.Bool.Decides.{nat_tests}
-use Rattle.std.proofs.lemmas.List.{length-take-le}
-use Rattle.std.proofs.lemmas.List.Elements.{All-nil}
-use Rattle.df_base.specs.Streams.{Appends, AppendsPart}
-use Rattle.df_base.proofs.Laws.{plus_zero}
+use Rattle.df_base.{specs.Streams.{Appends, AppendsPart}, proofs.Laws.{plus_zero}}
 use Rattle.df_disk.specs.Told.{Told}
 use Rattle.df_script_model.specs.Texts.{body_text, line_of, spaced}
 use Rattle.df_layout.specs.declared.layout.Layout.{Layout}
-use Rattle.df_rows.specs.declared.command.Command.{Command}
+use Rattle.df_rows.specs.{declared.command.Command.{Command}, declared.line.Line.{Line}, declared.refusal.Refusal.{Refusal}, declared.refusal.Refusal.TheVariants.{NoKey, TableFull, ValueTooLong}, Answers.{is_full_for, missing, refusal_of, refusal_text}, Commands.{IsCommand}, Grammar.{Drop, Get, Put, Said, said_with, value_length}, Lines.{accepted, asked_by_line, done_text, line_in, line_of_turn, refusal_or, unless_refused, value_in}, Tables.{HasRoom, Table, with_command, with_commands}}
 use Rattle.df_rows.specs.declared.command.Command.TheVariants as commands
-use Rattle.df_rows.specs.declared.line.Line.{Line}
 use Rattle.df_rows.specs.declared.line.Line.TheVariants as lines
-use Rattle.df_rows.specs.declared.refusal.Refusal.{Refusal}
-use Rattle.df_rows.specs.declared.refusal.Refusal.TheVariants.{NoKey, TableFull, ValueTooLong}
-use Rattle.df_rows.specs.Answers.{is_full_for, missing, refusal_of, refusal_text}
-use Rattle.df_rows.specs.Commands.{IsCommand}
-use Rattle.df_rows.specs.Grammar.{Drop, Get, Put, Said, said_with, value_length}
-use Rattle.df_rows.specs.Lines.{accepted, asked_by_line, done_text, line_in, line_of_turn, refusal_or, unless_refused, value_in}
-use Rattle.df_rows.specs.Tables.{HasRoom, Table, with_command, with_commands}
-use Rattle.df_session.specs.Below.{State as Replica, memory}
-use Rattle.df_session.specs.Links.{NoCalls}
-use Rattle.df_table.specs.declared.ending.Ending.{Ending}
-use Rattle.df_table.specs.declared.status.Status.{Status}
-use Rattle.df_table.specs.Outside.{Step}
+use Rattle.df_session.specs.{Below.{State as Replica, memory}, Links.{NoCalls}}
+use Rattle.df_table.specs.{declared.ending.Ending.{Ending}, declared.status.Status.{Status}, Outside.{Step, WritesTableText}, Calls.{Changes}, Policy.{line_commands}, Serving.{AnswersLine, IsExecuted, TellsLine}, Statuses.{ending_text, status_of}, Turns.{AreFit, EndIn, IsOfCall, MakeAll, WasAccepted}}
 use Rattle.df_program.specs.declared.turn.Turn.TheVariants.{Ends, GoesOn as Goes}
-use Rattle.df_table.specs.Outside.{WritesTableText}
-use Rattle.df_table.specs.Calls.{Changes}
-use Rattle.df_table.specs.Policy.{line_commands}
-use Rattle.df_table.specs.Serving.{AnswersLine, IsExecuted, TellsLine}
-use Rattle.df_table.specs.Statuses.{ending_text, status_of}
-use Rattle.df_table.specs.Turns.{AreFit, EndIn, IsOfCall, MakeAll, WasAccepted}
 
 -- ---- what isn't refused may be done
 

@@ -1,34 +1,14 @@
 -- An opening finds the table of a file whose sessions are all the client's: the blocks that the view references are read, and so are the prepares of its tail.
-use Rattle.std.proofs.Common.{◌≡◌, inl, inr, ℕ, zero, suc, ◌+◌, ◌-◌, ◌%◌, ◌<◌, ◌≤◌, Bool, List, [], ◌∷◌, append-nil, map, Option, Some, None, Ok, refl, sym, ◌∙◌, ap, subst, arith}
-use Rattle.std.specs.List.{range_with_len, slice_get}
+use Rattle.std.{proofs.Common.{◌≡◌, inl, inr, ℕ, zero, suc, ◌+◌, ◌-◌, ◌%◌, ◌<◌, ◌≤◌, Bool, List, [], ◌∷◌, append-nil, map, Option, Some, None, Ok, refl, sym, ◌∙◌, ap, subst, arith}, specs.List.{range_with_len, slice_get}}
 use Rattle.df_base.proofs.Laws.{zero_plus, not_zero}
 use Rattle.df_disk.specs.Told.{Told}
-use Rattle.df_layout.specs.declared.damage.Class.{Class}
-use Rattle.df_layout.specs.declared.layout.Layout.{Layout}
-use Rattle.df_layout.specs.declared.damage.Class.TheVariants.{Stale}
-use Rattle.df_theory.specs.Found.{IsFound}
-use Rattle.df_theory.specs.Sessions.{noted, sessions_after}
-use Rattle.df_theory.specs.Tails.{Chain, In}
-use Rattle.df_theory.specs.Units.{AnyUnit, Block, BlockPlace, BlockUnit, Message, PreparePlace, PrepareUnit, Session}
-use Rattle.df_theory.specs.View.{View}
+use Rattle.df_layout.specs.{declared.damage.Class.{Class}, declared.layout.Layout.{Layout}, declared.damage.Class.TheVariants.{Stale}}
+use Rattle.df_theory.specs.{Found.{IsFound}, Sessions.{noted, sessions_after}, Tails.{Chain, In}, Units.{AnyUnit, Block, BlockPlace, BlockUnit, Message, PreparePlace, PrepareUnit, Session}, View.{View}}
 use Rattle.df_units.specs.Bytes.{unit_at}
-use Rattle.df_model.specs.Blocks.{entries, entry, sum_at}
-use Rattle.df_model.specs.Commands.{ReadBlock}
-use Rattle.df_model.specs.Memory.{Memory, memory_of, prepare_sum, sum_of_message}
-use Rattle.df_model.specs.Supply.{Shown, block_given, block_read, class_at, given_if, no_trailer}
-use Rattle.df_model.specs.Work.{Work}
-use Rattle.df_model.proofs.Laws.{entry_at, same_sum, prepare_shown}
+use Rattle.df_model.{specs.{Blocks.{entries, entry, sum_at}, Commands.{ReadBlock}, Memory.{Memory, memory_of, prepare_sum, sum_of_message}, Supply.{Shown, block_given, block_read, class_at, given_if, no_trailer}, Work.{Work}}, proofs.Laws.{entry_at, same_sum, prepare_shown}}
 use Rattle.df_rows.specs.Tables.{Table}
-use Rattle.df_session.specs.Begun.{begun_work}
-use Rattle.df_session.specs.Below.{DataFile, shape, spelling}
-use Rattle.df_session.specs.Reading.{shown_of}
-use Rattle.df_table.specs.Laws.{FindsIn}
-use Rattle.df_table.specs.Opening.{ArePrepares, AreReadBlocks, FindsTable, Found}
-use Rattle.df_table.specs.Policy.{the_client}
-use Rattle.df_table.specs.Table.{IsObjectTable, ShowsBodies, ShowsBody}
-use Rattle.df_table.proofs.Begun.{own_all}
-use Rattle.df_table.proofs.FoundTable.{as_many}
-use Rattle.df_table.proofs.Owned.{OwnView, after_mine, after_own, each_own, own_at}
+use Rattle.df_session.specs.{Begun.{begun_work}, Below.{DataFile, shape, spelling}, Reading.{shown_of}}
+use Rattle.df_table.{specs.{Laws.{FindsIn}, Opening.{ArePrepares, AreReadBlocks, FindsTable, Found}, Policy.{the_client}, Table.{IsObjectTable, ShowsBodies, ShowsBody}}, proofs.{Begun.{own_all}, FoundTable.{as_many}, Owned.{OwnView, after_mine, after_own, each_own, own_at}}}
 
 -- ---- what is given, where the unit is shown
 

@@ -1,27 +1,14 @@
 -- No reason refuses the calls of a table's session, but that no op or no sequence is left.
-use Rattle.std.proofs.Common.{◌≡◌, ◌⊎◌, inl, inr, ℕ, ◌+◌, ◌-◌, ◌^◌, ◌<◌, ◌≤◌, ◌==◌, ◌&&◌, ◌||◌, not, nat_le, nat_lt, Bool, true, false, if◌then◌else◌, List, [], ◌∷◌, ◌++◌, length, take, Option, Some, None, refl, sym, ap, subst, arith, length-append, ne_eqb, le-ltb, eq-eqb}
-use Rattle.std.specs.List.{slice_get}
-use Rattle.df_base.specs.Fields.{spelled}
-use Rattle.df_base.proofs.Laws.{length-spelled}
+use Rattle.std.{proofs.Common.{◌≡◌, ◌⊎◌, inl, inr, ℕ, ◌+◌, ◌-◌, ◌^◌, ◌<◌, ◌≤◌, ◌==◌, ◌&&◌, ◌||◌, not, nat_le, nat_lt, Bool, true, false, if◌then◌else◌, List, [], ◌∷◌, ◌++◌, length, take, Option, Some, None, refl, sym, ap, subst, arith, length-append, ne_eqb, le-ltb, eq-eqb}, specs.List.{slice_get}}
+use Rattle.df_base.{specs.Fields.{spelled}, proofs.Laws.{length-spelled}}
 use Rattle.df_layout.specs.declared.layout.Layout.{Layout}
-use Rattle.df_theory.specs.Units.{Session}
-use Rattle.df_theory.proofs.Laws.{tracks}
-use Rattle.df_model.specs.Memory.{Memory, free_of}
-use Rattle.df_model.specs.Refusals.{begin_refusals, block_refusals, first_refusal, is_last_request, is_new, is_running, is_staged, last_op, next_request, reply_refusals, request_refusals, session_of_client}
-use Rattle.df_model.specs.Work.{Request}
-use Rattle.df_model.specs.declared.errors.AppendError.{AppendError}
+use Rattle.df_theory.{specs.Units.{Session}, proofs.Laws.{tracks}}
+use Rattle.df_model.{specs.{Memory.{Memory, free_of}, Refusals.{begin_refusals, block_refusals, first_refusal, is_last_request, is_new, is_running, is_staged, last_op, next_request, reply_refusals, request_refusals, session_of_client}, Work.{Request}, declared.errors.AppendError.{AppendError}}, proofs.Laws.{pass_all}}
 use Rattle.df_model.specs.declared.errors.AppendError.TheVariants as append
 use Rattle.df_model.specs.declared.errors.BeginError.TheVariants as begin
-use Rattle.df_model.proofs.Laws.{pass_all}
-use Rattle.df_rows.specs.declared.command.Command.{Command}
-use Rattle.df_rows.specs.declared.command.Command.TheVariants.{Drop, Put}
-use Rattle.df_rows.specs.Commands.{IsCommand, body_of}
-use Rattle.df_session.specs.Below.{State as Replica, memory}
-use Rattle.df_session.specs.Appending.{next_unit, with_prepare_appended}
-use Rattle.df_session.specs.Beginning.{needed}
-use Rattle.df_table.specs.Calls.{MayAppendCommand, MayBegin}
-use Rattle.df_table.specs.Policy.{is_full, the_client}
-use Rattle.df_table.specs.Ready.{IsReadyReplica}
+use Rattle.df_rows.specs.{declared.command.Command.{Command}, declared.command.Command.TheVariants.{Drop, Put}, Commands.{IsCommand, body_of}}
+use Rattle.df_session.specs.{Below.{State as Replica, memory}, Appending.{next_unit, with_prepare_appended}, Beginning.{needed}}
+use Rattle.df_table.specs.{Calls.{MayAppendCommand, MayBegin}, Policy.{is_full, the_client}, Ready.{IsReadyReplica}}
 
 -- ---- tests, of which only the last one may hold
 

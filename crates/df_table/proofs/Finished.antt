@@ -1,30 +1,13 @@
 -- A checkpoint of the table from its writes to its end: it may be begun, and after it the ring has room.
-use Rattle.std.proofs.Common.{◌≡◌, ℕ, ◌+◌, ◌*◌, ◌≤◌, true, List, [], ◌∷◌, ◌++◌, length, Option, Some, None, Result, Ok, Err, refl, sym, ◌∙◌, ap, subst, arith, le-ltb, length-take}
-use Rattle.std.specs.Prelude.{OnOk, replicate}
+use Rattle.std.{proofs.Common.{◌≡◌, ℕ, ◌+◌, ◌*◌, ◌≤◌, true, List, [], ◌∷◌, ◌++◌, length, Option, Some, None, Result, Ok, Err, refl, sym, ◌∙◌, ap, subst, arith, le-ltb, length-take}, specs.Prelude.{OnOk, replicate}}
 use Rattle.df_disk.specs.Told.{Told}
 use Rattle.df_layout.specs.declared.layout.Layout.{Layout}
 use Rattle.df_theory.specs.Units.{Parts}
-use Rattle.df_sessions.specs.Requests.{sessions_of}
-use Rattle.df_sessions.specs.Table.{Table as Sessions}
-use Rattle.df_model.specs.Blocks.{captured_of, left_of, written_of}
-use Rattle.df_model.specs.Commands.{Advance, Begin}
-use Rattle.df_model.specs.Memory.{Memory, course, course_of, free_of}
-use Rattle.df_model.specs.Work.{Running, Work}
-use Rattle.df_rows.specs.Commands.{Map}
-use Rattle.df_rows.specs.Limits.{blocks_of_table}
-use Rattle.df_session.specs.Beginning.{captured, needed, with_checkpoint_begun}
-use Rattle.df_session.specs.Below.{DataFile, RunningState, State as Replica, memory, shape, spelling}
-use Rattle.df_session.specs.Serving.{Firm, Keeps}
-use Rattle.df_table.specs.declared.ending.Ending.{Ending}
-use Rattle.df_table.specs.Calls.{Advances, Checkpoints, Concludes, Fills, MayBegin}
-use Rattle.df_table.specs.Policy.{releases, writes}
-use Rattle.df_table.specs.Ready.{HasFree, HasRingRoom, IsEmptied, IsFinished, IsReadyReplica, WroteBlocks, places, without_live}
-use Rattle.df_table.specs.Turns.{EndIn, MakeAll}
-use Rattle.df_table.proofs.Fine.{AreOwn, may_begin}
-use Rattle.df_table.proofs.Free.{enough_free}
-use Rattle.df_table.proofs.Joined.{comes_more, end_front}
-use Rattle.df_table.proofs.Needed.{few_needed}
-use Rattle.df_table.proofs.Stored.{makes_keep}
+use Rattle.df_sessions.specs.{Requests.{sessions_of}, Table.{Table as Sessions}}
+use Rattle.df_model.specs.{Blocks.{captured_of, left_of, written_of}, Commands.{Advance, Begin}, Memory.{Memory, course, course_of, free_of}, Work.{Running, Work}}
+use Rattle.df_rows.specs.{Commands.{Map}, Limits.{blocks_of_table}}
+use Rattle.df_session.specs.{Beginning.{captured, needed, with_checkpoint_begun}, Below.{DataFile, RunningState, State as Replica, memory, shape, spelling}, Serving.{Firm, Keeps}}
+use Rattle.df_table.{specs.{declared.ending.Ending.{Ending}, Calls.{Advances, Checkpoints, Concludes, Fills, MayBegin}, Policy.{releases, writes}, Ready.{HasFree, HasRingRoom, IsEmptied, IsFinished, IsReadyReplica, WroteBlocks, places, without_live}, Turns.{EndIn, MakeAll}}, proofs.{Fine.{AreOwn, may_begin}, Free.{enough_free}, Joined.{comes_more, end_front}, Needed.{few_needed}, Stored.{makes_keep}}}
 
 -- ---- nothing runs
 

@@ -1,21 +1,10 @@
 -- The prepares after the checkpoint are applied one after the other, in order of op: what the opening has found after each.
-use Rattle.std.proofs.Common.{◌≡◌, inl, inr, ℕ, ◌+◌, ◌<◌, Bool, true, false, List, [], ◌∷◌, ◌++◌, length, Ok, Err, refl, sym, ◌∙◌, ap, subst, arith, length-append}
-use Rattle.df_layout.specs.declared.layout.Layout.{Layout}
-use Rattle.df_layout.specs.declared.places.Place.{Place}
+use Rattle.std.proofs.{Common.{◌≡◌, inl, inr, ℕ, ◌+◌, ◌<◌, Bool, true, false, List, [], ◌∷◌, ◌++◌, length, Ok, Err, refl, sym, ◌∙◌, ap, subst, arith, length-append}, lemmas.Bool.{false≢true}}
+use Rattle.df_layout.specs.{declared.layout.Layout.{Layout}, declared.places.Place.{Place}}
 use Rattle.df_theory.specs.Units.{Message}
-use Rattle.df_model.specs.Commands.{ReadPrepare}
-use Rattle.df_model.specs.Memory.{Memory}
-use Rattle.df_model.specs.Supply.{Shown, message_given}
-use Rattle.df_rows.specs.declared.command.Command.{Command}
-use Rattle.df_rows.specs.Commands.{IsCommand, body_of}
-use Rattle.df_rows.specs.Tables.{CanApply, Table, with_command}
-use Rattle.df_rows.proofs.Laws.{commands_more, one_command}
-use Rattle.std.proofs.lemmas.Bool.{false≢true}
-use Rattle.df_table.specs.declared.ending.Ending.{Ending}
-use Rattle.df_table.specs.declared.ending.Ending.TheVariants.{Damaged, Disk, NotTable, OpsSpent, SequenceSpent}
-use Rattle.df_table.specs.Opening.{AreFollowed, ArePrepares, AreTakenBlocks, FindsOf, FindsTable, NoCommand, OtherPrepare, PrepareHurt, ReadsPrepare}
-use Rattle.df_table.specs.Table.{CommandFollows}
-use Rattle.df_table.proofs.Leads.{follow_more}
+use Rattle.df_model.specs.{Commands.{ReadPrepare}, Memory.{Memory}, Supply.{Shown, message_given}}
+use Rattle.df_rows.{specs.{declared.command.Command.{Command}, Commands.{IsCommand, body_of}, Tables.{CanApply, Table, with_command}}, proofs.Laws.{commands_more, one_command}}
+use Rattle.df_table.{specs.{declared.ending.Ending.{Ending}, declared.ending.Ending.TheVariants.{Damaged, Disk, NotTable, OpsSpent, SequenceSpent}, Opening.{AreFollowed, ArePrepares, AreTakenBlocks, FindsOf, FindsTable, NoCommand, OtherPrepare, PrepareHurt, ReadsPrepare}, Table.{CommandFollows}}, proofs.Leads.{follow_more}}
 
 prepares_more : (shown : Shown) (m : Memory) (op at : ℕ) (ps : List Message) (p : Message) → at ≡ op + length ps → ArePrepares shown m op ps → message_given shown m (ReadPrepare at) ≡ Ok p → ArePrepares shown m op (ps ++ p ∷ [])
 prepares_more shown m op at [] p is are one = (subst (λ (k : ℕ). message_given shown m (ReadPrepare k) ≡ Ok p) (omega (arith, is)) one, tt)

@@ -1,28 +1,12 @@
 -- What an opening finds is the table of the file: the blocks that it reads are those that the view references, and the prepares are those of its tail.
-use Rattle.std.proofs.Common.{◌≡◌, inl, inr, ℕ, zero, suc, ◌+◌, ◌%◌, ◌<◌, ◌≤◌, ◌==◌, not, Bool, true, false, List, [], ◌∷◌, append-nil, length, Option, Some, None, Result, Ok, refl, sym, ◌∙◌, ap, subst, arith}
-use Rattle.std.specs.List.{range_with_len}
-use Rattle.std.proofs.lemmas.Bool.{eqb-false}
+use Rattle.std.{proofs.{Common.{◌≡◌, inl, inr, ℕ, zero, suc, ◌+◌, ◌%◌, ◌<◌, ◌≤◌, ◌==◌, not, Bool, true, false, List, [], ◌∷◌, append-nil, length, Option, Some, None, Result, Ok, refl, sym, ◌∙◌, ap, subst, arith}, lemmas.Bool.{eqb-false}}, specs.List.{range_with_len}}
 use Rattle.df_base.proofs.Laws.{one_some}
-use Rattle.df_layout.specs.declared.damage.Class.{Class}
-use Rattle.df_layout.specs.declared.damage.Class.TheVariants.{Stale}
-use Rattle.df_layout.specs.declared.layout.Layout.{Layout}
-use Rattle.df_theory.specs.Sessions.{noted}
-use Rattle.df_theory.specs.Tails.{Chain, In}
-use Rattle.df_theory.specs.Units.{AnyUnit, Block, BlockPlace, BlockUnit, CopyUnit, HeaderUnit, Message, PreparePlace, PrepareUnit, ReplyUnit, Session}
-use Rattle.df_model.specs.Blocks.{entries, entry, sum_at}
-use Rattle.df_model.specs.Commands.{ReadBlock}
-use Rattle.df_model.specs.Memory.{Memory, memory_of, prepare_sum}
-use Rattle.df_model.specs.Supply.{Shown, block_given, block_read, class_at, given_if, is_sum, no_trailer, prepare_given}
-use Rattle.df_model.specs.Work.{Work}
-use Rattle.df_model.proofs.Laws.{entry_at, known_is}
+use Rattle.df_layout.specs.{declared.damage.Class.{Class}, declared.damage.Class.TheVariants.{Stale}, declared.layout.Layout.{Layout}}
+use Rattle.df_theory.specs.{Sessions.{noted}, Tails.{Chain, In}, Units.{AnyUnit, Block, BlockPlace, BlockUnit, CopyUnit, HeaderUnit, Message, PreparePlace, PrepareUnit, ReplyUnit, Session}}
+use Rattle.df_model.{specs.{Blocks.{entries, entry, sum_at}, Commands.{ReadBlock}, Memory.{Memory, memory_of, prepare_sum}, Supply.{Shown, block_given, block_read, class_at, given_if, is_sum, no_trailer, prepare_given}, Work.{Work}}, proofs.Laws.{entry_at, known_is}}
 use Rattle.df_rows.specs.Tables.{Table}
-use Rattle.df_session.specs.Begun.{begun_work}
-use Rattle.df_session.specs.Below.{shape, spelling}
-use Rattle.df_session.specs.Reading.{shown_of}
-use Rattle.df_table.specs.declared.ending.Ending.{Ending}
-use Rattle.df_table.specs.Laws.{FoundIsTable}
-use Rattle.df_table.specs.Opening.{AreFollowed, ArePrepares, AreReadBlocks, BlockHurt, FindsTable, Found, OtherBlock, OtherClient, OtherPrepare, PrepareHurt}
-use Rattle.df_table.specs.Table.{FollowAll, ShowsBodies, ShowsBody}
+use Rattle.df_session.specs.{Begun.{begun_work}, Below.{shape, spelling}, Reading.{shown_of}}
+use Rattle.df_table.specs.{declared.ending.Ending.{Ending}, Laws.{FoundIsTable}, Opening.{AreFollowed, ArePrepares, AreReadBlocks, BlockHurt, FindsTable, Found, OtherBlock, OtherClient, OtherPrepare, PrepareHurt}, Table.{FollowAll, ShowsBodies, ShowsBody}}
 
 -- ---- a table was found
 

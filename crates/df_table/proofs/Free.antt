@@ -1,10 +1,7 @@
 -- How many addresses are free: all but as many as entries hold.
-use Rattle.std.proofs.Common.{◌≡◌, ℕ, zero, suc, ◌+◌, ◌<◌, ◌≤◌, ◌==◌, ◌||◌, not, Bool, true, false, if◌then◌else◌, cond, List, [], ◌∷◌, length, Some, refl, ap, arith, eqb-true, ne_eqb}
-use Rattle.std.specs.List.{filter, range_with_len}
-use Rattle.std.proofs.lemmas.List.FromFn.{length-range_with_len}
+use Rattle.std.{proofs.{Common.{◌≡◌, ℕ, zero, suc, ◌+◌, ◌<◌, ◌≤◌, ◌==◌, ◌||◌, not, Bool, true, false, if◌then◌else◌, cond, List, [], ◌∷◌, length, Some, refl, ap, arith, eqb-true, ne_eqb}, lemmas.List.FromFn.{length-range_with_len}}, specs.List.{filter, range_with_len}}
 use Rattle.df_theory.specs.Units.{Layout}
-use Rattle.df_model.specs.Blocks.{Blocks, addresses, free_in, is_held_in, sum_at}
-use Rattle.df_model.specs.Work.{is_known}
+use Rattle.df_model.specs.{Blocks.{Blocks, addresses, free_in, is_held_in, sum_at}, Work.{is_known}}
 
 -- how many of these addresses a test holds of
 abbrev pub one_if : Bool → ℕ

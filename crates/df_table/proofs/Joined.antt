@@ -1,22 +1,11 @@
 -- Commands that were made one after the other are joined: all of some, and then others, or the first of them.
-use Rattle.std.proofs.Common.{◌≡◌, inl, inr, List, [], ◌∷◌, ◌++◌, All, map, Option, Some, None, Result, Ok, Err, refl, sym, ◌∙◌, ap, subst, append_assoc}
-use Rattle.std.proofs.lemmas.List.{map-append}
-use Rattle.std.proofs.lemmas.List.Elements.{All-append, All-cons, All-head, All-nil, All-tail}
+use Rattle.std.proofs.{Common.{◌≡◌, inl, inr, List, [], ◌∷◌, ◌++◌, All, map, Option, Some, None, Result, Ok, Err, refl, sym, ◌∙◌, ap, subst, append_assoc}, lemmas.List.{map-append}, lemmas.List.Elements.{All-append, All-cons, All-head, All-nil, All-tail}}
 use Rattle.df_disk.specs.Told.{Told}
 use Rattle.df_layout.specs.declared.places.Place.{Place}
 use Rattle.df_model.specs.Commands.{Answer, Command}
-use Rattle.df_session.specs.Below.{State as Replica}
-use Rattle.df_session.specs.Endings.{EndsBy, IsDamagedStep}
-use Rattle.df_session.specs.Links.{AreCalls, EndsCalls, Makes, More, NoCalls, list_of}
-use Rattle.df_session.specs.Session.{Act, Exchange, act_in, acts_in, answer_in, answers_in, command_in}
-use Rattle.df_session.specs.declared.hearing.Fault.{Fault}
+use Rattle.df_session.{specs.{Below.{State as Replica}, Endings.{EndsBy, IsDamagedStep}, Links.{AreCalls, EndsCalls, Makes, More, NoCalls, list_of}, Session.{Act, Exchange, act_in, acts_in, answer_in, answers_in, command_in}, declared.hearing.Fault.{Fault}}, proofs.Laws.{calls_join}}
 use Rattle.df_session.specs.declared.hearing.Fault.TheVariants as faults
-use Rattle.df_session.proofs.Laws.{calls_join}
-use Rattle.df_table.specs.declared.ending.Ending.{Ending}
-use Rattle.df_table.specs.declared.ending.Ending.TheVariants.{Disk, Damaged, NotTable, OpsSpent, SequenceSpent}
-use Rattle.df_table.specs.Calls.{Comes}
-use Rattle.df_table.specs.Statuses.{ended_by}
-use Rattle.df_table.specs.Turns.{AreAccepted, EndIn, EndsFor, IsAccepted, LastIs, MakeAll, WasAccepted}
+use Rattle.df_table.specs.{declared.ending.Ending.{Ending}, declared.ending.Ending.TheVariants.{Disk, Damaged, NotTable, OpsSpent, SequenceSpent}, Calls.{Comes}, Statuses.{ended_by}, Turns.{AreAccepted, EndIn, EndsFor, IsAccepted, LastIs, MakeAll, WasAccepted}}
 
 -- ---- lists of calls
 

@@ -1,32 +1,13 @@
 -- Calls that were made, each of which leaves the table as it was, or changes it by its command: so it is at each moment of them.
 use Rattle.std.proofs.Common.{◌≡◌, inl, inr, ℕ, zero, suc, true, List, [], ◌∷◌, ◌++◌, length, take, drop, Option, Some, None, Ok, refl, sym, ◌∙◌, ap, subst, append_assoc}
-use Rattle.df_base.specs.Image.{Image}
-use Rattle.df_base.specs.Log.{Event, Log, add}
-use Rattle.df_base.specs.Moments.{EachMoment, Extends, adds}
-use Rattle.df_base.proofs.Laws.{adds_extends, adds_on, extends_on, extends_self, same_log, started, weaker}
+use Rattle.df_base.{specs.{Image.{Image}, Log.{Event, Log, add}, Moments.{EachMoment, Extends, adds}}, proofs.Laws.{adds_extends, adds_on, extends_on, extends_self, same_log, started, weaker}}
 use Rattle.df_disk.specs.Told.{Told}
-use Rattle.df_theory.specs.Device.{IsGoodWholeDisk, NoChanceOf, units_log}
-use Rattle.df_theory.specs.Holds.{Held, Stands}
-use Rattle.df_theory.specs.View.{View}
-use Rattle.df_model.specs.Commands.{Answer, ToAppend}
-use Rattle.df_model.specs.Work.{Work, kept}
-use Rattle.df_rows.specs.declared.command.Command.{Command as Change}
-use Rattle.df_rows.specs.Tables.{Table, with_commands}
-use Rattle.df_rows.proofs.Laws.{commands_more}
-use Rattle.df_session.specs.Acknowledging.{HadReturned}
-use Rattle.df_session.specs.Below.{DataFile, State as Replica, shape, told_after}
-use Rattle.df_session.specs.Links.{AreCalls, Calls, More, NoCalls, call_events}
-use Rattle.df_session.specs.Serving.{IsKept, Whole, format, next}
-use Rattle.df_session.specs.Session.{Act, Exchange}
+use Rattle.df_theory.specs.{Device.{IsGoodWholeDisk, NoChanceOf, units_log}, Holds.{Held, Stands}, View.{View}}
+use Rattle.df_model.specs.{Commands.{Answer, ToAppend}, Work.{Work, kept}}
+use Rattle.df_rows.{specs.{declared.command.Command.{Command as Change}, Tables.{Table, with_commands}}, proofs.Laws.{commands_more}}
+use Rattle.df_session.{specs.{Acknowledging.{HadReturned}, Below.{DataFile, State as Replica, shape, told_after}, Links.{AreCalls, Calls, More, NoCalls, call_events}, Serving.{IsKept, Whole, format, next}, Session.{Act, Exchange}}, proofs.Laws.{added_is_told, told_append, joined, nothing_is_served}}
 use Rattle.df_session.specs.Session as machine
-use Rattle.df_session.proofs.Laws.{added_is_told, told_append}
-use Rattle.df_session.proofs.Laws.{joined, nothing_is_served}
-use Rattle.df_table.specs.Keeping.{AreChanges, Changes, IsPending, IsTableMidway}
-use Rattle.df_table.specs.Table.{HasTable}
-use Rattle.df_table.specs.Written.{IsTableIn, WroteBodies}
-use Rattle.df_table.proofs.Later.{good, good_moments, kept_behind, same_behind, told_log}
-use Rattle.df_table.proofs.Leads.{table_bare}
-use Rattle.df_table.proofs.Written.{bodies_on, table_on, table_shown}
+use Rattle.df_table.{specs.{Keeping.{AreChanges, Changes, IsPending, IsTableMidway}, Table.{HasTable}, Written.{IsTableIn, WroteBodies}}, proofs.{Later.{good, good_moments, kept_behind, same_behind, told_log}, Leads.{table_bare}, Written.{bodies_on, table_on, table_shown}}}
 
 -- ---- a base
 

@@ -1,30 +1,13 @@
 -- One call by a base: the file is kept for the machine's next state, each moment of it is good, and a block that it writes was written from then on.
 use Rattle.std.proofs.Common.{◌≡◌, ℕ, Bool, if◌then◌else◌, List, [], ◌∷◌, Option, Some, None, refl, sym, ◌∙◌, ap, subst, eq-eqb}
-use Rattle.df_base.specs.Image.{Image}
-use Rattle.df_base.specs.Log.{Event, Log}
+use Rattle.df_base.{specs.{Image.{Image}, Log.{Event, Log}, Moments.{EachMoment, adds}}, proofs.Laws.{now_is_image}}
 use Rattle.df_base.specs.Log as logs
-use Rattle.df_base.specs.Moments.{EachMoment, adds}
-use Rattle.df_base.proofs.Laws.{now_is_image}
 use Rattle.df_damage.specs.Written.{IsWritten}
-use Rattle.df_disk.specs.Told.{Told, did}
-use Rattle.df_disk.specs.Adds.{after_all}
-use Rattle.df_theory.specs.Device.{IsGoodWholeDisk, units_log}
-use Rattle.df_theory.specs.UnitLog.{now, put_one}
-use Rattle.df_theory.specs.Units.{AnyUnit, Block, BlockPlace, BlockUnit, or_else}
-use Rattle.df_theory.proofs.Laws.{now_units, pool_pools}
+use Rattle.df_disk.specs.{Told.{Told, did}, Adds.{after_all}}
+use Rattle.df_theory.{specs.{Device.{IsGoodWholeDisk, units_log}, UnitLog.{now, put_one}, Units.{AnyUnit, Block, BlockPlace, BlockUnit, or_else}}, proofs.Laws.{now_units, pool_pools}}
 use Rattle.df_units.specs.Bytes.{unit_at}
-use Rattle.df_model.specs.declared.errors.BlockError.{BlockError}
-use Rattle.df_model.specs.Commands.{Answer, Command, WriteBlock, supplied_sum, supplied_sums}
-use Rattle.df_model.specs.Making.{block_of, next_address}
-use Rattle.df_model.specs.Memory.{memory_of}
-use Rattle.df_model.specs.Refusals.{block_refusals, first_refusal}
-use Rattle.df_model.specs.Supply.{puts_of, unless}
-use Rattle.df_model.specs.Work.{Work, kept}
-use Rattle.df_session.specs.Below.{DataFile, State as Replica, memory, shape, spelling, told_after}
-use Rattle.df_session.specs.Leaving.{image_after}
-use Rattle.df_session.specs.Serving.{EachIsGood, IsCall, IsKept, Keeps, Whole, format, next}
-use Rattle.df_session.specs.Session.{Act}
-use Rattle.df_session.proofs.Laws.{added_is_told}
+use Rattle.df_model.specs.{declared.errors.BlockError.{BlockError}, Commands.{Answer, Command, WriteBlock, supplied_sum, supplied_sums}, Making.{block_of, next_address}, Memory.{memory_of}, Refusals.{block_refusals, first_refusal}, Supply.{puts_of, unless}, Work.{Work, kept}}
+use Rattle.df_session.{specs.{Below.{DataFile, State as Replica, memory, shape, spelling, told_after}, Leaving.{image_after}, Serving.{EachIsGood, IsCall, IsKept, Keeps, Whole, format, next}, Session.{Act}}, proofs.Laws.{added_is_told}}
 
 -- ---- what is told
 

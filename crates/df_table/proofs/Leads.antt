@@ -1,21 +1,12 @@
 -- How the table of a view follows from that of the one before: an append changes it by its command, and a checkpoint of the table leaves it.
-use Rattle.std.proofs.Common.{◌≡◌, ◌≤◌, ℕ, List, [], ◌∷◌, ◌++◌, length, refl, sym, ◌∙◌, ap, subst, arith}
+use Rattle.std.{proofs.Common.{◌≡◌, ◌≤◌, ℕ, List, [], ◌∷◌, ◌++◌, length, refl, sym, ◌∙◌, ap, subst, arith}, specs.Prelude.{All}}
 use Rattle.std.specs.FinMap as map
-use Rattle.std.specs.Prelude.{All}
 use Rattle.df_damage.specs.Written.{IsWritten}
-use Rattle.df_rows.specs.declared.command.Command.{Command}
-use Rattle.df_rows.specs.Blocks.{TakesAll, bodies_of}
-use Rattle.df_rows.specs.Limits.{blocks_of_table, most_rows, rows_in_block}
-use Rattle.df_rows.specs.Rows.{IsEntry}
-use Rattle.df_rows.specs.Tables.{Table, with_command, with_commands}
-use Rattle.df_rows.proofs.Laws.{blocks_are_table, commands_more, some_rows}
+use Rattle.df_rows.{specs.{declared.command.Command.{Command}, Blocks.{TakesAll, bodies_of}, Limits.{blocks_of_table, most_rows, rows_in_block}, Rows.{IsEntry}, Tables.{Table, with_command, with_commands}}, proofs.Laws.{blocks_are_table, commands_more, some_rows}}
 use Rattle.df_model.specs.Blocks.{addresses, entries}
 use Rattle.df_session.specs.Below.{DataFile, shape}
-use Rattle.df_theory.specs.UnitLog.{UnitLog}
-use Rattle.df_theory.specs.Units.{AnyUnit, Message, Parts, Place}
-use Rattle.df_theory.specs.View.{Checkpoint, View}
-use Rattle.df_table.specs.Table.{CommandFollows, FollowAll, HaveBodies, IsTableBy, references_of}
-use Rattle.df_table.specs.Written.{IsTableIn, WroteBodies}
+use Rattle.df_theory.specs.{UnitLog.{UnitLog}, Units.{AnyUnit, Message, Parts, Place}, View.{Checkpoint, View}}
+use Rattle.df_table.specs.{Table.{CommandFollows, FollowAll, HaveBodies, IsTableBy, references_of}, Written.{IsTableIn, WroteBodies}}
 
 -- one prepare more
 pub follow_more : (t : Table) (ps : List Message) (cs : List Command) (p : Message) (c : Command) → FollowAll t ps cs → CommandFollows (with_commands cs t) p.body c → FollowAll t (ps ++ p ∷ []) (cs ++ c ∷ [])

@@ -1,32 +1,12 @@
 -- A session of which neither a prepare nor a step of a checkpoint comes leaves the table of its file, by each log by which the file is kept.
 use Rattle.std.proofs.Common.{◌≡◌, inl, inr, ℕ, zero, suc, List, [], ◌∷◌, ◌++◌, take, drop, Option, Some, None, refl, sym, subst}
-use Rattle.df_base.specs.Image.{Image}
-use Rattle.df_base.specs.Log.{Event, Log, Sync}
-use Rattle.df_base.specs.Moments.{EachMoment, Extends}
-use Rattle.df_base.proofs.Laws.{extends_on, extends_self, one_some}
+use Rattle.df_base.{specs.{Image.{Image}, Log.{Event, Log, Sync}, Moments.{EachMoment, Extends}}, proofs.Laws.{extends_on, extends_self, one_some}}
 use Rattle.df_disk.specs.Told.{Told, did}
 use Rattle.df_theory.specs.Device.{NoChanceOf, units_log}
-use Rattle.df_model.specs.Commands.{Advance, Answer, Append, Command, Flush, Stage}
-use Rattle.df_model.specs.Work.{Work, kept}
-use Rattle.df_rows.specs.declared.command.Command.{Command as Change}
-use Rattle.df_rows.specs.Tables.{Table, with_commands}
-use Rattle.df_session.specs.Acknowledging.{HadAnswers, HadReturned, WereAnswered}
-use Rattle.df_session.specs.Anew.{begun_after}
-use Rattle.df_session.specs.Begun.{begun_work}
-use Rattle.df_session.specs.Below.{DataFile, State as Replica, told_after}
-use Rattle.df_session.specs.Keeping.{KeepsFile, over}
-use Rattle.df_session.specs.Links.{AreCalls, CallsMade, EndsCalls, More, NoCalls, events_made, list_of}
-use Rattle.df_session.specs.Serving.{Whole, format, next}
-use Rattle.df_session.specs.Session.{Act, Exchange, HasView, HoldsSome, IsMidway, acts_in}
-use Rattle.df_session.proofs.Laws.{added_is_told}
-use Rattle.df_table.specs.Keeping.{AreChanges, AreClients, Changes, IsClients, IsPending, IsTableMidway, KeepsFrom, LeaveTable, LeavesTable}
-use Rattle.df_table.specs.Laws.{LeavingKeepsTable}
-use Rattle.df_table.specs.Table.{HasTable}
-use Rattle.df_table.specs.Written.{IsTableIn}
-use Rattle.df_table.proofs.Lasting.{grew, has_table, table_later}
-use Rattle.df_table.proofs.Leads.{table_bare, table_stays}
-use Rattle.df_table.proofs.Started.{shown_there, stands_shown, table_anew, table_at}
-use Rattle.df_table.proofs.Stayed.{IsPlain, plain_stays}
+use Rattle.df_model.specs.{Commands.{Advance, Answer, Append, Command, Flush, Stage}, Work.{Work, kept}}
+use Rattle.df_rows.specs.{declared.command.Command.{Command as Change}, Tables.{Table, with_commands}}
+use Rattle.df_session.{specs.{Acknowledging.{HadAnswers, HadReturned, WereAnswered}, Anew.{begun_after}, Begun.{begun_work}, Below.{DataFile, State as Replica, told_after}, Keeping.{KeepsFile, over}, Links.{AreCalls, CallsMade, EndsCalls, More, NoCalls, events_made, list_of}, Serving.{Whole, format, next}, Session.{Act, Exchange, HasView, HoldsSome, IsMidway, acts_in}}, proofs.Laws.{added_is_told}}
+use Rattle.df_table.{specs.{Keeping.{AreChanges, AreClients, Changes, IsClients, IsPending, IsTableMidway, KeepsFrom, LeaveTable, LeavesTable}, Laws.{LeavingKeepsTable}, Table.{HasTable}, Written.{IsTableIn}}, proofs.{Lasting.{grew, has_table, table_later}, Leads.{table_bare, table_stays}, Started.{shown_there, stands_shown, table_anew, table_at}, Stayed.{IsPlain, plain_stays}}}
 
 -- ---- its commands
 

@@ -1,12 +1,9 @@
 -- Commands of a list that are made one after the other: those that were, and those to come.
-use Rattle.std.proofs.Common.{◌≡◌, ℕ, suc, ◌+◌, ◌-◌, ◌<◌, ◌≤◌, map, arith, List, [], ◌∷◌, ◌++◌, Option, refl, sym, ◌∙◌, subst, append_assoc, append-nil}
-use Rattle.std.specs.List.{range_with_len}
+use Rattle.std.{proofs.Common.{◌≡◌, ℕ, suc, ◌+◌, ◌-◌, ◌<◌, ◌≤◌, map, arith, List, [], ◌∷◌, ◌++◌, Option, refl, sym, ◌∙◌, subst, append_assoc, append-nil}, specs.List.{range_with_len}}
 use Rattle.df_disk.specs.Told.{Told}
 use Rattle.df_model.specs.Commands.{Command}
 use Rattle.df_session.specs.Below.{State as Replica}
-use Rattle.df_table.specs.declared.ending.Ending.{Ending}
-use Rattle.df_table.specs.Turns.{EndIn, MakeAll}
-use Rattle.df_table.proofs.Joined.{end_front, end_more, make_more, make_none}
+use Rattle.df_table.{specs.{declared.ending.Ending.{Ending}, Turns.{EndIn, MakeAll}}, proofs.Joined.{end_front, end_more, make_more, make_none}}
 
 -- of these commands all but the last ones were made
 pub record IsMaking (all rest : List Command) (s t : Replica) (old now : Option Told) : Type 0 where

@@ -1,21 +1,14 @@
 -- How many blocks the trailer of a table's checkpoint has: no more than half of what three tables leave.
-use Rattle.std.proofs.Common.{◌≡◌, ℕ, zero, suc, ◌+◌, ◌-◌, ◌*◌, ◌<◌, ◌≤◌, Bool, List, [], ◌∷◌, length, map, Option, Some, None, refl, sym, ◌∙◌, ap, subst, arith}
-use Rattle.std.specs.List.{range_with_len}
-use Rattle.std.proofs.Math.Nat.{mul-le-mul_right, mul_comm}
+use Rattle.std.{proofs.{Common.{◌≡◌, ℕ, zero, suc, ◌+◌, ◌-◌, ◌*◌, ◌<◌, ◌≤◌, Bool, List, [], ◌∷◌, length, map, Option, Some, None, refl, sym, ◌∙◌, ap, subst, arith}, Math.Nat.{mul-le-mul_right, mul_comm}}, specs.List.{range_with_len}}
 use Rattle.df_base.proofs.Laws.{zero_plus, suc_minus, suc_plus}
 use Rattle.df_layout.specs.declared.layout.Layout.{Layout}
 use Rattle.df_theory.specs.Units.{Parts}
 use Rattle.df_theory.specs.Units as model
-use Rattle.df_trailer.specs.Spelling.{block_checksums, is_referenced, listed, spell}
-use Rattle.df_trailer.specs.Text.{ones}
-use Rattle.df_trailer.proofs.Laws.{text_sized}
+use Rattle.df_trailer.{specs.{Spelling.{block_checksums, is_referenced, listed, spell}, Text.{ones}}, proofs.Laws.{text_sized}}
 use Rattle.df_units.specs.Meaning.{layout_of}
-use Rattle.df_model.specs.Blocks.{sum_at}
-use Rattle.df_model.specs.Making.{parts_of, pieces_of}
-use Rattle.df_model.specs.Work.{is_known}
+use Rattle.df_model.specs.{Blocks.{sum_at}, Making.{parts_of, pieces_of}, Work.{is_known}}
 use Rattle.df_rows.specs.Limits.{blocks_of_table}
-use Rattle.df_session.specs.Beginning.{needed}
-use Rattle.df_session.specs.Below.{State as Replica, memory}
+use Rattle.df_session.specs.{Beginning.{needed}, Below.{State as Replica, memory}}
 use Rattle.df_table.proofs.Free.{count, known_few, one_if}
 
 -- ---- pieces

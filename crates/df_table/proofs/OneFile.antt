@@ -3,23 +3,12 @@ use Rattle.std.proofs.Common.{◌≡◌, ◌⊎◌, inl, inr, ◌∙◌, Ok, Err
 use Rattle.df_base.specs.Image.{Image}
 use Rattle.df_disk.specs.Told.{Told}
 use Rattle.df_layout.specs.declared.layout.Layout.{Layout}
-use Rattle.df_theory.specs.Found.{IsFound}
-use Rattle.df_theory.specs.View.{View}
+use Rattle.df_theory.specs.{Found.{IsFound}, View.{View}}
 use Rattle.df_units.specs.Bytes.{unit_at}
 use Rattle.df_model.specs.Memory.{Memory, memory_of}
 use Rattle.df_rows.specs.Tables.{Table}
-use Rattle.df_session.specs.Begun.{begun_work}
-use Rattle.df_session.specs.Below.{DataFile, IsOpened, State as Replica, memory, shape, spelling}
-use Rattle.df_session.specs.Found.{FoundFile}
-use Rattle.df_session.specs.Reading.{shown_of}
-use Rattle.df_session.proofs.Laws.{file_there, found_file, layout_there}
-use Rattle.df_table.specs.declared.ending.Ending.TheVariants.{Disk}
-use Rattle.df_table.specs.declared.status.Status.{Status}
-use Rattle.df_table.specs.Laws.{FindsIn}
-use Rattle.df_table.specs.Opening.{FindsTable}
-use Rattle.df_table.specs.Outside.{Outside}
-use Rattle.df_table.specs.Run.{ServesTable}
-use Rattle.df_table.proofs.OneFound.{finds_one}
+use Rattle.df_session.{specs.{Begun.{begun_work}, Below.{DataFile, IsOpened, State as Replica, memory, shape, spelling}, Found.{FoundFile}, Reading.{shown_of}}, proofs.Laws.{file_there, found_file, layout_there}}
+use Rattle.df_table.{specs.{declared.ending.Ending.TheVariants.{Disk}, declared.status.Status.{Status}, Laws.{FindsIn}, Opening.{FindsTable}, Outside.{Outside}, Run.{ServesTable}}, proofs.OneFound.{finds_one}}
 
 -- ---- the file
 

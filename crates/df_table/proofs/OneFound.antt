@@ -1,25 +1,10 @@
 -- An opening finds one thing: of two that go on from the same start one goes further only where the other one has no reason to end.
-use Rattle.std.proofs.Common.{◌≡◌, ◌⊎◌, inl, inr, ℕ, suc, ◌+◌, ◌<◌, ◌≤◌, ◌%◌, List, [], ◌∷◌, ◌++◌, length, Result, Ok, Err, refl, sym, ◌∙◌, ap, subst, arith}
-use Rattle.std.proofs.lemmas.Bool.{cases_lt}
-use Rattle.std.proofs.lemmas.Option.{slice_get_within}
-use Rattle.df_layout.specs.declared.damage.Class.{Class}
-use Rattle.df_layout.specs.declared.layout.Layout.{Layout}
-use Rattle.df_layout.specs.declared.places.Zone.TheVariants.{ClientReplies, Grid, WalPrepares}
+use Rattle.std.proofs.{Common.{◌≡◌, ◌⊎◌, inl, inr, ℕ, suc, ◌+◌, ◌<◌, ◌≤◌, ◌%◌, List, [], ◌∷◌, ◌++◌, length, Result, Ok, Err, refl, sym, ◌∙◌, ap, subst, arith}, lemmas.Bool.{cases_lt}, lemmas.Option.{slice_get_within}}
+use Rattle.df_layout.specs.{declared.damage.Class.{Class}, declared.layout.Layout.{Layout}, declared.places.Zone.TheVariants.{ClientReplies, Grid, WalPrepares}}
 use Rattle.df_theory.specs.Units.{Block, Message}
-use Rattle.df_model.specs.Commands.{ReadBlock, ReadPrepare}
-use Rattle.df_model.specs.Memory.{Memory}
-use Rattle.df_model.specs.Supply.{Shown, block_read, message_given}
-use Rattle.df_rows.specs.declared.command.Command.{Command}
-use Rattle.df_rows.specs.Blocks.{TableTakes, TakesAll}
-use Rattle.df_rows.specs.Limits.{blocks_of_table}
-use Rattle.df_rows.specs.Rows.{Entry}
-use Rattle.df_rows.specs.Tables.{Table, with_command, with_commands, with_rows}
-use Rattle.df_rows.proofs.Laws.{one_body, one_command}
-use Rattle.df_table.specs.declared.ending.Ending.{Ending}
-use Rattle.df_table.specs.declared.ending.Ending.TheVariants.{Damaged, NotTable}
-use Rattle.df_table.specs.Laws.{FindsOne}
-use Rattle.df_table.specs.Opening.{AreFollowed, AreReadBlocks, ArePrepares, AreTakenBlocks, BlockHurt, FindsTable, Found, IsOtherClient, NoCommand, NoRows, NoneIsOther, OtherBlock, OtherClient, OtherPrepare, PrepareHurt, place_at}
-use Rattle.df_table.specs.Table.{CommandFollows, FollowAll, empty_table}
+use Rattle.df_model.specs.{Commands.{ReadBlock, ReadPrepare}, Memory.{Memory}, Supply.{Shown, block_read, message_given}}
+use Rattle.df_rows.{specs.{declared.command.Command.{Command}, Blocks.{TableTakes, TakesAll}, Limits.{blocks_of_table}, Rows.{Entry}, Tables.{Table, with_command, with_commands, with_rows}}, proofs.Laws.{one_body, one_command}}
+use Rattle.df_table.specs.{declared.ending.Ending.{Ending}, declared.ending.Ending.TheVariants.{Damaged, NotTable}, Laws.{FindsOne}, Opening.{AreFollowed, AreReadBlocks, ArePrepares, AreTakenBlocks, BlockHurt, FindsTable, Found, IsOtherClient, NoCommand, NoRows, NoneIsOther, OtherBlock, OtherClient, OtherPrepare, PrepareHurt, place_at}, Table.{CommandFollows, FollowAll, empty_table}}
 
 ok_one : (A E : Type 0) (r : Result A E) (a b : A) → r ≡ Ok a → r ≡ Ok b → a ≡ b
 ok_one A E r a b one two = let same : Ok a ≡ Ok b = sym one ∙ two in let is : a ≡ b = cc in is

@@ -1,40 +1,14 @@
 -- After a checkpoint of a table that was done the disk shows its rows in the referenced blocks, in their order.
-use Rattle.std.proofs.Common.{◌≡◌, ℕ, zero, suc, ◌||◌, Bool, if◌then◌else◌, List, [], ◌∷◌, ◌++◌, append-nil, append_assoc, map, Option, Some, None, refl, sym, ◌∙◌, ap, subst, arith, eq-eqb, ne_eqb}
+use Rattle.std.{proofs.{Common.{◌≡◌, ℕ, zero, suc, ◌||◌, Bool, if◌then◌else◌, List, [], ◌∷◌, ◌++◌, append-nil, append_assoc, map, Option, Some, None, refl, sym, ◌∙◌, ap, subst, arith, eq-eqb, ne_eqb}, lemmas.List.Elements.{All-head, All-tail}}, specs.Prelude.{All, replicate}}
 use Rattle.std.specs.FinMap as maps
-use Rattle.std.specs.Prelude.{All, replicate}
-use Rattle.std.proofs.lemmas.List.Elements.{All-head, All-tail}
-use Rattle.df_base.specs.Image.{IsImage}
-use Rattle.df_base.specs.Log.{Event}
-use Rattle.df_base.proofs.Laws.{no_some}
+use Rattle.df_base.{specs.{Image.{IsImage}, Log.{Event}}, proofs.Laws.{no_some}}
 use Rattle.df_disk.specs.Told.{Told, did}
-use Rattle.df_theory.specs.UnitLog.{put_one}
-use Rattle.df_theory.specs.Units.{AnyUnit, Block, BlockPlace, BlockUnit, Units, or_else}
+use Rattle.df_theory.specs.{UnitLog.{put_one}, Units.{AnyUnit, Block, BlockPlace, BlockUnit, Units, or_else}}
 use Rattle.df_units.specs.Bytes.{unit_at}
-use Rattle.df_model.specs.After.{after_running, after_step_of, begun, with_live, with_running}
-use Rattle.df_model.specs.Blocks.{addresses, entries, entry, sum_at}
-use Rattle.df_model.specs.Commands.{Advance, Answer, Begin, Command, Release, ToAdvance, WriteBlock, supplied_sum, supplied_sums}
-use Rattle.df_model.specs.Making.{block_of, next_address}
-use Rattle.df_model.specs.Memory.{Memory, course, course_of, memory_of}
-use Rattle.df_model.specs.Sense.{AtEachOf, IsSpare, IsWork}
-use Rattle.df_model.specs.Supply.{puts_of, step_puts, trailer_puts, unless}
-use Rattle.df_model.specs.Work.{Running, Work, is_captured, is_known, is_of, kept}
-use Rattle.df_model.specs.declared.errors.BlockError.{BlockError}
-use Rattle.df_model.proofs.Laws.{block_may_law, entries_same, entry_at}
-use Rattle.df_rows.specs.Blocks.{bodies_of}
-use Rattle.df_rows.specs.Limits.{rows_in_block}
-use Rattle.df_session.specs.Below.{DataFile, State as Replica, memory, shape, spelling, told_after}
-use Rattle.df_session.specs.Leaving.{image_after}
-use Rattle.df_session.specs.Links.{AreCalls, Calls, More, NoCalls}
-use Rattle.df_session.specs.Serving.{Firm, Keeps, next}
-use Rattle.df_session.specs.Session.{Act, Exchange, acts_in, command_in}
-use Rattle.df_session.proofs.Laws.{added_is_told}
-use Rattle.df_table.specs.Laws.{RowsInOrder}
-use Rattle.df_table.specs.Policy.{writes}
-use Rattle.df_table.specs.Table.{ShowsBodies, ShowsBody, references_of}
-use Rattle.df_table.specs.Turns.{IsAccepted, MakeAll, WasAccepted}
-use Rattle.df_table.proofs.Finished.{no_course}
-use Rattle.df_table.proofs.Placed.{LowHeld, NoLive, OnlyLive, entries_last, low_more, lower, none_from, none_live, one_less}
-use Rattle.df_table.proofs.Stayed.{began, released, wrote}
+use Rattle.df_model.{specs.{After.{after_running, after_step_of, begun, with_live, with_running}, Blocks.{addresses, entries, entry, sum_at}, Commands.{Advance, Answer, Begin, Command, Release, ToAdvance, WriteBlock, supplied_sum, supplied_sums}, Making.{block_of, next_address}, Memory.{Memory, course, course_of, memory_of}, Sense.{AtEachOf, IsSpare, IsWork}, Supply.{puts_of, step_puts, trailer_puts, unless}, Work.{Running, Work, is_captured, is_known, is_of, kept}, declared.errors.BlockError.{BlockError}}, proofs.Laws.{block_may_law, entries_same, entry_at}}
+use Rattle.df_rows.specs.{Blocks.{bodies_of}, Limits.{rows_in_block}}
+use Rattle.df_session.{specs.{Below.{DataFile, State as Replica, memory, shape, spelling, told_after}, Leaving.{image_after}, Links.{AreCalls, Calls, More, NoCalls}, Serving.{Firm, Keeps, next}, Session.{Act, Exchange, acts_in, command_in}}, proofs.Laws.{added_is_told}}
+use Rattle.df_table.{specs.{Laws.{RowsInOrder}, Policy.{writes}, Table.{ShowsBodies, ShowsBody, references_of}, Turns.{IsAccepted, MakeAll, WasAccepted}}, proofs.{Finished.{no_course}, Placed.{LowHeld, NoLive, OnlyLive, entries_last, low_more, lower, none_from, none_live, one_less}, Stayed.{began, released, wrote}}}
 
 -- ---- one command after the other
 

@@ -1,16 +1,10 @@
 -- Whose sessions there are.
-use Rattle.std.proofs.Common.{◌≡◌, ◌==◌, not, Bool, true, false, eqb-true, ℕ, zero, suc, List, [], ◌∷◌, Some, None, refl, sym, ◌∙◌, ap}
-use Rattle.std.specs.List.{slice_get}
-use Rattle.std.proofs.lemmas.Bool.{eqb-false}
-use Rattle.std.proofs.lemmas.Option.{none-some}
-use Rattle.std.specs.Prelude.{◌↔◌, IsTrue}
+use Rattle.std.{proofs.{Common.{◌≡◌, ◌==◌, not, Bool, true, false, eqb-true, ℕ, zero, suc, List, [], ◌∷◌, Some, None, refl, sym, ◌∙◌, ap}, lemmas.Bool.{eqb-false}, lemmas.Option.{none-some}}, specs.{List.{slice_get}, Prelude.{◌↔◌, IsTrue}}}
 use Rattle.df_sessions.specs.declared.session.Session as told
-use Rattle.df_sessions.specs.Requests.{session_of, sessions_of}
+use Rattle.df_sessions.{specs.Requests.{session_of, sessions_of}, proofs.Laws.{session_at}}
 use Rattle.df_theory.specs.Units.{Session}
-use Rattle.df_sessions.proofs.Laws.{session_at}
 use Rattle.df_session.specs.Below.{State as Replica, memory}
-use Rattle.df_table.specs.Opening.{IsOtherClient}
-use Rattle.df_table.specs.Policy.{the_client}
+use Rattle.df_table.specs.{Opening.{IsOtherClient}, Policy.{the_client}}
 
 told_none : (ss : List told.Session) (place : ℕ) → slice_get ss place ≡ None → slice_get (sessions_of ss) place ≡ None
 told_none [] place is = refl

@@ -1,34 +1,11 @@
 -- Of each view that the calls of a table's session leave all sessions are the client's.
-use Rattle.std.proofs.Common.{◌≡◌, inl, inr, ℕ, zero, suc, ◌==◌, Bool, true, false, if◌then◌else◌, List, [], ◌∷◌, ◌++◌, drop, Option, Some, None, refl, sym, ◌∙◌, subst, eqb-true}
-use Rattle.std.specs.List.{slice_get}
-use Rattle.df_base.specs.Image.{Image}
-use Rattle.df_base.specs.Log.{IsLeft, Log, Sync}
-use Rattle.df_base.specs.Moments.{EachMoment, Extends}
-use Rattle.df_base.proofs.Laws.{one_some, weaker}
+use Rattle.std.{proofs.Common.{◌≡◌, inl, inr, ℕ, zero, suc, ◌==◌, Bool, true, false, if◌then◌else◌, List, [], ◌∷◌, ◌++◌, drop, Option, Some, None, refl, sym, ◌∙◌, subst, eqb-true}, specs.List.{slice_get}}
+use Rattle.df_base.{specs.{Image.{Image}, Log.{IsLeft, Log, Sync}, Moments.{EachMoment, Extends}}, proofs.Laws.{one_some, weaker}}
 use Rattle.df_disk.specs.Told.{Told, did}
-use Rattle.df_theory.specs.Device.{NoChanceOf}
-use Rattle.df_theory.specs.Holds.{Held, Stands}
-use Rattle.df_theory.specs.Next.{IsSameBare}
-use Rattle.df_theory.specs.Sessions.{noted, session_of_header, sessions_after}
-use Rattle.df_theory.specs.Units.{Header, Message, Parts, Session}
-use Rattle.df_theory.specs.View.{View}
-use Rattle.df_model.specs.After.{with_verdict}
-use Rattle.df_model.specs.Change.{Appends, Begins, Change, Checks, Ends, LetsGo, Lives, One, Replies, Staged, Stages, Stays, TourEnds, Writes}
-use Rattle.df_model.specs.Commands.{Command, Given, supplied_sum, supplied_verdict}
-use Rattle.df_model.specs.Making.{prepare_of}
-use Rattle.df_model.specs.Memory.{memory_of}
-use Rattle.df_model.specs.Work.{Running, Work, kept}
-use Rattle.df_model.specs.declared.answers.Verdict.{Verdict}
-use Rattle.df_model.specs.declared.answers.Verdict.TheVariants.{Failing, Sound}
-use Rattle.df_model.proofs.Laws.{one_thing_law}
-use Rattle.df_session.specs.Begun.{begun_work}
-use Rattle.df_session.specs.Below.{DataFile, shape, spelling}
-use Rattle.df_session.specs.Keeping.{KeepsFile}
-use Rattle.df_session.specs.Links.{list_of}
-use Rattle.df_session.specs.Serving.{Whole, format, next}
-use Rattle.df_session.specs.Session.{Act, Exchange, HasView, HoldsSome, IsMidway, acts_in}
-use Rattle.df_table.specs.Keeping.{AreClients, IsClients}
-use Rattle.df_table.specs.Policy.{the_client}
+use Rattle.df_theory.specs.{Device.{NoChanceOf}, Holds.{Held, Stands}, Next.{IsSameBare}, Sessions.{noted, session_of_header, sessions_after}, Units.{Header, Message, Parts, Session}, View.{View}}
+use Rattle.df_model.{specs.{After.{with_verdict}, Change.{Appends, Begins, Change, Checks, Ends, LetsGo, Lives, One, Replies, Staged, Stages, Stays, TourEnds, Writes}, Commands.{Command, Given, supplied_sum, supplied_verdict}, Making.{prepare_of}, Memory.{memory_of}, Work.{Running, Work, kept}, declared.answers.Verdict.{Verdict}, declared.answers.Verdict.TheVariants.{Failing, Sound}}, proofs.Laws.{one_thing_law}}
+use Rattle.df_session.specs.{Begun.{begun_work}, Below.{DataFile, shape, spelling}, Keeping.{KeepsFile}, Links.{list_of}, Serving.{Whole, format, next}, Session.{Act, Exchange, HasView, HoldsSome, IsMidway, acts_in}}
+use Rattle.df_table.specs.{Keeping.{AreClients, IsClients}, Policy.{the_client}}
 
 -- ---- sessions and prepares
 

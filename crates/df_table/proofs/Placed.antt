@@ -1,15 +1,8 @@
 -- Blocks by their addresses: which are live, that a new one lies above them, and so stands last among them.
-use Rattle.std.proofs.Common.{◌≡◌, inl, inr, ℕ, zero, suc, ◌+◌, ◌<◌, ◌≤◌, ◌==◌, ◌||◌, Bool, true, false, if◌then◌else◌, List, [], ◌∷◌, ◌++◌, Option, Some, None, refl, sym, ◌∙◌, ap, subst, arith, eq-eqb, eqb-true, ne_eqb}
-use Rattle.std.specs.List.{range_with_len}
-use Rattle.std.proofs.lemmas.Bool.{cases_eq, cases_lt, eqb-false}
+use Rattle.std.{proofs.{Common.{◌≡◌, inl, inr, ℕ, zero, suc, ◌+◌, ◌<◌, ◌≤◌, ◌==◌, ◌||◌, Bool, true, false, if◌then◌else◌, List, [], ◌∷◌, ◌++◌, Option, Some, None, refl, sym, ◌∙◌, ap, subst, arith, eq-eqb, eqb-true, ne_eqb}, lemmas.Bool.{cases_eq, cases_lt, eqb-false}}, specs.List.{range_with_len}}
 use Rattle.df_base.proofs.Laws.{no_some}
-use Rattle.df_theory.specs.Shape.{Shape}
-use Rattle.df_theory.specs.UnitLog.{UnitLog}
-use Rattle.df_model.specs.After.{with_live}
-use Rattle.df_model.specs.Blocks.{entries, entry, sum_at}
-use Rattle.df_model.specs.Laws.{IsLeastFree}
-use Rattle.df_model.specs.Work.{Work, is_captured, is_held, is_known, is_of}
-use Rattle.df_model.proofs.Laws.{live_held}
+use Rattle.df_theory.specs.{Shape.{Shape}, UnitLog.{UnitLog}}
+use Rattle.df_model.{specs.{After.{with_live}, Blocks.{entries, entry, sum_at}, Laws.{IsLeastFree}, Work.{Work, is_captured, is_held, is_known, is_of}}, proofs.Laws.{live_held}}
 use Rattle.df_table.specs.Written.{WroteBodies, WroteBody}
 
 -- ---- lists of blocks

@@ -1,31 +1,15 @@
 -- A prepare after the checkpoint that is read: the call that was made, and what the opening finds by it.
-use Rattle.std.proofs.Common.{◌≡◌, ◌+◌, ◌<◌, ◌≤◌, ◌%◌, ◌&&◌, inr, ℕ, Bool, true, not, nat_le, nat_lt, List, [], ◌∷◌, Option, Some, None, refl, sym, ◌∙◌, ap, subst, Result, Ok, Err, lt-ltb, le-leb}
-use Rattle.std.proofs.lemmas.Option.{none-some}
+use Rattle.std.proofs.{Common.{◌≡◌, ◌+◌, ◌<◌, ◌≤◌, ◌%◌, ◌&&◌, inr, ℕ, Bool, true, not, nat_le, nat_lt, List, [], ◌∷◌, Option, Some, None, refl, sym, ◌∙◌, ap, subst, Result, Ok, Err, lt-ltb, le-leb}, lemmas.Option.{none-some}}
 use Rattle.df_base.specs.Causes.{Blamed}
 use Rattle.df_disk.specs.Told.{Told}
-use Rattle.df_layout.specs.declared.layout.Layout.{Layout}
-use Rattle.df_layout.specs.declared.places.Place.{Place}
-use Rattle.df_layout.specs.declared.places.Zone.TheVariants.{WalPrepares}
+use Rattle.df_layout.specs.{declared.layout.Layout.{Layout}, declared.places.Place.{Place}, declared.places.Zone.TheVariants.{WalPrepares}}
 use Rattle.df_theory.specs.Units.{Message}
-use Rattle.df_model.specs.Commands.{ReadPrepare, ToReadPrepare}
-use Rattle.df_model.specs.Faults.{is_prepare_fault}
-use Rattle.df_model.specs.Refusals.{first_refusal}
-use Rattle.df_model.specs.Supply.{message_given}
-use Rattle.df_model.specs.declared.reading.PrepareError.{PrepareError}
+use Rattle.df_model.specs.{Commands.{ReadPrepare, ToReadPrepare}, Faults.{is_prepare_fault}, Refusals.{first_refusal}, Supply.{message_given}, declared.reading.PrepareError.{PrepareError}}
 use Rattle.df_model.specs.declared.reading.PrepareError.TheVariants as prepare
 use Rattle.df_rows.specs.Tables.{Table}
-use Rattle.df_session.specs.Answering.{ServesRead, answer_of}
-use Rattle.df_session.specs.Below.{State as Replica, memory}
-use Rattle.df_session.specs.Reading.{IsFoundBy, IsReadPrepare, prepare_found, shown_of}
+use Rattle.df_session.{specs.{Answering.{ServesRead, answer_of}, Below.{State as Replica, memory}, Reading.{IsFoundBy, IsReadPrepare, prepare_found, shown_of}}, proofs.Laws.{reads_prepare}}
 use Rattle.df_session.specs.declared.hearing.Fault.TheVariants as faults
-use Rattle.df_session.proofs.Laws.{reads_prepare}
-use Rattle.df_table.specs.declared.ending.Ending.{Ending}
-use Rattle.df_table.specs.declared.ending.Ending.TheVariants.{Damaged}
-use Rattle.df_table.specs.Calls.{Comes}
-use Rattle.df_table.specs.Opening.{GivesCommand, LacksCommand, ReadsPrepare, TakesCommand, place_at, prepare_ending}
-use Rattle.df_table.specs.Statuses.{is_disk}
-use Rattle.df_table.proofs.BodyTaken.{body_comes, by_body}
-use Rattle.df_table.proofs.Joined.{one_failed, one_spent}
+use Rattle.df_table.{specs.{declared.ending.Ending.{Ending}, declared.ending.Ending.TheVariants.{Damaged}, Calls.{Comes}, Opening.{GivesCommand, LacksCommand, ReadsPrepare, TakesCommand, place_at, prepare_ending}, Statuses.{is_disk}}, proofs.{BodyTaken.{body_comes, by_body}, Joined.{one_failed, one_spent}}}
 
 -- ---- the call
 

@@ -1,20 +1,13 @@
 -- A file that isn't opened: what is said of it, and what it blames.
 use Rattle.std.proofs.Common.{◌≡◌, inl, inr, ℕ, List, Option, Some, refl, ◌∙◌, ap, subst, Err}
-use Rattle.df_base.specs.Causes.{IsBlamed}
-use Rattle.df_base.specs.Image.{IsImage}
-use Rattle.df_base.specs.Log.{Sync}
+use Rattle.df_base.specs.{Causes.{IsBlamed}, Image.{IsImage}, Log.{Sync}}
 use Rattle.df_disk.specs.Told.{Told, after}
 use Rattle.df_layout.specs.declared.layout.Layout.{Layout}
-use Rattle.df_model.specs.declared.errors.OpenError.{OpenError}
+use Rattle.df_model.specs.{declared.errors.OpenError.{OpenError}, Faults.{is_open_fault}}
 use Rattle.df_model.specs.declared.errors.OpenError.TheVariants as opens
-use Rattle.df_model.specs.Faults.{is_open_fault}
-use Rattle.df_session.specs.Opened.{StopsOpening}
-use Rattle.df_session.specs.Surveying.{TellsSurvey}
+use Rattle.df_session.specs.{Opened.{StopsOpening}, Surveying.{TellsSurvey}}
 use Rattle.df_program.proofs.Laws.{open_causes, open_fault, refusal_ends}
-use Rattle.df_table.specs.declared.status.Status.{Status}
-use Rattle.df_table.specs.declared.status.Status.TheVariants.{DiskFault, Memory, ReadFault, Refused, Words, WriteFault}
-use Rattle.df_table.specs.Outside.{Blames, EndsWithFile, HasTableCauses, Outside, PrintsTableError, counts}
-use Rattle.df_table.specs.Run.{DoesTable, FailsToFindTable, RefusesTableFile}
+use Rattle.df_table.specs.{declared.status.Status.{Status}, declared.status.Status.TheVariants.{DiskFault, Memory, ReadFault, Refused, Words, WriteFault}, Outside.{Blames, EndsWithFile, HasTableCauses, Outside, PrintsTableError, counts}, Run.{DoesTable, FailsToFindTable, RefusesTableFile}}
 
 -- ---- how it ends, and what it blames
 

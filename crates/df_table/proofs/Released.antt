@@ -1,20 +1,11 @@
 -- All live blocks are released, address by address: after each address those above it are left.
-use Rattle.std.proofs.Common.{◌≡◌, ℕ, suc, ◌+◌, ◌-◌, ◌<◌, Bool, if◌then◌else◌, List, [], ◌∷◌, ◌++◌, map, Option, Some, None, refl, sym, ◌∙◌, ap, subst, arith, eq-eqb}
-use Rattle.std.specs.List.{range_with_len}
+use Rattle.std.{proofs.Common.{◌≡◌, ℕ, suc, ◌+◌, ◌-◌, ◌<◌, Bool, if◌then◌else◌, List, [], ◌∷◌, ◌++◌, map, Option, Some, None, refl, sym, ◌∙◌, ap, subst, arith, eq-eqb}, specs.List.{range_with_len}}
 use Rattle.df_base.proofs.Laws.{minus_zero}
 use Rattle.df_disk.specs.Told.{Told}
 use Rattle.df_layout.specs.declared.layout.Layout.{Layout}
-use Rattle.df_model.specs.Memory.{Memory}
-use Rattle.df_model.specs.Blocks.{entries, entry, sum_at, without_entry}
-use Rattle.df_model.specs.Commands.{Command, Release}
-use Rattle.df_model.proofs.Laws.{entry_at, without_none}
-use Rattle.df_session.specs.Below.{State as Replica, memory}
-use Rattle.df_session.specs.Blocks.{released}
-use Rattle.df_table.specs.Policy.{releases, releases_at}
-use Rattle.df_table.specs.Ready.{IsReadyReplica, without_live}
-use Rattle.df_table.specs.Turns.{MakeAll}
-use Rattle.df_table.proofs.Joined.{make_none}
-use Rattle.df_table.proofs.Making.{IsMaking, all_making, making_more}
+use Rattle.df_model.{specs.{Memory.{Memory}, Blocks.{entries, entry, sum_at, without_entry}, Commands.{Command, Release}}, proofs.Laws.{entry_at, without_none}}
+use Rattle.df_session.specs.{Below.{State as Replica, memory}, Blocks.{released}}
+use Rattle.df_table.{specs.{Policy.{releases, releases_at}, Ready.{IsReadyReplica, without_live}, Turns.{MakeAll}}, proofs.{Joined.{make_none}, Making.{IsMaking, all_making, making_more}}}
 
 -- the live blocks of a replica that is ready, as a map's entries
 pub live_entries : (layout : Layout) (s : Replica) (ready : IsReadyReplica layout s) → s.blocks.live ≡ entries ready.work.live (range_with_len 1 layout.blocks)

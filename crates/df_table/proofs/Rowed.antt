@@ -1,26 +1,11 @@
 -- A table that stands in blocks has no more rows than its layout allows, each of which fits, and so it fits its blocks.
-use Rattle.std.proofs.Common.{◌≡◌, ◌≤◌, ◌∙◌, ◌+◌, ℕ, zero, suc, List, [], ◌∷◌, length, ap, arith, refl, subst, sym}
+use Rattle.std.{proofs.{Common.{◌≡◌, ◌≤◌, ◌∙◌, ◌+◌, ℕ, zero, suc, List, [], ◌∷◌, length, ap, arith, refl, subst, sym}, lemmas.List.{length-map}}, specs.{FinMap.{len-entries}, Fork.{slice_chunk}, Prelude.{All}, List.{range_with_len}}}
 use Rattle.std.specs.FinMap as maps
-use Rattle.std.specs.FinMap.{len-entries}
-use Rattle.std.specs.Fork.{slice_chunk}
-use Rattle.std.specs.Prelude.{All}
-use Rattle.std.specs.List.{range_with_len}
-use Rattle.std.proofs.lemmas.List.{length-map}
 use Rattle.df_layout.specs.declared.layout.Layout.{Layout}
-use Rattle.df_rows.specs.declared.command.Command.{Command}
-use Rattle.df_rows.specs.Blocks.{TakesAll, bodies_of, chunks_of}
-use Rattle.df_rows.specs.Limits.{block_count, blocks_of_table, most_rows, rows_in_block}
-use Rattle.df_rows.specs.Rows.{Entry, IsEntry, rows_of}
-use Rattle.df_rows.specs.Tables.{Table, with_command, with_commands, with_rows}
-use Rattle.df_rows.proofs.Laws.{AreRowsFit, command_fits, none_fits, rows_fit, tables_fit}
+use Rattle.df_rows.{specs.{declared.command.Command.{Command}, Blocks.{TakesAll, bodies_of, chunks_of}, Limits.{block_count, blocks_of_table, most_rows, rows_in_block}, Rows.{Entry, IsEntry, rows_of}, Tables.{Table, with_command, with_commands, with_rows}}, proofs.Laws.{AreRowsFit, command_fits, none_fits, rows_fit, tables_fit}}
 use Rattle.df_session.specs.Below.{DataFile}
-use Rattle.df_theory.specs.UnitLog.{UnitLog}
-use Rattle.df_theory.specs.Units.{Message}
-use Rattle.df_theory.specs.View.{View}
-use Rattle.df_table.specs.Table.{FollowAll, empty_table}
-use Rattle.df_table.specs.Written.{IsTableIn}
-use Rattle.df_table.proofs.Behind.{HasFew}
-use Rattle.df_table.proofs.ServedLines.{empty_few, follow_few, takes_few}
+use Rattle.df_theory.specs.{UnitLog.{UnitLog}, Units.{Message}, View.{View}}
+use Rattle.df_table.{specs.{Table.{FollowAll, empty_table}, Written.{IsTableIn}}, proofs.{Behind.{HasFew}, ServedLines.{empty_few, follow_few, takes_few}}}
 
 -- what is true of the table of a file
 pub record HasBounds (layout : Layout) (t : Table) : Type 0 where

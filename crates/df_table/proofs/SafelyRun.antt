@@ -1,36 +1,14 @@
 -- Over a file that may be opened each other end of a run needs a call that failed, or a refusal that no such file has.
 use Rattle.std.proofs.Common.{◌≡◌, ◌⊎◌, ◌<◌, ◌^◌, inl, inr, ℕ, ◌-◌, Bool, true, false, List, [], ◌∷◌, ◌++◌, Option, Some, None, Result, Ok, Err, refl, sym, ◌∙◌, ap, subst}
-use Rattle.df_base.specs.Image.{IsImage}
-use Rattle.df_base.specs.Log.{Sync}
-use Rattle.df_disk.specs.Adds.{after_all}
-use Rattle.df_disk.specs.Told.{Told, did}
+use Rattle.df_base.specs.{Image.{IsImage}, Log.{Sync}}
+use Rattle.df_disk.specs.{Adds.{after_all}, Told.{Told, did}}
 use Rattle.df_layout.specs.declared.layout.Layout.{Layout}
 use Rattle.df_theory.specs.View.{View, boot_of}
-use Rattle.df_lines.specs.Room.{line_bound}
-use Rattle.df_lines.specs.Text.{after_line, line_of, taken}
-use Rattle.df_rows.specs.Grammar.{Count, Drop, Get, Put, Said, SaysTableLine}
-use Rattle.df_lines.specs.Lines.{Begins, IsRefused}
-use Rattle.df_rows.specs.Tables.{Table}
-use Rattle.df_session.specs.Below.{DataFile, IsNotRefused, State as Replica, memory}
-use Rattle.df_session.specs.Following.{MayOpen}
-use Rattle.df_session.specs.Found.{FoundFile}
-use Rattle.df_session.specs.Links.{events_made}
-use Rattle.df_session.proofs.Laws.{added_is_told, safe_is_not_refused}
+use Rattle.df_lines.specs.{Room.{line_bound}, Text.{after_line, line_of, taken}, Lines.{Begins, IsRefused}}
+use Rattle.df_rows.specs.{Grammar.{Count, Drop, Get, Put, Said, SaysTableLine}, Tables.{Table}}
+use Rattle.df_session.{specs.{Below.{DataFile, IsNotRefused, State as Replica, memory}, Following.{MayOpen}, Found.{FoundFile}, Links.{events_made}}, proofs.Laws.{added_is_told, safe_is_not_refused}}
 use Rattle.df_program.proofs.Laws.{nothing_failed}
-use Rattle.df_table.specs.declared.ending.Ending.{Ending}
-use Rattle.df_table.specs.declared.ending.Ending.TheVariants.{Damaged, Disk, NotTable, OpsSpent, SequenceSpent}
-use Rattle.df_table.specs.declared.status.Status.{Status}
-use Rattle.df_table.specs.declared.status.Status.TheVariants.{Done, DiskFault, Memory, ReadFault, WriteFault}
-use Rattle.df_table.specs.Completeness.{EndsSpent, IsSpentEnding, IsWholeTableScript, SafeTableIsRun}
-use Rattle.df_table.specs.Laws.{FindsIn}
-use Rattle.df_table.specs.Outside.{Faults, HasTableCauses, NoneFailed, Outside}
-use Rattle.df_table.specs.Run.{DoesTable, TableOutcome}
-use Rattle.df_table.specs.Session.{EndsAs, Halt, HaltsIn, NotOpened, Served, ServesFoundTable, ServesLines, said_in, script_budget}
-use Rattle.df_table.specs.Statuses.{status_of}
-use Rattle.df_table.specs.Turns.{IsOfCall, table_said}
-use Rattle.df_table.proofs.OneFile.{found_of}
-use Rattle.df_table.proofs.Started.{shown_there}
-use Rattle.df_table.proofs.Sessioned.{called_told}
+use Rattle.df_table.{specs.{declared.ending.Ending.{Ending}, declared.ending.Ending.TheVariants.{Damaged, Disk, NotTable, OpsSpent, SequenceSpent}, declared.status.Status.{Status}, declared.status.Status.TheVariants.{Done, DiskFault, Memory, ReadFault, WriteFault}, Completeness.{EndsSpent, IsSpentEnding, IsWholeTableScript, SafeTableIsRun}, Laws.{FindsIn}, Outside.{Faults, HasTableCauses, NoneFailed, Outside}, Run.{DoesTable, TableOutcome}, Session.{EndsAs, Halt, HaltsIn, NotOpened, Served, ServesFoundTable, ServesLines, said_in, script_budget}, Statuses.{status_of}, Turns.{IsOfCall, table_said}}, proofs.{OneFile.{found_of}, Started.{shown_there}, Sessioned.{called_told}}}
 
 -- ---- a text that is whole has no line that is refused
 

@@ -1,39 +1,13 @@
 -- A file that was opened is served: what the opening finds is that of what the disk showed at first, and all calls are calls on the file that was opened.
-use Rattle.std.proofs.Common.{◌≡◌, inr, ℕ, ◌%◌, true, List, [], ◌∷◌, ◌++◌, Option, Some, None, Result, refl, sym, ◌∙◌, ap, subst, arith, lt-ltb}
-use Rattle.std.proofs.Math.Nat.{mod-lt}
-use Rattle.std.proofs.lemmas.Bool.{and_from, le-leb}
+use Rattle.std.proofs.{Common.{◌≡◌, inr, ℕ, ◌%◌, true, List, [], ◌∷◌, ◌++◌, Option, Some, None, Result, refl, sym, ◌∙◌, ap, subst, arith, lt-ltb}, Math.Nat.{mod-lt}, lemmas.Bool.{and_from, le-leb}}
 use Rattle.df_base.specs.Image.{IsImage}
 use Rattle.df_disk.specs.Told.{Told}
-use Rattle.df_layout.specs.declared.layout.Layout.{Layout}
-use Rattle.df_layout.proofs.Laws.{some_slots}
-use Rattle.df_theory.specs.Found.{IsFound}
-use Rattle.df_theory.specs.Units.{PreparePlace}
-use Rattle.df_theory.specs.View.{View}
+use Rattle.df_layout.{specs.declared.layout.Layout.{Layout}, proofs.Laws.{some_slots}}
+use Rattle.df_theory.specs.{Found.{IsFound}, Units.{PreparePlace}, View.{View}}
 use Rattle.df_units.specs.Bytes.{unit_at}
 use Rattle.df_rows.specs.Tables.{Table}
-use Rattle.df_session.specs.Begun.{begun_work}
-use Rattle.df_session.specs.Below.{IsOpened, State as Replica, memory, shape}
-use Rattle.df_session.specs.Agreeing.{AgreeShown}
-use Rattle.df_session.specs.Found.{FoundFile}
-use Rattle.df_session.specs.Laws.{CallsKeep}
-use Rattle.df_session.specs.Leaving.{IsReadPlace}
-use Rattle.df_session.specs.Links.{AreCalls, CallsMade, EndsCalls, NoCalls}
-use Rattle.df_session.specs.Opened.{MendsAll}
-use Rattle.df_session.specs.Reading.{shown_of}
-use Rattle.df_session.specs.Session.{Act, Exchange}
-use Rattle.df_session.proofs.Laws.{begun_here, calls_join, calls_keep, view_there}
-use Rattle.df_table.specs.declared.ending.Ending.{Ending}
-use Rattle.df_table.specs.declared.status.Status.{Status}
-use Rattle.df_table.specs.Opening.{FindsOf}
-use Rattle.df_table.specs.Outside.{Outside}
-use Rattle.df_table.specs.Ready.{IsBegun}
-use Rattle.df_table.specs.Run.{DoesTable, ServesTable}
-use Rattle.df_table.specs.Session.{AreCallsOf, Halt, HaltsIn, NotOpened, Served, ServesFoundTable, ServesLines, ServesOpened, halted_exchanges, halted_failed}
-use Rattle.df_table.specs.Turns.{AreTurns, NextTurn, NoTurns, TableTurn, table_exchanges}
-use Rattle.df_table.proofs.Agreed.{AreInside, entries_inside, finds_of_same}
-use Rattle.df_table.proofs.Begun.{begun_entries}
-use Rattle.df_table.proofs.Joined.{ends_join}
-use Rattle.df_table.proofs.Sessioned.{sessions_keep}
+use Rattle.df_session.{specs.{Begun.{begun_work}, Below.{IsOpened, State as Replica, memory, shape}, Agreeing.{AgreeShown}, Found.{FoundFile}, Laws.{CallsKeep}, Leaving.{IsReadPlace}, Links.{AreCalls, CallsMade, EndsCalls, NoCalls}, Opened.{MendsAll}, Reading.{shown_of}, Session.{Act, Exchange}}, proofs.Laws.{begun_here, calls_join, calls_keep, view_there}}
+use Rattle.df_table.{specs.{declared.ending.Ending.{Ending}, declared.status.Status.{Status}, Opening.{FindsOf}, Outside.{Outside}, Ready.{IsBegun}, Run.{DoesTable, ServesTable}, Session.{AreCallsOf, Halt, HaltsIn, NotOpened, Served, ServesFoundTable, ServesLines, ServesOpened, halted_exchanges, halted_failed}, Turns.{AreTurns, NextTurn, NoTurns, TableTurn, table_exchanges}}, proofs.{Agreed.{AreInside, entries_inside, finds_of_same}, Begun.{begun_entries}, Joined.{ends_join}, Sessioned.{sessions_keep}}}
 
 -- ---- all of its calls
 

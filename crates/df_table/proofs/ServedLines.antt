@@ -1,38 +1,14 @@
 -- A session that was just opened, over a script that nothing was read of: what its lines come to is what the script is served by.
-use Rattle.std.proofs.Common.{◌≡◌, inl, inr, ℕ, ◌+◌, ◌≤◌, List, [], ◌∷◌, ◌++◌, length, Option, Some, Result, Ok, Err, refl, sym, ◌∙◌, ap, subst, arith}
+use Rattle.std.{proofs.Common.{◌≡◌, inl, inr, ℕ, ◌+◌, ◌≤◌, List, [], ◌∷◌, ◌++◌, length, Option, Some, Result, Ok, Err, refl, sym, ◌∙◌, ap, subst, arith}, specs.FinMap.{len-empty}}
 use Rattle.std.specs.FinMap as map
-use Rattle.std.specs.FinMap.{len-empty}
 use Rattle.df_disk.specs.Told.{Told}
 use Rattle.df_layout.specs.declared.layout.Layout.{Layout}
-use Rattle.df_lines.specs.Room.{IsFresh, line_bound}
-use Rattle.df_lines.specs.Text.{Reading, unread}
-use Rattle.df_model.specs.Memory.{Memory}
-use Rattle.df_model.specs.Supply.{Shown}
+use Rattle.df_lines.{specs.{Room.{IsFresh, line_bound}, Text.{Reading, unread}, Lines.{Begins}}, proofs.Laws.{unread_none}}
+use Rattle.df_model.specs.{Memory.{Memory}, Supply.{Shown}}
 use Rattle.df_theory.specs.Units.{Message}
-use Rattle.df_rows.specs.declared.command.Command.{Command}
-use Rattle.df_rows.specs.declared.command.Command.TheVariants.{Drop, Put}
-use Rattle.df_rows.specs.Blocks.{TakesAll}
-use Rattle.df_rows.specs.Limits.{most_rows}
-use Rattle.df_rows.specs.Lines.{map_text}
-use Rattle.df_rows.specs.Rows.{Entry}
-use Rattle.df_lines.specs.Lines.{Begins}
-use Rattle.df_rows.specs.Grammar.{SaysTableLine}
-use Rattle.df_rows.specs.Tables.{AreNew, CanApply, Table, with_command, with_commands, with_row, with_rows}
+use Rattle.df_rows.specs.{declared.command.Command.{Command}, declared.command.Command.TheVariants.{Drop, Put}, Blocks.{TakesAll}, Limits.{most_rows}, Lines.{map_text}, Rows.{Entry}, Grammar.{SaysTableLine}, Tables.{AreNew, CanApply, Table, with_command, with_commands, with_row, with_rows}}
 use Rattle.df_session.specs.Below.{State as Replica}
-use Rattle.df_lines.proofs.Laws.{unread_none}
-use Rattle.df_table.specs.declared.ending.Ending.{Ending}
-use Rattle.df_table.specs.declared.ending.Ending.TheVariants.{Disk}
-use Rattle.df_table.specs.declared.session.Session.{Session}
-use Rattle.df_table.specs.declared.status.Status.{Status}
-use Rattle.df_table.specs.Opening.{AreFollowed, BlockHurt, FindsOf, FindsTable, Found, OtherBlock, OtherClient, OtherPrepare, PrepareHurt}
-use Rattle.df_table.specs.Outside.{Outside}
-use Rattle.df_table.specs.Ready.{IsReadyReplica, IsSteady}
-use Rattle.df_table.specs.Serving.{ServingEnded, state}
-use Rattle.df_table.specs.Session.{ServesLines, ServingEndsWith, closing, said_in, script_budget}
-use Rattle.df_table.specs.Table.{FollowAll, empty_table}
-use Rattle.df_table.specs.Turns.{TableTurn, table_said}
-use Rattle.df_table.proofs.Behind.{HasFew, drop_few, put_few}
-use Rattle.df_table.proofs.FoundTable.{unok}
+use Rattle.df_table.{specs.{declared.ending.Ending.{Ending}, declared.ending.Ending.TheVariants.{Disk}, declared.session.Session.{Session}, declared.status.Status.{Status}, Opening.{AreFollowed, BlockHurt, FindsOf, FindsTable, Found, OtherBlock, OtherClient, OtherPrepare, PrepareHurt}, Outside.{Outside}, Ready.{IsReadyReplica, IsSteady}, Serving.{ServingEnded, state}, Session.{ServesLines, ServingEndsWith, closing, said_in, script_budget}, Table.{FollowAll, empty_table}, Turns.{TableTurn, table_said}}, proofs.{Behind.{HasFew, drop_few, put_few}, FoundTable.{unok}}}
 
 -- one line a turn
 as_many : (turns : List TableTurn) → length turns ≡ length (table_said turns)

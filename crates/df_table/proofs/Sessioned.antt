@@ -1,48 +1,14 @@
 -- What is kept of a table by the calls of a session, by each log by which the file might be opened: so it is of a session, whatever ended it.
 use Rattle.std.proofs.Common.{◌≡◌, inl, inr, ℕ, true, List, [], ◌++◌, take, drop, Option, Some, None, Result, Ok, Err, refl, sym, ◌∙◌, ap, subst}
-use Rattle.df_base.specs.Image.{IsImage}
-use Rattle.df_base.specs.Log.{Event, Log, Sync}
-use Rattle.df_base.specs.Moments.{EachMoment, Extends}
-use Rattle.df_base.proofs.Laws.{started}
+use Rattle.df_base.{specs.{Image.{IsImage}, Log.{Event, Log, Sync}, Moments.{EachMoment, Extends}}, proofs.Laws.{started}}
 use Rattle.df_disk.specs.Told.{Told, did}
 use Rattle.df_layout.specs.declared.layout.Layout.{Layout}
-use Rattle.df_theory.specs.Found.{IsFound}
-use Rattle.df_theory.specs.View.{View}
+use Rattle.df_theory.specs.{Found.{IsFound}, View.{View}}
 use Rattle.df_units.specs.Bytes.{unit_at}
-use Rattle.df_model.specs.Memory.{Memory}
-use Rattle.df_model.specs.Work.{Work}
-use Rattle.df_rows.specs.declared.command.Command.{Command as Change}
-use Rattle.df_rows.specs.Tables.{Table, with_commands}
-use Rattle.df_session.specs.Acknowledging.{HadAnswers, WereAnswered}
-use Rattle.df_session.specs.Anew.{begun_after}
-use Rattle.df_session.specs.Begun.{begun_work}
-use Rattle.df_session.specs.Below.{DataFile, State as Replica, memory, shape, told_after}
-use Rattle.df_session.specs.Found.{FoundFile}
-use Rattle.df_session.specs.Links.{CallsMade, EndsCalls, call_events, events_made, events_to}
-use Rattle.df_session.specs.Opened.{MendsAll}
-use Rattle.df_session.specs.Reading.{shown_of}
-use Rattle.df_session.specs.Serving.{Firm, Keeps}
-use Rattle.df_session.specs.Session.{Act, Exchange}
-use Rattle.df_session.proofs.Laws.{begun_here, told_append}
-use Rattle.df_session.proofs.Laws.{joined}
-use Rattle.df_table.specs.declared.ending.Ending.{Ending}
-use Rattle.df_table.specs.declared.ending.Ending.TheVariants.{Disk}
-use Rattle.df_table.specs.declared.status.Status.{Status}
-use Rattle.df_table.specs.Keeping.{AreChanges, IsPending, IsTableMidway, KeepsFrom, KeepsTable}
-use Rattle.df_table.specs.Opening.{FindsOf, FindsTable}
-use Rattle.df_table.specs.Outside.{Outside}
-use Rattle.df_table.specs.Policy.{opening}
-use Rattle.df_table.specs.Run.{ServesTable}
-use Rattle.df_table.specs.Session.{AreCallsOf, NotOpened, Served, ServesFoundTable, halted_exchanges, halted_failed}
-use Rattle.df_table.specs.Table.{IsObjectTable}
-use Rattle.df_table.specs.Turns.{table_exchanges}
-use Rattle.df_table.proofs.Asking.{CallsHave, FailHas, asked_have, asks_ends, asks_made, calls_have, changes_there, clients_in, opening_has, pending_there}
-use Rattle.df_table.proofs.FoundTable.{found_is_table}
-use Rattle.df_table.proofs.Lasting.{At, at_end, each_moment, from_answer, grew, mid_kept}
-use Rattle.df_table.proofs.Started.{at_anew, at_begin, found_there, mending_moments}
-use Rattle.df_table.proofs.Tabled.{acts_stand, lines_have, lines_kept, opening_then, opening_to_end}
-use Rattle.df_table.proofs.Tables.{table_is_one}
-use Rattle.df_table.proofs.Walked.{KeptAll}
+use Rattle.df_model.specs.{Memory.{Memory}, Work.{Work}}
+use Rattle.df_rows.specs.{declared.command.Command.{Command as Change}, Tables.{Table, with_commands}}
+use Rattle.df_session.{specs.{Acknowledging.{HadAnswers, WereAnswered}, Anew.{begun_after}, Begun.{begun_work}, Below.{DataFile, State as Replica, memory, shape, told_after}, Found.{FoundFile}, Links.{CallsMade, EndsCalls, call_events, events_made, events_to}, Opened.{MendsAll}, Reading.{shown_of}, Serving.{Firm, Keeps}, Session.{Act, Exchange}}, proofs.Laws.{begun_here, told_append, joined}}
+use Rattle.df_table.{specs.{declared.ending.Ending.{Ending}, declared.ending.Ending.TheVariants.{Disk}, declared.status.Status.{Status}, Keeping.{AreChanges, IsPending, IsTableMidway, KeepsFrom, KeepsTable}, Opening.{FindsOf, FindsTable}, Outside.{Outside}, Policy.{opening}, Run.{ServesTable}, Session.{AreCallsOf, NotOpened, Served, ServesFoundTable, halted_exchanges, halted_failed}, Table.{IsObjectTable}, Turns.{table_exchanges}}, proofs.{Asking.{CallsHave, FailHas, asked_have, asks_ends, asks_made, calls_have, changes_there, clients_in, opening_has, pending_there}, FoundTable.{found_is_table}, Lasting.{At, at_end, each_moment, from_answer, grew, mid_kept}, Started.{at_anew, at_begin, found_there, mending_moments}, Tabled.{acts_stand, lines_have, lines_kept, opening_then, opening_to_end}, Tables.{table_is_one}, Walked.{KeptAll}}}
 
 -- ---- all calls, the last of which perhaps failed
 

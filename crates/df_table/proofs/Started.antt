@@ -1,42 +1,15 @@
 -- At the barrier of an open the table of the file is that of its view, and so it is by each log that shows what was shown then, at each moment of the mending, and after it.
-use Rattle.std.proofs.Common.{◌≡◌, ◌⊎◌, inl, inr, ℕ, zero, suc, ◌+◌, ◌<◌, ◌≤◌, ◌||◌, true, List, [], ◌∷◌, Option, Some, None, refl, sym, ◌∙◌, ap, subst, arith}
-use Rattle.std.specs.List.{range_with_len}
-use Rattle.std.proofs.lemmas.Bool.{cases_eq}
-use Rattle.df_base.specs.Image.{Image, IsImage}
+use Rattle.std.{proofs.{Common.{◌≡◌, ◌⊎◌, inl, inr, ℕ, zero, suc, ◌+◌, ◌<◌, ◌≤◌, ◌||◌, true, List, [], ◌∷◌, Option, Some, None, refl, sym, ◌∙◌, ap, subst, arith}, lemmas.Bool.{cases_eq}}, specs.List.{range_with_len}}
+use Rattle.df_base.{specs.{Image.{Image, IsImage}, Log.{Sync}, Moments.{EachMoment}}, proofs.Laws.{one_some}}
 use Rattle.df_base.specs.Log as logs
-use Rattle.df_base.specs.Log.{Sync}
-use Rattle.df_base.specs.Moments.{EachMoment}
-use Rattle.df_base.proofs.Laws.{one_some}
 use Rattle.df_damage.specs.Written.{IsWritten}
 use Rattle.df_disk.specs.Told.{Told, did}
-use Rattle.df_theory.specs.Chance.{NoChance}
-use Rattle.df_theory.specs.Device.{units_log}
-use Rattle.df_theory.specs.Found.{IsFound}
-use Rattle.df_theory.specs.Holds.{Stands}
-use Rattle.df_theory.specs.UnitLog.{UnitLog}
-use Rattle.df_theory.specs.Units.{Block, BlockPlace, BlockUnit, Units}
-use Rattle.df_theory.specs.View.{View}
-use Rattle.df_theory.proofs.Laws.{pool_pools}
+use Rattle.df_theory.{specs.{Chance.{NoChance}, Device.{units_log}, Found.{IsFound}, Holds.{Stands}, UnitLog.{UnitLog}, Units.{Block, BlockPlace, BlockUnit, Units}, View.{View}}, proofs.Laws.{pool_pools}}
 use Rattle.df_units.specs.Bytes.{unit_at}
-use Rattle.df_model.specs.Blocks.{entries, entry}
-use Rattle.df_model.specs.Work.{Work, is_captured, is_known, is_of, kept}
-use Rattle.df_rows.specs.declared.command.Command.{Command as Change}
-use Rattle.df_rows.specs.Tables.{Table}
-use Rattle.df_session.specs.Anew.{begun_after}
-use Rattle.df_session.specs.Begun.{begun_work}
-use Rattle.df_session.specs.Below.{AreDistinctUnits, DataFile, State as Replica, shape, told_after}
-use Rattle.df_session.specs.Following.{MayOpen}
-use Rattle.df_session.specs.Leaving.{image_after}
-use Rattle.df_session.specs.Opened.{Mends, MendsAll, begun_state}
-use Rattle.df_session.specs.Serving.{Firm, Keeps, Whole, format}
-use Rattle.df_session.proofs.Laws.{calls_keep, kept_synced, shown_after}
-use Rattle.df_session.specs.Links.{NoCalls}
-use Rattle.df_table.specs.Keeping.{IsTableMidway}
-use Rattle.df_table.specs.Table.{IsObjectTable, ShowsBodies, references_of}
-use Rattle.df_table.specs.Written.{IsTableIn}
-use Rattle.df_table.proofs.Lasting.{At, grew, mid_of, none_taken, table_later}
-use Rattle.df_table.proofs.Leads.{table_bare}
-use Rattle.df_table.proofs.Written.{bodies_as, table_as}
+use Rattle.df_model.specs.{Blocks.{entries, entry}, Work.{Work, is_captured, is_known, is_of, kept}}
+use Rattle.df_rows.specs.{declared.command.Command.{Command as Change}, Tables.{Table}}
+use Rattle.df_session.{specs.{Anew.{begun_after}, Begun.{begun_work}, Below.{AreDistinctUnits, DataFile, State as Replica, shape, told_after}, Following.{MayOpen}, Leaving.{image_after}, Opened.{Mends, MendsAll, begun_state}, Serving.{Firm, Keeps, Whole, format}, Links.{NoCalls}}, proofs.Laws.{calls_keep, kept_synced, shown_after}}
+use Rattle.df_table.{specs.{Keeping.{IsTableMidway}, Table.{IsObjectTable, ShowsBodies, references_of}, Written.{IsTableIn}}, proofs.{Lasting.{At, grew, mid_of, none_taken, table_later}, Leads.{table_bare}, Written.{bodies_as, table_as}}}
 
 -- ---- what is shown was written
 

@@ -1,22 +1,8 @@
 -- What a command makes of the view: no other one than an append or a checkpoint's last step changes its checkpoint or its tail.
 use Rattle.std.proofs.Common.{◌≡◌, ◌≤◌, ◌-◌, ℕ, zero, suc, List, [], ◌∷◌, length, drop, Option, Some, None, refl, arith}
-use Rattle.df_model.specs.After.{outcome, with_live, with_running, with_verdict, begun}
-use Rattle.df_model.specs.Change.{Appends, Change, Checks, Ends, One, Staged, Writes}
-use Rattle.df_model.specs.Commands.{Advance, Append, Begin, Command, Flush, Given, Release, ToBegin, ToRelease, ToWriteBlock, WriteBlock, supplied_sum, supplied_verdict}
-use Rattle.df_model.specs.Making.{needed_of, next_address}
-use Rattle.df_model.specs.Memory.{Memory, memory_of}
-use Rattle.df_model.specs.Refusals.{begin_refusals, block_refusals, first_refusal, release_refusals}
-use Rattle.df_model.specs.Work.{Work}
-use Rattle.df_model.specs.declared.errors.BeginError.{BeginError}
-use Rattle.df_model.specs.declared.errors.BlockError.{BlockError}
-use Rattle.df_model.specs.declared.errors.NotLive.{NotLive}
-use Rattle.df_model.specs.declared.answers.Verdict.{Verdict}
-use Rattle.df_model.specs.declared.answers.Verdict.TheVariants.{Failing, Sound}
-use Rattle.df_model.proofs.Laws.{one_thing_law}
-use Rattle.df_session.specs.Below.{DataFile, shape, spelling}
-use Rattle.df_session.specs.Serving.{next}
-use Rattle.df_theory.specs.Units.{Message}
-use Rattle.df_theory.specs.View.{View, head}
+use Rattle.df_model.{specs.{After.{outcome, with_live, with_running, with_verdict, begun}, Change.{Appends, Change, Checks, Ends, One, Staged, Writes}, Commands.{Advance, Append, Begin, Command, Flush, Given, Release, ToBegin, ToRelease, ToWriteBlock, WriteBlock, supplied_sum, supplied_verdict}, Making.{needed_of, next_address}, Memory.{Memory, memory_of}, Refusals.{begin_refusals, block_refusals, first_refusal, release_refusals}, Work.{Work}, declared.errors.BeginError.{BeginError}, declared.errors.BlockError.{BlockError}, declared.errors.NotLive.{NotLive}, declared.answers.Verdict.{Verdict}, declared.answers.Verdict.TheVariants.{Failing, Sound}}, proofs.Laws.{one_thing_law}}
+use Rattle.df_session.specs.{Below.{DataFile, shape, spelling}, Serving.{next}}
+use Rattle.df_theory.specs.{Units.{Message}, View.{View, head}}
 use Rattle.df_table.specs.Turns.{IsAccepted}
 
 -- ---- the view stays

@@ -1,16 +1,9 @@
 -- Steps of a checkpoint: each but the last leaves one block less to write, and after the last none runs.
-use Rattle.std.proofs.Common.{◌≡◌, ◌≢◌, ◌<◌, ◌+◌, ℕ, true, false, List, [], ◌∷◌, length, Option, Some, None, refl, sym, ◌∙◌, ap, subst, arith}
-use Rattle.std.specs.Prelude.{replicate}
-use Rattle.std.proofs.lemmas.List.{replicate_more}
+use Rattle.std.{proofs.{Common.{◌≡◌, ◌≢◌, ◌<◌, ◌+◌, ℕ, true, false, List, [], ◌∷◌, length, Option, Some, None, refl, sym, ◌∙◌, ap, subst, arith}, lemmas.List.{replicate_more}}, specs.Prelude.{replicate}}
 use Rattle.df_disk.specs.Told.{Told}
 use Rattle.df_model.specs.Commands.{Advance, Command}
-use Rattle.df_session.specs.Below.{RunningState, State as Replica}
-use Rattle.df_session.specs.Stepping.{OfRunning, advanced, finished}
-use Rattle.df_table.specs.declared.ending.Ending.{Ending}
-use Rattle.df_table.specs.Calls.{CheckpointStepped, IsCheckpointing}
-use Rattle.df_table.specs.Ready.{IsFinished}
-use Rattle.df_table.specs.Turns.{EndIn, MakeAll}
-use Rattle.df_table.proofs.Joined.{end_more, make_more}
+use Rattle.df_session.specs.{Below.{RunningState, State as Replica}, Stepping.{OfRunning, advanced, finished}}
+use Rattle.df_table.{specs.{declared.ending.Ending.{Ending}, Calls.{CheckpointStepped, IsCheckpointing}, Ready.{IsFinished}, Turns.{EndIn, MakeAll}}, proofs.Joined.{end_more, make_more}}
 
 -- ---- states
 

@@ -1,25 +1,14 @@
 -- After an append of the client's and the reply to it a replica is as ready as before.
-use Rattle.std.proofs.Common.{◌≡◌, ℕ, zero, suc, ◌+◌, Bool, if◌then◌else◌, List, [], ◌∷◌, Option, Some, None, refl, sym, ◌∙◌, ap, subst, eq-eqb}
-use Rattle.std.proofs.lemmas.Option.{none-some}
+use Rattle.std.proofs.{Common.{◌≡◌, ℕ, zero, suc, ◌+◌, Bool, if◌then◌else◌, List, [], ◌∷◌, Option, Some, None, refl, sym, ◌∙◌, ap, subst, eq-eqb}, lemmas.Option.{none-some}}
 use Rattle.df_disk.specs.Told.{Told}
 use Rattle.df_format.specs.declared.header.Header.{Header}
 use Rattle.df_layout.specs.declared.layout.Layout.{Layout}
 use Rattle.df_sessions.specs.declared.session.Session as told
-use Rattle.df_sessions.specs.Requests.{session_of, sessions_of}
-use Rattle.df_sessions.specs.Table.{requested, with_reply_stored, with_request}
+use Rattle.df_sessions.specs.{Requests.{session_of, sessions_of}, Table.{requested, with_reply_stored, with_request}}
 use Rattle.df_theory.specs.Units.{Session}
-use Rattle.df_model.specs.Commands.{Command}
-use Rattle.df_model.specs.Work.{Work}
-use Rattle.df_session.specs.Appending.{next_unit, with_prepare_appended}
-use Rattle.df_session.specs.Replying.{with_stored_reply}
-use Rattle.df_session.specs.Below.{State as Replica}
-use Rattle.df_session.specs.Links.{AreCalls, More, NoCalls}
-use Rattle.df_session.specs.Serving.{Firm, Keeps, next}
-use Rattle.df_session.specs.Session.{Exchange}
-use Rattle.df_table.specs.Policy.{the_client}
-use Rattle.df_table.specs.Ready.{IsReadyReplica}
-use Rattle.df_table.specs.Turns.{MakeAll}
-use Rattle.df_table.proofs.Fine.{AreOwn}
+use Rattle.df_model.specs.{Commands.{Command}, Work.{Work}}
+use Rattle.df_session.specs.{Appending.{next_unit, with_prepare_appended}, Replying.{with_stored_reply}, Below.{State as Replica}, Links.{AreCalls, More, NoCalls}, Serving.{Firm, Keeps, next}, Session.{Exchange}}
+use Rattle.df_table.{specs.{Policy.{the_client}, Ready.{IsReadyReplica}, Turns.{MakeAll}}, proofs.Fine.{AreOwn}}
 
 -- ---- what calls lead to
 

@@ -2,22 +2,10 @@
 use Rattle.std.proofs.Common.{◌≡◌, inl, inr, ℕ, List, [], ◌∷◌, ◌++◌, append-nil, append_assoc, Option, Some, None, refl, sym, ◌∙◌, ap, subst}
 use Rattle.df_disk.specs.Told.{Told}
 use Rattle.df_layout.specs.declared.layout.Layout.{Layout}
-use Rattle.df_model.specs.Commands.{Command}
-use Rattle.df_model.specs.Memory.{Memory, memory_of}
-use Rattle.df_model.specs.Work.{Work}
-use Rattle.df_rows.specs.declared.command.Command.{Command as Change}
-use Rattle.df_rows.specs.Lines.{accepted, table_after}
-use Rattle.df_rows.specs.Tables.{Table, with_commands}
-use Rattle.df_session.specs.Below.{DataFile, State as Replica, memory, shape, spelling}
-use Rattle.df_session.specs.Links.{AreCalls, More, NoCalls}
-use Rattle.df_session.specs.Serving.{Firm, Keeps, next}
-use Rattle.df_session.specs.Session.{Act, Exchange, acts_in, work_after}
-use Rattle.df_table.specs.Policy.{line_commands, opening}
-use Rattle.df_table.specs.Session.{Halt, HaltsIn, halted_exchanges, halted_failed}
-use Rattle.df_table.specs.Turns.{AreFit, AreTurns, NextTurn, NoTurns, TableTurn, commands_of, table_exchanges}
-use Rattle.df_table.proofs.Asking.{AsksOne, CallsHave, FailHas, asked_have, asks_ends, asks_made, calls_have, line_has, one_asked, opening_plain}
-use Rattle.df_table.proofs.Lasting.{At, FailKept}
-use Rattle.df_table.proofs.Walked.{Asks, KeptAll, walk_change, walk_plain}
+use Rattle.df_model.specs.{Commands.{Command}, Memory.{Memory, memory_of}, Work.{Work}}
+use Rattle.df_rows.specs.{declared.command.Command.{Command as Change}, Lines.{accepted, table_after}, Tables.{Table, with_commands}}
+use Rattle.df_session.specs.{Below.{DataFile, State as Replica, memory, shape, spelling}, Links.{AreCalls, More, NoCalls}, Serving.{Firm, Keeps, next}, Session.{Act, Exchange, acts_in, work_after}}
+use Rattle.df_table.{specs.{Policy.{line_commands, opening}, Session.{Halt, HaltsIn, halted_exchanges, halted_failed}, Turns.{AreFit, AreTurns, NextTurn, NoTurns, TableTurn, commands_of, table_exchanges}}, proofs.{Asking.{AsksOne, CallsHave, FailHas, asked_have, asks_ends, asks_made, calls_have, line_has, one_asked, opening_plain}, Lasting.{At, FailKept}, Walked.{Asks, KeptAll, walk_change, walk_plain}}}
 
 -- ---- a replica's own state
 

@@ -1,15 +1,10 @@
 -- An image and a view have one table, and a file that was just made has the empty one.
 use Rattle.std.proofs.Common.{◌≡◌, ℕ, List, [], ◌∷◌, Some, None, refl, sym, ◌∙◌, ap, subst, arith}
 use Rattle.df_model.specs.Blocks.{addresses, entries}
-use Rattle.df_rows.specs.declared.command.Command.{Command}
-use Rattle.df_rows.specs.Blocks.{TakesAll}
-use Rattle.df_rows.specs.Tables.{Table, with_command, with_commands}
-use Rattle.df_rows.proofs.Laws.{one_command, one_table}
+use Rattle.df_rows.{specs.{declared.command.Command.{Command}, Blocks.{TakesAll}, Tables.{Table, with_command, with_commands}}, proofs.Laws.{one_command, one_table}}
 use Rattle.df_session.specs.Below.{DataFile, shape}
-use Rattle.df_theory.specs.Units.{AnyUnit, Block, BlockPlace, BlockUnit, Message, Place}
-use Rattle.df_theory.specs.View.{View}
-use Rattle.df_table.specs.Laws.{FirstIsEmpty, TableIsOne}
-use Rattle.df_table.specs.Table.{FollowAll, HasBlockBody, HaveBodies, IsTableBy, ShowsBodies, empty_table, references_of}
+use Rattle.df_theory.specs.{Units.{AnyUnit, Block, BlockPlace, BlockUnit, Message, Place}, View.{View}}
+use Rattle.df_table.specs.{Laws.{FirstIsEmpty, TableIsOne}, Table.{FollowAll, HasBlockBody, HaveBodies, IsTableBy, ShowsBodies, empty_table, references_of}}
 
 -- ---- blocks
 

@@ -1,31 +1,13 @@
 -- The referenced blocks are taken one after the other, in order of address: what the opening has found after each.
-use Rattle.std.proofs.Common.{◌≡◌, inl, inr, ℕ, suc, ◌+◌, ◌-◌, ◌<◌, ◌≤◌, List, [], ◌∷◌, ◌++◌, length, map, Option, Some, None, Result, Ok, Err, refl, sym, ◌∙◌, ap, subst, arith, append_assoc, length-append}
-use Rattle.std.specs.List.{range_with_len}
+use Rattle.std.{proofs.Common.{◌≡◌, inl, inr, ℕ, suc, ◌+◌, ◌-◌, ◌<◌, ◌≤◌, List, [], ◌∷◌, ◌++◌, length, map, Option, Some, None, Result, Ok, Err, refl, sym, ◌∙◌, ap, subst, arith, append_assoc, length-append}, specs.List.{range_with_len}}
 use Rattle.df_base.proofs.Laws.{minus_zero}
-use Rattle.df_layout.specs.declared.layout.Layout.{Layout}
+use Rattle.df_layout.specs.{declared.layout.Layout.{Layout}, declared.places.Place.{Place}}
 use Rattle.df_theory.specs.Units.{Block}
-use Rattle.df_model.specs.Blocks.{entries, entry, sum_at}
-use Rattle.df_model.specs.Commands.{Command, ReadBlock}
-use Rattle.df_model.specs.Memory.{Memory}
-use Rattle.df_model.specs.Supply.{Shown, block_read}
-use Rattle.df_model.proofs.Laws.{entry_at}
-use Rattle.df_rows.specs.Blocks.{TableTakes, TakesAll}
-use Rattle.df_rows.specs.Limits.{blocks_of_table}
-use Rattle.df_rows.specs.Rows.{Entry}
-use Rattle.df_rows.specs.Tables.{Table, with_rows}
-use Rattle.df_table.specs.declared.ending.Ending.{Ending}
-use Rattle.df_table.specs.declared.ending.Ending.TheVariants.{Damaged, Disk, NotTable, OpsSpent, SequenceSpent}
-use Rattle.df_table.specs.declared.opening.Taken.{Taken}
-use Rattle.df_table.specs.Opening.{AreReadBlocks, AreTakenBlocks, BlockHurt, FindsOf, FindsTable, NoneIsOther, OtherBlock, ReadsNext}
-use Rattle.df_table.specs.Calls.{Comes}
-use Rattle.df_table.specs.Policy.{block_reads, reads_at}
-use Rattle.df_table.specs.Table.{empty_table}
-use Rattle.df_table.specs.Turns.{EndIn, MakeAll}
-use Rattle.df_table.proofs.Joined.{make_none}
-use Rattle.df_table.proofs.Making.{IsMaking, all_making, making_ends, making_more, making_none}
+use Rattle.df_model.{specs.{Blocks.{entries, entry, sum_at}, Commands.{Command, ReadBlock}, Memory.{Memory}, Supply.{Shown, block_read}}, proofs.Laws.{entry_at}}
+use Rattle.df_rows.specs.{Blocks.{TableTakes, TakesAll}, Limits.{blocks_of_table}, Rows.{Entry}, Tables.{Table, with_rows}}
+use Rattle.df_table.{specs.{declared.ending.Ending.{Ending}, declared.ending.Ending.TheVariants.{Damaged, Disk, NotTable, OpsSpent, SequenceSpent}, declared.opening.Taken.{Taken}, Opening.{AreReadBlocks, AreTakenBlocks, BlockHurt, FindsOf, FindsTable, NoneIsOther, OtherBlock, ReadsNext}, Calls.{Comes}, Policy.{block_reads, reads_at}, Table.{empty_table}, Turns.{EndIn, MakeAll}}, proofs.{Joined.{make_none}, Making.{IsMaking, all_making, making_ends, making_more, making_none}}}
 use Rattle.df_disk.specs.Told.{Told}
 use Rattle.df_session.specs.Below.{State as Replica, memory}
-use Rattle.df_layout.specs.declared.places.Place.{Place}
 
 -- ---- one more
 

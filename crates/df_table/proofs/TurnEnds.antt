@@ -1,27 +1,13 @@
 -- What one line does to a session: it goes on with the line executed, or ends.
 use Rattle.std.proofs.Common.{◌≡◌, ◌⊎◌, inl, inr, ◌<◌, ◌+◌, ℕ, true, false, IsTrue, List, [], ◌∷◌, ◌++◌, length, Option, Some, refl, sym, ◌∙◌, ap, subst}
 use Rattle.df_base.specs.Streams.{Appends}
-use Rattle.df_inspect.proofs.Laws.{appends_none}
-use Rattle.df_inspect.specs.Opening.{script_text}
+use Rattle.df_inspect.{proofs.Laws.{appends_none}, specs.Opening.{script_text}}
 use Rattle.df_layout.specs.declared.layout.Layout.{Layout}
-use Rattle.df_lines.specs.Room.{HasTextToCome, IsAtEnd, ReaderParts, line_bound}
-use Rattle.df_lines.specs.Text.{line_of, unread}
-use Rattle.df_rows.specs.declared.line.Line.{Line}
-use Rattle.df_rows.specs.Grammar.{SaysTableLine, said_with}
-use Rattle.df_lines.specs.Reads.{RefusesNext, TakesLine}
-use Rattle.df_lines.specs.Lines.{IsLine, IsRefused}
-use Rattle.df_table.specs.declared.ending.Ending.{Ending}
-use Rattle.df_table.specs.declared.ending.Ending.TheVariants.{Disk, Damaged, NotTable, OpsSpent, SequenceSpent}
-use Rattle.df_table.specs.declared.session.Session.{Session}
-use Rattle.df_table.specs.declared.status.Status.{Status}
+use Rattle.df_lines.specs.{Room.{HasTextToCome, IsAtEnd, ReaderParts, line_bound}, Text.{line_of, unread}, Reads.{RefusesNext, TakesLine}, Lines.{IsLine, IsRefused}}
+use Rattle.df_rows.specs.{declared.line.Line.{Line}, Grammar.{SaysTableLine, said_with}}
+use Rattle.df_table.{specs.{declared.ending.Ending.{Ending}, declared.ending.Ending.TheVariants.{Disk, Damaged, NotTable, OpsSpent, SequenceSpent}, declared.session.Session.{Session}, declared.status.Status.{Status}, Outside.{Step, Outside, WritesTableText}, Serving.{AnswersLine, ServingEndsIn, TableTurns, state}, Session.{EndsTableText, HoldsTableLine}, Statuses.{ending_text, status_of}}, proofs.Turned.{Takes, ends_between, ends_unanswered, ends_within, executed_more, turn_of}}
 use Rattle.df_table.specs.declared.status.Status.TheVariants as status
-use Rattle.df_table.specs.Outside.{Step}
 use Rattle.df_program.specs.declared.turn.Turn.TheVariants.{Ends, GoesOn as Goes}
-use Rattle.df_table.specs.Outside.{Outside, WritesTableText}
-use Rattle.df_table.specs.Serving.{AnswersLine, ServingEndsIn, TableTurns, state}
-use Rattle.df_table.specs.Session.{EndsTableText, HoldsTableLine}
-use Rattle.df_table.specs.Statuses.{ending_text, status_of}
-use Rattle.df_table.proofs.Turned.{Takes, ends_between, ends_unanswered, ends_within, executed_more, turn_of}
 
 -- ---- statuses
 

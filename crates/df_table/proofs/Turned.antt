@@ -1,26 +1,13 @@
 -- Lines that were executed one after the other: what one more line, and what an end, makes of all of them.
 use Rattle.std.proofs.Common.{◌≡◌, inl, inr, ◌+◌, ◌-◌, ℕ, Bool, false, List, [], ◌∷◌, ◌++◌, length, Option, Some, None, refl, sym, ◌∙◌, ap, subst, arith, append_assoc, append-nil, length-append}
-use Rattle.df_base.specs.Streams.{Appends, AppendsPart}
-use Rattle.df_base.proofs.Laws.{appends_more, appends_part}
+use Rattle.df_base.{specs.Streams.{Appends, AppendsPart}, proofs.Laws.{appends_more, appends_part}}
 use Rattle.df_inspect.proofs.Laws.{appends_none}
 use Rattle.df_disk.specs.Told.{Told}
 use Rattle.df_layout.specs.declared.layout.Layout.{Layout}
-use Rattle.df_lines.specs.Room.{line_bound}
-use Rattle.df_lines.specs.Text.{after_line, taken}
-use Rattle.df_rows.specs.Grammar.{Said, SaysTableLine}
-use Rattle.df_rows.specs.Lines.{accepted, all_accepted, all_behind, line_of_turn, map_text, table_after}
-use Rattle.df_lines.specs.Lines.{Begins, IsLine}
-use Rattle.df_rows.specs.Tables.{Table}
-use Rattle.df_rows.proofs.Laws.{accepted_more, text_more}
+use Rattle.df_lines.specs.{Room.{line_bound}, Text.{after_line, taken}, Lines.{Begins, IsLine}}
+use Rattle.df_rows.{specs.{Grammar.{Said, SaysTableLine}, Lines.{accepted, all_accepted, all_behind, line_of_turn, map_text, table_after}, Tables.{Table}}, proofs.Laws.{accepted_more, text_more}}
 use Rattle.df_session.specs.Below.{State as Replica}
-use Rattle.df_table.specs.declared.ending.Ending.{Ending}
-use Rattle.df_table.specs.declared.status.Status.{Status}
-use Rattle.df_table.specs.declared.status.Status.TheVariants.{Done, WriteFault}
-use Rattle.df_table.specs.Outside.{WritesTableText}
-use Rattle.df_table.specs.Serving.{IsExecuted, ServingEnded, ServingEndsIn, ServingExecuted, ServingGoesOn, ServingState}
-use Rattle.df_table.specs.Session.{EndsTableText, ServingEndsWith, closing}
-use Rattle.df_table.specs.Statuses.{ending_text, status_of}
-use Rattle.df_table.specs.Turns.{AreFit, AreTurns, EndIn, IsOfCall, NextTurn, NoTurns, TableTurn, commands_of, table_said}
+use Rattle.df_table.specs.{declared.ending.Ending.{Ending}, declared.status.Status.{Status}, declared.status.Status.TheVariants.{Done, WriteFault}, Outside.{WritesTableText}, Serving.{IsExecuted, ServingEnded, ServingEndsIn, ServingExecuted, ServingGoesOn, ServingState}, Session.{EndsTableText, ServingEndsWith, closing}, Statuses.{ending_text, status_of}, Turns.{AreFit, AreTurns, EndIn, IsOfCall, NextTurn, NoTurns, TableTurn, commands_of, table_said}}
 
 -- ---- lines
 

@@ -1,44 +1,14 @@
 -- Calls of a table's session, one after the other, each of which leaves the table or changes it by its command: the commands of a line, whole or up to one that ended it.
-use Rattle.std.proofs.Common.{◌≡◌, ◌⊎◌, inl, inr, ℕ, zero, suc, ◌+◌, ◌||◌, Bool, true, false, if◌then◌else◌, List, [], ◌∷◌, ◌++◌, append-nil, append_assoc, map, take, Option, Some, None, Ok, refl, sym, ◌∙◌, ap, subst, arith}
+use Rattle.std.{proofs.Common.{◌≡◌, ◌⊎◌, inl, inr, ℕ, zero, suc, ◌+◌, ◌||◌, Bool, true, false, if◌then◌else◌, List, [], ◌∷◌, ◌++◌, append-nil, append_assoc, map, take, Option, Some, None, Ok, refl, sym, ◌∙◌, ap, subst, arith}, specs.Prelude.{replicate}}
 use Rattle.std.specs.FinMap as maps
-use Rattle.std.specs.Prelude.{replicate}
 use Rattle.df_base.proofs.Laws.{no_some}
 use Rattle.df_damage.specs.Written.{IsWritten}
 use Rattle.df_disk.specs.Told.{Told}
-use Rattle.df_theory.specs.Device.{units_log}
-use Rattle.df_theory.specs.UnitLog.{UnitLog}
-use Rattle.df_theory.specs.Units.{BlockPlace, BlockUnit, Message}
-use Rattle.df_theory.specs.View.{head}
-use Rattle.df_model.specs.After.{after_running, after_step_of, begun, outcome, with_live, with_prepare, with_running}
-use Rattle.df_model.specs.Blocks.{addresses, entries, sum_at}
-use Rattle.df_model.specs.Commands.{Advance, Answer, Append, Begin, Command, Release, Reply, ToAppend, WriteBlock, supplied_sum}
-use Rattle.df_model.specs.Making.{block_of, next_address, prepare_of}
-use Rattle.df_model.specs.Memory.{Memory, memory_of}
-use Rattle.df_model.specs.Refusals.{append_refusals, block_refusals, first_refusal, next_request, session_of_client}
-use Rattle.df_model.specs.Sense.{IsWork}
-use Rattle.df_model.specs.Work.{Running, Work, is_captured, is_known, is_of, kept}
-use Rattle.df_model.specs.declared.errors.AppendError.{AppendError}
-use Rattle.df_model.proofs.Laws.{block_may_law, entries_same, entry_at}
-use Rattle.df_rows.specs.declared.command.Command.{Command as Change}
-use Rattle.df_rows.specs.Blocks.{bodies_of}
-use Rattle.df_rows.specs.Commands.{IsCommand, body_of}
-use Rattle.df_rows.specs.Limits.{rows_in_block}
-use Rattle.df_rows.specs.Tables.{CanApply, Table, with_command, with_commands}
-use Rattle.df_rows.proofs.Laws.{one_command}
-use Rattle.df_session.specs.Below.{DataFile, State as Replica, shape, spelling, told_after}
-use Rattle.df_session.specs.Links.{AreCalls, Calls, More}
-use Rattle.df_session.specs.Serving.{format, next}
-use Rattle.df_session.specs.Session.{Act, Exchange, acts_in, work_after}
-use Rattle.df_table.specs.Keeping.{Changes}
-use Rattle.df_table.specs.Policy.{checkpoint, is_full, releases, request, room_for, the_client, writes}
-use Rattle.df_table.specs.Turns.{IsAccepted, WasAccepted}
-use Rattle.df_table.specs.Written.{IsTableIn, WroteBodies, WroteBody}
-use Rattle.df_table.proofs.Lasting.{AreKept, At, FailKept, at_behind, bodies_later, grew, none_taken}
-use Rattle.df_table.proofs.Later.{answer_is, block_written, memory_is}
-use Rattle.df_table.proofs.Leads.{table_appended, table_finished, table_stays}
-use Rattle.df_table.proofs.Placed.{LowHeld, NoLive, OnlyLive, entries_last, low_more, lower, none_from, none_live, one_less, one_some, wrote_more}
-use Rattle.df_table.proofs.Rowed.{table_bounds}
-use Rattle.df_table.proofs.Stayed.{IsPlain, began, none_left, plain_stays, released, wrote}
+use Rattle.df_theory.specs.{Device.{units_log}, UnitLog.{UnitLog}, Units.{BlockPlace, BlockUnit, Message}, View.{head}}
+use Rattle.df_model.{specs.{After.{after_running, after_step_of, begun, outcome, with_live, with_prepare, with_running}, Blocks.{addresses, entries, sum_at}, Commands.{Advance, Answer, Append, Begin, Command, Release, Reply, ToAppend, WriteBlock, supplied_sum}, Making.{block_of, next_address, prepare_of}, Memory.{Memory, memory_of}, Refusals.{append_refusals, block_refusals, first_refusal, next_request, session_of_client}, Sense.{IsWork}, Work.{Running, Work, is_captured, is_known, is_of, kept}, declared.errors.AppendError.{AppendError}}, proofs.Laws.{block_may_law, entries_same, entry_at}}
+use Rattle.df_rows.{specs.{declared.command.Command.{Command as Change}, Blocks.{bodies_of}, Commands.{IsCommand, body_of}, Limits.{rows_in_block}, Tables.{CanApply, Table, with_command, with_commands}}, proofs.Laws.{one_command}}
+use Rattle.df_session.specs.{Below.{DataFile, State as Replica, shape, spelling, told_after}, Links.{AreCalls, Calls, More}, Serving.{format, next}, Session.{Act, Exchange, acts_in, work_after}}
+use Rattle.df_table.{specs.{Keeping.{Changes}, Policy.{checkpoint, is_full, releases, request, room_for, the_client, writes}, Turns.{IsAccepted, WasAccepted}, Written.{IsTableIn, WroteBodies, WroteBody}}, proofs.{Lasting.{AreKept, At, FailKept, at_behind, bodies_later, grew, none_taken}, Later.{answer_is, block_written, memory_is}, Leads.{table_appended, table_finished, table_stays}, Placed.{LowHeld, NoLive, OnlyLive, entries_last, low_more, lower, none_from, none_live, one_less, one_some, wrote_more}, Rowed.{table_bounds}, Stayed.{IsPlain, began, none_left, plain_stays, released, wrote}}}
 
 -- ---- what is asked for
 

@@ -1,20 +1,12 @@
 -- What was written of a table is shown by each image that shows the blocks which the view references, none of them by chance; and what was written stays so.
 use Rattle.std.proofs.Common.{◌≡◌, ◌<◌, inr, ℕ, List, [], ◌∷◌, Option, Some, None, refl, sym, ◌∙◌, ap}
-use Rattle.df_base.specs.Log.{Event, Log, Stop, Sync, Write, add}
-use Rattle.df_base.specs.Moments.{adds}
+use Rattle.df_base.specs.{Log.{Event, Log, Stop, Sync, Write, add}, Moments.{adds}}
 use Rattle.df_damage.specs.Written.{IsWritten}
 use Rattle.df_model.specs.Blocks.{addresses, entries, entry}
 use Rattle.df_rows.specs.Tables.{Table}
 use Rattle.df_session.specs.Below.{DataFile, shape}
-use Rattle.df_theory.specs.Chance.{NoChance}
-use Rattle.df_theory.specs.Device.{Format, units_log}
-use Rattle.df_theory.specs.Holds.{Stands}
-use Rattle.df_theory.specs.UnitLog.{UnitLog}
-use Rattle.df_theory.specs.Units.{AnyUnit, Block, BlockPlace, BlockUnit, Place, Units}
-use Rattle.df_theory.specs.View.{View}
-use Rattle.df_theory.proofs.Laws.{pool_pools}
-use Rattle.df_table.specs.Table.{HasBlockBody, HaveBodies, IsObjectTable, IsTableBy, ShowsBodies, ShowsBody, references_of}
-use Rattle.df_table.specs.Written.{IsTableIn, WroteBodies}
+use Rattle.df_theory.{specs.{Chance.{NoChance}, Device.{Format, units_log}, Holds.{Stands}, UnitLog.{UnitLog}, Units.{AnyUnit, Block, BlockPlace, BlockUnit, Place, Units}, View.{View}}, proofs.Laws.{pool_pools}}
+use Rattle.df_table.specs.{Table.{HasBlockBody, HaveBodies, IsObjectTable, IsTableBy, ShowsBodies, ShowsBody, references_of}, Written.{IsTableIn, WroteBodies}}
 
 -- ---- what is said of places alone
 

@@ -1,30 +1,14 @@
 -- Blocks of a table are written one after the other, into free addresses.
-use Rattle.std.proofs.Common.{◌≡◌, ℕ, suc, ◌+◌, ◌-◌, ◌<◌, ◌≤◌, ◌==◌, nat_lt, Bool, true, false, if◌then◌else◌, List, [], ◌∷◌, ◌++◌, length, map, Option, None, Result, Ok, Err, refl, sym, ◌∙◌, ap, subst, arith}
-use Rattle.std.specs.Prelude.{OnOk}
+use Rattle.std.{proofs.Common.{◌≡◌, ℕ, suc, ◌+◌, ◌-◌, ◌<◌, ◌≤◌, ◌==◌, nat_lt, Bool, true, false, if◌then◌else◌, List, [], ◌∷◌, ◌++◌, length, map, Option, None, Result, Ok, Err, refl, sym, ◌∙◌, ap, subst, arith}, specs.{Prelude.{OnOk}, FinMap.{len-entries}, Fork.{slice_chunk}, List.{range_with_len}}}
 use Rattle.std.specs.FinMap as maps
-use Rattle.std.specs.FinMap.{len-entries}
-use Rattle.std.specs.Fork.{slice_chunk}
-use Rattle.std.specs.List.{range_with_len}
 use Rattle.df_base.proofs.Laws.{minus_zero}
 use Rattle.df_disk.specs.Told.{Told}
 use Rattle.df_format.specs.declared.header.Header.{Header}
 use Rattle.df_layout.specs.declared.layout.Layout.{Layout}
-use Rattle.df_model.specs.Blocks.{with_entry}
-use Rattle.df_model.specs.Commands.{Command, WriteBlock}
-use Rattle.df_model.specs.Memory.{free_of}
-use Rattle.df_model.specs.Refusals.{block_refusals, first_refusal}
-use Rattle.df_rows.specs.Commands.{Map}
-use Rattle.df_rows.specs.Limits.{block_count, rows_in_block}
-use Rattle.df_rows.specs.Rows.{Entry, rows_of}
-use Rattle.df_session.specs.Below.{State as Replica, memory}
-use Rattle.df_session.specs.Blocks.{written}
-use Rattle.df_table.specs.declared.ending.Ending.{Ending}
-use Rattle.df_table.specs.Policy.{body_at, writes}
-use Rattle.df_table.specs.Ready.{HasFree, WroteBlocks}
-use Rattle.df_table.specs.Turns.{EndIn, MakeAll}
-use Rattle.df_table.proofs.Fine.{may_write}
-use Rattle.df_table.proofs.Free.{enough_free}
-use Rattle.df_table.proofs.Making.{IsMaking, all_making, making_ends, making_more, making_none}
+use Rattle.df_model.specs.{Blocks.{with_entry}, Commands.{Command, WriteBlock}, Memory.{free_of}, Refusals.{block_refusals, first_refusal}}
+use Rattle.df_rows.specs.{Commands.{Map}, Limits.{block_count, rows_in_block}, Rows.{Entry, rows_of}}
+use Rattle.df_session.specs.{Below.{State as Replica, memory}, Blocks.{written}}
+use Rattle.df_table.{specs.{declared.ending.Ending.{Ending}, Policy.{body_at, writes}, Ready.{HasFree, WroteBlocks}, Turns.{EndIn, MakeAll}}, proofs.{Fine.{may_write}, Free.{enough_free}, Making.{IsMaking, all_making, making_ends, making_more, making_none}}}
 
 -- ---- one block
 

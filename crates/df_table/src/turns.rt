@@ -1,5 +1,5 @@
 // The session over a script: one turn for each line, until there is none, one is refused, or something ends it.
-ghost use Rattle.std.specs.Prelude.{◌≡◌, ◌<◌, ◌≤◌, ◌+◌, ◌^◌, ℕ, List, Option, take, true, length, None};
+ghost use Rattle.std.specs.Prelude.{◌≡◌, ◌<◌, ◌≤◌, ◌+◌, ℕ, List, Option, take, true, length, None};
 ghost use Rattle.std.specs.FinMap as map;
 ghost use Rattle.df_rows.specs.Answers.{refusal_of};
 ghost use Rattle.df_rows.specs.Lines.{done_text};

@@ -1,16 +1,6 @@
 -- The recovery table over an image whose units agree with a view.
-use Rattle.std.proofs.Common.{◌≡◌, ◌⊎◌, inl, inr, ℕ, ◌==◌, nat_lt, Bool, true, false, if◌then◌else◌, ◌+◌, ◌%◌, ◌<◌, ◌≤◌, Option, Some, None, refl, sym, ◌∙◌, ap, subst, arith}
-use Rattle.std.proofs.lemmas.Bool.{cases_eq, cases_lt, eq-eqb}
-use Rattle.std.proofs.lemmas.Bool.Decides.{nat_tests}
-use Rattle.df_theory.specs.Units.{AnyUnit, BlockUnit, Content, CopyUnit, Header, HeaderPlace, HeaderUnit, Message, Place, PreparePlace, PrepareUnit, ReplyPlace, ReplyUnit, Units}
-use Rattle.df_theory.specs.Tails.{In}
-use Rattle.df_theory.specs.Shape.{Shape}
-use Rattle.df_theory.specs.View.{View, boot_of, head}
-use Rattle.df_theory.specs.Shows.{Agrees, AgreesHeader, AgreesPrepare, AgreesReply}
-use Rattle.df_theory.specs.Holds.{Sound}
-use Rattle.df_theory.specs.Cases.{Current, Far, IsEmpty, IsTake, Lost, Nothing, Old, Seen, Take, Takes, case, cut, decided, decision, seen, seen_header, seen_prepare}
-use Rattle.df_theory.proofs.Tails.{chain_ops, in_one}
-use Rattle.df_theory.proofs.Slots.{mod_apart}
+use Rattle.std.proofs.{Common.{◌≡◌, ◌⊎◌, inl, inr, ℕ, ◌==◌, nat_lt, Bool, true, false, if◌then◌else◌, ◌+◌, ◌%◌, ◌<◌, ◌≤◌, Option, Some, None, refl, sym, ◌∙◌, ap, subst, arith}, lemmas.Bool.{cases_eq, cases_lt, eq-eqb}, lemmas.Bool.Decides.{nat_tests}}
+use Rattle.df_theory.{specs.{Units.{AnyUnit, BlockUnit, Content, CopyUnit, Header, HeaderPlace, HeaderUnit, Message, Place, PreparePlace, PrepareUnit, ReplyPlace, ReplyUnit, Units}, Tails.{In}, Shape.{Shape}, View.{View, boot_of, head}, Shows.{Agrees, AgreesHeader, AgreesPrepare, AgreesReply}, Holds.{Sound}, Cases.{Current, Far, IsEmpty, IsTake, Lost, Nothing, Old, Seen, Take, Takes, case, cut, decided, decision, seen, seen_header, seen_prepare}}, proofs.{Tails.{chain_ops, in_one}, Slots.{mod_apart}}}
 
 -- ---- the table
 

@@ -1,8 +1,6 @@
 -- Logs of certain units alone.
 use Rattle.std.proofs.Common.{◌≡◌, inl, inr, List, [], ◌∷◌, Option, Some, None, refl, sym, ◌∙◌, ap}
-use Rattle.df_theory.specs.Units.{AnyUnit, Place, Units, or_else, overlay}
-use Rattle.df_theory.specs.UnitLog.{Stopped, Synced, UnitEvent, UnitLog, Wrote, now, now_of, settled_of, wrote}
-use Rattle.df_theory.specs.Chance.{InImages, InPool, InPools, InWrites}
+use Rattle.df_theory.specs.{Units.{AnyUnit, Place, Units, or_else, overlay}, UnitLog.{Stopped, Synced, UnitEvent, UnitLog, Wrote, now, now_of, settled_of, wrote}, Chance.{InImages, InPool, InPools, InWrites}}
 
 module _ (P : AnyUnit → Type 0) where
   abbrev pub Shows : Units → Type 0

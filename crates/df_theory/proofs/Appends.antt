@@ -1,7 +1,6 @@
 -- What an append keeps of the stored replies.
 use Rattle.std.proofs.Common.{◌≡◌, ℕ, nat_lt, Bool, true, false, if◌then◌else◌, Option, Some, None}
-use Rattle.df_theory.specs.Units.{Message, Session}
-use Rattle.df_theory.specs.Next.{kept}
+use Rattle.df_theory.specs.{Units.{Message, Session}, Next.{kept}}
 
 pub kept_some : (s : Option Session) (op : ℕ) (old : Option Message) (r : Message) → kept s op old ≡ Some r → old ≡ Some r
 kept_some None op old r is = absurd (cc)

@@ -1,20 +1,6 @@
 -- An open of settled units never finds a bad field.
 use Rattle.std.proofs.Common.{◌≡◌, inl, inr, ℕ, suc, ◌+◌, ◌-◌, ◌%◌, ◌<◌, ◌≤◌, List, [], ◌∷◌, ◌++◌, length, Some, refl, sym, ◌∙◌, ap, subst, arith, length-append, append_assoc}
-use Rattle.df_theory.specs.Units.{Block, BlockPlace, BlockUnit, Content, CopyPlace, PreparePlace, ReplyPlace, Units}
-use Rattle.df_theory.specs.Shape.{Shape}
-use Rattle.df_theory.specs.Copies.{IsChosen}
-use Rattle.df_theory.specs.Trailer.{InChain, IsReference, Links}
-use Rattle.df_theory.specs.View.{Checkpoint, IsSoundCheckpoint, PassesTests, View}
-use Rattle.df_theory.specs.Found.{slot_behind}
-use Rattle.df_theory.specs.Opens.{AreLinks, Arrives, BadField, BootSpent, Damaged, Found, IsLink, IsShown, NoQuorum, ReadsTo, Refused}
-use Rattle.df_theory.specs.DamageLaws.{NoBadFieldLaw}
-use Rattle.df_theory.proofs.Fields.{fields_hold_law}
-use Rattle.df_theory.proofs.Once.{was_chain}
-use Rattle.df_theory.proofs.Layers.{Answers, answers_of}
-use Rattle.df_theory.specs.Grown.{Grows}
-use Rattle.df_theory.specs.HistoryLaws.{AreDistinct, ShowsSettled}
-use Rattle.df_theory.specs.Past.{FromEmpty}
-use Rattle.df_theory.proofs.OneAnswer.{in_behind}
+use Rattle.df_theory.{specs.{Units.{Block, BlockPlace, BlockUnit, Content, CopyPlace, PreparePlace, ReplyPlace, Units}, Shape.{Shape}, Copies.{IsChosen}, Trailer.{InChain, IsReference, Links}, View.{Checkpoint, IsSoundCheckpoint, PassesTests, View}, Found.{slot_behind}, Opens.{AreLinks, Arrives, BadField, BootSpent, Damaged, Found, IsLink, IsShown, NoQuorum, ReadsTo, Refused}, DamageLaws.{NoBadFieldLaw}, Grown.{Grows}, HistoryLaws.{AreDistinct, ShowsSettled}, Past.{FromEmpty}}, proofs.{Fields.{fields_hold_law}, Once.{was_chain}, Layers.{Answers, answers_of}, OneAnswer.{in_behind}}}
 
 pub arrives_more : (image : Units) (bs : List (ℕ × Block)) (d : ℕ × Block) (address checksum a k : ℕ) → Arrives image bs address checksum a k → 0 < a → d.0 ≡ a → d.1.checksum ≡ k → d.1.kind ≡ 0 → image (BlockPlace a) ≡ Some (BlockUnit d.1) → Arrives image (bs ++ d ∷ []) address checksum d.1.before d.1.before_checksum
 arrives_more image [] d address checksum a k arrives above place sum kind shown =

@@ -1,24 +1,6 @@
 -- A file as it is made.
-use Rattle.std.proofs.Common.{◌≡◌, inl, inr, ℕ, ◌<◌, ◌||◌, List, [], ◌∷◌, Option, Some, None, refl, sym, ◌∙◌, ap, subst, arith}
-use Rattle.std.proofs.lemmas.Bool.{cases_eq}
-use Rattle.df_theory.specs.CopyPuts.{PutsCopies, update_steps}
-use Rattle.df_theory.specs.Units.{AnyUnit, Content, CopyPlace, CopyUnit, Place, Units, is_some, or_else, overlay}
-use Rattle.df_theory.specs.Shape.{Shape}
-use Rattle.df_theory.specs.Copies.{IsSplit}
-use Rattle.df_theory.specs.View.{View}
-use Rattle.df_theory.specs.Holds.{Holds}
-use Rattle.df_theory.specs.UnitLog.{IsLeftBy, PutsOne, Stopped, Synced, UnitLog, add, now, settled, wrote}
-use Rattle.df_theory.specs.Chance.{EachLeft, InImages, InPool, NoChance}
-use Rattle.df_theory.specs.First.{AreMade, IsFirst, IsMade, ShowsMade}
-use Rattle.df_theory.specs.Grown.{Begins, Grown, HasGrown, IsSafe}
-use Rattle.df_theory.specs.Rests.{IsDry, RestsOn}
-use Rattle.df_theory.specs.Runs.{AtEach, Step, Syncs, after_steps}
-use Rattle.df_theory.specs.MakingLaws.{AllReserved, SecondCopyLaw, BlankLaw, FormatLaw, IsMaking, MakingSyncLaw, MayHold, PutsReserved, all_puts, blank_log}
-use Rattle.df_theory.proofs.CopyVotes.{agree_beside}
-use Rattle.df_theory.proofs.Steps.{synced_rests, rests_safe}
-use Rattle.df_theory.proofs.Writes.{put_else, copy_law, quiet_synced}
-use Rattle.df_theory.proofs.Runs.{each_append, after_append}
-use Rattle.df_theory.proofs.FirstViews.{first_holds}
+use Rattle.std.proofs.{Common.{◌≡◌, inl, inr, ℕ, ◌<◌, ◌||◌, List, [], ◌∷◌, Option, Some, None, refl, sym, ◌∙◌, ap, subst, arith}, lemmas.Bool.{cases_eq}}
+use Rattle.df_theory.{specs.{CopyPuts.{PutsCopies, update_steps}, Units.{AnyUnit, Content, CopyPlace, CopyUnit, Place, Units, is_some, or_else, overlay}, Shape.{Shape}, Copies.{IsSplit}, View.{View}, Holds.{Holds}, UnitLog.{IsLeftBy, PutsOne, Stopped, Synced, UnitLog, add, now, settled, wrote}, Chance.{EachLeft, InImages, InPool, NoChance}, First.{AreMade, IsFirst, IsMade, ShowsMade}, Grown.{Begins, Grown, HasGrown, IsSafe}, Rests.{IsDry, RestsOn}, Runs.{AtEach, Step, Syncs, after_steps}, MakingLaws.{AllReserved, SecondCopyLaw, BlankLaw, FormatLaw, IsMaking, MakingSyncLaw, MayHold, PutsReserved, all_puts, blank_log}}, proofs.{CopyVotes.{agree_beside}, Steps.{synced_rests, rests_safe}, Writes.{put_else, copy_law, quiet_synced}, Runs.{each_append, after_append}, FirstViews.{first_holds}}}
 
 -- ---- while there is none
 

@@ -1,27 +1,6 @@
 -- At rest a refusal blames what is hurt, and a read gives what was written.
-use Rattle.std.proofs.Common.{◌≡◌, inl, inr, ℕ, ◌+◌, ◌-◌, ◌%◌, ◌<◌, List, [], ◌∷◌, ◌++◌, length, take, Some, refl, sym, ◌∙◌, ap, subst, arith, length-append, append_assoc}
-use Rattle.std.specs.List.{slice_get}
-use Rattle.df_theory.specs.Units.{AnyUnit, Block, BlockPlace, BlockUnit, Content, Message, Place, PreparePlace, PrepareUnit, ReplyPlace, Session, Units}
-use Rattle.df_theory.specs.Tails.{In}
-use Rattle.df_theory.specs.Shape.{Shape}
-use Rattle.df_theory.specs.Copies.{Agree}
-use Rattle.df_theory.specs.Trailer.{InChain, Links}
-use Rattle.df_theory.specs.View.{Checkpoint, View, sessions}
-use Rattle.df_theory.specs.UnitLog.{UnitLog, now}
-use Rattle.df_theory.specs.Chance.{Distinct, NoChance}
-use Rattle.df_theory.specs.Rests.{RestsOn}
-use Rattle.df_theory.specs.Found.{IsTail, NotLost, slot_behind}
-use Rattle.df_theory.proofs.Knowns.{IsNamedTail, fitting_front, known_at, known_same, named_tail}
-use Rattle.df_theory.specs.Opens.{AreFitting, BootSpent, named_by, Damaged, Found, IsReadable, IsShown, ReadsTo, Refusal, Refused}
-use Rattle.df_theory.specs.DamageLaws.{BlameLaw, IsGroupUnhurt, IsHurt, ReadLaw, RefusalBlamesHurt}
-use Rattle.df_theory.proofs.Choices.{one_chosen}
-use Rattle.df_theory.proofs.OneView.{same_parts}
-use Rattle.df_theory.proofs.Once.{same_links}
-use Rattle.df_theory.proofs.Fields.{front_of}
-use Rattle.df_theory.proofs.Layers.{Answers, AnswersFields, AnswersKnown, AnswersReplies, AnswersTail, AnswersTraces, AnswersTrailer, answers_of}
-use Rattle.df_theory.proofs.OneAnswer.{count_one, in_behind}
-use Rattle.df_theory.proofs.BadFields.{all_shown}
-use Rattle.df_theory.proofs.Hurts.{pool_pools, chosen_still, not_behind, lost_is_hurt_law, missing_is_hurt_law, reply_is_hurt_law}
+use Rattle.std.{proofs.Common.{◌≡◌, inl, inr, ℕ, ◌+◌, ◌-◌, ◌%◌, ◌<◌, List, [], ◌∷◌, ◌++◌, length, take, Some, refl, sym, ◌∙◌, ap, subst, arith, length-append, append_assoc}, specs.List.{slice_get}}
+use Rattle.df_theory.{specs.{Units.{AnyUnit, Block, BlockPlace, BlockUnit, Content, Message, Place, PreparePlace, PrepareUnit, ReplyPlace, Session, Units}, Tails.{In}, Shape.{Shape}, Copies.{Agree}, Trailer.{InChain, Links}, View.{Checkpoint, View, sessions}, UnitLog.{UnitLog, now}, Chance.{Distinct, NoChance}, Rests.{RestsOn}, Found.{IsTail, NotLost, slot_behind}, Opens.{AreFitting, BootSpent, named_by, Damaged, Found, IsReadable, IsShown, ReadsTo, Refusal, Refused}, DamageLaws.{BlameLaw, IsGroupUnhurt, IsHurt, ReadLaw, RefusalBlamesHurt}}, proofs.{Knowns.{IsNamedTail, fitting_front, known_at, known_same, named_tail}, Choices.{one_chosen}, OneView.{same_parts}, Once.{same_links}, Fields.{front_of}, Layers.{Answers, AnswersFields, AnswersKnown, AnswersReplies, AnswersTail, AnswersTraces, AnswersTrailer, answers_of}, OneAnswer.{count_one, in_behind}, BadFields.{all_shown}, Hurts.{pool_pools, chosen_still, not_behind, lost_is_hurt_law, missing_is_hurt_law, reply_is_hurt_law}}}
 
 module _ (sh : Shape) (log : UnitLog) (v : View) (shown : Units) (rests : RestsOn sh log v) (chance : NoChance log shown) where
   -- what is shown and what stands are of the pools

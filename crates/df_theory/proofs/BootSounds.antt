@@ -1,15 +1,6 @@
 -- A boot update keeps a view sound, also one that changes the version.
 use Rattle.std.proofs.Common.{◌≡◌, ℕ, ◌+◌, ◌-◌, List, [], ◌∷◌, length, take, drop, slice_index, sym, ◌∙◌, ap, subst, arith}
-use Rattle.df_theory.specs.Units.{Block, Content, Layout}
-use Rattle.df_theory.specs.Tails.{AreGroups, Chain, last_checksum}
-use Rattle.df_theory.specs.Shape.{Shape}
-use Rattle.df_theory.specs.Trailer.{IsCount, IsTrailer, Links, piece_size, Says}
-use Rattle.df_theory.specs.View.{View, head}
-use Rattle.df_theory.specs.Holds.{Sound}
-use Rattle.df_theory.specs.Next.{MayBoot, SameCheckpoint, booted}
-use Rattle.df_theory.specs.Upgrades.{as_version, of_version}
-use Rattle.df_theory.proofs.Tails.{chain_ops}
-use Rattle.df_theory.proofs.Sounds.{is}
+use Rattle.df_theory.{specs.{Units.{Block, Content, Layout}, Tails.{AreGroups, Chain, last_checksum}, Shape.{Shape}, Trailer.{IsCount, IsTrailer, Links, piece_size, Says}, View.{View, head}, Holds.{Sound}, Next.{MayBoot, SameCheckpoint, booted}, Upgrades.{as_version, of_version}}, proofs.{Tails.{chain_ops}, Sounds.{is}}}
 
 module _ (sh : Shape) (n : ℕ) (v : View) (d : Content) (sound : Sound sh v) (may : MayBoot (as_version n v) d) where
   same : SameCheckpoint (record v.checkpoint.content { version = n }) d

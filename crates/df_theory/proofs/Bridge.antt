@@ -1,21 +1,9 @@
 -- A log of sectors is a log of units.
-use Rattle.std.proofs.Common.{◌≡◌, inl, inr, ℕ, Option, Some, None, Bool, true, false, ◌||◌, List, [], ◌∷◌, refl, sym, ◌∙◌, ap, subst, arith}
-use Rattle.std.proofs.lemmas.Bool.{cases_eq, cond-false, cond-true}
-use Rattle.std.proofs.lemmas.Bool.Decides.{nat_tests}
+use Rattle.std.proofs.{Common.{◌≡◌, inl, inr, ℕ, Option, Some, None, Bool, true, false, ◌||◌, List, [], ◌∷◌, refl, sym, ◌∙◌, ap, subst, arith}, lemmas.Bool.{cases_eq, cond-false, cond-true}, lemmas.Bool.Decides.{nat_tests}}
 use Rattle.df_theory.specs.UnitLog
-use Rattle.df_theory.specs.Units.{AnyUnit, Place, Units, is_some, or_else, overlay}
-use Rattle.df_theory.specs.Next.{kept}
-use Rattle.df_theory.specs.UnitLog.{IsLeftBy, UnitLog, Wrote, loose_of, now, now_of, wrote}
-use Rattle.df_theory.specs.Grown.{IsSafe}
-use Rattle.df_theory.specs.Rests.{IsGoodLog}
-use Rattle.df_theory.specs.Runs.{AtEach, IsPartWay, Puts, Step, Syncs, after_steps}
-use Rattle.df_theory.specs.Device.{AreSteps, Format, IsFormat, IsGoodDisk, IsPartWayDisk, IsSafeDisk, all_units, stands, units_log, units_of}
-use Rattle.df_theory.specs.DeviceLaws.{UnitMomentsLaw, StepsJoinLaw, ShownLaw, SettledLaw, DiskLaw, MomentsLaw, NewDiskLaw, PutLaw, RunMomentsLaw, SafeDiskLaw, SafeMomentsLaw}
-use Rattle.df_base.specs.Image.{Image, blank, written, changed, IsPiece}
+use Rattle.df_theory.specs.{Units.{AnyUnit, Place, Units, is_some, or_else, overlay}, Next.{kept}, UnitLog.{IsLeftBy, UnitLog, Wrote, loose_of, now, now_of, wrote}, Grown.{IsSafe}, Rests.{IsGoodLog}, Runs.{AtEach, IsPartWay, Puts, Step, Syncs, after_steps}, Device.{AreSteps, Format, IsFormat, IsGoodDisk, IsPartWayDisk, IsSafeDisk, all_units, stands, units_log, units_of}, DeviceLaws.{UnitMomentsLaw, StepsJoinLaw, ShownLaw, SettledLaw, DiskLaw, MomentsLaw, NewDiskLaw, PutLaw, RunMomentsLaw, SafeDiskLaw, SafeMomentsLaw}}
+use Rattle.df_base.{specs.{Image.{Image, blank, written, changed, IsPiece}, Log.{Event, Write, Sync, Stop, AreLoose}, Moments.{EachMoment, adds}}, proofs.Laws.{now_is_image, adds_extends, started, from_before, blank_is_image}}
 use Rattle.df_base.specs.Log
-use Rattle.df_base.specs.Log.{Event, Write, Sync, Stop, AreLoose}
-use Rattle.df_base.specs.Moments.{EachMoment, adds}
-use Rattle.df_base.proofs.Laws.{now_is_image, adds_extends, started, from_before, blank_is_image}
 
 pub now_units : (f : Format) (start : Image) (es : List Event) → now_of (f.unit_at start) (units_of f start es) ≡ f.unit_at (Log.now_of start es)
 now_units f start [] = refl

@@ -1,10 +1,6 @@
 -- One content is chosen, and how it is shown to be.
-use Rattle.std.proofs.Common.{◌≡◌, ◌⊎◌, inl, inr, ℕ, zero, suc, ◌≤◌, ◌<◌, Some, sym, ◌∙◌, ap, arith}
-use Rattle.std.proofs.lemmas.Bool.{cases_eq}
-use Rattle.df_theory.specs.Units.{Content, CopyPlace, CopyUnit, Units}
-use Rattle.df_theory.specs.Copies.{Agree, IsChosen, IsNextContent, rank_of}
-use Rattle.df_theory.specs.View.{Checkpoint, View}
-use Rattle.df_theory.specs.Next.{IsBoot, IsFinish}
+use Rattle.std.proofs.{Common.{◌≡◌, ◌⊎◌, inl, inr, ℕ, zero, suc, ◌≤◌, ◌<◌, Some, sym, ◌∙◌, ap, arith}, lemmas.Bool.{cases_eq}}
+use Rattle.df_theory.specs.{Units.{Content, CopyPlace, CopyUnit, Units}, Copies.{Agree, IsChosen, IsNextContent, rank_of}, View.{Checkpoint, View}, Next.{IsBoot, IsFinish}}
 
 pub same_copy : (image : Units) (n : ℕ) (c d : Content) → image (CopyPlace n) ≡ Some (CopyUnit c) → image (CopyPlace n) ≡ Some (CopyUnit d) → c ≡ d
 same_copy image n c d one two = let both : Some (CopyUnit c) ≡ Some (CopyUnit d) = sym one ∙ two in cc

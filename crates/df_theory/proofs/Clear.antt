@@ -1,17 +1,6 @@
 -- While nothing of the boot survives above the head, and after which steps that stays so.
 use Rattle.std.proofs.Common.{◌≡◌, inl, inr, ℕ, ◌≤◌, List, [], ◌∷◌, ◌++◌, Option, Some, None, refl, sym, ◌∙◌, ap, subst, arith}
-use Rattle.df_theory.specs.Units.{AnyUnit, Content, CopyPlace, CopyUnit, Header, Message, Place, PreparePlace, PrepareUnit, Units, or_else, overlay}
-use Rattle.df_theory.specs.Shape.{Shape}
-use Rattle.df_theory.specs.View.{View, boot_of, head}
-use Rattle.df_theory.specs.UnitLog.{PutsOne, Synced, UnitLog, add, now, settled, wrote}
-use Rattle.df_theory.specs.Chance.{InImages}
-use Rattle.df_theory.specs.Grown.{IsClear}
-use Rattle.df_theory.specs.Rests.{IsPrepare, IsQuiet, RestsOn}
-use Rattle.df_theory.specs.CopyPuts.{PutsCopies, update_steps}
-use Rattle.df_theory.specs.Runs.{Puts, Step, Syncs, after_steps}
-use Rattle.df_theory.specs.MakingLaws.{all_puts}
-use Rattle.df_theory.specs.MendLaws.{AllPutCopy, AllPutTable, copy_steps, header_steps}
-use Rattle.df_theory.proofs.Writes.{clear_in}
+use Rattle.df_theory.{specs.{Units.{AnyUnit, Content, CopyPlace, CopyUnit, Header, Message, Place, PreparePlace, PrepareUnit, Units, or_else, overlay}, Shape.{Shape}, View.{View, boot_of, head}, UnitLog.{PutsOne, Synced, UnitLog, add, now, settled, wrote}, Chance.{InImages}, Grown.{IsClear}, Rests.{IsPrepare, IsQuiet, RestsOn}, CopyPuts.{PutsCopies, update_steps}, Runs.{Puts, Step, Syncs, after_steps}, MakingLaws.{all_puts}, MendLaws.{AllPutCopy, AllPutTable, copy_steps, header_steps}}, proofs.Writes.{clear_in}}
 
 -- in a file without boots nothing survives
 pub clear_one : (sh : Shape) (log : UnitLog) (v : View) → RestsOn sh log v → boot_of v ≡ 0 → IsClear (settled log) v

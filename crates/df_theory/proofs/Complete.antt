@@ -1,27 +1,6 @@
 -- An open of any image has an answer.
-use Rattle.std.proofs.Common.{◌≡◌, ◌⊎◌, inl, inr, ℕ, zero, suc, ◌+◌, ◌-◌, ◌%◌, ◌^◌, ◌<◌, ◌≤◌, List, [], ◌∷◌, ◌++◌, length, take, Option, Some, None, refl, sym, ◌∙◌, ap, subst, arith, length-append, append_assoc, append-nil}
-use Rattle.std.specs.List.{slice_get}
-use Rattle.std.proofs.lemmas.Bool.{cases_eq, cases_lt}
-use Rattle.std.proofs.lemmas.List.{take-append-le}
-use Rattle.std.proofs.lemmas.Option.{slice_get_within}
-use Rattle.std.proofs.Math.Seq.{take-length}
-use Rattle.df_theory.specs.Units.{AnyUnit, Block, BlockPlace, BlockUnit, Content, CopyPlace, CopyUnit, HeaderUnit, Message, PreparePlace, PrepareUnit, ReplyPlace, ReplyUnit, Session, Units}
-use Rattle.df_theory.specs.Sessions.{noted, sessions_after}
-use Rattle.df_theory.specs.Tails.{AreGroups, AreWholeGroups, Chain, EndsAt, In, last_checksum, last_mark}
-use Rattle.df_theory.specs.Shape.{Shape, clients, slots}
-use Rattle.df_theory.specs.Copies.{Agree, IsChosen, IsSplit, rank_of}
-use Rattle.df_theory.specs.Trailer.{IsReference}
-use Rattle.df_theory.specs.View.{Checkpoint, PassesTests, View}
-use Rattle.df_theory.specs.Cases.{Takes}
-use Rattle.df_theory.specs.Groups.{AreBehind, AreMore}
-use Rattle.df_theory.specs.Found.{AreOfPlaces, IsFound, IsLongest, IsReach, IsReplies, IsStored, IsTail, NotBehind, NotLost}
-use Rattle.df_theory.specs.Opens.{AreFitting, AreKnown, BadTrailer, Behind, IsAnswered, IsReadable, IsShown, IsUnfit, IsUsableSuperblock, LacksBlock, LacksKnown, LacksReply, Lost, OpenAnswer, Opened, Opens, ReachesReplies, ReachesTail, ReadsTo, Spent, Split, Unanswered, Unfit, Unknown, Unusable, named_by}
-use Rattle.df_theory.specs.ViewLaws.{AnAnswerLaw}
-use Rattle.df_theory.proofs.Tails.{chain_ops, in_either}
-use Rattle.df_theory.proofs.Sessions.{chain_append}
-use Rattle.df_theory.proofs.Grouped.{groups_append}
-use Rattle.df_theory.proofs.Keeps.{four}
-use Rattle.df_theory.proofs.KnownLaws.{known_ends_law}
+use Rattle.std.{proofs.{Common.{◌≡◌, ◌⊎◌, inl, inr, ℕ, zero, suc, ◌+◌, ◌-◌, ◌%◌, ◌^◌, ◌<◌, ◌≤◌, List, [], ◌∷◌, ◌++◌, length, take, Option, Some, None, refl, sym, ◌∙◌, ap, subst, arith, length-append, append_assoc, append-nil}, lemmas.Bool.{cases_eq, cases_lt}, lemmas.List.{take-append-le}, lemmas.Option.{slice_get_within}, Math.Seq.{take-length}}, specs.List.{slice_get}}
+use Rattle.df_theory.{specs.{Units.{AnyUnit, Block, BlockPlace, BlockUnit, Content, CopyPlace, CopyUnit, HeaderUnit, Message, PreparePlace, PrepareUnit, ReplyPlace, ReplyUnit, Session, Units}, Sessions.{noted, sessions_after}, Tails.{AreGroups, AreWholeGroups, Chain, EndsAt, In, last_checksum, last_mark}, Shape.{Shape, clients, slots}, Copies.{Agree, IsChosen, IsSplit, rank_of}, Trailer.{IsReference}, View.{Checkpoint, PassesTests, View}, Cases.{Takes}, Groups.{AreBehind, AreMore}, Found.{AreOfPlaces, IsFound, IsLongest, IsReach, IsReplies, IsStored, IsTail, NotBehind, NotLost}, Opens.{AreFitting, AreKnown, BadTrailer, Behind, IsAnswered, IsReadable, IsShown, IsUnfit, IsUsableSuperblock, LacksBlock, LacksKnown, LacksReply, Lost, OpenAnswer, Opened, Opens, ReachesReplies, ReachesTail, ReadsTo, Spent, Split, Unanswered, Unfit, Unknown, Unusable, named_by}, ViewLaws.{AnAnswerLaw}}, proofs.{Tails.{chain_ops, in_either}, Sessions.{chain_append}, Grouped.{groups_append}, Keeps.{four}, KnownLaws.{known_ends_law}}}
 
 -- ---- choices
 

@@ -1,10 +1,6 @@
 -- What four copies choose while an update goes on.
-use Rattle.std.proofs.Common.{◌≡◌, ◌⊎◌, inl, inr, ℕ, ◌<◌, Some, sym, ◌∙◌, ap, arith}
-use Rattle.std.proofs.lemmas.Bool.{cases_eq, cases_lt}
-use Rattle.df_theory.specs.Units.{Content, CopyPlace, CopyUnit, Units}
-use Rattle.df_theory.specs.Copies.{Agree, IsChosen, rank_of}
-use Rattle.df_theory.specs.Rests.{AgreeBeside}
-use Rattle.df_theory.proofs.Choices.{same_copy, chosen_above}
+use Rattle.std.proofs.{Common.{◌≡◌, ◌⊎◌, inl, inr, ℕ, ◌<◌, Some, sym, ◌∙◌, ap, arith}, lemmas.Bool.{cases_eq, cases_lt}}
+use Rattle.df_theory.{specs.{Units.{Content, CopyPlace, CopyUnit, Units}, Copies.{Agree, IsChosen, rank_of}, Rests.{AgreeBeside}}, proofs.Choices.{same_copy, chosen_above}}
 
 -- copies below k show the new content, those above the old one
 pub record IsStage (image : Units) (old new : Content) (k : ℕ) : Type 0 where

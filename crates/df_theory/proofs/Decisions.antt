@@ -1,10 +1,6 @@
 -- What the decision on a slot says of it.
-use Rattle.std.proofs.Common.{◌≡◌, inl, inr, ℕ, ◌<◌, ◌%◌, ◌==◌, Bool, true, false, if◌then◌else◌, Option, Some, None, refl, sym, ◌∙◌, ap, subst, arith}
-use Rattle.std.specs.Prelude.{nat_lt}
-use Rattle.std.proofs.lemmas.Bool.Decides.{nat_tests}
-use Rattle.df_theory.specs.Units.{AnyUnit, BlockUnit, CopyUnit, Header, HeaderPlace, HeaderUnit, Message, PreparePlace, PrepareUnit, ReplyUnit}
-use Rattle.df_theory.specs.Cases.{Current, Far, IsNow, Lost, Nothing, Old, SaysOfSlot, Seen, Take, case, seen, seen_header, seen_prepare}
-use Rattle.df_theory.specs.ViewLaws.{DecisionLaw}
+use Rattle.std.{proofs.{Common.{◌≡◌, inl, inr, ℕ, ◌<◌, ◌%◌, ◌==◌, Bool, true, false, if◌then◌else◌, Option, Some, None, refl, sym, ◌∙◌, ap, subst, arith}, lemmas.Bool.Decides.{nat_tests}}, specs.Prelude.{nat_lt}}
+use Rattle.df_theory.specs.{Units.{AnyUnit, BlockUnit, CopyUnit, Header, HeaderPlace, HeaderUnit, Message, PreparePlace, PrepareUnit, ReplyUnit}, Cases.{Current, Far, IsNow, Lost, Nothing, Old, SaysOfSlot, Seen, Take, case, seen, seen_header, seen_prepare}, ViewLaws.{DecisionLaw}}
 
 -- what one ring shows, where these are the headers that it may show
 abbrev IsSeen : ℕ → ℕ → (Header → Type 0) → Seen → Type 0

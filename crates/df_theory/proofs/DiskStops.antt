@@ -2,13 +2,7 @@
 use Rattle.std.proofs.Common.{sym, subst}
 use Rattle.df_base.specs.Image.{changed}
 use Rattle.df_base.specs.Log
-use Rattle.df_theory.specs.Units.{Units}
-use Rattle.df_theory.specs.Found.{IsFound}
-use Rattle.df_theory.specs.Device.{units_log}
-use Rattle.df_theory.specs.DeviceLaws.{DiskBarrierLaw, DiskStopLaw}
-use Rattle.df_theory.proofs.Bridge.{now_units}
-use Rattle.df_theory.proofs.Writes.{stop_law}
-use Rattle.df_theory.proofs.Headline.{barrier_law}
+use Rattle.df_theory.{specs.{Units.{Units}, Found.{IsFound}, Device.{units_log}, DeviceLaws.{DiskBarrierLaw, DiskStopLaw}}, proofs.{Bridge.{now_units}, Writes.{stop_law}, Headline.{barrier_law}}}
 
 pub disk_stop_law : DiskStopLaw
 disk_stop_law f sh v log changes safe are chance holds = stop_law sh (units_log f log) v (f.unit_at (changed changes (Log.now log))) (safe.stopped changes are chance) holds

@@ -1,12 +1,6 @@
 -- Damage never makes a superblock or a trailer that fails its tests.
 use Rattle.std.proofs.Common.{◌≡◌, inl, inr, ℕ, ◌-◌, List, [], ◌∷◌, ◌++◌, Some, refl, sym, ◌∙◌, ap, subst, arith}
-use Rattle.df_theory.specs.Units.{Block, BlockPlace, BlockUnit, Content, CopyPlace, CopyUnit, Units}
-use Rattle.df_theory.specs.Trailer.{InChain, Links}
-use Rattle.df_theory.specs.Holds.{Sound}
-use Rattle.df_theory.specs.Opens.{Arrives}
-use Rattle.df_theory.specs.DamageLaws.{FieldsHoldLaw}
-use Rattle.df_theory.proofs.Settled.{settled_content}
-use Rattle.df_theory.proofs.Once.{was_sound, was_chain}
+use Rattle.df_theory.{specs.{Units.{Block, BlockPlace, BlockUnit, Content, CopyPlace, CopyUnit, Units}, Trailer.{InChain, Links}, Holds.{Sound}, Opens.{Arrives}, DamageLaws.{FieldsHoldLaw}}, proofs.{Settled.{settled_content}, Once.{was_sound, was_chain}}}
 
 -- blocks that are read down from a reference are the chain's, as far as they are read
 pub front_of : (room : ℕ) (c : Content) (shown : Units) (cs bs : List (ℕ × Block)) (address checksum a k : ℕ) → Links room c cs address checksum → Arrives shown bs address checksum a k

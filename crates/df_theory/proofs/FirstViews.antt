@@ -1,19 +1,6 @@
 -- The first view is sound, and an image of a file that was just made holds it.
-use Rattle.std.proofs.Common.{◌≡◌, inl, ℕ, ◌+◌, ◌-◌, List, take, [], length, Some, None, refl, sym, ◌∙◌, ap, subst, arith}
-use Rattle.std.specs.List.{slice_get}
-use Rattle.df_theory.specs.Units.{AnyUnit, Block, BlockPlace, CopyPlace, CopyUnit, HeaderPlace, Message, Parts, Place, PreparePlace, PrepareUnit, ReplyPlace, Session, Units}
-use Rattle.df_theory.specs.Sessions.{sessions_after}
-use Rattle.df_theory.specs.Tails.{AreGroups, Chain, In, last_checksum, last_mark}
-use Rattle.df_theory.specs.Shape.{Shape}
-use Rattle.df_theory.specs.Trailer.{InChain, IsTrailer, no_parts}
-use Rattle.df_theory.specs.View.{View, sessions}
-use Rattle.df_theory.specs.Shows.{Needs}
-use Rattle.df_theory.specs.Holds.{Holds, Sound}
-use Rattle.df_theory.specs.First.{IsFirst, ShowsMade}
-use Rattle.df_theory.proofs.Choices.{chosen_above}
-use Rattle.df_theory.proofs.CopyVotes.{agree_at}
-use Rattle.df_theory.proofs.Steps.{made_agrees}
-use Rattle.df_theory.proofs.Images.{short_clear}
+use Rattle.std.{proofs.Common.{◌≡◌, inl, ℕ, ◌+◌, ◌-◌, List, take, [], length, Some, None, refl, sym, ◌∙◌, ap, subst, arith}, specs.List.{slice_get}}
+use Rattle.df_theory.{specs.{Units.{AnyUnit, Block, BlockPlace, CopyPlace, CopyUnit, HeaderPlace, Message, Parts, Place, PreparePlace, PrepareUnit, ReplyPlace, Session, Units}, Sessions.{sessions_after}, Tails.{AreGroups, Chain, In, last_checksum, last_mark}, Shape.{Shape}, Trailer.{InChain, IsTrailer, no_parts}, View.{View, sessions}, Shows.{Needs}, Holds.{Holds, Sound}, First.{IsFirst, ShowsMade}}, proofs.{Choices.{chosen_above}, CopyVotes.{agree_at}, Steps.{made_agrees}, Images.{short_clear}}}
 
 module _ (sh : Shape) (v : View) (first : IsFirst sh v) where
   no_session : (k : ℕ) (s : Session) → slice_get (sessions v) k ≡ Some s → ⊥

@@ -1,25 +1,6 @@
 -- A group, with its header sectors: each moment of it.
 use Rattle.std.proofs.Common.{◌≡◌, ◌⊎◌, inl, inr, ℕ, ◌+◌, ◌%◌, ◌<◌, ◌≤◌, List, [], ◌∷◌, ◌++◌, length, Some, refl, sym, ◌∙◌, ap, subst, arith, length-append}
-use Rattle.df_theory.specs.Units.{AnyUnit, Header, HeaderPlace, HeaderUnit, Message, Place, PreparePlace, PrepareUnit, Units}
-use Rattle.df_theory.specs.Tails.{In, last_checksum}
-use Rattle.df_theory.specs.Shape.{Shape}
-use Rattle.df_theory.specs.View.{View, boot_of, head}
-use Rattle.df_theory.specs.Holds.{Sound}
-use Rattle.df_theory.specs.Next.{Append, MayAppend, appended}
-use Rattle.df_theory.specs.UnitLog.{Synced, UnitLog, add, now, settled, wrote}
-use Rattle.df_theory.specs.Chance.{InImages}
-use Rattle.df_theory.specs.Grown.{IsClear}
-use Rattle.df_theory.specs.Rests.{IsCalm, IsCalmPut, IsGoodLog, IsQuiet, MaySettle, RestsOn}
-use Rattle.df_theory.specs.Runs.{AtEach, Syncs, after_steps}
-use Rattle.df_theory.specs.MakingLaws.{all_puts}
-use Rattle.df_theory.specs.WriterLaws.{AllPutPrepare, AreGroupSectors, FlushLaw, flush_steps}
-use Rattle.df_theory.proofs.Tails.{in_back, turn_ops}
-use Rattle.df_theory.proofs.Grew.{agrees_grew, next_grew}
-use Rattle.df_theory.proofs.Flushes.{begins, group_synced, moments}
-use Rattle.df_theory.proofs.Writes.{calm_law, good_both, good_rests}
-use Rattle.df_theory.proofs.Mends.{synced_after}
-use Rattle.df_theory.proofs.Runs.{after_append, each_append, each_weaker}
-use Rattle.df_theory.proofs.Clear.{AllLow, clear_steps, low_append}
+use Rattle.df_theory.{specs.{Units.{AnyUnit, Header, HeaderPlace, HeaderUnit, Message, Place, PreparePlace, PrepareUnit, Units}, Tails.{In, last_checksum}, Shape.{Shape}, View.{View, boot_of, head}, Holds.{Sound}, Next.{Append, MayAppend, appended}, UnitLog.{Synced, UnitLog, add, now, settled, wrote}, Chance.{InImages}, Grown.{IsClear}, Rests.{IsCalm, IsCalmPut, IsGoodLog, IsQuiet, MaySettle, RestsOn}, Runs.{AtEach, Syncs, after_steps}, MakingLaws.{all_puts}, WriterLaws.{AllPutPrepare, AreGroupSectors, FlushLaw, flush_steps}}, proofs.{Tails.{in_back, turn_ops}, Grew.{agrees_grew, next_grew}, Flushes.{begins, group_synced, moments}, Writes.{calm_law, good_both, good_rests}, Mends.{synced_after}, Runs.{after_append, each_append, each_weaker}, Clear.{AllLow, clear_steps, low_append}}}
 
 -- calm writes, one after the other
 abbrev AllCalm : Shape → List Units → View → List Units → Type 0

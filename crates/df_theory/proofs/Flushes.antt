@@ -1,34 +1,6 @@
 -- A group of prepares, written one after the other and synced once.
-use Rattle.std.proofs.Common.{◌≡◌, ◌⊎◌, inl, inr, ℕ, ◌||◌, false, ◌+◌, ◌%◌, ◌<◌, ◌≤◌, List, [], ◌∷◌, ◌++◌, length, Option, Some, None, refl, sym, ◌∙◌, ap, subst, arith, length-append}
-use Rattle.std.proofs.lemmas.Bool.{cases_eq, cases_lt, cases_Bool}
-use Rattle.std.specs.List.{slice_get}
-use Rattle.df_theory.specs.Units.{AnyUnit, BlockPlace, CopyPlace, HeaderPlace, Message, Place, PreparePlace, PrepareUnit, ReplyPlace, Units, is_some, or_else, overlay}
-use Rattle.df_theory.specs.Sessions.{sessions_after}
-use Rattle.df_theory.specs.Tails.{IsCutOff, In, last_checksum, last_mark}
-use Rattle.df_theory.specs.Shape.{Shape}
-use Rattle.df_theory.specs.Copies.{IsChosen}
-use Rattle.df_theory.specs.View.{View, boot_of, head}
-use Rattle.df_theory.specs.Shows.{Agrees, Needs}
-use Rattle.df_theory.specs.Groups.{AreMore, ShowsOwn}
-use Rattle.df_theory.specs.Holds.{Holds, Sound}
-use Rattle.df_theory.specs.Next.{Append, AreInTurn, MayAppend, appended}
-use Rattle.df_theory.specs.UnitLog.{IsLeftBy, PutsOne, Synced, UnitLog, add, loose, now, settled, wrote}
-use Rattle.df_theory.specs.Chance.{AreFair, InImages, InPool}
-use Rattle.df_theory.specs.Grown.{AllInHistory, GoesOn, Grows, InView, IsClear, IsSurvivor}
-use Rattle.df_theory.specs.Rests.{IsBlock, IsGoodLog, IsQuiet, RestsOn, Stepped}
-use Rattle.df_theory.specs.Runs.{AtEach, after_steps}
-use Rattle.df_theory.specs.MakingLaws.{all_puts}
-use Rattle.df_theory.specs.WriterLaws.{AllPutPrepare, AreSame}
-use Rattle.df_theory.proofs.Tails.{chain_ops, in_back, in_either, turn_ops}
-use Rattle.df_theory.proofs.Slots.{mod_apart}
-use Rattle.df_theory.proofs.Images.{IsClearIn, chosen_same, short_clear}
-use Rattle.df_theory.proofs.Grew.{agrees_grew, next_grew}
-use Rattle.df_theory.proofs.Torn.{IsPooled, Outcome}
-use Rattle.df_theory.proofs.Steps.{goes_same, old_agrees, safe_if, synced_rests}
-use Rattle.df_theory.proofs.Puts.{block_agrees, block_in_view}
-use Rattle.df_theory.proofs.Appends.{kept_some}
-use Rattle.df_theory.proofs.Sounds.{append_sound}
-use Rattle.df_theory.proofs.Founds.{chain_at}
+use Rattle.std.{proofs.{Common.{◌≡◌, ◌⊎◌, inl, inr, ℕ, ◌||◌, false, ◌+◌, ◌%◌, ◌<◌, ◌≤◌, List, [], ◌∷◌, ◌++◌, length, Option, Some, None, refl, sym, ◌∙◌, ap, subst, arith, length-append}, lemmas.Bool.{cases_eq, cases_lt, cases_Bool}}, specs.List.{slice_get}}
+use Rattle.df_theory.{specs.{Units.{AnyUnit, BlockPlace, CopyPlace, HeaderPlace, Message, Place, PreparePlace, PrepareUnit, ReplyPlace, Units, is_some, or_else, overlay}, Sessions.{sessions_after}, Tails.{IsCutOff, In, last_checksum, last_mark}, Shape.{Shape}, Copies.{IsChosen}, View.{View, boot_of, head}, Shows.{Agrees, Needs}, Groups.{AreMore, ShowsOwn}, Holds.{Holds, Sound}, Next.{Append, AreInTurn, MayAppend, appended}, UnitLog.{IsLeftBy, PutsOne, Synced, UnitLog, add, loose, now, settled, wrote}, Chance.{AreFair, InImages, InPool}, Grown.{AllInHistory, GoesOn, Grows, InView, IsClear, IsSurvivor}, Rests.{IsBlock, IsGoodLog, IsQuiet, RestsOn, Stepped}, Runs.{AtEach, after_steps}, MakingLaws.{all_puts}, WriterLaws.{AllPutPrepare, AreSame}}, proofs.{Tails.{chain_ops, in_back, in_either, turn_ops}, Slots.{mod_apart}, Images.{IsClearIn, chosen_same, short_clear}, Grew.{agrees_grew, next_grew}, Torn.{IsPooled, Outcome}, Steps.{goes_same, old_agrees, safe_if, synced_rests}, Puts.{block_agrees, block_in_view}, Appends.{kept_some}, Sounds.{append_sound}, Founds.{chain_at}}}
 
 -- the view that is left
 pub record IsNext (sh : Shape) (images : List Units) (v u : View) (j : Units) : Type 0 where

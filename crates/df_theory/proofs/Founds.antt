@@ -1,20 +1,6 @@
 -- What opening finds is what the image holds.
-use Rattle.std.proofs.Common.{◌≡◌, ◌⊎◌, inl, inr, ℕ, ◌+◌, ◌-◌, ◌%◌, ◌^◌, ◌<◌, ◌≤◌, List, [], ◌∷◌, length, Option, Some, refl, sym, ◌∙◌, ap, subst, arith}
-use Rattle.std.proofs.lemmas.Bool.{cases_eq, cases_lt}
-use Rattle.df_theory.specs.Units.{AnyUnit, BlockPlace, BlockUnit, CopyPlace, Header, HeaderPlace, HeaderUnit, Message, Place, PreparePlace, PrepareUnit, ReplyPlace, ReplyUnit, Session, Units}
-use Rattle.df_theory.specs.Sessions.{Answers, Tracks, noted, sessions_after}
-use Rattle.df_theory.specs.Tails.{Chain, In, last_checksum, last_mark}
-use Rattle.df_theory.specs.Groups.{IsShort}
-use Rattle.df_theory.proofs.Tails.{chain_ops}
-use Rattle.df_theory.specs.Shape.{Shape, clients}
-use Rattle.df_theory.specs.View.{View, boot_of, head, sessions}
-use Rattle.df_theory.specs.Shows.{Agrees, AgreesHeader, AgreesPrepare, AgreesReply, Needs}
-use Rattle.df_theory.specs.Holds.{Holds, IsNamed, Sound}
-use Rattle.df_theory.specs.Cases.{Current, IsEmpty, IsTake, Seen, Takes, case, decision, seen, seen_header, seen_prepare}
-use Rattle.df_theory.specs.Found.{AreOfPlaces, IsClean, IsFound, IsOfPlace}
-use Rattle.df_theory.specs.ViewLaws.{SlotLaw}
-use Rattle.df_theory.proofs.Sessions.{tracks_chain}
-use Rattle.df_theory.proofs.Agreeing.{seen_now, take_same, take_beside, take_boot, below_header, decided_above, empty_cut, near_prepare, old_header, prepare_near, header_agrees, prepare_agrees, reply_agrees, head_room, takes_if}
+use Rattle.std.proofs.{Common.{◌≡◌, ◌⊎◌, inl, inr, ℕ, ◌+◌, ◌-◌, ◌%◌, ◌^◌, ◌<◌, ◌≤◌, List, [], ◌∷◌, length, Option, Some, refl, sym, ◌∙◌, ap, subst, arith}, lemmas.Bool.{cases_eq, cases_lt}}
+use Rattle.df_theory.{specs.{Units.{AnyUnit, BlockPlace, BlockUnit, CopyPlace, Header, HeaderPlace, HeaderUnit, Message, Place, PreparePlace, PrepareUnit, ReplyPlace, ReplyUnit, Session, Units}, Sessions.{Answers, Tracks, noted, sessions_after}, Tails.{Chain, In, last_checksum, last_mark}, Groups.{IsShort}, Shape.{Shape, clients}, View.{View, boot_of, head, sessions}, Shows.{Agrees, AgreesHeader, AgreesPrepare, AgreesReply, Needs}, Holds.{Holds, IsNamed, Sound}, Cases.{Current, IsEmpty, IsTake, Seen, Takes, case, decision, seen, seen_header, seen_prepare}, Found.{AreOfPlaces, IsClean, IsFound, IsOfPlace}, ViewLaws.{SlotLaw}}, proofs.{Tails.{chain_ops}, Sessions.{tracks_chain}, Agreeing.{seen_now, take_same, take_beside, take_boot, below_header, decided_above, empty_cut, near_prepare, old_header, prepare_near, header_agrees, prepare_agrees, reply_agrees, head_room, takes_if}}}
 
 -- each op of a chain has a prepare
 pub chain_at : (clients op parent mark : ℕ) (ss : List Session) (ps : List Message) (o : ℕ) → Chain clients op parent mark ss ps → op ≤ o → o < op + length ps → (p : Message) × In p ps × (p.header.op ≡ o)

@@ -1,15 +1,6 @@
 -- What agrees with a view agrees with each later one.
 use Rattle.std.proofs.Common.{◌≡◌, ◌⊎◌, inl, inr, ℕ, ◌+◌, ◌-◌, ◌<◌, ◌≤◌, refl, sym, ap, subst, arith, length-append, length-drop}
-use Rattle.df_theory.specs.Units.{AnyUnit, BlockPlace, Content, CopyPlace, Header, HeaderPlace, Message, Place, PreparePlace, PrepareUnit, ReplyPlace}
-use Rattle.df_theory.specs.Tails.{BindsHead, In}
-use Rattle.df_theory.specs.Shape.{Shape}
-use Rattle.df_theory.specs.Copies.{rank_of}
-use Rattle.df_theory.specs.View.{Checkpoint, View, boot_of, head, sequence}
-use Rattle.df_theory.specs.Shows.{Agrees, AgreesCopy}
-use Rattle.df_theory.specs.Holds.{Sound}
-use Rattle.df_theory.specs.Next.{Append, Boot, Finish, Next, Reply, Same}
-use Rattle.df_theory.proofs.Choices.{boot_higher, finish_higher}
-use Rattle.df_theory.proofs.Tails.{in_front, in_drop}
+use Rattle.df_theory.{specs.{Units.{AnyUnit, BlockPlace, Content, CopyPlace, Header, HeaderPlace, Message, Place, PreparePlace, PrepareUnit, ReplyPlace}, Tails.{BindsHead, In}, Shape.{Shape}, Copies.{rank_of}, View.{Checkpoint, View, boot_of, head, sequence}, Shows.{Agrees, AgreesCopy}, Holds.{Sound}, Next.{Append, Boot, Finish, Next, Reply, Same}}, proofs.{Choices.{boot_higher, finish_higher}, Tails.{in_front, in_drop}}}
 
 -- what later views keep of an earlier one
 pub record Grew (v u : View) : Type 0 where

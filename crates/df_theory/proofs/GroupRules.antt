@@ -1,10 +1,6 @@
 -- The group rule: by what is over so far, and by the prepare before.
-use Rattle.std.proofs.Common.{◌≡◌, inl, inr, ℕ, ◌+◌, ◌<◌, ◌≤◌, List, [], ◌∷◌, Some, refl, sym, ◌∙◌, ap, subst, arith}
-use Rattle.std.proofs.lemmas.Bool.{cases_eq}
-use Rattle.df_theory.specs.Units.{Header, Message, Session}
-use Rattle.df_theory.specs.Sessions.{noted}
-use Rattle.df_theory.specs.Tails.{AreGroups, Chain, In}
-use Rattle.df_theory.specs.GroupLaws.{FollowGroups, GroupRuleLaw}
+use Rattle.std.proofs.{Common.{◌≡◌, inl, inr, ℕ, ◌+◌, ◌<◌, ◌≤◌, List, [], ◌∷◌, Some, refl, sym, ◌∙◌, ap, subst, arith}, lemmas.Bool.{cases_eq}}
+use Rattle.df_theory.specs.{Units.{Header, Message, Session}, Sessions.{noted}, Tails.{AreGroups, Chain, In}, GroupLaws.{FollowGroups, GroupRuleLaw}}
 
 -- after a prepare
 module _ (clients base pin : ℕ) (low : base ≤ pin) where

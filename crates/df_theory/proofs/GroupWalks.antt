@@ -1,20 +1,6 @@
 -- Where the walk of an open ends, and what is lost.
-use Rattle.std.proofs.Common.{◌≡◌, inl, inr, ℕ, ◌+◌, ◌%◌, ◌<◌, List, [], ◌∷◌, length, Some, refl, sym, ◌∙◌, ap, subst, arith, length-append}
-use Rattle.std.proofs.lemmas.Bool.{cases_eq, cases_lt}
-use Rattle.df_theory.specs.Units.{HeaderPlace, IsAlone, Message, PreparePlace, PrepareUnit, Session, Units}
-use Rattle.df_theory.specs.Sessions.{noted, sessions_after}
-use Rattle.df_theory.specs.Tails.{AreGroups, Chain, In, last_checksum, last_mark}
-use Rattle.df_theory.specs.Shape.{Shape, clients}
-use Rattle.df_theory.specs.View.{Checkpoint, boot_of}
-use Rattle.df_theory.specs.Shows.{AgreesPrepare}
-use Rattle.df_theory.specs.Cases.{Takes, seen_header, seen_prepare}
-use Rattle.df_theory.specs.Groups.{AreMore}
-use Rattle.df_theory.specs.Found.{IsReach}
-use Rattle.df_theory.specs.GroupLaws.{AloneLaw, ClearSlotLaw, LostLaw, ShowsGroup, WalkLaw}
-use Rattle.df_theory.proofs.Tails.{chain_ops, in_either, in_single}
-use Rattle.df_theory.proofs.Agreeing.{IsBelow, below_header, empty_case, near_prepare, old_header, old_prepare}
-use Rattle.df_theory.proofs.Founds.{chain_at, header_found, prepare_found}
-use Rattle.df_theory.proofs.OneFound.{step_on}
+use Rattle.std.proofs.{Common.{◌≡◌, inl, inr, ℕ, ◌+◌, ◌%◌, ◌<◌, List, [], ◌∷◌, length, Some, refl, sym, ◌∙◌, ap, subst, arith, length-append}, lemmas.Bool.{cases_eq, cases_lt}}
+use Rattle.df_theory.{specs.{Units.{HeaderPlace, IsAlone, Message, PreparePlace, PrepareUnit, Session, Units}, Sessions.{noted, sessions_after}, Tails.{AreGroups, Chain, In, last_checksum, last_mark}, Shape.{Shape, clients}, View.{Checkpoint, boot_of}, Shows.{AgreesPrepare}, Cases.{Takes, seen_header, seen_prepare}, Groups.{AreMore}, Found.{IsReach}, GroupLaws.{AloneLaw, ClearSlotLaw, LostLaw, ShowsGroup, WalkLaw}}, proofs.{Tails.{chain_ops, in_either, in_single}, Agreeing.{IsBelow, below_header, empty_case, near_prepare, old_header, old_prepare}, Founds.{chain_at, header_found, prepare_found}, OneFound.{step_on}}}
 
 same_taken : (n : ℕ) (image : Units) (b : Checkpoint) (p q : Message) → Takes n image b.content p → Takes n image b.content q → p.header.op ≡ q.header.op → p ≡ q
 same_taken n image b p q one two op = let both : Some (PrepareUnit p) ≡ Some (PrepareUnit q) = sym one.shown ∙ ap (λ (o : ℕ). image (PreparePlace (o % n))) op ∙ two.shown in cc

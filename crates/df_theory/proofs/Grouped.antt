@@ -1,10 +1,6 @@
 -- Groups of prepares in a list.
 use Rattle.std.proofs.Common.{◌≡◌, inl, inr, ℕ, zero, suc, ◌+◌, ◌<◌, ◌≤◌, List, [], ◌∷◌, ◌++◌, length, drop, refl, sym, ◌∙◌, ap, subst, arith}
-use Rattle.df_theory.specs.Units.{Header, Message, Session}
-use Rattle.df_theory.specs.Sessions.{noted}
-use Rattle.df_theory.specs.Tails.{AreGroups, Chain, FitsGroup, In}
-use Rattle.df_theory.specs.Shape.{clients}
-use Rattle.df_theory.proofs.Tails.{chain_ops}
+use Rattle.df_theory.{specs.{Units.{Header, Message, Session}, Sessions.{noted}, Tails.{AreGroups, Chain, FitsGroup, In}, Shape.{clients}}, proofs.Tails.{chain_ops}}
 
 -- after a group that is over it doesn't matter which one it was
 pub fits_closed : (f g l m op : ℕ) (h : Header) → l < op → m < op → FitsGroup f l op h → FitsGroup g m op h

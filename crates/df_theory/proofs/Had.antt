@@ -1,28 +1,6 @@
 -- What is found in any image of settled units was the view of a settled image.
-use Rattle.std.proofs.Common.{◌≡◌, ◌⊎◌, inl, inr, ℕ, ◌+◌, ◌-◌, ◌%◌, ◌<◌, ◌≤◌, List, length, take, Some, sym, ◌∙◌, ap, subst, arith}
-use Rattle.std.proofs.lemmas.Bool.{cases_lt}
-use Rattle.df_theory.specs.Units.{AnyUnit, BlockPlace, BlockUnit, Content, CopyPlace, CopyUnit, Message, Place, PreparePlace, PrepareUnit, ReplyPlace, ReplyUnit, Units}
-use Rattle.df_theory.specs.Tails.{Chain, In, last_checksum, last_mark}
-use Rattle.df_theory.specs.Shape.{Shape}
-use Rattle.df_theory.specs.Copies.{rank_of}
-use Rattle.df_theory.specs.View.{Checkpoint, View, head, sessions}
-use Rattle.df_theory.specs.Holds.{Sound}
-use Rattle.df_theory.specs.Chance.{Distinct, InImages}
-use Rattle.df_theory.specs.Grown.{Grows}
-use Rattle.df_theory.specs.Found.{IsFound}
-use Rattle.df_theory.specs.Past.{FromEmpty, Was}
-use Rattle.df_theory.specs.HistoryLaws.{FoundWasLaw, OneContentLaw, OneReplyLaw}
-use Rattle.df_theory.proofs.Choices.{rank_low}
-use Rattle.df_theory.proofs.SameView.{view_is_found}
-use Rattle.df_theory.proofs.WholeGroups.{no_gap}
-use Rattle.df_theory.proofs.Past.{WasIn, settled_one, settled_was, was_prepare, stamp_law}
-use Rattle.df_theory.proofs.Grouped.{group_holds}
-use Rattle.df_theory.proofs.Founds.{chain_at}
-use Rattle.df_theory.proofs.Agreeing.{take_boot}
-use Rattle.df_theory.proofs.Pinned.{same_named}
-use Rattle.df_theory.proofs.Tails.{chain_ops}
-use Rattle.df_theory.proofs.Settled.{settled_content, settled_reply, after_append, after_reply, after_base}
-use Rattle.df_theory.proofs.Once.{was_base, was_sound, was_reply, was_chain, last_of, no_mark}
+use Rattle.std.proofs.{Common.{◌≡◌, ◌⊎◌, inl, inr, ℕ, ◌+◌, ◌-◌, ◌%◌, ◌<◌, ◌≤◌, List, length, take, Some, sym, ◌∙◌, ap, subst, arith}, lemmas.Bool.{cases_lt}}
+use Rattle.df_theory.{specs.{Units.{AnyUnit, BlockPlace, BlockUnit, Content, CopyPlace, CopyUnit, Message, Place, PreparePlace, PrepareUnit, ReplyPlace, ReplyUnit, Units}, Tails.{Chain, In, last_checksum, last_mark}, Shape.{Shape}, Copies.{rank_of}, View.{Checkpoint, View, head, sessions}, Holds.{Sound}, Chance.{Distinct, InImages}, Grown.{Grows}, Found.{IsFound}, Past.{FromEmpty, Was}, HistoryLaws.{FoundWasLaw, OneContentLaw, OneReplyLaw}}, proofs.{Choices.{rank_low}, SameView.{view_is_found}, WholeGroups.{no_gap}, Past.{WasIn, settled_one, settled_was, was_prepare, stamp_law}, Grouped.{group_holds}, Founds.{chain_at}, Agreeing.{take_boot}, Pinned.{same_named}, Tails.{chain_ops}, Settled.{settled_content, settled_reply, after_append, after_reply, after_base}, Once.{was_base, was_sound, was_reply, was_chain, last_of, no_mark}}}
 
 module _ (sh : Shape) (images : List Units) (v : View) (grows : Grows sh images v) (empty : FromEmpty sh images v grows)
     (distinct : (place other : Place) (x y : AnyUnit) → InImages images place x → InImages images other y → Distinct x y)

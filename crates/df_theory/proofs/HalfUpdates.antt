@@ -1,22 +1,6 @@
 -- An update is stopped within copy 1, and mended.
 use Rattle.std.proofs.Common.{◌≡◌, ◌⊎◌, inl, inr, ℕ, ◌<◌, ◌||◌, Bool, true, false, if◌then◌else◌, List, [], ◌∷◌, Some, None, refl, sym, ◌∙◌, ap, subst, arith}
-use Rattle.df_theory.specs.Units.{Content, CopyPlace, CopyUnit, Units, is_some, or_else}
-use Rattle.df_theory.specs.UnitLog.{same_place, IsLeftBy, Stopped, Synced, UnitLog, add, now, put_one, wrote}
-use Rattle.df_theory.specs.Chance.{NoChance}
-use Rattle.df_theory.specs.Holds.{Holds}
-use Rattle.df_theory.specs.Rests.{IsGoodLog}
-use Rattle.df_theory.specs.MendLaws.{IsNumber, MayMend}
-use Rattle.df_theory.specs.Sample.{UpdateSampleLaw}
-use Rattle.df_theory.proofs.Writes.{stop_law}
-use Rattle.df_theory.proofs.PutOne.{put_one_law}
-use Rattle.df_theory.proofs.Keeps.{four}
-use Rattle.df_theory.proofs.AllOf.{All}
-use Rattle.df_theory.proofs.Ours.{IsOurs, distinct_in, log4_all}
-use Rattle.df_theory.proofs.SampleSlots.{header_shown, slot, table}
-use Rattle.df_theory.proofs.SampleUnits.{put_all}
-use Rattle.df_theory.proofs.Without.{without, without_shows}
-use Rattle.df_theory.proofs.Samples.{content1, log4, shape, view2}
-use Rattle.df_theory.proofs.SampleEnds.{content2, leads5, view5}
+use Rattle.df_theory.{specs.{Units.{Content, CopyPlace, CopyUnit, Units, is_some, or_else}, UnitLog.{same_place, IsLeftBy, Stopped, Synced, UnitLog, add, now, put_one, wrote}, Chance.{NoChance}, Holds.{Holds}, Rests.{IsGoodLog}, MendLaws.{IsNumber, MayMend}, Sample.{UpdateSampleLaw}}, proofs.{Writes.{stop_law}, PutOne.{put_one_law}, Keeps.{four}, AllOf.{All}, Ours.{IsOurs, distinct_in, log4_all}, SampleSlots.{header_shown, slot, table}, SampleUnits.{put_all}, Without.{without, without_shows}, Samples.{content1, log4, shape, view2}, SampleEnds.{content2, leads5, view5}}}
 
 -- copy 0 is durable, and copy 1 is being written
 abbrev half : UnitLog

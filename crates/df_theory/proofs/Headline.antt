@@ -1,20 +1,6 @@
 -- Stop anywhere, and the next open goes on.
 use Rattle.std.proofs.Common.{◌≡◌, ◌⊎◌, inl, inr, [], ◌∷◌, subst}
-use Rattle.df_theory.specs.Units.{Units}
-use Rattle.df_theory.specs.Shape.{Shape}
-use Rattle.df_theory.specs.View.{View}
-use Rattle.df_theory.specs.Holds.{Holds}
-use Rattle.df_theory.specs.UnitLog.{IsLeftBy, Synced, UnitLog, add, now, settled}
-use Rattle.df_theory.specs.Chance.{EachLeft, NoChance}
-use Rattle.df_theory.specs.Grown.{IsSafe}
-use Rattle.df_theory.specs.Rests.{IsGoodLog, RestsOn}
-use Rattle.df_theory.specs.Runs.{after_steps}
-use Rattle.df_theory.specs.HeadlineLaws.{BarrierLaw, CleanStartLaw, HeadlineLaw, Survives}
-use Rattle.df_theory.proofs.Steps.{grows_holds, synced_rests, rests_safe, rests_holds}
-use Rattle.df_theory.proofs.Founds.{holds_found, found_holds}
-use Rattle.df_theory.proofs.OneFound.{one_found_law}
-use Rattle.df_theory.proofs.Writes.{stop_law, anew_law, no_choice}
-use Rattle.df_theory.proofs.Runs.{each_weaker}
+use Rattle.df_theory.{specs.{Units.{Units}, Shape.{Shape}, View.{View}, Holds.{Holds}, UnitLog.{IsLeftBy, Synced, UnitLog, add, now, settled}, Chance.{EachLeft, NoChance}, Grown.{IsSafe}, Rests.{IsGoodLog, RestsOn}, Runs.{after_steps}, HeadlineLaws.{BarrierLaw, CleanStartLaw, HeadlineLaw, Survives}}, proofs.{Steps.{grows_holds, synced_rests, rests_safe, rests_holds}, Founds.{holds_found, found_holds}, OneFound.{one_found_law}, Writes.{stop_law, anew_law, no_choice}, Runs.{each_weaker}}}
 
 pub survives : (sh : Shape) (log : UnitLog) (image : Units) (w : View) → IsSafe sh log → IsLeftBy log image → NoChance log image → Holds sh image w → Survives sh log image w
 survives sh log image w safe left chance holds = record { found = holds_found sh image w holds; rests = stop_law sh log w image (safe.stopped image left chance) holds }

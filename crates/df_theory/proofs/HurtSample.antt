@@ -1,19 +1,6 @@
 -- A file, of which nothing is loose, whose only prepare is lost: an open refuses, and names its slot.
 use Rattle.std.proofs.Common.{◌≡◌, inl, ℕ, ◌%◌, ◌<◌, List, [], ◌∷◌, length, Some, None, refl, sym, ◌∙◌, ap, arith}
-use Rattle.df_theory.specs.Units.{AnyUnit, Message, Place, PreparePlace, PrepareUnit, Units}
-use Rattle.df_theory.specs.UnitLog.{now}
-use Rattle.df_theory.specs.Copies.{Agree}
-use Rattle.df_theory.specs.Chance.{InPool, NoChance}
-use Rattle.df_theory.specs.Found.{IsReach, IsTail, NotLost}
-use Rattle.df_theory.specs.Tails.{Chain, In}
-use Rattle.df_theory.specs.Cases.{Takes}
-use Rattle.df_theory.specs.Opens.{Lost}
-use Rattle.df_theory.specs.View.{Checkpoint}
-use Rattle.df_theory.specs.Sample.{HurtSampleLaw}
-use Rattle.df_theory.proofs.Hurts.{never_behind_law}
-use Rattle.df_theory.proofs.Without.{without, without_else, without_shows}
-use Rattle.df_theory.proofs.Ours.{distinct_in, log1_all}
-use Rattle.df_theory.proofs.Samples.{content1, first, leads1, log1, shape, view1, prepare1}
+use Rattle.df_theory.{specs.{Units.{AnyUnit, Message, Place, PreparePlace, PrepareUnit, Units}, UnitLog.{now}, Copies.{Agree}, Chance.{InPool, NoChance}, Found.{IsReach, IsTail, NotLost}, Tails.{Chain, In}, Cases.{Takes}, Opens.{Lost}, View.{Checkpoint}, Sample.{HurtSampleLaw}}, proofs.{Hurts.{never_behind_law}, Without.{without, without_else, without_shows}, Ours.{distinct_in, log1_all}, Samples.{content1, first, leads1, log1, shape, view1, prepare1}}}
 
 abbrev shown : Units
 shown = without (PreparePlace 1) (now log1)

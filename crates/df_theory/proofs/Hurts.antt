@@ -1,39 +1,6 @@
 -- What damage can do to a file whose log rests on a view.
-use Rattle.std.proofs.Common.{◌≡◌, ◌⊎◌, inl, inr, ℕ, ◌+◌, ◌-◌, ◌%◌, ◌<◌, ◌≤◌, ◌==◌, Bool, true, false, if◌then◌else◌, zero, suc, List, [], ◌∷◌, ◌++◌, length, take, drop, Some, None, refl, sym, ◌∙◌, ap, subst, arith, length-append}
-use Rattle.std.specs.List.{slice_get}
-use Rattle.std.proofs.lemmas.List.{length-take, take_at}
-use Rattle.std.proofs.lemmas.Bool.{cases_lt}
-use Rattle.std.proofs.lemmas.Bool.Decides.{nat_tests}
-use Rattle.df_theory.specs.Units.{AnyUnit, BlockPlace, BlockUnit, Content, CopyPlace, CopyUnit, Header, HeaderPlace, HeaderUnit, Message, Place, PreparePlace, PrepareUnit, ReplyPlace, ReplyUnit, Session, Units}
-use Rattle.df_theory.specs.Sessions.{Answers, noted, session_of_header, sessions_after}
-use Rattle.df_theory.specs.Tails.{AreGroups, BindsHead, Chain, In, last_checksum, last_mark}
-use Rattle.df_theory.specs.Groups.{IsShort, ShowsOwn}
-use Rattle.df_theory.specs.Cases.{Takes}
-use Rattle.df_theory.specs.Shape.{Shape, clients}
-use Rattle.df_theory.specs.Copies.{Agree, IsChosen}
-use Rattle.df_theory.specs.Trailer.{Links}
-use Rattle.df_theory.specs.View.{View, head, sessions}
-use Rattle.df_theory.specs.Shows.{Agrees, AgreesCopy, AgreesHeader, AgreesPrepare, AgreesReply}
-use Rattle.df_theory.specs.Holds.{Sound}
-use Rattle.df_theory.specs.UnitLog.{UnitEvent, UnitLog, now, settled}
-use Rattle.df_theory.specs.Chance.{InImages, InPool, InPools, NoChance}
-use Rattle.df_theory.specs.Rests.{RestsOn}
-use Rattle.df_theory.specs.Found.{IsReach, IsTail, NotBehind, NotLost, slot_behind}
-use Rattle.df_theory.specs.HistoryLaws.{FoundWasOfLogLaw}
-use Rattle.df_theory.specs.DamageLaws.{CheckpointStaysLaw, HeadersTellLaw, HurtLaw, IsGroupUnhurt, LostIsHurtLaw, MissingIsHurtLaw, NeverBehindLaw, ReplyIsHurtLaw, ShowsPool, TailIsFrontLaw}
-use Rattle.df_theory.proofs.Tails.{chain_last, chain_ops, in_either, in_one, in_single, in_dropped}
-use Rattle.df_theory.proofs.Sessions.{sessions-append, last_mark-take, chain_drop, chain_take}
-use Rattle.df_theory.proofs.Choices.{chosen_above, one_chosen}
-use Rattle.df_theory.proofs.Agreeing.{take_boot, prepare_agrees, header_agrees, reply_agrees, head_room, takes_if}
-use Rattle.df_theory.proofs.Founds.{chain_at, header_in_tail}
-use Rattle.df_theory.proofs.Pinned.{same_named}
-use Rattle.df_theory.proofs.OneView.{same_parts}
-use Rattle.df_theory.proofs.OneFound.{goes_on, step_on}
-use Rattle.df_theory.proofs.Short.{WasOwn, more_by, pool_short}
-use Rattle.df_theory.proofs.Grouped.{same_group}
-use Rattle.df_theory.proofs.Knowns.{groups_take, in_take}
-use Rattle.df_theory.proofs.Once.{same_links}
-use Rattle.df_theory.proofs.Had.{found_was_law}
+use Rattle.std.{proofs.{Common.{◌≡◌, ◌⊎◌, inl, inr, ℕ, ◌+◌, ◌-◌, ◌%◌, ◌<◌, ◌≤◌, ◌==◌, Bool, true, false, if◌then◌else◌, zero, suc, List, [], ◌∷◌, ◌++◌, length, take, drop, Some, None, refl, sym, ◌∙◌, ap, subst, arith, length-append}, lemmas.List.{length-take, take_at}, lemmas.Bool.{cases_lt}, lemmas.Bool.Decides.{nat_tests}}, specs.List.{slice_get}}
+use Rattle.df_theory.{specs.{Units.{AnyUnit, BlockPlace, BlockUnit, Content, CopyPlace, CopyUnit, Header, HeaderPlace, HeaderUnit, Message, Place, PreparePlace, PrepareUnit, ReplyPlace, ReplyUnit, Session, Units}, Sessions.{Answers, noted, session_of_header, sessions_after}, Tails.{AreGroups, BindsHead, Chain, In, last_checksum, last_mark}, Groups.{IsShort, ShowsOwn}, Cases.{Takes}, Shape.{Shape, clients}, Copies.{Agree, IsChosen}, Trailer.{Links}, View.{View, head, sessions}, Shows.{Agrees, AgreesCopy, AgreesHeader, AgreesPrepare, AgreesReply}, Holds.{Sound}, UnitLog.{UnitEvent, UnitLog, now, settled}, Chance.{InImages, InPool, InPools, NoChance}, Rests.{RestsOn}, Found.{IsReach, IsTail, NotBehind, NotLost, slot_behind}, HistoryLaws.{FoundWasOfLogLaw}, DamageLaws.{CheckpointStaysLaw, HeadersTellLaw, HurtLaw, IsGroupUnhurt, LostIsHurtLaw, MissingIsHurtLaw, NeverBehindLaw, ReplyIsHurtLaw, ShowsPool, TailIsFrontLaw}}, proofs.{Tails.{chain_last, chain_ops, in_either, in_one, in_single, in_dropped}, Sessions.{sessions-append, last_mark-take, chain_drop, chain_take}, Choices.{chosen_above, one_chosen}, Agreeing.{take_boot, prepare_agrees, header_agrees, reply_agrees, head_room, takes_if}, Founds.{chain_at, header_in_tail}, Pinned.{same_named}, OneView.{same_parts}, OneFound.{goes_on, step_on}, Short.{WasOwn, more_by, pool_short}, Grouped.{same_group}, Knowns.{groups_take, in_take}, Once.{same_links}, Had.{found_was_law}}}
 
 -- the pool of a log is among its pools
 pub pool_pools : (start : Units) (es : List UnitEvent) (place : Place) (x : AnyUnit) → InPool (record { start = start; events = es }) place x → InPools start es place x

@@ -1,12 +1,6 @@
 -- Images that hold a view.
 use Rattle.std.proofs.Common.{◌≡◌, ◌⊎◌, inl, inr, ℕ, ◌%◌, ◌≤◌, [], ◌∷◌, Some, None, refl, sym, ◌∙◌, arith}
-use Rattle.df_theory.specs.Units.{AnyUnit, Content, CopyPlace, CopyUnit, Message, Place, PreparePlace, PrepareUnit, Units}
-use Rattle.df_theory.specs.Shape.{Shape}
-use Rattle.df_theory.specs.Copies.{Agree, IsChosen}
-use Rattle.df_theory.specs.View.{View, boot_of, head}
-use Rattle.df_theory.specs.Shows.{Agrees, Needs}
-use Rattle.df_theory.specs.Holds.{Bears, Holds}
-use Rattle.df_theory.specs.Groups.{IsShort}
+use Rattle.df_theory.specs.{Units.{AnyUnit, Content, CopyPlace, CopyUnit, Message, Place, PreparePlace, PrepareUnit, Units}, Shape.{Shape}, Copies.{Agree, IsChosen}, View.{View, boot_of, head}, Shows.{Agrees, Needs}, Holds.{Bears, Holds}, Groups.{IsShort}}
 
 -- nothing is needed at this place, and what is shown agrees
 pub record IsOpen (sh : Shape) (v : View) (j : Units) (place : Place) : Type 0 where

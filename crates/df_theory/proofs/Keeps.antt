@@ -1,20 +1,6 @@
 -- What each writer leaves whole.
-use Rattle.std.proofs.Common.{◌≡◌, ◌⊎◌, inl, inr, ℕ, ◌+◌, ◌-◌, ◌%◌, ◌<◌, ◌||◌, [], ◌∷◌, Option, Some, None, refl, sym, ◌∙◌, ap, subst, arith}
-use Rattle.std.proofs.lemmas.Bool.{cases_eq}
-use Rattle.df_theory.specs.Units.{AnyUnit, BlockPlace, BlockUnit, Content, CopyPlace, CopyUnit, Header, HeaderPlace, HeaderUnit, Message, Place, PreparePlace, PrepareUnit, ReplyPlace, ReplyUnit, Units, is_some, or_else, overlay}
-use Rattle.df_theory.specs.Tails.{In}
-use Rattle.df_theory.specs.Shape.{Shape}
-use Rattle.df_theory.specs.View.{View}
-use Rattle.df_theory.specs.Holds.{IsWhole, Sound, Stands}
-use Rattle.df_theory.specs.Next.{MayAppend, appended}
-use Rattle.df_theory.specs.UnitLog.{PutsOne, Synced, UnitLog, add, now, wrote}
-use Rattle.df_theory.specs.Chance.{EachLeft}
-use Rattle.df_theory.specs.Runs.{Puts, Syncs}
-use Rattle.df_theory.specs.WriterLaws.{IsHeaderSector}
-use Rattle.df_theory.specs.WholeLaws.{IsStanding, Spares, StandsLaw, WholeAppendLaw, WholeBlockLaw, WholeReplyLaw, WholeUpdateLaw}
-use Rattle.df_theory.proofs.Tails.{chain_ops, in_either, in_single, in_dropped}
-use Rattle.df_theory.proofs.Slots.{mod_apart}
-use Rattle.df_theory.proofs.Writes.{put_else}
+use Rattle.std.proofs.{Common.{◌≡◌, ◌⊎◌, inl, inr, ℕ, ◌+◌, ◌-◌, ◌%◌, ◌<◌, ◌||◌, [], ◌∷◌, Option, Some, None, refl, sym, ◌∙◌, ap, subst, arith}, lemmas.Bool.{cases_eq}}
+use Rattle.df_theory.{specs.{Units.{AnyUnit, BlockPlace, BlockUnit, Content, CopyPlace, CopyUnit, Header, HeaderPlace, HeaderUnit, Message, Place, PreparePlace, PrepareUnit, ReplyPlace, ReplyUnit, Units, is_some, or_else, overlay}, Tails.{In}, Shape.{Shape}, View.{View}, Holds.{IsWhole, Sound, Stands}, Next.{MayAppend, appended}, UnitLog.{PutsOne, Synced, UnitLog, add, now, wrote}, Chance.{EachLeft}, Runs.{Puts, Syncs}, WriterLaws.{IsHeaderSector}, WholeLaws.{IsStanding, Spares, StandsLaw, WholeAppendLaw, WholeBlockLaw, WholeReplyLaw, WholeUpdateLaw}}, proofs.{Tails.{chain_ops, in_either, in_single, in_dropped}, Slots.{mod_apart}, Writes.{put_else}}}
 
 module _ (sh : Shape) (image : Units) (v : View) (p : Message) (prepare headers : Units) (sound : Sound sh v) (may : MayAppend sh v (p ∷ [])) (one : PutsOne prepare (PreparePlace (p.header.op % sh.layout.slots)) (PrepareUnit p)) (sector : IsHeaderSector sh image p headers)
     (there : headers (HeaderPlace (p.header.op % sh.layout.slots)) ≡ Some (HeaderUnit p.header)) (whole : IsWhole sh image v) where

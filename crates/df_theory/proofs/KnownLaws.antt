@@ -1,9 +1,6 @@
 -- What an open refuses of the prepares that the superblock names.
-use Rattle.std.proofs.Common.{inl, inr, ◌+◌, ◌-◌, List, [], ◌∷◌, ◌++◌, length, take, ◌∙◌, arith, length-append}
-use Rattle.std.proofs.lemmas.Bool.{cases_lt}
-use Rattle.df_theory.specs.Units.{Message}
-use Rattle.df_theory.specs.ViewLaws.{FirstVersionLaw, FoundKnownLaw, KnownEndsLaw, OneKnownLaw}
-use Rattle.df_theory.proofs.Knowns.{named_all, named_fit, none_lacking, not_further, one_lacking, tail_named}
+use Rattle.std.proofs.{Common.{inl, inr, ◌+◌, ◌-◌, List, [], ◌∷◌, ◌++◌, length, take, ◌∙◌, arith, length-append}, lemmas.Bool.{cases_lt}}
+use Rattle.df_theory.{specs.{Units.{Message}, ViewLaws.{FirstVersionLaw, FoundKnownLaw, KnownEndsLaw, OneKnownLaw}}, proofs.Knowns.{named_all, named_fit, none_lacking, not_further, one_lacking, tail_named}}
 
 pub one_known_law : OneKnownLaw
 one_known_law sh image b a e front rear = (

@@ -1,16 +1,6 @@
 -- Prepares that the superblock names, from the last one down.
-use Rattle.std.proofs.Common.{◌≡◌, inl, inr, ℕ, zero, suc, ◌+◌, ◌-◌, ◌%◌, ◌<◌, ◌≤◌, List, [], ◌∷◌, ◌++◌, length, take, Some, refl, sym, ◌∙◌, ap, subst, arith, length-append, append_assoc}
-use Rattle.std.proofs.lemmas.Bool.{cases_eq, cases_lt}
-use Rattle.std.proofs.lemmas.List.{length-take}
-use Rattle.df_theory.specs.Units.{Content, Message, PreparePlace, PrepareUnit, Session, Units}
-use Rattle.df_theory.specs.Sessions.{noted}
-use Rattle.df_theory.specs.Tails.{AreGroups, Chain, EndsAt, In, last_checksum}
-use Rattle.df_theory.specs.Shape.{Shape, clients}
-use Rattle.df_theory.specs.View.{Checkpoint}
-use Rattle.df_theory.specs.Found.{IsTail}
-use Rattle.df_theory.specs.Opens.{AreFitting, AreKnown, IsUnfit, LacksKnown, named_by}
-use Rattle.df_theory.proofs.Sessions.{chain_take}
-use Rattle.df_theory.proofs.Tails.{in_front}
+use Rattle.std.proofs.{Common.{◌≡◌, inl, inr, ℕ, zero, suc, ◌+◌, ◌-◌, ◌%◌, ◌<◌, ◌≤◌, List, [], ◌∷◌, ◌++◌, length, take, Some, refl, sym, ◌∙◌, ap, subst, arith, length-append, append_assoc}, lemmas.Bool.{cases_eq, cases_lt}, lemmas.List.{length-take}}
+use Rattle.df_theory.{specs.{Units.{Content, Message, PreparePlace, PrepareUnit, Session, Units}, Sessions.{noted}, Tails.{AreGroups, Chain, EndsAt, In, last_checksum}, Shape.{Shape, clients}, View.{Checkpoint}, Found.{IsTail}, Opens.{AreFitting, AreKnown, IsUnfit, LacksKnown, named_by}}, proofs.{Sessions.{chain_take}, Tails.{in_front}}}
 
 -- lists that are shown from one op on are one
 pub known_one : (n : ℕ) (image : Units) (op c : ℕ) (xs ys : List Message) → AreKnown n image op c xs → AreKnown n image op c ys → length xs ≡ length ys → xs ≡ ys

@@ -1,14 +1,6 @@
 -- The steps of an open, one within the other: what the proofs on its answer walk through.
 use Rattle.std.proofs.Common.{◌≡◌, ◌⊎◌, inl, inr, ℕ, ◌+◌, ◌%◌, ◌^◌, ◌<◌, List, length, refl}
-use Rattle.df_theory.specs.Units.{BlockPlace, Content, CopyPlace, Message, PreparePlace, ReplyPlace, Units}
-use Rattle.df_theory.specs.Sessions.{sessions_after}
-use Rattle.df_theory.specs.Shape.{Shape}
-use Rattle.df_theory.specs.Copies.{IsChosen, IsSplit}
-use Rattle.df_theory.specs.Trailer.{IsReference}
-use Rattle.df_theory.specs.View.{Checkpoint, PassesTests, View, boot_of}
-use Rattle.df_theory.specs.Found.{IsReach, IsReplies, IsStored, IsTail, NotBehind, NotLost, slot_behind}
-use Rattle.df_theory.specs.Found.{IsFound}
-use Rattle.df_theory.specs.Opens.{OpenAnswer, BadField, BootSpent, Spent, BadTrailer, Behind, Damaged, Found, IsLowest, IsReadable, IsShown, IsUnfit, LacksBlock, LacksKnown, LacksReply, Lost, NoQuorum, Opened, Opens, ReadsTo, Refused, Split, Unanswered, Unfit, Unknown, Unusable}
+use Rattle.df_theory.specs.{Units.{BlockPlace, Content, CopyPlace, Message, PreparePlace, ReplyPlace, Units}, Sessions.{sessions_after}, Shape.{Shape}, Copies.{IsChosen, IsSplit}, Trailer.{IsReference}, View.{Checkpoint, PassesTests, View, boot_of}, Found.{IsReach, IsReplies, IsStored, IsTail, NotBehind, NotLost, slot_behind, IsFound}, Opens.{OpenAnswer, BadField, BootSpent, Spent, BadTrailer, Behind, Damaged, Found, IsLowest, IsReadable, IsShown, IsUnfit, LacksBlock, LacksKnown, LacksReply, Lost, NoQuorum, Opened, Opens, ReadsTo, Refused, Split, Unanswered, Unfit, Unknown, Unusable}}
 
 -- the steps one within the other: from the last to the first
 abbrev pub AnswersLast : View → OpenAnswer → Type 0

@@ -1,17 +1,6 @@
 -- An image with four equal copies over it: what is found depends on the copies by their choice alone.
 use Rattle.std.proofs.Common.{◌≡◌, ◌⊎◌, inl, inr, ℕ, List, Some, refl, sym, ap, arith}
-use Rattle.df_theory.specs.Units.{AnyUnit, BlockPlace, Content, CopyPlace, CopyUnit, HeaderPlace, Message, Place, PreparePlace, ReplyPlace, Units}
-use Rattle.df_theory.specs.Shape.{Shape, slots}
-use Rattle.df_theory.specs.Copies.{IsChosen}
-use Rattle.df_theory.specs.View.{Checkpoint, View}
-use Rattle.df_theory.specs.Shows.{Agrees}
-use Rattle.df_theory.specs.Holds.{Holds}
-use Rattle.df_theory.specs.Groups.{AreMore}
-use Rattle.df_theory.specs.Cases.{Takes}
-use Rattle.df_theory.specs.Found.{AreOfPlaces, IsClean, IsFound, IsOfPlace}
-use Rattle.df_theory.proofs.Choices.{chosen_above}
-use Rattle.df_theory.proofs.Images.{IsOpen, bears_open, short_same}
-use Rattle.df_theory.proofs.Founds.{found_holds, holds_found}
+use Rattle.df_theory.{specs.{Units.{AnyUnit, BlockPlace, Content, CopyPlace, CopyUnit, HeaderPlace, Message, Place, PreparePlace, ReplyPlace, Units}, Shape.{Shape, slots}, Copies.{IsChosen}, View.{Checkpoint, View}, Shows.{Agrees}, Holds.{Holds}, Groups.{AreMore}, Cases.{Takes}, Found.{AreOfPlaces, IsClean, IsFound, IsOfPlace}}, proofs.{Choices.{chosen_above}, Images.{IsOpen, bears_open, short_same}, Founds.{found_holds, holds_found}}}
 
 -- each copy shows this content
 abbrev pub masked : Content → Units → Units

@@ -1,18 +1,6 @@
 -- An open's mending, step by step.
-use Rattle.std.proofs.Common.{◌≡◌, ◌⊎◌, inl, inr, ℕ, ◌<◌, List, [], ◌∷◌, ◌++◌, Option, Some, None, refl, sym, ◌∙◌, ap, subst}
-use Rattle.std.proofs.lemmas.Bool.{cases_eq}
-use Rattle.df_theory.specs.Units.{AnyUnit, Content, CopyPlace, CopyUnit, Header, HeaderPlace, HeaderUnit, Place, Units, or_else, overlay}
-use Rattle.df_theory.specs.Shape.{Shape}
-use Rattle.df_theory.specs.View.{View}
-use Rattle.df_theory.specs.UnitLog.{PutsOne, Synced, UnitLog, add, now, wrote}
-use Rattle.df_theory.specs.Rests.{IsGoodLog, IsQuiet, RestsOn}
-use Rattle.df_theory.specs.Runs.{AtEach, Puts, Step, Syncs, after_steps}
-use Rattle.df_theory.specs.WriterLaws.{IsHeaderMend}
-use Rattle.df_theory.specs.MakingLaws.{all_puts}
-use Rattle.df_theory.specs.MendLaws.{AllPutCopy, AllPutTable, IsNumber, MendLaw, MendsWholeLaw, PutsTable, Reaches, copy_steps, header_steps, mend_steps, IsFromSlot}
-use Rattle.df_theory.proofs.Steps.{rests_safe}
-use Rattle.df_theory.proofs.Writes.{good_rests, sync_law, header_law, copy_law, quiet_synced, put_else}
-use Rattle.df_theory.proofs.Runs.{each_append, after_append}
+use Rattle.std.proofs.{Common.{◌≡◌, ◌⊎◌, inl, inr, ℕ, ◌<◌, List, [], ◌∷◌, ◌++◌, Option, Some, None, refl, sym, ◌∙◌, ap, subst}, lemmas.Bool.{cases_eq}}
+use Rattle.df_theory.{specs.{Units.{AnyUnit, Content, CopyPlace, CopyUnit, Header, HeaderPlace, HeaderUnit, Place, Units, or_else, overlay}, Shape.{Shape}, View.{View}, UnitLog.{PutsOne, Synced, UnitLog, add, now, wrote}, Rests.{IsGoodLog, IsQuiet, RestsOn}, Runs.{AtEach, Puts, Step, Syncs, after_steps}, WriterLaws.{IsHeaderMend}, MakingLaws.{all_puts}, MendLaws.{AllPutCopy, AllPutTable, IsNumber, MendLaw, MendsWholeLaw, PutsTable, Reaches, copy_steps, header_steps, mend_steps, IsFromSlot}}, proofs.{Steps.{rests_safe}, Writes.{good_rests, sync_law, header_law, copy_law, quiet_synced, put_else}, Runs.{each_append, after_append}}}
 
 -- what the table says of the slots still holds after some of its sectors were written
 pub record IsUnderWay (sh : Shape) (image : Units) (v : View) (table : ℕ → Header) : Type 0 where

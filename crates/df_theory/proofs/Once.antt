@@ -1,21 +1,6 @@
 -- One checkpoint a rank, one reply an op, and lists that show the same.
 use Rattle.std.proofs.Common.{◌≡◌, inl, inr, ℕ, ◌+◌, ◌<◌, ◌≤◌, List, [], ◌∷◌, length, Some, refl, sym, ◌∙◌, ap, subst, arith}
-use Rattle.df_theory.specs.Units.{Block, BlockPlace, BlockUnit, Content, Message, Session, Units}
-use Rattle.df_theory.specs.Sessions.{noted}
-use Rattle.df_theory.specs.Tails.{Chain, In, last_mark}
-use Rattle.df_theory.specs.Shape.{Shape, clients}
-use Rattle.df_theory.specs.Copies.{rank_of}
-use Rattle.df_theory.specs.Trailer.{InChain, Links}
-use Rattle.df_theory.specs.View.{Checkpoint, View}
-use Rattle.df_theory.specs.Holds.{Sound}
-use Rattle.df_theory.specs.Chance.{InImages}
-use Rattle.df_theory.specs.Grown.{Grows}
-use Rattle.df_theory.specs.Past.{Was}
-use Rattle.df_theory.proofs.Grew.{next_grew}
-use Rattle.df_theory.proofs.Steps.{grows_sound}
-use Rattle.df_theory.proofs.Sounds.{tracks}
-use Rattle.df_theory.proofs.Past.{was_low, was_self}
-use Rattle.df_theory.proofs.Settled.{reply_here}
+use Rattle.df_theory.{specs.{Units.{Block, BlockPlace, BlockUnit, Content, Message, Session, Units}, Sessions.{noted}, Tails.{Chain, In, last_mark}, Shape.{Shape, clients}, Copies.{rank_of}, Trailer.{InChain, Links}, View.{Checkpoint, View}, Holds.{Sound}, Chance.{InImages}, Grown.{Grows}, Past.{Was}}, proofs.{Grew.{next_grew}, Steps.{grows_sound}, Sounds.{tracks}, Past.{was_low, was_self}, Settled.{reply_here}}}
 
 -- ---- one base a sequence, one reply an op
 

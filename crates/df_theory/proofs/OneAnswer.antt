@@ -1,24 +1,6 @@
 -- An open gives one answer, and a state exactly where no step refuses.
-use Rattle.std.proofs.Common.{◌≡◌, ◌⊎◌, inl, inr, ℕ, ◌+◌, ◌-◌, ◌*◌, ◌%◌, ◌^◌, ◌<◌, ◌≤◌, List, [], ◌∷◌, ◌++◌, length, take, Some, refl, sym, ◌∙◌, ap, subst, arith, length-append}
-use Rattle.std.specs.List.{slice_get}
-use Rattle.std.proofs.lemmas.Bool.{cases_lt}
-use Rattle.std.proofs.Math.Nat.{mul-le-mul_left}
-use Rattle.df_theory.specs.Units.{Block, BlockPlace, BlockUnit, Content, CopyPlace, Message, PreparePlace, ReplyPlace, Session, Units}
-use Rattle.df_theory.specs.Sessions.{sessions_after}
-use Rattle.df_theory.specs.Shape.{Shape}
-use Rattle.df_theory.specs.Copies.{IsChosen}
-use Rattle.df_theory.specs.Trailer.{InChain, IsCount, Links}
-use Rattle.df_theory.specs.View.{Checkpoint, IsSoundCheckpoint, View, boot_of, sessions}
-use Rattle.df_theory.specs.Holds.{IsNamed}
-use Rattle.df_theory.specs.Found.{IsFound, IsReach, IsReplies, IsStored, IsTail, NotBehind, NotLost, slot_behind}
-use Rattle.df_theory.specs.Opens.{OpenAnswer, Arrives, BadField, BootSpent, Spent, Damaged, Found, IsLowest, IsReadable, IsShown, LacksReply, NoQuorum, Opened, ReadsTo, Refused}
-use Rattle.df_theory.specs.ViewLaws.{FoundAnswerLaw, OneAnswerLaw, SpentAnswerLaw}
-use Rattle.df_theory.proofs.Choices.{one_chosen}
-use Rattle.df_theory.proofs.OneView.{same_chain, same_parts}
-use Rattle.df_theory.proofs.OneFound.{one_reach, one_tail, not_more, one_stored}
-use Rattle.df_theory.proofs.Knowns.{named_all, named_fit, none_lacking, not_further, one_lacking, tail_named}
-use Rattle.df_theory.proofs.Fields.{front_of}
-use Rattle.df_theory.proofs.Layers.{Answers, AnswersFields, AnswersKnown, AnswersLast, AnswersReplies, AnswersTail, AnswersTraces, AnswersTrailer, answers_of}
+use Rattle.std.{proofs.{Common.{◌≡◌, ◌⊎◌, inl, inr, ℕ, ◌+◌, ◌-◌, ◌*◌, ◌%◌, ◌^◌, ◌<◌, ◌≤◌, List, [], ◌∷◌, ◌++◌, length, take, Some, refl, sym, ◌∙◌, ap, subst, arith, length-append}, lemmas.Bool.{cases_lt}, Math.Nat.{mul-le-mul_left}}, specs.List.{slice_get}}
+use Rattle.df_theory.{specs.{Units.{Block, BlockPlace, BlockUnit, Content, CopyPlace, Message, PreparePlace, ReplyPlace, Session, Units}, Sessions.{sessions_after}, Shape.{Shape}, Copies.{IsChosen}, Trailer.{InChain, IsCount, Links}, View.{Checkpoint, IsSoundCheckpoint, View, boot_of, sessions}, Holds.{IsNamed}, Found.{IsFound, IsReach, IsReplies, IsStored, IsTail, NotBehind, NotLost, slot_behind}, Opens.{OpenAnswer, Arrives, BadField, BootSpent, Spent, Damaged, Found, IsLowest, IsReadable, IsShown, LacksReply, NoQuorum, Opened, ReadsTo, Refused}, ViewLaws.{FoundAnswerLaw, OneAnswerLaw, SpentAnswerLaw}}, proofs.{Choices.{one_chosen}, OneView.{same_chain, same_parts}, OneFound.{one_reach, one_tail, not_more, one_stored}, Knowns.{named_all, named_fit, none_lacking, not_further, one_lacking, tail_named}, Fields.{front_of}, Layers.{Answers, AnswersFields, AnswersKnown, AnswersLast, AnswersReplies, AnswersTail, AnswersTraces, AnswersTrailer, answers_of}}}
 
 -- ---- one number of pieces, one checkpoint
 

@@ -1,22 +1,6 @@
 -- An open finds one state.
-use Rattle.std.proofs.Common.{◌≡◌, inl, inr, ℕ, suc, ◌+◌, ◌-◌, ◌%◌, ◌<◌, ◌≤◌, List, [], ◌∷◌, ◌++◌, length, Option, Some, None, refl, sym, ◌∙◌, ap, subst, arith, length-append}
-use Rattle.std.specs.List.{slice_get}
-use Rattle.std.proofs.lemmas.Bool.{cases_lt}
-use Rattle.df_theory.specs.Units.{Content, Message, PreparePlace, PrepareUnit, ReplyUnit, Session, Units}
-use Rattle.df_theory.specs.Sessions.{noted, sessions_after}
-use Rattle.df_theory.specs.Tails.{AreGroups, Chain, Fits, FitsGroup, In, last_checksum, last_mark}
-use Rattle.df_theory.specs.Shape.{Shape, clients}
-use Rattle.df_theory.specs.Trailer.{Links}
-use Rattle.df_theory.specs.View.{Checkpoint, View, sessions}
-use Rattle.df_theory.specs.Cases.{Takes}
-use Rattle.df_theory.specs.Holds.{Holds}
-use Rattle.df_theory.specs.Found.{IsReach, IsReplies, IsStored, IsTail}
-use Rattle.df_theory.specs.ViewLaws.{FoundLaw, OneChosenLaw, OneFoundLaw, OneViewLaw}
-use Rattle.df_theory.proofs.Tails.{in_either, in_single}
-use Rattle.df_theory.proofs.Choices.{one_chosen}
-use Rattle.df_theory.proofs.Founds.{holds_found, found_holds}
-use Rattle.df_theory.proofs.OneView.{same_tail, same_chain, same_parts}
-use Rattle.df_theory.proofs.Grouped.{groups_closed}
+use Rattle.std.{proofs.{Common.{◌≡◌, inl, inr, ℕ, suc, ◌+◌, ◌-◌, ◌%◌, ◌<◌, ◌≤◌, List, [], ◌∷◌, ◌++◌, length, Option, Some, None, refl, sym, ◌∙◌, ap, subst, arith, length-append}, lemmas.Bool.{cases_lt}}, specs.List.{slice_get}}
+use Rattle.df_theory.{specs.{Units.{Content, Message, PreparePlace, PrepareUnit, ReplyUnit, Session, Units}, Sessions.{noted, sessions_after}, Tails.{AreGroups, Chain, Fits, FitsGroup, In, last_checksum, last_mark}, Shape.{Shape, clients}, Trailer.{Links}, View.{Checkpoint, View, sessions}, Cases.{Takes}, Holds.{Holds}, Found.{IsReach, IsReplies, IsStored, IsTail}, ViewLaws.{FoundLaw, OneChosenLaw, OneFoundLaw, OneViewLaw}}, proofs.{Tails.{in_either, in_single}, Choices.{one_chosen}, Founds.{holds_found, found_holds}, OneView.{same_tail, same_chain, same_parts}, Grouped.{groups_closed}}}
 
 -- of two chains that show the same, the longer one has a prepare that fits the shorter one's end
 abbrev pub HasNext : ℕ → ℕ → ℕ → ℕ → List Session → List Message → List Message → Type 0

@@ -1,9 +1,6 @@
 -- Lists that an image shows are one.
 use Rattle.std.proofs.Common.{◌≡◌, inl, inr, ℕ, ◌+◌, ◌%◌, List, [], ◌∷◌, length, Some, refl, sym, ◌∙◌, ap, subst, arith}
-use Rattle.df_theory.specs.Units.{Block, BlockPlace, BlockUnit, Content, Message, Parts, PreparePlace, PrepareUnit, Session, Units}
-use Rattle.df_theory.specs.Tails.{Chain, In}
-use Rattle.df_theory.specs.Shape.{Shape, clients}
-use Rattle.df_theory.specs.Trailer.{InChain, Links, Says}
+use Rattle.df_theory.specs.{Units.{Block, BlockPlace, BlockUnit, Content, Message, Parts, PreparePlace, PrepareUnit, Session, Units}, Tails.{Chain, In}, Shape.{Shape, clients}, Trailer.{InChain, Links, Says}}
 
 -- chains from one op on that show the same at each op are one
 pub same_tail : (n : ℕ) (image : Units) (clients op p1 p2 m1 m2 : ℕ) (s1 s2 : List Session) (ps qs : List Message) → Chain clients op p1 m1 s1 ps → Chain clients op p2 m2 s2 qs → length ps ≡ length qs

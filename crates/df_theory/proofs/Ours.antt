@@ -1,14 +1,6 @@
 -- The units of the sample: one checksum, one unit.
 use Rattle.std.proofs.Common.{◌≡◌, ℕ, ◌==◌, if◌then◌else◌, refl, []}
-use Rattle.df_theory.specs.Units.{AnyUnit, Block, BlockPlace, BlockUnit, Content, CopyUnit, Header, HeaderPlace, HeaderUnit, Message, Place, PreparePlace, PrepareUnit, ReplyPlace, ReplyUnit}
-use Rattle.df_theory.specs.UnitLog.{Synced, UnitLog, add, wrote}
-use Rattle.df_theory.specs.Chance.{Distinct, InPools}
-use Rattle.df_theory.proofs.AllOf.{All, pools_all}
-use Rattle.df_theory.proofs.SampleFiles.{reserved}
-use Rattle.df_theory.proofs.SampleSteps.{prepare_put}
-use Rattle.df_theory.proofs.SampleUnits.{AreTold, distinct_of, made_all, put_all}
-use Rattle.df_theory.proofs.Samples.{block, content1, log1, log4, made, prepare1, put2, put_block, reply1, trailer}
-use Rattle.df_theory.proofs.SampleEnds.{content2}
+use Rattle.df_theory.{specs.{Units.{AnyUnit, Block, BlockPlace, BlockUnit, Content, CopyUnit, Header, HeaderPlace, HeaderUnit, Message, Place, PreparePlace, PrepareUnit, ReplyPlace, ReplyUnit}, UnitLog.{Synced, UnitLog, add, wrote}, Chance.{Distinct, InPools}}, proofs.{AllOf.{All, pools_all}, SampleFiles.{reserved}, SampleSteps.{prepare_put}, SampleUnits.{AreTold, distinct_of, made_all, put_all}, Samples.{block, content1, log1, log4, made, prepare1, put2, put_block, reply1, trailer}, SampleEnds.{content2}}}
 
 -- another prepare of op 2, of another client
 abbrev pub prepare_other : Message

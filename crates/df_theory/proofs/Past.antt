@@ -1,21 +1,6 @@
 -- What holds of all settled images of a log.
 use Rattle.std.proofs.Common.{◌≡◌, ◌⊎◌, inl, inr, ℕ, ◌+◌, ◌-◌, ◌%◌, ◌<◌, ◌≤◌, List, [], ◌∷◌, length, Some, None, refl, sym, ◌∙◌, ap, subst, arith, length-append}
-use Rattle.df_theory.specs.Units.{AnyUnit, Content, Message, PreparePlace, PrepareUnit, Units}
-use Rattle.df_theory.specs.Tails.{In, last_checksum}
-use Rattle.df_theory.specs.Shape.{Shape}
-use Rattle.df_theory.specs.Copies.{rank_of}
-use Rattle.df_theory.specs.View.{Checkpoint, View, boot_of, head}
-use Rattle.df_theory.specs.Holds.{Holds}
-use Rattle.df_theory.specs.Next.{Append, Boot, Finish, Next, Reply, Same}
-use Rattle.df_theory.specs.Chance.{InImages}
-use Rattle.df_theory.specs.First.{AreMade}
-use Rattle.df_theory.specs.Grown.{AllInHistory, GoesOn, Grows, IsClear, IsLeftGroup}
-use Rattle.df_theory.specs.Past.{FromEmpty, Was}
-use Rattle.df_theory.specs.HistoryLaws.{OnePrepareLaw, StampLaw}
-use Rattle.df_theory.proofs.Grew.{Grew, next_grew}
-use Rattle.df_theory.proofs.Tails.{in_either, in_dropped, turn_ops}
-use Rattle.df_theory.proofs.Agreeing.{prepare_agrees}
-use Rattle.df_theory.proofs.Steps.{grows_sound}
+use Rattle.df_theory.{specs.{Units.{AnyUnit, Content, Message, PreparePlace, PrepareUnit, Units}, Tails.{In, last_checksum}, Shape.{Shape}, Copies.{rank_of}, View.{Checkpoint, View, boot_of, head}, Holds.{Holds}, Next.{Append, Boot, Finish, Next, Reply, Same}, Chance.{InImages}, First.{AreMade}, Grown.{AllInHistory, GoesOn, Grows, IsClear, IsLeftGroup}, Past.{FromEmpty, Was}, HistoryLaws.{OnePrepareLaw, StampLaw}}, proofs.{Grew.{Grew, next_grew}, Tails.{in_either, in_dropped, turn_ops}, Agreeing.{prepare_agrees}, Steps.{grows_sound}}}
 
 -- later views have counted as far
 pub was_low : (sh : Shape) (images : List Units) (v : View) (grows : Grows sh images v) (w : View) → Was sh images v grows w → (w.checkpoint.content.sequence ≤ v.checkpoint.content.sequence) × (head w ≤ head v) × (w.replies ≤ v.replies) × (rank_of w.checkpoint.content ≤ rank_of v.checkpoint.content)

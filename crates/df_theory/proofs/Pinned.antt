@@ -1,11 +1,6 @@
 -- Prepares up to a named one: a chain is known by the checksum of its last.
 use Rattle.std.proofs.Common.{◌≡◌, inl, inr, ℕ, zero, suc, ◌+◌, ◌≤◌, List, [], ◌∷◌, length, take, sym, ◌∙◌, ap, arith}
-use Rattle.df_theory.specs.Units.{Message, Session}
-use Rattle.df_theory.specs.Sessions.{noted}
-use Rattle.df_theory.specs.Tails.{Chain, In, last_checksum}
-use Rattle.df_theory.specs.Shape.{clients}
-use Rattle.df_theory.proofs.Tails.{chain_ops}
-use Rattle.df_theory.proofs.Founds.{chain_at}
+use Rattle.df_theory.{specs.{Units.{Message, Session}, Sessions.{noted}, Tails.{Chain, In, last_checksum}, Shape.{clients}}, proofs.{Tails.{chain_ops}, Founds.{chain_at}}}
 
 -- the first of a chain names what precedes it
 head_parent : (clients op parent mark : ℕ) (ss : List Session) (ps : List Message) (y : Message) → Chain clients op parent mark ss ps → In y ps → y.header.op ≡ op → y.header.parent ≡ parent

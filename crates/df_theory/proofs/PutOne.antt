@@ -1,8 +1,6 @@
 -- The write of one unit.
 use Rattle.std.proofs.Common.{◌≡◌, Bool, if◌then◌else◌, true, false, Some, None, refl, sym, ap, eqb-true, eq-eqb}
-use Rattle.df_theory.specs.Units.{AnyUnit, BlockPlace, CopyPlace, HeaderPlace, Place, PreparePlace, ReplyPlace}
-use Rattle.df_theory.specs.UnitLog.{same_place}
-use Rattle.df_theory.specs.WriterLaws.{PutOneLaw}
+use Rattle.df_theory.specs.{Units.{AnyUnit, BlockPlace, CopyPlace, HeaderPlace, Place, PreparePlace, ReplyPlace}, UnitLog.{same_place}, WriterLaws.{PutOneLaw}}
 
 pub same_here : (place : Place) → same_place place place ≡ true
 same_here (CopyPlace n) = eq-eqb n n refl

@@ -1,10 +1,7 @@
 -- A write puts what it shows at the places that it touches.
 use Rattle.std.proofs.Common.{◌≡◌, ℕ, false, List, Option, Some, None, refl, sym, ◌∙◌, ap}
-use Rattle.df_base.specs.Image.{Image, IsImage, written}
-use Rattle.df_base.proofs.Laws.{written_else}
-use Rattle.df_theory.specs.Units.{AnyUnit, Place, is_some, or_else}
-use Rattle.df_theory.specs.Device.{Format, IsFormat}
-use Rattle.df_theory.specs.DeviceLaws.{PutShownLaw}
+use Rattle.df_base.{specs.Image.{Image, IsImage, written}, proofs.Laws.{written_else}}
+use Rattle.df_theory.specs.{Units.{AnyUnit, Place, is_some, or_else}, Device.{Format, IsFormat}, DeviceLaws.{PutShownLaw}}
 
 untouched_stays : (f : Format) → IsFormat f → (at : ℕ) (bytes : List ℕ) (place : Place) (image : Image) → f.touches at bytes place ≡ false → f.unit_at (written at bytes image) place ≡ f.unit_at image place
 untouched_stays f is at bytes place image apart = is.local (written at bytes image) image place (λ sector here. written_else at bytes image sector (is.apart at bytes place sector apart here))

@@ -1,21 +1,6 @@
 -- What a write of whole units leaves, as views.
 use Rattle.std.proofs.Common.{◌≡◌, ◌⊎◌, inl, inr, ℕ, Option, Some, None, refl, sym, ◌∙◌, ap, subst}
-use Rattle.df_theory.specs.Units.{AnyUnit, BlockPlace, CopyPlace, HeaderPlace, Place, PreparePlace, ReplyPlace, Units, or_else, overlay}
-use Rattle.df_theory.specs.Shape.{Shape}
-use Rattle.df_theory.specs.Copies.{IsChosen}
-use Rattle.df_theory.specs.View.{Checkpoint, View, head}
-use Rattle.df_theory.specs.Shows.{Agrees, Needs}
-use Rattle.df_theory.specs.Holds.{Sound}
-use Rattle.df_theory.specs.Next.{Next}
-use Rattle.df_theory.specs.UnitLog.{PutsOne, UnitLog, now, settled, wrote}
-use Rattle.df_theory.specs.Chance.{InImages}
-use Rattle.df_theory.specs.Grown.{InView}
-use Rattle.df_theory.specs.Rests.{IsBlock, IsCalmPut, IsCopy, IsPrepare, IsQuiet, RestsOn, Stepped}
-use Rattle.df_theory.specs.Groups.{IsShort}
-use Rattle.df_theory.proofs.Grew.{Grew, agrees_grew}
-use Rattle.df_theory.proofs.Images.{IsOpen, bears_open, chosen_same, short_same}
-use Rattle.df_theory.proofs.Torn.{Tear, Kept, Loose, Touched, Torn, TornView}
-use Rattle.df_theory.proofs.Steps.{step, calm_rest, goes_same}
+use Rattle.df_theory.{specs.{Units.{AnyUnit, BlockPlace, CopyPlace, HeaderPlace, Place, PreparePlace, ReplyPlace, Units, or_else, overlay}, Shape.{Shape}, Copies.{IsChosen}, View.{Checkpoint, View, head}, Shows.{Agrees, Needs}, Holds.{Sound}, Next.{Next}, UnitLog.{PutsOne, UnitLog, now, settled, wrote}, Chance.{InImages}, Grown.{InView}, Rests.{IsBlock, IsCalmPut, IsCopy, IsPrepare, IsQuiet, RestsOn, Stepped}, Groups.{IsShort}}, proofs.{Grew.{Grew, agrees_grew}, Images.{IsOpen, bears_open, chosen_same, short_same}, Torn.{Tear, Kept, Loose, Touched, Torn, TornView}, Steps.{step, calm_rest, goes_same}}}
 
 pub block_agrees : (sh : Shape) (v : View) (place : Place) (x : AnyUnit) → IsBlock place → Agrees sh v place x
 block_agrees sh v (CopyPlace n) x block = absurd block

@@ -1,21 +1,6 @@
 -- The log of an open that raises the boot, moment by moment.
-use Rattle.std.proofs.Common.{◌≡◌, ◌⊎◌, inl, inr, ℕ, ◌+◌, ◌<◌, ◌||◌, false, List, [], ◌∷◌, Option, Some, None, refl, sym, ◌∙◌, ap, subst, arith}
-use Rattle.std.proofs.lemmas.Bool.{cases_eq}
-use Rattle.df_theory.specs.Units.{AnyUnit, BlockPlace, BlockUnit, Content, CopyPlace, CopyUnit, Header, HeaderPlace, HeaderUnit, Place, PreparePlace, PrepareUnit, ReplyPlace, ReplyUnit, Units, is_some, or_else, overlay}
-use Rattle.df_theory.specs.UnitLog.{IsLeftBy, PutsOne, Synced, UnitEvent, UnitLog, add, loose, now, wrote}
-use Rattle.df_theory.specs.Chance.{InPool, InPools, NoChance}
-use Rattle.df_theory.specs.Rests.{IsDry}
-use Rattle.df_theory.specs.Runs.{AtEach, Syncs, after_steps}
-use Rattle.df_theory.specs.MakingLaws.{all_puts}
-use Rattle.df_theory.specs.MendLaws.{AllPutCopy, AllPutTable, PutsTable, copy_steps, header_steps}
-use Rattle.df_theory.specs.CopyPuts.{PutsCopies, update_steps}
-use Rattle.df_theory.specs.Upgrades.{restarted_at}
-use Rattle.df_theory.proofs.Runs.{after_append, each_append}
-use Rattle.df_theory.proofs.Standing.{miss}
-use Rattle.df_theory.proofs.Mends.{no_copy}
-use Rattle.df_theory.proofs.CopyVotes.{IsStage}
-use Rattle.df_theory.proofs.Raised.{IsAfter, IsBody}
-use Rattle.df_theory.proofs.Keeps.{apart}
+use Rattle.std.proofs.{Common.{◌≡◌, ◌⊎◌, inl, inr, ℕ, ◌+◌, ◌<◌, ◌||◌, false, List, [], ◌∷◌, Option, Some, None, refl, sym, ◌∙◌, ap, subst, arith}, lemmas.Bool.{cases_eq}}
+use Rattle.df_theory.{specs.{Units.{AnyUnit, BlockPlace, BlockUnit, Content, CopyPlace, CopyUnit, Header, HeaderPlace, HeaderUnit, Place, PreparePlace, PrepareUnit, ReplyPlace, ReplyUnit, Units, is_some, or_else, overlay}, UnitLog.{IsLeftBy, PutsOne, Synced, UnitEvent, UnitLog, add, loose, now, wrote}, Chance.{InPool, InPools, NoChance}, Rests.{IsDry}, Runs.{AtEach, Syncs, after_steps}, MakingLaws.{all_puts}, MendLaws.{AllPutCopy, AllPutTable, PutsTable, copy_steps, header_steps}, CopyPuts.{PutsCopies, update_steps}, Upgrades.{restarted_at}}, proofs.{Runs.{after_append, each_append}, Standing.{miss}, Mends.{no_copy}, CopyVotes.{IsStage}, Raised.{IsAfter, IsBody}, Keeps.{apart}}}
 
 -- ---- a place that isn't loose
 

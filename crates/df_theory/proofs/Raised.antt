@@ -1,23 +1,6 @@
 -- The images that an open or an upgrade leaves, their copies aside: each holds the view that was found at the start, and with the new superblock the view that has it.
-use Rattle.std.proofs.Common.{◌≡◌, ◌⊎◌, inl, inr, ℕ, ◌+◌, ◌<◌, ◌≤◌, ◌%◌, List, Some, refl, sym, ◌∙◌, ap, subst, arith}
-use Rattle.std.proofs.lemmas.Bool.{cases_eq}
-use Rattle.df_theory.specs.Units.{AnyUnit, BlockPlace, Content, CopyPlace, CopyUnit, Header, HeaderPlace, HeaderUnit, Message, Place, PreparePlace, PrepareUnit, ReplyPlace, Units}
-use Rattle.df_theory.specs.Shape.{Shape}
-use Rattle.df_theory.specs.Copies.{Agree, IsChosen, rank_of}
-use Rattle.df_theory.specs.View.{View, boot_of}
-use Rattle.df_theory.specs.Shows.{Agrees, Needs}
-use Rattle.df_theory.specs.Holds.{Holds}
-use Rattle.df_theory.specs.Next.{booted}
-use Rattle.df_theory.specs.MendLaws.{IsFromSlot}
-use Rattle.df_theory.specs.Upgrades.{IsRaised, MayRaise, as_version, of_version}
-use Rattle.df_theory.proofs.Tails.{chain_ops}
-use Rattle.df_theory.proofs.Choices.{boot_higher, same_copy}
-use Rattle.df_theory.proofs.Grew.{Grew, agrees_grew}
-use Rattle.df_theory.proofs.Agreeing.{prepare_agrees, reply_agrees}
-use Rattle.df_theory.proofs.Images.{IsOpen, bears_open, short_clear, short_same}
-use Rattle.df_theory.proofs.BootSounds.{raise_sound}
-use Rattle.df_theory.proofs.Masked.{masked, masked_chosen, masked_holds, unmasked_found, unmasked_holds}
-use Rattle.df_theory.specs.Found.{IsFound}
+use Rattle.std.proofs.{Common.{◌≡◌, ◌⊎◌, inl, inr, ℕ, ◌+◌, ◌<◌, ◌≤◌, ◌%◌, List, Some, refl, sym, ◌∙◌, ap, subst, arith}, lemmas.Bool.{cases_eq}}
+use Rattle.df_theory.{specs.{Units.{AnyUnit, BlockPlace, Content, CopyPlace, CopyUnit, Header, HeaderPlace, HeaderUnit, Message, Place, PreparePlace, PrepareUnit, ReplyPlace, Units}, Shape.{Shape}, Copies.{Agree, IsChosen, rank_of}, View.{View, boot_of}, Shows.{Agrees, Needs}, Holds.{Holds}, Next.{booted}, MendLaws.{IsFromSlot}, Upgrades.{IsRaised, MayRaise, as_version, of_version}, Found.{IsFound}}, proofs.{Tails.{chain_ops}, Choices.{boot_higher, same_copy}, Grew.{Grew, agrees_grew}, Agreeing.{prepare_agrees, reply_agrees}, Images.{IsOpen, bears_open, short_clear, short_same}, BootSounds.{raise_sound}, Masked.{masked, masked_chosen, masked_holds, unmasked_found, unmasked_holds}}}
 
 -- neither a copy nor a header
 abbrev pub IsBody : Place → Type 0

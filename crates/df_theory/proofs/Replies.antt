@@ -1,15 +1,6 @@
 -- A reply.
-use Rattle.std.proofs.Common.{◌≡◌, ◌⊎◌, inl, inr, ℕ, ◌==◌, if◌then◌else◌, Option, Some, refl, sym, ◌∙◌, ap, arith}
-use Rattle.std.proofs.lemmas.Bool.{cases_eq}
-use Rattle.std.proofs.lemmas.Bool.Decides.{nat_tests}
-use Rattle.df_theory.specs.Units.{AnyUnit, BlockPlace, CopyPlace, HeaderPlace, Message, Place, PreparePlace, ReplyPlace, ReplyUnit, Session}
-use Rattle.df_theory.specs.Shape.{Shape}
-use Rattle.df_theory.specs.View.{View}
-use Rattle.df_theory.specs.Shows.{Needs}
-use Rattle.df_theory.specs.Holds.{Sound}
-use Rattle.df_theory.specs.Next.{IsReply, Reply, replied}
-use Rattle.df_theory.proofs.Grew.{next_grew}
-use Rattle.df_theory.proofs.Puts.{IsOneStep}
+use Rattle.std.proofs.{Common.{◌≡◌, ◌⊎◌, inl, inr, ℕ, ◌==◌, if◌then◌else◌, Option, Some, refl, sym, ◌∙◌, ap, arith}, lemmas.Bool.{cases_eq}, lemmas.Bool.Decides.{nat_tests}}
+use Rattle.df_theory.{specs.{Units.{AnyUnit, BlockPlace, CopyPlace, HeaderPlace, Message, Place, PreparePlace, ReplyPlace, ReplyUnit, Session}, Shape.{Shape}, View.{View}, Shows.{Needs}, Holds.{Sound}, Next.{IsReply, Reply, replied}}, proofs.{Grew.{next_grew}, Puts.{IsOneStep}}}
 
 pub stored_at : (k place : ℕ) (r : Message) (old : Option Message) → k ≡ place → (if k == place then Some r else old) ≡ Some r
 stored_at k place r old same = grind (arith, nat_tests)

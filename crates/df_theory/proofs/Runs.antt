@@ -1,14 +1,6 @@
 -- One step after another, one command after another.
 use Rattle.std.proofs.Common.{◌≡◌, inl, inr, List, [], ◌∷◌, ◌++◌, refl, sym, subst}
-use Rattle.df_theory.specs.Units.{Units}
-use Rattle.df_theory.specs.Shape.{Shape}
-use Rattle.df_theory.specs.View.{View}
-use Rattle.df_theory.specs.Holds.{Holds}
-use Rattle.df_theory.specs.UnitLog.{UnitLog}
-use Rattle.df_theory.specs.Rests.{IsGoodLog, RestsOn}
-use Rattle.df_theory.specs.Runs.{AtEach, Command, HoldsPart, IsPartWay, Step, after_step, after_steps, steps_of, view_after}
-use Rattle.df_theory.specs.WriterLaws.{CommandsLaw}
-use Rattle.df_theory.proofs.Steps.{rests_safe, rests_holds}
+use Rattle.df_theory.{specs.{Units.{Units}, Shape.{Shape}, View.{View}, Holds.{Holds}, UnitLog.{UnitLog}, Rests.{IsGoodLog, RestsOn}, Runs.{AtEach, Command, HoldsPart, IsPartWay, Step, after_step, after_steps, steps_of, view_after}, WriterLaws.{CommandsLaw}}, proofs.Steps.{rests_safe, rests_holds}}
 
 pub after_append : (ss ts : List Step) (log : UnitLog) → after_steps (ss ++ ts) log ≡ after_steps ts (after_steps ss log)
 after_append [] ts log = refl

@@ -1,16 +1,6 @@
 -- A sound view with the content, the head and the replies of what is found is the view that is found, where its blocks, prepares and replies are those shown.
-use Rattle.std.proofs.Common.{◌≡◌, ℕ, ◌+◌, ◌-◌, List, Option, Some, None, refl, sym, ◌∙◌, ap, subst, arith}
-use Rattle.std.specs.List.{slice_get}
-use Rattle.df_theory.specs.Units.{Block, Content, Message, ReplyPlace, ReplyUnit, Session, Units}
-use Rattle.df_theory.specs.Sessions.{sessions_after}
-use Rattle.df_theory.specs.Tails.{Chain, In}
-use Rattle.df_theory.specs.Shape.{Shape}
-use Rattle.df_theory.specs.Trailer.{InChain, Links}
-use Rattle.df_theory.specs.View.{View, head, sessions}
-use Rattle.df_theory.specs.Holds.{IsNamed, Sound}
-use Rattle.df_theory.specs.Found.{IsFound}
-use Rattle.df_theory.proofs.Once.{same_links, same_chains}
-use Rattle.df_theory.proofs.OneView.{same_parts as parts_same}
+use Rattle.std.{proofs.Common.{◌≡◌, ℕ, ◌+◌, ◌-◌, List, Option, Some, None, refl, sym, ◌∙◌, ap, subst, arith}, specs.List.{slice_get}}
+use Rattle.df_theory.{specs.{Units.{Block, Content, Message, ReplyPlace, ReplyUnit, Session, Units}, Sessions.{sessions_after}, Tails.{Chain, In}, Shape.{Shape}, Trailer.{InChain, Links}, View.{View, head, sessions}, Holds.{IsNamed, Sound}, Found.{IsFound}}, proofs.{Once.{same_links, same_chains}, OneView.{same_parts as parts_same}}}
 
 module _ (sh : Shape) (shown : Units) (w : View) (f : IsFound sh shown w) (z : View) (sound : Sound sh z) (same_content : z.checkpoint.content ≡ w.checkpoint.content) (top : head z ≡ head w) (r : z.replies ≡ w.replies)
     (same_block : (a e : ℕ) (b d : Block) → InChain a b z.checkpoint.chain → InChain e d w.checkpoint.chain → b.checksum ≡ d.checksum → b ≡ d)

@@ -1,21 +1,6 @@
 -- The sample goes on: a checkpoint is finished, and another prepare appended.
-use Rattle.std.proofs.Common.{◌≡◌, inl, inr, ℕ, ◌≤◌, ◌==◌, Bool, true, false, if◌then◌else◌, List, [], ◌∷◌, Some, None, refl, sym, ap, subst, arith}
-use Rattle.std.proofs.lemmas.Bool.Decides.{nat_tests}
-use Rattle.df_theory.specs.Units.{Block, BlockPlace, BlockUnit, Content, Message}
-use Rattle.df_theory.specs.Trailer.{InChain}
-use Rattle.df_theory.specs.View.{Checkpoint, View}
-use Rattle.df_theory.specs.Holds.{Stands}
-use Rattle.df_theory.specs.Next.{MayAppend, MayFinish, checkpointed}
-use Rattle.df_theory.specs.UnitLog.{UnitLog, now}
-use Rattle.df_theory.specs.Runs.{Command, after_steps}
-use Rattle.df_theory.specs.Commands.{finish_command}
-use Rattle.df_theory.specs.TidyLaws.{KeepStanding, KeepsStanding, LeadTidily, LeadsTidily}
-use Rattle.df_theory.specs.WholeLaws.{IsStanding}
-use Rattle.df_theory.specs.Sample.{SampleLaw}
-use Rattle.df_theory.proofs.Tidy.{tidy_finish_law}
-use Rattle.df_theory.proofs.SampleFiles.{copies_of, layout}
-use Rattle.df_theory.proofs.SampleSteps.{append_leads, append_of, may_append}
-use Rattle.df_theory.proofs.Samples.{parts, shape, first, made_steps, made, safe_made, tidy_made, command1, leads1, view2, command2, leads2, block, trailer, block_at, leads3, log4, leads4}
+use Rattle.std.proofs.{Common.{◌≡◌, inl, inr, ℕ, ◌≤◌, ◌==◌, Bool, true, false, if◌then◌else◌, List, [], ◌∷◌, Some, None, refl, sym, ap, subst, arith}, lemmas.Bool.Decides.{nat_tests}}
+use Rattle.df_theory.{specs.{Units.{Block, BlockPlace, BlockUnit, Content, Message}, Trailer.{InChain}, View.{Checkpoint, View}, Holds.{Stands}, Next.{MayAppend, MayFinish, checkpointed}, UnitLog.{UnitLog, now}, Runs.{Command, after_steps}, Commands.{finish_command}, TidyLaws.{KeepStanding, KeepsStanding, LeadTidily, LeadsTidily}, WholeLaws.{IsStanding}, Sample.{SampleLaw}}, proofs.{Tidy.{tidy_finish_law}, SampleFiles.{copies_of, layout}, SampleSteps.{append_leads, append_of, may_append}, Samples.{parts, shape, first, made_steps, made, safe_made, tidy_made, command1, leads1, view2, command2, leads2, block, trailer, block_at, leads3, log4, leads4}}}
 
 -- ---- the checkpoint
 

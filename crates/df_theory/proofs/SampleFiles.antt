@@ -1,20 +1,6 @@
 -- What the samples begin with: a file of either version as it is made.
 use Rattle.std.proofs.Common.{◌≡◌, inl, ℕ, ◌%◌, ◌≤◌, List, [], ◌∷◌, Option, Some, None, refl, inr, arith}
-use Rattle.df_theory.specs.Units.{BlockPlace, Content, CopyPlace, CopyUnit, Header, HeaderPlace, HeaderUnit, Layout, Message, Parts, PreparePlace, ReplyPlace, Units}
-use Rattle.df_theory.specs.Shape.{Shape}
-use Rattle.df_theory.specs.Trailer.{no_parts}
-use Rattle.df_theory.specs.View.{IsOfVersion, View}
-use Rattle.df_theory.specs.First.{IsFirst, IsFirstContent}
-use Rattle.df_theory.specs.UnitLog.{UnitLog, put_one}
-use Rattle.df_theory.specs.Runs.{after_steps}
-use Rattle.df_theory.specs.CopyPuts.{PutsCopies}
-use Rattle.df_theory.specs.TidyLaws.{IsTidy}
-use Rattle.df_theory.specs.WholeLaws.{IsStanding}
-use Rattle.df_theory.specs.WriterLaws.{IsHeaderSector}
-use Rattle.df_theory.specs.MakingLaws.{IsMaking, PutsReserved, blank_log, format_steps}
-use Rattle.df_theory.proofs.PutOne.{put_one_law}
-use Rattle.df_theory.proofs.TidyMakes.{tidy_format_law}
-use Rattle.df_theory.proofs.Births.{blank_law}
+use Rattle.df_theory.{specs.{Units.{BlockPlace, Content, CopyPlace, CopyUnit, Header, HeaderPlace, HeaderUnit, Layout, Message, Parts, PreparePlace, ReplyPlace, Units}, Shape.{Shape}, Trailer.{no_parts}, View.{IsOfVersion, View}, First.{IsFirst, IsFirstContent}, UnitLog.{UnitLog, put_one}, Runs.{after_steps}, CopyPuts.{PutsCopies}, TidyLaws.{IsTidy}, WholeLaws.{IsStanding}, WriterLaws.{IsHeaderSector}, MakingLaws.{IsMaking, PutsReserved, blank_log, format_steps}}, proofs.{PutOne.{put_one_law}, TidyMakes.{tidy_format_law}, Births.{blank_law}}}
 
 abbrev pub layout : Layout
 layout = record { slots = 16; message_size = 4096; clients = 4; block_size = 4096; blocks = 1024 }

@@ -1,11 +1,6 @@
 -- The header ring of the sample, as an open tells it: slot 1 has the header of the only prepare.
 use Rattle.std.proofs.Common.{◌≡◌, inl, inr, ℕ, ◌%◌, ◌==◌, Bool, true, false, if◌then◌else◌, Some, None, refl, sym, ◌∙◌, ap, subst}
-use Rattle.df_theory.specs.Units.{Header, HeaderPlace, HeaderUnit, Message, Units, or_else}
-use Rattle.df_theory.specs.Tails.{In}
-use Rattle.df_theory.specs.UnitLog.{now}
-use Rattle.df_theory.specs.MendLaws.{IsSlotHeader}
-use Rattle.df_theory.proofs.SampleFiles.{reserved}
-use Rattle.df_theory.proofs.Samples.{log4, prepare1, shape, view2}
+use Rattle.df_theory.{specs.{Units.{Header, HeaderPlace, HeaderUnit, Message, Units, or_else}, Tails.{In}, UnitLog.{now}, MendLaws.{IsSlotHeader}}, proofs.{SampleFiles.{reserved}, Samples.{log4, prepare1, shape, view2}}}
 
 abbrev pub table : ℕ → Header
 table s = if 1 == s then prepare1.header else reserved

@@ -1,22 +1,6 @@
 -- The steps that the samples take alike: an append, and a boot update.
 use Rattle.std.proofs.Common.{◌≡◌, inl, inr, ℕ, ◌+◌, ◌%◌, ◌<◌, ◌≤◌, ◌^◌, List, [], ◌∷◌, length, Option, Some, refl, sym, subst, arith}
-use Rattle.df_theory.specs.Units.{Content, CopyPlace, CopyUnit, HeaderPlace, HeaderUnit, Message, Parts, PreparePlace, PrepareUnit, Units}
-use Rattle.df_theory.specs.Tails.{In, last_checksum}
-use Rattle.df_theory.specs.Shape.{Shape, clients, slots}
-use Rattle.df_theory.specs.View.{View, boot_of, head, sessions}
-use Rattle.df_theory.specs.Next.{AreInTurn, IsStamped, MayAppend, MayAskInTurn, MayBoot, Records}
-use Rattle.df_theory.specs.UnitLog.{Synced, UnitLog, add, now, put_one, wrote}
-use Rattle.df_theory.specs.Rests.{IsQuiet}
-use Rattle.df_theory.specs.Runs.{Command, after_steps}
-use Rattle.df_theory.specs.CopyPuts.{update_steps}
-use Rattle.df_theory.specs.Commands.{append_command}
-use Rattle.df_theory.specs.TidyLaws.{IsTidy, KeepsStanding, LeadsTidily}
-use Rattle.df_theory.specs.WholeLaws.{IsStanding}
-use Rattle.df_theory.proofs.PutOne.{put_one_law}
-use Rattle.df_theory.proofs.Keeps.{four}
-use Rattle.df_theory.proofs.Tidy.{tidy_append_law}
-use Rattle.df_theory.proofs.Writes.{quiet_synced}
-use Rattle.df_theory.proofs.SampleFiles.{bare, copies_of, first_of, sector, shape_of}
+use Rattle.df_theory.{specs.{Units.{Content, CopyPlace, CopyUnit, HeaderPlace, HeaderUnit, Message, Parts, PreparePlace, PrepareUnit, Units}, Tails.{In, last_checksum}, Shape.{Shape, clients, slots}, View.{View, boot_of, head, sessions}, Next.{AreInTurn, IsStamped, MayAppend, MayAskInTurn, MayBoot, Records}, UnitLog.{Synced, UnitLog, add, now, put_one, wrote}, Rests.{IsQuiet}, Runs.{Command, after_steps}, CopyPuts.{update_steps}, Commands.{append_command}, TidyLaws.{IsTidy, KeepsStanding, LeadsTidily}, WholeLaws.{IsStanding}}, proofs.{PutOne.{put_one_law}, Keeps.{four}, Tidy.{tidy_append_law}, Writes.{quiet_synced}, SampleFiles.{bare, copies_of, first_of, sector, shape_of}}}
 
 -- ---- an append
 

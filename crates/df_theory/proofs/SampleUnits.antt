@@ -1,15 +1,6 @@
 -- Logs of the units of a sample: one checksum, one unit; and what was written is pooled.
 use Rattle.std.proofs.Common.{◌≡◌, inl, inr, ℕ, true, false, Option, Some, None, refl, sym, ◌∙◌, ap, subst}
-use Rattle.df_theory.specs.Units.{AnyUnit, Block, BlockPlace, BlockUnit, Content, CopyPlace, CopyUnit, Header, HeaderPlace, HeaderUnit, Message, Place, PreparePlace, PrepareUnit, ReplyPlace, ReplyUnit, Units, or_else}
-use Rattle.df_theory.specs.UnitLog.{IsLeftBy, Synced, UnitLog, add, loose, now, put_one, wrote}
-use Rattle.df_theory.specs.Chance.{Distinct, InPool, NoChance}
-use Rattle.df_theory.specs.Runs.{after_steps}
-use Rattle.df_theory.specs.CopyPuts.{update_steps}
-use Rattle.df_theory.specs.MakingLaws.{blank_log}
-use Rattle.df_theory.proofs.PutOne.{put_one_law}
-use Rattle.df_theory.proofs.AllOf.{All, Shows, all_wrote, pools_all}
-use Rattle.df_theory.proofs.Without.{without, without_else}
-use Rattle.df_theory.proofs.SampleFiles.{all_reserved, copies_of, made_of, reserved}
+use Rattle.df_theory.{specs.{Units.{AnyUnit, Block, BlockPlace, BlockUnit, Content, CopyPlace, CopyUnit, Header, HeaderPlace, HeaderUnit, Message, Place, PreparePlace, PrepareUnit, ReplyPlace, ReplyUnit, Units, or_else}, UnitLog.{IsLeftBy, Synced, UnitLog, add, loose, now, put_one, wrote}, Chance.{Distinct, InPool, NoChance}, Runs.{after_steps}, CopyPuts.{update_steps}, MakingLaws.{blank_log}}, proofs.{PutOne.{put_one_law}, AllOf.{All, Shows, all_wrote, pools_all}, Without.{without, without_else}, SampleFiles.{all_reserved, copies_of, made_of, reserved}}}
 
 -- ---- writes of such units
 

@@ -1,22 +1,6 @@
 -- The sample: a file is made, a prepare appended and answered, and two blocks are written.
 use Rattle.std.proofs.Common.{◌≡◌, ℕ, ◌==◌, if◌then◌else◌, List, [], ◌∷◌, Some, None, refl, arith}
-use Rattle.df_theory.specs.Units.{Block, BlockPlace, BlockUnit, Content, Message, Parts, ReplyPlace, ReplyUnit, Session, Units}
-use Rattle.df_theory.specs.Shape.{Shape}
-use Rattle.df_theory.specs.View.{View}
-use Rattle.df_theory.specs.Next.{MayAppend, MayReply, appended, replied}
-use Rattle.df_theory.specs.UnitLog.{UnitLog, put_one}
-use Rattle.df_theory.specs.First.{IsFirst}
-use Rattle.df_theory.specs.Grown.{IsSafe}
-use Rattle.df_theory.specs.Runs.{AtEach, Command, Step, after_steps}
-use Rattle.df_theory.specs.Commands.{block_command, reply_command}
-use Rattle.df_theory.specs.TidyLaws.{IsTidy, KeepsStanding, LeadsTidily}
-use Rattle.df_theory.specs.MakingLaws.{blank_log, format_steps}
-use Rattle.df_theory.specs.WholeLaws.{IsStanding}
-use Rattle.df_theory.proofs.PutOne.{put_one_law}
-use Rattle.df_theory.proofs.Tidy.{tidy_block_law, tidy_reply_law}
-use Rattle.df_theory.proofs.Births.{format_law}
-use Rattle.df_theory.proofs.SampleFiles.{all_reserved, bare, copies_of, first_of, is_first_bare, made_of, making_of, puts_reserved, shape_of, tidy_of}
-use Rattle.df_theory.proofs.SampleSteps.{append_leads, append_of, may_append}
+use Rattle.df_theory.{specs.{Units.{Block, BlockPlace, BlockUnit, Content, Message, Parts, ReplyPlace, ReplyUnit, Session, Units}, Shape.{Shape}, View.{View}, Next.{MayAppend, MayReply, appended, replied}, UnitLog.{UnitLog, put_one}, First.{IsFirst}, Grown.{IsSafe}, Runs.{AtEach, Command, Step, after_steps}, Commands.{block_command, reply_command}, TidyLaws.{IsTidy, KeepsStanding, LeadsTidily}, MakingLaws.{blank_log, format_steps}, WholeLaws.{IsStanding}}, proofs.{PutOne.{put_one_law}, Tidy.{tidy_block_law, tidy_reply_law}, Births.{format_law}, SampleFiles.{all_reserved, bare, copies_of, first_of, is_first_bare, made_of, making_of, puts_reserved, shape_of, tidy_of}, SampleSteps.{append_leads, append_of, may_append}}}
 
 abbrev pub session : Session
 session = record { client = 7; request = 1; op = 1 }

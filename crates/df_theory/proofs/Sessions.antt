@@ -1,12 +1,6 @@
 -- Tails and sessions, longer and shorter.
-use Rattle.std.proofs.Common.{◌≡◌, ◌⊎◌, inl, inr, ℕ, zero, suc, ◌==◌, Bool, true, false, if◌then◌else◌, ◌+◌, ◌<◌, ◌≤◌, List, [], ◌∷◌, ◌++◌, length, take, drop, Some, None, refl, sym, ◌∙◌, ap, subst, arith, eqb-true, eq-eqb}
-use Rattle.std.specs.List.{slice_get}
-use Rattle.std.proofs.lemmas.List.{take-append-drop}
-use Rattle.std.proofs.lemmas.Bool.{cases_eq}
-use Rattle.df_theory.specs.Units.{Header, Message, Session}
-use Rattle.df_theory.specs.Sessions.{Has, MayAsk, Tracks, noted, session_of_header, sessions_after}
-use Rattle.df_theory.specs.Tails.{Chain, In, last_checksum, last_mark}
-use Rattle.df_theory.specs.Shape.{clients}
+use Rattle.std.{proofs.{Common.{◌≡◌, ◌⊎◌, inl, inr, ℕ, zero, suc, ◌==◌, Bool, true, false, if◌then◌else◌, ◌+◌, ◌<◌, ◌≤◌, List, [], ◌∷◌, ◌++◌, length, take, drop, Some, None, refl, sym, ◌∙◌, ap, subst, arith, eqb-true, eq-eqb}, lemmas.List.{take-append-drop}, lemmas.Bool.{cases_eq}}, specs.List.{slice_get}}
+use Rattle.df_theory.specs.{Units.{Header, Message, Session}, Sessions.{Has, MayAsk, Tracks, noted, session_of_header, sessions_after}, Tails.{Chain, In, last_checksum, last_mark}, Shape.{clients}}
 
 pub chain_append : (clients op parent mark : ℕ) (ss : List Session) (ps qs : List Message) → Chain clients op parent mark ss ps → Chain clients (op + length ps) (last_checksum parent ps) (last_mark mark ps) (sessions_after ss ps) qs
     → Chain clients op parent mark ss (ps ++ qs)

@@ -1,21 +1,6 @@
 -- What was settled was of a view, and the views just after an append, a reply and a checkpoint.
-use Rattle.std.proofs.Common.{◌≡◌, ◌⊎◌, inl, inr, ℕ, ◌-◌, ◌<◌, List, [], ◌∷◌, ◌++◌, length, Some, None, refl, sym, ◌∙◌, ap, subst, arith, length-append, length-drop}
-use Rattle.std.specs.List.{slice_get}
-use Rattle.std.proofs.lemmas.Bool.{cases_eq}
-use Rattle.df_theory.specs.Units.{AnyUnit, Content, CopyPlace, CopyUnit, Message, ReplyPlace, ReplyUnit, Units}
-use Rattle.df_theory.specs.Sessions.{sessions_after}
-use Rattle.df_theory.specs.Tails.{In}
-use Rattle.df_theory.specs.Shape.{Shape}
-use Rattle.df_theory.specs.View.{View, head}
-use Rattle.df_theory.specs.Next.{Append, Boot, Finish, Next, Reply, Same}
-use Rattle.df_theory.specs.Chance.{InImages}
-use Rattle.df_theory.specs.First.{AreMade}
-use Rattle.df_theory.specs.Grown.{Grows}
-use Rattle.df_theory.specs.Past.{FromEmpty, Was}
-use Rattle.df_theory.proofs.Tails.{in_either, in_dropped}
-use Rattle.df_theory.proofs.Appends.{kept_some}
-use Rattle.df_theory.proofs.Replies.{stored_at, stored_else}
-use Rattle.df_theory.proofs.Past.{was_self}
+use Rattle.std.{proofs.{Common.{◌≡◌, ◌⊎◌, inl, inr, ℕ, ◌-◌, ◌<◌, List, [], ◌∷◌, ◌++◌, length, Some, None, refl, sym, ◌∙◌, ap, subst, arith, length-append, length-drop}, lemmas.Bool.{cases_eq}}, specs.List.{slice_get}}
+use Rattle.df_theory.{specs.{Units.{AnyUnit, Content, CopyPlace, CopyUnit, Message, ReplyPlace, ReplyUnit, Units}, Sessions.{sessions_after}, Tails.{In}, Shape.{Shape}, View.{View, head}, Next.{Append, Boot, Finish, Next, Reply, Same}, Chance.{InImages}, First.{AreMade}, Grown.{Grows}, Past.{FromEmpty, Was}}, proofs.{Tails.{in_either, in_dropped}, Appends.{kept_some}, Replies.{stored_at, stored_else}, Past.{was_self}}}
 
 -- ---- what was settled in a copy or a reply slot was of a view
 

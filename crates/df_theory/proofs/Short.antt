@@ -1,18 +1,6 @@
 -- What was ever settled above the head makes up no whole group.
 use Rattle.std.proofs.Common.{◌≡◌, ◌⊎◌, inl, inr, ℕ, ◌+◌, ◌%◌, ◌<◌, ◌≤◌, List, [], ◌∷◌, length, refl, sym, ◌∙◌, ap, subst, arith}
-use Rattle.df_theory.specs.Units.{Content, Message, PreparePlace, PrepareUnit, Units}
-use Rattle.df_theory.specs.Sessions.{sessions_after}
-use Rattle.df_theory.specs.Tails.{In, last_checksum, last_mark}
-use Rattle.df_theory.specs.Shape.{Shape}
-use Rattle.df_theory.specs.View.{Checkpoint, View, boot_of, head}
-use Rattle.df_theory.specs.Groups.{AreMore, ShowsOwn}
-use Rattle.df_theory.specs.Holds.{Holds}
-use Rattle.df_theory.specs.Chance.{InImages}
-use Rattle.df_theory.specs.Grown.{AllInHistory, Grows, IsClear}
-use Rattle.df_theory.proofs.Tails.{chain_ops}
-use Rattle.df_theory.proofs.Steps.{grows_sound, old_agrees}
-use Rattle.df_theory.proofs.Grew.{Grew, next_grew}
-use Rattle.df_theory.proofs.Past.{no_made}
+use Rattle.df_theory.{specs.{Units.{Content, Message, PreparePlace, PrepareUnit, Units}, Sessions.{sessions_after}, Tails.{In, last_checksum, last_mark}, Shape.{Shape}, View.{Checkpoint, View, boot_of, head}, Groups.{AreMore, ShowsOwn}, Holds.{Holds}, Chance.{InImages}, Grown.{AllInHistory, Grows, IsClear}}, proofs.{Tails.{chain_ops}, Steps.{grows_sound, old_agrees}, Grew.{Grew, next_grew}, Past.{no_made}}}
 
 -- the prepare was settled at its slot, and is of this boot
 pub record WasOwn (n : ℕ) (images : List Units) (c : Content) (p : Message) : Type 0 where

@@ -1,21 +1,6 @@
 -- Each next view is sound.
-use Rattle.std.proofs.Common.{◌≡◌, ◌⊎◌, inl, inr, ℕ, Bool, true, false, if◌then◌else◌, ◌+◌, ◌-◌, ◌<◌, ◌≤◌, List, ◌++◌, length, take, drop, slice_index, nat_lt, Option, Some, None, refl, sym, ◌∙◌, ap, subst, arith, length-append, length-drop}
-use Rattle.std.proofs.lemmas.List.{length-take, take-append-le}
-use Rattle.std.specs.List.{slice_get}
-use Rattle.std.proofs.lemmas.Bool.{cases_eq}
-use Rattle.std.proofs.lemmas.Bool.Decides.{nat_tests}
-use Rattle.df_theory.specs.Units.{Layout, Message, Session}
-use Rattle.df_theory.specs.Sessions.{Answers, Tracks, sessions_after}
-use Rattle.df_theory.specs.Tails.{AreGroups, AreWholeGroups, Chain, EndsAt, In, last_checksum, last_mark}
-use Rattle.df_theory.specs.Shape.{Shape}
-use Rattle.df_theory.specs.View.{Checkpoint, PassesTests, View, head, sessions}
-use Rattle.df_theory.specs.Holds.{IsNamed, Sound}
-use Rattle.df_theory.specs.Next.{IsFinish, IsReply, MayAppend, MayFinish, appended, checkpointed, kept, replied}
-use Rattle.df_theory.proofs.Tails.{in_either, in_dropped, turn_ops, turn_chain}
-use Rattle.df_theory.proofs.Grouped.{groups_append, groups_drop, turn_groups}
-use Rattle.df_theory.proofs.Sessions.{chain_append, last_mark-append, last_mark-each, after_get, sessions-append, chain_drop, last_mark-drop, sessions-drop, tracks_chain, chain_take, last_mark-take}
-use Rattle.df_theory.proofs.Appends.{kept_some}
-use Rattle.df_theory.proofs.Replies.{stored_at, stored_else}
+use Rattle.std.{proofs.{Common.{◌≡◌, ◌⊎◌, inl, inr, ℕ, Bool, true, false, if◌then◌else◌, ◌+◌, ◌-◌, ◌<◌, ◌≤◌, List, ◌++◌, length, take, drop, slice_index, nat_lt, Option, Some, None, refl, sym, ◌∙◌, ap, subst, arith, length-append, length-drop}, lemmas.List.{length-take, take-append-le}, lemmas.Bool.{cases_eq}, lemmas.Bool.Decides.{nat_tests}}, specs.List.{slice_get}}
+use Rattle.df_theory.{specs.{Units.{Layout, Message, Session}, Sessions.{Answers, Tracks, sessions_after}, Tails.{AreGroups, AreWholeGroups, Chain, EndsAt, In, last_checksum, last_mark}, Shape.{Shape}, View.{Checkpoint, PassesTests, View, head, sessions}, Holds.{IsNamed, Sound}, Next.{IsFinish, IsReply, MayAppend, MayFinish, appended, checkpointed, kept, replied}}, proofs.{Tails.{in_either, in_dropped, turn_ops, turn_chain}, Grouped.{groups_append, groups_drop, turn_groups}, Sessions.{chain_append, last_mark-append, last_mark-each, after_get, sessions-append, chain_drop, last_mark-drop, sessions-drop, tracks_chain, chain_take, last_mark-take}, Appends.{kept_some}, Replies.{stored_at, stored_else}}}
 
 kept_is : (s : Session) (op : ℕ) (old : Option Message) → s.op ≤ op → kept (Some s) op old ≡ old
 kept_is s op old low = grind (arith, nat_tests)

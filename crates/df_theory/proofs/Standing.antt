@@ -1,16 +1,6 @@
 -- Referenced blocks stand through a command that reaches none of them.
 use Rattle.std.proofs.Common.{◌≡◌, ◌<◌, inl, inr, ℕ, List, [], ◌∷◌, false, Option, Some, None, refl, subst}
-use Rattle.df_theory.specs.Units.{AnyUnit, Block, BlockPlace, BlockUnit, HeaderPlace, Place, Units}
-use Rattle.df_theory.specs.Shape.{Shape}
-use Rattle.df_theory.specs.View.{Checkpoint, View}
-use Rattle.df_theory.specs.Holds.{Stands}
-use Rattle.df_theory.specs.UnitLog.{PutsOne, UnitLog, loose, now}
-use Rattle.df_theory.specs.Chance.{EachLeft}
-use Rattle.df_theory.specs.Rests.{IsGoodLog}
-use Rattle.df_theory.specs.Runs.{AtEach, Command, Leads, Puts, Step, Syncs, after_step, after_steps}
-use Rattle.df_theory.specs.WholeLaws.{AllSpare, IsStanding, Spares}
-use Rattle.df_theory.specs.TidyLaws.{IsGoodWhole, KeepsStanding}
-use Rattle.df_theory.proofs.Keeps.{stands_law}
+use Rattle.df_theory.{specs.{Units.{AnyUnit, Block, BlockPlace, BlockUnit, HeaderPlace, Place, Units}, Shape.{Shape}, View.{Checkpoint, View}, Holds.{Stands}, UnitLog.{PutsOne, UnitLog, loose, now}, Chance.{EachLeft}, Rests.{IsGoodLog}, Runs.{AtEach, Command, Leads, Puts, Step, Syncs, after_step, after_steps}, WholeLaws.{AllSpare, IsStanding, Spares}, TidyLaws.{IsGoodWhole, KeepsStanding}}, proofs.Keeps.{stands_law}}
 
 pub miss : (put : Units) (place other : Place) (x : AnyUnit) → PutsOne put place x → (other ≡ place → ⊥) → put other ≡ None
 miss put place other x one away = go (put other) refl

@@ -1,20 +1,6 @@
 -- Events, one after another, on logs that are quiet but for free blocks.
-use Rattle.std.proofs.Common.{◌≡◌, ◌⊎◌, inl, inr, arith, Bool, true, false, ◌||◌, List, [], ◌∷◌, length, Option, Some, None, refl, sym, ◌∙◌, ap, subst}
-use Rattle.std.proofs.lemmas.Bool.{cases_Bool}
-use Rattle.df_theory.specs.Units.{AnyUnit, BlockPlace, CopyPlace, HeaderPlace, Place, PreparePlace, PrepareUnit, ReplyPlace, Units, is_some, or_else, overlay}
-use Rattle.df_theory.specs.Shape.{Shape}
-use Rattle.df_theory.specs.View.{Checkpoint, View}
-use Rattle.df_theory.specs.Shows.{Agrees}
-use Rattle.df_theory.specs.Holds.{Holds, Sound}
-use Rattle.df_theory.specs.Next.{Same}
-use Rattle.df_theory.specs.UnitLog.{IsLeftBy, Synced, UnitLog, add, loose, now, settled, wrote}
-use Rattle.df_theory.specs.Chance.{AreFair, EachLeft, InImages, InPool}
-use Rattle.df_theory.specs.First.{AreMade, IsMade}
-use Rattle.df_theory.specs.Grown.{Begins, GoesOn, Grows, HasGrown, IsSafe}
-use Rattle.df_theory.specs.Rests.{IsCalm, IsCalmPut, RestsOn, Stepped}
-use Rattle.df_theory.proofs.Grew.{Stays, agrees_grew, next_grew}
-use Rattle.df_theory.proofs.Images.{bears_open, chosen_same, short_same}
-use Rattle.df_theory.proofs.Torn.{IsPooled, Outcome, Tear, Kept, Loose, Touched, Torn, TornView}
+use Rattle.std.proofs.{Common.{◌≡◌, ◌⊎◌, inl, inr, arith, Bool, true, false, ◌||◌, List, [], ◌∷◌, length, Option, Some, None, refl, sym, ◌∙◌, ap, subst}, lemmas.Bool.{cases_Bool}}
+use Rattle.df_theory.{specs.{Units.{AnyUnit, BlockPlace, CopyPlace, HeaderPlace, Place, PreparePlace, PrepareUnit, ReplyPlace, Units, is_some, or_else, overlay}, Shape.{Shape}, View.{Checkpoint, View}, Shows.{Agrees}, Holds.{Holds, Sound}, Next.{Same}, UnitLog.{IsLeftBy, Synced, UnitLog, add, loose, now, settled, wrote}, Chance.{AreFair, EachLeft, InImages, InPool}, First.{AreMade, IsMade}, Grown.{Begins, GoesOn, Grows, HasGrown, IsSafe}, Rests.{IsCalm, IsCalmPut, RestsOn, Stepped}}, proofs.{Grew.{Stays, agrees_grew, next_grew}, Images.{bears_open, chosen_same, short_same}, Torn.{IsPooled, Outcome, Tear, Kept, Loose, Touched, Torn, TornView}}}
 
 pub grows_holds : (sh : Shape) (image : Units) (images : List Units) (v : View) → Grows sh (image ∷ images) v → Holds sh image v
 grows_holds sh image images v grows = grows.0

@@ -1,19 +1,6 @@
 -- A stop within the write of a prepare, with every premise on chance shown.
 use Rattle.std.proofs.Common.{◌≡◌, inl, inr, ◌||◌, false, true, [], ◌∷◌, Option, Some, None, refl, sym, ◌∙◌, ap, arith}
-use Rattle.df_theory.specs.Units.{AnyUnit, PreparePlace, PrepareUnit, Units, is_some, or_else, overlay}
-use Rattle.df_theory.specs.View.{View}
-use Rattle.df_theory.specs.Next.{MayAppend, appended}
-use Rattle.df_theory.specs.UnitLog.{IsLeftBy, UnitLog, loose, now, put_one, wrote}
-use Rattle.df_theory.specs.Chance.{NoChance}
-use Rattle.df_theory.specs.Rests.{Stepped}
-use Rattle.df_theory.specs.Sample.{StopSampleLaw}
-use Rattle.df_theory.proofs.PutOne.{put_one_law}
-use Rattle.df_theory.proofs.AllOf.{All}
-use Rattle.df_theory.proofs.Ours.{IsOurs, distinct_in, log1_all, prepare_other}
-use Rattle.df_theory.proofs.SampleSteps.{may_append}
-use Rattle.df_theory.proofs.SampleUnits.{put_all, wrote_pooled}
-use Rattle.df_theory.proofs.Samples.{shape, view1, log1, leads1}
-use Rattle.df_theory.proofs.Flushes.{prepare_step}
+use Rattle.df_theory.{specs.{Units.{AnyUnit, PreparePlace, PrepareUnit, Units, is_some, or_else, overlay}, View.{View}, Next.{MayAppend, appended}, UnitLog.{IsLeftBy, UnitLog, loose, now, put_one, wrote}, Chance.{NoChance}, Rests.{Stepped}, Sample.{StopSampleLaw}}, proofs.{PutOne.{put_one_law}, AllOf.{All}, Ours.{IsOurs, distinct_in, log1_all, prepare_other}, SampleSteps.{may_append}, SampleUnits.{put_all, wrote_pooled}, Samples.{shape, view1, log1, leads1}, Flushes.{prepare_step}}}
 
 abbrev put2 : Units
 put2 = put_one (PreparePlace 2) (PrepareUnit prepare_other)

@@ -1,33 +1,6 @@
 -- A file with boots, stopped within a group of two: the second one survives, the boot is raised, and its op is written anew.
-use Rattle.std.proofs.Common.{◌≡◌, inl, inr, ℕ, ◌+◌, ◌%◌, ◌<◌, ◌==◌, true, false, if◌then◌else◌, List, [], ◌∷◌, Some, None, refl, sym, ap, subst, arith}
-use Rattle.std.proofs.lemmas.Bool.{cases_eq}
-use Rattle.std.proofs.lemmas.Bool.Decides.{nat_tests}
-use Rattle.df_theory.specs.Units.{AnyUnit, BlockUnit, Content, CopyUnit, Header, HeaderPlace, HeaderUnit, Message, PreparePlace, PrepareUnit, ReplyUnit, Units}
-use Rattle.df_theory.specs.Shape.{Shape}
-use Rattle.df_theory.specs.Trailer.{no_parts}
-use Rattle.df_theory.specs.View.{View}
-use Rattle.df_theory.specs.Holds.{Holds, IsWhole}
-use Rattle.df_theory.specs.Next.{MayAppend, MayBoot, appended}
-use Rattle.df_theory.specs.First.{IsFirst}
-use Rattle.df_theory.specs.UnitLog.{IsLeftBy, Stopped, Synced, UnitLog, add, loose, now, put_one, wrote}
-use Rattle.df_theory.specs.Chance.{NoChance}
-use Rattle.df_theory.specs.Rests.{IsGoodLog, RestsOn}
-use Rattle.df_theory.specs.Runs.{Command, after_steps}
-use Rattle.df_theory.specs.MendLaws.{AllPutTable, Reaches}
-use Rattle.df_theory.specs.WriterLaws.{AreSame}
-use Rattle.df_theory.specs.TidyLaws.{IsTidy, LeadsTidily}
-use Rattle.df_theory.specs.GroupLaws.{IsGroupTable, boot_command, flush_command}
-use Rattle.df_theory.specs.Sample.{SurvivorSampleLaw}
-use Rattle.df_theory.proofs.PutOne.{put_one_law}
-use Rattle.df_theory.proofs.AllOf.{All}
-use Rattle.df_theory.proofs.FlushLaws.{flush_law}
-use Rattle.df_theory.proofs.SampleFiles.{bare, copies_of, first_of, is_first_bare, made_of, reserved, shape_of, tidy_of}
-use Rattle.df_theory.proofs.SampleSteps.{grouped, may_append_pair, may_raise, pair, prepare_put}
-use Rattle.df_theory.proofs.SampleUnits.{AreTold, copies_all, distinct_of, left_without, made_all, no_chance, put_all, wrote_pooled}
-use Rattle.df_theory.proofs.Samples.{block}
-use Rattle.df_theory.proofs.Without.{without, without_shows}
-use Rattle.df_theory.proofs.TidyGroups.{tidy_boot_law, tidy_flush_law}
-use Rattle.df_theory.proofs.Writes.{stop_law}
+use Rattle.std.proofs.{Common.{◌≡◌, inl, inr, ℕ, ◌+◌, ◌%◌, ◌<◌, ◌==◌, true, false, if◌then◌else◌, List, [], ◌∷◌, Some, None, refl, sym, ap, subst, arith}, lemmas.Bool.{cases_eq}, lemmas.Bool.Decides.{nat_tests}}
+use Rattle.df_theory.{specs.{Units.{AnyUnit, BlockUnit, Content, CopyUnit, Header, HeaderPlace, HeaderUnit, Message, PreparePlace, PrepareUnit, ReplyUnit, Units}, Shape.{Shape}, Trailer.{no_parts}, View.{View}, Holds.{Holds, IsWhole}, Next.{MayAppend, MayBoot, appended}, First.{IsFirst}, UnitLog.{IsLeftBy, Stopped, Synced, UnitLog, add, loose, now, put_one, wrote}, Chance.{NoChance}, Rests.{IsGoodLog, RestsOn}, Runs.{Command, after_steps}, MendLaws.{AllPutTable, Reaches}, WriterLaws.{AreSame}, TidyLaws.{IsTidy, LeadsTidily}, GroupLaws.{IsGroupTable, boot_command, flush_command}, Sample.{SurvivorSampleLaw}}, proofs.{PutOne.{put_one_law}, AllOf.{All}, FlushLaws.{flush_law}, SampleFiles.{bare, copies_of, first_of, is_first_bare, made_of, reserved, shape_of, tidy_of}, SampleSteps.{grouped, may_append_pair, may_raise, pair, prepare_put}, SampleUnits.{AreTold, copies_all, distinct_of, left_without, made_all, no_chance, put_all, wrote_pooled}, Samples.{block}, Without.{without, without_shows}, TidyGroups.{tidy_boot_law, tidy_flush_law}, Writes.{stop_law}}}
 
 abbrev shape : Shape
 shape = shape_of 2 (λ op text. Some no_parts)

@@ -1,10 +1,6 @@
 -- Prepares in a tail.
 use Rattle.std.proofs.Common.{◌≡◌, ◌⊎◌, inl, inr, ℕ, zero, suc, ◌+◌, ◌<◌, ◌≤◌, List, [], ◌∷◌, ◌++◌, length, drop, refl, sym, ◌∙◌, ap, arith}
-use Rattle.df_theory.specs.Units.{Message, Session}
-use Rattle.df_theory.specs.Sessions.{noted}
-use Rattle.df_theory.specs.Tails.{Chain, In}
-use Rattle.df_theory.specs.Shape.{clients}
-use Rattle.df_theory.specs.Next.{AreInTurn, MayAskInTurn}
+use Rattle.df_theory.specs.{Units.{Message, Session}, Sessions.{noted}, Tails.{Chain, In}, Shape.{clients}, Next.{AreInTurn, MayAskInTurn}}
 
 pub in_front : (p : Message) (ps qs : List Message) → In p ps → In p (ps ++ qs)
 in_front p [] qs at = absurd at

@@ -1,11 +1,7 @@
 -- The text of a trailer that an image shows is of bytes.
 use Rattle.std.proofs.Common.{◌≡◌, inl, inr, ℕ, List, [], ◌∷◌, Some, refl, subst, arith}
-use Rattle.df_base.specs.Fields.{AreBytes}
-use Rattle.df_base.proofs.Laws.{AreBytes-append}
-use Rattle.df_theory.specs.Units.{Block, BlockPlace, BlockUnit, Units}
-use Rattle.df_theory.specs.Shape.{Shape}
-use Rattle.df_theory.specs.Trailer.{InChain, text_of}
-use Rattle.df_theory.specs.Found.{AreOfPlaces}
+use Rattle.df_base.{specs.Fields.{AreBytes}, proofs.Laws.{AreBytes-append}}
+use Rattle.df_theory.specs.{Units.{Block, BlockPlace, BlockUnit, Units}, Shape.{Shape}, Trailer.{InChain, text_of}, Found.{AreOfPlaces}}
 
 pub text_bytes : (sh : Shape) (image : Units) (chain : List (ℕ × Block)) → AreOfPlaces sh image → ((a : ℕ) (b : Block) → InChain a b chain → image (BlockPlace a) ≡ Some (BlockUnit b)) → AreBytes (text_of chain)
 text_bytes sh image [] places shown = λ i. omega arith

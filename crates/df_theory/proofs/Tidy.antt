@@ -1,27 +1,6 @@
 -- Each command begins and ends in a tidy file.
 use Rattle.std.proofs.Common.{◌≡◌, inl, ℕ, ◌+◌, ◌-◌, ◌%◌, List, [], ◌∷◌, ◌++◌, ◌||◌, false, Option, Some, None, refl, sym, ◌∙◌, ap, subst, true, arith, length-append, length-drop}
-use Rattle.df_theory.specs.Units.{AnyUnit, Block, BlockPlace, BlockUnit, Content, CopyPlace, CopyUnit, Header, Message, PreparePlace, PrepareUnit, ReplyPlace, ReplyUnit, Units, is_some}
-use Rattle.df_theory.specs.Shape.{Shape}
-use Rattle.df_theory.specs.View.{View, boot_of, head}
-use Rattle.df_theory.specs.Holds.{Stands}
-use Rattle.df_theory.specs.Next.{appended, checkpointed, replied}
-use Rattle.df_theory.specs.Grown.{IsClear}
-use Rattle.df_theory.proofs.Clear.{clear_steps, low_append, low_copies, low_headers, low_one, low_update}
-use Rattle.df_theory.specs.UnitLog.{PutsOne, Synced, UnitLog, add, loose, now, settled, wrote}
-use Rattle.df_theory.specs.Rests.{IsBlock, IsGoodLog, IsQuiet, RestsOn}
-use Rattle.df_theory.specs.Runs.{AtEach, Leads, Puts, Step, Syncs, after_steps}
-use Rattle.df_theory.specs.MakingLaws.{all_puts}
-use Rattle.df_theory.specs.MendLaws.{AllPutCopy, AllPutTable, copy_steps, header_steps, mend_steps}
-use Rattle.df_theory.specs.WholeLaws.{AllSpare, IsStanding, Spares}
-use Rattle.df_theory.specs.TidyLaws.{KeepsStanding, TidyAppendLaw, TidyBlockLaw, TidyFinishLaw, TidyMendLaw, TidyReplyLaw, TidySyncLaw, TidyIdleLaw}
-use Rattle.df_theory.specs.Commands.{append_command, block_command, finish_command, mend_command, reply_command, sync_command, idle_command}
-use Rattle.df_theory.specs.CopyPuts.{PutsCopies, update_steps}
-use Rattle.df_theory.proofs.Writes.{append_law, reply_law, block_law, update_law, write_law, good_rests, quiet_synced}
-use Rattle.df_theory.proofs.Steps.{rests_safe, rests_holds}
-use Rattle.df_theory.proofs.Runs.{after_append}
-use Rattle.df_theory.proofs.Mends.{mend_law, mends_whole_law, synced_after}
-use Rattle.df_theory.proofs.Keeps.{whole_append_law, whole_reply_law, whole_block_law, whole_update_law, stands_law}
-use Rattle.df_theory.proofs.Standing.{keeps_standing, miss, spares_headers, spares_one, standing_after, standing_all}
+use Rattle.df_theory.{specs.{Units.{AnyUnit, Block, BlockPlace, BlockUnit, Content, CopyPlace, CopyUnit, Header, Message, PreparePlace, PrepareUnit, ReplyPlace, ReplyUnit, Units, is_some}, Shape.{Shape}, View.{View, boot_of, head}, Holds.{Stands}, Next.{appended, checkpointed, replied}, Grown.{IsClear}, UnitLog.{PutsOne, Synced, UnitLog, add, loose, now, settled, wrote}, Rests.{IsBlock, IsGoodLog, IsQuiet, RestsOn}, Runs.{AtEach, Leads, Puts, Step, Syncs, after_steps}, MakingLaws.{all_puts}, MendLaws.{AllPutCopy, AllPutTable, copy_steps, header_steps, mend_steps}, WholeLaws.{AllSpare, IsStanding, Spares}, TidyLaws.{KeepsStanding, TidyAppendLaw, TidyBlockLaw, TidyFinishLaw, TidyMendLaw, TidyReplyLaw, TidySyncLaw, TidyIdleLaw}, Commands.{append_command, block_command, finish_command, mend_command, reply_command, sync_command, idle_command}, CopyPuts.{PutsCopies, update_steps}}, proofs.{Clear.{clear_steps, low_append, low_copies, low_headers, low_one, low_update}, Writes.{append_law, reply_law, block_law, update_law, write_law, good_rests, quiet_synced}, Steps.{rests_safe, rests_holds}, Runs.{after_append}, Mends.{mend_law, mends_whole_law, synced_after}, Keeps.{whole_append_law, whole_reply_law, whole_block_law, whole_update_law, stands_law}, Standing.{keeps_standing, miss, spares_headers, spares_one, standing_after, standing_all}}}
 
 -- ---- the commands
 

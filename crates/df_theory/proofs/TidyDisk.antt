@@ -1,14 +1,7 @@
 -- A command from one tidy file to the next, on a disk.
 use Rattle.std.proofs.Common.{sym, subst}
-use Rattle.df_theory.specs.Shape.{Shape}
-use Rattle.df_theory.specs.View.{View}
-use Rattle.df_theory.specs.UnitLog.{UnitLog}
-use Rattle.df_theory.specs.Device.{Format, IsFormat, IsGoodWholeDisk, units_log}
-use Rattle.df_theory.specs.TidyLaws.{IsGoodWhole, IsTidy}
-use Rattle.df_theory.specs.WholeLaws.{IsStanding}
-use Rattle.df_theory.specs.DeviceLaws.{StandingMomentsLaw, TidyMomentsLaw}
+use Rattle.df_theory.{specs.{Shape.{Shape}, View.{View}, UnitLog.{UnitLog}, Device.{Format, IsFormat, IsGoodWholeDisk, units_log}, TidyLaws.{IsGoodWhole, IsTidy}, WholeLaws.{IsStanding}, DeviceLaws.{StandingMomentsLaw, TidyMomentsLaw}}, proofs.Bridge.{safe_disk_law, firm_units, moments, moments_law, same_log}}
 use Rattle.df_base.specs.Log
-use Rattle.df_theory.proofs.Bridge.{safe_disk_law, firm_units, moments, moments_law, same_log}
 
 on_disk : (f : Format) (sh : Shape) (v u : View) → IsFormat f → (log : Log.Log) → Log.IsLog log → IsGoodWhole sh v u (units_log f log) → IsGoodWholeDisk f sh v u log
 on_disk f sh v u is log whole good = record {

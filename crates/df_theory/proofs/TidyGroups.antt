@@ -1,32 +1,6 @@
 -- A group, and a boot update, lead to a tidy file.
 use Rattle.std.proofs.Common.{◌≡◌, inl, inr, ℕ, ◌-◌, ◌%◌, ◌<◌, List, [], ◌∷◌, ◌++◌, drop, false, true, Option, Some, None, refl, sym, ◌∙◌, ap, subst, arith}
-use Rattle.df_theory.specs.Units.{AnyUnit, CopyPlace, Header, HeaderPlace, HeaderUnit, Message, Place, PreparePlace, PrepareUnit, Units}
-use Rattle.df_theory.specs.Tails.{In}
-use Rattle.df_theory.specs.Shape.{Shape}
-use Rattle.df_theory.specs.View.{Checkpoint, View, head}
-use Rattle.df_theory.specs.Holds.{IsWhole}
-use Rattle.df_theory.specs.Next.{appended, booted}
-use Rattle.df_theory.specs.UnitLog.{Synced, UnitLog, add, now, settled}
-use Rattle.df_theory.specs.Grown.{IsClear}
-use Rattle.df_theory.specs.Rests.{IsQuiet}
-use Rattle.df_theory.specs.Runs.{Leads, Syncs, after_steps}
-use Rattle.df_theory.specs.MakingLaws.{all_puts}
-use Rattle.df_theory.specs.MendLaws.{AllPutTable, Reaches}
-use Rattle.df_theory.specs.CopyPuts.{update_steps}
-use Rattle.df_theory.specs.WriterLaws.{AllPutPrepare, AreGroupSectors, Flushes, flush_steps}
-use Rattle.df_theory.specs.WholeLaws.{AllSpare}
-use Rattle.df_theory.specs.GroupLaws.{ClearLaw, FlushRingLaw, IsGroupTable, TidyBootLaw, TidyFlushLaw, boot_command, flush_command}
-use Rattle.df_theory.proofs.Tails.{in_either}
-use Rattle.df_theory.proofs.Agreeing.{prepare_agrees}
-use Rattle.df_theory.proofs.Clear.{IsLow, clear_one, low_steps, low_update}
-use Rattle.df_theory.proofs.Flushes.{group_slot}
-use Rattle.df_theory.proofs.FlushLaws.{flush_law}
-use Rattle.df_theory.proofs.Keeps.{whole_update_law}
-use Rattle.df_theory.proofs.Mends.{AllMiss, headers_miss, headers_shown, missed, synced_after}
-use Rattle.df_theory.proofs.Runs.{after_append}
-use Rattle.df_theory.proofs.Standing.{keeps_standing, spares_one}
-use Rattle.df_theory.proofs.Tidy.{spare_append, spare_table, standing_update}
-use Rattle.df_theory.proofs.Writes.{boot_law, good_rests, quiet_synced}
+use Rattle.df_theory.{specs.{Units.{AnyUnit, CopyPlace, Header, HeaderPlace, HeaderUnit, Message, Place, PreparePlace, PrepareUnit, Units}, Tails.{In}, Shape.{Shape}, View.{Checkpoint, View, head}, Holds.{IsWhole}, Next.{appended, booted}, UnitLog.{Synced, UnitLog, add, now, settled}, Grown.{IsClear}, Rests.{IsQuiet}, Runs.{Leads, Syncs, after_steps}, MakingLaws.{all_puts}, MendLaws.{AllPutTable, Reaches}, CopyPuts.{update_steps}, WriterLaws.{AllPutPrepare, AreGroupSectors, Flushes, flush_steps}, WholeLaws.{AllSpare}, GroupLaws.{ClearLaw, FlushRingLaw, IsGroupTable, TidyBootLaw, TidyFlushLaw, boot_command, flush_command}}, proofs.{Tails.{in_either}, Agreeing.{prepare_agrees}, Clear.{IsLow, clear_one, low_steps, low_update}, Flushes.{group_slot}, FlushLaws.{flush_law}, Keeps.{whole_update_law}, Mends.{AllMiss, headers_miss, headers_shown, missed, synced_after}, Runs.{after_append}, Standing.{keeps_standing, spares_one}, Tidy.{spare_append, spare_table, standing_update}, Writes.{boot_law, good_rests, quiet_synced}}}
 
 pub clear_law : ClearLaw
 clear_law sh log v rests none = clear_one sh log v rests none

@@ -1,23 +1,6 @@
 -- A format ends in a tidy file.
 use Rattle.std.proofs.Common.{◌≡◌, ◌⊎◌, inl, inr, ℕ, ◌<◌, List, [], ◌∷◌, false, Option, Some, None, refl, sym, ◌∙◌, ap, subst, arith, true}
-use Rattle.df_theory.specs.Units.{AnyUnit, Content, CopyPlace, CopyUnit, Header, HeaderPlace, HeaderUnit, Message, Parts, Units, or_else, overlay}
-use Rattle.df_theory.specs.Tails.{In}
-use Rattle.df_theory.specs.Shape.{Shape}
-use Rattle.df_theory.specs.View.{View}
-use Rattle.df_theory.specs.Holds.{IsWhole}
-use Rattle.df_theory.specs.UnitLog.{PutsOne, UnitLog, now, wrote}
-use Rattle.df_theory.specs.First.{IsFirst}
-use Rattle.df_theory.specs.Rests.{IsQuiet}
-use Rattle.df_theory.specs.Runs.{Step, Syncs, after_steps}
-use Rattle.df_theory.specs.MakingLaws.{AllReserved, PutsReserved, all_puts, format_steps}
-use Rattle.df_theory.specs.MendLaws.{Reaches}
-use Rattle.df_theory.specs.TidyLaws.{TidyFormatLaw}
-use Rattle.df_theory.specs.CopyPuts.{PutsCopies, update_steps}
-use Rattle.df_theory.proofs.Clear.{clear_one}
-use Rattle.df_theory.proofs.Writes.{put_else}
-use Rattle.df_theory.proofs.Runs.{after_append}
-use Rattle.df_theory.proofs.Births.{format_law}
-use Rattle.df_theory.proofs.Keeps.{four, copy_here, copy_over}
+use Rattle.df_theory.{specs.{Units.{AnyUnit, Content, CopyPlace, CopyUnit, Header, HeaderPlace, HeaderUnit, Message, Parts, Units, or_else, overlay}, Tails.{In}, Shape.{Shape}, View.{View}, Holds.{IsWhole}, UnitLog.{PutsOne, UnitLog, now, wrote}, First.{IsFirst}, Rests.{IsQuiet}, Runs.{Step, Syncs, after_steps}, MakingLaws.{AllReserved, PutsReserved, all_puts, format_steps}, MendLaws.{Reaches}, TidyLaws.{TidyFormatLaw}, CopyPuts.{PutsCopies, update_steps}}, proofs.{Clear.{clear_one}, Writes.{put_else}, Runs.{after_append}, Births.{format_law}, Keeps.{four, copy_here, copy_over}}}
 
 -- a slot that some write reaches shows a header
 abbrev ShowsHeader : Units → ℕ → Type 0

@@ -1,16 +1,6 @@
 -- A run of commands from one tidy file to the next.
 use Rattle.std.proofs.Common.{◌⊎◌, inl, inr, List, [], ◌∷◌, sym, subst}
-use Rattle.df_theory.specs.Shape.{Shape}
-use Rattle.df_theory.specs.View.{View}
-use Rattle.df_theory.specs.UnitLog.{UnitLog}
-use Rattle.df_theory.specs.Chance.{EachLeft}
-use Rattle.df_theory.specs.Runs.{Command, LeadOn, after_steps, steps_of, view_after}
-use Rattle.df_theory.specs.WholeLaws.{IsStanding}
-use Rattle.df_theory.specs.TidyLaws.{IsGoodWhole, IsTidy, LeadTidily, StandingRunLaw, SurvivesWhole, TidyRunLaw}
-use Rattle.df_theory.proofs.Steps.{rests_safe, rests_holds}
-use Rattle.df_theory.proofs.Runs.{each_weaker, after_append}
-use Rattle.df_theory.proofs.Headline.{headline_law, survives}
-use Rattle.df_theory.proofs.Keeps.{stands_law}
+use Rattle.df_theory.{specs.{Shape.{Shape}, View.{View}, UnitLog.{UnitLog}, Chance.{EachLeft}, Runs.{Command, LeadOn, after_steps, steps_of, view_after}, WholeLaws.{IsStanding}, TidyLaws.{IsGoodWhole, IsTidy, LeadTidily, StandingRunLaw, SurvivesWhole, TidyRunLaw}}, proofs.{Steps.{rests_safe, rests_holds}, Runs.{each_weaker, after_append}, Headline.{headline_law, survives}, Keeps.{stands_law}}}
 
 -- what one command after the other leads to
 tidily_leads : (sh : Shape) (log : UnitLog) (v : View) (cs : List Command) → LeadTidily sh log v cs → LeadOn sh log v cs

@@ -1,14 +1,6 @@
 -- What a write that was cut short leaves, place by place.
 use Rattle.std.proofs.Common.{◌≡◌, ◌⊎◌, true, List, Some, None}
-use Rattle.df_theory.specs.Units.{AnyUnit, Place, Units}
-use Rattle.df_theory.specs.Shape.{Shape}
-use Rattle.df_theory.specs.View.{View}
-use Rattle.df_theory.specs.Shows.{Agrees}
-use Rattle.df_theory.specs.Holds.{Holds}
-use Rattle.df_theory.specs.UnitLog.{UnitLog, loose, now, settled}
-use Rattle.df_theory.specs.Chance.{InImages, InPool}
-use Rattle.df_theory.specs.Grown.{AllInHistory, GoesOn, InView}
-use Rattle.df_theory.specs.Rests.{IsCalm, MaySettle}
+use Rattle.df_theory.specs.{Units.{AnyUnit, Place, Units}, Shape.{Shape}, View.{View}, Shows.{Agrees}, Holds.{Holds}, UnitLog.{UnitLog, loose, now, settled}, Chance.{InImages, InPool}, Grown.{AllInHistory, GoesOn, InView}, Rests.{IsCalm, MaySettle}}
 
 -- each unit shown is of the pool
 abbrev pub IsPooled : UnitLog → Units → Type 0

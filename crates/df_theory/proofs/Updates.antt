@@ -1,27 +1,6 @@
 -- The four copies of a new superblock, one after another.
-use Rattle.std.proofs.Common.{◌≡◌, ◌⊎◌, inl, inr, ℕ, ◌+◌, ◌<◌, true, false, Option, Some, None, refl, sym, ◌∙◌, ap, subst, arith}
-use Rattle.std.proofs.lemmas.Bool.{cases_eq}
-use Rattle.df_theory.specs.Units.{AnyUnit, Block, BlockPlace, BlockUnit, Content, CopyPlace, CopyUnit, HeaderPlace, Message, Place, PreparePlace, ReplyPlace, Units, or_else, overlay}
-use Rattle.df_theory.specs.Shape.{Shape}
-use Rattle.df_theory.specs.Copies.{Agree, IsNextContent, rank_of}
-use Rattle.df_theory.specs.Trailer.{InChain}
-use Rattle.df_theory.specs.View.{View, boot_of, head}
-use Rattle.df_theory.specs.Shows.{Agrees, AgreesCopy, Needs}
-use Rattle.df_theory.specs.Holds.{Bears, Sound}
-use Rattle.df_theory.specs.Next.{Next}
-use Rattle.df_theory.specs.UnitLog.{PutsOne, UnitLog, loose, now, settled}
-use Rattle.df_theory.specs.Chance.{InImages}
-use Rattle.df_theory.specs.Grown.{InView, IsClear}
-use Rattle.df_theory.specs.Rests.{AgreeBeside, IsQuiet, RestsOn, MaySettle, Stepped}
-use Rattle.df_theory.specs.Tails.{In}
-use Rattle.df_theory.specs.Groups.{IsShort}
-use Rattle.df_theory.proofs.Grew.{Grew, agrees_grew, next_grew}
-use Rattle.df_theory.proofs.Choices.{chosen_above}
-use Rattle.df_theory.proofs.Torn.{Tear, Kept, Loose, Touched, Torn, TornView}
-use Rattle.df_theory.proofs.Images.{IsClearIn, IsOpen, bears_open, short_clear, short_same}
-use Rattle.df_theory.proofs.Puts.{block_agrees, block_in_view, overlay_torn}
-use Rattle.df_theory.proofs.Steps.{goes_same, step}
-use Rattle.df_theory.proofs.CopyVotes.{IsStage, agree_at, chosen_first, chosen_last, chosen_not_yet, chosen_second}
+use Rattle.std.proofs.{Common.{◌≡◌, ◌⊎◌, inl, inr, ℕ, ◌+◌, ◌<◌, true, false, Option, Some, None, refl, sym, ◌∙◌, ap, subst, arith}, lemmas.Bool.{cases_eq}}
+use Rattle.df_theory.{specs.{Units.{AnyUnit, Block, BlockPlace, BlockUnit, Content, CopyPlace, CopyUnit, HeaderPlace, Message, Place, PreparePlace, ReplyPlace, Units, or_else, overlay}, Shape.{Shape}, Copies.{Agree, IsNextContent, rank_of}, Trailer.{InChain}, View.{View, boot_of, head}, Shows.{Agrees, AgreesCopy, Needs}, Holds.{Bears, Sound}, Next.{Next}, UnitLog.{PutsOne, UnitLog, loose, now, settled}, Chance.{InImages}, Grown.{InView, IsClear}, Rests.{AgreeBeside, IsQuiet, RestsOn, MaySettle, Stepped}, Tails.{In}, Groups.{IsShort}}, proofs.{Grew.{Grew, agrees_grew, next_grew}, Choices.{chosen_above}, Torn.{Tear, Kept, Loose, Touched, Torn, TornView}, Images.{IsClearIn, IsOpen, bears_open, short_clear, short_same}, Puts.{block_agrees, block_in_view, overlay_torn}, Steps.{goes_same, step}, CopyVotes.{IsStage, agree_at, chosen_first, chosen_last, chosen_not_yet, chosen_second}}}
 
 -- ---- one copy, torn
 

@@ -1,35 +1,6 @@
 -- A file of version 1 whose copy 2 shows a content above the choice is upgraded, and stopped.
-use Rattle.std.proofs.Common.{◌≡◌, ◌⊎◌, inl, inr, ℕ, zero, suc, ◌<◌, ◌≤◌, ◌==◌, ◌||◌, ◌^◌, nat_lt, Bool, true, false, if◌then◌else◌, List, [], ◌∷◌, Option, Some, None, refl, sym, ◌∙◌, ap, subst, arith}
-use Rattle.std.specs.Prelude.{slice_index, ◌++◌}
-use Rattle.std.specs.List.{slice_get}
-use Rattle.df_theory.specs.Sessions.{sessions_after}
-use Rattle.std.proofs.lemmas.Bool.{cases_eq}
-use Rattle.std.proofs.lemmas.Bool.Decides.{nat_tests}
-use Rattle.df_theory.specs.Units.{AnyUnit, BlockPlace, BlockUnit, Content, CopyPlace, CopyUnit, Header, HeaderPlace, HeaderUnit, Message, Place, PreparePlace, PrepareUnit, ReplyPlace, ReplyUnit, Session, Units, is_some, or_else}
-use Rattle.df_theory.specs.Copies.{IsChosen, rank_of}
-use Rattle.df_theory.specs.View.{head}
-use Rattle.df_theory.specs.Holds.{Holds}
-use Rattle.df_theory.specs.Next.{MayBoot, booted, kept}
-use Rattle.df_theory.specs.UnitLog.{IsLeftBy, Synced, UnitLog, add, now, put_one, same_place, wrote}
-use Rattle.df_theory.specs.Chance.{Distinct, EachLeft, InPool, NoChance}
-use Rattle.df_theory.specs.Found.{AreOfPlaces, IsClean, IsFound, IsInRange, IsOfPlace}
-use Rattle.df_theory.specs.Upgrades.{HasBare, MayRaise, as_version, of_version, restarted_at}
-use Rattle.df_theory.specs.Sample.{UpgradeSampleLaw}
-use Rattle.df_theory.proofs.Choices.{chosen_above, same_copy}
-use Rattle.df_theory.proofs.CopyVotes.{agree_at}
-use Rattle.df_theory.proofs.PutOne.{put_one_law}
-use Rattle.df_theory.proofs.Keeps.{four}
-use Rattle.df_theory.proofs.AllOf.{All, now_all, pools_all}
-use Rattle.df_theory.proofs.Founds.{holds_found}
-use Rattle.df_theory.proofs.Ours.{IsOurs, content_with, distinct, header_with, log4_all, prepare_with}
-use Rattle.df_theory.proofs.SampleFiles.{copies_of, layout, reserved}
-use Rattle.df_theory.proofs.SampleSlots.{header_shown, slot, table}
-use Rattle.df_theory.proofs.SampleSteps.{may_raise}
-use Rattle.df_theory.proofs.SampleUnits.{put_all}
-use Rattle.df_theory.proofs.Samples.{block, content1, first, leads4, log4, prepare1, reply1, shape, trailer, view1, view2}
-use Rattle.df_theory.proofs.SampleEnds.{content2}
-use Rattle.df_theory.proofs.Masked.{masked, masked_holds, unmasked_found}
-use Rattle.df_theory.proofs.Upgrades.{raise_law}
+use Rattle.std.{proofs.{Common.{◌≡◌, ◌⊎◌, inl, inr, ℕ, zero, suc, ◌<◌, ◌≤◌, ◌==◌, ◌||◌, ◌^◌, nat_lt, Bool, true, false, if◌then◌else◌, List, [], ◌∷◌, Option, Some, None, refl, sym, ◌∙◌, ap, subst, arith}, lemmas.Bool.{cases_eq}, lemmas.Bool.Decides.{nat_tests}}, specs.{Prelude.{slice_index, ◌++◌}, List.{slice_get}}}
+use Rattle.df_theory.{specs.{Sessions.{sessions_after}, Units.{AnyUnit, BlockPlace, BlockUnit, Content, CopyPlace, CopyUnit, Header, HeaderPlace, HeaderUnit, Message, Place, PreparePlace, PrepareUnit, ReplyPlace, ReplyUnit, Session, Units, is_some, or_else}, Copies.{IsChosen, rank_of}, View.{head}, Holds.{Holds}, Next.{MayBoot, booted, kept}, UnitLog.{IsLeftBy, Synced, UnitLog, add, now, put_one, same_place, wrote}, Chance.{Distinct, EachLeft, InPool, NoChance}, Found.{AreOfPlaces, IsClean, IsFound, IsInRange, IsOfPlace}, Upgrades.{HasBare, MayRaise, as_version, of_version, restarted_at}, Sample.{UpgradeSampleLaw}}, proofs.{Choices.{chosen_above, same_copy}, CopyVotes.{agree_at}, PutOne.{put_one_law}, Keeps.{four}, AllOf.{All, now_all, pools_all}, Founds.{holds_found}, Ours.{IsOurs, content_with, distinct, header_with, log4_all, prepare_with}, SampleFiles.{copies_of, layout, reserved}, SampleSlots.{header_shown, slot, table}, SampleSteps.{may_raise}, SampleUnits.{put_all}, Samples.{block, content1, first, leads4, log4, prepare1, reply1, shape, trailer, view1, view2}, SampleEnds.{content2}, Masked.{masked, masked_holds, unmasked_found}, Upgrades.{raise_law}}}
 
 -- copy 2 shows a later content, which has no second vote
 abbrev image : Units

@@ -1,30 +1,6 @@
 -- From the barrier of an open to the end of its boot update.
-use Rattle.std.proofs.Common.{◌≡◌, ◌⊎◌, inl, inr, ℕ, ◌<◌, List, Some, refl, sym, ◌∙◌, ap, subst, arith}
-use Rattle.std.proofs.lemmas.Bool.{cases_eq, cases_lt}
-use Rattle.df_theory.specs.Units.{AnyUnit, Content, CopyPlace, CopyUnit, Header, HeaderPlace, HeaderUnit, Units}
-use Rattle.df_theory.specs.Shape.{Shape}
-use Rattle.df_theory.specs.Copies.{IsChosen, rank_of}
-use Rattle.df_theory.specs.View.{View}
-use Rattle.df_theory.specs.Shows.{Agrees}
-use Rattle.df_theory.specs.Holds.{Holds, IsWhole}
-use Rattle.df_theory.specs.Next.{booted}
-use Rattle.df_theory.specs.UnitLog.{IsLeftBy, UnitLog, now}
-use Rattle.df_theory.specs.Chance.{EachLeft, NoChance}
-use Rattle.df_theory.specs.Rests.{IsDry}
-use Rattle.df_theory.specs.Runs.{AtEach, after_steps}
-use Rattle.df_theory.specs.CopyPuts.{PutsCopies, update_steps}
-use Rattle.df_theory.specs.MendLaws.{copy_steps, header_steps, mend_steps}
-use Rattle.df_theory.specs.Found.{IsClean, IsFound}
-use Rattle.df_theory.specs.Upgrades.{BeginsRaised, EndsRaised, HasBare, IsCleanBeyond, IsRaised, MayRaise, OpenLaw, RaiseAnewLaw, RaiseEndsLaw, RaiseLaw, UpgradeLaw, of_version, raise_steps, restarted_at}
-use Rattle.df_theory.proofs.Choices.{same_copy}
-use Rattle.df_theory.proofs.CopyVotes.{IsStage, chosen_first, chosen_last, chosen_not_yet, chosen_second}
-use Rattle.df_theory.proofs.Runs.{after_append, each_append, each_weaker}
-use Rattle.df_theory.proofs.Mends.{copies_miss, copies_shown, header_steps_miss, missed, steps_shown, AllMiss}
-use Rattle.df_theory.proofs.Standing.{miss}
-use Rattle.df_theory.proofs.Writes.{anew_law}
-use Rattle.df_theory.proofs.Masked.{unmasked_holds}
-use Rattle.df_theory.proofs.Raised.{IsAfter, chosen_restored, found_new, found_old, held, higher, later_agrees, raised_new}
-use Rattle.df_theory.proofs.RaiseLogs.{IsChoice, IsEither, IsRaising, IsRestoring, dry_copies, dry_headers, each_raising, moment_begun, moment_left, moment_weaker, raising_stage, restoring_copies, restoring_headers, shows_or_not}
+use Rattle.std.proofs.{Common.{◌≡◌, ◌⊎◌, inl, inr, ℕ, ◌<◌, List, Some, refl, sym, ◌∙◌, ap, subst, arith}, lemmas.Bool.{cases_eq, cases_lt}}
+use Rattle.df_theory.{specs.{Units.{AnyUnit, Content, CopyPlace, CopyUnit, Header, HeaderPlace, HeaderUnit, Units}, Shape.{Shape}, Copies.{IsChosen, rank_of}, View.{View}, Shows.{Agrees}, Holds.{Holds, IsWhole}, Next.{booted}, UnitLog.{IsLeftBy, UnitLog, now}, Chance.{EachLeft, NoChance}, Rests.{IsDry}, Runs.{AtEach, after_steps}, CopyPuts.{PutsCopies, update_steps}, MendLaws.{copy_steps, header_steps, mend_steps}, Found.{IsClean, IsFound}, Upgrades.{BeginsRaised, EndsRaised, HasBare, IsCleanBeyond, IsRaised, MayRaise, OpenLaw, RaiseAnewLaw, RaiseEndsLaw, RaiseLaw, UpgradeLaw, of_version, raise_steps, restarted_at}}, proofs.{Choices.{same_copy}, CopyVotes.{IsStage, chosen_first, chosen_last, chosen_not_yet, chosen_second}, Runs.{after_append, each_append, each_weaker}, Mends.{copies_miss, copies_shown, header_steps_miss, missed, steps_shown, AllMiss}, Standing.{miss}, Writes.{anew_law}, Masked.{unmasked_holds}, Raised.{IsAfter, chosen_restored, found_new, found_old, held, higher, later_agrees, raised_new}, RaiseLogs.{IsChoice, IsEither, IsRaising, IsRestoring, dry_copies, dry_headers, each_raising, moment_begun, moment_left, moment_weaker, raising_stage, restoring_copies, restoring_headers, shows_or_not}}}
 
 module _ (sh : Shape) (ver : ℕ) (image : Units) (v : View) (table : ℕ → Header) (headers : List Units) (copies : List (ℕ × Units)) (d : Content) (may : MayRaise sh ver image v table headers copies d) where
   abbrev c : Content

@@ -1,17 +1,6 @@
 -- Whole groups are found.
-use Rattle.std.proofs.Common.{◌≡◌, inl, inr, ◌+◌, ◌<◌, ◌≤◌, ◌%◌, List, Some, sym, ◌∙◌, arith}
-use Rattle.std.proofs.lemmas.Bool.{cases_lt}
-use Rattle.df_theory.specs.Units.{AnyUnit, Message, Place, PreparePlace, PrepareUnit, Units}
-use Rattle.df_theory.specs.Tails.{In}
-use Rattle.df_theory.specs.Shape.{Shape}
-use Rattle.df_theory.specs.View.{View}
-use Rattle.df_theory.specs.Chance.{InImages}
-use Rattle.df_theory.specs.Found.{IsFound}
-use Rattle.df_theory.proofs.Past.{HasGap}
-use Rattle.df_theory.proofs.Grouped.{group_from, same_group}
-use Rattle.df_theory.proofs.Founds.{chain_at}
-use Rattle.df_theory.proofs.Agreeing.{take_boot}
-use Rattle.df_theory.proofs.Tails.{chain_last, chain_ops}
+use Rattle.std.proofs.{Common.{◌≡◌, inl, inr, ◌+◌, ◌<◌, ◌≤◌, ◌%◌, List, Some, sym, ◌∙◌, arith}, lemmas.Bool.{cases_lt}}
+use Rattle.df_theory.{specs.{Units.{AnyUnit, Message, Place, PreparePlace, PrepareUnit, Units}, Tails.{In}, Shape.{Shape}, View.{View}, Chance.{InImages}, Found.{IsFound}}, proofs.{Past.{HasGap}, Grouped.{group_from, same_group}, Founds.{chain_at}, Agreeing.{take_boot}, Tails.{chain_last, chain_ops}}}
 
 module _ (sh : Shape) (images : List Units) (shown : Units) (of : (place : Place) (x : AnyUnit) → shown place ≡ Some x → InImages images place x) (w : View) (f : IsFound sh shown w) where
   settled_at : (p : Message) → In p w.tail → InImages images (PreparePlace (p.header.op % sh.layout.slots)) (PrepareUnit p)

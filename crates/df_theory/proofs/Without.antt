@@ -1,8 +1,6 @@
 -- An image with one place hurt.
 use Rattle.std.proofs.Common.{◌≡◌, Bool, true, false, if◌then◌else◌, Some, None, refl}
-use Rattle.df_theory.specs.Units.{AnyUnit, Place, Units}
-use Rattle.df_theory.specs.UnitLog.{same_place}
-use Rattle.df_theory.proofs.PutOne.{same_is}
+use Rattle.df_theory.{specs.{Units.{AnyUnit, Place, Units}, UnitLog.{same_place}}, proofs.PutOne.{same_is}}
 
 -- nothing is shown there
 abbrev pub without : Place → Units → Units

@@ -1,32 +1,6 @@
 -- The laws of the writers.
 use Rattle.std.proofs.Common.{◌≡◌, ◌⊎◌, inl, inr, ℕ, ◌+◌, ◌-◌, ◌<◌, ◌%◌, ◌≤◌, List, [], ◌∷◌, ◌++◌, true, false, Option, Some, None, refl, sym, ◌∙◌, ap, subst, arith, length-drop}
-use Rattle.df_theory.specs.CopyPuts.{PutsCopies}
-use Rattle.df_theory.specs.Units.{AnyUnit, Block, BlockPlace, BlockUnit, Content, CopyPlace, CopyUnit, Header, HeaderPlace, HeaderUnit, Message, Place, PreparePlace, PrepareUnit, Units, or_else, overlay, IsReserved}
-use Rattle.df_theory.specs.Tails.{In}
-use Rattle.df_theory.specs.Shape.{Shape}
-use Rattle.df_theory.specs.Copies.{Agree}
-use Rattle.df_theory.specs.Trailer.{InChain}
-use Rattle.df_theory.specs.View.{View, boot_of, head}
-use Rattle.df_theory.specs.Holds.{Holds}
-use Rattle.df_theory.specs.Next.{Boot, Finish, appended, booted, checkpointed, replied}
-use Rattle.df_theory.specs.UnitLog.{PutsOne, Stopped, Synced, UnitLog, add, now, settled, wrote}
-use Rattle.df_theory.specs.First.{AreMade}
-use Rattle.df_theory.specs.Grown.{IsClear}
-use Rattle.df_theory.specs.Rests.{IsCalm, IsCalmPut, IsDry, IsGoodLog, IsQuiet, RestsOn, MaySettle, Stepped}
-use Rattle.df_theory.specs.WriterLaws.{AnewLaw, AppendLaw, BlockLaw, BootLaw, CalmLaw, CopyLaw, HeaderLaw, ReplyLaw, RestLaw, StopLaw, SyncLaw, UpdateLaw, Updates, WriteLaw}
-use Rattle.df_theory.proofs.Tails.{chain_ops, in_back, in_dropped}
-use Rattle.df_theory.proofs.Choices.{boot_higher, boot_next, finish_higher, finish_next}
-use Rattle.df_theory.proofs.OneFound.{one_view}
-use Rattle.df_theory.proofs.Steps.{grows_holds, old_agrees, synced_rests, rests_safe, rests_holds}
-use Rattle.df_theory.proofs.Puts.{calm_step, calm_stays, one_step}
-use Rattle.df_theory.proofs.Flushes.{prepare_step}
-use Rattle.df_theory.proofs.Replies.{reply_step}
-use Rattle.df_theory.proofs.Sounds.{reply_sound, checkpoint_sound}
-use Rattle.df_theory.proofs.Images.{IsClearIn}
-use Rattle.df_theory.proofs.Agreeing.{prepare_agrees}
-use Rattle.df_theory.proofs.BootSounds.{boot_sound}
-use Rattle.df_theory.proofs.Updates.{IsRaise, update_first, update_second, update_later, stage_next, mend_step}
-use Rattle.df_theory.proofs.CopyVotes.{IsStage}
+use Rattle.df_theory.{specs.{CopyPuts.{PutsCopies}, Units.{AnyUnit, Block, BlockPlace, BlockUnit, Content, CopyPlace, CopyUnit, Header, HeaderPlace, HeaderUnit, Message, Place, PreparePlace, PrepareUnit, Units, or_else, overlay, IsReserved}, Tails.{In}, Shape.{Shape}, Copies.{Agree}, Trailer.{InChain}, View.{View, boot_of, head}, Holds.{Holds}, Next.{Boot, Finish, appended, booted, checkpointed, replied}, UnitLog.{PutsOne, Stopped, Synced, UnitLog, add, now, settled, wrote}, First.{AreMade}, Grown.{IsClear}, Rests.{IsCalm, IsCalmPut, IsDry, IsGoodLog, IsQuiet, RestsOn, MaySettle, Stepped}, WriterLaws.{AnewLaw, AppendLaw, BlockLaw, BootLaw, CalmLaw, CopyLaw, HeaderLaw, ReplyLaw, RestLaw, StopLaw, SyncLaw, UpdateLaw, Updates, WriteLaw}}, proofs.{Tails.{chain_ops, in_back, in_dropped}, Choices.{boot_higher, boot_next, finish_higher, finish_next}, OneFound.{one_view}, Steps.{grows_holds, old_agrees, synced_rests, rests_safe, rests_holds}, Puts.{calm_step, calm_stays, one_step}, Flushes.{prepare_step}, Replies.{reply_step}, Sounds.{reply_sound, checkpoint_sound}, Images.{IsClearIn}, Agreeing.{prepare_agrees}, BootSounds.{boot_sound}, Updates.{IsRaise, update_first, update_second, update_later, stage_next, mend_step}, CopyVotes.{IsStage}}}
 
 pub rests_law : RestLaw
 rests_law sh log v rests = (rests_safe sh log v rests, rests_holds sh log v rests)

@@ -3,26 +3,12 @@ use Rattle.std.proofs.Common.{◌≡◌, ℕ, List, Option, Some, None, inl, inr
 use Rattle.df_base.specs.Causes.{IsBlamed, Rose}
 use Rattle.df_disk.specs.Told.{Told}
 use Rattle.df_inspect.specs.Prints.{Prints}
-use Rattle.df_layout.specs.declared.damage.Class.{Class}
-use Rattle.df_layout.specs.declared.places.Place.{Place}
-use Rattle.df_model.specs.Commands.{Answer, Command}
-use Rattle.df_model.specs.declared.commands.Answer.{Answer as Called}
-use Rattle.df_session.specs.Below.{State as Replica}
-use Rattle.df_script_model.specs.Script.{answer_text}
-use Rattle.df_script_model.specs.Texts.{damaged_text}
-use Rattle.df_session.specs.Endings.{IsDamagedStep, MakesTo, is_disk_fault}
-use Rattle.df_session.specs.Links.{Makes}
-use Rattle.df_session.specs.declared.hearing.Fault.{Fault}
-use Rattle.df_session.specs.declared.hearing.Fault.TheVariants.{Disk, Damaged}
-use Rattle.df_top.specs.Outside.{PrintsLine}
-use Rattle.df_top.specs.Step.{AnswersCommand}
-use Rattle.df_top.specs.Session.{IsDamagedLine}
-use Rattle.df_top.specs.Turning.{BlamesIfEnds, IsPrinted, TellsAnswer, printed_turn}
-use Rattle.df_top.specs.Outside.{Turn}
+use Rattle.df_layout.specs.{declared.damage.Class.{Class}, declared.places.Place.{Place}}
+use Rattle.df_model.specs.{Commands.{Answer, Command}, declared.commands.Answer.{Answer as Called}}
+use Rattle.df_session.specs.{Below.{State as Replica}, Endings.{IsDamagedStep, MakesTo, is_disk_fault}, Links.{Makes}, declared.hearing.Fault.{Fault}, declared.hearing.Fault.TheVariants.{Disk, Damaged}}
+use Rattle.df_script_model.specs.{Script.{answer_text}, Texts.{damaged_text}}
+use Rattle.df_top.{specs.{Outside.{PrintsLine, Turn}, Step.{AnswersCommand}, Session.{IsDamagedLine}, Turning.{BlamesIfEnds, IsPrinted, TellsAnswer, printed_turn}, declared.status.Status.{Status}, declared.status.Status.TheVariants.{Refused, DiskFault, WriteFault}}, proofs.SameWords.{same_words}}
 use Rattle.df_program.specs.declared.turn.Turn.TheVariants.{GoesOn, Ends}
-use Rattle.df_top.specs.declared.status.Status.{Status}
-use Rattle.df_top.specs.declared.status.Status.TheVariants.{Refused, DiskFault, WriteFault}
-use Rattle.df_top.proofs.SameWords.{same_words}
 
 -- ---- what is printed
 

@@ -3,11 +3,8 @@ use Rattle.std.proofs.Common.{◌≡◌, ◌<◌, inl, inr, ℕ, true, false, So
 use Rattle.df_disk.specs.Told.{Told}
 use Rattle.df_model.specs.declared.errors.FormatError.{FormatError}
 use Rattle.df_model.specs.declared.errors.FormatError.TheVariants as formats
-use Rattle.df_session.specs.Below.{IsUnformatted}
-use Rattle.df_session.specs.Formatting.{IsFirstWritten}
-use Rattle.df_top.specs.Completeness.{BlankIsFormatted}
-use Rattle.df_top.specs.Formats.{RefusesFormat}
-use Rattle.df_top.specs.declared.status.Status.TheVariants.{Done, Found, Words, Script, Refused, DiskFault, ReadFault, WriteFault, Memory}
+use Rattle.df_session.specs.{Below.{IsUnformatted}, Formatting.{IsFirstWritten}}
+use Rattle.df_top.specs.{Completeness.{BlankIsFormatted}, Formats.{RefusesFormat}, declared.status.Status.TheVariants.{Done, Found, Words, Script, Refused, DiskFault, ReadFault, WriteFault, Memory}}
 
 none_refused : (cluster : ℕ) (t : Told) (error : FormatError) → 0 < cluster → IsUnformatted t.shown → RefusesFormat cluster (Some t) error → ⊥
 none_refused cluster t formats.ClusterZero named blank zero = omega (arith, named, zero)

@@ -2,26 +2,16 @@
 use Rattle.std.proofs.Common.{◌≡◌, ℕ, List, Option, Some, None, sym, subst, Result, Ok, Err}
 use Rattle.df_base.specs.Causes.{IsBlamed}
 use Rattle.df_disk.specs.Told.{Told}
-use Rattle.df_format.specs.declared.header.Header.{Header}
-use Rattle.df_format.specs.Message.{Message as Shown}
-use Rattle.df_inspect.specs.Messages.{shown_block}
-use Rattle.df_inspect.specs.Prints.{Prints}
+use Rattle.df_format.specs.{declared.header.Header.{Header}, Message.{Message as Shown}}
+use Rattle.df_inspect.specs.{Messages.{shown_block}, Prints.{Prints}}
 use Rattle.df_theory.specs.Units.{Block}
 use Rattle.df_units.specs.Meaning.{block_of}
-use Rattle.df_model.specs.Commands.{ReadBlock, ToReadBlock}
+use Rattle.df_model.specs.{Commands.{ReadBlock, ToReadBlock}, declared.reading.ReadError.{ReadError}, Faults.{is_read_fault}}
 use Rattle.df_model.specs.declared.commands.Answer.TheVariants as answers
-use Rattle.df_model.specs.declared.reading.ReadError.{ReadError}
 use Rattle.df_model.specs.declared.reading.ReadError.TheVariants as read
-use Rattle.df_model.specs.Faults.{is_read_fault}
-use Rattle.df_session.specs.Below.{State as Replica}
-use Rattle.df_session.specs.Answering.{ServesBlockRead, answer_of}
-use Rattle.df_session.specs.BlockReads.{what_block}
+use Rattle.df_session.{specs.{Below.{State as Replica}, Answering.{ServesBlockRead, answer_of}, BlockReads.{what_block}, Endings.{heard}}, proofs.Laws.{reads_block}}
 use Rattle.df_script_model.specs.Texts.{block_text}
-use Rattle.df_session.proofs.Laws.{reads_block}
-use Rattle.df_session.specs.Endings.{heard}
-use Rattle.df_top.specs.Turning.{IsPrinted, TellsAnswer, printed_turn}
-use Rattle.df_top.specs.Outside.{Turn}
-use Rattle.df_top.proofs.Answered.{Comes, comes_answered, comes_failed, prints_turn, told_fault}
+use Rattle.df_top.{specs.{Turning.{IsPrinted, TellsAnswer, printed_turn}, Outside.{Turn}}, proofs.Answered.{Comes, comes_answered, comes_failed, prints_turn, told_fault}}
 
 -- what was printed of a block's header and body is the block's text
 pub shown_turn : {T E : Type 0} (address : ℕ) (u : Shown) (h : Header) (b : List ℕ) (written took : Option (List ℕ)) (r : Result T E) (turn : Turn) → h ≡ u.header → b ≡ u.body → turn ≡ printed_turn r → Prints (shown_block address h b) written took r

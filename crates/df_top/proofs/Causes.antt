@@ -1,19 +1,12 @@
 -- The causes of what is printed, of a file that isn't opened, and of a session.
 use Rattle.std.proofs.Common.{◌≡◌, ℕ, Bool, List, [], ◌∷◌, Option, Some, None, refl, subst, Err}
 use Rattle.df_base.specs.Causes.{IsBlamed, Rose}
-use Rattle.df_model.specs.declared.errors.OpenError.{OpenError}
-use Rattle.df_model.specs.Faults.{is_open_fault}
+use Rattle.df_model.specs.{declared.errors.OpenError.{OpenError}, Faults.{is_open_fault}}
 use Rattle.df_program.proofs.Laws.{AreApart, fault_causes, open_causes, refusal_ends, text_causes, text_ends}
-use Rattle.df_top.specs.Outside.{Blames, HasCauses, Outside, PrintsLine, counts}
-use Rattle.df_top.specs.Refusing.{PrintsOpenError}
+use Rattle.df_top.specs.{Outside.{Blames, HasCauses, Outside, PrintsLine, counts}, Refusing.{PrintsOpenError}, Reporting.{status_of}, Lines.{Turned, act_of}, Session.{Ended, EndsWith, SessionState}, declared.status.Status.{Status}, declared.status.Status.TheVariants.{Done, Refused, DiskFault, Memory, ReadFault, Words, WriteFault}}
 use Rattle.df_layout.specs.declared.damage.Mend.{Mend}
-use Rattle.df_top.specs.Reporting.{status_of}
-use Rattle.df_top.specs.Lines.{Turned, act_of}
-use Rattle.df_top.specs.Session.{Ended, EndsWith, SessionState}
 use Rattle.df_pace.specs.declared.pace.Pace.{Pace}
 use Rattle.df_session.specs.Session.{Act}
-use Rattle.df_top.specs.declared.status.Status.{Status}
-use Rattle.df_top.specs.declared.status.Status.TheVariants.{Done, Refused, DiskFault, Memory, ReadFault, Words, WriteFault}
 
 -- no fault of a run is another one
 apart : AreApart DiskFault ReadFault WriteFault

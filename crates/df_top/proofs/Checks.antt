@@ -3,14 +3,7 @@ use Rattle.std.proofs.Common.{◌≡◌, ℕ, ◌+◌, List, [], ◌∷◌, leng
 use Rattle.df_base.specs.Image.{Image}
 use Rattle.df_disk.specs.Told.{Told}
 use Rattle.df_layout.specs.declared.damage.Finding.{Finding}
-use Rattle.df_model.specs.Blocks.{reference_in}
-use Rattle.df_model.specs.Memory.{referenced_of}
-use Rattle.df_model.specs.Reading.{with_finding}
-use Rattle.df_model.specs.declared.answers.Scrubbed.{Scrubbed}
-use Rattle.df_model.specs.declared.answers.Scrubbed.TheVariants.{Checked, TourEnd}
-use Rattle.df_model.specs.declared.answers.Verdict.{Verdict}
-use Rattle.df_model.specs.declared.answers.Verdict.TheVariants.{Sound, Failing}
-use Rattle.df_model.proofs.Laws.{Rise, above, entries_rise, is_next}
+use Rattle.df_model.{specs.{Blocks.{reference_in}, Memory.{referenced_of}, Reading.{with_finding}, declared.answers.Scrubbed.{Scrubbed}, declared.answers.Scrubbed.TheVariants.{Checked, TourEnd}, declared.answers.Verdict.{Verdict}, declared.answers.Verdict.TheVariants.{Sound, Failing}}, proofs.Laws.{Rise, above, entries_rise, is_next}}
 use Rattle.df_session.specs.Below.{IsStep, IsVerdict, ScrubState, after_scrub_step, left_in, with_check, failing_among, State as Replica, grid_with, memory}
 
 -- ---- the referenced blocks stand in order of address

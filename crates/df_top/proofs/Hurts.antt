@@ -1,34 +1,13 @@
 -- What a word does with a file that may be hurt is of damage.
-use Rattle.std.proofs.Common.{◌≡◌, ◌<◌, ◌^◌, inl, inr, List, [], ◌∷◌, Option, Some, None, sym, ◌∙◌, subst}
-use Rattle.std.specs.Prelude.{Ok, Err}
+use Rattle.std.{proofs.Common.{◌≡◌, ◌<◌, ◌^◌, inl, inr, List, [], ◌∷◌, Option, Some, None, sym, ◌∙◌, subst}, specs.Prelude.{Ok, Err}}
 use Rattle.df_base.specs.Log.{Sync}
-use Rattle.df_disk.specs.Told.{Told, did}
-use Rattle.df_disk.proofs.Laws.{goes_told}
+use Rattle.df_disk.{specs.Told.{Told, did}, proofs.Laws.{goes_told}}
 use Rattle.df_layout.specs.declared.layout.Layout.{Layout}
-use Rattle.df_model.specs.Commands.{Answer}
-use Rattle.df_model.specs.Sense.{IsWork}
-use Rattle.df_model.specs.Work.{Work}
-use Rattle.df_session.specs.Begun.{begun_work}
-use Rattle.df_session.specs.Below.{FindsHad, IsNeedless, RefusesHurt, MayBeHurt, OpensAsLeft, DataFile, State as Replica, shape, spelling}
-use Rattle.df_session.specs.Lending.{GivesOwn}
-use Rattle.df_session.specs.Serving.{Firm, Keeps, next}
-use Rattle.df_session.specs.Session.{Act, Exchange}
-use Rattle.df_session.specs.WrittenFor.{IsWrittenFor, IsWrittenIn}
-use Rattle.df_session.proofs.Laws.{call_is_own, call_is_the_one, file_there, opened_is_written_for, answer_is_of_hurt, headers_may_be_hurt, probe_is_of_hurt, two_copies_are_enough}
-use Rattle.df_theory.specs.Found.{IsFound}
-use Rattle.df_theory.specs.View.{View, boot_of}
+use Rattle.df_model.specs.{Commands.{Answer}, Sense.{IsWork}, Work.{Work}}
+use Rattle.df_session.{specs.{Begun.{begun_work}, Below.{FindsHad, IsNeedless, RefusesHurt, MayBeHurt, OpensAsLeft, DataFile, State as Replica, shape, spelling}, Lending.{GivesOwn}, Serving.{Firm, Keeps, next}, Session.{Act, Exchange}, WrittenFor.{IsWrittenFor, IsWrittenIn}, Found.{FoundFile}, Owning.{AllGiveOwn, GiveOwn}, Links.{AreCalls, Calls, EndsCalls, More}}, proofs.Laws.{call_is_own, call_is_the_one, file_there, opened_is_written_for, answer_is_of_hurt, headers_may_be_hurt, probe_is_of_hurt, two_copies_are_enough}}
+use Rattle.df_theory.specs.{Found.{IsFound}, View.{View, boot_of}}
 use Rattle.df_units.specs.Bytes.{unit_at}
-use Rattle.df_session.specs.Found.{FoundFile}
-use Rattle.df_session.specs.Owning.{AllGiveOwn, GiveOwn}
-use Rattle.df_top.specs.Acknowledging.{run_calls, script_calls}
-use Rattle.df_top.specs.Hurting.{ComesOfHurt, RefusesCopies, RunsOverHurt, ServesHurt, ServesOverHurt, WordReadsOwn}
-use Rattle.df_top.specs.Opening.{RefusesFile}
-use Rattle.df_top.specs.Outside.{Outside}
-use Rattle.df_top.specs.Run.{ComesTo, Does, RefusesSuperblock, Runs, ServesIn, ServesOwn, Works}
-use Rattle.df_session.specs.Links.{AreCalls, Calls, EndsCalls, More}
-use Rattle.df_top.specs.declared.mode.Mode.{Mode}
-use Rattle.df_top.specs.declared.mode.Mode.TheVariants.{Format, Run, Recover, Inspect, Scrub, Workload, Upgrade, Paced}
-use Rattle.df_top.specs.declared.status.Status.{Status}
+use Rattle.df_top.specs.{Acknowledging.{run_calls, script_calls}, Hurting.{ComesOfHurt, RefusesCopies, RunsOverHurt, ServesHurt, ServesOverHurt, WordReadsOwn}, Opening.{RefusesFile}, Outside.{Outside}, Run.{ComesTo, Does, RefusesSuperblock, Runs, ServesIn, ServesOwn, Works}, declared.mode.Mode.{Mode}, declared.mode.Mode.TheVariants.{Format, Run, Recover, Inspect, Scrub, Workload, Upgrade, Paced}, declared.status.Status.{Status}}
 
 -- ---- reads
 

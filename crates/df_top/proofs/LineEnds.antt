@@ -1,28 +1,12 @@
 -- What one line does to a session: it goes on with the call that the line asks for, or ends.
 use Rattle.std.proofs.Common.{◌≡◌, ◌⊎◌, ◌<◌, inl, inr, true, ℕ, ◌+◌, List, ◌++◌, length, Option, Some, ◌∙◌, ap, subst, sym}
-use Rattle.df_lines.specs.declared.line.Line.{Line}
-use Rattle.df_lines.specs.Grammar.{Said, SaysLine, said_with}
-use Rattle.df_lines.specs.Reads.{RefusesNext, TakesLine}
-use Rattle.df_lines.specs.Room.{HasTextToCome, ReaderParts}
-use Rattle.df_lines.specs.Script.{IsRefused}
-use Rattle.df_lines.specs.Text.{line_of, unread}
+use Rattle.df_lines.specs.{declared.line.Line.{Line}, Grammar.{Said, SaysLine, said_with}, Reads.{RefusesNext, TakesLine}, Room.{HasTextToCome, ReaderParts}, Script.{IsRefused}, Text.{line_of, unread}}
 use Rattle.df_disk.specs.Told.{Told}
 use Rattle.df_session.specs.Below.{State as Replica}
 use Rattle.df_model.specs.Commands.{Command}
-use Rattle.df_pace.specs.Beats.{beat_after_line}
-use Rattle.df_pace.specs.declared.pace.Pace.{Pace}
-use Rattle.df_top.specs.Lines.{ByLine, command_of_line}
-use Rattle.df_top.specs.Outside.{Outside}
-use Rattle.df_top.specs.Pacing.{IsIdleBeat, IsNextCommand, runs}
-use Rattle.df_top.specs.Session.{EndedIsEnd, HoldsLine, SessionState, state}
-use Rattle.df_top.specs.Step.{AnswersCommand, EndsIn, RefusesLine, TakesNextLine, Turns}
-use Rattle.df_top.specs.Turning.{OnGoing}
-use Rattle.df_top.specs.declared.session.Session.{Session}
-use Rattle.df_top.specs.Outside.{Turn}
+use Rattle.df_pace.specs.{Beats.{beat_after_line}, declared.pace.Pace.{Pace}}
+use Rattle.df_top.{specs.{Lines.{ByLine, command_of_line}, Outside.{Outside, Turn}, Pacing.{IsIdleBeat, IsNextCommand, runs}, Session.{EndedIsEnd, HoldsLine, SessionState, state}, Step.{AnswersCommand, EndsIn, RefusesLine, TakesNextLine, Turns}, Turning.{OnGoing}, declared.session.Session.{Session}, declared.status.Status.{Status}, declared.status.Status.TheVariants.{Done, Found, Words, Script, Refused, DiskFault, ReadFault, WriteFault, Memory}}, proofs.Progress.{ends_answer, ends_damaged, ends_damaged_fault, ends_disk, ends_script, ends_script_fault, goes_on}}
 use Rattle.df_program.specs.declared.turn.Turn.TheVariants.{GoesOn, Ends}
-use Rattle.df_top.specs.declared.status.Status.{Status}
-use Rattle.df_top.specs.declared.status.Status.TheVariants.{Done, Found, Words, Script, Refused, DiskFault, ReadFault, WriteFault, Memory}
-use Rattle.df_top.proofs.Progress.{ends_answer, ends_damaged, ends_damaged_fault, ends_disk, ends_script, ends_script_fault, goes_on}
 
 -- the line that refuses the next line ends the session
 pub ends_refused : (pace : Pace) (bound : ℕ) (old new : SessionState) → new.outside.told ≡ old.outside.told → new.replica ≡ old.replica → IsIdleBeat old.beat old.replica → ((rest : List ℕ) → old.text ≡ Some rest → IsRefused bound old.budget rest)

@@ -1,19 +1,12 @@
 -- A file that is made on an honest disk.
 use Rattle.std.proofs.Common.{◌≡◌, ℕ, List, Option, Some, [], refl, subst, Result, Ok, Err, OnOk}
 use Rattle.df_base.specs.Log.{Event}
-use Rattle.df_disk.specs.Told.{IsHonest, Told}
-use Rattle.df_disk.proofs.Laws.{goes_told}
+use Rattle.df_disk.{specs.Told.{IsHonest, Told}, proofs.Laws.{goes_told}}
 use Rattle.df_layout.specs.declared.layout.Layout.{Layout}
 use Rattle.df_model.specs.declared.errors.FormatError.{FormatError}
 use Rattle.df_model.specs.declared.errors.FormatError.TheVariants as formats
-use Rattle.df_session.specs.Formatting.{AddsFormat}
-use Rattle.df_session.specs.Making.{MakingLeaves, MayMakeOn, making_events}
-use Rattle.df_session.specs.Opened.{ToldBy}
-use Rattle.df_top.specs.Formats.{MakesOn}
-use Rattle.df_top.specs.Refusing.{PrintsFormatError}
-use Rattle.df_top.specs.declared.status.Status.{Status}
-use Rattle.df_top.specs.declared.status.Status.TheVariants.{Done, Refused, WriteFault}
-use Rattle.df_session.proofs.Laws.{part_told}
+use Rattle.df_session.{specs.{Formatting.{AddsFormat}, Making.{MakingLeaves, MayMakeOn, making_events}, Opened.{ToldBy}}, proofs.Laws.{part_told}}
+use Rattle.df_top.specs.{Formats.{MakesOn}, Refusing.{PrintsFormatError}, declared.status.Status.{Status}, declared.status.Status.TheVariants.{Done, Refused, WriteFault}}
 use Rattle.df_program.proofs.Laws.{text_ends}
 
 format_told : {T : Type 0} (es : List Event) (old new : Option Told) (r : Result T FormatError) → AddsFormat es old new r → ToldBy old new

@@ -1,14 +1,10 @@
 -- Words ask for one thing at most.
-use Rattle.std.proofs.Common.{◌≡◌, ℕ, ◌^◌, ◌<◌, ◌≤◌, List, [], ◌∷◌, length, get_or, refl, sym, ap, subst, ◌∙◌, arith}
-use Rattle.std.specs.Prelude.{decimal, codes}
+use Rattle.std.{proofs.Common.{◌≡◌, ℕ, ◌^◌, ◌<◌, ◌≤◌, List, [], ◌∷◌, length, get_or, refl, sym, ap, subst, ◌∙◌, arith}, specs.Prelude.{decimal, codes}}
 use Rattle.df_layout.specs.declared.layout.Layout.{Layout}
 use Rattle.df_lines.proofs.Laws.{one_number}
 use Rattle.df_pace.specs.declared.pace.Pace.{Pace}
-use Rattle.df_top.specs.declared.mode.Mode.{Mode}
-use Rattle.df_top.specs.declared.mode.Mode.TheVariants.{Format, Run, Recover, Inspect, Scrub, Workload, Upgrade, Paced}
-use Rattle.df_program.specs.Names.{NamesLayout}
-use Rattle.df_program.proofs.Laws.{one_layout}
-use Rattle.df_top.specs.Mode.{Means, OneMeaning, SpellsFormat, SpellsWorkload}
+use Rattle.df_top.specs.{declared.mode.Mode.{Mode}, declared.mode.Mode.TheVariants.{Format, Run, Recover, Inspect, Scrub, Workload, Upgrade, Paced}, Mode.{Means, OneMeaning, SpellsFormat, SpellsWorkload}}
+use Rattle.df_program.{specs.Names.{NamesLayout}, proofs.Laws.{one_layout}}
 
 -- three words are equal one by one
 three : (f a b g c d : List ℕ) → f ∷ a ∷ b ∷ [] ≡ g ∷ c ∷ d ∷ [] → (a ≡ c) × (b ≡ d)

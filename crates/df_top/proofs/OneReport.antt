@@ -1,35 +1,17 @@
 -- An image has one report, since it has one superblock, one view, and one list of what is to be mended.
-use Rattle.std.proofs.Common.{◌≡◌, ℕ, ◌<◌, Bool, false, not, List, [], ◌∷◌, ◌++◌, length, Option, None, Some, refl, sym, ◌∙◌, ap, subst, arith}
-use Rattle.std.specs.Prelude.{◌+◌, zero, suc, codes, map, get_or}
-use Rattle.std.specs.List.{filter, range_with_len}
-use Rattle.df_base.specs.Image.{Image}
-use Rattle.df_base.proofs.Laws.{same_bit}
-use Rattle.df_format.specs.Copies.{Content, content_at}
-use Rattle.df_format.specs.Own.{place_in}
-use Rattle.df_format.specs.Shown.{class_at}
-use Rattle.df_format.specs.declared.superblock.SuperFields.{SuperFields}
+use Rattle.std.{proofs.Common.{◌≡◌, ℕ, ◌<◌, Bool, false, not, List, [], ◌∷◌, ◌++◌, length, Option, None, Some, refl, sym, ◌∙◌, ap, subst, arith}, specs.{Prelude.{◌+◌, zero, suc, codes, map, get_or}, List.{filter, range_with_len}}}
+use Rattle.df_base.{specs.Image.{Image}, proofs.Laws.{same_bit}}
+use Rattle.df_format.specs.{Copies.{Content, content_at}, Own.{place_in}, Shown.{class_at}, declared.superblock.SuperFields.{SuperFields}}
 use Rattle.df_inspect.specs.Reports.{each_text, mend_text, row_text, session_text, stored_text, summary_text}
-use Rattle.df_layout.specs.declared.damage.Mend.{Mend}
-use Rattle.df_layout.specs.declared.layout.Layout.{Layout}
-use Rattle.df_layout.specs.declared.places.Zone.TheVariants.{WalHeaders}
-use Rattle.df_quorum.specs.Quorum.{AreMembers}
-use Rattle.df_quorum.proofs.Laws.{one_law}
-use Rattle.df_session.proofs.Laws.{filter_more, one_super, same_file, super_shown}
-use Rattle.df_session.specs.Below.{if_wanted, needs_header, slot_mends, start_of, IsOpened, memory, reply_sum, shape, spelling, stored_sum, DataFile, State}
-use Rattle.df_session.specs.Replica.{Survey, summary_of}
-use Rattle.df_session.specs.Surveying.{IsMendable, copy_mend_at, mends_of}
+use Rattle.df_layout.specs.{declared.damage.Mend.{Mend}, declared.layout.Layout.{Layout}, declared.places.Zone.TheVariants.{WalHeaders}}
+use Rattle.df_quorum.{specs.Quorum.{AreMembers}, proofs.Laws.{one_law}}
+use Rattle.df_session.{proofs.Laws.{filter_more, one_super, same_file, super_shown}, specs.{Below.{if_wanted, needs_header, slot_mends, start_of, IsOpened, memory, reply_sum, shape, spelling, stored_sum, DataFile, State}, Replica.{Survey, summary_of}, Surveying.{IsMendable, copy_mend_at, mends_of}}}
 use Rattle.df_script_model.specs.Texts.{body_text, line_of, numbered, spaced}
-use Rattle.df_sessions.specs.Requests.{session_of, sessions_of}
-use Rattle.df_sessions.specs.declared.session.Session.{Session}
-use Rattle.df_theory.specs.Found.{IsFound}
+use Rattle.df_sessions.{specs.{Requests.{session_of, sessions_of}, declared.session.Session.{Session}}, proofs.Laws.{length_sessions}}
+use Rattle.df_theory.{specs.{Found.{IsFound}, View.{View}}, proofs.Laws.{one_found_law}}
 use Rattle.df_theory.specs.Units
-use Rattle.df_theory.specs.View.{View}
-use Rattle.df_theory.proofs.Laws.{one_found_law}
 use Rattle.df_units.specs.Bytes.{unit_at}
-use Rattle.df_model.specs.Memory.{Memory, memory_of}
-use Rattle.df_model.specs.Work.{opened}
-use Rattle.df_model.specs.declared.answers.Summary.{Summary}
-use Rattle.df_sessions.proofs.Laws.{length_sessions}
+use Rattle.df_model.specs.{Memory.{Memory, memory_of}, Work.{opened}, declared.answers.Summary.{Summary}}
 use Rattle.df_top.specs.Reporting.{OneReport, report_of, status_of}
 
 -- ---- the sessions' lines say what the theory knows of them

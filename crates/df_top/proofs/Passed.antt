@@ -1,43 +1,18 @@
 -- What a piece of the loop's work comes to, by its answer.
-use Rattle.std.proofs.Common.{◌≡◌, ◌<◌, ℕ, Bool, true, false, if◌then◌else◌, List, Option, Some, None, Ok, Err, IsTrue, inl, inr, refl, sym, ◌∙◌, ap, subst, arith}
-use Rattle.std.proofs.lemmas.Option.{none-some}
+use Rattle.std.proofs.{Common.{◌≡◌, ◌<◌, ℕ, Bool, true, false, if◌then◌else◌, List, Option, Some, None, Ok, Err, IsTrue, inl, inr, refl, sym, ◌∙◌, ap, subst, arith}, lemmas.Option.{none-some}}
 use Rattle.df_base.specs.Causes.{IsBlamed}
 use Rattle.df_disk.specs.Told.{Told}
-use Rattle.df_model.specs.Commands.{Answer as Said, Command, ToAdvance, ToAppend, ToBegin, ToFlush, ToReadBlock, ToReadPrepare, ToReadReply, ToRelease, ToReply, ToScrub, ToStage, ToWriteBlock}
+use Rattle.df_model.specs.{Commands.{Answer as Said, Command, ToAdvance, ToAppend, ToBegin, ToFlush, ToReadBlock, ToReadPrepare, ToReadReply, ToRelease, ToReply, ToScrub, ToStage, ToWriteBlock}, declared.answers.Progress.TheVariants.{Working}, declared.commands.Answer.{Answer}, Faults.{is_append_fault, is_block_fault, is_flush_fault, is_lookup_fault, is_prepare_fault, is_read_fault, is_reply_fault}}
 use Rattle.df_model.specs.declared.answers.Progress.TheVariants as progress
-use Rattle.df_model.specs.declared.answers.Progress.TheVariants.{Working}
-use Rattle.df_model.specs.declared.commands.Answer.{Answer}
 use Rattle.df_model.specs.declared.commands.Answer.TheVariants as answers
 use Rattle.df_model.specs.declared.errors.StepError.TheVariants as step
-use Rattle.df_model.specs.Faults.{is_append_fault, is_block_fault, is_flush_fault, is_lookup_fault, is_prepare_fault, is_read_fault, is_reply_fault}
 use Rattle.df_units.specs.Meaning.{number_of}
-use Rattle.df_session.specs.Calls.{machine_answer}
+use Rattle.df_session.specs.{Calls.{machine_answer}, Below.{State as Replica}, Endings.{GivesAnswer, is_disk_fault}, Links.{Makes}, declared.hearing.Fault.{Fault}, declared.hearing.Fault.TheVariants.{Disk, Damaged}}
 use Rattle.df_lines.specs.Room.{ReaderParts}
-use Rattle.df_pace.specs.Beats.{command_of_piece, is_begun, next_piece, pieces_left}
-use Rattle.df_pace.specs.declared.beat.Beat.{Beat}
-use Rattle.df_pace.specs.declared.beat.Piece.{Piece}
-use Rattle.df_pace.specs.declared.pace.Pace.{Pace}
-use Rattle.df_pace.proofs.Laws.{fewer_due}
-use Rattle.df_session.specs.Below.{State as Replica}
+use Rattle.df_pace.{specs.{Beats.{command_of_piece, is_begun, next_piece, pieces_left}, declared.beat.Beat.{Beat}, declared.beat.Piece.{Piece}, declared.pace.Pace.{Pace}}, proofs.Laws.{fewer_due}}
 use Rattle.df_script_model.specs.Texts.{damaged_text}
-use Rattle.df_session.specs.Endings.{GivesAnswer, is_disk_fault}
-use Rattle.df_session.specs.Links.{Makes}
-use Rattle.df_session.specs.declared.hearing.Fault.{Fault}
-use Rattle.df_session.specs.declared.hearing.Fault.TheVariants.{Disk, Damaged}
-use Rattle.df_top.specs.Lines.{ByLoop}
-use Rattle.df_top.specs.Outside.{PrintsLine}
-use Rattle.df_top.specs.Pacing.{IsNextCommand, runs}
-use Rattle.df_top.specs.Refusing.{PrintsFault}
-use Rattle.df_top.specs.Session.{IsDamagedLine, SessionState}
-use Rattle.df_top.specs.Step.{Passes, Turns}
-use Rattle.df_top.specs.Turning.{BlamesIfEnds, DoesPiece, IsReadySession, LeavesReader, OnGoing, has_begun_in}
-use Rattle.df_top.specs.declared.session.Session.{Session}
-use Rattle.df_top.specs.Outside.{Turn}
+use Rattle.df_top.{specs.{Lines.{ByLoop}, Outside.{PrintsLine, Turn}, Pacing.{IsNextCommand, runs}, Refusing.{PrintsFault}, Session.{IsDamagedLine, SessionState}, Step.{Passes, Turns}, Turning.{BlamesIfEnds, DoesPiece, IsReadySession, LeavesReader, OnGoing, has_begun_in}, declared.session.Session.{Session}, declared.status.Status.{Status}, declared.status.Status.TheVariants.{Done, Found, Words, Script, Refused, DiskFault, ReadFault, WriteFault, Memory}}, proofs.{Answered.{damaged_line, disk_rose, disk_same}, Progress.{ends_damaged, ends_damaged_fault, ends_disk, works_on}}}
 use Rattle.df_program.specs.declared.turn.Turn.TheVariants.{GoesOn, Ends}
-use Rattle.df_top.specs.declared.status.Status.{Status}
-use Rattle.df_top.specs.declared.status.Status.TheVariants.{Done, Found, Words, Script, Refused, DiskFault, ReadFault, WriteFault, Memory}
-use Rattle.df_top.proofs.Answered.{damaged_line, disk_rose, disk_same}
-use Rattle.df_top.proofs.Progress.{ends_damaged, ends_damaged_fault, ends_disk, works_on}
 
 -- ---- whether a checkpoint was begun
 

@@ -1,29 +1,13 @@
 -- A session goes on by one call, of a line or of the loop, or ends.
-use Rattle.std.proofs.Common.{◌≡◌, ℕ, ◌+◌, true, false, List, [], ◌∷◌, ◌++◌, length, Option, Some, None, refl, sym, ◌∙◌, ap, subst, arith, length-append, append_assoc}
-use Rattle.std.proofs.lemmas.List.{append-nil}
-use Rattle.df_base.specs.Streams.{Appends, AppendsPart}
-use Rattle.df_base.proofs.Laws.{appends_more, appends_part}
-use Rattle.df_inspect.proofs.Laws.{appends_none}
+use Rattle.std.proofs.{Common.{◌≡◌, ℕ, ◌+◌, true, false, List, [], ◌∷◌, ◌++◌, length, Option, Some, None, refl, sym, ◌∙◌, ap, subst, arith, length-append, append_assoc}, lemmas.List.{append-nil}}
+use Rattle.df_base.{specs.Streams.{Appends, AppendsPart}, proofs.Laws.{appends_more, appends_part}}
+use Rattle.df_inspect.{proofs.Laws.{appends_none}, specs.Opening.{script_text}}
 use Rattle.df_disk.specs.Told.{Told}
-use Rattle.df_inspect.specs.Opening.{script_text}
-use Rattle.df_lines.specs.Grammar.{Said}
-use Rattle.df_lines.specs.Script.{BeginsWithLines, IsRefused}
-use Rattle.df_lines.specs.Text.{after_line}
+use Rattle.df_lines.specs.{Grammar.{Said}, Script.{BeginsWithLines, IsRefused}, Text.{after_line}}
 use Rattle.df_model.specs.Commands.{Answer, Command}
-use Rattle.df_pace.specs.Beats.{command_of_piece as piece_command, next_piece}
-use Rattle.df_pace.specs.declared.beat.Beat.{Beat}
-use Rattle.df_pace.specs.declared.beat.Piece.{Piece}
-use Rattle.df_pace.specs.declared.pace.Pace.{Pace}
-use Rattle.df_session.specs.Below.{State as Replica}
-use Rattle.df_session.specs.Session.{Act}
-use Rattle.df_top.specs.Lines.{Asker, ByLine, ByLoop, Turned, all_said, all_text, command_of_line, said_by, told_by}
-use Rattle.df_session.specs.Links.{Calls, Makes}
-use Rattle.df_top.specs.Pacing.{AreTurns, EndTurns, IsIdleBeat, IsNextCommand, NextTurn, NoTurns, beat_after, runs}
-use Rattle.df_top.specs.Session.{Ended, EndsText, EndsWith, Executed, HoldsLine, IsDamagedLine, SessionState}
-use Rattle.df_top.specs.Step.{EndsDamaged, EndsIn, IsAnsweredCall, SessionGoesOn, TakesNextLine}
-use Rattle.df_top.specs.declared.status.Status.{Status}
-use Rattle.df_top.specs.declared.status.Status.TheVariants.{Done, Script, Refused, DiskFault, ReadFault, WriteFault}
-use Rattle.df_top.proofs.Written.{begins_more, said_more, text_more, turns_join}
+use Rattle.df_pace.specs.{Beats.{command_of_piece as piece_command, next_piece}, declared.beat.Beat.{Beat}, declared.beat.Piece.{Piece}, declared.pace.Pace.{Pace}}
+use Rattle.df_session.specs.{Below.{State as Replica}, Session.{Act}, Links.{Calls, Makes}}
+use Rattle.df_top.{specs.{Lines.{Asker, ByLine, ByLoop, Turned, all_said, all_text, command_of_line, said_by, told_by}, Pacing.{AreTurns, EndTurns, IsIdleBeat, IsNextCommand, NextTurn, NoTurns, beat_after, runs}, Session.{Ended, EndsText, EndsWith, Executed, HoldsLine, IsDamagedLine, SessionState}, Step.{EndsDamaged, EndsIn, IsAnsweredCall, SessionGoesOn, TakesNextLine}, declared.status.Status.{Status}, declared.status.Status.TheVariants.{Done, Script, Refused, DiskFault, ReadFault, WriteFault}}, proofs.Written.{begins_more, said_more, text_more, turns_join}}
 
 -- ---- on
 

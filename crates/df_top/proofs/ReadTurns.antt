@@ -1,34 +1,18 @@
 -- A read of a prepare or of a reply, and what is printed of it.
-use Rattle.std.proofs.Common.{◌≡◌, ℕ, Bool, List, Option, Some, None, sym, ◌∙◌, ap, subst, Result, Ok, Err}
-use Rattle.std.specs.Prelude.{codes}
+use Rattle.std.{proofs.Common.{◌≡◌, ℕ, Bool, List, Option, Some, None, sym, ◌∙◌, ap, subst, Result, Ok, Err}, specs.Prelude.{codes}}
 use Rattle.df_base.specs.Causes.{IsBlamed}
 use Rattle.df_disk.specs.Told.{Told}
-use Rattle.df_format.specs.declared.header.Header.{Header}
-use Rattle.df_format.specs.Message.{Message as Shown}
-use Rattle.df_inspect.specs.Messages.{shown_text}
-use Rattle.df_inspect.specs.Prints.{Prints}
+use Rattle.df_format.specs.{declared.header.Header.{Header}, Message.{Message as Shown}}
+use Rattle.df_inspect.specs.{Messages.{shown_text}, Prints.{Prints}}
 use Rattle.df_theory.specs.Units.{Message}
 use Rattle.df_units.specs.Meaning.{message_of}
-use Rattle.df_model.specs.Commands.{Command, ReadPrepare, ReadReply, ToReadPrepare, ToReadReply}
-use Rattle.df_model.specs.declared.commands.Answer.{Answer as Answered}
+use Rattle.df_model.specs.{Commands.{Command, ReadPrepare, ReadReply, ToReadPrepare, ToReadReply}, declared.commands.Answer.{Answer as Answered}, declared.reading.LookupError.{LookupError}, declared.reading.PrepareError.{PrepareError}, Faults.{is_lookup_fault, is_prepare_fault}}
 use Rattle.df_model.specs.declared.commands.Answer.TheVariants as answers
-use Rattle.df_model.specs.declared.reading.LookupError.{LookupError}
 use Rattle.df_model.specs.declared.reading.LookupError.TheVariants as lookup
-use Rattle.df_model.specs.declared.reading.PrepareError.{PrepareError}
 use Rattle.df_model.specs.declared.reading.PrepareError.TheVariants as prepare
-use Rattle.df_model.specs.Faults.{is_lookup_fault, is_prepare_fault}
-use Rattle.df_session.specs.Below.{State as Replica}
-use Rattle.df_session.specs.Answering.{ServesRead, answer_of}
-use Rattle.df_session.specs.Lookups.{reply_found}
-use Rattle.df_session.specs.Reading.{prepare_found}
-use Rattle.df_session.specs.Stopping.{left_by}
+use Rattle.df_session.{specs.{Below.{State as Replica}, Answering.{ServesRead, answer_of}, Lookups.{reply_found}, Reading.{prepare_found}, Stopping.{left_by}, Endings.{heard}, declared.hearing.Fault.{Fault}}, proofs.Laws.{reads_prepare, reads_reply}}
 use Rattle.df_script_model.specs.Texts.{message_text}
-use Rattle.df_session.specs.Endings.{heard}
-use Rattle.df_session.specs.declared.hearing.Fault.{Fault}
-use Rattle.df_session.proofs.Laws.{reads_prepare, reads_reply}
-use Rattle.df_top.specs.Turning.{IsPrinted, TellsAnswer, printed_turn}
-use Rattle.df_top.specs.Outside.{Turn}
-use Rattle.df_top.proofs.Answered.{Comes, comes_answered, comes_failed, prints_turn, told_fault}
+use Rattle.df_top.{specs.{Turning.{IsPrinted, TellsAnswer, printed_turn}, Outside.{Turn}}, proofs.Answered.{Comes, comes_answered, comes_failed, prints_turn, told_fault}}
 
 -- what was printed of a unit's header and body is the unit's text
 pub shown_turn : {T E : Type 0} (word : List ℕ) (u : Shown) (h : Header) (b : List ℕ) (written took : Option (List ℕ)) (r : Result T E) (turn : Turn) → h ≡ u.header → b ≡ u.body → turn ≡ printed_turn r → Prints (shown_text word h b) written took r

@@ -1,35 +1,12 @@
 -- What a word finds after damage before any number of opens was had since the last of them that raised its boot, and the history goes on.
-use Rattle.std.proofs.Common.{◌≡◌, ◌⊎◌, inl, inr, List, [], ◌∷◌, ◌++◌, Option, Some, refl, sym, ◌∙◌, ap, subst}
-use Rattle.std.proofs.lemmas.Option.{same_Some}
-use Rattle.df_base.specs.Image.{Image}
-use Rattle.df_base.specs.Log.{Event, Log, Sync, add}
-use Rattle.df_base.specs.Moments.{EachMoment}
-use Rattle.df_disk.specs.Adds.{after_all}
-use Rattle.df_disk.specs.Told.{Told, did}
-use Rattle.df_disk.proofs.Laws.{after_append}
+use Rattle.std.proofs.{Common.{◌≡◌, ◌⊎◌, inl, inr, List, [], ◌∷◌, ◌++◌, Option, Some, refl, sym, ◌∙◌, ap, subst}, lemmas.Option.{same_Some}}
+use Rattle.df_base.specs.{Image.{Image}, Log.{Event, Log, Sync, add}, Moments.{EachMoment}}
+use Rattle.df_disk.{specs.{Adds.{after_all}, Told.{Told, did}}, proofs.Laws.{after_append}}
 use Rattle.df_layout.specs.declared.layout.Layout.{Layout}
-use Rattle.df_theory.specs.Holds.{Held}
-use Rattle.df_theory.specs.View.{View}
-use Rattle.df_model.specs.Commands.{Answer}
-use Rattle.df_model.specs.Work.{Work}
-use Rattle.df_session.specs.Begun.{begun_work}
-use Rattle.df_session.specs.Below.{DataFile, FindsSince, IsLivedDisk, MayReopen, restarted, shape, told_after}
-use Rattle.df_session.specs.Keeping.{KeepsFile, over}
-use Rattle.df_session.specs.Serving.{Firm, format, next}
-use Rattle.df_session.specs.Session.{Act, Exchange, HoldsSome, IsMidway, acts_in}
-use Rattle.df_session.specs.Found.{FoundFile, no_calls}
-use Rattle.df_session.specs.Laws.{CallsKeep}
-use Rattle.df_session.specs.Links.{CallsMade, events_made, list_of}
-use Rattle.df_session.specs.Opened.{StopsOpening}
-use Rattle.df_session.proofs.Laws.{begun_may_open, file_there, found_was_since, lived_layout, told_append}
-use Rattle.df_top.specs.Acknowledging.{run_calls, script_calls}
-use Rattle.df_top.specs.Opening.{StopsBefore}
-use Rattle.df_top.specs.Outside.{Outside}
-use Rattle.df_top.specs.Reopening.{ComesSince, IsLivedFile, LivesThrough, RunsOverHistory, ServesOverHistory, ServesSince, StaysLived}
-use Rattle.df_top.specs.Run.{ComesTo, Does, Runs, ServesIn, ServesOwn, Works}
-use Rattle.df_top.specs.declared.mode.Mode.{Mode}
-use Rattle.df_top.specs.declared.mode.Mode.TheVariants.{Format, Run, Recover, Inspect, Scrub, Workload, Upgrade, Paced}
-use Rattle.df_top.specs.declared.status.Status.{Status}
+use Rattle.df_theory.specs.{Holds.{Held}, View.{View}}
+use Rattle.df_model.specs.{Commands.{Answer}, Work.{Work}}
+use Rattle.df_session.{specs.{Begun.{begun_work}, Below.{DataFile, FindsSince, IsLivedDisk, MayReopen, restarted, shape, told_after}, Keeping.{KeepsFile, over}, Serving.{Firm, format, next}, Session.{Act, Exchange, HoldsSome, IsMidway, acts_in}, Found.{FoundFile, no_calls}, Laws.{CallsKeep}, Links.{CallsMade, events_made, list_of}, Opened.{StopsOpening}}, proofs.Laws.{begun_may_open, file_there, found_was_since, lived_layout, told_append}}
+use Rattle.df_top.specs.{Acknowledging.{run_calls, script_calls}, Opening.{StopsBefore}, Outside.{Outside}, Reopening.{ComesSince, IsLivedFile, LivesThrough, RunsOverHistory, ServesOverHistory, ServesSince, StaysLived}, Run.{ComesTo, Does, Runs, ServesIn, ServesOwn, Works}, declared.mode.Mode.{Mode}, declared.mode.Mode.TheVariants.{Format, Run, Recover, Inspect, Scrub, Workload, Upgrade, Paced}, declared.status.Status.{Status}}
 
 -- ---- a session
 

@@ -1,42 +1,15 @@
 -- A file that is reported: what a survey found of it, the summary of what was opened, or a tour over it; and one that is refused.
 use Rattle.std.proofs.Common.{◌≡◌, inl, inr, ℕ, true, List, [], ◌∷◌, Option, Some, None, refl, sym, ◌∙◌, ap, subst, Ok, Err}
-use Rattle.df_base.specs.Image.{Image, IsImage}
-use Rattle.df_base.specs.Log.{Sync}
-use Rattle.df_disk.specs.Adds.{AddsPart}
-use Rattle.df_disk.specs.Told.{Told, after, did}
+use Rattle.df_base.specs.{Image.{Image, IsImage}, Log.{Sync}}
+use Rattle.df_disk.specs.{Adds.{AddsPart}, Told.{Told, after, did}}
 use Rattle.df_inspect.specs.Reports.{inspection_text, summary_text}
-use Rattle.df_layout.specs.declared.damage.Mend.{Mend}
-use Rattle.df_layout.specs.declared.layout.Layout.{Layout}
-use Rattle.df_model.specs.Memory.{Memory, referenced_of}
-use Rattle.df_model.specs.Reading.{IsTour}
-use Rattle.df_model.specs.Work.{first_tour}
-use Rattle.df_model.proofs.Laws.{tour_law}
-use Rattle.df_model.specs.declared.answers.Summary.{Summary}
-use Rattle.df_model.specs.declared.errors.OpenError.{OpenError}
+use Rattle.df_layout.specs.{declared.damage.Mend.{Mend}, declared.layout.Layout.{Layout}}
+use Rattle.df_model.{specs.{Memory.{Memory, referenced_of}, Reading.{IsTour}, Work.{first_tour}, declared.answers.Summary.{Summary}, declared.errors.OpenError.{OpenError}}, proofs.Laws.{tour_law}}
 use Rattle.df_model.specs.declared.errors.OpenError.TheVariants as opens
-use Rattle.df_session.specs.Below.{DataFile, Syncs, IsOpened, State as Replica, shape, told_after}
+use Rattle.df_session.{specs.{Below.{DataFile, Syncs, IsOpened, State as Replica, shape, told_after}, Leaving.{SparesReads}, Opened.{Mends, MendsAll}, Reading.{shown_of}, Replica.{Survey, summary_of}, Scrubbing.{IsMachineTour, at_start}, Surveying.{TellsMends, TellsSurvey}, Links.{NoCalls}, Found.{FoundFile, no_calls}, Laws.{CallsKeep}}, proofs.Laws.{added_is_told, shown_after, calls_keep}}
 use Rattle.df_sessions.specs.declared.session.Session.{Session}
-use Rattle.df_session.specs.Leaving.{SparesReads}
-use Rattle.df_session.specs.Opened.{Mends, MendsAll}
-use Rattle.df_session.specs.Reading.{shown_of}
-use Rattle.df_session.specs.Replica.{Survey, summary_of}
-use Rattle.df_session.specs.Scrubbing.{IsMachineTour, at_start}
-use Rattle.df_session.specs.Surveying.{TellsMends, TellsSurvey}
-use Rattle.df_session.proofs.Laws.{added_is_told, shown_after}
-use Rattle.df_session.specs.Links.{NoCalls}
-use Rattle.df_session.specs.Found.{FoundFile, no_calls}
-use Rattle.df_session.specs.Laws.{CallsKeep}
 use Rattle.df_program.proofs.Laws.{open_fault}
-use Rattle.df_top.specs.Outside.{Outside, PrintsLine}
-use Rattle.df_top.specs.Refusing.{PrintsOpenError}
-use Rattle.df_top.specs.Reporting.{Inspects, Recovers, report_of, status_of}
-use Rattle.df_top.specs.Run.{ComesTo}
-use Rattle.df_top.specs.Scrubs.{PrintsTour, ScrubsFile}
-use Rattle.df_top.specs.declared.mode.Mode.TheVariants.{Inspect}
-use Rattle.df_top.specs.declared.status.Status.{Status}
-use Rattle.df_top.specs.declared.status.Status.TheVariants.{Done}
-use Rattle.df_session.proofs.Laws.{calls_keep}
-use Rattle.df_top.proofs.Served.{not_opened, opened_file}
+use Rattle.df_top.{specs.{Outside.{Outside, PrintsLine}, Refusing.{PrintsOpenError}, Reporting.{Inspects, Recovers, report_of, status_of}, Run.{ComesTo}, Scrubs.{PrintsTour, ScrubsFile}, declared.mode.Mode.TheVariants.{Inspect}, declared.status.Status.{Status}, declared.status.Status.TheVariants.{Done}}, proofs.Served.{not_opened, opened_file}}
 
 -- ---- the barrier
 

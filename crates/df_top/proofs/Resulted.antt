@@ -1,39 +1,13 @@
 -- A session's answers are the result, its text is the machine's, and its calls are those of the script and of the loop.
-use Rattle.std.proofs.Common.{◌≡◌, ℕ, ◌-◌, Bool, if◌then◌else◌, List, [], ◌∷◌, ◌++◌, map, Option, Some, None, refl, sym, ◌∙◌, ap, subst, arith}
-use Rattle.std.proofs.lemmas.List.{append-nil}
+use Rattle.std.proofs.{Common.{◌≡◌, ℕ, ◌-◌, Bool, if◌then◌else◌, List, [], ◌∷◌, ◌++◌, map, Option, Some, None, refl, sym, ◌∙◌, ap, subst, arith}, lemmas.List.{append-nil}}
 use Rattle.df_base.specs.Image.{IsImage}
 use Rattle.df_disk.specs.Told.{Told}
-use Rattle.df_theory.specs.Shape.{Shape}
-use Rattle.df_theory.specs.View.{head}
-use Rattle.df_model.specs.Commands.{Answer, Command}
-use Rattle.df_model.specs.Memory.{Memory, memory_of}
-use Rattle.df_model.specs.Sense.{IsWork}
-use Rattle.df_model.specs.Supply.{Codec, Shown}
-use Rattle.df_model.specs.Work.{Work}
-use Rattle.df_pace.specs.Beats.{IsHeadCounted, command_of_piece as piece_command, due_at, is_begun, next_piece, rest_due, runs_at, started, without}
-use Rattle.df_pace.specs.Loop.{Stand, all_by_loop, all_commands, answer_at, by_loop, by_script, commands_due, paced, passed, start}
-use Rattle.df_pace.specs.declared.beat.Beat.{Beat}
-use Rattle.df_pace.specs.declared.beat.Piece.{Piece}
-use Rattle.df_pace.specs.declared.pace.Due.{Due}
-use Rattle.df_pace.specs.declared.pace.Pace.{Pace}
-use Rattle.df_pace.proofs.Laws.{line_counts, nothing_due, piece_counts, piece_due, starts_idle, whole_due}
-use Rattle.df_session.specs.Below.{DataFile, State as Replica, is_running, memory, shape, spelling, told_after}
-use Rattle.df_session.specs.Opened.{MendsAll}
-use Rattle.df_session.specs.Reading.{shown_of}
-use Rattle.df_session.specs.Serving.{Firm, IsCall, Keeps}
-use Rattle.df_session.specs.Codec.{codec}
-use Rattle.df_session.specs.Results.{IsResult}
-use Rattle.df_session.specs.Agreeing.{AgreeShown}
+use Rattle.df_theory.specs.{Shape.{Shape}, View.{head}}
+use Rattle.df_model.specs.{Commands.{Answer, Command}, Memory.{Memory, memory_of}, Sense.{IsWork}, Supply.{Codec, Shown}, Work.{Work}}
+use Rattle.df_pace.{specs.{Beats.{IsHeadCounted, command_of_piece as piece_command, due_at, is_begun, next_piece, rest_due, runs_at, started, without}, Loop.{Stand, all_by_loop, all_commands, answer_at, by_loop, by_script, commands_due, paced, passed, start}, declared.beat.Beat.{Beat}, declared.beat.Piece.{Piece}, declared.pace.Due.{Due}, declared.pace.Pace.{Pace}}, proofs.Laws.{line_counts, nothing_due, piece_counts, piece_due, starts_idle, whole_due}}
+use Rattle.df_session.{specs.{Below.{DataFile, State as Replica, is_running, memory, shape, spelling, told_after}, Opened.{MendsAll}, Reading.{shown_of}, Serving.{Firm, IsCall, Keeps}, Codec.{codec}, Results.{IsResult}, Agreeing.{AgreeShown}, Resulting.{AnswersResult}, Session.{Act, acts_in, command_in}}, proofs.Laws.{one_more_is_result, opened_agrees, opened_answers}}
 use Rattle.df_script_model.specs.Script.{answer_text}
-use Rattle.df_session.specs.Resulting.{AnswersResult}
-use Rattle.df_session.proofs.Laws.{one_more_is_result, opened_agrees, opened_answers}
-use Rattle.df_session.specs.Session.{Act, acts_in, command_in}
-use Rattle.df_top.specs.Lines.{Asker, ByLine, ByLoop, Failing, Turned, all_said, all_text, command_of_line, exchanges_in}
-use Rattle.df_top.specs.Outside.{IsThrough}
-use Rattle.df_top.specs.Pacing.{AreTurns, EndTurns, IsIdleBeat, IsNextCommand, NextTurn, NoTurns, all_calls, beat_after, runs}
-use Rattle.df_top.specs.Resulting.{IsResultOf, joined}
-use Rattle.df_top.specs.declared.status.Status.{Status}
-use Rattle.df_top.specs.declared.status.Status.TheVariants.{WriteFault}
+use Rattle.df_top.specs.{Lines.{Asker, ByLine, ByLoop, Failing, Turned, all_said, all_text, command_of_line, exchanges_in}, Outside.{IsThrough}, Pacing.{AreTurns, EndTurns, IsIdleBeat, IsNextCommand, NextTurn, NoTurns, all_calls, beat_after, runs}, Resulting.{IsResultOf, joined}, declared.status.Status.{Status}, declared.status.Status.TheVariants.{WriteFault}}
 
 module _ (pace : Pace) (file : DataFile) where
   abbrev sh : Shape

@@ -1,18 +1,12 @@
 -- The ring of what the scrubber found, and what is printed of it.
-use Rattle.std.proofs.Common.{◌≡◌, ℕ, ◌+◌, List, [], ◌∷◌, ◌++◌, ◌≤◌, ◌<◌, length, take, Option, Some, None, refl, ◌∙◌, ap, arith, Result}
-use Rattle.std.specs.Prelude.{zero, suc, slice_get, slice_set}
+use Rattle.std.{proofs.Common.{◌≡◌, ℕ, ◌+◌, List, [], ◌∷◌, ◌++◌, ◌≤◌, ◌<◌, length, take, Option, Some, None, refl, ◌∙◌, ap, arith, Result}, specs.Prelude.{zero, suc, slice_get, slice_set}}
 use Rattle.df_disk.specs.Told.{Told}
 use Rattle.df_inspect.specs.Prints.{Prints}
 use Rattle.df_layout.specs.declared.damage.Finding.{Finding}
 use Rattle.df_model.specs.Commands.{ForRecent, Recent, ToRecent}
-use Rattle.df_session.specs.Answering.{Serves}
-use Rattle.df_session.specs.Below.{State as Replica}
+use Rattle.df_session.{specs.{Answering.{Serves}, Below.{State as Replica}}, proofs.Laws.{made}}
 use Rattle.df_script_model.specs.Texts.{recent_text}
-use Rattle.df_top.specs.Findings.{items_of}
-use Rattle.df_top.specs.Step.{AnswersCommand}
-use Rattle.df_top.specs.Turning.{printed_turn}
-use Rattle.df_session.proofs.Laws.{made}
-use Rattle.df_top.proofs.Answered.{printed_is, prints_turn}
+use Rattle.df_top.{specs.{Findings.{items_of}, Step.{AnswersCommand}, Turning.{printed_turn}}, proofs.Answered.{printed_is, prints_turn}}
 
 -- an item is put after the first n ones
 pub take_set : {A : Type 0} (xs : List A) (n : ℕ) (x : A) → n < length xs → take (n + 1) (slice_set xs n x) ≡ take n xs ++ x ∷ []

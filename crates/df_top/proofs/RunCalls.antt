@@ -1,40 +1,17 @@
 -- What each call of a generated run comes to, by what the run hears of its answer.
-use Rattle.std.proofs.Common.{◌≡◌, ◌<◌, ℕ, Bool, true, List, [], ◌∷◌, length, Option, Some, None, refl, sym, ap, subst, Result, Ok, Err, arith}
-use Rattle.std.proofs.lemmas.Option.{none-some}
+use Rattle.std.proofs.{Common.{◌≡◌, ◌<◌, ℕ, Bool, true, List, [], ◌∷◌, length, Option, Some, None, refl, sym, ap, subst, Result, Ok, Err, arith}, lemmas.Option.{none-some}}
 use Rattle.df_disk.specs.Told.{Told}
 use Rattle.df_format.specs.declared.reference.Reference.{Reference}
-use Rattle.df_model.specs.Commands.{Advance, Answer as Answered, Append, Begin, Command, Flush, ReadBlock, ReadPrepare, ReadReply, Recent, Release, Reply, Scrub, Stage, WriteBlock}
-use Rattle.df_model.specs.declared.answers.Progress.{Progress}
-use Rattle.df_model.specs.declared.answers.Progress.TheVariants.{Done, Working}
-use Rattle.df_model.specs.declared.answers.Receipt.{Receipt}
-use Rattle.df_model.specs.declared.commands.Answer.{Answer}
+use Rattle.df_model.specs.{Commands.{Advance, Answer as Answered, Append, Begin, Command, Flush, Release, Reply, Scrub, Stage, WriteBlock}, declared.answers.Progress.{Progress}, declared.answers.Progress.TheVariants.{Done, Working}, declared.answers.Receipt.{Receipt}, declared.commands.Answer.{Answer}, declared.errors.AppendError.{AppendError}, declared.errors.BeginError.{BeginError}, declared.errors.BlockError.{BlockError}, declared.errors.FlushError.{FlushError}, declared.errors.NotLive.{NotLive}, declared.errors.ReplyError.{ReplyError}, declared.errors.StepError.{StepError}}
 use Rattle.df_model.specs.declared.commands.Answer.TheVariants as answers
-use Rattle.df_model.specs.declared.errors.AppendError.{AppendError}
 use Rattle.df_model.specs.declared.errors.AppendError.TheVariants as append
-use Rattle.df_model.specs.declared.errors.BeginError.{BeginError}
-use Rattle.df_model.specs.declared.errors.BlockError.{BlockError}
 use Rattle.df_model.specs.declared.errors.BlockError.TheVariants as block
-use Rattle.df_model.specs.declared.errors.FlushError.{FlushError}
 use Rattle.df_model.specs.declared.errors.FlushError.TheVariants as flush
-use Rattle.df_model.specs.declared.errors.NotLive.{NotLive}
-use Rattle.df_model.specs.declared.errors.ReplyError.{ReplyError}
 use Rattle.df_model.specs.declared.errors.ReplyError.TheVariants as reply
-use Rattle.df_model.specs.declared.errors.StepError.{StepError}
 use Rattle.df_model.specs.declared.errors.StepError.TheVariants as step
-use Rattle.df_session.specs.Appending.{IsAppendCall}
-use Rattle.df_session.specs.Beginning.{IsBegin}
-use Rattle.df_session.specs.Below.{RunningState, State as Replica}
-use Rattle.df_session.specs.Blocks.{IsRelease, IsWriteBlock}
-use Rattle.df_session.specs.Flushing.{IsFlush, IsStage}
-use Rattle.df_session.specs.Replying.{IsReplyCall}
-use Rattle.df_session.specs.Stepping.{IsStepCall, OfRunning, advanced, finished}
-use Rattle.df_workload.specs.Hearing.{outcome_in}
-use Rattle.df_workload.specs.declared.outcome.Outcome.{Outcome}
-use Rattle.df_session.specs.Calls.{IsExact, machine_answer}
-use Rattle.df_session.specs.Endings.{GivesAnswer}
-use Rattle.df_top.specs.Works.{HearsOf, IsRunning, StepsOn, StillRuns}
-use Rattle.df_session.proofs.Laws.{on_running}
-use Rattle.df_top.proofs.SameWords.{same_words}
+use Rattle.df_session.{specs.{Appending.{IsAppendCall}, Beginning.{IsBegin}, Below.{RunningState, State as Replica}, Blocks.{IsRelease, IsWriteBlock}, Flushing.{IsFlush, IsStage}, Replying.{IsReplyCall}, Stepping.{IsStepCall, OfRunning, advanced, finished}, Calls.{IsExact, machine_answer}, Endings.{GivesAnswer}}, proofs.Laws.{on_running}}
+use Rattle.df_workload.specs.{Hearing.{outcome_in}, declared.outcome.Outcome.{Outcome}}
+use Rattle.df_top.{specs.Works.{HearsOf, IsRunning, StepsOn, StillRuns}, proofs.SameWords.{same_words}}
 
 -- ---- a running checkpoint
 

@@ -1,30 +1,11 @@
 -- A generated run over a replica: its calls are joined, and what they leave of a file.
-use Rattle.std.proofs.Common.{◌≡◌, ◌<◌, ◌+◌, ℕ, Bool, true, List, [], ◌∷◌, ◌++◌, length, map, Option, Some, None, refl, sym, ◌∙◌, ap, subst, Result, Ok, Err, IsErr, IsErrAnd, inl, inr, arith}
-use Rattle.std.specs.Prelude.{OnOk}
-use Rattle.std.proofs.lemmas.List.{map-append}
-use Rattle.std.proofs.lemmas.Result.{err_from_is_err_and}
+use Rattle.std.{proofs.{Common.{◌≡◌, ◌<◌, ◌+◌, ℕ, Bool, true, List, [], ◌∷◌, ◌++◌, length, map, Option, Some, None, refl, sym, ◌∙◌, ap, subst, Result, Ok, Err, IsErr, IsErrAnd, inl, inr, arith}, lemmas.List.{map-append}, lemmas.Result.{err_from_is_err_and}}, specs.Prelude.{OnOk}}
 use Rattle.df_disk.specs.Told.{Told}
 use Rattle.df_model.specs.Commands.{Advance, Answer, Command}
-use Rattle.df_session.specs.Session.{Exchange, acts_in, answer_in, answers_in, command_in}
+use Rattle.df_session.{specs.{Session.{Exchange, acts_in, answer_in, answers_in, command_in}, Below.{State as Replica}, Endings.{EndsBy}, Links.{More, NoCalls}, declared.hearing.Fault.{Fault}, declared.hearing.Fault.TheVariants.{Disk, Damaged}}, proofs.Laws.{calls_join}}
 use Rattle.df_script_model.specs.Texts.{damaged_text}
-use Rattle.df_session.specs.Below.{State as Replica}
-use Rattle.df_workload.specs.Asking.{asks, command_asked}
-use Rattle.df_workload.specs.declared.asked.Asked.{Asked}
-use Rattle.df_workload.specs.Following.{Follows}
-use Rattle.df_workload.specs.Hearing.{runs_after, told}
-use Rattle.df_workload.specs.Sound.{flag}
-use Rattle.df_workload.specs.declared.outcome.Outcome.{Outcome}
-use Rattle.df_workload.specs.declared.outcome.Outcome.TheVariants.{Refused, Accepted, Wrote, Finished}
-use Rattle.df_workload.specs.declared.state.State.{State as Run}
-use Rattle.df_workload.proofs.Laws.{follows_more, runs_so}
-use Rattle.df_session.specs.Endings.{EndsBy}
-use Rattle.df_session.specs.Links.{More, NoCalls}
-use Rattle.df_session.specs.declared.hearing.Fault.{Fault}
-use Rattle.df_session.specs.declared.hearing.Fault.TheVariants.{Disk, Damaged}
-use Rattle.df_top.specs.Works.{Comes, Fails, HearsOf, IsRunning, PrintsRun, StepsOn, StillRuns, Worked, Works, WritesReport, steps_left}
-use Rattle.df_top.specs.declared.status.Status.{Status}
-use Rattle.df_session.proofs.Laws.{calls_join}
-use Rattle.df_top.proofs.Answered.{damaged_line}
+use Rattle.df_workload.{specs.{Asking.{asks, command_asked}, declared.asked.Asked.{Asked}, Following.{Follows}, Hearing.{runs_after, told}, Sound.{flag}, declared.outcome.Outcome.{Outcome}, declared.outcome.Outcome.TheVariants.{Refused, Accepted, Wrote, Finished}, declared.state.State.{State as Run}}, proofs.Laws.{follows_more, runs_so}}
+use Rattle.df_top.{specs.{Works.{Comes, Fails, HearsOf, IsRunning, PrintsRun, StepsOn, StillRuns, Worked, Works, WritesReport, steps_left}, declared.status.Status.{Status}}, proofs.Answered.{damaged_line}}
 
 -- ---- joined
 

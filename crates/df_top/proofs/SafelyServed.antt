@@ -2,35 +2,14 @@
 use Rattle.std.proofs.Common.{◌≡◌, ◌⊎◌, ◌<◌, ◌^◌, inl, inr, ℕ, zero, suc, Bool, true, List, [], ◌∷◌, ◌++◌, length, Option, None, Some, refl, subst}
 use Rattle.df_base.specs.Image.{IsImage}
 use Rattle.df_disk.specs.Told.{Told}
-use Rattle.df_layout.specs.declared.damage.Mend.{Mend}
-use Rattle.df_layout.specs.declared.layout.Layout.{Layout}
-use Rattle.df_lines.specs.Grammar.{Said}
-use Rattle.df_lines.specs.Room.{line_bound}
-use Rattle.df_lines.specs.Script.{BeginsWithLines, IsRefused, IsScript}
-use Rattle.df_lines.proofs.Laws.{one_script, begins_one}
-use Rattle.df_pace.specs.Beats.{idle}
-use Rattle.df_pace.specs.declared.pace.Pace.{Pace}
-use Rattle.df_session.specs.Below.{DataFile, IsNotRefused, State as Replica}
+use Rattle.df_layout.specs.{declared.damage.Mend.{Mend}, declared.layout.Layout.{Layout}}
+use Rattle.df_lines.{specs.{Grammar.{Said}, Room.{line_bound}, Script.{BeginsWithLines, IsRefused, IsScript}}, proofs.Laws.{one_script, begins_one}}
+use Rattle.df_pace.specs.{Beats.{idle}, declared.pace.Pace.{Pace}}
+use Rattle.df_session.{specs.{Below.{DataFile, IsNotRefused, State as Replica}, Following.{MayOpen}, Session.{Act}, Found.{FoundFile}}, proofs.Laws.{safe_is_not_refused}}
 use Rattle.df_theory.specs.View.{View, boot_of}
-use Rattle.df_session.specs.Following.{MayOpen}
-use Rattle.df_session.specs.Session.{Act}
-use Rattle.df_session.proofs.Laws.{safe_is_not_refused}
-use Rattle.df_session.specs.Found.{FoundFile}
 use Rattle.df_program.proofs.Laws.{nothing_failed}
-use Rattle.df_top.specs.Completeness.{IsCarriedOut, IsWholeScript, SafeIsRun, SafeIsServed}
-use Rattle.df_top.specs.Opening.{RefusesFile}
-use Rattle.df_top.specs.Outside.{Faults, HasCauses, NoneFailed, Outside}
-use Rattle.df_top.specs.Reporting.{status_of}
-use Rattle.df_top.specs.Scrubs.{failing_blocks, tour_status}
-use Rattle.df_top.specs.Run.{ComesTo, Does, DidNothing, RefusesSuperblock, ServesOwn, ServesScript, Works, script_budget}
-use Rattle.df_top.specs.Lines.{Turned, act_of, all_said, said_of}
-use Rattle.df_top.specs.Session.{EndsWith}
+use Rattle.df_top.specs.{Completeness.{IsCarriedOut, IsWholeScript, SafeIsRun, SafeIsServed}, Opening.{RefusesFile}, Outside.{Faults, HasCauses, NoneFailed, Outside}, Reporting.{status_of}, Scrubs.{failing_blocks, tour_status}, Run.{ComesTo, Does, DidNothing, RefusesSuperblock, ServesOwn, ServesScript, Works, script_budget}, Lines.{Turned, act_of, all_said, said_of}, Session.{EndsWith}, Works.{WritesReport}, declared.mode.Mode.{Mode}, declared.mode.Mode.TheVariants.{Format, Run, Recover, Inspect, Scrub, Workload, Upgrade, Paced}, declared.status.Status.{Status}, declared.status.Status.TheVariants.{Done, Found, Script, Refused, DiskFault, ReadFault, WriteFault, Memory}}
 use Rattle.df_workload.specs.declared.state.State.{State as Generated}
-use Rattle.df_top.specs.Works.{WritesReport}
-use Rattle.df_top.specs.declared.mode.Mode.{Mode}
-use Rattle.df_top.specs.declared.mode.Mode.TheVariants.{Format, Run, Recover, Inspect, Scrub, Workload, Upgrade, Paced}
-use Rattle.df_top.specs.declared.status.Status.{Status}
-use Rattle.df_top.specs.declared.status.Status.TheVariants.{Done, Found, Script, Refused, DiskFault, ReadFault, WriteFault, Memory}
 
 -- a report ends Done or Found
 listed : (mends : List Mend) (status : Status) → status ≡ status_of mends → (status ≡ Done) ⊎ (status ≡ Found)

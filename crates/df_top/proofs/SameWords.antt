@@ -1,13 +1,9 @@
 -- An answer and the machine's have one line, and a generated run hears the same of both.
-use Rattle.std.proofs.Common.{◌≡◌, Bool, true, false, Some, None, if◌then◌else◌, refl, subst, Ok, Err}
-use Rattle.std.proofs.lemmas.Option.{none-some}
+use Rattle.std.proofs.{Common.{◌≡◌, Bool, true, false, Some, None, if◌then◌else◌, refl, subst, Ok, Err}, lemmas.Option.{none-some}}
 use Rattle.df_inspect.specs.Answers.{line_of_answer}
-use Rattle.df_model.specs.Commands.{Answer as Answered, Command, ToAdvance, ToAppend, ToBegin, ToFlush, ToReadBlock, ToReadPrepare, ToReadReply, ToRelease, ToReply, ToScrub, ToStage, ToWriteBlock}
-use Rattle.df_model.specs.declared.answers.Progress.TheVariants.{Done, Working}
-use Rattle.df_model.specs.declared.commands.Answer.{Answer}
+use Rattle.df_model.specs.{Commands.{Answer as Answered, Command, ToAdvance, ToAppend, ToBegin, ToFlush, ToReadBlock, ToReadPrepare, ToReadReply, ToRelease, ToReply, ToScrub, ToStage, ToWriteBlock}, declared.answers.Progress.TheVariants.{Done, Working}, declared.commands.Answer.{Answer}, Faults.{is_append_fault, is_block_fault, is_flush_fault, is_lookup_fault, is_prepare_fault, is_read_fault, is_reply_fault}}
 use Rattle.df_model.specs.declared.commands.Answer.TheVariants as answers
 use Rattle.df_model.specs.declared.errors.StepError.TheVariants as step
-use Rattle.df_model.specs.Faults.{is_append_fault, is_block_fault, is_flush_fault, is_lookup_fault, is_prepare_fault, is_read_fault, is_reply_fault}
 use Rattle.df_script_model.specs.Script.{answer_text}
 use Rattle.df_units.specs.Meaning.{number_of}
 use Rattle.df_workload.specs.Hearing.{outcome_in, outcome_of}

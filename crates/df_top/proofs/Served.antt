@@ -1,43 +1,16 @@
 -- A file that was opened is served, and one that wasn't is refused.
-use Rattle.std.proofs.Common.{◌≡◌, inl, inr, ℕ, Bool, true, List, Option, Some, None, refl, sym, ◌∙◌, ap, subst, Err}
-use Rattle.std.proofs.lemmas.Option.{none-some}
-use Rattle.df_base.specs.Image.{IsImage}
-use Rattle.df_base.specs.Log.{Sync}
-use Rattle.df_disk.specs.Told.{Told, after, did}
-use Rattle.df_disk.proofs.Laws.{goes_told}
+use Rattle.std.proofs.{Common.{◌≡◌, inl, inr, ℕ, Bool, true, List, Option, Some, None, refl, sym, ◌∙◌, ap, subst, Err}, lemmas.Option.{none-some}}
+use Rattle.df_base.specs.{Image.{IsImage}, Log.{Sync}}
+use Rattle.df_disk.{specs.Told.{Told, after, did}, proofs.Laws.{goes_told}}
 use Rattle.df_layout.specs.declared.layout.Layout.{Layout}
-use Rattle.df_lines.specs.Room.{IsFresh, line_bound}
-use Rattle.df_lines.specs.Text.{Reading, unread}
+use Rattle.df_lines.{specs.{Room.{IsFresh, line_bound}, Text.{Reading, unread}}, proofs.Laws.{unread_none}}
 use Rattle.df_model.specs.declared.errors.OpenError.{OpenError}
 use Rattle.df_model.specs.declared.errors.OpenError.TheVariants as opens
-use Rattle.df_session.specs.Begun.{begun_work}
-use Rattle.df_session.specs.Below.{State as Replica, IsOpened}
-use Rattle.df_session.specs.Opened.{MendsAll, StopsOpening, ToldBy}
-use Rattle.df_session.specs.Surveying.{TellsSurvey}
+use Rattle.df_session.{specs.{Begun.{begun_work}, Below.{State as Replica, IsOpened}, Opened.{MendsAll, StopsOpening, ToldBy}, Surveying.{TellsSurvey}, Found.{FoundFile}, Links.{CallsMade}, Laws.{CallsKeep}, Session.{Act}}, proofs.Laws.{begun_here, calls_keep, ends_told}}
 use Rattle.df_upgrade.specs.Below.{TellsSurveyAs}
-use Rattle.df_pace.specs.Beats.{started}
-use Rattle.df_pace.specs.declared.pace.Pace.{Pace}
-use Rattle.df_session.specs.Found.{FoundFile}
-use Rattle.df_session.specs.Links.{CallsMade}
-use Rattle.df_session.specs.Laws.{CallsKeep}
-use Rattle.df_session.proofs.Laws.{begun_here, calls_keep, ends_told}
+use Rattle.df_pace.specs.{Beats.{started}, declared.pace.Pace.{Pace}}
 use Rattle.df_program.proofs.Laws.{open_fault}
-use Rattle.df_top.specs.Acknowledging.{script_calls}
-use Rattle.df_top.specs.Opening.{FailsToFind, RefusesFileAs, StopsBefore}
-use Rattle.df_top.specs.Outside.{IsThrough, Outside}
-use Rattle.df_top.specs.Refusing.{PrintsOpenError}
-use Rattle.df_top.specs.Mode.{Executes}
-use Rattle.df_top.specs.Run.{ComesTo, Does, ServesScript, start}
-use Rattle.df_session.specs.Session.{Act}
-use Rattle.df_lines.proofs.Laws.{unread_none}
-use Rattle.df_top.specs.Lines.{Failing, Turned, act_of, exchanges_in}
-use Rattle.df_top.specs.Session.{Ended, EndsWith, SessionState, state}
-use Rattle.df_top.specs.declared.mode.Mode.{Mode}
-use Rattle.df_top.specs.declared.mode.Mode.TheVariants.{Run, Paced}
-use Rattle.df_top.specs.declared.session.Session.{Session}
-use Rattle.df_top.specs.declared.status.Status.{Status}
-use Rattle.df_top.specs.declared.status.Status.TheVariants.{Done, Script, Words, Refused, Memory, DiskFault, ReadFault, WriteFault, Found}
-use Rattle.df_top.proofs.Resulted.{opened_prints}
+use Rattle.df_top.{specs.{Acknowledging.{script_calls}, Opening.{FailsToFind, RefusesFileAs, StopsBefore}, Outside.{IsThrough, Outside}, Refusing.{PrintsOpenError}, Mode.{Executes}, Run.{ComesTo, Does, ServesScript, start}, Lines.{Failing, Turned, act_of, exchanges_in}, Session.{Ended, EndsWith, SessionState, state}, declared.mode.Mode.{Mode}, declared.mode.Mode.TheVariants.{Run, Paced}, declared.session.Session.{Session}, declared.status.Status.{Status}, declared.status.Status.TheVariants.{Done, Script, Words, Refused, Memory, DiskFault, ReadFault, WriteFault, Found}}, proofs.Resulted.{opened_prints}}
 
 -- ---- a session that was just opened
 

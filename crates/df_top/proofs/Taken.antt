@@ -2,21 +2,11 @@
 use Rattle.std.proofs.Common.{◌≡◌, ℕ, Option, None, Ok, Err, refl, subst}
 use Rattle.df_base.specs.Causes.{IsBlamed}
 use Rattle.df_disk.specs.Told.{Told}
-use Rattle.df_model.specs.Commands.{Advance, Command, Scrub}
-use Rattle.df_model.specs.declared.answers.Scrubbed.{Scrubbed}
-use Rattle.df_model.specs.declared.commands.Answer.{Answer}
+use Rattle.df_model.specs.{Commands.{Advance, Command, Scrub}, declared.answers.Scrubbed.{Scrubbed}, declared.commands.Answer.{Answer}}
 use Rattle.df_model.specs.declared.commands.Answer.TheVariants as answers
-use Rattle.df_session.specs.Below.{State as Replica}
-use Rattle.df_session.specs.Endings.{EndsBy, GivesAnswer, is_disk_fault}
-use Rattle.df_session.specs.Links.{Makes}
-use Rattle.df_session.specs.Own.{AddsOwn}
-use Rattle.df_session.specs.Scrubbing.{IsScrub}
-use Rattle.df_session.specs.declared.hearing.Fault.{Fault}
-use Rattle.df_session.specs.declared.hearing.Fault.TheVariants.{Disk, Damaged}
-use Rattle.df_top.specs.Turning.{BlamesIfEnds}
-use Rattle.df_top.specs.declared.status.Status.TheVariants.{DiskFault}
+use Rattle.df_session.specs.{Below.{State as Replica}, Endings.{EndsBy, GivesAnswer, is_disk_fault}, Links.{Makes}, Own.{AddsOwn}, Scrubbing.{IsScrub}, declared.hearing.Fault.{Fault}, declared.hearing.Fault.TheVariants.{Disk, Damaged}}
+use Rattle.df_top.{specs.{Turning.{BlamesIfEnds}, declared.status.Status.TheVariants.{DiskFault}}, proofs.Answered.{disk_rose}}
 use Rattle.df_program.specs.declared.turn.Turn.TheVariants.{Ends}
-use Rattle.df_top.proofs.Answered.{disk_rose}
 
 module _ (s t : Replica) (old new : Option Told) where
   -- it found this

@@ -1,43 +1,18 @@
 -- A session's text and status follow from its script and from what the disk shows.
-use Rattle.std.proofs.Common.{◌≡◌, ◌⊎◌, inl, inr, ℕ, ◌+◌, ◌-◌, Bool, List, [], ◌∷◌, ◌++◌, length, map, Option, Some, None, refl, sym, ◌∙◌, ap, subst, arith}
-use Rattle.std.proofs.lemmas.List.{append-nil}
-use Rattle.df_base.specs.Image.{Image}
-use Rattle.df_base.specs.Streams.{Appends}
+use Rattle.std.proofs.{Common.{◌≡◌, ◌⊎◌, inl, inr, ℕ, ◌+◌, ◌-◌, Bool, List, [], ◌∷◌, ◌++◌, length, map, Option, Some, None, refl, sym, ◌∙◌, ap, subst, arith}, lemmas.List.{append-nil}}
+use Rattle.df_base.specs.{Image.{Image}, Streams.{Appends}}
 use Rattle.df_disk.specs.Told.{Told}
 use Rattle.df_inspect.specs.Opening.{script_text}
 use Rattle.df_layout.specs.declared.layout.Layout.{Layout}
-use Rattle.df_format.specs.Copies.{Content, content_at}
-use Rattle.df_format.specs.declared.superblock.SuperFields.{SuperFields}
-use Rattle.df_lines.specs.Grammar.{Said}
-use Rattle.df_lines.specs.Room.{line_bound}
-use Rattle.df_lines.specs.Script.{BeginsWithLines, IsRefused, IsScript}
-use Rattle.df_lines.specs.Text.{after_line, taken}
-use Rattle.df_lines.proofs.Laws.{one_script}
+use Rattle.df_format.specs.{Copies.{Content, content_at}, declared.superblock.SuperFields.{SuperFields}}
+use Rattle.df_lines.{specs.{Grammar.{Said}, Room.{line_bound}, Script.{BeginsWithLines, IsRefused, IsScript}, Text.{after_line, taken}}, proofs.Laws.{one_script}}
 use Rattle.df_quorum.specs.Quorum.{IsChosenContent}
-use Rattle.df_theory.specs.Found.{IsFound}
-use Rattle.df_theory.specs.Units.{AnyUnit, BlockPlace, Place, PreparePlace, ReplyPlace}
-use Rattle.df_theory.specs.View.{View}
-use Rattle.df_theory.proofs.Laws.{one_found_law}
+use Rattle.df_theory.{specs.{Found.{IsFound}, Units.{AnyUnit, BlockPlace, Place, PreparePlace, ReplyPlace}, View.{View}}, proofs.Laws.{one_found_law}}
 use Rattle.df_units.specs.Bytes.{unit_at}
-use Rattle.df_model.specs.Supply.{Shown, begun_from}
-use Rattle.df_model.specs.Work.{Work, opened}
-use Rattle.df_pace.specs.declared.pace.Pace.{Pace}
-use Rattle.df_pace.proofs.Laws.{idle_law}
-use Rattle.df_session.specs.Begun.{begun_work}
-use Rattle.df_session.specs.Below.{DataFile, IsOpened, State as Replica, shape}
-use Rattle.df_session.specs.Reading.{shown_of}
-use Rattle.df_session.proofs.Laws.{file_there, layout_there, one_super, same_file, super_shown, view_there, agree_self}
-use Rattle.df_session.specs.Codec.{codec}
-use Rattle.df_session.specs.Agreeing.{AgreeShown}
-use Rattle.df_session.specs.Found.{FoundFile}
-use Rattle.df_top.specs.Lines.{Failing, Turned, act_of, all_said, all_text, command_of_line, printed, said_of}
-use Rattle.df_top.specs.OneText.{OneText, ShowSame, TextIsResult, status_by, text_by}
-use Rattle.df_top.specs.Outside.{IsThrough, Outside}
-use Rattle.df_top.specs.Resulting.{TextAlone, joined, text_over}
-use Rattle.df_top.specs.Run.{ServesScript, script_budget, start}
-use Rattle.df_top.specs.Session.{EndsText, EndsWith}
-use Rattle.df_top.specs.declared.status.Status.{Status}
-use Rattle.df_top.specs.declared.status.Status.TheVariants.{Done, Script, Words, Refused, Memory, DiskFault, ReadFault, WriteFault, Found}
+use Rattle.df_model.specs.{Supply.{Shown, begun_from}, Work.{Work, opened}}
+use Rattle.df_pace.{specs.declared.pace.Pace.{Pace}, proofs.Laws.{idle_law}}
+use Rattle.df_session.{specs.{Begun.{begun_work}, Below.{DataFile, IsOpened, State as Replica, shape}, Reading.{shown_of}, Codec.{codec}, Agreeing.{AgreeShown}, Found.{FoundFile}}, proofs.Laws.{file_there, layout_there, one_super, same_file, super_shown, view_there, agree_self}}
+use Rattle.df_top.specs.{Lines.{Failing, Turned, act_of, all_said, all_text, command_of_line, printed, said_of}, OneText.{OneText, ShowSame, TextIsResult, status_by, text_by}, Outside.{IsThrough, Outside}, Resulting.{TextAlone, joined, text_over}, Run.{ServesScript, script_budget, start}, Session.{EndsText, EndsWith}, declared.status.Status.{Status}, declared.status.Status.TheVariants.{Done, Script, Words, Refused, Memory, DiskFault, ReadFault, WriteFault, Found}}
 
 -- ---- how a text ends
 

@@ -1,30 +1,14 @@
 -- A tour on its way: what is listed so far, with what is left to be checked, is all that fails.
-use Rattle.std.proofs.Common.{◌≡◌, inl, inr, ℕ, zero, suc, ◌+◌, ◌<◌, List, [], ◌∷◌, ◌++◌, length, Option, Some, refl, sym, ◌∙◌, ap, subst, arith, append_assoc, length-append}
-use Rattle.std.specs.Prelude.{Ok}
-use Rattle.std.proofs.lemmas.List.{append-nil}
-use Rattle.df_base.specs.Streams.{Appends, AppendsPart}
-use Rattle.df_base.proofs.Laws.{appends_more, appends_part, part_of_more}
+use Rattle.std.{proofs.{Common.{◌≡◌, inl, inr, ℕ, zero, suc, ◌+◌, ◌<◌, List, [], ◌∷◌, ◌++◌, length, Option, Some, refl, sym, ◌∙◌, ap, subst, arith, append_assoc, length-append}, lemmas.List.{append-nil}}, specs.Prelude.{Ok}}
+use Rattle.df_base.{specs.Streams.{Appends, AppendsPart}, proofs.Laws.{appends_more, appends_part, part_of_more}}
 use Rattle.df_disk.specs.Told.{Told}
 use Rattle.df_inspect.specs.Reports.{failing_text, failing_texts}
 use Rattle.df_layout.specs.declared.damage.Finding.{Finding}
-use Rattle.df_model.specs.Reading.{with_finding}
-use Rattle.df_model.specs.Work.{Tour, first_tour}
-use Rattle.df_model.specs.declared.answers.Scrubbed.{Scrubbed}
-use Rattle.df_model.specs.declared.answers.Scrubbed.TheVariants.{Checked, TourEnd}
-use Rattle.df_model.specs.declared.answers.Verdict.{Verdict}
-use Rattle.df_session.specs.Below.{ScrubState, State as Replica}
+use Rattle.df_model.{specs.{Reading.{with_finding}, Work.{Tour, first_tour}, declared.answers.Scrubbed.{Scrubbed}, declared.answers.Scrubbed.TheVariants.{Checked, TourEnd}, declared.answers.Verdict.{Verdict}}, proofs.Laws.{above, all_above, put_first}}
+use Rattle.df_session.specs.{Below.{ScrubState, State as Replica}, Scrubbing.{IsScrub, scrub_of, with_scrub}}
 use Rattle.df_script_model.specs.Texts.{scrubbed_text}
-use Rattle.df_session.specs.Scrubbing.{IsScrub, scrub_of, with_scrub}
-use Rattle.df_top.specs.Scrubs.{PrintsTour, failing_blocks, tour_report, tour_status}
-use Rattle.df_top.specs.Touring.{EndsTour, TakesStep, TellsStep, TellsTourFound}
-use Rattle.df_top.specs.declared.status.Status.{Status}
-use Rattle.df_top.specs.declared.status.Status.TheVariants.{DiskFault, Done, Found, WriteFault}
-use Rattle.df_top.specs.Outside.{Turn}
-use Rattle.df_program.specs.declared.turn.Turn.TheVariants.{Ends, GoesOn}
-use Rattle.df_top.specs.Turning.{BlamesIfEnds}
-use Rattle.df_program.proofs.Laws.{no_blame}
-use Rattle.df_model.proofs.Laws.{above, all_above, put_first}
-use Rattle.df_top.proofs.Checks.{IsChecked, IsEnded, IsStepOf, check_counts, check_fails, checked, ended, failing_of, left_of, referenced, referenced_rise}
+use Rattle.df_top.{specs.{Scrubs.{PrintsTour, failing_blocks, tour_report, tour_status}, Touring.{EndsTour, TakesStep, TellsStep, TellsTourFound}, declared.status.Status.{Status}, declared.status.Status.TheVariants.{DiskFault, Done, Found, WriteFault}, Outside.{Turn}, Turning.{BlamesIfEnds}}, proofs.Checks.{IsChecked, IsEnded, IsStepOf, check_counts, check_fails, checked, ended, failing_of, left_of, referenced, referenced_rise}}
+use Rattle.df_program.{specs.declared.turn.Turn.TheVariants.{Ends, GoesOn}, proofs.Laws.{no_blame}}
 
 -- ---- what is printed
 

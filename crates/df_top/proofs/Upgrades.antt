@@ -1,37 +1,17 @@
 -- A file of version 1 that is upgraded, or isn't: what is said of it, what is written of it, and how the word ends where nothing fails.
-use Rattle.std.proofs.Common.{◌≡◌, ◌⊎◌, ◌<◌, ◌^◌, inl, inr, ℕ, Option, Some, refl, sym, ◌∙◌, subst, Ok, Err, arith}
-use Rattle.std.specs.Prelude.{◌==◌, if◌then◌else◌}
-use Rattle.df_base.specs.Image.{Image, IsImage}
-use Rattle.df_base.specs.Log.{Sync}
+use Rattle.std.{proofs.Common.{◌≡◌, ◌⊎◌, ◌<◌, ◌^◌, inl, inr, ℕ, Option, Some, refl, sym, ◌∙◌, subst, Ok, Err, arith}, specs.Prelude.{◌==◌, if◌then◌else◌}}
+use Rattle.df_base.specs.{Image.{Image, IsImage}, Log.{Sync}}
 use Rattle.df_disk.specs.Told.{Told, after}
-use Rattle.df_format.specs.SuperRules.{fault_of}
-use Rattle.df_format.specs.declared.superblock.SuperFault.TheVariants.{Version as OtherVersion}
-use Rattle.df_format.specs.declared.superblock.SuperFields.{SuperFields}
+use Rattle.df_format.specs.{SuperRules.{fault_of}, declared.superblock.SuperFault.TheVariants.{Version as OtherVersion}, declared.superblock.SuperFields.{SuperFields}}
 use Rattle.df_layout.specs.declared.layout.Layout.{Layout}
 use Rattle.df_model.specs.declared.errors.OpenError.{OpenError}
 use Rattle.df_model.specs.declared.errors.OpenError.TheVariants as opens
-use Rattle.df_session.specs.Below.{DataFile, IsNeedless, shape}
-use Rattle.df_session.proofs.Laws.{found_is_usable}
-use Rattle.df_theory.specs.Found.{IsFound}
-use Rattle.df_theory.specs.View.{View, boot_of}
-use Rattle.df_units.specs.Bytes.{unit_at}
-use Rattle.df_units.specs.Within.{AddsWithin}
-use Rattle.df_units.proofs.Laws.{none_within}
-use Rattle.df_upgrade.specs.Below.{HasSuperAs, IsNotRefusedAs, MayBeHurtAs, RefusesAs, TellsSurveyAs, fault_as}
-use Rattle.df_upgrade.specs.Upgraded.{StopsUpgrading}
-use Rattle.df_upgrade.proofs.Laws.{answer_is_of_hurt_as, found_is_not_refused_as, headers_may_be_hurt_as, probe_is_of_hurt_as, super_as, two_copies_are_enough_as}
+use Rattle.df_session.{specs.Below.{DataFile, IsNeedless, shape}, proofs.Laws.{found_is_usable}}
+use Rattle.df_theory.specs.{Found.{IsFound}, View.{View, boot_of}}
+use Rattle.df_units.{specs.{Bytes.{unit_at}, Within.{AddsWithin}}, proofs.Laws.{none_within}}
+use Rattle.df_upgrade.{specs.{Below.{HasSuperAs, IsNotRefusedAs, MayBeHurtAs, RefusesAs, TellsSurveyAs, fault_as}, Upgraded.{StopsUpgrading}}, proofs.Laws.{answer_is_of_hurt_as, found_is_not_refused_as, headers_may_be_hurt_as, probe_is_of_hurt_as, super_as, two_copies_are_enough_as}}
 use Rattle.df_program.proofs.Laws.{open_fault}
-use Rattle.df_top.specs.Completeness.{OldIsUpgraded, SecondIsLeft}
-use Rattle.df_top.specs.Hurting.{RefusesCopiesAs}
-use Rattle.df_top.specs.Outside.{Faults, HasCauses, NoneFailed, Outside}
-use Rattle.df_top.specs.Refusing.{PrintsOpenError}
-use Rattle.df_top.specs.Run.{DidNothing, RefusesSuperblockAs}
-use Rattle.df_top.specs.Upgrading.{ComesToUpgrade, FailsToUpgrade, RunsUpgrade, UpgradeIsOfHurt, UpgradesHurt, UpgradesOverHurt, UpgradesOwn}
-use Rattle.df_top.specs.Within.{WritesOwnAs}
-use Rattle.df_top.specs.declared.status.Status.{Status}
-use Rattle.df_top.specs.declared.status.Status.TheVariants.{DiskFault, Done, Memory}
-use Rattle.df_top.proofs.Served.{refuses}
-use Rattle.df_top.proofs.Within.{barrier_within, mends_within}
+use Rattle.df_top.{specs.{Completeness.{OldIsUpgraded, SecondIsLeft}, Hurting.{RefusesCopiesAs}, Outside.{Faults, HasCauses, NoneFailed, Outside}, Refusing.{PrintsOpenError}, Run.{DidNothing, RefusesSuperblockAs}, Upgrading.{ComesToUpgrade, FailsToUpgrade, RunsUpgrade, UpgradeIsOfHurt, UpgradesHurt, UpgradesOverHurt, UpgradesOwn}, Within.{WritesOwnAs}, declared.status.Status.{Status}, declared.status.Status.TheVariants.{DiskFault, Done, Memory}}, proofs.{Served.{refuses}, Within.{barrier_within, mends_within}}}
 
 -- ---- it isn't upgraded
 

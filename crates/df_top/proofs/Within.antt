@@ -4,29 +4,11 @@ use Rattle.df_base.specs.Log.{Sync}
 use Rattle.df_disk.specs.Told.{Told, did}
 use Rattle.df_layout.specs.declared.layout.Layout.{Layout}
 use Rattle.df_theory.specs.Device.{AreSteps}
-use Rattle.df_units.proofs.Laws.{none_within, part_within, steps_within, then_within}
-use Rattle.df_units.specs.Format.{format_of}
-use Rattle.df_units.specs.Within.{AddsWithin, AreWithin}
-use Rattle.df_model.specs.Commands.{Answer}
-use Rattle.df_model.specs.declared.errors.FormatError.{FormatError}
+use Rattle.df_units.{proofs.Laws.{none_within, part_within, steps_within, then_within}, specs.{Format.{format_of}, Within.{AddsWithin, AreWithin}}}
+use Rattle.df_model.specs.{Commands.{Answer}, declared.errors.FormatError.{FormatError}}
 use Rattle.df_model.specs.declared.errors.FormatError.TheVariants as formats
-use Rattle.df_session.specs.Below.{DataFile, State as Replica}
-use Rattle.df_session.specs.Formatting.{AddsFormat, RefusesCluster}
-use Rattle.df_session.specs.Making.{making_events, making_steps}
-use Rattle.df_session.specs.Opened.{Mends, StopsOpening}
-use Rattle.df_session.specs.Serving.{IsCall}
-use Rattle.df_session.specs.Session.{Act, Exchange}
-use Rattle.df_session.specs.Found.{FoundFile}
-use Rattle.df_session.specs.Links.{AreCalls, EndsCalls, More, NoCalls}
-use Rattle.df_session.proofs.Laws.{layout_there}
-use Rattle.df_top.specs.Acknowledging.{run_calls, script_calls}
-use Rattle.df_top.specs.Opening.{StopsBefore}
-use Rattle.df_top.specs.Outside.{Outside}
-use Rattle.df_top.specs.Run.{ComesTo, Does, Runs, Works}
-use Rattle.df_top.specs.Within.{WritesOwn}
-use Rattle.df_top.specs.declared.mode.Mode.{Mode}
-use Rattle.df_top.specs.declared.mode.Mode.TheVariants.{Format, Run, Recover, Inspect, Scrub, Workload, Upgrade, Paced}
-use Rattle.df_top.specs.declared.status.Status.{Status}
+use Rattle.df_session.{specs.{Below.{DataFile, State as Replica}, Formatting.{AddsFormat, RefusesCluster}, Making.{making_events, making_steps}, Opened.{Mends, StopsOpening}, Serving.{IsCall}, Session.{Act, Exchange}, Found.{FoundFile}, Links.{AreCalls, EndsCalls, More, NoCalls}}, proofs.Laws.{layout_there}}
+use Rattle.df_top.specs.{Acknowledging.{run_calls, script_calls}, Opening.{StopsBefore}, Outside.{Outside}, Run.{ComesTo, Does, Runs, Works}, Within.{WritesOwn}, declared.mode.Mode.{Mode}, declared.mode.Mode.TheVariants.{Format, Run, Recover, Inspect, Scrub, Workload, Upgrade, Paced}, declared.status.Status.{Status}}
 
 -- ---- calls
 

@@ -1,12 +1,8 @@
 -- What the words ask for, and which clauses of a run speak of them.
 use Rattle.std.proofs.Common.{◌≡◌, ℕ, List, refl, subst}
 use Rattle.df_layout.specs.declared.layout.Layout.{Layout}
-use Rattle.df_top.specs.Mode.{AsksForFile, AsksOfFile, IsRunnable, Means, task_of}
-use Rattle.df_top.specs.declared.mode.Mode.{Mode}
-use Rattle.df_top.specs.declared.mode.Mode.TheVariants.{Format, Run, Recover, Inspect, Scrub, Workload, Upgrade, Paced}
-use Rattle.df_top.specs.declared.mode.NewFile.{NewFile}
+use Rattle.df_top.{specs.{Mode.{AsksForFile, AsksOfFile, IsRunnable, Means, task_of}, declared.mode.Mode.{Mode}, declared.mode.Mode.TheVariants.{Format, Run, Recover, Inspect, Scrub, Workload, Upgrade, Paced}, declared.mode.NewFile.{NewFile}}, proofs.Modes.{one_mode}}
 use Rattle.df_top.specs.declared.mode.Task.TheVariants as task
-use Rattle.df_top.proofs.Modes.{one_mode}
 
 -- words that ask for a file ask for one
 pub same_layout_asked : (words : List (List ℕ)) (layout other : Layout) (cluster another : ℕ) → Means words (Format layout cluster) → Means words (Format other another) → layout ≡ other

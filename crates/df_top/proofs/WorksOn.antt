@@ -1,39 +1,13 @@
 -- A file that was opened, and on which a generated run was carried out: what is answered and kept, and who is to blame.
-use Rattle.std.proofs.Common.{◌≡◌, inl, inr, ℕ, true, List, Option, Some, None, refl, sym, ◌∙◌, subst, Result, Ok, Err}
-use Rattle.std.proofs.lemmas.Option.{none-some}
-use Rattle.df_base.specs.Causes.{IsBlamed}
-use Rattle.df_base.specs.Image.{IsImage}
-use Rattle.df_base.specs.Log.{Sync}
-use Rattle.df_disk.specs.Told.{Told, did}
-use Rattle.df_disk.proofs.Laws.{goes_told}
-use Rattle.df_inspect.specs.Prints.{Prints}
-use Rattle.df_inspect.specs.Reports.{workload_text}
-use Rattle.df_inspect.specs.declared.counts.Workload.{Workload}
-use Rattle.df_layout.specs.declared.damage.Class.{Class}
-use Rattle.df_layout.specs.declared.places.Place.{Place}
+use Rattle.std.proofs.{Common.{◌≡◌, inl, inr, ℕ, true, List, Option, Some, None, refl, sym, ◌∙◌, subst, Result, Ok, Err}, lemmas.Option.{none-some}}
+use Rattle.df_base.specs.{Causes.{IsBlamed}, Image.{IsImage}, Log.{Sync}}
+use Rattle.df_disk.{specs.Told.{Told, did}, proofs.Laws.{goes_told}}
+use Rattle.df_inspect.specs.{Prints.{Prints}, Reports.{workload_text}, declared.counts.Workload.{Workload}}
+use Rattle.df_layout.specs.{declared.damage.Class.{Class}, declared.places.Place.{Place}, declared.layout.Layout.{Layout}}
 use Rattle.df_script_model.specs.Texts.{damaged_text}
-use Rattle.df_layout.specs.declared.layout.Layout.{Layout}
-use Rattle.df_session.specs.Below.{State as Replica}
-use Rattle.df_session.specs.Opened.{MendsAll, ToldBy}
-use Rattle.df_session.specs.Session.{Act}
-use Rattle.df_workload.specs.Rounds.{start}
-use Rattle.df_workload.specs.declared.state.State.{State as Run}
-use Rattle.df_session.specs.Endings.{is_disk_fault}
-use Rattle.df_session.specs.Found.{FoundFile}
-use Rattle.df_session.specs.Laws.{CallsKeep}
-use Rattle.df_session.specs.declared.hearing.Fault.{Fault}
-use Rattle.df_session.specs.declared.hearing.Fault.TheVariants.{Disk, Damaged}
-use Rattle.df_session.proofs.Laws.{calls_keep, ends_told}
-use Rattle.df_top.specs.Acknowledging.{run_calls}
-use Rattle.df_top.specs.Outside.{Blames, HasCauses, Outside, PrintsLine, status_or}
-use Rattle.df_top.specs.Refusing.{PrintsFault}
-use Rattle.df_top.specs.Working.{WorksThrough}
-use Rattle.df_top.specs.Works.{PrintsRun, WritesReport, workload_of}
-use Rattle.df_top.specs.declared.status.Status.{Status}
-use Rattle.df_top.specs.declared.status.Status.TheVariants.{Done, Words, Refused, WriteFault, Memory}
-use Rattle.df_top.proofs.Causes.{calm_done, calm_refused, failed_causes, line_causes, never_printed}
-use Rattle.df_top.proofs.Runs.{EndsRun}
-use Rattle.df_top.proofs.Served.{opened_file}
+use Rattle.df_session.{specs.{Below.{State as Replica}, Opened.{MendsAll, ToldBy}, Session.{Act}, Endings.{is_disk_fault}, Found.{FoundFile}, Laws.{CallsKeep}, declared.hearing.Fault.{Fault}, declared.hearing.Fault.TheVariants.{Disk, Damaged}}, proofs.Laws.{calls_keep, ends_told}}
+use Rattle.df_workload.specs.{Rounds.{start}, declared.state.State.{State as Run}}
+use Rattle.df_top.{specs.{Acknowledging.{run_calls}, Outside.{Blames, HasCauses, Outside, PrintsLine, status_or}, Refusing.{PrintsFault}, Working.{WorksThrough}, Works.{PrintsRun, WritesReport, workload_of}, declared.status.Status.{Status}, declared.status.Status.TheVariants.{Done, Words, Refused, WriteFault, Memory}}, proofs.{Causes.{calm_done, calm_refused, failed_causes, line_causes, never_printed}, Runs.{EndsRun}, Served.{opened_file}}}
 
 -- ---- what is printed
 

@@ -1,14 +1,10 @@
 -- The calls of a session go on, and so do their lines and what they print.
 use Rattle.std.proofs.Common.{◌≡◌, ℕ, ◌-◌, List, [], ◌∷◌, ◌++◌, Option, refl, sym, ◌∙◌, ap, subst, append_assoc}
-use Rattle.df_lines.specs.Grammar.{Said}
-use Rattle.df_lines.specs.Script.{BeginsWithLines, IsLine}
-use Rattle.df_lines.specs.Text.{after_line, taken}
+use Rattle.df_lines.specs.{Grammar.{Said}, Script.{BeginsWithLines, IsLine}, Text.{after_line, taken}}
 use Rattle.df_disk.specs.Told.{Told}
-use Rattle.df_pace.specs.declared.beat.Beat.{Beat}
-use Rattle.df_pace.specs.declared.pace.Pace.{Pace}
+use Rattle.df_pace.specs.{declared.beat.Beat.{Beat}, declared.pace.Pace.{Pace}}
 use Rattle.df_session.specs.Below.{State as Replica}
-use Rattle.df_top.specs.Lines.{Turned, all_said, all_text, said_by, told_by}
-use Rattle.df_top.specs.Pacing.{AreTurns, NextTurn, NoTurns, beat_after}
+use Rattle.df_top.specs.{Lines.{Turned, all_said, all_text, said_by, told_by}, Pacing.{AreTurns, NextTurn, NoTurns, beat_after}}
 
 -- ---- calls more
 

@@ -1,12 +1,6 @@
 -- The bytes of bits, from the blocks that they stand for.
-use Rattle.std.proofs.Common.{◌≡◌, ℕ, zero, suc, ◌+◌, ◌*◌, ◌/◌, ◌%◌, ◌^◌, ◌<◌, ◌≤◌, Bool, true, false, Option, Some, None, List, [], ◌∷◌, ◌++◌, length, get_or, refl, sym, ap, ◌∙◌, arith}
-use Rattle.std.specs.Prelude.{map, if◌then◌else◌}
-use Rattle.std.specs.Int.{bit_at, byte_at, bytes_low_first}
-use Rattle.std.proofs.lemmas.Nat.{pow-add, mod-pow-add}
-use Rattle.std.proofs.lemmas.Nat.Bits.{bit_at-suc, bit_at-zero}
-use Rattle.std.proofs.Math.Nat.{div-div-eq-div-mul, div-one}
-use Rattle.df_base.specs.Fields.{spelled}
-use Rattle.df_base.proofs.Laws.{bits_of_bytes}
+use Rattle.std.{proofs.{Common.{◌≡◌, ℕ, zero, suc, ◌+◌, ◌*◌, ◌/◌, ◌%◌, ◌^◌, ◌<◌, ◌≤◌, Bool, true, false, Option, Some, None, List, [], ◌∷◌, ◌++◌, length, get_or, refl, sym, ap, ◌∙◌, arith}, lemmas.Nat.{pow-add, mod-pow-add}, lemmas.Nat.Bits.{bit_at-suc, bit_at-zero}, Math.Nat.{div-div-eq-div-mul, div-one}}, specs.{Prelude.{map, if◌then◌else◌}, Int.{bit_at, byte_at, bytes_low_first}}}
+use Rattle.df_base.{specs.Fields.{spelled}, proofs.Laws.{bits_of_bytes}}
 use Rattle.df_trailer.specs.Spelling.{is_referenced, number_of_bits}
 
 abbrev pub bit_for : Option ℕ → ℕ

@@ -1,20 +1,9 @@
 -- The spelling serves the machine of the replica's commands.
-use Rattle.std.proofs.Common.{◌≡◌, ℕ, suc, ◌+◌, ◌*◌, ◌/◌, ◌^◌, ◌<◌, ◌≤◌, Bool, true, false, Some, List, [], ◌∷◌, length, arith}
-use Rattle.std.specs.Prelude.{map, min}
-use Rattle.std.specs.List.{slice_get}
-use Rattle.df_base.specs.Fields.{AreBytes}
-use Rattle.df_base.proofs.Laws.{so_text}
-use Rattle.df_theory.specs.Units.{Layout, Parts, Session}
-use Rattle.df_theory.specs.Shape.{Shape}
+use Rattle.std.{proofs.Common.{◌≡◌, ℕ, suc, ◌+◌, ◌*◌, ◌/◌, ◌^◌, ◌<◌, ◌≤◌, Bool, true, false, Some, List, [], ◌∷◌, length, arith}, specs.{Prelude.{map, min}, List.{slice_get}}}
+use Rattle.df_base.{specs.Fields.{AreBytes}, proofs.Laws.{so_text}}
+use Rattle.df_theory.specs.{Units.{Layout, Parts, Session}, Shape.{Shape}}
 use Rattle.df_model.specs.Codec.{IsCodec, IsLawful}
-use Rattle.df_trailer.specs.Laws.{HasLimits}
-use Rattle.df_trailer.specs.Spelling.{block_checksums, is_referenced, spell, trailer_pieces}
-use Rattle.df_trailer.specs.Text.{ones, parse_of}
-use Rattle.df_trailer.proofs.Blocks.{length_listed, so_checks}
-use Rattle.df_trailer.proofs.Sessions.{so_sessions}
-use Rattle.df_trailer.proofs.Sizes.{text_sized}
-use Rattle.df_trailer.proofs.Read.{text_read}
-use Rattle.df_trailer.proofs.Spelled.{lawful_stands, read_again, length_map}
+use Rattle.df_trailer.{specs.{Laws.{HasLimits}, Spelling.{block_checksums, is_referenced, spell, trailer_pieces}, Text.{ones, parse_of}}, proofs.{Blocks.{length_listed, so_checks}, Sessions.{so_sessions}, Sizes.{text_sized}, Read.{text_read}, Spelled.{lawful_stands, read_again, length_map}}}
 
 pub text_bytes : (l : Layout) (parts : Parts) → AreBytes parts.root → AreBytes (spell l parts)
 text_bytes l parts root =

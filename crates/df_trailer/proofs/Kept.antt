@@ -1,17 +1,9 @@
 -- What fails in a text is told by what a reader keeps of it.
-use Rattle.std.proofs.Common.{◌≡◌, ℕ, zero, suc, ◌+◌, ◌-◌, ◌*◌, ◌/◌, ◌<◌, ◌≤◌, ◌==◌, Bool, true, false, nat_lt, inl, inr, Option, Some, None, List, [], ◌∷◌, ◌++◌, length, take, drop, refl, sym, ap, ◌∙◌, subst, arith, append_assoc, length-append, length-drop, append-nil, ◌⊎◌}
-use Rattle.std.specs.Prelude.{if◌then◌else◌, slice_index}
-use Rattle.std.proofs.lemmas.Bool.{cases_eq, cases_lt, eq-eqb, ne_eqb, lt-ltb, le-ltb, ltb-false}
-use Rattle.std.proofs.lemmas.List.{drop_at, ext_get_or, get_or-take, get_or_append_left, get_or-append-add, length-take-le, take-append-drop}
-use Rattle.df_base.specs.Fields.{field_at}
-use Rattle.df_base.proofs.Laws.{field_front}
+use Rattle.std.{proofs.{Common.{◌≡◌, ℕ, zero, suc, ◌+◌, ◌-◌, ◌*◌, ◌/◌, ◌<◌, ◌≤◌, ◌==◌, Bool, true, false, nat_lt, inl, inr, Option, Some, None, List, [], ◌∷◌, ◌++◌, length, take, drop, refl, sym, ap, ◌∙◌, subst, arith, append_assoc, length-append, length-drop, append-nil, ◌⊎◌}, lemmas.Bool.{cases_eq, cases_lt, eq-eqb, ne_eqb, lt-ltb, le-ltb, ltb-false}, lemmas.List.{drop_at, ext_get_or, get_or-take, get_or_append_left, get_or-append-add, length-take-le, take-append-drop}}, specs.Prelude.{if◌then◌else◌, slice_index}}
+use Rattle.df_base.{specs.Fields.{field_at}, proofs.Laws.{field_front}}
 use Rattle.df_theory.specs.Units.{Layout}
-use Rattle.df_model.specs.Refusals.{first_refusal}
-use Rattle.df_model.proofs.Laws.{all_pass}
-use Rattle.df_trailer.specs.declared.fault.Failing.{Failing}
-use Rattle.df_trailer.specs.Reading.{AreChecksKept, IsTextFront, failing_of, rest_tests}
-use Rattle.df_trailer.specs.Text.{bits, bits_at, bits_in, bits_of, head_end, head_tests, is_whole, ones, sessions_at, tests}
-use Rattle.df_trailer.proofs.Longer.{count_front, head_end_is, root_front, same_tests, whole_has}
+use Rattle.df_model.{specs.Refusals.{first_refusal}, proofs.Laws.{all_pass}}
+use Rattle.df_trailer.{specs.{declared.fault.Failing.{Failing}, Reading.{AreChecksKept, IsTextFront, failing_of, rest_tests}, Text.{bits, bits_at, bits_in, bits_of, head_end, head_tests, is_whole, ones, sessions_at, tests}}, proofs.Longer.{count_front, head_end_is, root_front, same_tests, whole_has}}
 
 abbrev pub or_first : Option Failing → Option Failing → Option Failing
 or_first None g = g

@@ -1,22 +1,10 @@
 -- The sessions of a text in which nothing fails keep the rules of sessions, as the table has them.
-use Rattle.std.proofs.Common.{◌≡◌, ℕ, ◌≤◌, Option, Some, None, List, [], length, map, refl, sym, ap, ◌∙◌, subst}
-use Rattle.std.specs.List.{slice_get}
-use Rattle.std.specs.Option.{option_map}
-use Rattle.std.proofs.lemmas.List.{length-map}
-use Rattle.std.proofs.lemmas.Option.{slice_get-map}
+use Rattle.std.{proofs.{Common.{◌≡◌, ℕ, ◌≤◌, Option, Some, None, List, [], length, map, refl, sym, ap, ◌∙◌, subst}, lemmas.List.{length-map}, lemmas.Option.{slice_get-map}}, specs.{List.{slice_get}, Option.{option_map}}}
 use Rattle.df_layout.specs.declared.layout.Layout as file
 use Rattle.df_sessions.specs.declared.session.Session as table
 use Rattle.df_theory.specs.Units as model
 use Rattle.df_units.specs.Meaning.{layout_of}
-use Rattle.df_trailer.specs.declared.fault.Failing.{Failing}
-use Rattle.df_trailer.specs.declared.reader.Reader.{Reader}
-use Rattle.df_trailer.specs.Reading.{HasRead, failing_in}
-use Rattle.df_trailer.specs.Rooms.{without_reply}
-use Rattle.df_trailer.specs.Sessions.{AreReadSessions, IsReadSession}
-use Rattle.df_trailer.specs.Text.{count, fault, fault_in, parts_of, sessions_at}
-use Rattle.df_trailer.proofs.Fed.{fails_as_read}
-use Rattle.df_trailer.proofs.Read.{fine}
-use Rattle.df_trailer.proofs.Rules.{KeepRules}
+use Rattle.df_trailer.{specs.{declared.fault.Failing.{Failing}, declared.reader.Reader.{Reader}, Reading.{HasRead, failing_in}, Rooms.{without_reply}, Sessions.{AreReadSessions, IsReadSession}, Text.{count, fault, fault_in, parts_of, sessions_at}}, proofs.{Fed.{fails_as_read}, Read.{fine}, Rules.{KeepRules}}}
 use Rattle.df_trailer.proofs.Sessions as sessions
 
 -- a session of the table is one of the text, without a reply

@@ -1,13 +1,8 @@
 -- What stands in a text stays where more comes after it.
-use Rattle.std.proofs.Common.{◌≡◌, ℕ, ◌+◌, ◌-◌, ◌*◌, ◌/◌, ◌<◌, ◌≤◌, true, false, nat_lt, inl, inr, List, [], ◌∷◌, ◌++◌, length, take, get_or, refl, sym, ap, ◌∙◌, arith, append_assoc, append-nil, length-append}
-use Rattle.std.specs.Prelude.{nat_le, min}
-use Rattle.std.proofs.lemmas.Bool.{both_ways, cases_lt, lt-ltb, le-ltb, leb-true, leb-false, or_parts, or_cases}
-use Rattle.std.proofs.lemmas.List.{take_more}
-use Rattle.df_base.specs.Fields.{field_at}
-use Rattle.df_base.proofs.Laws.{field_front}
+use Rattle.std.{proofs.{Common.{◌≡◌, ℕ, ◌+◌, ◌-◌, ◌*◌, ◌/◌, ◌<◌, ◌≤◌, true, false, nat_lt, inl, inr, List, [], ◌∷◌, ◌++◌, length, take, get_or, refl, sym, ap, ◌∙◌, arith, append_assoc, append-nil, length-append}, lemmas.Bool.{both_ways, cases_lt, lt-ltb, le-ltb, leb-true, leb-false, or_parts, or_cases}, lemmas.List.{take_more}}, specs.Prelude.{nat_le, min}}
+use Rattle.df_base.{specs.Fields.{field_at}, proofs.Laws.{field_front}}
 use Rattle.df_model.specs.Refusals.{first_refusal}
-use Rattle.df_trailer.proofs.Sessions.{sessions_front}
-use Rattle.df_trailer.specs.Text.{bits_at, count, count_at, head_end, head_tests, is_whole, read_sessions, root_size, sessions_at}
+use Rattle.df_trailer.{proofs.Sessions.{sessions_front}, specs.Text.{bits_at, count, count_at, head_end, head_tests, is_whole, read_sessions, root_size, sessions_at}}
 
 pub root_front : (xs ys : List ℕ) → 4 ≤ length xs → root_size (xs ++ ys) ≡ root_size xs
 root_front xs ys fits = field_front 4 0 xs ys fits

@@ -1,24 +1,11 @@
 -- What a text in which no part fails says: lawful parts, of which it is the spelling.
-use Rattle.std.proofs.Common.{◌≡◌, ℕ, zero, suc, ◌+◌, ◌-◌, ◌*◌, ◌/◌, ◌^◌, ◌<◌, ◌≤◌, ◌==◌, Bool, true, false, Option, Some, None, List, [], ◌∷◌, length, take, drop, refl, sym, ap, ◌∙◌, subst, arith, length-drop}
-use Rattle.std.specs.Prelude.{map, min}
-use Rattle.std.specs.List.{slice_get}
-use Rattle.std.proofs.lemmas.List.{length-take-le, take_at}
-use Rattle.std.proofs.lemmas.Bool.{ltb-false, leb-false, eqb-true, not-false}
-use Rattle.df_base.specs.Fields.{AreBytes, field_at}
-use Rattle.df_base.specs.Text.{total}
-use Rattle.df_base.proofs.Laws.{field_at-lt, AreBytes-take, AreBytes-drop, spelled_back}
+use Rattle.std.{proofs.{Common.{◌≡◌, ℕ, zero, suc, ◌+◌, ◌-◌, ◌*◌, ◌/◌, ◌^◌, ◌<◌, ◌≤◌, ◌==◌, Bool, true, false, Option, Some, None, List, [], ◌∷◌, length, take, drop, refl, sym, ap, ◌∙◌, subst, arith, length-drop}, lemmas.List.{length-take-le, take_at}, lemmas.Bool.{ltb-false, leb-false, eqb-true, not-false}}, specs.{Prelude.{map, min}, List.{slice_get}}}
+use Rattle.df_base.{specs.{Fields.{AreBytes, field_at}, Text.{total}}, proofs.Laws.{field_at-lt, AreBytes-take, AreBytes-drop, spelled_back}}
 use Rattle.df_theory.specs.Units.{Layout, Parts, Session}
-use Rattle.df_model.specs.Codec.{InGrid, IsChecksum, IsLawful}
-use Rattle.df_model.specs.Refusals.{first_refusal}
-use Rattle.df_model.proofs.Laws.{all_pass}
-use Rattle.df_trailer.specs.declared.fault.Failing.{Failing}
-use Rattle.df_trailer.specs.declared.fault.Fault.{Fault}
-use Rattle.df_trailer.specs.Spelling.{block_checksums, is_referenced, listed, number_of_bits, spell, spell_checks, spell_sessions, trailer_pieces}
-use Rattle.df_trailer.specs.Text.{at_place, bits, bits_at, bits_of, checks_at, count, end_at, fault, fault_in, first_wrong, known_at_address, parse, parts_of, read_blocks, read_sessions, root_size, session, sessions_at, tests, unless, whole}
-use Rattle.df_trailer.proofs.Bits.{length_bits, number_bits}
+use Rattle.df_model.{specs.{Codec.{InGrid, IsChecksum, IsLawful}, Refusals.{first_refusal}}, proofs.Laws.{all_pass}}
+use Rattle.df_trailer.{specs.{declared.fault.Failing.{Failing}, declared.fault.Fault.{Fault}, Spelling.{block_checksums, is_referenced, listed, number_of_bits, spell, spell_checks, spell_sessions, trailer_pieces}, Text.{at_place, bits, bits_at, bits_of, checks_at, count, end_at, fault, fault_in, first_wrong, known_at_address, parse, parts_of, read_blocks, read_sessions, root_size, session, sessions_at, tests, unless, whole}}, proofs.{Bits.{length_bits, number_bits}, Rules.{KeepRules, rules_kept}}}
 use Rattle.df_trailer.proofs.Blocks as blocks
 use Rattle.df_trailer.proofs.Sessions as sessions
-use Rattle.df_trailer.proofs.Rules.{KeepRules, rules_kept}
 
 -- what the tests say of a text in which no part fails
 pub record IsFine (l : Layout) (op : ℕ) (text : List ℕ) : Type 0 where

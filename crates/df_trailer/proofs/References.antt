@@ -1,18 +1,9 @@
 -- What the rooms of a reader say of the blocks of a text in which nothing fails.
-use Rattle.std.proofs.Common.{◌≡◌, ℕ, zero, suc, ◌+◌, ◌-◌, ◌*◌, ◌/◌, ◌%◌, ◌<◌, ◌≤◌, ◌==◌, Bool, true, false, Option, Some, None, List, ◌∷◌, ◌++◌, length, drop, refl, sym, ap, ◌∙◌, arith, length-append}
-use Rattle.std.specs.Prelude.{if◌then◌else◌, slice_index}
-use Rattle.std.proofs.lemmas.Bool.{eqb-true}
-use Rattle.std.specs.Int.{bit_at}
-use Rattle.std.proofs.lemmas.Nat.Bits.{bit_at-suc}
-use Rattle.df_base.specs.Fields.{field_at}
-use Rattle.df_base.proofs.Laws.{field_moved, suc_minus, over_one}
+use Rattle.std.{proofs.{Common.{◌≡◌, ℕ, zero, suc, ◌+◌, ◌-◌, ◌*◌, ◌/◌, ◌%◌, ◌<◌, ◌≤◌, ◌==◌, Bool, true, false, Option, Some, None, List, ◌∷◌, ◌++◌, length, drop, refl, sym, ap, ◌∙◌, arith, length-append}, lemmas.Bool.{eqb-true}, lemmas.Nat.Bits.{bit_at-suc}}, specs.{Prelude.{if◌then◌else◌, slice_index}, Int.{bit_at}}}
+use Rattle.df_base.{specs.Fields.{field_at}, proofs.Laws.{field_moved, suc_minus, over_one}}
 use Rattle.df_theory.specs.Units.{Layout}
 use Rattle.df_model.specs.Refusals.{first_refusal}
-use Rattle.df_trailer.specs.Reading.{AreChecksKept, IsTextFront}
-use Rattle.df_trailer.specs.Text.{known_at_address, at_place, fault, read_blocks, bits, bits_at, bits_in, bits_of, checks_at, end_at, head_tests, ones, tests}
-use Rattle.df_trailer.proofs.Kept.{append_first, bits_at_front, bits_kept, head_ends, head_same, first_none}
-use Rattle.df_trailer.proofs.OneBit.{ones_more}
-use Rattle.df_trailer.proofs.Read.{fine, no_fault}
+use Rattle.df_trailer.{specs.{Reading.{AreChecksKept, IsTextFront}, Text.{known_at_address, at_place, fault, read_blocks, bits, bits_at, bits_in, bits_of, checks_at, end_at, head_tests, ones, tests}}, proofs.{Kept.{append_first, bits_at_front, bits_kept, head_ends, head_same, first_none}, OneBit.{ones_more}, Read.{fine, no_fault}}}
 
 -- what bits and the checksums after them say of the block at a place
 abbrev pub reference_of : List ℕ → List ℕ → ℕ → Option ℕ

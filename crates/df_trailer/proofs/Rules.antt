@@ -1,8 +1,5 @@
 -- The rules of sessions, as a test finds them broken.
-use Rattle.std.proofs.Common.{◌≡◌, ◌≢◌, ℕ, zero, suc, ◌^◌, ◌<◌, ◌≤◌, ◌==◌, false, nat_lt, Some, List, [], ◌∷◌, length, refl, sym, ap, ◌∙◌, arith, inl, inr}
-use Rattle.std.specs.List.{slice_get}
-use Rattle.std.proofs.lemmas.Bool.{ne_eqb, le-ltb, eqb-false, ltb-false, cases_Bool, or_parts}
-use Rattle.std.proofs.lemmas.Option.{same_Some}
+use Rattle.std.{proofs.{Common.{◌≡◌, ◌≢◌, ℕ, zero, suc, ◌^◌, ◌<◌, ◌≤◌, ◌==◌, false, nat_lt, Some, List, [], ◌∷◌, length, refl, sym, ap, ◌∙◌, arith, inl, inr}, lemmas.Bool.{ne_eqb, le-ltb, eqb-false, ltb-false, cases_Bool, or_parts}, lemmas.Option.{same_Some}}, specs.List.{slice_get}}
 use Rattle.df_theory.specs.Units.{Session}
 use Rattle.df_trailer.specs.Text.{is_repeated, is_wrong, wrong_place}
 

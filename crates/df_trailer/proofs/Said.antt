@@ -1,28 +1,10 @@
 -- What a reader gives of a text in which nothing fails: its parts.
-use Rattle.std.proofs.Common.{◌≡◌, ℕ, ◌+◌, ◌-◌, ◌*◌, ◌/◌, ◌%◌, ◌<◌, ◌≤◌, ◌==◌, Bool, true, false, Option, Some, None, List, [], ◌++◌, length, take, drop, map, get_or, replicate, refl, sym, ap, ◌∙◌, subst, arith, length-drop}
-use Rattle.std.specs.Prelude.{if◌then◌else◌, slice_index}
-use Rattle.std.specs.Int.{bit_at}
-use Rattle.std.proofs.lemmas.List.{drop-append-le, take-append-le}
-use Rattle.df_base.specs.Fields.{field_at}
-use Rattle.df_base.proofs.Laws.{field_moved}
+use Rattle.std.{proofs.{Common.{◌≡◌, ℕ, ◌+◌, ◌-◌, ◌*◌, ◌/◌, ◌%◌, ◌<◌, ◌≤◌, ◌==◌, Bool, true, false, Option, Some, None, List, [], ◌++◌, length, take, drop, map, get_or, replicate, refl, sym, ap, ◌∙◌, subst, arith, length-drop}, lemmas.List.{drop-append-le, take-append-le}}, specs.{Prelude.{if◌then◌else◌, slice_index}, Int.{bit_at}}}
+use Rattle.df_base.{specs.Fields.{field_at}, proofs.Laws.{field_moved}}
 use Rattle.df_layout.specs.declared.layout.Layout as file
 use Rattle.df_units.specs.Meaning.{layout_of}
 use Rattle.df_model.specs.Refusals.{first_refusal}
-use Rattle.df_trailer.specs.declared.fault.Failing.{Failing}
-use Rattle.df_trailer.specs.declared.parts.Parts.{Parts}
-use Rattle.df_trailer.specs.declared.reader.Reader.{Reader}
-use Rattle.df_trailer.specs.Reading.{AreChecksKept, HasBit, HasRead, bits_room, checks_room, failing_in, kept_at, referenced_below, rest_tests}
-use Rattle.df_trailer.specs.Rooms.{AreParts, bits_in_words, byte_in_checks, reference_in, without_reply}
-use Rattle.df_trailer.specs.Spelling.{bits_size, listed}
-use Rattle.df_trailer.specs.Text.{bits_in, bits_of, count, fault, fault_in, head_tests, ones, parts_of, read_sessions, root_size, sessions_at}
-use Rattle.df_trailer.proofs.Fed.{fails_as_read, room_size}
-use Rattle.df_trailer.proofs.Kept.{IsEnd, append_first, head_ends, first_none}
-use Rattle.df_trailer.proofs.Longer.{count_front, root_front}
-use Rattle.df_trailer.proofs.Sessions.{sessions_front}
-use Rattle.df_trailer.proofs.OneBit.{count_next, count_same}
-use Rattle.df_trailer.proofs.References.{few_ones, reference_at}
-use Rattle.df_trailer.proofs.Blocks.{length_listed}
-use Rattle.df_trailer.proofs.Words.{at_listed}
+use Rattle.df_trailer.{specs.{declared.fault.Failing.{Failing}, declared.parts.Parts.{Parts}, declared.reader.Reader.{Reader}, Reading.{AreChecksKept, HasBit, HasRead, bits_room, checks_room, failing_in, kept_at, referenced_below, rest_tests}, Rooms.{AreParts, bits_in_words, byte_in_checks, reference_in, without_reply}, Spelling.{bits_size, listed}, Text.{bits_in, bits_of, count, fault, fault_in, head_tests, ones, parts_of, read_sessions, root_size, sessions_at}}, proofs.{Fed.{fails_as_read, room_size}, Kept.{IsEnd, append_first, head_ends, first_none}, Longer.{count_front, root_front}, Sessions.{sessions_front}, OneBit.{count_next, count_same}, References.{few_ones, reference_at}, Blocks.{length_listed}, Words.{at_listed}}}
 
 root_said : (h rest : List ℕ) → IsEnd h → take (root_size h) (drop 4 h) ≡ take (root_size (h ++ rest)) (drop 4 (h ++ rest))
 root_said h rest e =

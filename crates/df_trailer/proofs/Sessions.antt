@@ -1,11 +1,8 @@
 -- The sessions of a trailer, spelled and read back.
 use Rattle.std.proofs.Common.{◌≡◌, ℕ, zero, suc, ◌+◌, ◌*◌, ◌≤◌, List, [], ◌∷◌, ◌++◌, length, drop, refl, sym, ap, ◌∙◌, arith}
-use Rattle.df_base.specs.Fields.{AreBytes, field_at}
-use Rattle.df_base.specs.Text.{AreSo, Fit}
-use Rattle.df_base.proofs.Laws.{field_front, so_none, so_text, text-append, behind, read_back, spelled_back}
+use Rattle.df_base.{specs.{Fields.{AreBytes, field_at}, Text.{AreSo, Fit}}, proofs.Laws.{field_front, so_none, so_text, text-append, behind, read_back, spelled_back}}
 use Rattle.df_theory.specs.Units.{Session}
-use Rattle.df_trailer.specs.Spelling.{session_pieces, spell_sessions}
-use Rattle.df_trailer.specs.Text.{read_sessions, session}
+use Rattle.df_trailer.specs.{Spelling.{session_pieces, spell_sessions}, Text.{read_sessions, session}}
 
 -- the numbers of the sessions fit their fields
 abbrev pub AreSmall : List Session → Type 0

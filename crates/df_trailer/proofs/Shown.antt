@@ -1,20 +1,9 @@
 -- A window of a text that an item more is put into.
-use Rattle.std.proofs.Common.{◌≡◌, ℕ, zero, suc, ◌+◌, ◌-◌, ◌*◌, ◌<◌, ◌≤◌, Option, Some, None, List, [], ◌∷◌, ◌++◌, length, take, drop, length-drop, get_or, subst, append_assoc, append-nil, refl, sym, ap, ◌∙◌, arith, inl, inr, length-append}
-use Rattle.std.specs.Prelude.{min, slice_index}
-use Rattle.std.proofs.lemmas.Bool.{cases_lt}
-use Rattle.std.proofs.lemmas.List.{get_or_append_left, get_or-append-add, ext_get_or, get_or-drop, get_or-take, length-take-le, take_all, take-append-le, take_more, map-append}
-use Rattle.std.specs.Int.{bit_at}
-use Rattle.df_base.specs.Fields.{spelled}
-use Rattle.df_base.proofs.Laws.{length-spelled}
+use Rattle.std.{proofs.{Common.{◌≡◌, ℕ, zero, suc, ◌+◌, ◌-◌, ◌*◌, ◌<◌, ◌≤◌, Option, Some, None, List, [], ◌∷◌, ◌++◌, length, take, drop, length-drop, get_or, subst, append_assoc, append-nil, refl, sym, ap, ◌∙◌, arith, inl, inr, length-append}, lemmas.Bool.{cases_lt}, lemmas.List.{get_or_append_left, get_or-append-add, ext_get_or, get_or-drop, get_or-take, length-take-le, take_all, take-append-le, take_more, map-append}}, specs.{Prelude.{min, slice_index}, Int.{bit_at}}}
+use Rattle.df_base.{specs.Fields.{spelled}, proofs.Laws.{length-spelled}}
 use Rattle.df_sessions.specs.declared.session.Session as table
 use Rattle.df_theory.specs.Units.{Session}
-use Rattle.df_trailer.specs.Rooms.{trailer_session}
-use Rattle.df_trailer.specs.Spelling.{listed, spell_checks, spell_sessions}
-use Rattle.df_trailer.specs.Writing.{IsPieceShown, captured_bits, captured_blocks, piece_of, sessions_of}
-use Rattle.df_trailer.proofs.BitBytes.{bit_for, number_bit, past_end}
-use Rattle.df_trailer.proofs.Sessions.{so_sessions}
-use Rattle.df_trailer.proofs.Blocks.{length_listed}
-use Rattle.df_trailer.proofs.Words.{at_listed}
+use Rattle.df_trailer.{specs.{Rooms.{trailer_session}, Spelling.{listed, spell_checks, spell_sessions}, Writing.{IsPieceShown, captured_bits, captured_blocks, piece_of, sessions_of}}, proofs.{BitBytes.{bit_for, number_bit, past_end}, Sessions.{so_sessions}, Blocks.{length_listed}, Words.{at_listed}}}
 
 pub shown_more : (text item room new : List ℕ) (from at : ℕ) → length text ≡ at → length new ≡ length room
     → ((k : ℕ) → from + k < at → slice_index new k ≡ slice_index room k)

@@ -1,18 +1,8 @@
 -- How long a trailer is, and how many pieces that makes.
-use Rattle.std.proofs.Common.{◌≡◌, ℕ, zero, suc, ◌+◌, ◌-◌, ◌*◌, ◌/◌, ◌%◌, ◌<◌, ◌≤◌, List, ◌++◌, length, drop, ap, ◌∙◌, arith, length-append}
-use Rattle.std.specs.Prelude.{map, min}
-use Rattle.std.specs.Int.{div_ceil}
-use Rattle.std.proofs.Math.Nat.{mul_comm, suc-mul}
-use Rattle.std.proofs.lemmas.Grind.{div_ceil_times}
-use Rattle.df_base.specs.Fields.{spelled}
-use Rattle.df_base.specs.Text.{Piece, text}
-use Rattle.df_base.proofs.Laws.{length-spelled, so_text}
-use Rattle.df_theory.specs.Trailer.{IsCount}
-use Rattle.df_theory.specs.Units.{Layout, Parts}
-use Rattle.df_trailer.specs.Spelling.{block_checksums, is_referenced, spell, spell_checks, text_size, trailer_pieces}
-use Rattle.df_trailer.specs.Text.{ones}
-use Rattle.df_trailer.proofs.Blocks.{so_checks}
-use Rattle.df_trailer.proofs.Sessions.{so_sessions}
+use Rattle.std.{proofs.{Common.{◌≡◌, ℕ, zero, suc, ◌+◌, ◌-◌, ◌*◌, ◌/◌, ◌%◌, ◌<◌, ◌≤◌, List, ◌++◌, length, drop, ap, ◌∙◌, arith, length-append}, Math.Nat.{mul_comm, suc-mul}, lemmas.Grind.{div_ceil_times}}, specs.{Prelude.{map, min}, Int.{div_ceil}}}
+use Rattle.df_base.{specs.{Fields.{spelled}, Text.{Piece, text}}, proofs.Laws.{length-spelled, so_text}}
+use Rattle.df_theory.specs.{Trailer.{IsCount}, Units.{Layout, Parts}}
+use Rattle.df_trailer.{specs.{Spelling.{block_checksums, is_referenced, spell, spell_checks, text_size, trailer_pieces}, Text.{ones}}, proofs.{Blocks.{so_checks}, Sessions.{so_sessions}}}
 
 pub text_sized : (l : Layout) (parts : Parts) → length (spell l parts) ≡ text_size l (length parts.root) (length parts.sessions) (ones (map is_referenced (block_checksums l parts)))
 text_sized l parts =

@@ -1,17 +1,7 @@
 -- What a window doesn't show of a text needn't be put.
-use Rattle.std.proofs.Common.{◌≡◌, ℕ, zero, suc, ◌+◌, ◌-◌, ◌*◌, ◌<◌, ◌≤◌, inl, inr, Option, Some, None, List, [], ◌∷◌, ◌++◌, length, append_assoc, append-nil, sym, ap, ◌∙◌, subst, arith, length-append}
-use Rattle.std.specs.Prelude.{map}
-use Rattle.std.specs.Int.{byte_at}
-use Rattle.std.proofs.lemmas.Bool.{cases_lt}
-use Rattle.std.proofs.lemmas.List.{get_or_append_left}
-use Rattle.df_base.specs.Fields.{spelled}
-use Rattle.df_base.proofs.Laws.{length-spelled, plus_zero}
-use Rattle.df_trailer.specs.Spelling.{is_referenced, spell_checks}
-use Rattle.df_trailer.specs.Text.{ones}
-use Rattle.df_trailer.specs.Writing.{IsPieceShown, captured_blocks, referenced_among}
-use Rattle.df_trailer.proofs.BitBytes.{spelled_more, spelled_none}
-use Rattle.df_trailer.proofs.Blocks.{length_listed, so_checks}
-use Rattle.df_trailer.proofs.Shown.{checks_more, shown_all}
+use Rattle.std.{proofs.{Common.{◌≡◌, ℕ, zero, suc, ◌+◌, ◌-◌, ◌*◌, ◌<◌, ◌≤◌, inl, inr, Option, Some, None, List, [], ◌∷◌, ◌++◌, length, append_assoc, append-nil, sym, ap, ◌∙◌, subst, arith, length-append}, lemmas.Bool.{cases_lt}, lemmas.List.{get_or_append_left}}, specs.{Prelude.{map}, Int.{byte_at}}}
+use Rattle.df_base.{specs.Fields.{spelled}, proofs.Laws.{length-spelled, plus_zero}}
+use Rattle.df_trailer.{specs.{Spelling.{is_referenced, spell_checks}, Text.{ones}, Writing.{IsPieceShown, captured_blocks, referenced_among}}, proofs.{BitBytes.{spelled_more, spelled_none}, Blocks.{length_listed, so_checks}, Shown.{checks_more, shown_all}}}
 
 -- a text that ends before the window
 pub shown_before : (from : ℕ) (room text : List ℕ) → length text ≤ from → IsPieceShown text from room

@@ -1,24 +1,9 @@
 -- What stands where in the text of lawful parts.
-use Rattle.std.proofs.Common.{◌≡◌, ℕ, zero, suc, ◌+◌, ◌*◌, ◌/◌, ◌^◌, ◌<◌, ◌≤◌, ◌==◌, Bool, true, false, nat_lt, Option, Some, None, List, [], ◌∷◌, ◌++◌, length, take, drop, refl, sym, ap, ◌∙◌, subst, arith}
-use Rattle.std.specs.Prelude.{map, nat_le}
-use Rattle.std.specs.List.{slice_get}
-use Rattle.std.proofs.Math.Path.{fun_ext}
-use Rattle.std.proofs.Math.Nat.{pow-le-pow_right}
-use Rattle.std.proofs.lemmas.List.{take-append-drop}
-use Rattle.std.proofs.lemmas.Bool.{le-ltb, lt-leb, eq-eqb}
-use Rattle.df_base.specs.Fields.{field_at}
-use Rattle.df_base.specs.Text.{Fit, AreRead, total}
-use Rattle.df_base.proofs.Laws.{bits_of_bytes, behind, read_back, no_some}
+use Rattle.std.{proofs.{Common.{◌≡◌, ℕ, zero, suc, ◌+◌, ◌*◌, ◌/◌, ◌^◌, ◌<◌, ◌≤◌, ◌==◌, Bool, true, false, nat_lt, Option, Some, None, List, [], ◌∷◌, ◌++◌, length, take, drop, refl, sym, ap, ◌∙◌, subst, arith}, Math.Path.{fun_ext}, Math.Nat.{pow-le-pow_right}, lemmas.List.{take-append-drop}, lemmas.Bool.{le-ltb, lt-leb, eq-eqb}}, specs.{Prelude.{map, nat_le}, List.{slice_get}}}
+use Rattle.df_base.{specs.{Fields.{field_at}, Text.{Fit, AreRead, total}}, proofs.Laws.{bits_of_bytes, behind, read_back, no_some}}
 use Rattle.df_theory.specs.Units.{Layout, Parts, Session}
 use Rattle.df_model.specs.Codec.{IsLawful, IsLawfulSession}
-use Rattle.df_trailer.specs.Spelling.{bits_size, block_checksums, is_referenced, number_of_bits, spell, spell_checks, spell_sessions, trailer_pieces}
-use Rattle.df_trailer.specs.Text.{bits, bits_at, bits_of, checks_at, count, count_at, end_at, fault, first_wrong, known_at_address, ones, parse, parts_of, read_blocks, read_sessions, root_size, sessions_at, whole, wrong_place}
-use Rattle.df_trailer.specs.Laws.{HasLimits}
-use Rattle.df_trailer.proofs.Bits.{bits_number, number_small}
-use Rattle.df_trailer.proofs.Blocks.{checks_listed, checks_read, length_listed, place_listed}
-use Rattle.df_trailer.proofs.Sessions.{AreSmall, sessions_read, so_sessions}
-use Rattle.df_trailer.proofs.Sizes.{text_sized}
-use Rattle.df_trailer.proofs.Rules.{KeepRules, none_wrong}
+use Rattle.df_trailer.{specs.{Spelling.{bits_size, block_checksums, is_referenced, number_of_bits, spell, spell_checks, spell_sessions, trailer_pieces}, Text.{bits, bits_at, bits_of, checks_at, count, count_at, end_at, fault, first_wrong, known_at_address, ones, parse, parts_of, read_blocks, read_sessions, root_size, sessions_at, whole, wrong_place}, Laws.{HasLimits}}, proofs.{Bits.{bits_number, number_small}, Blocks.{checks_listed, checks_read, length_listed, place_listed}, Sessions.{AreSmall, sessions_read, so_sessions}, Sizes.{text_sized}, Rules.{KeepRules, none_wrong}}}
 
 -- what stands where
 pub record Stands (l : Layout) (parts : Parts) (text : List ℕ) : Type 0 where

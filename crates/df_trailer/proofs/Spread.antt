@@ -1,12 +1,6 @@
 -- Checksums that are moved from one after the other to the places of their blocks, from the last place down.
-use Rattle.std.proofs.Common.{◌≡◌, ℕ, suc, ◌+◌, ◌<◌, ◌≤◌, ◌==◌, Bool, true, false, List, [], length, get_or, set, refl, sym, ap, ◌∙◌, arith, inl, inr}
-use Rattle.std.specs.Prelude.{replicate}
-use Rattle.std.specs.Int.{bit_at}
-use Rattle.std.proofs.lemmas.Bool.{cases_eq, eqb-true}
-use Rattle.std.proofs.lemmas.List.{get_or-set_same, get_or-set_other, length-set}
-use Rattle.df_trailer.specs.Text.{bits_of, ones}
-use Rattle.df_trailer.proofs.OneBit.{bit_is_none, ones_more}
-use Rattle.df_trailer.proofs.References.{few_ones}
+use Rattle.std.{proofs.{Common.{◌≡◌, ℕ, suc, ◌+◌, ◌<◌, ◌≤◌, ◌==◌, Bool, true, false, List, [], length, get_or, set, refl, sym, ap, ◌∙◌, arith, inl, inr}, lemmas.Bool.{cases_eq, eqb-true}, lemmas.List.{get_or-set_same, get_or-set_other, length-set}}, specs.{Prelude.{replicate}, Int.{bit_at}}}
+use Rattle.df_trailer.{specs.Text.{bits_of, ones}, proofs.{OneBit.{bit_is_none, ones_more}, References.{few_ones}}}
 
 -- the checksums from a place on are where they belong, and those before it where they were; so many blocks before it are referenced
 pub record IsSpread (x blocks : ℕ) (old now : List (List ℕ)) (rank place : ℕ) : Type 0 where

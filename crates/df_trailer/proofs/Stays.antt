@@ -1,16 +1,9 @@
 -- What fails in a text, whatever comes after it, fails in each longer text.
-use Rattle.std.proofs.Common.{◌≡◌, ℕ, zero, suc, ◌+◌, ◌-◌, ◌*◌, ◌/◌, ◌^◌, ◌<◌, ◌≤◌, ◌==◌, Bool, true, false, nat_lt, inl, inr, Option, Some, None, List, [], ◌∷◌, ◌++◌, length, refl, ap, ◌∙◌, subst, arith, length-append}
-use Rattle.std.specs.Prelude.{min, nat_le, if◌then◌else◌}
-use Rattle.std.proofs.lemmas.Bool.{cases_Bool, cases_lt, lt-ltb, le-ltb, le-leb, lt-leb}
-use Rattle.df_base.specs.Fields.{field_at}
-use Rattle.df_base.proofs.Laws.{field_front}
+use Rattle.std.{proofs.{Common.{◌≡◌, ℕ, zero, suc, ◌+◌, ◌-◌, ◌*◌, ◌/◌, ◌^◌, ◌<◌, ◌≤◌, ◌==◌, Bool, true, false, nat_lt, inl, inr, Option, Some, None, List, [], ◌∷◌, ◌++◌, length, refl, ap, ◌∙◌, subst, arith, length-append}, lemmas.Bool.{cases_Bool, cases_lt, lt-ltb, le-ltb, le-leb, lt-leb}}, specs.Prelude.{min, nat_le, if◌then◌else◌}}
+use Rattle.df_base.{specs.Fields.{field_at}, proofs.Laws.{field_front}}
 use Rattle.df_theory.specs.Units.{Layout, Session}
 use Rattle.df_model.specs.Refusals.{first_refusal}
-use Rattle.df_trailer.specs.declared.fault.Failing.{Failing}
-use Rattle.df_trailer.specs.declared.fault.Fault.{Fault}
-use Rattle.df_trailer.specs.Text.{fault, fault_in, refusal_in, says, tests, bits, bits_at, checks_at, count, count_at, end_at, first_wrong, is_wrong, read_sessions, refusal, root_size, session, sessions_at, whole, wrong_place}
-use Rattle.df_trailer.proofs.Longer.{root_front}
-use Rattle.df_trailer.proofs.Sessions.{session_front, sessions_front}
+use Rattle.df_trailer.{specs.{declared.fault.Failing.{Failing}, declared.fault.Fault.{Fault}, Text.{fault, fault_in, refusal_in, says, tests, bits, bits_at, checks_at, count, count_at, end_at, first_wrong, is_wrong, read_sessions, refusal, root_size, session, sessions_at, whole, wrong_place}}, proofs.{Longer.{root_front}, Sessions.{session_front, sessions_front}}}
 
 wrong_front : (op : ℕ) (before : List Session) (n m at : ℕ) (t ys : List ℕ) → n ≤ m → at + 32 * n ≤ length t → wrong_place op before (read_sessions n at t) < n
     → wrong_place op before (read_sessions m at (t ++ ys)) ≡ wrong_place op before (read_sessions n at t)

@@ -1,12 +1,6 @@
 -- A piece after the head, byte by byte.
-use Rattle.std.proofs.Common.{◌≡◌, ◌≢◌, ℕ, ◌+◌, ◌*◌, ◌/◌, ◌<◌, List, [], length, take, refl, sym, ap, ◌∙◌, arith, inl, inr}
-use Rattle.std.specs.Prelude.{slice_index}
-use Rattle.std.proofs.lemmas.Bool.{cases_lt}
-use Rattle.std.proofs.lemmas.List.{get_or-take, length-take-le}
-use Rattle.df_trailer.specs.declared.reader.Reader.{Reader}
-use Rattle.df_trailer.specs.Reading.{IsRestTaken}
-use Rattle.df_trailer.specs.Rooms.{byte_in_checks, byte_in_words}
-use Rattle.df_trailer.proofs.Spread.{clash}
+use Rattle.std.{proofs.{Common.{◌≡◌, ◌≢◌, ℕ, ◌+◌, ◌*◌, ◌/◌, ◌<◌, List, [], length, take, refl, sym, ap, ◌∙◌, arith, inl, inr}, lemmas.Bool.{cases_lt}, lemmas.List.{get_or-take, length-take-le}}, specs.Prelude.{slice_index}}
+use Rattle.df_trailer.{specs.{declared.reader.Reader.{Reader}, Reading.{IsRestTaken}, Rooms.{byte_in_checks, byte_in_words}}, proofs.Spread.{clash}}
 
 -- one byte more
 pub record IsByteTaken (old new : Reader) (byte : ℕ) : Type 0 where

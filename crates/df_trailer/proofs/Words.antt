@@ -1,19 +1,7 @@
 -- Bits in words of 64: their bytes, and each of them as a bit of one number.
-use Rattle.std.proofs.Common.{◌≡◌, ◌≢◌, ℕ, zero, suc, ◌+◌, ◌*◌, ◌/◌, ◌%◌, ◌^◌, ◌<◌, ◌==◌, List, ◌++◌, length, take, drop, get_or, set, nat_eq, refl, sym, ap, ◌∙◌, subst, arith, inl, inr, bit_and}
-use Rattle.std.specs.Prelude.{slice_index}
-use Rattle.std.specs.Int.{bit_at, byte_at, bytes_low_first, to_le_bytes, from_le_bytes, w64}
-use Rattle.std.proofs.lemmas.Nat.Bits.{shr_and_one, bit_at_cat_low}
-use Rattle.std.proofs.lemmas.Nat.{le_bytes_8}
-use Rattle.std.proofs.lemmas.Bool.{cases_eq}
-use Rattle.std.proofs.lemmas.List.{get_or-set_same, get_or-set_other, length-set, take-append-le, take_all}
-use Rattle.df_base.specs.Fields.{AreBytes}
-use Rattle.df_base.proofs.Laws.{byte_at-lt}
-use Rattle.df_trailer.specs.Rooms.{bits_in_words, byte_in_words, byte_of_word}
-use Rattle.df_trailer.specs.Spelling.{listed}
-use Rattle.df_trailer.specs.Text.{bits_in}
-use Rattle.df_trailer.proofs.Blocks.{length_listed}
-use Rattle.df_trailer.proofs.BitBytes.{bit_behind, byte_done}
-use Rattle.df_trailer.proofs.OneBit.{bit_found}
+use Rattle.std.{proofs.{Common.{◌≡◌, ◌≢◌, ℕ, zero, suc, ◌+◌, ◌*◌, ◌/◌, ◌%◌, ◌^◌, ◌<◌, ◌==◌, List, ◌++◌, length, take, drop, get_or, set, nat_eq, refl, sym, ap, ◌∙◌, subst, arith, inl, inr, bit_and}, lemmas.Nat.Bits.{shr_and_one, bit_at_cat_low}, lemmas.Nat.{le_bytes_8}, lemmas.Bool.{cases_eq}, lemmas.List.{get_or-set_same, get_or-set_other, length-set, take-append-le, take_all}}, specs.{Prelude.{slice_index}, Int.{bit_at, byte_at, bytes_low_first, to_le_bytes, from_le_bytes, w64}}}
+use Rattle.df_base.{specs.Fields.{AreBytes}, proofs.Laws.{byte_at-lt}}
+use Rattle.df_trailer.{specs.{Rooms.{bits_in_words, byte_in_words, byte_of_word}, Spelling.{listed}, Text.{bits_in}}, proofs.{Blocks.{length_listed}, BitBytes.{bit_behind, byte_done}, OneBit.{bit_found}}}
 
 -- ---- the first values of a function, as a list
 

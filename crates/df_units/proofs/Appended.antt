@@ -1,38 +1,13 @@
 -- An append on a disk is one of the theory.
-use Rattle.std.proofs.Common.{◌≡◌, inl, inr, ℕ, ◌/◌, ◌%◌, ◌==◌, List, [], Some, None, refl, sym, ◌∙◌, ap, subst}
-use Rattle.std.specs.Prelude.{slice_get}
-use Rattle.std.proofs.lemmas.Bool.{cond-true, eq-eqb}
+use Rattle.std.{proofs.{Common.{◌≡◌, inl, inr, ℕ, ◌/◌, ◌%◌, ◌==◌, List, [], Some, None, refl, sym, ◌∙◌, ap, subst}, lemmas.Bool.{cond-true, eq-eqb}, lemmas.Option.{same_Some}}, specs.Prelude.{slice_get, ◌++◌}}
 use Rattle.df_base.specs.Image.{Image}
 use Rattle.df_base.specs.Log
-use Rattle.df_layout.specs.declared.layout.Layout.{Layout}
-use Rattle.df_layout.specs.declared.places.Zone.TheVariants.{WalPrepares}
-use Rattle.df_format.specs.declared.header.Header.{Header}
-use Rattle.df_format.specs.Message.{Message}
-use Rattle.df_format.specs.Own.{place_in}
-use Rattle.df_format.specs.Brings.{Brings}
-use Rattle.df_format.specs.Valid.{IsInSlot}
-use Rattle.df_format.proofs.Laws.{read_belongs}
-use Rattle.std.specs.Prelude.{◌++◌}
-use Rattle.std.proofs.lemmas.Option.{same_Some}
+use Rattle.df_layout.specs.{declared.layout.Layout.{Layout}, declared.places.Zone.TheVariants.{WalPrepares}}
+use Rattle.df_format.{specs.{declared.header.Header.{Header}, Message.{Message}, Own.{place_in}, Brings.{Brings}, Valid.{IsInSlot}}, proofs.Laws.{read_belongs}}
 use Rattle.df_theory.specs.Units
-use Rattle.df_theory.specs.Units.{HeaderPlace, HeaderUnit, PreparePlace, PrepareUnit}
-use Rattle.df_theory.specs.Shape.{Shape}
+use Rattle.df_theory.{specs.{Units.{HeaderPlace, HeaderUnit, PreparePlace, PrepareUnit}, Shape.{Shape}, UnitLog.{PutsOne, put_one}, WriterLaws.{IsHeaderSector}, Commands.{append_command}, WholeLaws.{IsStanding}, Device.{AreSteps, units_log}, Runs.{Command}}, proofs.Laws.{put_one_law, shown_law, standing_moments_law, tidy_append_law, tidy_moments_law}}
 use Rattle.df_theory.specs.UnitLog
-use Rattle.df_theory.specs.UnitLog.{PutsOne, put_one}
-use Rattle.df_theory.specs.WriterLaws.{IsHeaderSector}
-use Rattle.df_theory.specs.Commands.{append_command}
-use Rattle.df_theory.specs.WholeLaws.{IsStanding}
-use Rattle.df_theory.specs.Device.{AreSteps, units_log}
-use Rattle.df_theory.specs.Runs.{Command}
-use Rattle.df_theory.proofs.Laws.{put_one_law, shown_law, standing_moments_law, tidy_append_law, tidy_moments_law}
-use Rattle.df_units.specs.Meaning.{header_of, message_of}
-use Rattle.df_units.specs.Bytes.{unit_at}
-use Rattle.df_units.specs.Format.{format_of, shape_of}
-use Rattle.df_units.specs.Puts.{IsNextSector, header_unit, put_headers}
-use Rattle.df_units.specs.Append.{AppendOnDisk, append_events}
-use Rattle.df_units.proofs.Local.{is_format}
-use Rattle.df_units.proofs.Told.{sector_puts}
-use Rattle.df_units.proofs.Writes.{headers_put, prepare_put}
+use Rattle.df_units.{specs.{Meaning.{header_of, message_of}, Bytes.{unit_at}, Format.{format_of, shape_of}, Puts.{IsNextSector, header_unit, put_headers}, Append.{AppendOnDisk, append_events}}, proofs.{Local.{is_format}, Told.{sector_puts}, Writes.{headers_put, prepare_put}}}
 
 -- a prepare stands in the slot of its op
 own_slot : (layout : Layout) (cluster : ℕ) (u : Message) (bytes : List ℕ) → Brings layout cluster (place_in WalPrepares u.header.slot) u bytes → u.header.slot ≡ u.header.op % layout.slots

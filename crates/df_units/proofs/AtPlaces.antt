@@ -1,33 +1,12 @@
 -- Reads of places, and what a unit at a place says.
-use Rattle.std.proofs.Common.{◌≡◌, inl, inr, ℕ, ◌<◌, ◌≤◌, ◌%◌, ◌^◌, List, Option, Some, None, refl, sym, ◌∙◌, ap, subst, arith}
-use Rattle.std.proofs.lemmas.List.{append-nil}
+use Rattle.std.proofs.{Common.{◌≡◌, inl, inr, ℕ, ◌<◌, ◌≤◌, ◌%◌, ◌^◌, List, Option, Some, None, refl, sym, ◌∙◌, ap, subst, arith}, lemmas.List.{append-nil}}
 use Rattle.df_base.specs.Image.{Image, IsImage, bytes_at}
-use Rattle.df_layout.specs.declared.damage.Class.{Class}
-use Rattle.df_layout.specs.declared.layout.Layout.{Layout}
-use Rattle.df_layout.specs.declared.places.Place.{Place}
-use Rattle.df_layout.specs.declared.places.Zone.TheVariants.{WalHeaders, WalPrepares, ClientReplies, Grid}
-use Rattle.df_layout.specs.Spans.{span_of}
-use Rattle.df_format.specs.declared.kind.Kind.{Kind}
-use Rattle.df_format.specs.declared.kind.Kind.TheVariants.{Reserved, Prepare, Reply}
-use Rattle.df_format.specs.declared.superblock.SuperCopy.{SuperCopy}
-use Rattle.df_format.specs.Rules.{ObeysKind, ObeysPrepare, ObeysReply, ObeysReserved, ObeysVersion}
-use Rattle.df_format.specs.Message.{Message}
-use Rattle.df_format.specs.Own.{place_in}
+use Rattle.df_layout.specs.{declared.damage.Class.{Class}, declared.layout.Layout.{Layout}, declared.places.Place.{Place}, declared.places.Zone.TheVariants.{WalHeaders, WalPrepares, ClientReplies, Grid}, Spans.{span_of}}
+use Rattle.df_format.{specs.{declared.kind.Kind.{Kind}, declared.kind.Kind.TheVariants.{Reserved, Prepare, Reply}, declared.superblock.SuperCopy.{SuperCopy}, Rules.{ObeysKind, ObeysPrepare, ObeysReply, ObeysReserved, ObeysVersion}, Message.{Message}, Own.{place_in}, Shown.{bytes_of, part_in, unit_in}, Copies.{Content, class_of_copy, content_at, content_in_copy as content_of_copy, copy_at, copy_in, copy_or_class, if_here}, Valid.{IsUnit}}, proofs.Laws.{read_shown, shown_belongs, shown_is_unit, header_count}}
 use Rattle.df_format.specs.Shown
-use Rattle.df_format.specs.Shown.{bytes_of, part_in, unit_in}
-use Rattle.df_format.specs.Copies.{Content, class_of_copy, content_at, content_in_copy as content_of_copy, copy_at, copy_in, copy_or_class, if_here}
-use Rattle.df_format.specs.Valid.{IsUnit}
-use Rattle.df_format.proofs.Laws.{read_shown, shown_belongs, shown_is_unit, header_count}
 use Rattle.df_theory.specs.Units
-use Rattle.df_theory.specs.Units.{AnyUnit, BlockPlace, CopyPlace, HeaderPlace, IsAlone, PreparePlace, PrepareUnit, ReplyPlace}
-use Rattle.df_theory.specs.Found.{IsInRange, IsOfPlace}
-use Rattle.df_units.specs.Meaning.{block_of, content_of, header_of, message_of, number_of, place_of}
-use Rattle.df_units.specs.Bytes.{copy_unit, message_unit, unit_at}
-use Rattle.df_units.specs.Format.{shape_of}
-use Rattle.df_units.specs.Shown.{CopyReadIsUnit, HeaderReadIsUnit, ReadIsUnit, UnbootedAreAlone, UnitsAreOfPlaces, read_copy}
-use Rattle.df_units.proofs.Chosen.{shown_checks}
-use Rattle.df_units.proofs.Numbers.{check_small, sealed_check}
-use Rattle.df_units.proofs.Versions.{first_alone, reply_alone}
+use Rattle.df_theory.specs.{Units.{AnyUnit, BlockPlace, CopyPlace, HeaderPlace, IsAlone, PreparePlace, PrepareUnit, ReplyPlace}, Found.{IsInRange, IsOfPlace}}
+use Rattle.df_units.{specs.{Meaning.{block_of, content_of, header_of, message_of, number_of, place_of}, Bytes.{copy_unit, message_unit, unit_at}, Format.{shape_of}, Shown.{CopyReadIsUnit, HeaderReadIsUnit, ReadIsUnit, UnbootedAreAlone, UnitsAreOfPlaces, read_copy}}, proofs.{Chosen.{shown_checks}, Numbers.{check_small, sealed_check}, Versions.{first_alone, reply_alone}}}
 
 -- ---- reads
 

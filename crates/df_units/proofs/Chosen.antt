@@ -1,25 +1,13 @@
 -- The choice among the copies is the theory's: contents are told apart by what the theory sees of them.
-use Rattle.std.proofs.Common.{inl, inr, ◌≡◌, ◌≢◌, ◌*◌, ℕ, suc, ◌+◌, ◌≤◌, List, [], ◌∷◌, ◌++◌, length, take, drop, Option, Some, None, refl, sym, ◌∙◌, ap, subst, arith}
-use Rattle.std.specs.Prelude.{map, slice_index}
-use Rattle.std.proofs.lemmas.Bool.{cases_eq}
-use Rattle.std.proofs.lemmas.List.{length-drop, length-map, length-take-le}
-use Rattle.std.proofs.lemmas.Option.{same_Some}
-use Rattle.df_base.specs.Image.{Image, IsImage, IsSector}
-use Rattle.df_base.proofs.Laws.{AreBytes-take, AreBytes-drop, same_front}
+use Rattle.std.{proofs.{Common.{inl, inr, ◌≡◌, ◌≢◌, ◌*◌, ℕ, suc, ◌+◌, ◌≤◌, List, [], ◌∷◌, ◌++◌, length, take, drop, Option, Some, None, refl, sym, ◌∙◌, ap, subst, arith}, lemmas.Bool.{cases_eq}, lemmas.List.{length-drop, length-map, length-take-le}, lemmas.Option.{same_Some}}, specs.Prelude.{map, slice_index}}
+use Rattle.df_base.{specs.Image.{Image, IsImage, IsSector}, proofs.Laws.{AreBytes-take, AreBytes-drop, same_front}}
 use Rattle.df_layout.specs.declared.layout.Layout.{Layout}
-use Rattle.df_format.specs.declared.superblock.SuperCopy.{SuperCopy}
-use Rattle.df_format.specs.Spelling.{IsCheck}
-use Rattle.df_format.specs.Copies.{Content, content_at, content_in_copy as content_of_copy, copy_at, copy_in, if_here, super_fields_of}
-use Rattle.df_format.proofs.Laws.{are_checks, is_here, length-checks_at, read_as}
+use Rattle.df_format.{specs.{declared.superblock.SuperCopy.{SuperCopy}, Spelling.{IsCheck}, Copies.{Content, content_at, content_in_copy as content_of_copy, copy_at, copy_in, if_here, super_fields_of}}, proofs.Laws.{are_checks, is_here, length-checks_at, read_as}}
 use Rattle.df_quorum.specs.Quorum
 use Rattle.df_theory.specs.Units
 use Rattle.df_theory.specs.Units.{CopyUnit}
 use Rattle.df_theory.specs.Copies
-use Rattle.df_units.specs.Meaning.{content_of, number_of, offset_list, or_nothing, rest_of}
-use Rattle.df_units.specs.Bytes.{copy_unit, unit_at}
-use Rattle.df_units.specs.Superblocks.{ChoiceIsChosen, ChosenIsChoice, ContentHasChecks, ShownHasChecks, SplitIsSplit}
-use Rattle.df_units.proofs.Numbers.{one_number}
-use Rattle.df_units.proofs.Versions.{by_other, by_second, checks_same, named_or_nothing}
+use Rattle.df_units.{specs.{Meaning.{content_of, number_of, offset_list, or_nothing, rest_of}, Bytes.{copy_unit, unit_at}, Superblocks.{ChoiceIsChosen, ChosenIsChoice, ContentHasChecks, ShownHasChecks, SplitIsSplit}}, proofs.{Numbers.{one_number}, Versions.{by_other, by_second, checks_same, named_or_nothing}}}
 
 -- ---- contents
 

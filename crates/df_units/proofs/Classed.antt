@@ -1,33 +1,13 @@
 -- What is wanted of a place, and the class of what it shows, in the words of the theory.
-use Rattle.std.proofs.Common.{◌≡◌, ◌≢◌, ◌↔◌, inl, inr, ℕ, ◌<◌, List, Option, Some, None, refl, sym, ◌∙◌, ap, subst, arith}
-use Rattle.std.specs.Prelude.{◌⊎◌, ⊤}
-use Rattle.std.proofs.lemmas.Option.{same_Some}
-use Rattle.df_base.specs.Image.{Image, IsImage}
-use Rattle.df_base.proofs.Laws.{no_some}
-use Rattle.df_layout.specs.declared.damage.Class.TheVariants.{Stale}
-use Rattle.df_layout.specs.declared.layout.Layout.{Layout}
-use Rattle.df_layout.specs.declared.places.Zone.TheVariants.{WalHeaders, WalPrepares, ClientReplies, Grid}
-use Rattle.df_format.specs.declared.kind.Kind.{Kind}
-use Rattle.df_format.specs.declared.kind.Kind.TheVariants.{Reserved, Prepare, Reply, Block, Trailer}
-use Rattle.df_format.specs.declared.superblock.SuperCopy.{SuperCopy}
-use Rattle.df_format.specs.Copies.{Content, class_of_copy, content_at, content_in_copy, copy_at}
-use Rattle.df_format.specs.Message.{Message}
-use Rattle.df_format.specs.Own.{place_in}
-use Rattle.df_format.specs.Rules.{IsSealed}
+use Rattle.std.{proofs.{Common.{◌≡◌, ◌≢◌, ◌↔◌, inl, inr, ℕ, ◌<◌, List, Option, Some, None, refl, sym, ◌∙◌, ap, subst, arith}, lemmas.Option.{same_Some}}, specs.Prelude.{◌⊎◌, ⊤}}
+use Rattle.df_base.{specs.Image.{Image, IsImage}, proofs.Laws.{no_some}}
+use Rattle.df_layout.specs.{declared.damage.Class.TheVariants.{Stale}, declared.layout.Layout.{Layout}, declared.places.Zone.TheVariants.{WalHeaders, WalPrepares, ClientReplies, Grid}}
+use Rattle.df_format.{specs.{declared.kind.Kind.{Kind}, declared.kind.Kind.TheVariants.{Reserved, Prepare, Reply, Block, Trailer}, declared.superblock.SuperCopy.{SuperCopy}, Copies.{Content, class_of_copy, content_at, content_in_copy, copy_at}, Message.{Message}, Own.{place_in}, Rules.{IsSealed}, Spelling.{IsCheck}, Valid.{IsUnit}, Wanted.{Any, Op, Checksum, Answer}}, proofs.Laws.{shown_is_unit, stale_copy, stale_valid, valid_belongs, valid_is_stale, valid_stale}}
 use Rattle.df_format.specs.Shown
-use Rattle.df_format.specs.Spelling.{IsCheck}
-use Rattle.df_format.specs.Valid.{IsUnit}
 use Rattle.df_format.specs.Wanted
-use Rattle.df_format.specs.Wanted.{Any, Op, Checksum, Answer}
-use Rattle.df_format.proofs.Laws.{shown_is_unit, stale_copy, stale_valid, valid_belongs, valid_is_stale, valid_stale}
 use Rattle.df_theory.specs.Units
 use Rattle.df_theory.specs.Units.{AnyUnit, BlockPlace, BlockUnit, CopyPlace, CopyUnit, HeaderPlace, HeaderUnit, PreparePlace, PrepareUnit, ReplyPlace, ReplyUnit}
-use Rattle.df_units.specs.Meaning.{block_of, content_of as content_of_copy, header_of, message_of, number_of, place_of, unit_of}
-use Rattle.df_units.specs.Bytes.{copy_unit, message_unit}
-use Rattle.df_units.specs.Wanted.{ClassesTell, HasWantedCheck, IsOfKind, IsTold, IsWantedUnit, NoneIsWanted, UnitsAreTold}
-use Rattle.df_units.proofs.Numbers.{one_number, sealed_check}
-use Rattle.df_units.proofs.AtPlaces.{prepare_op, reserved_op}
-use Rattle.df_units.proofs.Told.{block_rules, trailer_rules}
+use Rattle.df_units.{specs.{Meaning.{block_of, content_of as content_of_copy, header_of, message_of, number_of, place_of, unit_of}, Bytes.{copy_unit, message_unit}, Wanted.{ClassesTell, HasWantedCheck, IsOfKind, IsTold, IsWantedUnit, NoneIsWanted, UnitsAreTold}}, proofs.{Numbers.{one_number, sealed_check}, AtPlaces.{prepare_op, reserved_op}, Told.{block_rules, trailer_rules}}}
 
 -- ---- classes
 

@@ -1,38 +1,11 @@
 -- The making of a file on a disk is one of the theory.
-use Rattle.std.proofs.Common.{◌≡◌, inl, inr, ℕ, ◌+◌, ◌/◌, ◌%◌, ◌<◌, ◌≤◌, ◌==◌, true, List, [], ◌∷◌, length, Option, Some, None, refl, sym, ◌∙◌, subst, arith}
-use Rattle.std.specs.Prelude.{slice_get}
-use Rattle.std.proofs.lemmas.Bool.{cases_eq, cond-true, eq-eqb}
-use Rattle.df_base.specs.Image.{blank}
-use Rattle.df_base.specs.Log.{Log, Stop, Sync, Write, new_log}
-use Rattle.df_base.specs.Moments.{adds}
+use Rattle.std.{proofs.{Common.{◌≡◌, inl, inr, ℕ, ◌+◌, ◌/◌, ◌%◌, ◌<◌, ◌≤◌, ◌==◌, true, List, [], ◌∷◌, length, Option, Some, None, refl, sym, ◌∙◌, subst, arith}, lemmas.Bool.{cases_eq, cond-true, eq-eqb}}, specs.Prelude.{slice_get}}
+use Rattle.df_base.specs.{Image.{blank}, Log.{Log, Stop, Sync, Write, new_log}, Moments.{adds}}
 use Rattle.df_layout.specs.declared.layout.Layout.{Layout}
-use Rattle.df_format.specs.declared.header.Header.{Header}
-use Rattle.df_format.specs.SuperRules.{IsUsable}
-use Rattle.df_format.specs.First.{first_content, first_super}
-use Rattle.df_format.specs.Super.{no_checksums}
-use Rattle.df_format.proofs.Laws.{no_names}
+use Rattle.df_format.{specs.{declared.header.Header.{Header}, SuperRules.{IsUsable}, First.{first_content, first_super}, Super.{no_checksums}}, proofs.Laws.{no_names}}
 use Rattle.df_theory.specs.Units
-use Rattle.df_theory.specs.Units.{AnyUnit, HeaderPlace, is_some}
-use Rattle.df_theory.specs.First.{IsFirst}
-use Rattle.df_theory.specs.UnitLog.{UnitLog}
-use Rattle.df_theory.specs.Runs.{Step, after_steps}
-use Rattle.df_theory.specs.MakingLaws.{AllReserved, IsMaking, all_puts, blank_log, format_steps}
-use Rattle.df_theory.specs.MendLaws.{Reaches}
-use Rattle.df_theory.specs.TidyLaws.{IsTidy}
-use Rattle.df_theory.specs.WholeLaws.{IsStanding}
-use Rattle.df_theory.specs.Device.{AreSteps, units_log}
-use Rattle.df_theory.proofs.Laws.{blank_law, format_law, is_first_of, making_sync_law, new_disk_law, safe_moments_law, same_log, steps_join_law, tidy_format_law}
-use Rattle.df_units.specs.Meaning.{content_of}
-use Rattle.df_units.specs.Format.{format_of, shape_of}
-use Rattle.df_units.specs.Puts.{header_unit, put_copies}
-use Rattle.df_units.specs.Superblocks.{AreFieldsOf}
-use Rattle.df_units.specs.Making.{AreReservedSectors, FormatOnDisk, NewIsMaking, first_view, format_events, header_puts, header_writes}
-use Rattle.df_units.proofs.Numbers.{no_number}
-use Rattle.df_units.proofs.Usable.{second_usable_passes}
-use Rattle.df_units.proofs.Versions.{none_zero}
-use Rattle.df_units.proofs.Local.{blank_empty, is_format}
-use Rattle.df_units.proofs.Told.{reserved_put}
-use Rattle.df_units.proofs.Writes.{copy_put, headers_put, some_header}
+use Rattle.df_theory.{specs.{Units.{AnyUnit, HeaderPlace, is_some}, First.{IsFirst}, UnitLog.{UnitLog}, Runs.{Step, after_steps}, MakingLaws.{AllReserved, IsMaking, all_puts, blank_log, format_steps}, MendLaws.{Reaches}, TidyLaws.{IsTidy}, WholeLaws.{IsStanding}, Device.{AreSteps, units_log}}, proofs.Laws.{blank_law, format_law, is_first_of, making_sync_law, new_disk_law, safe_moments_law, same_log, steps_join_law, tidy_format_law}}
+use Rattle.df_units.{specs.{Meaning.{content_of}, Format.{format_of, shape_of}, Puts.{header_unit, put_copies}, Superblocks.{AreFieldsOf}, Making.{AreReservedSectors, FormatOnDisk, NewIsMaking, first_view, format_events, header_puts, header_writes}}, proofs.{Numbers.{no_number}, Usable.{second_usable_passes}, Versions.{none_zero}, Local.{blank_empty, is_format}, Told.{reserved_put}, Writes.{copy_put, headers_put, some_header}}}
 
 pub headers_are_steps : (layout : Layout) (cluster sector : ℕ) (sectors : List (List Header)) → AreReservedSectors layout cluster sector sectors → AreSteps (format_of layout cluster) (header_writes layout sector sectors) (all_puts (header_puts sector sectors))
 headers_are_steps layout cluster sector [] are = tt

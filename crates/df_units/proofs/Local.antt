@@ -1,25 +1,12 @@
 -- What a place shows depends on its own sectors alone, and a write that doesn't touch a place has no bytes for its sectors.
-use Rattle.std.proofs.Common.{◌≡◌, inl, inr, ℕ, ◌+◌, ◌-◌, ◌*◌, ◌<◌, ◌≤◌, true, false, List, length, None, refl, sym, ◌∙◌, ap, arith}
-use Rattle.std.specs.Prelude.{nat_le, nat_lt}
-use Rattle.std.proofs.lemmas.Bool.{cases_Bool, both_ways, and_from, and_parts, le-leb, lt-ltb, leb-true, ltb-true, ltb-false}
-use Rattle.df_base.specs.Image.{Image, blank, covers}
-use Rattle.df_base.proofs.Laws.{no_some}
-use Rattle.df_layout.specs.declared.layout.Layout.{Layout}
-use Rattle.df_layout.specs.declared.places.Place.{Place}
-use Rattle.df_layout.specs.declared.places.Zone.TheVariants.{Superblock}
-use Rattle.df_layout.specs.Spans.{span_of, place_sectors, sectors_before}
-use Rattle.df_layout.specs.Zones.{first_sector}
-use Rattle.df_format.specs.declared.superblock.SuperCopy.{SuperCopy}
-use Rattle.df_format.specs.Own.{has_index, place_in}
+use Rattle.std.{proofs.{Common.{◌≡◌, inl, inr, ℕ, ◌+◌, ◌-◌, ◌*◌, ◌<◌, ◌≤◌, true, false, List, length, None, refl, sym, ◌∙◌, ap, arith}, lemmas.Bool.{cases_Bool, both_ways, and_from, and_parts, le-leb, lt-ltb, leb-true, ltb-true, ltb-false}}, specs.Prelude.{nat_le, nat_lt}}
+use Rattle.df_base.{specs.Image.{Image, blank, covers}, proofs.Laws.{no_some}}
+use Rattle.df_layout.specs.{declared.layout.Layout.{Layout}, declared.places.Place.{Place}, declared.places.Zone.TheVariants.{Superblock}, Spans.{span_of, place_sectors, sectors_before}, Zones.{first_sector}}
+use Rattle.df_format.{specs.{declared.superblock.SuperCopy.{SuperCopy}, Own.{has_index, place_in}, Copies.{content_at, content_in_copy, copy_at, copy_in, if_here}}, proofs.Laws.{blank_copy_none, blank_none, has-from, is_here, read_as, same_copy, same_shown, shown_belongs}}
 use Rattle.df_format.specs.Shown
-use Rattle.df_format.specs.Copies.{content_at, content_in_copy, copy_at, copy_in, if_here}
-use Rattle.df_format.proofs.Laws.{blank_copy_none, blank_none, has-from, is_here, read_as, same_copy, same_shown, shown_belongs}
 use Rattle.df_theory.specs.Units
-use Rattle.df_theory.specs.Units.{BlockPlace, CopyPlace, HeaderPlace, PreparePlace, ReplyPlace}
-use Rattle.df_theory.specs.Device.{IsFormat}
-use Rattle.df_units.specs.Meaning.{place_of}
-use Rattle.df_units.specs.Bytes.{copy_unit, has, has_place, meets, message_unit, span_at, touches, unit_at}
-use Rattle.df_units.specs.Format.{format_of}
+use Rattle.df_theory.specs.{Units.{BlockPlace, CopyPlace, HeaderPlace, PreparePlace, ReplyPlace}, Device.{IsFormat}}
+use Rattle.df_units.specs.{Meaning.{place_of}, Bytes.{copy_unit, has, has_place, meets, message_unit, span_at, touches, unit_at}, Format.{format_of}}
 
 -- a copy is one sector, and its number is the sector's
 pub copy_first : (layout : Layout) (n : ℕ) → (span_of layout (place_in Superblock n)).first ≡ n

@@ -1,13 +1,8 @@
 -- Checksums are numbers.
-use Rattle.std.proofs.Common.{◌≡◌, ℕ, ◌<◌, List, take, drop, refl, sym, ◌∙◌, ◌^◌, ap, arith, subst}
-use Rattle.std.proofs.lemmas.List.{take_all}
-use Rattle.df_base.specs.Fields.{field_at, spelled}
-use Rattle.df_base.proofs.Laws.{AreBytes-check_of, field_at-lt, length-check_of, spelled-field_at}
-use Rattle.df_format.specs.declared.header.Header.{Header}
-use Rattle.df_format.specs.Rules.{IsSealed}
-use Rattle.df_format.specs.Spelling.{IsCheck, no_checksum, spelling_rest}
-use Rattle.df_units.specs.Meaning.{number_of}
-use Rattle.df_units.specs.Tells.{ChecksumsAreNumbers, FirstByteIsLowest, NoChecksumIsZero}
+use Rattle.std.proofs.{Common.{◌≡◌, ℕ, ◌<◌, List, take, drop, refl, sym, ◌∙◌, ◌^◌, ap, arith, subst}, lemmas.List.{take_all}}
+use Rattle.df_base.{specs.Fields.{field_at, spelled}, proofs.Laws.{AreBytes-check_of, field_at-lt, length-check_of, spelled-field_at}}
+use Rattle.df_format.specs.{declared.header.Header.{Header}, Rules.{IsSealed}, Spelling.{IsCheck, no_checksum, spelling_rest}}
+use Rattle.df_units.specs.{Meaning.{number_of}, Tells.{ChecksumsAreNumbers, FirstByteIsLowest, NoChecksumIsZero}}
 
 -- one number, one checksum
 pub one_number : (a b : List ℕ) → IsCheck a → IsCheck b → number_of a ≡ number_of b → a ≡ b

@@ -1,14 +1,8 @@
 -- A call adds its events, or a part of them from the first on.
-use Rattle.std.proofs.Common.{◌≡◌, inl, inr, List, [], ◌∷◌, Some, sym, ◌∙◌, ap, subst}
-use Rattle.std.proofs.lemmas.Option.{same_Some}
-use Rattle.df_base.specs.Log.{Event, Log}
-use Rattle.df_base.specs.Moments.{EachMoment, Extends, adds}
-use Rattle.df_base.proofs.Laws.{adds_extends, extends_self, extends_on}
-use Rattle.df_disk.specs.Told.{Told, did}
-use Rattle.df_disk.specs.Adds.{AddsPart, after_all}
-use Rattle.df_theory.specs.Rests.{IsGoodLog}
-use Rattle.df_theory.specs.Device.{IsGoodDisk, IsGoodWholeDisk, IsSafeDisk, units_log}
-use Rattle.df_theory.proofs.Laws.{moments_law, safe_moments_law, same_log, standing_moments_law, unit_moments_law}
+use Rattle.std.proofs.{Common.{◌≡◌, inl, inr, List, [], ◌∷◌, Some, sym, ◌∙◌, ap, subst}, lemmas.Option.{same_Some}}
+use Rattle.df_base.{specs.{Log.{Event, Log}, Moments.{EachMoment, Extends, adds}}, proofs.Laws.{adds_extends, extends_self, extends_on}}
+use Rattle.df_disk.specs.{Told.{Told, did}, Adds.{AddsPart, after_all}}
+use Rattle.df_theory.{specs.{Rests.{IsGoodLog}, Device.{IsGoodDisk, IsGoodWholeDisk, IsSafeDisk, units_log}}, proofs.Laws.{moments_law, safe_moments_law, same_log, standing_moments_law, unit_moments_law}}
 use Rattle.df_units.specs.Calls.{CallEnds, CallIsGood, CallIsGoodByUnits, CallIsSafe, CallIsWhole}
 
 part_grows : (es : List Event) (before after : Told) → AddsPart es (Some before) (Some after) → Extends (adds es before.log) after.log

@@ -1,26 +1,10 @@
 -- Sixteen headers in one sector, one of them new.
-use Rattle.std.proofs.Common.{◌≡◌, inl, inr, ℕ, zero, suc, ◌+◌, ◌*◌, ◌/◌, ◌%◌, ◌^◌, ◌<◌, ◌==◌, [], length, Option, Some, None, refl, sym, ◌∙◌, ap, subst, arith}
-use Rattle.std.specs.Prelude.{slice_get}
-use Rattle.std.proofs.lemmas.Bool.{cases_eq, cond-false, cond-true, eq-eqb, ne_eqb}
-use Rattle.std.proofs.lemmas.Option.{same_Some}
-use Rattle.df_base.specs.Image.{IsImage, blank}
-use Rattle.df_base.proofs.Laws.{written_is_image, blank_is_image}
-use Rattle.df_layout.specs.declared.layout.Layout.{Layout}
-use Rattle.df_layout.specs.declared.places.Zone.TheVariants.{WalHeaders}
-use Rattle.df_format.specs.declared.header.Header.{Header}
-use Rattle.df_format.specs.declared.kind.Kind.TheVariants.{Reserved}
-use Rattle.df_format.specs.Making.{blank_header, for_body}
-use Rattle.df_format.specs.Own.{place_in}
-use Rattle.df_format.specs.Rules.{IsSealed}
-use Rattle.df_format.specs.Valid.{IsUnit}
-use Rattle.df_format.proofs.Laws.{given_obeys, of_second, headers_fill, is_own, sealed_is, valid_belongs}
-use Rattle.df_theory.specs.Units.{AnyUnit, HeaderPlace, HeaderUnit, or_else}
-use Rattle.df_theory.specs.UnitLog.{put_one}
-use Rattle.df_units.specs.Meaning.{header_of}
-use Rattle.df_units.specs.Bytes.{unit_at}
-use Rattle.df_units.specs.Puts.{AreHeaders, IsNextSector, header_unit, put_headers}
-use Rattle.df_units.specs.Sample.{OneOfSixteenIsNew, ReservedIsUnit, SampleTableIsWritten, headers_of, reserved_header, reserved_image, sector_of, with_new}
-use Rattle.df_units.proofs.Writes.{headers_put, one_new}
+use Rattle.std.{proofs.{Common.{◌≡◌, inl, inr, ℕ, zero, suc, ◌+◌, ◌*◌, ◌/◌, ◌%◌, ◌^◌, ◌<◌, ◌==◌, [], length, Option, Some, None, refl, sym, ◌∙◌, ap, subst, arith}, lemmas.Bool.{cases_eq, cond-false, cond-true, eq-eqb, ne_eqb}, lemmas.Option.{same_Some}}, specs.Prelude.{slice_get}}
+use Rattle.df_base.{specs.Image.{IsImage, blank}, proofs.Laws.{written_is_image, blank_is_image}}
+use Rattle.df_layout.specs.{declared.layout.Layout.{Layout}, declared.places.Zone.TheVariants.{WalHeaders}}
+use Rattle.df_format.{specs.{declared.header.Header.{Header}, declared.kind.Kind.TheVariants.{Reserved}, Making.{blank_header, for_body}, Own.{place_in}, Rules.{IsSealed}, Valid.{IsUnit}}, proofs.Laws.{given_obeys, of_second, headers_fill, is_own, sealed_is, valid_belongs}}
+use Rattle.df_theory.specs.{Units.{AnyUnit, HeaderPlace, HeaderUnit, or_else}, UnitLog.{put_one}}
+use Rattle.df_units.{specs.{Meaning.{header_of}, Bytes.{unit_at}, Puts.{AreHeaders, IsNextSector, header_unit, put_headers}, Sample.{OneOfSixteenIsNew, ReservedIsUnit, SampleTableIsWritten, headers_of, reserved_header, reserved_image, sector_of, with_new}}, proofs.Writes.{headers_put, one_new}}
 
 -- ---- headers of a table
 

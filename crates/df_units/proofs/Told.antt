@@ -1,19 +1,9 @@
 -- What the units of the theory tell of those of the file.
-use Rattle.std.proofs.Common.{◌≡◌, inl, inr, ◌+◌, ◌*◌, ◌/◌, ◌%◌, ◌==◌, refl, sym, ◌∙◌, ap, subst, arith}
-use Rattle.std.specs.Prelude.{slice_get}
-use Rattle.std.proofs.lemmas.Bool.{eqb-true}
+use Rattle.std.{proofs.{Common.{◌≡◌, inl, inr, ◌+◌, ◌*◌, ◌/◌, ◌%◌, ◌==◌, refl, sym, ◌∙◌, ap, subst, arith}, lemmas.Bool.{eqb-true}}, specs.Prelude.{slice_get}}
 use Rattle.df_layout.specs.declared.places.Zone.TheVariants.{Grid}
-use Rattle.df_format.specs.declared.header.Header.{Header}
-use Rattle.df_format.specs.declared.kind.Kind.{Kind}
-use Rattle.df_format.specs.declared.kind.Kind.TheVariants.{Block, Reserved, Trailer}
-use Rattle.df_format.specs.Message.{Message}
-use Rattle.df_format.specs.Own.{place_in}
-use Rattle.df_format.specs.Rules.{ObeysBlock, ObeysKind, ObeysReserved, ObeysTrailer, ObeysVersion}
-use Rattle.df_format.proofs.Laws.{valid_belongs, unbooted}
+use Rattle.df_format.{specs.{declared.header.Header.{Header}, declared.kind.Kind.{Kind}, declared.kind.Kind.TheVariants.{Block, Reserved, Trailer}, Message.{Message}, Own.{place_in}, Rules.{ObeysBlock, ObeysKind, ObeysReserved, ObeysTrailer, ObeysVersion}}, proofs.Laws.{valid_belongs, unbooted}}
 use Rattle.df_theory.specs.Units.{BlockPlace, CopyPlace, HeaderPlace, HeaderUnit, PreparePlace, ReplyPlace}
-use Rattle.df_units.specs.Meaning.{header_of}
-use Rattle.df_units.specs.Tells.{ReservedArePut, SectorPuts, TableIsPut, TrailersTell}
-use Rattle.df_units.proofs.Writes.{put_is}
+use Rattle.df_units.{specs.{Meaning.{header_of}, Tells.{ReservedArePut, SectorPuts, TableIsPut, TrailersTell}}, proofs.Writes.{put_is}}
 
 pub trailer_rules : (u : Message) → ObeysKind u.header.kind u.header → u.header.kind ≡ Trailer → ObeysTrailer u.header
 trailer_rules u rules kind = subst (λ (k : Kind). ObeysKind k u.header) kind rules

@@ -1,25 +1,10 @@
 -- A superblock can be used exactly where it passes the theory's tests.
-use Rattle.std.proofs.Common.{inl, inr, ◌≡◌, ◌≢◌, ℕ, zero, suc, ◌<◌, ◌≤◌, ◌+◌, ◌^◌, List, [], ◌∷◌, ◌++◌, length, drop, get_or, Option, Some, None, refl, sym, ◌∙◌, ap, subst, arith}
-use Rattle.std.specs.Prelude.{All, map, slice_index}
-use Rattle.std.proofs.lemmas.Bool.{cases_eq}
-use Rattle.std.proofs.lemmas.List.{append-nil, get_or-drop, get_or-map, length-drop}
-use Rattle.df_layout.specs.Limits.{AreSlots, IsMessageSize, AreClients, IsBlockSize, AreBlocks}
-use Rattle.df_layout.specs.declared.layout.Layout.{Layout}
-use Rattle.df_format.specs.declared.superblock.SuperFields.{SuperFields}
-use Rattle.df_format.specs.Spelling.{IsCheck, no_checksum}
-use Rattle.df_format.specs.Super.{AreNone}
-use Rattle.df_format.specs.SuperRules.{IsFirstSuper, IsSecondSuper, IsSuper}
-use Rattle.df_format.specs.Copies.{Content}
-use Rattle.df_format.proofs.Laws.{no_check}
+use Rattle.std.{proofs.{Common.{inl, inr, ◌≡◌, ◌≢◌, ℕ, zero, suc, ◌<◌, ◌≤◌, ◌+◌, ◌^◌, List, [], ◌∷◌, ◌++◌, length, drop, get_or, Option, Some, None, refl, sym, ◌∙◌, ap, subst, arith}, lemmas.Bool.{cases_eq}, lemmas.List.{append-nil, get_or-drop, get_or-map, length-drop}}, specs.Prelude.{All, map, slice_index}}
+use Rattle.df_layout.specs.{Limits.{AreSlots, IsMessageSize, AreClients, IsBlockSize, AreBlocks}, declared.layout.Layout.{Layout}}
+use Rattle.df_format.{specs.{declared.superblock.SuperFields.{SuperFields}, Spelling.{IsCheck, no_checksum}, Super.{AreNone}, SuperRules.{IsFirstSuper, IsSecondSuper, IsSuper}, Copies.{Content}}, proofs.Laws.{no_check}}
 use Rattle.df_theory.specs.Units
-use Rattle.df_theory.specs.Shape.{Shape}
-use Rattle.df_theory.specs.Trailer.{IsReference}
-use Rattle.df_theory.specs.View.{IsOfVersion, PassesTests}
-use Rattle.df_units.specs.Meaning.{answered_of, content_of, layout_of, number_of, offset_list, or_nothing, pin_checksum_of, pin_of, rest_of, unnamed_of}
-use Rattle.df_units.specs.Format.{shape_as, shape_of}
-use Rattle.df_units.specs.Superblocks.{AreFieldsOf, ContentHasChecks, PassingIsUsable, UsablePasses}
-use Rattle.df_units.proofs.Numbers.{no_number, one_number}
-use Rattle.df_units.proofs.Versions.{are_zeros_of, by_other, by_second, named_zeros, none_zero, nothing, spare_zero, zeros_are}
+use Rattle.df_theory.specs.{Shape.{Shape}, Trailer.{IsReference}, View.{IsOfVersion, PassesTests}}
+use Rattle.df_units.{specs.{Meaning.{answered_of, content_of, layout_of, number_of, offset_list, or_nothing, pin_checksum_of, pin_of, rest_of, unnamed_of}, Format.{shape_as, shape_of}, Superblocks.{AreFieldsOf, ContentHasChecks, PassingIsUsable, UsablePasses}}, proofs.{Numbers.{no_number, one_number}, Versions.{are_zeros_of, by_other, by_second, named_zeros, none_zero, nothing, spare_zero, zeros_are}}}
 
 zeros_behind : (xs : List ℕ) (o : Option ℕ) → ((i : ℕ) → slice_index xs i ≡ 0) → o ≡ None → (i : ℕ) → slice_index (xs ++ offset_list o) i ≡ 0
 zeros_behind xs None zeros none i = ap (λ (l : List ℕ). slice_index l i) (append-nil xs) ∙ zeros i

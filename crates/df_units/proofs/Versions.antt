@@ -1,20 +1,9 @@
 -- What the two versions of a superblock and of a header mean, and that contents of either can be told apart.
-use Rattle.std.proofs.Common.{inl, inr, ◌≡◌, ◌≢◌, ◌⊎◌, ◌≤◌, ◌<◌, ◌+◌, ◌-◌, ◌==◌, ℕ, zero, suc, List, [], ◌∷◌, ◌++◌, true, false, length, drop, get_or, cond, refl, sym, ◌∙◌, ap, arith}
-use Rattle.std.specs.Prelude.{All, map, slice_index}
-use Rattle.std.proofs.lemmas.Bool.{and_from, and_parts, cases_Bool, cond-true, cond-false, cases_lt, eq-eqb, eqb-true, ne_eqb}
-use Rattle.std.proofs.lemmas.List.{ext_get_or, get_or-drop, get_or-map, get_or_append_left, get_or_past, length-append, length-drop, length-map, length-replicate}
+use Rattle.std.{proofs.{Common.{inl, inr, ◌≡◌, ◌≢◌, ◌⊎◌, ◌≤◌, ◌<◌, ◌+◌, ◌-◌, ◌==◌, ℕ, zero, suc, List, [], ◌∷◌, ◌++◌, true, false, length, drop, get_or, cond, refl, sym, ◌∙◌, ap, arith}, lemmas.Bool.{and_from, and_parts, cases_Bool, cond-true, cond-false, cases_lt, eq-eqb, eqb-true, ne_eqb}, lemmas.List.{ext_get_or, get_or-drop, get_or-map, get_or_append_left, get_or_past, length-append, length-drop, length-map, length-replicate}}, specs.Prelude.{All, map, slice_index}}
 use Rattle.df_base.proofs.Laws.{same_front}
-use Rattle.df_format.specs.declared.header.Header.{Header}
-use Rattle.df_format.specs.declared.kind.Kind.{Kind}
-use Rattle.df_format.specs.declared.kind.Kind.TheVariants.{Reserved, Prepare, Reply, Block, Trailer}
-use Rattle.df_format.specs.declared.superblock.SuperFields.{SuperFields}
-use Rattle.df_format.specs.Spelling.{IsCheck, no_checksum}
-use Rattle.df_format.specs.Rules.{HasBoot, ObeysVersion}
-use Rattle.df_format.specs.Super.{AreNone, no_checksums}
-use Rattle.df_format.proofs.Laws.{no_names}
+use Rattle.df_format.{specs.{declared.header.Header.{Header}, declared.kind.Kind.{Kind}, declared.kind.Kind.TheVariants.{Reserved, Prepare, Reply, Block, Trailer}, declared.superblock.SuperFields.{SuperFields}, Spelling.{IsCheck, no_checksum}, Rules.{HasBoot, ObeysVersion}, Super.{AreNone, no_checksums}}, proofs.Laws.{no_names}}
 use Rattle.df_theory.specs.Units.{IsAlone}
-use Rattle.df_units.specs.Meaning.{are_zeros, header_of, number_of, number_or, or_nothing}
-use Rattle.df_units.proofs.Numbers.{no_number, one_number}
+use Rattle.df_units.{specs.Meaning.{are_zeros, header_of, number_of, number_or, or_nothing}, proofs.Numbers.{no_number, one_number}}
 
 -- ---- headers
 

@@ -1,17 +1,11 @@
 -- Device calls that are steps lie within the zones of the file, and so do a part of such calls, and some of them after others.
-use Rattle.std.proofs.Common.{◌≡◌, ◌≤◌, ◌<◌, ◌+◌, inl, inr, List, [], ◌∷◌, ◌++◌, Option, sym, ◌∙◌, ap, arith}
-use Rattle.std.proofs.lemmas.Bool.{and_parts, leb-true, ltb-true}
+use Rattle.std.proofs.{Common.{◌≡◌, ◌≤◌, ◌<◌, ◌+◌, inl, inr, List, [], ◌∷◌, ◌++◌, Option, sym, ◌∙◌, ap, arith}, lemmas.Bool.{and_parts, leb-true, ltb-true}}
 use Rattle.df_base.specs.Log.{Event, Stop, Sync, Write}
-use Rattle.df_disk.proofs.Laws.{after_append}
-use Rattle.df_disk.specs.Adds.{AddsPart, after_all}
-use Rattle.df_disk.specs.Told.{Told, after}
+use Rattle.df_disk.{proofs.Laws.{after_append}, specs.{Adds.{AddsPart, after_all}, Told.{Told, after}}}
 use Rattle.df_format.proofs.Laws.{has-true}
-use Rattle.df_layout.proofs.Laws.{lies_inside}
-use Rattle.df_layout.specs.declared.layout.Layout.{Layout}
+use Rattle.df_layout.{proofs.Laws.{lies_inside}, specs.declared.layout.Layout.{Layout}}
 use Rattle.df_theory.specs.Runs.{Puts, Syncs}
-use Rattle.df_units.specs.Bytes.{span_at}
-use Rattle.df_units.specs.Meaning.{place_of}
-use Rattle.df_units.specs.Within.{AddsWithin, AreWithin, PlacesLieInZones, StepsLieWithin}
+use Rattle.df_units.specs.{Bytes.{span_at}, Meaning.{place_of}, Within.{AddsWithin, AreWithin, PlacesLieInZones, StepsLieWithin}}
 
 pub steps_within : StepsLieWithin
 steps_within layout cluster [] [] are = tt

@@ -1,37 +1,12 @@
 -- What each kind of write puts.
-use Rattle.std.proofs.Common.{◌≡◌, ◌≢◌, inl, inr, ℕ, ◌+◌, ◌-◌, ◌*◌, ◌/◌, ◌%◌, ◌<◌, ◌≤◌, ◌==◌, Bool, true, false, List, [], ◌++◌, length, Option, Some, None, cond, refl, sym, ◌∙◌, ap, subst, arith}
-use Rattle.std.specs.Prelude.{slice_get}
-use Rattle.std.proofs.lemmas.Bool.{cases_Bool, cases_eq, both_ways, and_from, and_left, and_right, cond-false, cond-true, eq-eqb, eqb-true, eqb-false, le-ltb, lt-ltb, ne_eqb}
-use Rattle.std.proofs.lemmas.Option.{slice_get_cases}
+use Rattle.std.{proofs.{Common.{◌≡◌, ◌≢◌, inl, inr, ℕ, ◌+◌, ◌-◌, ◌*◌, ◌/◌, ◌%◌, ◌<◌, ◌≤◌, ◌==◌, Bool, true, false, List, [], ◌++◌, length, Option, Some, None, cond, refl, sym, ◌∙◌, ap, subst, arith}, lemmas.Bool.{cases_Bool, cases_eq, both_ways, and_from, and_left, and_right, cond-false, cond-true, eq-eqb, eqb-true, eqb-false, le-ltb, lt-ltb, ne_eqb}, lemmas.Option.{slice_get_cases}}, specs.Prelude.{slice_get}}
 use Rattle.df_base.specs.Image.{Image, IsImage, IsPiece, covers, written}
-use Rattle.df_layout.specs.declared.layout.Layout.{Layout}
-use Rattle.df_layout.specs.declared.places.Place.{Place}
-use Rattle.df_layout.specs.declared.places.Span.{Span}
-use Rattle.df_layout.specs.declared.places.Zone.TheVariants.{WalHeaders}
-use Rattle.df_layout.specs.Order.{AreApart, ShareHeaderSector}
-use Rattle.df_layout.specs.Spans.{HasPlace, span_of}
-use Rattle.df_layout.proofs.Laws.{are_apart, lies_inside}
-use Rattle.df_format.specs.declared.header.Header.{Header}
-use Rattle.df_format.specs.Message.{Message}
-use Rattle.df_format.specs.Own.{place_in}
+use Rattle.df_layout.{specs.{declared.layout.Layout.{Layout}, declared.places.Place.{Place}, declared.places.Span.{Span}, declared.places.Zone.TheVariants.{WalHeaders}, Order.{AreApart, ShareHeaderSector}, Spans.{HasPlace, span_of}}, proofs.Laws.{are_apart, lies_inside}}
+use Rattle.df_format.{specs.{declared.header.Header.{Header}, Message.{Message}, Own.{place_in}, Shown.{unit_in}, Valid.{IsUnit}, Brings.{Brings}, Copies.{content_with}, UnitLaws.{AreForPlace, headers_bytes}, Super.{copy_bytes}}, proofs.Laws.{has-from, has-true, header_shown, headers_fill, one_sector, read_belongs, read_shown, written_begins, written_copy, header_count, header_first}}
 use Rattle.df_format.specs.Shown
-use Rattle.df_format.specs.Shown.{unit_in}
-use Rattle.df_format.specs.Valid.{IsUnit}
-use Rattle.df_format.specs.Brings.{Brings}
-use Rattle.df_format.specs.Copies.{content_with}
-use Rattle.df_format.specs.UnitLaws.{AreForPlace, headers_bytes}
-use Rattle.df_format.specs.Super.{copy_bytes}
-use Rattle.df_format.proofs.Laws.{has-from, has-true, header_shown, headers_fill, one_sector, read_belongs, read_shown, written_begins, written_copy, header_count, header_first}
 use Rattle.df_theory.specs.Units
-use Rattle.df_theory.specs.Units.{AnyUnit, BlockPlace, BlockUnit, CopyPlace, CopyUnit, HeaderPlace, HeaderUnit, PreparePlace, PrepareUnit, ReplyPlace, ReplyUnit, is_some, or_else}
-use Rattle.df_theory.specs.UnitLog.{put_one, same_place}
-use Rattle.df_theory.specs.Device.{IsPut}
-use Rattle.df_units.specs.Meaning.{block_of, content_of, header_of, message_of, place_of}
-use Rattle.df_units.specs.Bytes.{copy_unit, has, has_place, meets, message_unit, span_at, touches, unit_at}
-use Rattle.df_units.specs.Format.{format_of}
-use Rattle.df_units.specs.Puts.{AreHeaders, BlockIsPut, CopyIsPut, HeadersArePut, IsNextSector, OneHeaderIsNew, PrepareIsPut, ReplyIsPut, header_unit, put_headers}
-use Rattle.df_theory.proofs.Laws.{put_shown_law}
-use Rattle.df_units.proofs.Local.{copy_count, copy_first, fits_there, is_format}
+use Rattle.df_theory.{specs.{Units.{AnyUnit, BlockPlace, BlockUnit, CopyPlace, CopyUnit, HeaderPlace, HeaderUnit, PreparePlace, PrepareUnit, ReplyPlace, ReplyUnit, is_some, or_else}, UnitLog.{put_one, same_place}, Device.{IsPut}}, proofs.Laws.{put_shown_law}}
+use Rattle.df_units.{specs.{Meaning.{block_of, content_of, header_of, message_of, place_of}, Bytes.{copy_unit, has, has_place, meets, message_unit, span_at, touches, unit_at}, Format.{format_of}, Puts.{AreHeaders, BlockIsPut, CopyIsPut, HeadersArePut, IsNextSector, OneHeaderIsNew, PrepareIsPut, ReplyIsPut, header_unit, put_headers}}, proofs.Local.{copy_count, copy_first, fits_there, is_format}}
 
 -- ---- a write of one unit
 

@@ -1,31 +1,15 @@
 -- After the mending each copy says what the choice did, and the superblock of an upgrade is above that.
-use Rattle.std.proofs.Common.{◌≡◌, inl, inr, ℕ, ◌+◌, ◌*◌, ◌<◌, ◌≤◌, List, [], ◌∷◌, ◌++◌, length, get_or, Bool, true, false, Option, Some, None, refl, sym, ◌∙◌, ap, subst, arith}
-use Rattle.std.proofs.lemmas.Bool.{cases_Bool}
-use Rattle.df_base.specs.Image.{Image}
-use Rattle.df_base.specs.Log.{Event, Log, Sync, now}
-use Rattle.df_base.specs.Moments.{adds}
-use Rattle.df_disk.specs.Told.{Told}
-use Rattle.df_disk.specs.Adds.{after_all}
-use Rattle.df_disk.proofs.Laws.{none_after}
+use Rattle.std.proofs.{Common.{◌≡◌, inl, inr, ℕ, ◌+◌, ◌*◌, ◌<◌, ◌≤◌, List, [], ◌∷◌, ◌++◌, length, get_or, Bool, true, false, Option, Some, None, refl, sym, ◌∙◌, ap, subst, arith}, lemmas.Bool.{cases_Bool}}
+use Rattle.df_base.specs.{Image.{Image}, Log.{Event, Log, Sync, now}, Moments.{adds}}
+use Rattle.df_disk.{specs.{Told.{Told}, Adds.{after_all}}, proofs.Laws.{none_after}}
 use Rattle.df_layout.specs.declared.layout.Layout.{Layout}
-use Rattle.df_format.specs.Copies.{Content, content_at, content_with}
-use Rattle.df_format.specs.SuperRules.{IsUsable}
-use Rattle.df_format.specs.declared.header.Header.{Header}
-use Rattle.df_format.specs.declared.superblock.SuperFields.{SuperFields}
-use Rattle.df_format.proofs.Laws.{uncovered_below, slot_from}
+use Rattle.df_format.{specs.{Copies.{Content, content_at, content_with}, SuperRules.{IsUsable}, declared.header.Header.{Header}, declared.superblock.SuperFields.{SuperFields}}, proofs.Laws.{uncovered_below, slot_from}}
 use Rattle.df_headers.specs.Ring.{sector_writes}
 use Rattle.df_quorum.specs.Quorum.{IsChosenContent}
-use Rattle.df_superblock.specs.Events.{repair_events}
-use Rattle.df_superblock.proofs.Laws.{Spares, copy_put, member_spared, other_written, seen_apart, written_shows}
-use Rattle.df_damage.proofs.Laws.{added_is_told, super_as}
-use Rattle.df_damage.specs.Anew.{told_after}
-use Rattle.df_opening.specs.Mending.{header_events, sectors_of}
-use Rattle.df_opening.specs.Raising.{IsPlannedOf}
-use Rattle.df_opening.specs.Sparing.{image_after}
-use Rattle.df_opening.specs.Survey.{Survey}
-use Rattle.df_opening.proofs.Laws.{shown_after, now_adds}
-use Rattle.df_upgrade.specs.Base.{IsAbove, base_fields}
-use Rattle.df_upgrade.specs.Upgrading.{restoring_events}
+use Rattle.df_superblock.{specs.Events.{repair_events}, proofs.Laws.{Spares, copy_put, member_spared, other_written, seen_apart, written_shows}}
+use Rattle.df_damage.{proofs.Laws.{added_is_told, super_as}, specs.Anew.{told_after}}
+use Rattle.df_opening.{specs.{Mending.{header_events, sectors_of}, Raising.{IsPlannedOf}, Sparing.{image_after}, Survey.{Survey}}, proofs.Laws.{shown_after, now_adds}}
+use Rattle.df_upgrade.specs.{Base.{IsAbove, base_fields}, Upgrading.{restoring_events}}
 
 -- ---- images
 

@@ -1,53 +1,20 @@
 -- What an upgrade does after its survey keeps the bare view in a log that is restarted, whatever the copies showed, and leaves a file of version 2.
-use Rattle.std.proofs.Common.{◌≡◌, ◌⊎◌, inl, inr, ℕ, ◌||◌, false, List, [], ◌∷◌, length, slice_index, Option, Some, None, ◌∙◌, ap, subst, arith, refl, sym}
-use Rattle.std.specs.Prelude.{Ok}
+use Rattle.std.{proofs.Common.{◌≡◌, ◌⊎◌, inl, inr, ℕ, ◌||◌, false, List, [], ◌∷◌, length, slice_index, Option, Some, None, ◌∙◌, ap, subst, arith, refl, sym}, specs.Prelude.{Ok}}
 use Rattle.df_base.specs.Log as Log
-use Rattle.df_base.specs.Image.{Image, IsImage}
-use Rattle.df_base.specs.Moments.{EachMoment, adds}
-use Rattle.df_disk.specs.Adds.{after_all}
-use Rattle.df_disk.specs.Told.{Told}
-use Rattle.df_disk.proofs.Laws.{after_append}
-use Rattle.df_format.specs.Copies.{content_with}
-use Rattle.df_format.specs.SuperRules.{IsUsable}
-use Rattle.df_theory.specs.Chance.{EachLeft}
-use Rattle.df_theory.specs.Device.{AreSteps, NoChanceOf, units_log}
-use Rattle.df_theory.specs.Found.{AreOfPlaces, IsClean, IsFound}
-use Rattle.df_theory.specs.Holds.{Holds, IsWhole}
-use Rattle.df_theory.specs.Next.{IsSameBare, MayBoot, booted}
-use Rattle.df_theory.specs.Runs.{AtEach, Puts, Step, Syncs, after_steps}
-use Rattle.df_theory.specs.Shape.{Shape}
-use Rattle.df_theory.specs.Shows.{AgreesCopy}
+use Rattle.df_base.specs.{Image.{Image, IsImage}, Moments.{EachMoment, adds}}
+use Rattle.df_disk.{specs.{Adds.{after_all}, Told.{Told}}, proofs.Laws.{after_append}}
+use Rattle.df_format.specs.{Copies.{content_with}, SuperRules.{IsUsable}}
+use Rattle.df_theory.{specs.{Chance.{EachLeft}, Device.{AreSteps, NoChanceOf, units_log}, Found.{AreOfPlaces, IsClean, IsFound}, Holds.{Holds, IsWhole}, Next.{IsSameBare, MayBoot, booted}, Runs.{AtEach, Puts, Step, Syncs, after_steps}, Shape.{Shape}, Shows.{AgreesCopy}, Units.{AnyUnit, BlockPlace, Content, CopyPlace, CopyUnit, Place, PreparePlace, ReplyPlace, is_some, or_else}, UnitLog.{UnitLog, now}, Upgrades.{BeginsRaised, EndsRaised, HasBare, IsRaised, MayRaise, as_version, of_version}, View.{View, boot_of}}, proofs.Laws.{firm_units, moments, now_units, one_chosen_law, raise_anew_law, raise_ends_law, upgrade_law}}
 use Rattle.df_theory.specs.Units
-use Rattle.df_theory.specs.Units.{AnyUnit, BlockPlace, Content, CopyPlace, CopyUnit, Place, PreparePlace, ReplyPlace, is_some, or_else}
 use Rattle.df_theory.specs.UnitLog as units
-use Rattle.df_theory.specs.UnitLog.{UnitLog, now}
 use Rattle.df_theory.specs.Upgrades as upgrades
-use Rattle.df_theory.specs.Upgrades.{BeginsRaised, EndsRaised, HasBare, IsRaised, MayRaise, as_version, of_version}
-use Rattle.df_theory.specs.View.{View, boot_of}
-use Rattle.df_theory.proofs.Laws.{firm_units, moments, now_units, one_chosen_law, raise_anew_law, raise_ends_law, upgrade_law}
-use Rattle.df_units.specs.Bytes.{unit_at}
-use Rattle.df_units.specs.Meaning.{content_of, layout_of, number_of, offset_list}
-use Rattle.df_units.specs.Puts.{put_copies}
-use Rattle.df_units.proofs.Laws.{all_added, call_ends, is_format, no_rest, of_places}
+use Rattle.df_units.{specs.{Bytes.{unit_at}, Meaning.{content_of, layout_of, number_of, offset_list}, Puts.{put_copies}}, proofs.Laws.{all_added, call_ends, is_format, no_rest, of_places}}
 use Rattle.df_trailer.specs.Text.{parse_of}
-use Rattle.df_superblock.specs.Copies.{AreEqual}
-use Rattle.df_superblock.specs.Events.{update_events}
-use Rattle.df_superblock.specs.Steps.{repaired}
-use Rattle.df_superblock.proofs.Laws.{ends_equal}
-use Rattle.df_model.specs.Result.{AgreeReads}
-use Rattle.df_model.proofs.Laws.{boot_may_law}
-use Rattle.df_damage.specs.Anew.{IsStill, restarted, told_after}
-use Rattle.df_damage.specs.Below.{DataFile, Represents, shape, spelling}
-use Rattle.df_damage.specs.Plan.{AreDistinctUnits, headers_in}
-use Rattle.df_damage.proofs.Laws.{added_is_told}
-use Rattle.df_opening.specs.Keeping.{format}
-use Rattle.df_opening.specs.Mending.{first_state, sector_puts, sectors_of}
-use Rattle.df_opening.specs.Raising.{IsPlannedOf}
-use Rattle.df_opening.specs.Survey.{Survey}
-use Rattle.df_opening.proofs.Laws.{IsPlannedIn, clean_beyond, codec_of, content_is, planned_in, put_nothing, raising_aside, unit_after}
-use Rattle.df_upgrade.specs.Base.{base_fields}
-use Rattle.df_upgrade.specs.Upgrading.{EndsUpgraded, IsLeftByUpgrade, UpgradeStaysBare, UpgradesAnew, restoring_events, second, upgraded, upgrading_events, upgrading_steps}
-use Rattle.df_upgrade.proofs.Records.{base_content}
+use Rattle.df_superblock.{specs.{Copies.{AreEqual}, Events.{update_events}, Steps.{repaired}}, proofs.Laws.{ends_equal}}
+use Rattle.df_model.{specs.Result.{AgreeReads}, proofs.Laws.{boot_may_law}}
+use Rattle.df_damage.{specs.{Anew.{IsStill, restarted, told_after}, Below.{DataFile, Represents, shape, spelling}, Plan.{AreDistinctUnits, headers_in}}, proofs.Laws.{added_is_told}}
+use Rattle.df_opening.{specs.{Keeping.{format}, Mending.{first_state, sector_puts, sectors_of}, Raising.{IsPlannedOf}, Survey.{Survey}}, proofs.Laws.{IsPlannedIn, clean_beyond, codec_of, content_is, planned_in, put_nothing, raising_aside, unit_after}}
+use Rattle.df_upgrade.{specs.{Base.{base_fields}, Upgrading.{EndsUpgraded, IsLeftByUpgrade, UpgradeStaysBare, UpgradesAnew, restoring_events, second, upgraded, upgrading_events, upgrading_steps}}, proofs.Records.{base_content}}
 
 -- ---- what steps leave alone
 

@@ -3,16 +3,10 @@ use Rattle.std.proofs.Common.{◌≡◌, Option, Some, Result, subst, sym, arith
 use Rattle.df_base.specs.Image.{IsImage}
 use Rattle.df_disk.specs.Told.{Told}
 use Rattle.df_layout.specs.declared.layout.Layout.{Layout}
-use Rattle.df_model.specs.Work.{opened}
-use Rattle.df_model.specs.declared.errors.OpenError.{OpenError}
-use Rattle.df_theory.specs.Found.{IsFound}
-use Rattle.df_theory.specs.View.{View}
-use Rattle.df_theory.proofs.Laws.{one_found_law}
+use Rattle.df_model.specs.{Work.{opened}, declared.errors.OpenError.{OpenError}}
+use Rattle.df_theory.{specs.{Found.{IsFound}, View.{View}}, proofs.Laws.{one_found_law}}
 use Rattle.df_units.specs.Bytes.{unit_at}
-use Rattle.df_damage.specs.Below.{Represents, State, shape}
-use Rattle.df_damage.specs.Surveying.{TellsSurveyAs}
-use Rattle.df_damage.specs.Surveys.{IsOpenedAs}
-use Rattle.df_damage.proofs.Laws.{answer_is_of_hurt_as}
+use Rattle.df_damage.{specs.{Below.{Represents, State, shape}, Surveying.{TellsSurveyAs}, Surveys.{IsOpenedAs}}, proofs.Laws.{answer_is_of_hurt_as}}
 use Rattle.df_opening.specs.Mending.{first_state}
 use Rattle.df_upgrade.specs.Old.{AnswersOld, TellsHurtOld}
 

@@ -1,28 +1,13 @@
 -- The superblock of an upgrade passes its tests, and says what the machine records of the state that was found.
-use Rattle.std.proofs.Common.{◌≡◌, inl, inr, ℕ, ◌+◌, ◌<◌, ◌^◌, List, [], None, false, true, refl, sym, ◌∙◌, ap, subst, arith}
-use Rattle.std.proofs.lemmas.List.Elements.{All-drop}
-use Rattle.df_format.specs.Copies.{content_with}
-use Rattle.df_format.specs.Spelling.{no_checksum}
-use Rattle.df_format.specs.SuperRules.{IsFirstSuper, IsUsable, fault_of}
-use Rattle.df_format.specs.declared.superblock.SuperFields.{SuperFields}
-use Rattle.df_format.proofs.Laws.{faults}
+use Rattle.std.proofs.{Common.{◌≡◌, inl, inr, ℕ, ◌+◌, ◌<◌, ◌^◌, List, [], None, false, true, refl, sym, ◌∙◌, ap, subst, arith}, lemmas.List.Elements.{All-drop}}
+use Rattle.df_format.{specs.{Copies.{content_with}, Spelling.{no_checksum}, SuperRules.{IsFirstSuper, IsUsable, fault_of}, declared.superblock.SuperFields.{SuperFields}}, proofs.Laws.{faults}}
 use Rattle.df_sessions.specs.Table.{IsSessionTable}
-use Rattle.df_theory.specs.Shape.{Shape}
-use Rattle.df_theory.specs.Units.{Content, Parts, Units}
-use Rattle.df_theory.specs.Upgrades.{as_version}
-use Rattle.df_theory.specs.View.{View}
+use Rattle.df_theory.specs.{Shape.{Shape}, Units.{Content, Parts, Units}, Upgrades.{as_version}, View.{View}}
 use Rattle.df_units.specs.Meaning.{content_of, number_of}
 use Rattle.df_model.specs.Making as making
-use Rattle.df_model.specs.Making.{boot_content, named_sums}
-use Rattle.df_model.specs.Memory.{Memory, memory_of}
-use Rattle.df_model.specs.Work.{opened}
-use Rattle.df_damage.specs.Below.{IsState, MayRecord, State, memory}
-use Rattle.df_damage.specs.Surveying.{state_found}
-use Rattle.df_damage.specs.Types.{Surveyed}
-use Rattle.df_damage.proofs.Laws.{found_awaits, found_ends, found_staging, numbers_as, recorded_content, recorded_is_super}
-use Rattle.df_upgrade.specs.Base.{base_fields}
-use Rattle.df_upgrade.specs.Old.{IsOldSurvey}
-use Rattle.df_upgrade.specs.Upgrading.{second}
+use Rattle.df_model.specs.{Making.{boot_content, named_sums}, Memory.{Memory, memory_of}, Work.{opened}}
+use Rattle.df_damage.{specs.{Below.{IsState, MayRecord, State, memory}, Surveying.{state_found}, Types.{Surveyed}}, proofs.Laws.{found_awaits, found_ends, found_staging, numbers_as, recorded_content, recorded_is_super}}
+use Rattle.df_upgrade.specs.{Base.{base_fields}, Old.{IsOldSurvey}, Upgrading.{second}}
 
 -- ---- it passes its tests
 

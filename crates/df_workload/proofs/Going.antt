@@ -1,11 +1,6 @@
 -- From one point of a run to the next: it stays sound, and what is still to come fits in what was left.
-use Rattle.std.proofs.Common.{◌≡◌, ◌≤◌, ◌<◌, ℕ, ◌+◌, ◌-◌, ◌*◌, ◌%◌, ◌^◌, ◌==◌, Bool, true, false, nat_lt, if◌then◌else◌, length, refl, arith, ltb-true, ltb-false, eqb-true}
-use Rattle.std.proofs.lemmas.Bool.Decides.{nat_tests}
-use Rattle.df_workload.specs.Rounds.{after_reply, at, first_op, is_replied_to, to_append, to_begin, to_block, to_next, to_release, to_replies, to_step, with_draw}
-use Rattle.df_workload.specs.Sound.{HasPoint, IsSoundState, IsWithinRound, left, left_at}
-use Rattle.df_workload.specs.declared.state.Point.{Point}
-use Rattle.df_workload.specs.declared.state.Point.TheVariants.{Replying, Stepping, Writing, Releasing, Beginning, Ending}
-use Rattle.df_workload.specs.declared.state.State.{State}
+use Rattle.std.proofs.{Common.{◌≡◌, ◌≤◌, ◌<◌, ℕ, ◌+◌, ◌-◌, ◌*◌, ◌%◌, ◌^◌, ◌==◌, Bool, true, false, nat_lt, if◌then◌else◌, length, refl, arith, ltb-true, ltb-false, eqb-true}, lemmas.Bool.Decides.{nat_tests}}
+use Rattle.df_workload.specs.{Rounds.{after_reply, at, first_op, is_replied_to, to_append, to_begin, to_block, to_next, to_release, to_replies, to_step, with_draw}, Sound.{HasPoint, IsSoundState, IsWithinRound, left, left_at}, declared.state.Point.{Point}, declared.state.Point.TheVariants.{Replying, Stepping, Writing, Releasing, Beginning, Ending}, declared.state.State.{State}}
 
 -- sound, with at most n commands of the round of s to come
 pub record Comes (n : ℕ) (s t : State) : Type 0 where

@@ -2,15 +2,7 @@
 use Rattle.std.proofs.Common.{◌≡◌, Bool, true, false, if◌then◌else◌, List, [], ◌∷◌, ◌++◌, Some, None, refl, sym, ◌∙◌, ap, subst}
 use Rattle.df_model.specs.Commands.{Advance, Answer, Command}
 pub use Rattle.df_workload.proofs.Running.{runs_so, asks_end}
-use Rattle.df_workload.specs.Asking.{asks, asks_at}
-use Rattle.df_workload.specs.Following.{Follows}
-use Rattle.df_workload.specs.Hearing.{heard, stepped, told, told_at}
-use Rattle.df_workload.specs.Sound.{MayBeTold, is_at_end}
-use Rattle.df_workload.specs.declared.outcome.Outcome.{Outcome}
-use Rattle.df_workload.specs.declared.outcome.Outcome.TheVariants.{Refused}
-use Rattle.df_workload.specs.declared.state.Point.{Point}
-use Rattle.df_workload.specs.declared.state.Point.TheVariants.{Appending, Replying, Stepping, Writing, Releasing, Beginning, Ending}
-use Rattle.df_workload.specs.declared.state.State.{State}
+use Rattle.df_workload.specs.{Asking.{asks, asks_at}, Following.{Follows}, Hearing.{heard, stepped, told, told_at}, Sound.{MayBeTold, is_at_end}, declared.outcome.Outcome.{Outcome}, declared.outcome.Outcome.TheVariants.{Refused}, declared.state.Point.{Point}, declared.state.Point.TheVariants.{Appending, Replying, Stepping, Writing, Releasing, Beginning, Ending}, declared.state.State.{State}}
 
 pub may_go_on : (p : Point) (o : Outcome) (s : State) → is_at_end p ≡ false → MayBeTold p o s
 may_go_on Appending o s is = tt

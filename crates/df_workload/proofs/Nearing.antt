@@ -1,14 +1,6 @@
 -- Each answer leaves a run sound, and brings its end nearer.
 use Rattle.std.proofs.Common.{ap, subst, sym, ◌≡◌, ◌≤◌, ◌<◌, ℕ, ◌+◌, ◌-◌, ◌*◌, ◌/◌, ◌%◌, true, false, List, [], ◌∷◌, ◌++◌, length, drop, length-append, length-drop, refl, arith}
-use Rattle.df_workload.specs.Hearing.{append_heard, begin_heard, block_heard, refused, release_heard, reply_heard, stepped, told, told_at, without_first}
-use Rattle.df_workload.specs.Rounds.{after_reply, to_begin, to_block, to_next, to_release, to_replies}
-use Rattle.df_workload.specs.Sound.{HasPoint, IsSoundState, IsWithinRound, MayBeTold, flag, is_at_end, left, left_at}
-use Rattle.df_workload.specs.declared.outcome.Outcome.{Outcome}
-use Rattle.df_workload.specs.declared.outcome.Outcome.TheVariants.{Refused, Accepted, Wrote, Finished}
-use Rattle.df_workload.specs.declared.state.Point.{Point}
-use Rattle.df_workload.specs.declared.state.Point.TheVariants.{Appending, Replying, Stepping, Writing, Releasing, Beginning, Ending}
-use Rattle.df_workload.specs.declared.state.State.{State}
-use Rattle.df_workload.proofs.Going.{Comes, comes_begin, comes_block, comes_next, comes_release, comes_replies, comes_reply, less_to_come}
+use Rattle.df_workload.{specs.{Hearing.{append_heard, begin_heard, block_heard, refused, release_heard, reply_heard, stepped, told, told_at, without_first}, Rounds.{after_reply, to_begin, to_block, to_next, to_release, to_replies}, Sound.{HasPoint, IsSoundState, IsWithinRound, MayBeTold, flag, is_at_end, left, left_at}, declared.outcome.Outcome.{Outcome}, declared.outcome.Outcome.TheVariants.{Refused, Accepted, Wrote, Finished}, declared.state.Point.{Point}, declared.state.Point.TheVariants.{Appending, Replying, Stepping, Writing, Releasing, Beginning, Ending}, declared.state.State.{State}}, proofs.Going.{Comes, comes_begin, comes_block, comes_next, comes_release, comes_replies, comes_reply, less_to_come}}
 
 -- ---- what was counted: one command more, and one less to come
 

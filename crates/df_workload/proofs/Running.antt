@@ -1,14 +1,7 @@
 -- The flag of a running checkpoint follows the commands and their answers alone.
 use Rattle.std.proofs.Common.{◌≡◌, ℕ, ◌+◌, ◌%◌, ◌==◌, Bool, true, false, nat_lt, if◌then◌else◌, List, length, Option, Some, None, refl, ◌∙◌, subst}
 use Rattle.df_model.specs.Commands.{Advance, Begin, Command}
-use Rattle.df_workload.specs.Asking.{asks_at, number_body}
-use Rattle.df_workload.specs.Hearing.{append_heard, begin_heard, block_heard, release_heard, reply_heard, runs_after, stepped, told_at}
-use Rattle.df_workload.specs.Rounds.{after_reply, at, first_op, is_replied_to, to_append, to_begin, to_block, to_next, to_release, to_replies, to_step, with_draw}
-use Rattle.df_workload.specs.declared.outcome.Outcome.{Outcome}
-use Rattle.df_workload.specs.declared.outcome.Outcome.TheVariants.{Refused}
-use Rattle.df_workload.specs.declared.state.Point.{Point}
-use Rattle.df_workload.specs.declared.state.Point.TheVariants.{Appending, Replying, Stepping, Writing, Releasing, Beginning, Ending}
-use Rattle.df_workload.specs.declared.state.State.{State}
+use Rattle.df_workload.specs.{Asking.{asks_at, number_body}, Hearing.{append_heard, begin_heard, block_heard, release_heard, reply_heard, runs_after, stepped, told_at}, Rounds.{after_reply, at, first_op, is_replied_to, to_append, to_begin, to_block, to_next, to_release, to_replies, to_step, with_draw}, declared.outcome.Outcome.{Outcome}, declared.outcome.Outcome.TheVariants.{Refused}, declared.state.Point.{Point}, declared.state.Point.TheVariants.{Appending, Replying, Stepping, Writing, Releasing, Beginning, Ending}, declared.state.State.{State}}
 
 -- ---- no point on the way changes it
 

@@ -1,6 +1,5 @@
 -- An interrupted read consumes nothing.
-use Rattle.std.proofs.Common.{◌≡◌, length}
-use Rattle.std.specs.Io.KnownBytes.{Keeps}
+use Rattle.std.{proofs.Common.{◌≡◌, length}, specs.Io.KnownBytes.{Keeps}}
 use Rattle.df_base.proofs.adapters.read_some.Given as goal
 
 abbrev pub invariant-loop : goal.invariant-loop

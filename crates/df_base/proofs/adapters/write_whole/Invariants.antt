@@ -1,6 +1,5 @@
 -- What was written so far is the front of the piece.
-use Rattle.std.proofs.Common.{◌≤◌, ◌-◌, length, take}
-use Rattle.std.specs.Io.KnownBytes.{Appends}
+use Rattle.std.{proofs.Common.{◌≤◌, ◌-◌, length, take}, specs.Io.KnownBytes.{Appends}}
 use Rattle.df_base.proofs.adapters.write_whole.Given as goal
 
 abbrev pub invariant-loop-done : goal.invariant-loop-done

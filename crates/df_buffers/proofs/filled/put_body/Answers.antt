@@ -1,5 +1,4 @@
-use Rattle.std.proofs.Common.{◌≡◌, ℕ, List, length, take, ◌∙◌, ap, arith}
-use Rattle.std.proofs.lemmas.List.{drop_at, length-take-le, take_at}
+use Rattle.std.proofs.{Common.{◌≡◌, ℕ, List, length, take, ◌∙◌, ap, arith}, lemmas.List.{drop_at, length-take-le, take_at}}
 use Rattle.df_buffers.proofs.filled.put_body.Goals as goal
 
 pub returns-clause-body : goal.returns-clause-body

@@ -1,13 +1,9 @@
 -- None of the chain is held by the blocks that are referenced.
-use Rattle.std.proofs.Common.{◌+◌, ◌∙◌, ap, refl, subst, sym}
-use Rattle.std.specs.Prelude.{Err}
+use Rattle.std.{proofs.Common.{◌+◌, ◌∙◌, ap, refl, subst, sym}, specs.Prelude.{Err}}
 use Rattle.df_model.specs.Blocks.{is_held_in}
 use Rattle.df_trailer.specs.Reading.{kept_at}
 use Rattle.df_grid.specs.Grid.{GridState}
-use Rattle.df_checkpoint.specs.declared.fault.TrailerFault.{TrailerFault}
-use Rattle.df_checkpoint.specs.Adopting.{AdoptAnswer}
-use Rattle.df_checkpoint.proofs.Adopted.{apart_same, live_free}
-use Rattle.df_checkpoint.proofs.Referenced.{among_inside, first_refused}
+use Rattle.df_checkpoint.{specs.{declared.fault.TrailerFault.{TrailerFault}, Adopting.{AdoptAnswer}}, proofs.{Adopted.{apart_same, live_free}, Referenced.{among_inside, first_refused}}}
 use Rattle.df_checkpoint.proofs.adopting.adopt.Goals as goal
 
 pub first_referenced-requires : goal.first_referenced-requires

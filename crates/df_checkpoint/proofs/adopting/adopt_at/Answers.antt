@@ -3,8 +3,7 @@ use Rattle.std.proofs.Common.{◌∙◌, sym, ap, true}
 use Rattle.df_model.specs.Blocks.{Blocks}
 use Rattle.df_units.specs.Meaning.{number_of}
 use Rattle.df_trailer.specs.Reading.{kept_at}
-use Rattle.df_grid.specs.Grid.{with_blocks}
-use Rattle.df_grid.specs.Table.{adopted}
+use Rattle.df_grid.specs.{Grid.{with_blocks}, Table.{adopted}}
 use Rattle.df_checkpoint.proofs.Adopted.{live_next, live_same, live_unheld}
 use Rattle.df_checkpoint.proofs.adopting.adopt_at.Goals as goal
 

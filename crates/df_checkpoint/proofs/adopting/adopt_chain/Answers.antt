@@ -2,8 +2,7 @@
 use Rattle.std.proofs.Common.{◌-◌, sym, subst, length, arith}
 use Rattle.df_format.specs.declared.reference.Reference.{Reference}
 use Rattle.df_grid.specs.Grid.{IsUnheld}
-use Rattle.df_checkpoint.proofs.Adopted.{chain_next}
-use Rattle.df_checkpoint.proofs.Fed.{apart_inside}
+use Rattle.df_checkpoint.proofs.{Adopted.{chain_next}, Fed.{apart_inside}}
 use Rattle.df_checkpoint.proofs.adopting.adopt_chain.Goals as goal
 
 pub adopt-requires-clause-free : goal.adopt-requires-clause-free

@@ -1,8 +1,6 @@
 -- A link that is read goes after the others, unless it is refused.
 use Rattle.std.proofs.Common.{◌∙◌, List, sym, ap, subst}
-use Rattle.df_checkpoint.specs.declared.links.Link.{Link}
-use Rattle.df_checkpoint.specs.Chain.{AreDistinctLinks, is_among}
-use Rattle.df_checkpoint.proofs.Walked.{apart_more, step_again, step_more, step_refused}
+use Rattle.df_checkpoint.{specs.{declared.links.Link.{Link}, Chain.{AreDistinctLinks, is_among}}, proofs.Walked.{apart_more, step_again, step_more, step_refused}}
 use Rattle.df_checkpoint.proofs.backwards.take_link.Goals as goal
 
 pub returns-in-Err-clause-step : goal.returns-in-Err-clause-step

@@ -1,8 +1,7 @@
 -- Each step takes the walk one link further.
 use Rattle.std.proofs.Common.{◌-◌, ◌∙◌, arith, subst}
 use Rattle.df_grid.specs.Grid.{GridState, HasAddress}
-use Rattle.df_checkpoint.specs.Chain.{AreDistinctLinks}
-use Rattle.df_checkpoint.proofs.Walked.{walk_done, walk_more, walk_refused}
+use Rattle.df_checkpoint.{specs.Chain.{AreDistinctLinks}, proofs.Walked.{walk_done, walk_more, walk_refused}}
 use Rattle.df_checkpoint.proofs.backwards.walk.Goals as goal
 
 pub returns-in-Err-clause-walked : goal.returns-in-Err-clause-walked

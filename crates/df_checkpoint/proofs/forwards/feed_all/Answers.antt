@@ -1,9 +1,7 @@
 -- Each block adds its body to the text.
-use Rattle.std.proofs.Common.{◌≡◌, ℕ, ◌-◌, ◌∙◌, length, refl, sym, arith, subst}
-use Rattle.std.specs.Prelude.{Ok, Err}
+use Rattle.std.{proofs.Common.{◌≡◌, ℕ, ◌-◌, ◌∙◌, length, refl, sym, arith, subst}, specs.Prelude.{Ok, Err}}
 use Rattle.df_grid.specs.Grid.{GridState, HasAddress}
-use Rattle.df_checkpoint.specs.Texts.{HasReadTo}
-use Rattle.df_checkpoint.proofs.Fed.{apart_inside, feed_same, read_first, read_more, read_refused}
+use Rattle.df_checkpoint.{specs.Texts.{HasReadTo}, proofs.Fed.{apart_inside, feed_same, read_first, read_more, read_refused}}
 use Rattle.df_checkpoint.proofs.forwards.feed_all.Goals as goal
 
 pub loop-done-init : goal.loop-done-init

@@ -1,7 +1,6 @@
 -- The reader is given the body of the block that is shown.
 use Rattle.std.proofs.Common.{ℕ, List, subst}
-use Rattle.df_checkpoint.specs.Texts.{Feeds}
-use Rattle.df_checkpoint.proofs.Fed.{fed_answer, fed_blames}
+use Rattle.df_checkpoint.{specs.Texts.{Feeds}, proofs.Fed.{fed_answer, fed_blames}}
 use Rattle.df_checkpoint.proofs.forwards.feed_block.Goals as goal
 
 pub returns-in-Ok-Ok-clause-fed : goal.returns-in-Ok-Ok-clause-fed

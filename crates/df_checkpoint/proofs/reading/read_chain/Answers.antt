@@ -1,8 +1,6 @@
 -- The chain, the text and what the grid adopts, one after the other.
-use Rattle.std.proofs.Common.{◌∙◌}
-use Rattle.std.specs.Prelude.{Err, Ok}
-use Rattle.df_checkpoint.proofs.Adopted.{adopted_idle}
-use Rattle.df_checkpoint.proofs.ReadWhole.{adopt_same, chain_adopted, chain_refused, found_same, fresh_size, text_refused, text_same}
+use Rattle.std.{proofs.Common.{◌∙◌}, specs.Prelude.{Err, Ok}}
+use Rattle.df_checkpoint.proofs.{Adopted.{adopted_idle}, ReadWhole.{adopt_same, chain_adopted, chain_refused, found_same, fresh_size, text_refused, text_same}}
 use Rattle.df_checkpoint.proofs.reading.read_chain.Goals as goal
 
 pub returns-in-Err-clause-answer : goal.returns-in-Err-clause-answer

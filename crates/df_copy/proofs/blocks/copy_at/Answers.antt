@@ -6,12 +6,7 @@ use Rattle.df_grid.specs.Grid.{GridState}
 use Rattle.df_model.specs.Faults.{is_read_fault}
 use Rattle.df_opening.specs.Below.{State}
 use Rattle.df_replica.specs.Stopping.{left_by}
-use Rattle.df_copy.specs.declared.ending.Ending.{Ending}
-use Rattle.df_copy.specs.declared.target.Target.{Target}
-use Rattle.df_copy.specs.Acts.{CopiesBlock, PutsBlock}
-use Rattle.df_copy.specs.Statuses.{is_source, is_target}
-use Rattle.df_copy.proofs.Blamed.{block_blamed, block_spares, on_ok, unblamed}
-use Rattle.df_copy.proofs.BlockRead.{block_is, block_put, block_unit, block_unread, copies_live, known_by, live_there}
+use Rattle.df_copy.{specs.{declared.ending.Ending.{Ending}, declared.target.Target.{Target}, Acts.{CopiesBlock, PutsBlock}, Statuses.{is_source, is_target}}, proofs.{Blamed.{block_blamed, block_spares, on_ok, unblamed}, BlockRead.{block_is, block_put, block_unit, block_unread, copies_live, known_by, live_there}}}
 use Rattle.df_copy.proofs.blocks.copy_at.Goals as goal
 
 -- ---- it is

@@ -1,9 +1,7 @@
 -- One address after the other.
 use Rattle.std.proofs.Common.{◌≡◌, ◌∙◌, ap, arith, refl}
 use Rattle.df_model.specs.declared.answers.Summary.{Summary}
-use Rattle.df_copy.proofs.Blamed.{leaves_then}
-use Rattle.df_copy.proofs.Blocking.{addresses_of, blocking_all, blocking_ends, blocking_more, blocking_none, blocking_room}
-use Rattle.df_copy.proofs.Turns.{leaves_self}
+use Rattle.df_copy.proofs.{Blamed.{leaves_then}, Blocking.{addresses_of, blocking_all, blocking_ends, blocking_more, blocking_none, blocking_room}, Turns.{leaves_self}}
 use Rattle.df_copy.proofs.blocks.copy_blocks.Goals as goal
 
 pub loop-before-init : goal.loop-before-init

@@ -1,9 +1,7 @@
 -- The blocks up to the address are written.
 use Rattle.std.proofs.Common.{◌≡◌, List, [], Ok}
 use Rattle.df_format.specs.Message.{Message}
-use Rattle.df_copy.specs.Acts.{LeavesSource, beside}
-use Rattle.df_copy.specs.Targets.{IsTarget}
-use Rattle.df_copy.proofs.Blocking.{IsBlocking}
+use Rattle.df_copy.{specs.{Acts.{LeavesSource, beside}, Targets.{IsTarget}}, proofs.Blocking.{IsBlocking}}
 use Rattle.df_copy.proofs.blocks.copy_blocks.Given as goal
 
 abbrev pub invariant-loop-before : goal.invariant-loop-before

@@ -1,17 +1,11 @@
 -- The block is made at the next address, which is free.
 use Rattle.std.proofs.Common.{◌≡◌, ℕ, ◌+◌, false, List, length, refl, sym, ap, subst, ◌∙◌, arith}
 use Rattle.df_layout.specs.declared.layout.Layout.{Layout}
-use Rattle.df_format.specs.declared.header.Header.{Header}
-use Rattle.df_format.specs.Message.{Message}
+use Rattle.df_format.specs.{declared.header.Header.{Header}, Message.{Message}}
 use Rattle.df_grid.specs.Grid.{GridState}
 use Rattle.df_model.specs.Blocks.{is_held_in}
 use Rattle.df_replica.specs.Blocks.{MayPut}
-use Rattle.df_copy.specs.declared.target.Target.{Target}
-use Rattle.df_copy.specs.Targets.{IsTarget}
-use Rattle.df_copy.specs.Units.{moved_from}
-use Rattle.df_copy.proofs.Frees.{held_behind}
-use Rattle.df_copy.proofs.Listed.{moved_length}
-use Rattle.df_copy.proofs.Units.{at_address, may_put_block}
+use Rattle.df_copy.{specs.{declared.target.Target.{Target}, Targets.{IsTarget}, Units.{moved_from}}, proofs.{Frees.{held_behind}, Listed.{moved_length}, Units.{at_address, may_put_block}}}
 use Rattle.df_copy.proofs.blocks.put_block.Goals as goal
 
 -- the next address isn't held

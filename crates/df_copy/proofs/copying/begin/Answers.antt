@@ -1,9 +1,7 @@
 -- The target isn't begun.
 use Rattle.std.proofs.Common.{Option, Err, subst, sym}
 use Rattle.df_disk.specs.Told.{Told}
-use Rattle.df_copy.specs.declared.ending.Ending.{Ending}
-use Rattle.df_copy.specs.Copying.{BeginsTarget}
-use Rattle.df_copy.proofs.Blanks.{not_begun}
+use Rattle.df_copy.{specs.{declared.ending.Ending.{Ending}, Copying.{BeginsTarget}}, proofs.Blanks.{not_begun}}
 use Rattle.df_copy.proofs.copying.begin.Goals as goal
 
 pub returns-in-Err-clause-begins : goal.returns-in-Err-clause-begins

@@ -1,7 +1,6 @@
 -- A test that reads nothing refuses the source, or the others decide.
 use Rattle.std.proofs.Common.{[], refl}
-use Rattle.df_copy.proofs.Joining.{into_planned, into_refused}
-use Rattle.df_copy.proofs.Planning.{passes_tests, rest_blames}
+use Rattle.df_copy.proofs.{Joining.{into_planned, into_refused}, Planning.{passes_tests, rest_blames}}
 use Rattle.df_copy.proofs.copying.copy_into.Goals as goal
 
 pub copy_planned-requires-clause-ready : goal.copy_planned-requires-clause-ready

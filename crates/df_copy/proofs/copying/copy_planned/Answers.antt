@@ -1,20 +1,11 @@
 -- The ring, the units, and the rest.
-use Rattle.std.proofs.Common.{◌≡◌, ◌∙◌, ℕ, ◌≤◌, Option, Result, Ok, Err, refl, sym, ap, subst}
-use Rattle.std.specs.Prelude.{IfErr}
+use Rattle.std.{proofs.Common.{◌≡◌, ◌∙◌, ℕ, ◌≤◌, Option, Result, Ok, Err, refl, sym, ap, subst}, specs.Prelude.{IfErr}}
 use Rattle.df_base.specs.Causes.{IsBlamed}
 use Rattle.df_disk.specs.Told.{Told}
 use Rattle.df_layout.specs.declared.layout.Layout.{Layout}
 use Rattle.df_model.specs.declared.answers.Summary.{Summary}
 use Rattle.df_opening.specs.Below.{State, memory}
-use Rattle.df_copy.specs.declared.ending.Ending.{Ending}
-use Rattle.df_copy.specs.declared.ending.Ending.TheVariants.{Source, Target}
-use Rattle.df_copy.specs.Acts.{Beside, IsCopied, IsReadySource, LeavesSource, beside}
-use Rattle.df_copy.specs.Copying.{BeginsTarget}
-use Rattle.df_copy.specs.Planning.{IsCopyPlan}
-use Rattle.df_copy.specs.Statuses.{is_target}
-use Rattle.df_copy.specs.Tests.{needed}
-use Rattle.df_copy.proofs.Blamed.{leaves_then, on_ok, unblamed}
-use Rattle.df_copy.proofs.Joining.{planned_join, planned_stop, planned_units}
+use Rattle.df_copy.{specs.{declared.ending.Ending.{Ending}, declared.ending.Ending.TheVariants.{Source, Target}, Acts.{Beside, IsCopied, IsReadySource, LeavesSource, beside}, Copying.{BeginsTarget}, Planning.{IsCopyPlan}, Statuses.{is_target}, Tests.{needed}}, proofs.{Blamed.{leaves_then, on_ok, unblamed}, Joining.{planned_join, planned_stop, planned_units}}}
 use Rattle.df_copy.proofs.copying.copy_planned.Goals as goal
 
 -- what was said at the entry is said of what the units leave

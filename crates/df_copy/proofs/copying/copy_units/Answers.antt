@@ -1,17 +1,10 @@
 -- The replies, and then the blocks.
-use Rattle.std.proofs.Common.{◌≡◌, ◌∙◌, ◌≤◌, List, [], length, Option, Result, Ok, Err, sym, ap, subst}
-use Rattle.std.specs.Prelude.{OnOk}
+use Rattle.std.{proofs.Common.{◌≡◌, ◌∙◌, ◌≤◌, List, [], length, Option, Result, Ok, Err, sym, ap, subst}, specs.Prelude.{OnOk}}
 use Rattle.df_disk.specs.Told.{Told}
 use Rattle.df_format.specs.Message.{Message}
 use Rattle.df_layout.specs.declared.layout.Layout.{Layout}
 use Rattle.df_opening.specs.Below.{State, memory}
-use Rattle.df_copy.specs.declared.ending.Ending.{Ending}
-use Rattle.df_copy.specs.declared.target.Target.{Target}
-use Rattle.df_copy.specs.Acts.{CopiesBlocks, IsCopied}
-use Rattle.df_copy.specs.Targets.{IsTarget}
-use Rattle.df_copy.specs.Tests.{references}
-use Rattle.df_copy.proofs.Blamed.{leaves_then}
-use Rattle.df_copy.proofs.Joining.{units_join, units_stop}
+use Rattle.df_copy.{specs.{declared.ending.Ending.{Ending}, declared.target.Target.{Target}, Acts.{CopiesBlocks, IsCopied}, Targets.{IsTarget}, Tests.{references}}, proofs.{Blamed.{leaves_then}, Joining.{units_join, units_stop}}}
 use Rattle.df_copy.proofs.copying.copy_units.Goals as goal
 
 -- what the replies leave, as the blocks ask for it

@@ -1,22 +1,13 @@
 -- The trailer, and then the superblock.
 use Rattle.std.proofs.Common.{◌≡◌, ◌++◌, ◌∷◌, List, length, Option, Result, Ok, Err, subst}
 use Rattle.df_base.specs.Log.{Sync}
-use Rattle.df_disk.specs.Told.{Told}
-use Rattle.df_disk.specs.Adds.{Adds}
-use Rattle.df_disk.proofs.Laws.{adds_then, part_then}
-use Rattle.df_format.specs.Message.{Message}
-use Rattle.df_format.specs.declared.superblock.SuperFields.{SuperFields}
+use Rattle.df_disk.{specs.{Told.{Told}, Adds.{Adds}}, proofs.Laws.{adds_then, part_then}}
+use Rattle.df_format.specs.{Message.{Message}, declared.superblock.SuperFields.{SuperFields}}
 use Rattle.df_grid.specs.Writes.{made_events}
 use Rattle.df_superblock.specs.Events.{update_events}
 use Rattle.df_layout.specs.declared.layout.Layout.{Layout}
 use Rattle.df_opening.specs.Below.{State, memory}
-use Rattle.df_copy.specs.declared.ending.Ending.{Ending}
-use Rattle.df_copy.specs.declared.target.Target.{Target}
-use Rattle.df_copy.specs.Acts.{IsTrailerWritten}
-use Rattle.df_copy.specs.Targets.{superblock_events, superblock_of, trailer_of}
-use Rattle.df_copy.specs.Tests.{references}
-use Rattle.df_copy.specs.Trailers.{AddsTrailer}
-use Rattle.df_copy.specs.Units.{all_events, moved_from}
+use Rattle.df_copy.specs.{declared.ending.Ending.{Ending}, declared.target.Target.{Target}, Acts.{IsTrailerWritten}, Targets.{superblock_events, superblock_of, trailer_of}, Tests.{references}, Trailers.{AddsTrailer}, Units.{all_events, moved_from}}
 use Rattle.df_copy.proofs.copying.finish.Goals as goal
 
 -- what the superblock says, over the layout of the target as it was

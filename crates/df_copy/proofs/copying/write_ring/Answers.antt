@@ -4,8 +4,7 @@ use Rattle.df_disk.specs.Adds.{Adds}
 use Rattle.df_format.specs.declared.header.Header.{Header}
 use Rattle.df_layout.specs.declared.layout.Layout.{Layout}
 use Rattle.df_units.specs.Making.{header_writes}
-use Rattle.df_opening.specs.Making.{sectors_in}
-use Rattle.df_opening.proofs.Laws.{cleared, writable}
+use Rattle.df_opening.{specs.Making.{sectors_in}, proofs.Laws.{cleared, writable}}
 use Rattle.df_copy.proofs.copying.write_ring.Goals as goal
 
 pub write_headers-requires-clause-sealed : goal.write_headers-requires-clause-sealed

@@ -2,8 +2,7 @@
 use Rattle.std.proofs.Common.{map, string_bytes, subst}
 use Rattle.df_layout.specs.declared.layout.Layout.{Layout}
 use Rattle.df_program.specs.Two.{around}
-use Rattle.df_copy.specs.Run.{RunsCopy}
-use Rattle.df_copy.proofs.Ended.{one_meaning}
+use Rattle.df_copy.{specs.Run.{RunsCopy}, proofs.Ended.{one_meaning}}
 use Rattle.df_copy.proofs.engine.copy.Goals as goal
 
 -- ---- a layout

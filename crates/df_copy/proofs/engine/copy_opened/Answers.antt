@@ -1,16 +1,11 @@
 -- A copy after its open: what was written and judged is what is said of it.
 use Rattle.std.proofs.Common.{◌≡◌, Option, Ok, Err, subst, sym}
 use Rattle.df_disk.specs.Told.{Told}
-use Rattle.df_layout.specs.declared.layout.Layout.{Layout}
-use Rattle.df_layout.specs.Zones.{file_sectors}
+use Rattle.df_layout.specs.{declared.layout.Layout.{Layout}, Zones.{file_sectors}}
 use Rattle.df_opening.specs.Opened.{MendsAll}
-use Rattle.df_program.specs.Two.{counts}
-use Rattle.df_program.proofs.Laws.{printed_causes}
+use Rattle.df_program.{specs.Two.{counts}, proofs.Laws.{printed_causes}}
 use Rattle.df_copy.specs.declared.status.Status.TheVariants as ends
-use Rattle.df_copy.specs.Copying.{CopiesInto}
-use Rattle.df_copy.specs.Texts.{copied_text}
-use Rattle.df_copy.proofs.Ended.{copied_ends, ending_causes, ending_ends, ending_prints}
-use Rattle.df_copy.proofs.Opening.{file_copied, opened_apart}
+use Rattle.df_copy.{specs.{Copying.{CopiesInto}, Texts.{copied_text}}, proofs.{Ended.{copied_ends, ending_causes, ending_ends, ending_prints}, Opening.{file_copied, opened_apart}}}
 use Rattle.df_copy.proofs.engine.copy_opened.Goals as goal
 
 -- ---- it is made

@@ -2,11 +2,9 @@
 use Rattle.std.proofs.Common.{ℕ, inr, Option, refl, subst, sym}
 use Rattle.df_disk.specs.Told.{Told}
 use Rattle.df_opening.specs.Below.{State}
-use Rattle.df_program.specs.Two.{HasCausesOfTwo, around, counts}
-use Rattle.df_program.proofs.Laws.{unopened_causes}
+use Rattle.df_program.{specs.Two.{HasCausesOfTwo, around, counts}, proofs.Laws.{unopened_causes}}
 use Rattle.df_copy.specs.declared.status.Status.TheVariants as ends
-use Rattle.df_copy.specs.Run.{CopiesFile}
-use Rattle.df_copy.proofs.Ended.{not_opened, refused_ends}
+use Rattle.df_copy.{specs.Run.{CopiesFile}, proofs.Ended.{not_opened, refused_ends}}
 use Rattle.df_copy.proofs.engine.copy_reserved.Goals as goal
 
 -- ---- it is opened

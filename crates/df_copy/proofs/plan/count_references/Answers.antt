@@ -1,17 +1,11 @@
 -- An address is counted exactly where a block is live.
-use Rattle.std.proofs.Common.{◌≡◌, ◌∙◌, ℕ, ◌+◌, ◌-◌, true, false, List, length, Option, Some, None, refl, sym, ap, arith}
-use Rattle.std.specs.Option.{is_some}
-use Rattle.std.proofs.lemmas.Bool.{false≢true}
+use Rattle.std.{proofs.{Common.{◌≡◌, ◌∙◌, ℕ, ◌+◌, ◌-◌, true, false, List, length, Option, Some, None, refl, sym, ap, arith}, lemmas.Bool.{false≢true}}, specs.Option.{is_some}}
 use Rattle.df_trailer.specs.Rooms.{number_in}
 use Rattle.df_units.specs.Meaning.{number_of}
-use Rattle.df_model.specs.Blocks.{sum_at}
-use Rattle.df_model.specs.Memory.{Memory}
-use Rattle.df_model.specs.declared.answers.Summary.{Summary}
+use Rattle.df_model.specs.{Blocks.{sum_at}, Memory.{Memory}, declared.answers.Summary.{Summary}}
 use Rattle.df_opening.specs.Below.{memory}
-use Rattle.df_copy.specs.Tests.{references, references_from}
-use Rattle.df_copy.proofs.Planning.{counted_live, counted_none}
+use Rattle.df_copy.{specs.Tests.{references, references_from}, proofs.{Planning.{counted_live, counted_none}, plan.count_references.Goals.{then-is_some, else-is_some}}}
 use Rattle.df_copy.proofs.plan.count_references.Goals as goal
-use Rattle.df_copy.proofs.plan.count_references.Goals.{then-is_some, else-is_some}
 
 live : (o : Option (List ℕ)) → is_some o ≡ true → (c : ℕ) × (number_in o ≡ Some c)
 live (Some x) is = (number_of x, refl)

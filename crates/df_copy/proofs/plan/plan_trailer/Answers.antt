@@ -1,13 +1,10 @@
 -- How long the text is, and how many blocks it takes.
-use Rattle.std.proofs.Common.{◌≡◌, ◌∙◌, ℕ, ◌-◌, List, length, ap, sym}
-use Rattle.std.specs.Int.{div_ceil}
+use Rattle.std.{proofs.Common.{◌≡◌, ◌∙◌, ℕ, ◌-◌, List, length, ap, sym}, specs.Int.{div_ceil}}
 use Rattle.df_format.specs.declared.superblock.SuperFields.{SuperFields}
 use Rattle.df_model.specs.declared.answers.Summary.{Summary}
 use Rattle.df_opening.specs.Below.{State, memory}
-use Rattle.df_copy.specs.Tests.{trailer_size}
-use Rattle.df_copy.proofs.Planning.{size_none, text_as}
+use Rattle.df_copy.{specs.Tests.{trailer_size}, proofs.{Planning.{size_none, text_as}, plan.plan_trailer.Goals.{then-fields-ne0, else-fields-ne0}}}
 use Rattle.df_copy.proofs.plan.plan_trailer.Goals as goal
-use Rattle.df_copy.proofs.plan.plan_trailer.Goals.{then-fields-ne0, else-fields-ne0}
 
 pub returns-clause-plan : goal.returns-clause-plan
 returns-clause-plan c =

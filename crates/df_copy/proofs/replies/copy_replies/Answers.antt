@@ -3,11 +3,7 @@ use Rattle.std.proofs.Common.{◌∙◌, ◌<◌, length, refl, sym, ap, subst, 
 use Rattle.df_layout.specs.declared.layout.Layout.{Layout}
 use Rattle.df_model.specs.declared.answers.Summary.{Summary}
 use Rattle.df_opening.specs.Below.{State}
-use Rattle.df_copy.specs.Acts.{IsReadySource, SetsCheck}
-use Rattle.df_copy.proofs.Blamed.{leaves_then}
-use Rattle.df_copy.proofs.Named.{named_by, named_more, named_none}
-use Rattle.df_copy.proofs.Replying.{replying_all, replying_ends, replying_more, replying_none}
-use Rattle.df_copy.proofs.Turns.{leaves_self}
+use Rattle.df_copy.{specs.Acts.{IsReadySource, SetsCheck}, proofs.{Blamed.{leaves_then}, Named.{named_by, named_more, named_none}, Replying.{replying_all, replying_ends, replying_more, replying_none}, Turns.{leaves_self}}}
 use Rattle.df_copy.proofs.replies.copy_replies.Goals as goal
 
 pub loop-place-init : goal.loop-place-init

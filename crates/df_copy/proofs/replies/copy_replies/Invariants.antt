@@ -1,10 +1,7 @@
 -- The replies of the places before this one are written.
 use Rattle.std.proofs.Common.{length, Ok}
 use Rattle.df_sessions.specs.Table.{AreDistinctClients}
-use Rattle.df_copy.specs.Acts.{LeavesSource, beside}
-use Rattle.df_copy.specs.Targets.{KeepsGrid}
-use Rattle.df_copy.proofs.Named.{AreNamed}
-use Rattle.df_copy.proofs.Replying.{IsReplying}
+use Rattle.df_copy.{specs.{Acts.{LeavesSource, beside}, Targets.{KeepsGrid}}, proofs.{Named.{AreNamed}, Replying.{IsReplying}}}
 use Rattle.df_copy.proofs.replies.copy_replies.Given as goal
 
 abbrev pub invariant-loop-place : goal.invariant-loop-place

@@ -2,17 +2,10 @@
 use Rattle.std.proofs.Common.{◌∙◌, ℕ, Option, Err, Result, ap, subst, sym}
 use Rattle.df_base.specs.Causes.{Blamed}
 use Rattle.df_disk.specs.Told.{Told}
-use Rattle.df_model.specs.Faults.{is_lookup_fault}
-use Rattle.df_model.specs.Memory.{reply_sum}
+use Rattle.df_model.specs.{Faults.{is_lookup_fault}, Memory.{reply_sum}}
 use Rattle.df_opening.specs.Below.{State, memory}
-use Rattle.df_replica.specs.Lookups.{place_for}
-use Rattle.df_replica.specs.Stopping.{left_by}
-use Rattle.df_copy.specs.declared.ending.Ending.{Ending}
-use Rattle.df_copy.specs.declared.target.Target.{Target}
-use Rattle.df_copy.specs.Acts.{CopiesReply, PutsReply}
-use Rattle.df_copy.specs.Statuses.{is_source, is_target}
-use Rattle.df_copy.proofs.Blamed.{on_ok, reply_blamed, reply_spares, unblamed}
-use Rattle.df_copy.proofs.ReplyRead.{has_place, not_no_client, not_pending, place_is, place_within, reply_is, reply_names, reply_put, reply_unread, served, slot_is}
+use Rattle.df_replica.specs.{Lookups.{place_for}, Stopping.{left_by}}
+use Rattle.df_copy.{specs.{declared.ending.Ending.{Ending}, declared.target.Target.{Target}, Acts.{CopiesReply, PutsReply}, Statuses.{is_source, is_target}}, proofs.{Blamed.{on_ok, reply_blamed, reply_spares, unblamed}, ReplyRead.{has_place, not_no_client, not_pending, place_is, place_within, reply_is, reply_names, reply_put, reply_unread, served, slot_is}}}
 use Rattle.df_copy.proofs.replies.copy_reply.Goals as goal
 
 -- ---- it is

@@ -1,20 +1,11 @@
 -- The unit that is made is the one that was read, and it is written into the place that it names.
-use Rattle.std.proofs.Common.{◌≡◌, List, [], ◌∷◌, take, Option, None, Some, ℕ, refl, sym, ap, subst, ◌∙◌}
-use Rattle.std.specs.Prelude.{IsSome}
+use Rattle.std.{proofs.Common.{◌≡◌, List, [], ◌∷◌, take, Option, None, Some, ℕ, refl, sym, ap, subst, ◌∙◌}, specs.Prelude.{IsSome}}
 use Rattle.df_base.specs.Log.{Write}
-use Rattle.df_layout.specs.declared.layout.Layout.{Layout}
-use Rattle.df_layout.specs.declared.places.Zone.TheVariants.{ClientReplies}
-use Rattle.df_layout.specs.Spans.{span_of}
-use Rattle.df_format.specs.declared.header.Header.{Header}
-use Rattle.df_format.specs.Message.{Message, sectors_end, sectors_of}
-use Rattle.df_format.specs.Own.{place_in}
-use Rattle.df_format.specs.Valid.{IsUnit}
+use Rattle.df_layout.specs.{declared.layout.Layout.{Layout}, declared.places.Zone.TheVariants.{ClientReplies}, Spans.{span_of}}
+use Rattle.df_format.specs.{declared.header.Header.{Header}, Message.{Message, sectors_end, sectors_of}, Own.{place_in}, Valid.{IsUnit}}
 use Rattle.df_buffers.specs.Sounds.{Holding}
-use Rattle.df_places.specs.Shelves.{HoldsMade, IsUnitMade}
-use Rattle.df_places.specs.Units.{put_events}
-use Rattle.df_copy.specs.Acts.{MayPutReply}
-use Rattle.df_copy.specs.Units.{reply_events}
-use Rattle.df_copy.proofs.Units.{reply_same}
+use Rattle.df_places.specs.{Shelves.{HoldsMade, IsUnitMade}, Units.{put_events}}
+use Rattle.df_copy.{specs.{Acts.{MayPutReply}, Units.{reply_events}}, proofs.Units.{reply_same}}
 
 holds_some : (layout : Layout) (h : Header) (body : List ℕ) (held : Option Holding) → HoldsMade layout h body held → IsSome held
 holds_some layout h body (Some held) made = refl

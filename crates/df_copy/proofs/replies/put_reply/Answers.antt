@@ -1,10 +1,8 @@
 -- A reply that fits may be made again, as it is.
 use Rattle.std.proofs.Common.{◌≡◌, ◌+◌, ◌∙◌, ℕ, List, length, ap, subst, sym, arith}
-use Rattle.df_format.specs.declared.header.Header.{Header}
-use Rattle.df_format.specs.Message.{Message}
+use Rattle.df_format.specs.{declared.header.Header.{Header}, Message.{Message}}
 use Rattle.df_layout.specs.declared.layout.Layout.{Layout}
-use Rattle.df_copy.specs.Acts.{MayPutReply}
-use Rattle.df_copy.proofs.Units.{may_put_reply}
+use Rattle.df_copy.{specs.Acts.{MayPutReply}, proofs.Units.{may_put_reply}}
 use Rattle.df_copy.proofs.replies.put_reply.Goals as goal
 
 pub put_again-requires-clause-may : goal.put_again-requires-clause-may

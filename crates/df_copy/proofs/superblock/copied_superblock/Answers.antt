@@ -1,13 +1,7 @@
 -- The fields are those of the copy's superblock, which obey the rules.
 use Rattle.std.proofs.Common.{◌≡◌, ◌∙◌, List, None, Some, ap, sym}
-use Rattle.df_format.specs.Message.{Message}
-use Rattle.df_format.specs.SuperRules.{fault_of}
-use Rattle.df_format.specs.declared.superblock.SuperFields.{SuperFields}
-use Rattle.df_format.proofs.Laws.{faults}
-use Rattle.df_copy.specs.Targets.{fields_in, superblock_of}
-use Rattle.df_copy.specs.Trailers.{with_trailer}
-use Rattle.df_copy.proofs.Naming.{named_super}
-use Rattle.df_copy.proofs.Usables.{copy_super}
+use Rattle.df_format.{specs.{Message.{Message}, SuperRules.{fault_of}, declared.superblock.SuperFields.{SuperFields}}, proofs.Laws.{faults}}
+use Rattle.df_copy.{specs.{Targets.{fields_in, superblock_of}, Trailers.{with_trailer}}, proofs.{Naming.{named_super}, Usables.{copy_super}}}
 use Rattle.df_copy.proofs.superblock.copied_superblock.Goals as goal
 
 pub unreachable-requires : goal.unreachable-requires

@@ -1,6 +1,5 @@
 -- The line of each ending is the text of that ending.
-use Rattle.std.proofs.Common.{◌≡◌, ℕ, List, Option, Result, sym, ap, ◌∙◌, subst}
-use Rattle.std.specs.Prelude.{codes}
+use Rattle.std.{proofs.Common.{◌≡◌, ℕ, List, Option, Result, sym, ap, ◌∙◌, subst}, specs.Prelude.{codes}}
 use Rattle.df_inspect.specs.Prints.{Prints}
 use Rattle.df_script_model.specs.Texts.{line_of, numbered}
 use Rattle.df_copy.specs.Texts.{ending_text}

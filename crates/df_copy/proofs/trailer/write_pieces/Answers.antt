@@ -4,9 +4,7 @@ use Rattle.df_layout.specs.declared.layout.Layout.{Layout}
 use Rattle.df_base.specs.Log.{Event}
 use Rattle.df_disk.specs.Adds.{AddsPart, after_all}
 use Rattle.df_grid.specs.Grid.{GridState}
-use Rattle.df_copy.specs.Trailers.{text_in}
-use Rattle.df_copy.proofs.Piecewise.{count_left, count_written, kept_layout, piece_added, piece_fails}
-use Rattle.df_copy.proofs.Trailing.{its_events, its_next}
+use Rattle.df_copy.{specs.Trailers.{text_in}, proofs.{Piecewise.{count_left, count_written, kept_layout, piece_added, piece_fails}, Trailing.{its_events, its_next}}}
 use Rattle.df_copy.proofs.trailer.write_pieces.Goals as goal
 
 pub write_piece-requires-clause-next : goal.write_piece-requires-clause-next

@@ -2,9 +2,7 @@
 use Rattle.std.proofs.Common.{◌≡◌, length}
 use Rattle.df_disk.specs.Adds.{after_all}
 use Rattle.df_grid.specs.Writes.{made_events}
-use Rattle.df_copy.specs.Targets.{grid_behind, pieces_from}
-use Rattle.df_copy.specs.Trailers.{text_in}
-use Rattle.df_copy.specs.Units.{all_events}
+use Rattle.df_copy.specs.{Targets.{grid_behind, pieces_from}, Trailers.{text_in}, Units.{all_events}}
 use Rattle.df_copy.proofs.trailer.write_pieces.Given as goal
 
 abbrev pub invariant-loop-index : goal.invariant-loop-index

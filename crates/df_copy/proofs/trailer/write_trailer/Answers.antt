@@ -2,16 +2,11 @@
 use Rattle.std.proofs.Common.{◌≡◌, ◌∙◌, List, length, take, ap, arith, refl, subst}
 use Rattle.df_base.specs.Log.{Event}
 use Rattle.df_disk.specs.Adds.{AddsPart, after_all}
-use Rattle.df_format.specs.declared.superblock.SuperFields.{SuperFields}
-use Rattle.df_format.specs.Message.{Message}
+use Rattle.df_format.specs.{declared.superblock.SuperFields.{SuperFields}, Message.{Message}}
 use Rattle.df_model.specs.Blocks.{blocks_captured}
 use Rattle.df_grid.specs.Grid.{GridState, free_addresses, with_blocks}
 use Rattle.df_opening.specs.Below.{memory}
-use Rattle.df_copy.specs.Tests.{trailer_blocks, trailer_size}
-use Rattle.df_copy.specs.Targets.{begun_grid}
-use Rattle.df_copy.specs.Units.{moved_from}
-use Rattle.df_copy.proofs.Trailing.{enough_free, left_all, own_events, own_last, own_left}
-use Rattle.df_copy.proofs.Usables.{size_to, trailer_count}
+use Rattle.df_copy.{specs.{Tests.{trailer_blocks, trailer_size}, Targets.{begun_grid}, Units.{moved_from}}, proofs.{Trailing.{enough_free, left_all, own_events, own_last, own_left}, Usables.{size_to, trailer_count}}}
 use Rattle.df_copy.proofs.trailer.write_trailer.Goals as goal
 
 pub capture-requires-clause-free : goal.capture-requires-clause-free

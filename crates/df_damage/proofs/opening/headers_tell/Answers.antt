@@ -1,5 +1,4 @@
-use Rattle.df_damage.proofs.Opened.{headers_tell}
-use Rattle.df_damage.proofs.Tails.{whole_tail_is_found}
+use Rattle.df_damage.proofs.{Opened.{headers_tell}, Tails.{whole_tail_is_found}}
 use Rattle.df_damage.proofs.opening.headers_tell.Goals as goal
 
 pub returns-clause-each : goal.returns-clause-each

@@ -1,10 +1,6 @@
 use Rattle.std.proofs.Common.{arith, ◌∙◌, ap, [], ◌∷◌, List, ℕ, ◌++◌, take, append_assoc}
-use Rattle.df_format.specs.Spelling.{fields, spelling_rest, tail_of}
-use Rattle.df_base.specs.Text.{Puts, text}
-use Rattle.df_base.specs.Text.Piece.{Byte}
-use Rattle.df_base.proofs.Laws.{written, text-append}
-use Rattle.df_base.specs.Text.Puts.{Done, Put, PutBytes, PutText}
-use Rattle.df_format.specs.Spelling.{code_of}
+use Rattle.df_format.specs.Spelling.{fields, spelling_rest, tail_of, code_of}
+use Rattle.df_base.{specs.{Text.{Puts, text}, Text.Piece.{Byte}, Text.Puts.{Done, Put, PutBytes, PutText}}, proofs.Laws.{written, text-append}}
 use Rattle.df_format.proofs.codec.put_fields.Goals as goal
 
 pub returns : goal.returns

@@ -1,9 +1,6 @@
-use Rattle.std.proofs.Common.{arith, sym, ◌∙◌}
-use Rattle.std.proofs.lemmas.List.{take_all}
+use Rattle.std.proofs.{Common.{arith, sym, ◌∙◌}, lemmas.List.{take_all}}
 use Rattle.df_format.specs.Spelling.{tail, tail_of}
-use Rattle.df_base.proofs.Laws.{written}
-use Rattle.df_base.specs.Text.{Puts}
-use Rattle.df_base.specs.Text.Puts.{Done, Put, PutBytes}
+use Rattle.df_base.{proofs.Laws.{written}, specs.{Text.{Puts}, Text.Puts.{Done, Put, PutBytes}}}
 use Rattle.df_format.proofs.codec.put_tail.Goals as goal
 
 pub returns : goal.returns

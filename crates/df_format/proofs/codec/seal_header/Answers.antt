@@ -1,9 +1,6 @@
-use Rattle.std.proofs.Common.{arith, ◌≡◌, ◌∙◌, ap, List, ℕ, drop}
-use Rattle.std.proofs.lemmas.List.{take_all, length-drop}
+use Rattle.std.proofs.{Common.{arith, ◌≡◌, ◌∙◌, ap, List, ℕ, drop}, lemmas.List.{take_all, length-drop}}
 use Rattle.df_base.specs.Fields.{check_of}
-use Rattle.df_format.specs.declared.header.Header.{Header}
-use Rattle.df_format.specs.Spelling.{sealed, spelling_rest}
-use Rattle.df_format.proofs.Makes.{is_sealed}
+use Rattle.df_format.{specs.{declared.header.Header.{Header}, Spelling.{sealed, spelling_rest}}, proofs.Makes.{is_sealed}}
 use Rattle.df_format.proofs.codec.seal_header.Goals as goal
 
 sealed_by : (h : Header) (sum : List ℕ) → sum ≡ check_of (spelling_rest h) → record h { checksum = sum } ≡ sealed h

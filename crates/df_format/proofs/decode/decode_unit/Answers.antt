@@ -1,6 +1,5 @@
 use Rattle.std.proofs.Common.{arith, rules}
-use Rattle.df_format.proofs.Decoded.{decoded_none, decoded_here, decoded_there}
-use Rattle.df_format.proofs.Wholes.{least_size}
+use Rattle.df_format.proofs.{Decoded.{decoded_none, decoded_here, decoded_there}, Wholes.{least_size}}
 use Rattle.df_format.proofs.decode.decode_unit.Goals as goal
 
 pub class_of_none-requires : goal.class_of_none-requires

@@ -1,8 +1,6 @@
-use Rattle.std.proofs.Common.{arith, sym, ◌∙◌}
-use Rattle.std.proofs.lemmas.Bool.{both_ways, leb-true, ne_eqb}
-use Rattle.df_format.proofs.Wholes.{fits_slot, place_is_slot}
+use Rattle.std.proofs.{Common.{arith, sym, ◌∙◌}, lemmas.Bool.{both_ways, leb-true, ne_eqb}}
+use Rattle.df_format.proofs.{Wholes.{fits_slot, place_is_slot}, decode.is_unit.Goals.{then-header-cluster, else-header-cluster}}
 use Rattle.df_format.proofs.decode.is_unit.Goals as goal
-use Rattle.df_format.proofs.decode.is_unit.Goals.{then-header-cluster, else-header-cluster}
 
 pub has_body-requires-clause-fits : goal.has_body-requires-clause-fits
 has_body-requires-clause-fits c other = elim c.if-header-cluster.branch [

@@ -1,7 +1,5 @@
-use Rattle.std.proofs.Common.{arith, sym}
-use Rattle.std.proofs.lemmas.List.{length-take-le}
-use Rattle.df_format.proofs.Spelled.{read_as}
-use Rattle.df_format.proofs.Wholes.{least_size}
+use Rattle.std.proofs.{Common.{arith, sym}, lemmas.List.{length-take-le}}
+use Rattle.df_format.proofs.{Spelled.{read_as}, Wholes.{least_size}}
 use Rattle.df_format.proofs.decode.whole_in.Goals as goal
 
 pub slice_bounds-decode_header-end : goal.slice_bounds-decode_header-end

@@ -1,11 +1,6 @@
 -- The body was put there.
 use Rattle.std.proofs.Common.{ℕ, List, sym, ◌∙◌, ap, subst, arith}
-use Rattle.df_format.specs.Making.{for_body}
-use Rattle.df_format.specs.Message.{sectors_of}
-use Rattle.df_format.specs.Rules.{ObeysRules}
-use Rattle.df_format.specs.Spelling.{sealed}
-use Rattle.df_format.specs.UnitLaws.{MadeIsUnit}
-use Rattle.df_format.proofs.Makes.{body_put, further}
+use Rattle.df_format.{specs.{Making.{for_body}, Message.{sectors_of}, Rules.{ObeysRules}, Spelling.{sealed}, UnitLaws.{MadeIsUnit}}, proofs.Makes.{body_put, further}}
 use Rattle.df_format.proofs.make.make_unit.Goals as goal
 
 pub seal_unit-requires-clause-rules : goal.seal_unit-requires-clause-rules

@@ -1,5 +1,4 @@
-use Rattle.std.proofs.Common.{◌∙◌}
-use Rattle.std.proofs.lemmas.List.{take_at, drop_at, length-take-le}
+use Rattle.std.proofs.{Common.{◌∙◌}, lemmas.List.{take_at, drop_at, length-take-le}}
 use Rattle.df_format.proofs.make.put_header.Goals as goal
 
 pub returns-clause-front : goal.returns-clause-front

@@ -1,8 +1,5 @@
 use Rattle.std.proofs.Common.{ℕ, List, ◌∙◌, ap, subst}
-use Rattle.df_format.specs.declared.header.Header.{Header}
-use Rattle.df_format.specs.Spelling.{sealed}
-use Rattle.df_format.specs.UnitLaws.{MadeIsUnit}
-use Rattle.df_format.proofs.Makes.{made_is_unit}
+use Rattle.df_format.{specs.{declared.header.Header.{Header}, Spelling.{sealed}, UnitLaws.{MadeIsUnit}}, proofs.Makes.{made_is_unit}}
 use Rattle.df_format.proofs.make.seal_unit.Goals as goal
 
 pub returns-clause-unit : goal.returns-clause-unit

@@ -1,8 +1,6 @@
 -- The body stays where it is between the header and the zeros.
-use Rattle.std.proofs.Common.{◌≡◌, ℕ, ◌+◌, ◌-◌, List, ◌++◌, length, take, drop, replicate, sym, ◌∙◌, ap, length-drop, arith}
-use Rattle.std.proofs.lemmas.List.{length-take-le}
-use Rattle.df_format.specs.Message.{sectors_end}
-use Rattle.df_format.proofs.Makes.{body_behind, further, sectors_made}
+use Rattle.std.proofs.{Common.{◌≡◌, ℕ, ◌+◌, ◌-◌, List, ◌++◌, length, take, drop, replicate, sym, ◌∙◌, ap, length-drop, arith}, lemmas.List.{length-take-le}}
+use Rattle.df_format.{specs.Message.{sectors_end}, proofs.Makes.{body_behind, further, sectors_made}}
 use Rattle.df_format.proofs.make.write_ends.Goals as goal
 
 pub returns-clause-sectors : goal.returns-clause-sectors

@@ -1,5 +1,4 @@
-use Rattle.std.proofs.Common.{rules}
-use Rattle.std.proofs.lemmas.Slice.{overwrites}
+use Rattle.std.proofs.{Common.{rules}, lemmas.Slice.{overwrites}}
 use Rattle.df_format.proofs.pieces.put_bytes.Goals as goal
 
 pub returns-clause-rest : goal.returns-clause-rest

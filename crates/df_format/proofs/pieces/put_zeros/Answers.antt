@@ -1,6 +1,4 @@
-use Rattle.std.proofs.Common.{arith, ◌-◌, drop, ◌∙◌}
-use Rattle.std.proofs.lemmas.List.{length-take-le, length-drop}
-use Rattle.std.proofs.lemmas.Slice.{drop-put_mid}
+use Rattle.std.proofs.{Common.{arith, ◌-◌, drop, ◌∙◌}, lemmas.List.{length-take-le, length-drop}, lemmas.Slice.{drop-put_mid}}
 use Rattle.df_format.proofs.pieces.put_zeros.Goals as goal
 
 pub returns-clause-rest : goal.returns-clause-rest

@@ -1,8 +1,6 @@
-use Rattle.std.proofs.Common.{◌≡◌, ◌++◌, ◌∙◌, ℕ, List, ap, drop, replicate, append_assoc}
-use Rattle.std.proofs.lemmas.List.{take_rest}
+use Rattle.std.proofs.{Common.{◌≡◌, ◌++◌, ◌∙◌, ℕ, List, ap, drop, replicate, append_assoc}, lemmas.List.{take_rest}}
 use Rattle.df_base.specs.Fields.{spelled, check_of}
-use Rattle.df_format.specs.Super.{covered_bytes, copy_bytes}
-use Rattle.df_format.proofs.CopyParts.{joined}
+use Rattle.df_format.{specs.Super.{covered_bytes, copy_bytes}, proofs.CopyParts.{joined}}
 use Rattle.df_format.proofs.super_codec.encode_copy.Goals as goal
 
 pub returns-clause-bytes : goal.returns-clause-bytes

@@ -1,6 +1,4 @@
-use Rattle.std.proofs.Common.{List, ℕ, take, ap, ◌∙◌}
-use Rattle.std.specs.Str.{bytes_eq}
-use Rattle.std.proofs.lemmas.List.{take_rest}
+use Rattle.std.{proofs.{Common.{List, ℕ, take, ap, ◌∙◌}, lemmas.List.{take_rest}}, specs.Str.{bytes_eq}}
 use Rattle.df_base.specs.Fields.{check_of}
 use Rattle.df_format.proofs.super_codec.has_checksum.Goals as goal
 

@@ -1,8 +1,5 @@
-use Rattle.std.proofs.Common.{◌∙◌, rules, tests}
-use Rattle.std.proofs.lemmas.Iterator.{YieldsList-from_slice}
-use Rattle.std.proofs.lemmas.Iterator.Search.{all_from_yields_List}
-use Rattle.df_format.specs.Copies.{is_blank_copy}
-use Rattle.df_format.proofs.CopyParts.{all_zero}
+use Rattle.std.proofs.{Common.{◌∙◌, rules, tests}, lemmas.Iterator.{YieldsList-from_slice}, lemmas.Iterator.Search.{all_from_yields_List}}
+use Rattle.df_format.{specs.Copies.{is_blank_copy}, proofs.CopyParts.{all_zero}}
 use Rattle.df_format.proofs.super_codec.is_blank.Goals as goal
 
 pub returns : goal.returns

@@ -1,5 +1,4 @@
-use Rattle.std.proofs.Common.{◌≡◌, ◌+◌, ◌-◌, ◌==◌, ℕ, List, Option, drop, take, not, ap, ◌∙◌}
-use Rattle.std.specs.Prelude.{option_map, position}
+use Rattle.std.{proofs.Common.{◌≡◌, ◌+◌, ◌-◌, ◌==◌, ℕ, List, Option, drop, take, not, ap, ◌∙◌}, specs.Prelude.{option_map, position}}
 use Rattle.df_format.specs.Copies.{nonzero_between}
 use Rattle.df_format.proofs.super_codec.nonzero_between.Goals as goal
 

@@ -1,7 +1,5 @@
-use Rattle.std.proofs.Common.{◌≡◌, ◌<◌, ◌+◌, ◌*◌, ◌++◌, ◌∙◌, ℕ, List, length, take, get_or, sym, ap, arith, append_assoc}
-use Rattle.std.proofs.lemmas.List.{append-nil, take_all, take_more}
-use Rattle.df_format.specs.Super.{checks_bytes}
-use Rattle.df_format.proofs.Checks.{checks_more}
+use Rattle.std.proofs.{Common.{◌≡◌, ◌<◌, ◌+◌, ◌*◌, ◌++◌, ◌∙◌, ℕ, List, length, take, get_or, sym, ap, arith, append_assoc}, lemmas.List.{append-nil, take_all, take_more}}
+use Rattle.df_format.{specs.Super.{checks_bytes}, proofs.Checks.{checks_more}}
 use Rattle.df_format.proofs.super_codec.put_checks.Goals as goal
 
 -- before the first there is none

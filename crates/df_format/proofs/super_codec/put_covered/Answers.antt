@@ -1,5 +1,4 @@
-use Rattle.std.proofs.Common.{arith, [], ◌++◌, ◌∙◌, ℕ, List, ap, drop, take, append_assoc}
-use Rattle.std.proofs.lemmas.List.{drop_at, length-take-le}
+use Rattle.std.proofs.{Common.{arith, [], ◌++◌, ◌∙◌, ℕ, List, ap, drop, take, append_assoc}, lemmas.List.{drop_at, length-take-le}}
 use Rattle.df_format.specs.Super.{fields, fields_bytes, named_bytes, covered_bytes}
 use Rattle.df_base.proofs.Laws.{text-append}
 use Rattle.df_format.proofs.super_codec.put_covered.Goals as goal

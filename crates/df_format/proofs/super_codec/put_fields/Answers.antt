@@ -1,8 +1,6 @@
 use Rattle.std.proofs.Common.{arith}
 use Rattle.df_format.specs.Super.{fields, fields_bytes}
-use Rattle.df_base.proofs.Laws.{written}
-use Rattle.df_base.specs.Text.{Puts}
-use Rattle.df_base.specs.Text.Puts.{Done, Put, PutBytes}
+use Rattle.df_base.{proofs.Laws.{written}, specs.{Text.{Puts}, Text.Puts.{Done, Put, PutBytes}}}
 use Rattle.df_format.proofs.super_codec.put_fields.Goals as goal
 
 pub returns : goal.returns

@@ -1,6 +1,5 @@
 use Rattle.std.proofs.Common.{◌≡◌, arith, ◌++◌, ◌∙◌, ℕ, List, ap, take, replicate, append_assoc}
-use Rattle.df_base.specs.Fields.{spelled}
-use Rattle.df_base.proofs.Laws.{number_behind}
+use Rattle.df_base.{specs.Fields.{spelled}, proofs.Laws.{number_behind}}
 use Rattle.df_format.proofs.CopyParts.{further, number_rest}
 use Rattle.df_format.proofs.super_codec.put_front.Goals as goal
 

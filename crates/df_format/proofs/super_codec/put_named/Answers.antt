@@ -1,9 +1,6 @@
-use Rattle.std.proofs.Common.{arith, ◌∙◌, sym}
-use Rattle.std.proofs.lemmas.List.{take_all}
+use Rattle.std.proofs.{Common.{arith, ◌∙◌, sym}, lemmas.List.{take_all}}
 use Rattle.df_format.specs.Super.{named, named_bytes}
-use Rattle.df_base.proofs.Laws.{written}
-use Rattle.df_base.specs.Text.{Puts}
-use Rattle.df_base.specs.Text.Puts.{Done, PutBytes}
+use Rattle.df_base.{proofs.Laws.{written}, specs.{Text.{Puts}, Text.Puts.{Done, PutBytes}}}
 use Rattle.df_format.proofs.super_codec.put_named.Goals as goal
 
 pub returns : goal.returns

@@ -1,8 +1,5 @@
 -- One more has sixteen bytes.
-use Rattle.std.proofs.Common.{◌≡◌, ◌<◌, ◌+◌, inl, inr, ℕ, List, length, get_or, Some, sym, ◌∙◌, ap, subst, arith}
-use Rattle.std.specs.List.{slice_get}
-use Rattle.std.proofs.lemmas.Bool.{cases_lt}
-use Rattle.std.proofs.lemmas.Option.{slice_get-get_or}
+use Rattle.std.{proofs.{Common.{◌≡◌, ◌<◌, ◌+◌, inl, inr, ℕ, List, length, get_or, Some, sym, ◌∙◌, ap, subst, arith}, lemmas.Bool.{cases_lt}, lemmas.Option.{slice_get-get_or}}, specs.List.{slice_get}}
 use Rattle.df_format.specs.Spelling.{IsCheck}
 use Rattle.df_format.proofs.super_rules.are_checks.Goals as goal
 

@@ -1,8 +1,6 @@
 -- The first part that fails decides.
 use Rattle.std.proofs.Common.{◌∙◌, List, ◌++◌}
-use Rattle.df_format.specs.SuperRules.{Test, size_tests, checkpoint_tests, progress_tests, trailer_tests, version_tests}
-use Rattle.df_format.specs.declared.superblock.SuperFields.{SuperFields}
-use Rattle.df_format.proofs.Failing.{failing_front, handed_on, passing_front}
+use Rattle.df_format.{specs.{SuperRules.{Test, size_tests, checkpoint_tests, progress_tests, trailer_tests, version_tests}, declared.superblock.SuperFields.{SuperFields}}, proofs.Failing.{failing_front, handed_on, passing_front}}
 use Rattle.df_format.proofs.super_rules.test_each.Goals as goal
 
 abbrev trailer_on : SuperFields → List Test

@@ -1,5 +1,4 @@
-use Rattle.std.proofs.Common.{sym}
-use Rattle.std.proofs.lemmas.Result.{err_from_is_err_and}
+use Rattle.std.proofs.{Common.{sym}, lemmas.Result.{err_from_is_err_and}}
 use Rattle.df_format.proofs.SuperFaults.{obeys}
 use Rattle.df_format.proofs.super_rules.test_fields.Goals as goal
 

@@ -1,7 +1,5 @@
 -- A block has room for 3,840 bytes at least, and no trailer is longer than 267,272 bytes.
-use Rattle.std.proofs.Common.{◌≡◌, ℕ, ◌-◌, ◌*◌, ◌<◌, ◌≤◌, inl, inr, arith}
-use Rattle.std.proofs.lemmas.Bool.{cases_lt}
-use Rattle.std.proofs.Math.Nat.{mul-le-mul_left, mul_comm}
+use Rattle.std.proofs.{Common.{◌≡◌, ℕ, ◌-◌, ◌*◌, ◌<◌, ◌≤◌, inl, inr, arith}, lemmas.Bool.{cases_lt}, Math.Nat.{mul-le-mul_left, mul_comm}}
 use Rattle.df_layout.specs.declared.layout.Layout.{Layout}
 use Rattle.df_theory.specs.Trailer.{IsCount, greatest_trailer}
 use Rattle.df_units.specs.Meaning.{layout_of}

@@ -1,7 +1,6 @@
 -- One entry after the other.
 use Rattle.std.proofs.Common.{◌+◌, ◌-◌, refl, ◌∙◌, ap, arith, length}
-use Rattle.df_grid.specs.Table.{capturing}
-use Rattle.df_grid.proofs.Turns.{part_all, part_length, part_more}
+use Rattle.df_grid.{specs.Table.{capturing}, proofs.Turns.{part_all, part_length, part_more}}
 use Rattle.df_grid.proofs.changes.capture_all.Goals as goal
 
 pub loop-place-init : goal.loop-place-init

@@ -1,8 +1,6 @@
 -- One entry after the other.
 use Rattle.std.proofs.Common.{◌≡◌, ◌+◌, ◌-◌, ap, subst, arith, length}
-use Rattle.df_grid.specs.Table.{AreFinished, finishing}
-use Rattle.df_grid.proofs.Held.{entry_there}
-use Rattle.df_grid.proofs.Turns.{more_finished, none_finished, part_length}
+use Rattle.df_grid.{specs.Table.{AreFinished, finishing}, proofs.{Held.{entry_there}, Turns.{more_finished, none_finished, part_length}}}
 use Rattle.df_grid.proofs.changes.finish_all.Goals as goal
 
 pub loop-place-init : goal.loop-place-init

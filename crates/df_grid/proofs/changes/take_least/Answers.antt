@@ -1,8 +1,6 @@
 -- One address after the other, each the least that is free.
 use Rattle.std.proofs.Common.{◌≡◌, refl, arith, subst}
-use Rattle.df_grid.specs.Table.{AreTaken}
-use Rattle.df_grid.proofs.Free.{none_taken, one_taken}
-use Rattle.df_grid.proofs.Turns.{few_taken, none_left}
+use Rattle.df_grid.{specs.Table.{AreTaken}, proofs.{Free.{none_taken, one_taken}, Turns.{few_taken, none_left}}}
 use Rattle.df_grid.proofs.changes.take_least.Goals as goal
 
 pub loop-init : goal.loop-init

@@ -1,10 +1,6 @@
 -- One more entry is counted, where it is held for the reason.
-use Rattle.std.proofs.Common.{◌≡◌, ◌+◌, ◌-◌, ◌∙◌, ℕ, Bool, List, ◌∷◌, Some, drop, length, ap, sym, arith}
-use Rattle.std.specs.Prelude.{slice_get}
-use Rattle.df_grid.specs.declared.entry.Entry.{Entry}
-use Rattle.df_grid.specs.Table.{is_held_for, picked}
-use Rattle.df_grid.proofs.Turns.{drop_past, drop_there, front_counts, front_fails}
-use Rattle.df_grid.proofs.lookups.count_held.Goals.{then-held, else-held}
+use Rattle.std.{proofs.Common.{◌≡◌, ◌+◌, ◌-◌, ◌∙◌, ℕ, Bool, List, ◌∷◌, Some, drop, length, ap, sym, arith}, specs.Prelude.{slice_get}}
+use Rattle.df_grid.{specs.{declared.entry.Entry.{Entry}, Table.{is_held_for, picked}}, proofs.{Turns.{drop_past, drop_there, front_counts, front_fails}, lookups.count_held.Goals.{then-held, else-held}}}
 use Rattle.df_grid.proofs.lookups.count_held.Goals as goal
 
 pub loop-place-preserved : goal.loop-place-preserved

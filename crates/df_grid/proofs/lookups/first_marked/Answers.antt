@@ -1,9 +1,6 @@
 -- The entries above, one after the other, up to the first that is marked.
-use Rattle.std.proofs.Common.{ℕ, true, false, List, Some, drop, ◌≡◌, ◌+◌, ◌-◌, sym, ◌∙◌, ap, arith}
-use Rattle.std.specs.Prelude.{slice_get}
-use Rattle.df_grid.specs.Entries.{is_marked}
-use Rattle.df_grid.specs.Table.{picked}
-use Rattle.df_grid.proofs.Turns.{drop_past, drop_there, front_fails, front_passes, pick_above}
+use Rattle.std.{proofs.Common.{ℕ, true, false, List, Some, drop, ◌≡◌, ◌+◌, ◌-◌, sym, ◌∙◌, ap, arith}, specs.Prelude.{slice_get}}
+use Rattle.df_grid.{specs.{Entries.{is_marked}, Table.{picked}}, proofs.Turns.{drop_past, drop_there, front_fails, front_passes, pick_above}}
 use Rattle.df_grid.proofs.lookups.first_marked.Goals as goal
 
 pub loop-place-init : goal.loop-place-init

@@ -1,9 +1,6 @@
 -- The marked ones above are those of the rest.
-use Rattle.std.proofs.Common.{◌≡◌, ◌+◌, ◌-◌, drop, length}
-use Rattle.std.specs.List.{filter}
-use Rattle.std.specs.Prelude.{nat_lt}
-use Rattle.df_grid.specs.Entries.{is_marked}
-use Rattle.df_grid.specs.Table.{picked}
+use Rattle.std.{proofs.Common.{◌≡◌, ◌+◌, ◌-◌, drop, length}, specs.{List.{filter}, Prelude.{nat_lt}}}
+use Rattle.df_grid.specs.{Entries.{is_marked}, Table.{picked}}
 use Rattle.df_grid.proofs.lookups.first_marked.Given as goal
 
 abbrev pub invariant-loop-place : goal.invariant-loop-place

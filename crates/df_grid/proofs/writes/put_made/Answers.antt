@@ -1,11 +1,7 @@
 -- What was made stands in its own place.
 use Rattle.std.proofs.Common.{◌≡◌, sym, ap, subst, ◌∙◌}
-use Rattle.df_layout.specs.declared.places.Place.{Place}
-use Rattle.df_layout.specs.declared.places.Zone.TheVariants.{Grid as InGrid}
-use Rattle.df_format.specs.declared.header.Header.{Header}
-use Rattle.df_format.specs.declared.kind.Kind.TheVariants.{Trailer}
-use Rattle.df_format.specs.Own.{place_in}
-use Rattle.df_format.specs.Valid.{IsUnit}
+use Rattle.df_layout.specs.{declared.places.Place.{Place}, declared.places.Zone.TheVariants.{Grid as InGrid}}
+use Rattle.df_format.specs.{declared.header.Header.{Header}, declared.kind.Kind.TheVariants.{Trailer}, Own.{place_in}, Valid.{IsUnit}}
 use Rattle.df_places.specs.Shelves.{HoldsMade, IsUnitMade}
 use Rattle.df_grid.proofs.Writing.{made_put, own_block}
 use Rattle.df_grid.proofs.writes.put_made.Goals as goal

@@ -1,9 +1,6 @@
 -- Its fields are in range.
 use Rattle.std.proofs.Common.{sym, subst, arith, rules}
-use Rattle.df_format.specs.declared.header.Header.{Header}
-use Rattle.df_format.specs.Making.{for_body}
-use Rattle.df_format.specs.Rules.{ObeysRules}
-use Rattle.df_format.specs.Spelling.{IsCheck}
+use Rattle.df_format.specs.{declared.header.Header.{Header}, Making.{for_body}, Rules.{ObeysRules}, Spelling.{IsCheck}}
 use Rattle.df_grid.proofs.Writing.{header_obeys}
 use Rattle.df_grid.proofs.writes.trailer_header.Goals as goal
 

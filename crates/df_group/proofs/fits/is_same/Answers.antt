@@ -1,9 +1,7 @@
 -- Two checksums of sixteen bytes are one exactly where their numbers are.
-use Rattle.std.proofs.Common.{rules, ap, sym, ◌∙◌}
-use Rattle.std.proofs.lemmas.Slice.Eq.{bytes_eq-Decides}
+use Rattle.std.proofs.{Common.{rules, ap, sym, ◌∙◌}, lemmas.Slice.Eq.{bytes_eq-Decides}}
 use Rattle.df_format.specs.Spelling.{IsCheck}
-use Rattle.df_units.specs.Meaning.{number_of}
-use Rattle.df_units.proofs.Laws.{one_number}
+use Rattle.df_units.{specs.Meaning.{number_of}, proofs.Laws.{one_number}}
 use Rattle.df_group.proofs.fits.is_same.Goals as goal
 
 pub returns : goal.returns

@@ -1,6 +1,5 @@
 -- The client's session decides, or its first request and a place.
-use Rattle.std.proofs.Common.{◌<◌, ◌≤◌, length, sym, ◌∙◌, arith}
-use Rattle.std.proofs.lemmas.Bool.{eqb-true, ltb-true, lt-ltb}
+use Rattle.std.proofs.{Common.{◌<◌, ◌≤◌, length, sym, ◌∙◌, arith}, lemmas.Bool.{eqb-true, ltb-true, lt-ltb}}
 use Rattle.df_sessions.proofs.Laws.{no_gap}
 use Rattle.df_group.proofs.Asks.{asks_known, asks_new}
 use Rattle.df_group.proofs.fits.may_ask.Goals as goal

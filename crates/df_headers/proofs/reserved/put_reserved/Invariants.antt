@@ -1,6 +1,5 @@
 -- The slots before this one have reserved headers.
-use Rattle.std.proofs.Common.{◌≡◌, ◌≤◌, ◌<◌, ◌-◌, ℕ, length, Some}
-use Rattle.std.specs.List.{slice_get}
+use Rattle.std.{proofs.Common.{◌≡◌, ◌≤◌, ◌<◌, ◌-◌, ℕ, length, Some}, specs.List.{slice_get}}
 use Rattle.df_units.specs.Sample.{reserved_header}
 use Rattle.df_headers.proofs.reserved.put_reserved.Given as goal
 

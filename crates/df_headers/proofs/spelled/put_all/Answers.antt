@@ -1,7 +1,5 @@
-use Rattle.std.proofs.Common.{◌≡◌, ◌<◌, ◌+◌, ◌*◌, ◌++◌, [], ◌∷◌, ℕ, suc, take, length, slice_index_or, List, ap, ◌∙◌, sym, arith, rules}
-use Rattle.std.proofs.lemmas.Option.{slice_get-get_or}
-use Rattle.df_format.specs.UnitLaws.{headers_bytes}
-use Rattle.df_format.specs.declared.header.Header.{Header}
+use Rattle.std.proofs.{Common.{◌≡◌, ◌<◌, ◌+◌, ◌*◌, ◌++◌, [], ◌∷◌, ℕ, suc, take, length, slice_index_or, List, ap, ◌∙◌, sym, arith, rules}, lemmas.Option.{slice_get-get_or}}
+use Rattle.df_format.specs.{UnitLaws.{headers_bytes}, declared.header.Header.{Header}}
 use Rattle.df_headers.proofs.Bytes.{bytes_more}
 use Rattle.df_headers.proofs.spelled.put_all.Goals as goal
 

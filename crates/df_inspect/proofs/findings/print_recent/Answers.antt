@@ -1,7 +1,6 @@
 -- The count, the findings and the end of the line.
 use Rattle.std.proofs.Common.{refl}
-use Rattle.df_inspect.proofs.Each.{recent_is}
-use Rattle.df_inspect.proofs.Written.{prints_front, prints_more, prints_of, prints_same}
+use Rattle.df_inspect.proofs.{Each.{recent_is}, Written.{prints_front, prints_more, prints_of, prints_same}}
 use Rattle.df_inspect.proofs.findings.print_recent.Goals as goal
 
 pub returns-in_err-print_count-clause-prints : goal.returns-in_err-print_count-clause-prints

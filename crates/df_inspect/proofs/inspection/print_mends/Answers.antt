@@ -1,8 +1,6 @@
 -- A turn prints one item more.
 use Rattle.std.proofs.Common.{refl, ◌∙◌, arith}
-use Rattle.df_inspect.proofs.Written.{appends_none}
-use Rattle.df_inspect.specs.Reports.{mend_text}
-use Rattle.df_inspect.proofs.Each.{each_failed, each_printed}
+use Rattle.df_inspect.{proofs.{Written.{appends_none}, Each.{each_failed, each_printed}}, specs.Reports.{mend_text}}
 use Rattle.df_inspect.proofs.inspection.print_mends.Goals as goal
 
 pub loop-mend-init : goal.loop-mend-init

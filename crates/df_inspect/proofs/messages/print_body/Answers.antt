@@ -1,8 +1,7 @@
 -- The digits, then the end of the line.
 use Rattle.std.proofs.Common.{ap}
 use Rattle.df_script_model.specs.Texts.{line_of}
-use Rattle.df_inspect.proofs.Fronts.{digits_shown}
-use Rattle.df_inspect.proofs.Written.{prints_more, prints_of, prints_same}
+use Rattle.df_inspect.proofs.{Fronts.{digits_shown}, Written.{prints_more, prints_of, prints_same}}
 use Rattle.df_inspect.proofs.messages.print_body.Goals as goal
 
 pub returns-clause-prints : goal.returns-clause-prints

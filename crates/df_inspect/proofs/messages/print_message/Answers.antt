@@ -2,9 +2,7 @@
 use Rattle.std.proofs.Common.{ℕ, List, subst}
 use Rattle.df_base.specs.Streams.{Appends, AppendsPart}
 use Rattle.df_script_model.specs.Texts.{body_text, line_of}
-use Rattle.df_inspect.specs.Messages.{message_front}
-use Rattle.df_inspect.proofs.Fronts.{front_and_body}
-use Rattle.df_inspect.proofs.Written.{prints_front, prints_more, prints_same}
+use Rattle.df_inspect.{specs.Messages.{message_front}, proofs.{Fronts.{front_and_body}, Written.{prints_front, prints_more, prints_same}}}
 use Rattle.df_inspect.proofs.messages.print_message.Goals as goal
 
 pub returns-in_err-write_line-clause-prints : goal.returns-in_err-write_line-clause-prints

@@ -4,9 +4,7 @@ use Rattle.df_layout.specs.declared.layout.Layout.{Layout}
 use Rattle.df_disk.proofs.Laws.{adds_part, adds_failed}
 use Rattle.df_format.specs.declared.header.Header.{Header}
 use Rattle.df_headers.specs.Ring.{IsHeaderTable}
-use Rattle.df_journal.specs.Append.{journal_events}
-use Rattle.df_journal.proofs.Moments.{append_steps, ends_of, moments_of, sector_of_ring}
-use Rattle.df_journal.proofs.RingWrites.{both_add, put_fails}
+use Rattle.df_journal.{specs.Append.{journal_events}, proofs.{Moments.{append_steps, ends_of, moments_of, sector_of_ring}, RingWrites.{both_add, put_fails}}}
 use Rattle.df_journal.proofs.appends.append.Goals as goal
 
 pub settle-requires-clause-table : goal.settle-requires-clause-table

@@ -1,9 +1,6 @@
 -- One more slot.
 use Rattle.std.proofs.Common.{◌≡◌, ◌∙◌, ap, sym, length, subst, arith}
-use Rattle.df_journal.specs.Counts.{binding_op, in_boot}
-use Rattle.df_journal.specs.Scan.{Scan}
-use Rattle.df_journal.specs.Shows.{ShowsTable}
-use Rattle.df_journal.proofs.Counted.{IsTopOf, bound_count, bound_turn}
+use Rattle.df_journal.{specs.{Counts.{binding_op, in_boot}, Scan.{Scan}, Shows.{ShowsTable}}, proofs.Counted.{IsTopOf, bound_count, bound_turn}}
 use Rattle.df_journal.proofs.counts.bound_top.Goals as goal
 
 pub loop-slot-preserved : goal.loop-slot-preserved

@@ -1,6 +1,5 @@
 -- The greatest op of the slots that were passed.
-use Rattle.df_journal.specs.Counts.{binding_op, in_boot}
-use Rattle.df_journal.proofs.Counted.{IsTopOf}
+use Rattle.df_journal.{specs.Counts.{binding_op, in_boot}, proofs.Counted.{IsTopOf}}
 use Rattle.df_journal.proofs.counts.bound_top.Given as goal
 
 abbrev pub invariant-loop-slot : goal.invariant-loop-slot

@@ -1,9 +1,7 @@
 -- One more slot is counted.
 use Rattle.std.proofs.Common.{◌≡◌, ◌∙◌, ap, sym, length, subst, arith}
 use Rattle.df_stamps.specs.declared.counters.Counters.{Counters}
-use Rattle.df_journal.specs.Scan.{Scan}
-use Rattle.df_journal.specs.Shows.{ShowsTable}
-use Rattle.df_journal.proofs.Counted.{CountsSlots, slot_turn, slots_count}
+use Rattle.df_journal.{specs.{Scan.{Scan}, Shows.{ShowsTable}}, proofs.Counted.{CountsSlots, slot_turn, slots_count}}
 use Rattle.df_journal.proofs.counts.count_rings.Goals as goal
 
 pub loop-slot-preserved : goal.loop-slot-preserved

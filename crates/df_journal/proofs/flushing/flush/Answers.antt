@@ -3,9 +3,7 @@ use Rattle.std.proofs.Common.{subst, sym}
 use Rattle.df_disk.proofs.Laws.{adds_part, adds_failed}
 use Rattle.df_layout.specs.declared.layout.Layout.{Layout}
 use Rattle.df_headers.specs.Ring.{IsHeaderTable}
-use Rattle.df_journal.specs.Flush.{flush_events, sectors_between}
-use Rattle.df_journal.proofs.GroupMoments.{between_of_ring, flush_are_steps, group_ends, group_moments}
-use Rattle.df_journal.proofs.GroupWrites.{flush_adds, puts_fail}
+use Rattle.df_journal.{specs.Flush.{flush_events, sectors_between}, proofs.{GroupMoments.{between_of_ring, flush_are_steps, group_ends, group_moments}, GroupWrites.{flush_adds, puts_fail}}}
 use Rattle.df_journal.proofs.flushing.flush.Goals as goal
 
 pub returns-in_err-put_all-clause-events : goal.returns-in_err-put_all-clause-events

@@ -1,9 +1,7 @@
 -- One more is shown as it is named, or the next one lacks.
 use Rattle.std.proofs.Common.{◌≡◌, ◌∙◌, sym, ap, subst, ℕ, ◌%◌, arith}
 use Rattle.df_theory.specs.Shape.{slots}
-use Rattle.df_journal.specs.Scan.{Scan}
-use Rattle.df_journal.proofs.Decisions.{shown_checks}
-use Rattle.df_journal.proofs.Named.{IsRead, read_all, read_lacks, read_more, read_none}
+use Rattle.df_journal.{specs.Scan.{Scan}, proofs.{Decisions.{shown_checks}, Named.{IsRead, read_all, read_lacks, read_more, read_none}}}
 use Rattle.df_journal.proofs.known.lacking_known.Goals as goal
 
 pub loop-op-init : goal.loop-op-init

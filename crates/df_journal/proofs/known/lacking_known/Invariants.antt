@@ -1,11 +1,8 @@
 -- From the op on all are shown as they are named.
 use Rattle.std.proofs.Common.{◌≤◌}
 use Rattle.df_format.specs.Spelling.{IsCheck}
-use Rattle.df_theory.specs.Shape.{Shape}
-use Rattle.df_theory.specs.Units.{Content, Units}
-use Rattle.df_journal.specs.Known.{NamesFrom}
-use Rattle.df_journal.specs.Shows.{TellsRings}
-use Rattle.df_journal.proofs.Named.{IsRead}
+use Rattle.df_theory.specs.{Shape.{Shape}, Units.{Content, Units}}
+use Rattle.df_journal.{specs.{Known.{NamesFrom}, Shows.{TellsRings}}, proofs.Named.{IsRead}}
 use Rattle.df_journal.proofs.known.lacking_known.Given as goal
 
 abbrev pub invariant-loop-op : goal.invariant-loop-op

@@ -1,12 +1,8 @@
 -- Two checksums are one where their numbers are.
-use Rattle.std.proofs.Common.{◌≡◌, ◌∙◌, ap, sym, subst}
-use Rattle.std.specs.Prelude.{◌==◌}
-use Rattle.std.proofs.lemmas.Slice.Eq.{bytes_eq-Decides}
+use Rattle.std.{proofs.{Common.{◌≡◌, ◌∙◌, ap, sym, subst}, lemmas.Slice.Eq.{bytes_eq-Decides}}, specs.Prelude.{◌==◌}}
 use Rattle.df_format.specs.Spelling.{IsCheck}
 use Rattle.df_units.specs.Meaning.{number_of}
-use Rattle.df_journal.specs.Planned.{has_header_of}
-use Rattle.df_journal.specs.Seen.{IsOfCheck}
-use Rattle.df_journal.proofs.Decisions.{same_sums}
+use Rattle.df_journal.{specs.{Planned.{has_header_of}, Seen.{IsOfCheck}}, proofs.Decisions.{same_sums}}
 use Rattle.df_journal.proofs.plans.has_header.Goals as goal
 
 pub returns-in-Ok : goal.returns-in-Ok

@@ -1,16 +1,9 @@
 -- Each turn takes the prepare that comes next; where there is none, or the ring is full, the walk ends.
 use Rattle.std.proofs.Common.{◌≡◌, ◌≤◌, ◌<◌, ◌+◌, ◌^◌, ℕ, List, None, refl, sym, ◌∙◌, ap, subst, arith}
-use Rattle.df_format.specs.declared.header.Header.{Header}
-use Rattle.df_format.specs.Spelling.{IsCheck}
-use Rattle.df_sessions.specs.declared.session.Session.{Session}
-use Rattle.df_sessions.specs.Table.{Table}
-use Rattle.df_journal.specs.Scan.{Scan}
-use Rattle.df_journal.specs.declared.table.Start.{Start}
-use Rattle.df_group.specs.declared.groups.Tail.{Tail}
-use Rattle.df_group.specs.declared.groups.Position.{Position}
-use Rattle.df_journal.specs.Tail.{AreNumbered, AreUnstored, IsNext, TailWalkGoesOn, position_of, tail_to}
-use Rattle.df_group.proofs.Laws.{either_kept, end_at}
-use Rattle.df_journal.proofs.Walks.{EndsThere, IsTakenWalk, shape_walk, still_numbered, still_unstored, taken_begins, taken_on, walk_reaches, walk_stops}
+use Rattle.df_format.specs.{declared.header.Header.{Header}, Spelling.{IsCheck}}
+use Rattle.df_sessions.specs.{declared.session.Session.{Session}, Table.{Table}}
+use Rattle.df_journal.{specs.{Scan.{Scan}, declared.table.Start.{Start}, Tail.{AreNumbered, AreUnstored, IsNext, TailWalkGoesOn, position_of, tail_to}}, proofs.Walks.{EndsThere, IsTakenWalk, shape_walk, still_numbered, still_unstored, taken_begins, taken_on, walk_reaches, walk_stops}}
+use Rattle.df_group.{specs.{declared.groups.Tail.{Tail}, declared.groups.Position.{Position}}, proofs.Laws.{either_kept, end_at}}
 use Rattle.df_journal.proofs.reach.find_reach.Goals as goal
 
 pub loop-at-init : goal.loop-at-init

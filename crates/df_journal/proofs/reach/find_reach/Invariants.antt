@@ -1,12 +1,8 @@
 -- The prepares that were passed are taken and fit: whole groups, which end at the tail's end, and after them a part of one.
 use Rattle.std.proofs.Common.{◌≡◌, ◌+◌, ◌-◌, ◌≤◌, ◌^◌}
 use Rattle.df_format.specs.Spelling.{IsCheck}
-use Rattle.df_theory.specs.Units.{Units}
-use Rattle.df_theory.specs.Shape.{Shape}
-use Rattle.df_theory.specs.View.{Checkpoint}
-use Rattle.df_journal.specs.Shows.{TellsRings}
-use Rattle.df_journal.specs.Tail.{AreNumbered, AreUnstored, BeginsAt}
-use Rattle.df_journal.proofs.Walks.{IsTakenWalk}
+use Rattle.df_theory.specs.{Units.{Units}, Shape.{Shape}, View.{Checkpoint}}
+use Rattle.df_journal.{specs.{Shows.{TellsRings}, Tail.{AreNumbered, AreUnstored, BeginsAt}}, proofs.Walks.{IsTakenWalk}}
 use Rattle.df_journal.proofs.reach.find_reach.Given as goal
 
 abbrev pub invariant-loop-at : goal.invariant-loop-at

@@ -1,13 +1,8 @@
 -- Each turn puts one slot into the table.
-use Rattle.std.proofs.Common.{◌≡◌, ℕ, Option, length, sym, ◌∙◌, ap, subst, arith}
-use Rattle.std.proofs.lemmas.List.{length-set}
+use Rattle.std.proofs.{Common.{◌≡◌, ℕ, Option, length, sym, ◌∙◌, ap, subst, arith}, lemmas.List.{length-set}}
 use Rattle.df_disk.specs.Told.{Told}
 use Rattle.df_buffers.specs.declared.slots.SlotSeen.{SlotSeen}
-use Rattle.df_journal.specs.Scan.{Scan}
-use Rattle.df_journal.specs.Shows.{IsSlot}
-use Rattle.df_journal.specs.Scanned.{AreSeen, HoldsSector, IsSlotSeen}
-use Rattle.df_journal.specs.declared.table.Start.{Start}
-use Rattle.df_journal.proofs.Scans.{held_still, seen_all, seen_more}
+use Rattle.df_journal.{specs.{Scan.{Scan}, Shows.{IsSlot}, Scanned.{AreSeen, HoldsSector, IsSlotSeen}, declared.table.Start.{Start}}, proofs.Scans.{held_still, seen_all, seen_more}}
 use Rattle.df_journal.proofs.reads.scan_all.Goals as goal
 
 pub loop-slot-preserved : goal.loop-slot-preserved

@@ -1,7 +1,6 @@
 -- What the header's sector and the slot show is what the disk shows.
 use Rattle.std.proofs.Common.{subst}
-use Rattle.df_layout.specs.declared.layout.Layout.{Layout}
-use Rattle.df_layout.specs.declared.places.Place.{Place}
+use Rattle.df_layout.specs.{declared.layout.Layout.{Layout}, declared.places.Place.{Place}}
 use Rattle.df_places.specs.Units.{IsSeen}
 use Rattle.df_journal.proofs.Scans.{slot_seen}
 use Rattle.df_journal.proofs.reads.scan_slot.Goals as goal

@@ -1,7 +1,6 @@
 -- A sync, the sectors, and a sync.
 use Rattle.df_disk.proofs.Laws.{adds_failed}
-use Rattle.df_journal.specs.Append.{settle_events}
-use Rattle.df_journal.proofs.RingWrites.{settle_adds, settle_are_steps, settle_fails}
+use Rattle.df_journal.{specs.Append.{settle_events}, proofs.RingWrites.{settle_adds, settle_are_steps, settle_fails}}
 use Rattle.df_journal.proofs.settling.settle.Goals as goal
 
 pub returns-in_err-write_sectors-clause-events : goal.returns-in_err-write_sectors-clause-events

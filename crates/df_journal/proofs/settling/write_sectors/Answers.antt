@@ -1,8 +1,7 @@
 -- Each turn writes one more sector, or a part of the writes was made.
 use Rattle.std.proofs.Common.{◌∙◌, refl, arith}
 use Rattle.df_disk.proofs.Laws.{adds_failed}
-use Rattle.df_headers.specs.Ring.{sector_writes}
-use Rattle.df_headers.proofs.Laws.{table_written}
+use Rattle.df_headers.{specs.Ring.{sector_writes}, proofs.Laws.{table_written}}
 use Rattle.df_journal.proofs.RingWrites.{in_ring, in_table, leads_end, leads_first, may_write, turn_fails, turn_leads}
 use Rattle.df_journal.proofs.settling.write_sectors.Goals as goal
 

@@ -1,6 +1,5 @@
 -- The laws are proved.
-use Rattle.df_lifetime.proofs.Agains.{every_life_is_lived, every_open_finds_since, life_begins_anew, runs_keep_since, upgraded_may_be_damaged}
-use Rattle.df_lifetime.proofs.Others.{other_words_leave_it}
+use Rattle.df_lifetime.proofs.{Agains.{every_life_is_lived, every_open_finds_since, life_begins_anew, runs_keep_since, upgraded_may_be_damaged}, Others.{other_words_leave_it}}
 use Rattle.df_lifetime.proofs.again.a_damaged_life_goes_on.Goals as goal
 
 pub returns-clause-upgraded : goal.returns-clause-upgraded

@@ -1,6 +1,5 @@
 -- The laws are proved.
-use Rattle.df_lifetime.proofs.HurtSessions.{hurt_runs_keep, runs_keep_anew, runs_keep_on}
-use Rattle.df_lifetime.proofs.Openings.{stopped_opens_begin}
+use Rattle.df_lifetime.proofs.{HurtSessions.{hurt_runs_keep, runs_keep_anew, runs_keep_on}, Openings.{stopped_opens_begin}}
 use Rattle.df_lifetime.proofs.hurt.hurt_sessions_keep.Goals as goal
 
 pub returns-clause-runs : goal.returns-clause-runs

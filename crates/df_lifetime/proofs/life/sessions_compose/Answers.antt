@@ -1,9 +1,5 @@
 -- The laws are proved.
-use Rattle.df_lifetime.proofs.Blank.{new_disks_are_made_on}
-use Rattle.df_lifetime.proofs.Found.{acknowledged_is_found}
-use Rattle.df_lifetime.proofs.Haves.{idle_sessions_leave_it}
-use Rattle.df_lifetime.proofs.Lives.{every_life_goes_on, every_life_is_in_order, every_run_goes_along}
-use Rattle.df_lifetime.proofs.OpenLives.{every_open_begins}
+use Rattle.df_lifetime.proofs.{Blank.{new_disks_are_made_on}, Found.{acknowledged_is_found}, Haves.{idle_sessions_leave_it}, Lives.{every_life_goes_on, every_life_is_in_order, every_run_goes_along}, OpenLives.{every_open_begins}}
 use Rattle.df_lifetime.proofs.life.sessions_compose.Goals as goal
 
 pub returns-clause-begins : goal.returns-clause-begins

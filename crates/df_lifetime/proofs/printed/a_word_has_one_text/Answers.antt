@@ -1,7 +1,5 @@
 -- The laws are proved.
-use Rattle.df_lifetime.proofs.OneRun.{workload_has_one_text}
-use Rattle.df_lifetime.proofs.OneText.{recover_has_one_text}
-use Rattle.df_lifetime.proofs.OneTour.{scrub_has_one_text}
+use Rattle.df_lifetime.proofs.{OneRun.{workload_has_one_text}, OneText.{recover_has_one_text}, OneTour.{scrub_has_one_text}}
 use Rattle.df_lifetime.proofs.printed.a_word_has_one_text.Goals as goal
 
 pub returns-clause-recover : goal.returns-clause-recover

@@ -1,10 +1,5 @@
 -- The laws are proved.
-use Rattle.df_lifetime.proofs.Makings.{call_is_making, word_is_making}
-use Rattle.df_lifetime.proofs.MirrorRuns.{made_shows_records, mirror_is_run}
-use Rattle.df_lifetime.proofs.NoteRuns.{notes_begin, notes_is_run}
-use Rattle.df_lifetime.proofs.OpenedRecords.{opened_shows_records}
-use Rattle.df_lifetime.proofs.OtherRuns.{source_is_run, table_is_run}
-use Rattle.df_lifetime.proofs.WordRuns.{word_is_run}
+use Rattle.df_lifetime.proofs.{Makings.{call_is_making, word_is_making}, MirrorRuns.{made_shows_records, mirror_is_run}, NoteRuns.{notes_begin, notes_is_run}, OpenedRecords.{opened_shows_records}, OtherRuns.{source_is_run, table_is_run}, WordRuns.{word_is_run}}
 use Rattle.df_lifetime.proofs.programs.each_program_runs_a_file.Goals as goal
 
 pub returns-clause-words : goal.returns-clause-words

@@ -1,7 +1,6 @@
 -- Each refusal has its cause.
 use Rattle.std.proofs.Common.{arith, subst, sym, List, ℕ}
-use Rattle.df_lines.specs.Grammar.{IsBody}
-use Rattle.df_lines.proofs.WordsBehind.{no_number, number_word, sized_first}
+use Rattle.df_lines.{specs.Grammar.{IsBody}, proofs.WordsBehind.{no_number, number_word, sized_first}}
 use Rattle.df_lines.proofs.arguments.sized.Goals as goal
 
 pub returns-in_err-number-clause-none : goal.returns-in_err-number-clause-none

@@ -1,5 +1,4 @@
-use Rattle.std.proofs.Common.{◌∙◌, ◌∷◌, [], inl, inr, sym, ap, arith}
-use Rattle.std.proofs.lemmas.Fmt.{decimal_digit}
+use Rattle.std.proofs.{Common.{◌∙◌, ◌∷◌, [], inl, inr, sym, ap, arith}, lemmas.Fmt.{decimal_digit}}
 use Rattle.df_lines.proofs.Decimals.{first_byte}
 use Rattle.df_lines.proofs.number.first_digit.Goals as goal
 

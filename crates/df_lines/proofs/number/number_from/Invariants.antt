@@ -1,5 +1,4 @@
-use Rattle.std.proofs.Common.{◌≡◌, ◌<◌, ◌++◌, take}
-use Rattle.std.specs.Prelude.{decimal}
+use Rattle.std.{proofs.Common.{◌≡◌, ◌<◌, ◌++◌, take}, specs.Prelude.{decimal}}
 use Rattle.df_lines.proofs.number.number_from.Given as goal
 
 abbrev pub invariant-loop-byte : goal.invariant-loop-byte

@@ -1,7 +1,4 @@
-use Rattle.std.proofs.Common.{◌∙◌, sym, ap, false, true, ◌≡◌}
-use Rattle.std.specs.Prelude.{decimal}
-use Rattle.std.proofs.lemmas.Bool.Decides.{Decides-eqb}
-use Rattle.std.proofs.lemmas.Slice.Eq.{slice_eq-Decides}
+use Rattle.std.{proofs.{Common.{◌∙◌, sym, ap, false, true, ◌≡◌}, lemmas.Bool.Decides.{Decides-eqb}, lemmas.Slice.Eq.{slice_eq-Decides}}, specs.Prelude.{decimal}}
 use Rattle.df_lines.proofs.Decimals.{none_spells_nothing, zero_is}
 use Rattle.df_lines.proofs.number.u128_of.Goals as goal
 

@@ -1,5 +1,4 @@
-use Rattle.std.proofs.Common.{◌∙◌, ap, arith}
-use Rattle.std.specs.Char.{digit_value}
+use Rattle.std.{proofs.Common.{◌∙◌, ap, arith}, specs.Char.{digit_value}}
 use Rattle.df_lines.proofs.Decimals.{next_digit, sum_is, some_from_iff, none_from_iff}
 use Rattle.df_lines.proofs.number.with_digit.Goals as goal
 

@@ -1,6 +1,5 @@
 -- The last change in the front up to the index is either of the sector, or an earlier one is the sector's last.
-use Rattle.std.proofs.Common.{◌≡◌, ◌==◌, ◌-◌, sym, ◌∙◌, arith, [], get_or, true, false}
-use Rattle.std.proofs.lemmas.Bool.Decides.{nat_tests}
+use Rattle.std.proofs.{Common.{◌≡◌, ◌==◌, ◌-◌, sym, ◌∙◌, arith, [], get_or, true, false}, lemmas.Bool.Decides.{nat_tests}}
 use Rattle.df_memdisk.proofs.Past.{last_change-take}
 use Rattle.df_memdisk.proofs.history.changed_bytes.Goals as goal
 

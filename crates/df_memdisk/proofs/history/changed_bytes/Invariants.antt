@@ -1,7 +1,6 @@
 -- The changes after the index are of other sectors.
 use Rattle.std.proofs.Common.{◌≡◌, take}
-use Rattle.df_memdisk.specs.History.{changes_of}
-use Rattle.df_memdisk.specs.Newest.{last_change}
+use Rattle.df_memdisk.specs.{History.{changes_of}, Newest.{last_change}}
 use Rattle.df_memdisk.proofs.history.changed_bytes.Given as goal
 
 abbrev pub invariant-loop-index : goal.invariant-loop-index

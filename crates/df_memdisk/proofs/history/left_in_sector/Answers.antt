@@ -1,8 +1,6 @@
 -- The newest bytes of the sector are those that the events left there, and there are none where nothing changed it.
 use Rattle.std.proofs.Common.{◌≡◌, List, ℕ, Option, Some, None, ap, sym, ◌∙◌, unwrap_or}
-use Rattle.df_memdisk.specs.History.{events_of}
-use Rattle.df_memdisk.specs.Newest.{newest_of}
-use Rattle.df_memdisk.proofs.Now.{now_is}
+use Rattle.df_memdisk.{specs.{History.{events_of}, Newest.{newest_of}}, proofs.Now.{now_is}}
 use Rattle.df_memdisk.proofs.history.left_in_sector.Goals as goal
 
 pub returns-in-Some-clause-bytes : goal.returns-in-Some-clause-bytes

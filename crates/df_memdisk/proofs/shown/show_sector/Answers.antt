@@ -1,12 +1,7 @@
 -- What a sector shows is what the events since its newest strike left there.
-use Rattle.std.proofs.Common.{◌≤◌, List, Option, length, ap, sym, subst, ◌∙◌}
-use Rattle.std.specs.Prelude.{reverse, IfSome}
-use Rattle.df_base.specs.Image.{blank}
-use Rattle.df_base.specs.Log.{Event, now_of}
-use Rattle.df_memdisk.specs.History.{events_of}
-use Rattle.df_memdisk.specs.Struck.{left_of, shown_after}
-use Rattle.df_memdisk.specs.declared.shown.Struck.{Struck}
-use Rattle.df_memdisk.proofs.Struck.{strike_of-behind}
+use Rattle.std.{proofs.Common.{◌≤◌, List, Option, length, ap, sym, subst, ◌∙◌}, specs.Prelude.{reverse, IfSome}}
+use Rattle.df_base.specs.{Image.{blank}, Log.{Event, now_of}}
+use Rattle.df_memdisk.{specs.{History.{events_of}, Struck.{left_of, shown_after}, declared.shown.Struck.{Struck}}, proofs.Struck.{strike_of-behind}}
 use Rattle.df_memdisk.proofs.shown.show_sector.Goals as goal
 
 pub since-requires : goal.since-requires

@@ -1,9 +1,6 @@
 -- One more sector is filled.
-use Rattle.std.proofs.Common.{arith}
-use Rattle.std.specs.Prelude.{reverse}
-use Rattle.df_memdisk.specs.History.{events_of}
-use Rattle.df_memdisk.specs.Struck.{shown_after}
-use Rattle.df_memdisk.proofs.Buffers.{filled_more}
+use Rattle.std.{proofs.Common.{arith}, specs.Prelude.{reverse}}
+use Rattle.df_memdisk.{specs.{History.{events_of}, Struck.{shown_after}}, proofs.Buffers.{filled_more}}
 use Rattle.df_memdisk.proofs.shown.show_sectors.Goals as goal
 
 pub loop-index-preserved : goal.loop-index-preserved

@@ -1,9 +1,7 @@
 -- The sectors before the index are filled.
-use Rattle.std.proofs.Common.{◌≡◌, ◌*◌, take}
-use Rattle.std.specs.Prelude.{reverse}
+use Rattle.std.{proofs.Common.{◌≡◌, ◌*◌, take}, specs.Prelude.{reverse}}
 use Rattle.df_base.specs.Image.{bytes_at}
-use Rattle.df_memdisk.specs.History.{events_of}
-use Rattle.df_memdisk.specs.Struck.{shown_after}
+use Rattle.df_memdisk.specs.{History.{events_of}, Struck.{shown_after}}
 use Rattle.df_memdisk.proofs.shown.show_sectors.Given as goal
 
 abbrev pub invariant-loop-index : goal.invariant-loop-index

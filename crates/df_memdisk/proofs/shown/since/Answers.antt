@@ -1,9 +1,6 @@
 -- The back of the past has the events since.
-use Rattle.std.proofs.Common.{List, ap, ◌∙◌}
-use Rattle.std.proofs.lemmas.List.{take_rest}
-use Rattle.df_memdisk.specs.History.{events_of}
-use Rattle.df_memdisk.specs.declared.history.Happened.{Happened}
-use Rattle.df_memdisk.proofs.Struck.{events_of-since}
+use Rattle.std.proofs.{Common.{List, ap, ◌∙◌}, lemmas.List.{take_rest}}
+use Rattle.df_memdisk.{specs.{History.{events_of}, declared.history.Happened.{Happened}}, proofs.Struck.{events_of-since}}
 use Rattle.df_memdisk.proofs.shown.since.Goals as goal
 
 pub returns : goal.returns

@@ -1,8 +1,6 @@
 -- One more named sector is loose.
-use Rattle.std.proofs.Common.{arith, [], sym, ◌∙◌}
-use Rattle.std.proofs.lemmas.Grind.{common_steps}
-use Rattle.df_memdisk.specs.History.{events_of}
-use Rattle.df_memdisk.proofs.Possible.{AreLoose-take}
+use Rattle.std.proofs.{Common.{arith, [], sym, ◌∙◌}, lemmas.Grind.{common_steps}}
+use Rattle.df_memdisk.{specs.History.{events_of}, proofs.Possible.{AreLoose-take}}
 use Rattle.df_memdisk.proofs.stop.firm_sector.Goals as goal
 
 pub loop-change-preserved : goal.loop-change-preserved

@@ -1,8 +1,7 @@
 -- The sectors named so far are loose, and their bytes those of sectors.
 use Rattle.std.proofs.Common.{◌≡◌, drop, take}
 use Rattle.df_base.specs.Log.{AreLoose}
-use Rattle.df_memdisk.specs.History.{changes_of, events_of}
-use Rattle.df_memdisk.specs.State.{first_firm}
+use Rattle.df_memdisk.specs.{History.{changes_of, events_of}, State.{first_firm}}
 use Rattle.df_memdisk.proofs.stop.firm_sector.Given as goal
 
 abbrev pub invariant-loop-change : goal.invariant-loop-change

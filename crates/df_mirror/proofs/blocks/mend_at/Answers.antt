@@ -1,7 +1,6 @@
 -- A block that is referenced is mended.
 use Rattle.std.proofs.Common.{refl, sym}
-use Rattle.df_mirror.proofs.Referenced.{block_mended, block_none}
-use Rattle.df_mirror.proofs.Turns.{mended_back}
+use Rattle.df_mirror.proofs.{Referenced.{block_mended, block_none}, Turns.{mended_back}}
 use Rattle.df_mirror.proofs.blocks.mend_at.Goals as goal
 
 pub returns-in-Some-clause-mends : goal.returns-in-Some-clause-mends

@@ -1,8 +1,6 @@
 -- Each turn mends the next block, if one is referenced at its address.
 use Rattle.std.proofs.Common.{ℕ, arith, subst}
-use Rattle.df_mirror.specs.Walks.{ShowsBlocks}
-use Rattle.df_mirror.proofs.Referenced.{none_yet}
-use Rattle.df_mirror.proofs.Turns.{begins, comes_to, goes_on, stops}
+use Rattle.df_mirror.{specs.Walks.{ShowsBlocks}, proofs.{Referenced.{none_yet}, Turns.{begins, comes_to, goes_on, stops}}}
 use Rattle.df_mirror.proofs.blocks.mend_blocks.Goals as goal
 
 pub loop-before-init : goal.loop-before-init

@@ -3,9 +3,7 @@ use Rattle.std.proofs.Common.{List}
 use Rattle.df_disk.specs.Told.{Told}
 use Rattle.df_format.specs.declared.kind.Kind.TheVariants.{Block as AsBlock}
 use Rattle.df_sessions.specs.declared.session.Session.{Session}
-use Rattle.df_mirror.specs.Outside.{around, counts}
-use Rattle.df_mirror.specs.Walks.{HasTrailerText, HasWaiting, ShowsBlocks, superblock_units}
-use Rattle.df_mirror.proofs.Turns.{Walked}
+use Rattle.df_mirror.{specs.{Outside.{around, counts}, Walks.{HasTrailerText, HasWaiting, ShowsBlocks, superblock_units}}, proofs.Turns.{Walked}}
 use Rattle.df_mirror.proofs.blocks.mend_blocks.Given as goal
 
 abbrev pub invariant-loop-before : goal.invariant-loop-before

@@ -1,12 +1,9 @@
 -- Each turn mends one link more.
-use Rattle.std.proofs.Common.{◌∙◌, [], ap, arith, length, map, subst, sym}
-use Rattle.std.proofs.lemmas.List.{length-map}
+use Rattle.std.proofs.{Common.{◌∙◌, [], ap, arith, length, map, subst, sym}, lemmas.List.{length-map}}
 use Rattle.df_format.specs.declared.superblock.SuperFields.{SuperFields}
 use Rattle.df_opening.specs.Below.{shape}
 use Rattle.df_units.specs.Meaning.{number_of}
-use Rattle.df_mirror.specs.Walks.{IsInsideGrid, content_of_superblock}
-use Rattle.df_mirror.proofs.Chains.{walk_ends}
-use Rattle.df_mirror.proofs.Turns.{begins, comes_to, goes_on, stops}
+use Rattle.df_mirror.{specs.Walks.{IsInsideGrid, content_of_superblock}, proofs.{Chains.{walk_ends}, Turns.{begins, comes_to, goes_on, stops}}}
 use Rattle.df_mirror.proofs.chain.mend_chain.Goals as goal
 
 pub loop-done-init : goal.loop-done-init

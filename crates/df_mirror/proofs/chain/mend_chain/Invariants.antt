@@ -4,9 +4,7 @@ use Rattle.arrayvec.specs.ArrayVec.{array_vec_len}
 use Rattle.df_disk.specs.Told.{Told}
 use Rattle.df_format.specs.declared.kind.Kind.TheVariants.{Trailer}
 use Rattle.df_theory.specs.Trailer.{IsCount}
-use Rattle.df_mirror.specs.Outside.{around, counts}
-use Rattle.df_mirror.specs.Walks.{HasWalkedChain, IsInsideGrid}
-use Rattle.df_mirror.proofs.Turns.{Walked}
+use Rattle.df_mirror.{specs.{Outside.{around, counts}, Walks.{HasWalkedChain, IsInsideGrid}}, proofs.Turns.{Walked}}
 use Rattle.df_mirror.proofs.chain.mend_chain.Given as goal
 
 abbrev pub invariant-loop-done : goal.invariant-loop-done

@@ -1,8 +1,7 @@
 -- The link is mended, or the chain breaks there.
 use Rattle.std.proofs.Common.{◌∙◌, sym}
 use Rattle.df_format.specs.declared.kind.Kind.TheVariants.{Trailer}
-use Rattle.df_mirror.proofs.Loaded.{held_some}
-use Rattle.df_mirror.proofs.Linked.{link_again, link_broken, link_failed, link_on}
+use Rattle.df_mirror.proofs.{Loaded.{held_some}, Linked.{link_again, link_broken, link_failed, link_on}}
 use Rattle.df_mirror.proofs.chain.mend_link.Goals as goal
 
 pub returns-then-is_among-clause-mends : goal.returns-then-is_among-clause-mends

@@ -1,11 +1,8 @@
 -- What was mended is told.
-use Rattle.std.proofs.Common.{ℕ, refl, subst}
-use Rattle.std.specs.Prelude.{Result, OnOk}
+use Rattle.std.{proofs.Common.{ℕ, refl, subst}, specs.Prelude.{Result, OnOk}}
 use Rattle.df_program.specs.Two.{counts}
-use Rattle.df_mirror.specs.declared.ending.Ending.{Ending}
+use Rattle.df_mirror.{specs.{declared.ending.Ending.{Ending}, Walks.{ShowsAll, superblock_units}}, proofs.Ended.{mended_causes, nothing_causes, tells_otherwise}}
 use Rattle.df_mirror.specs.declared.status.Status.TheVariants as ends
-use Rattle.df_mirror.specs.Walks.{ShowsAll, superblock_units}
-use Rattle.df_mirror.proofs.Ended.{mended_causes, nothing_causes, tells_otherwise}
 use Rattle.df_mirror.proofs.engine.mend_file.Goals as goal
 
 pub returns-in-Ok-clause-mirrors : goal.returns-in-Ok-clause-mirrors

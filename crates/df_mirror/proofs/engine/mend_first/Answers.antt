@@ -3,8 +3,7 @@ use Rattle.std.proofs.Common.{◌∙◌, ℕ, inl, inr, Option, Ok, ap, refl, su
 use Rattle.df_base.specs.Log.{Sync}
 use Rattle.df_disk.specs.Told.{Told, after, did}
 use Rattle.df_damage.specs.Found.{TellsFoundAs}
-use Rattle.df_program.specs.Two.{HasCausesOfTwo, around, counts}
-use Rattle.df_program.proofs.Laws.{unopened_causes}
+use Rattle.df_program.{specs.Two.{HasCausesOfTwo, around, counts}, proofs.Laws.{unopened_causes}}
 use Rattle.df_mirror.specs.declared.status.Status.TheVariants as ends
 use Rattle.df_mirror.proofs.Ended.{has_file, mirrored_then, not_found, nothing_causes, refusal_otherwise, version_found}
 use Rattle.df_mirror.proofs.engine.mend_first.Goals as goal

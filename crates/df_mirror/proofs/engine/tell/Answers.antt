@@ -1,9 +1,6 @@
 -- A unit that neither file shows is named.
-use Rattle.std.proofs.Common.{◌≡◌, ◌∙◌, ℕ, Err, ap, subst, sym}
-use Rattle.std.specs.Prelude.{Result}
-use Rattle.df_mirror.specs.declared.ending.Ending.{Ending}
-use Rattle.df_mirror.specs.declared.ending.Ending.TheVariants.{Neither}
-use Rattle.df_mirror.specs.Run.{TellsEnd}
+use Rattle.std.{proofs.Common.{◌≡◌, ◌∙◌, ℕ, Err, ap, subst, sym}, specs.Prelude.{Result}}
+use Rattle.df_mirror.specs.{declared.ending.Ending.{Ending}, declared.ending.Ending.TheVariants.{Neither}, Run.{TellsEnd}}
 use Rattle.df_mirror.proofs.engine.tell.Goals as goal
 
 pub returns-in-Err-Neither-clause-tells : goal.returns-in-Err-Neither-clause-tells

@@ -1,7 +1,5 @@
 -- A mended file is opened as it was left.
-use Rattle.df_mirror.proofs.OpenedFiles.{mirrored_is_opened}
-use Rattle.df_mirror.proofs.OpenedRuns.{mended_is_opened}
-use Rattle.df_mirror.proofs.OpenedViews.{found_has_none, left_is_none}
+use Rattle.df_mirror.proofs.{OpenedFiles.{mirrored_is_opened}, OpenedRuns.{mended_is_opened}, OpenedViews.{found_has_none, left_is_none}}
 use Rattle.df_mirror.proofs.laws.a_mended_file_is_opened.Goals as goal
 
 pub returns-clause-mends : goal.returns-clause-mends

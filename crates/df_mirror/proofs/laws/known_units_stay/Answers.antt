@@ -1,6 +1,5 @@
 -- A known unit that is shown is shown at every moment.
-use Rattle.df_mirror.proofs.Runs.{run_keeps}
-use Rattle.df_mirror.proofs.Stays.{known_stays}
+use Rattle.df_mirror.proofs.{Runs.{run_keeps}, Stays.{known_stays}}
 use Rattle.df_mirror.proofs.laws.known_units_stay.Goals as goal
 
 pub returns-clause-mends : goal.returns-clause-mends

@@ -1,11 +1,7 @@
 -- The walks come one after the other, and after the last one all is shown.
 use Rattle.std.proofs.Common.{◌≡◌, ◌+◌, ◌∙◌, ℕ, arith, subst, sym, Ok, Err}
 use Rattle.df_format.specs.declared.kind.Kind.TheVariants.{Block as AsBlock, Trailer}
-use Rattle.df_mirror.specs.Mends.{AreInOrder}
-use Rattle.df_mirror.specs.Outside.{around}
-use Rattle.df_mirror.specs.Walks.{Mended, ShowsAll}
-use Rattle.df_mirror.proofs.Logs.{all_mended, from_kind, refused_here, walk_then}
-use Rattle.df_mirror.proofs.Turns.{ends_so}
+use Rattle.df_mirror.{specs.{Mends.{AreInOrder}, Outside.{around}, Walks.{Mended, ShowsAll}}, proofs.{Logs.{all_mended, from_kind, refused_here, walk_then}, Turns.{ends_so}}}
 use Rattle.df_mirror.proofs.mending.mend_all.Goals as goal
 
 pub returns-in-Err-clause-mends : goal.returns-in-Err-clause-mends

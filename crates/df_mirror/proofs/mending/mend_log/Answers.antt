@@ -1,10 +1,8 @@
 -- The prepares are mended, the rings are read, and the replies are mended of the sessions at the head.
 use Rattle.std.proofs.Common.{◌∙◌, ap, arith, Ok, Err}
-use Rattle.df_format.specs.declared.superblock.SuperFields.{SuperFields}
-use Rattle.df_format.specs.declared.kind.Kind.TheVariants.{Prepare}
+use Rattle.df_format.specs.{declared.superblock.SuperFields.{SuperFields}, declared.kind.Kind.TheVariants.{Prepare}}
 use Rattle.df_journal.specs.declared.table.Start.{Start}
-use Rattle.df_mirror.proofs.Logs.{from_kind, log_mended, log_unread}
-use Rattle.df_mirror.proofs.Turns.{ends_so}
+use Rattle.df_mirror.proofs.{Logs.{from_kind, log_mended, log_unread}, Turns.{ends_so}}
 use Rattle.df_mirror.proofs.mending.mend_log.Goals as goal
 
 pub returns-in-Err-clause-mends : goal.returns-in-Err-clause-mends

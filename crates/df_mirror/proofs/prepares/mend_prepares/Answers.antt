@@ -1,13 +1,9 @@
 -- Each turn mends the prepare that is named, and goes on to the one that it names.
 use Rattle.std.proofs.Common.{◌∙◌, ◌<◌, ◌≤◌, ap, arith, subst, sym}
-use Rattle.df_format.specs.declared.superblock.SuperFields.{SuperFields}
+use Rattle.df_format.specs.{declared.superblock.SuperFields.{SuperFields}, declared.kind.Kind.TheVariants.{Prepare}}
 use Rattle.df_buffers.specs.declared.identity.Identity.{Identity}
-use Rattle.df_format.specs.declared.kind.Kind.TheVariants.{Prepare}
 use Rattle.df_units.specs.Meaning.{number_of}
-use Rattle.df_mirror.specs.Walks.{NamesPreparesFrom, superblock_units}
-use Rattle.df_mirror.proofs.Loaded.{held_some}
-use Rattle.df_mirror.proofs.Named.{names_all, names_head, prepare_failed, prepare_mended}
-use Rattle.df_mirror.proofs.Turns.{begins, comes_to, goes_on, stops}
+use Rattle.df_mirror.{specs.Walks.{NamesPreparesFrom, superblock_units}, proofs.{Loaded.{held_some}, Named.{names_all, names_head, prepare_failed, prepare_mended}, Turns.{begins, comes_to, goes_on, stops}}}
 use Rattle.df_mirror.proofs.prepares.mend_prepares.Goals as goal
 
 pub loop-op-init : goal.loop-op-init

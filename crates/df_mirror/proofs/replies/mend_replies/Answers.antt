@@ -1,8 +1,6 @@
 -- Each turn mends the reply at the next place, if it is known.
 use Rattle.std.proofs.Common.{ℕ, arith, subst}
-use Rattle.df_mirror.specs.Walks.{ShowsKnownReplies, superblock_units}
-use Rattle.df_mirror.proofs.AtHead.{all_replies, none_yet}
-use Rattle.df_mirror.proofs.Turns.{begins, comes_to, goes_on, stops}
+use Rattle.df_mirror.{specs.Walks.{ShowsKnownReplies, superblock_units}, proofs.{AtHead.{all_replies, none_yet}, Turns.{begins, comes_to, goes_on, stops}}}
 use Rattle.df_mirror.proofs.replies.mend_replies.Goals as goal
 
 pub loop-place-init : goal.loop-place-init

@@ -1,9 +1,7 @@
 -- The known replies at the places so far are shown.
 use Rattle.df_disk.specs.Told.{Told}
 use Rattle.df_format.specs.declared.kind.Kind.TheVariants.{Reply}
-use Rattle.df_mirror.specs.Outside.{around, counts}
-use Rattle.df_mirror.specs.Walks.{HasHead, ShowsKnownReplies, superblock_units}
-use Rattle.df_mirror.proofs.Turns.{Walked}
+use Rattle.df_mirror.{specs.{Outside.{around, counts}, Walks.{HasHead, ShowsKnownReplies, superblock_units}}, proofs.Turns.{Walked}}
 use Rattle.df_mirror.proofs.replies.mend_replies.Given as goal
 
 abbrev pub invariant-loop-place : goal.invariant-loop-place

@@ -1,9 +1,7 @@
 -- A reply that the superblock recorded is known, unless a later request of its client is shown.
-use Rattle.std.proofs.Common.{◌≡◌, ◌∙◌, sym, refl, true, false}
-use Rattle.std.proofs.lemmas.Slice.Eq.{bytes_eq-Decides}
+use Rattle.std.proofs.{Common.{◌≡◌, ◌∙◌, sym, refl, true, false}, lemmas.Slice.Eq.{bytes_eq-Decides}}
 use Rattle.df_format.specs.Spelling.{no_checksum}
-use Rattle.df_mirror.specs.Walks.{superblock_units}
-use Rattle.df_mirror.proofs.AtHead.{is_recorded, no_session, not_behind, not_named, reply_mended, reply_none}
+use Rattle.df_mirror.{specs.Walks.{superblock_units}, proofs.AtHead.{is_recorded, no_session, not_behind, not_named, reply_mended, reply_none}}
 use Rattle.df_mirror.proofs.replies.mend_reply.Goals as goal
 
 pub mend_recorded-requires-clause-place : goal.mend_recorded-requires-clause-place

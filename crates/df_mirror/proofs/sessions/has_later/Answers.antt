@@ -1,6 +1,5 @@
 -- Each turn looks at one slot more.
-use Rattle.std.proofs.Common.{ℕ, arith, inl, inr, subst, sym}
-use Rattle.std.proofs.lemmas.Bool.{cases_eq}
+use Rattle.std.proofs.{Common.{ℕ, arith, inl, inr, subst, sym}, lemmas.Bool.{cases_eq}}
 use Rattle.df_mirror.proofs.HeadSessions.{NoneLater, none_later}
 use Rattle.df_mirror.proofs.sessions.has_later.Goals as goal
 

@@ -1,9 +1,8 @@
 -- Where the client is known or a place is left, the request is noted; else it stands after the places.
 use Rattle.std.proofs.Common.{◌∙◌, arith, refl, sym, subst, Option, ℕ, IsSome}
 use Rattle.df_units.specs.Meaning.{header_of}
-use Rattle.df_mirror.proofs.HeadSessions.{noted_known, noted_last, noted_no, none_if}
+use Rattle.df_mirror.proofs.{HeadSessions.{noted_known, noted_last, noted_no, none_if}, sessions.note.Goals.{then-is_some-via-then-is_some, then-is_some-via-else-is_some+then-len-places}}
 use Rattle.df_mirror.proofs.sessions.note.Goals as goal
-use Rattle.df_mirror.proofs.sessions.note.Goals.{then-is_some-via-then-is_some, then-is_some-via-else-is_some+then-len-places}
 
 pub returns-then-is_some-clause-noted : goal.returns-then-is_some-clause-noted
 returns-then-is_some-clause-noted c = λ ss is.

@@ -1,9 +1,7 @@
 -- Each turn notes the prepare of one op more.
 use Rattle.std.proofs.Common.{◌≡◌, ◌-◌, ◌∙◌, ◌≤◌, ℕ, ap, arith, refl, subst, sym}
 use Rattle.df_format.specs.declared.superblock.SuperFields.{SuperFields}
-use Rattle.df_mirror.proofs.HeadSessions.{HasNoted, none_next, noted_all, noted_next, noted_none}
-use Rattle.df_mirror.proofs.Named.{pin_is}
-use Rattle.df_mirror.proofs.RingSeen.{seen_client}
+use Rattle.df_mirror.proofs.{HeadSessions.{HasNoted, none_next, noted_all, noted_next, noted_none}, Named.{pin_is}, RingSeen.{seen_client}}
 use Rattle.df_mirror.proofs.sessions.sessions_at_head.Goals as goal
 
 pub loop-op-init : goal.loop-op-init

@@ -1,15 +1,12 @@
 -- What the chain and its text say.
-use Rattle.std.proofs.Common.{ℕ, refl, sym, ◌∙◌, ap, subst}
-use Rattle.std.specs.Prelude.{Ok, Err}
+use Rattle.std.{proofs.Common.{ℕ, refl, sym, ◌∙◌, ap, subst}, specs.Prelude.{Ok, Err}}
 use Rattle.df_layout.specs.declared.layout.Layout.{Layout}
 use Rattle.df_units.specs.Meaning.{layout_of}
 use Rattle.df_trailer.specs.Sessions.{AreReadSessions}
 use Rattle.df_grid.specs.Grid.{GridState}
 use Rattle.df_checkpoint.proofs.Laws.{complete_gives}
 use Rattle.df_opening.specs.Below.{shape}
-use Rattle.df_mirror.specs.declared.ending.Ending.{Ending}
-use Rattle.df_mirror.specs.Trailers.{ReadsNamed}
-use Rattle.df_mirror.proofs.Trailers.{named_refused, named_text, told_answer}
+use Rattle.df_mirror.{specs.{declared.ending.Ending.{Ending}, Trailers.{ReadsNamed}}, proofs.Trailers.{named_refused, named_text, told_answer}}
 use Rattle.df_mirror.proofs.trailer.read_named.Goals as goal
 
 pub returns-in-Ok-clause-reads : goal.returns-in-Ok-clause-reads

@@ -1,15 +1,10 @@
 -- The trailer is read, or there is none.
-use Rattle.std.proofs.Common.{◌≡◌, ◌≢◌, List, Some, None, sym, subst, arith}
-use Rattle.std.specs.Prelude.{Err}
+use Rattle.std.{proofs.Common.{◌≡◌, ◌≢◌, List, Some, None, sym, subst, arith}, specs.Prelude.{Err}}
 use Rattle.df_format.specs.declared.superblock.SuperFields.{SuperFields}
 use Rattle.df_grid.specs.Grid.{GridState}
-use Rattle.df_sessions.specs.Table.{Table}
-use Rattle.df_mirror.specs.declared.ending.Ending.{Ending}
-use Rattle.df_mirror.specs.Trailers.{empty_grid}
-use Rattle.df_sessions.specs.declared.session.Session.{Session}
+use Rattle.df_sessions.specs.{Table.{Table}, declared.session.Session.{Session}}
+use Rattle.df_mirror.{specs.{declared.ending.Ending.{Ending}, Trailers.{empty_grid}, Walks.{HasTrailerText, HasWaiting, ReadsChainText, superblock_units}}, proofs.Trailers.{grid_is, no_text, text_refused, text_untracked}}
 use Rattle.df_checkpoint.proofs.Laws.{has_is, pending_of}
-use Rattle.df_mirror.specs.Walks.{HasTrailerText, HasWaiting, ReadsChainText, superblock_units}
-use Rattle.df_mirror.proofs.Trailers.{grid_is, no_text, text_refused, text_untracked}
 use Rattle.df_mirror.proofs.trailer.read_trailer.Goals as goal
 
 pub returns-then-fields-eq0-clause-reads : goal.returns-then-fields-eq0-clause-reads

@@ -4,13 +4,7 @@ use Rattle.df_disk.specs.Told.{Told}
 use Rattle.df_layout.specs.declared.damage.Class.{Class}
 use Rattle.df_buffers.specs.Sounds.{Holding}
 use Rattle.df_places.specs.Shelves.{HoldsFound, IsRead}
-use Rattle.df_mirror.specs.declared.ending.Ending.{Ending}
-use Rattle.df_mirror.specs.declared.ending.Ending.TheVariants.{First}
-use Rattle.df_mirror.specs.Mends.{AreAt}
-use Rattle.df_mirror.specs.Taking.{WritesUnit}
-use Rattle.df_mirror.proofs.Loaded.{found_held, lacks_none, lacks_unit, shows_unit}
-use Rattle.df_mirror.proofs.Joined.{none_came, none_failed}
-use Rattle.df_mirror.proofs.Taken.{no_refusal, taken, told_from, written_is_shown}
+use Rattle.df_mirror.{specs.{declared.ending.Ending.{Ending}, declared.ending.Ending.TheVariants.{First}, Mends.{AreAt}, Taking.{WritesUnit}}, proofs.{Loaded.{found_held, lacks_none, lacks_unit, shows_unit}, Joined.{none_came, none_failed}, Taken.{no_refusal, taken, told_from, written_is_shown}}}
 use Rattle.df_mirror.proofs.unit.mend_unit.Goals as goal
 
 pub returns-in-Ok-None-clause-shown : goal.returns-in-Ok-None-clause-shown

@@ -1,12 +1,10 @@
 -- The second file's unit is held, blanked after it, and written.
-use Rattle.std.proofs.Common.{◌∙◌, Option, None, subst, sym}
-use Rattle.std.proofs.lemmas.Option.{same_Some}
+use Rattle.std.proofs.{Common.{◌∙◌, Option, None, subst, sym}, lemmas.Option.{same_Some}}
 use Rattle.df_layout.specs.declared.damage.Class.{Class}
 use Rattle.df_buffers.specs.Sounds.{Holding}
 use Rattle.df_format.specs.Message.{Message}
 use Rattle.df_places.specs.Shelves.{HoldsFound, IsBlanked, IsFoundUnit, IsRead}
-use Rattle.df_mirror.proofs.Loaded.{blanked_held, found_held, shown_still}
-use Rattle.df_mirror.proofs.Taken.{takes_all}
+use Rattle.df_mirror.proofs.{Loaded.{blanked_held, found_held, shown_still}, Taken.{takes_all}}
 use Rattle.df_mirror.proofs.unit.take_unit.Goals as goal
 
 pub returns-in-Ok-None-clause-takes : goal.returns-in-Ok-None-clause-takes

@@ -1,5 +1,4 @@
-use Rattle.df_model.proofs.Fails.{failing_law}
-use Rattle.df_model.proofs.Tours.{tour_law}
+use Rattle.df_model.proofs.{Fails.{failing_law}, Tours.{tour_law}}
 use Rattle.df_model.proofs.machine.a_tour_lists_what_fails.Goals as goal
 
 pub returns-clause-tour : goal.returns-clause-tour

@@ -1,5 +1,4 @@
-use Rattle.df_model.proofs.Appends.{append_may_law}
-use Rattle.df_model.proofs.Exact.{append_exact_law}
+use Rattle.df_model.proofs.{Appends.{append_may_law}, Exact.{append_exact_law}}
 use Rattle.df_model.proofs.machine.append_may_be_made.Goals as goal
 
 pub returns-clause-may : goal.returns-clause-may

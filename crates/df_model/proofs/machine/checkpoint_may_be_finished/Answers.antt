@@ -1,5 +1,4 @@
-use Rattle.df_model.proofs.Begins.{begin_exact_law}
-use Rattle.df_model.proofs.Finishes.{finish_exact_law, finish_may_law}
+use Rattle.df_model.proofs.{Begins.{begin_exact_law}, Finishes.{finish_exact_law, finish_may_law}}
 use Rattle.df_model.proofs.machine.checkpoint_may_be_finished.Goals as goal
 
 pub returns-clause-may : goal.returns-clause-may

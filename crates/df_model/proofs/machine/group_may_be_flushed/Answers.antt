@@ -1,5 +1,4 @@
-use Rattle.df_model.proofs.Flushing.{flush_may_law}
-use Rattle.df_model.proofs.Exact.{stage_exact_law}
+use Rattle.df_model.proofs.{Flushing.{flush_may_law}, Exact.{stage_exact_law}}
 use Rattle.df_model.proofs.machine.group_may_be_flushed.Goals as goal
 
 pub returns-clause-may : goal.returns-clause-may

@@ -1,5 +1,4 @@
-use Rattle.df_model.proofs.Changing.{blocks_law}
-use Rattle.df_model.proofs.Recalls.{change_law, lists_law}
+use Rattle.df_model.proofs.{Changing.{blocks_law}, Recalls.{change_law, lists_law}}
 use Rattle.df_model.proofs.machine.memory_changes_so.Goals as goal
 
 pub returns-clause-memory : goal.returns-clause-memory

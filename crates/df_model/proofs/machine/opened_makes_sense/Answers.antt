@@ -1,5 +1,4 @@
-use Rattle.df_model.proofs.Keeps.{opened_law}
-use Rattle.df_model.proofs.Runs.{found_law}
+use Rattle.df_model.proofs.{Keeps.{opened_law}, Runs.{found_law}}
 use Rattle.df_model.proofs.machine.opened_makes_sense.Goals as goal
 
 pub returns-clause-opened : goal.returns-clause-opened

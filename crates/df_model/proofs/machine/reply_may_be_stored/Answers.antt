@@ -1,6 +1,4 @@
-use Rattle.df_model.proofs.Answering.{reply_parent_law}
-use Rattle.df_model.proofs.Replies.{reply_may_law}
-use Rattle.df_model.proofs.Exact.{reply_exact_law}
+use Rattle.df_model.proofs.{Answering.{reply_parent_law}, Replies.{reply_may_law}, Exact.{reply_exact_law}}
 use Rattle.df_model.proofs.machine.reply_may_be_stored.Goals as goal
 
 pub returns-clause-may : goal.returns-clause-may

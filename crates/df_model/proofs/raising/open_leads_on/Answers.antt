@@ -1,5 +1,4 @@
-use Rattle.df_model.proofs.Boots.{boot_command_law}
-use Rattle.df_model.proofs.OpenLeads.{disk_open_law, open_command_law}
+use Rattle.df_model.proofs.{Boots.{boot_command_law}, OpenLeads.{disk_open_law, open_command_law}}
 use Rattle.df_model.proofs.raising.open_leads_on.Goals as goal
 
 pub returns-clause-update : goal.returns-clause-update

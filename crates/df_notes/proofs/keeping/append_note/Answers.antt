@@ -1,13 +1,8 @@
 -- The note was appended, or its append ends the program.
 use Rattle.std.proofs.Common.{Result, Err, subst, sym}
 use Rattle.df_base.specs.Causes.{IsBlamed}
-use Rattle.df_model.specs.Commands.{Append}
-use Rattle.df_model.specs.declared.answers.Receipt.{Receipt}
-use Rattle.df_notes.specs.Ending.{is_disk_at_fault}
-use Rattle.df_notes.specs.Keeping.{AppendsNote}
-use Rattle.df_notes.specs.declared.ended.Ended.{Ended}
-use Rattle.df_notes.proofs.Blame.{blamed_at, on_ok}
-use Rattle.df_notes.proofs.Called.{appended, ended_here, receipt_blames}
+use Rattle.df_model.specs.{Commands.{Append}, declared.answers.Receipt.{Receipt}}
+use Rattle.df_notes.{specs.{Ending.{is_disk_at_fault}, Keeping.{AppendsNote}, declared.ended.Ended.{Ended}}, proofs.{Blame.{blamed_at, on_ok}, Called.{appended, ended_here, receipt_blames}}}
 use Rattle.df_notes.proofs.keeping.append_note.Goals as goal
 
 pub returns-in-Ok : goal.returns-in-Ok

@@ -1,9 +1,6 @@
 -- A turn keeps one note more, or ends the program.
-use Rattle.std.proofs.Common.{refl, ◌∙◌, ap, arith}
-use Rattle.std.specs.Prelude.{string_bytes}
-use Rattle.df_notes.specs.Keeping.{Begun}
-use Rattle.df_notes.proofs.Steps.{ends, goes_on, stops}
-use Rattle.df_notes.proofs.Blame.{handed_on}
+use Rattle.std.{proofs.Common.{refl, ◌∙◌, ap, arith}, specs.Prelude.{string_bytes}}
+use Rattle.df_notes.{specs.Keeping.{Begun}, proofs.{Steps.{ends, goes_on, stops}, Blame.{handed_on}}}
 use Rattle.df_notes.proofs.keeping.keep.Goals as goal
 
 pub loop-note-init : goal.loop-note-init

@@ -1,6 +1,5 @@
 -- The notes gone over are kept, and nothing has failed.
-use Rattle.std.proofs.Common.{◌≡◌, true, take, map}
-use Rattle.std.specs.Prelude.{string_bytes}
+use Rattle.std.{proofs.Common.{◌≡◌, true, take, map}, specs.Prelude.{string_bytes}}
 use Rattle.df_notes.specs.Keeping.{AreKept}
 use Rattle.df_notes.proofs.keeping.keep.Given as goal
 

@@ -1,12 +1,7 @@
 -- Where the reply isn't stored, or the line isn't printed.
 use Rattle.std.proofs.Common.{Result, refl, subst, sym}
 use Rattle.df_base.specs.Causes.{IsBlamed}
-use Rattle.df_notes.specs.Keeping.{InLine}
-use Rattle.df_notes.proofs.Steps.{in_reply}
-use Rattle.df_notes.proofs.Blame.{handed_on}
-use Rattle.df_notes.specs.Ending.{is_sink}
-use Rattle.df_notes.specs.declared.ended.Ended.{Ended}
-use Rattle.df_notes.proofs.Blame.{ends_calm}
+use Rattle.df_notes.{specs.{Keeping.{InLine}, Ending.{is_sink}, declared.ended.Ended.{Ended}}, proofs.{Steps.{in_reply}, Blame.{handed_on, ends_calm}}}
 use Rattle.df_notes.proofs.keeping.keep_note.Goals as goal
 
 pub returns-in_err-reply_to-clause-keeps : goal.returns-in_err-reply_to-clause-keeps

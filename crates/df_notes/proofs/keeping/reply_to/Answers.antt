@@ -2,11 +2,7 @@
 use Rattle.std.proofs.Common.{Result, [], Err, subst, sym}
 use Rattle.df_base.specs.Causes.{IsBlamed}
 use Rattle.df_model.specs.Commands.{Reply}
-use Rattle.df_notes.specs.Ending.{is_disk_at_fault}
-use Rattle.df_notes.specs.Keeping.{StoresReply}
-use Rattle.df_notes.specs.declared.ended.Ended.{Ended}
-use Rattle.df_notes.proofs.Blame.{blamed_at, on_ok}
-use Rattle.df_notes.proofs.Called.{ended_here, stored, stored_blames}
+use Rattle.df_notes.{specs.{Ending.{is_disk_at_fault}, Keeping.{StoresReply}, declared.ended.Ended.{Ended}}, proofs.{Blame.{blamed_at, on_ok}, Called.{ended_here, stored, stored_blames}}}
 use Rattle.df_notes.proofs.keeping.reply_to.Goals as goal
 
 pub returns-in-Ok : goal.returns-in-Ok

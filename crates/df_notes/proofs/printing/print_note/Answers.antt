@@ -1,17 +1,10 @@
 -- The note is lent and printed, or it isn't.
 use Rattle.std.proofs.Common.{◌≡◌, ◌∙◌, ℕ, List, Err, ap, refl, subst, sym}
 use Rattle.df_base.specs.Streams.{Appends, AppendsPart}
-use Rattle.df_model.specs.Commands.{ReadPrepare, ToReadPrepare}
-use Rattle.df_model.specs.Faults.{is_prepare_fault}
+use Rattle.df_model.specs.{Commands.{ReadPrepare, ToReadPrepare}, Faults.{is_prepare_fault}}
 use Rattle.df_script_model.specs.Texts.{line_of}
-use Rattle.df_session.specs.Below.{State as Replica}
-use Rattle.df_session.specs.Stopping.{left_by}
-use Rattle.df_session.proofs.Laws.{reads_prepare}
-use Rattle.df_notes.specs.Calling.{EndsIn}
-use Rattle.df_notes.specs.Ending.{ended_by}
-use Rattle.df_notes.specs.Showing.{InPrint, InRead}
-use Rattle.df_notes.specs.declared.ended.Ended.{Ended}
-use Rattle.df_notes.proofs.Called.{ended_so, note_read}
+use Rattle.df_session.{specs.{Below.{State as Replica}, Stopping.{left_by}}, proofs.Laws.{reads_prepare}}
+use Rattle.df_notes.{specs.{Calling.{EndsIn}, Ending.{ended_by}, Showing.{InPrint, InRead}, declared.ended.Ended.{Ended}}, proofs.Called.{ended_so, note_read}}
 use Rattle.df_notes.proofs.printing.print_note.Goals as goal
 
 pub returns-in-Ok-print_line-clause-shows : goal.returns-in-Ok-print_line-clause-shows

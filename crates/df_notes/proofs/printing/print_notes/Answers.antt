@@ -3,9 +3,7 @@ use Rattle.std.proofs.Common.{◌+◌, Option, refl, ap, ◌∙◌, subst, arith
 use Rattle.df_disk.specs.Told.{Told}
 use Rattle.df_session.specs.Below.{State}
 use Rattle.df_model.specs.declared.answers.Summary.{Summary}
-use Rattle.df_notes.specs.Showing.{IsNoteShown, NoteHides}
-use Rattle.df_notes.proofs.Shows.{shows_more, shows_none, shows_some}
-use Rattle.df_notes.proofs.Blame.{handed_on}
+use Rattle.df_notes.{specs.Showing.{IsNoteShown, NoteHides}, proofs.{Shows.{shows_more, shows_none, shows_some}, Blame.{handed_on}}}
 use Rattle.df_notes.proofs.printing.print_notes.Goals as goal
 
 pub loop-before-init : goal.loop-before-init

@@ -1,12 +1,8 @@
 -- The file is found, made first, or refused.
-use Rattle.std.proofs.Common.{◌∙◌, inl, inr, refl, subst}
-use Rattle.std.specs.Prelude.{map, string_bytes}
+use Rattle.std.{proofs.Common.{◌∙◌, inl, inr, refl, subst}, specs.Prelude.{map, string_bytes}}
 use Rattle.df_layout.specs.declared.layout.Layout.{Layout}
-use Rattle.df_notes.specs.Run.{NotesOutcome}
-use Rattle.df_notes.specs.Serving.{around}
+use Rattle.df_notes.{specs.{Run.{NotesOutcome}, Serving.{around}}, proofs.{Opened.{served, unopened}, Served.{error_of_run, serving_of_run}}}
 use Rattle.df_notes.specs.declared.ended.Ended.TheVariants as ends
-use Rattle.df_notes.proofs.Opened.{served, unopened}
-use Rattle.df_notes.proofs.Served.{error_of_run, serving_of_run}
 use Rattle.df_notes.proofs.running.keep_notes.Goals as goal
 
 pub returns-in_default-clause-runs : goal.returns-in_default-clause-runs

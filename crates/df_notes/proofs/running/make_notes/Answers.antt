@@ -1,19 +1,11 @@
 -- The file is made and opened, or the disk failed in its making.
-use Rattle.std.proofs.Common.{◌∙◌, Err, Ok, Option, Some, ap, inl, inr, refl, subst, sym}
-use Rattle.std.specs.Prelude.{map, string_bytes}
+use Rattle.std.{proofs.Common.{◌∙◌, Err, Ok, Option, Some, ap, inl, inr, refl, subst, sym}, specs.Prelude.{map, string_bytes}}
 use Rattle.df_base.specs.Causes.{IsBlamed}
 use Rattle.df_disk.specs.Told.{Told}
 use Rattle.df_layout.specs.declared.layout.Layout.{Layout}
-use Rattle.df_model.specs.Faults.{is_format_fault}
-use Rattle.df_model.specs.declared.errors.FormatError.{FormatError}
-use Rattle.df_session.specs.Formatting.{TellsBlank}
-use Rattle.df_session.specs.Making.{FormatsFile}
-use Rattle.df_notes.specs.Ending.{IsOfRun, ended_by, is_disk_at_fault, is_sink}
-use Rattle.df_notes.specs.Run.{OpensNotes, notes_cluster}
-use Rattle.df_notes.specs.Serving.{around}
-use Rattle.df_notes.specs.declared.ended.Ended.{Ended}
-use Rattle.df_notes.proofs.Blame.{blames_disk, of_run, spares_sink}
-use Rattle.df_notes.proofs.Opened.{made_there, only_fault}
+use Rattle.df_model.specs.{Faults.{is_format_fault}, declared.errors.FormatError.{FormatError}}
+use Rattle.df_session.specs.{Formatting.{TellsBlank}, Making.{FormatsFile}}
+use Rattle.df_notes.{specs.{Ending.{IsOfRun, ended_by, is_disk_at_fault, is_sink}, Run.{OpensNotes, notes_cluster}, Serving.{around}, declared.ended.Ended.{Ended}}, proofs.{Blame.{blames_disk, of_run, spares_sink}, Opened.{made_there, only_fault}}}
 use Rattle.df_notes.proofs.running.make_notes.Goals as goal
 
 pub returns-in-Ok-clause-makes : goal.returns-in-Ok-clause-makes

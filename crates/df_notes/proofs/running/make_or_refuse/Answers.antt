@@ -2,9 +2,7 @@
 use Rattle.std.proofs.Common.{Err, subst, sym}
 use Rattle.df_base.specs.Causes.{IsBlamed}
 use Rattle.df_model.specs.Faults.{is_open_fault}
-use Rattle.df_notes.specs.Ending.{IsOfRun, is_disk_at_fault, is_sink}
-use Rattle.df_notes.specs.declared.ended.Ended.{Ended}
-use Rattle.df_notes.proofs.Blame.{blames_disk, of_run, spares_sink}
+use Rattle.df_notes.{specs.{Ending.{IsOfRun, is_disk_at_fault, is_sink}, declared.ended.Ended.{Ended}}, proofs.Blame.{blames_disk, of_run, spares_sink}}
 use Rattle.df_notes.proofs.running.make_or_refuse.Goals as goal
 
 pub returns-clause-ends : goal.returns-clause-ends

@@ -1,14 +1,8 @@
 -- The file is opened and served, or it isn't.
-use Rattle.std.proofs.Common.{Err, ap, inl, inr, refl, subst, sym}
-use Rattle.std.specs.Prelude.{map, string_bytes}
+use Rattle.std.{proofs.Common.{Err, ap, inl, inr, refl, subst, sym}, specs.Prelude.{map, string_bytes}}
 use Rattle.df_base.specs.Causes.{IsBlamed}
 use Rattle.df_model.specs.Faults.{is_open_fault}
-use Rattle.df_notes.specs.Ending.{IsOfRun, is_disk_at_fault, is_sink}
-use Rattle.df_notes.specs.Serving.{around}
-use Rattle.df_notes.specs.declared.ended.Ended.{Ended}
-use Rattle.df_notes.proofs.Blame.{blames_disk, of_run, spares_sink}
-use Rattle.df_notes.proofs.Opened.{not_opened, served}
-use Rattle.df_notes.proofs.Served.{if_of_run, serving_of_run}
+use Rattle.df_notes.{specs.{Ending.{IsOfRun, is_disk_at_fault, is_sink}, Serving.{around}, declared.ended.Ended.{Ended}}, proofs.{Blame.{blames_disk, of_run, spares_sink}, Opened.{not_opened, served}, Served.{if_of_run, serving_of_run}}}
 use Rattle.df_notes.proofs.running.open_notes.Goals as goal
 
 pub returns-in-Ok-clause-opens : goal.returns-in-Ok-clause-opens

@@ -1,12 +1,7 @@
 -- The first of the three parts that fails ends the run.
-use Rattle.std.proofs.Common.{Result, map, refl, sym, subst}
-use Rattle.std.specs.Prelude.{string_bytes}
+use Rattle.std.{proofs.Common.{Result, map, refl, sym, subst}, specs.Prelude.{string_bytes}}
 use Rattle.df_base.specs.Causes.{IsBlamed}
-use Rattle.df_notes.specs.Ending.{is_sink}
-use Rattle.df_notes.specs.Serving.{NotCaughtUp, NotKept, ServesNotes, around}
-use Rattle.df_notes.specs.declared.ended.Ended.{Ended}
-use Rattle.df_notes.proofs.Blame.{ends_calm, handed_on}
-use Rattle.df_notes.proofs.Served.{were_kept}
+use Rattle.df_notes.{specs.{Ending.{is_sink}, Serving.{NotCaughtUp, NotKept, ServesNotes, around}, declared.ended.Ended.{Ended}}, proofs.{Blame.{ends_calm, handed_on}, Served.{were_kept}}}
 use Rattle.df_notes.proofs.running.serve_notes.Goals as goal
 
 pub returns-in_err-catch_up-clause-serves : goal.returns-in_err-catch_up-clause-serves

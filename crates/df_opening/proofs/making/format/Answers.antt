@@ -1,8 +1,7 @@
 -- The rooms of the log are of the layout that the file is made for; and cluster 0 is refused with nothing done.
 use Rattle.std.proofs.Common.{subst}
 use Rattle.df_layout.specs.declared.layout.Layout.{Layout}
-use Rattle.df_opening.specs.Making.{FormatsFile}
-use Rattle.df_opening.proofs.Formatted.{no_cluster}
+use Rattle.df_opening.{specs.Making.{FormatsFile}, proofs.Formatted.{no_cluster}}
 use Rattle.df_opening.proofs.making.format.Goals as goal
 
 pub returns-in-Some-clause-formats : goal.returns-in-Some-clause-formats

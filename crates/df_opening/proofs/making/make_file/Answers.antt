@@ -1,12 +1,8 @@
 -- The table that was cleared is that of reserved headers.
 use Rattle.std.proofs.Common.{List, ◌∙◌, subst}
 use Rattle.df_disk.specs.Adds.{Adds}
-use Rattle.df_format.specs.declared.header.Header.{Header}
-use Rattle.df_format.specs.declared.superblock.SuperFields.{SuperFields}
-use Rattle.df_format.specs.First.{first_super}
-use Rattle.df_format.specs.SuperRules.{IsUsable}
-use Rattle.df_opening.specs.Making.{file_events}
-use Rattle.df_opening.proofs.NewFile.{cleared, named_of, small_of, writable}
+use Rattle.df_format.specs.{declared.header.Header.{Header}, declared.superblock.SuperFields.{SuperFields}, First.{first_super}, SuperRules.{IsUsable}}
+use Rattle.df_opening.{specs.Making.{file_events}, proofs.NewFile.{cleared, named_of, small_of, writable}}
 use Rattle.df_opening.proofs.making.make_file.Goals as goal
 
 pub clear-requires-clause-cluster : goal.clear-requires-clause-cluster

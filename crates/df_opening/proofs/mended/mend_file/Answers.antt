@@ -1,20 +1,11 @@
 -- What is planned is mended and raised: its device calls are steps, so what they leave at each moment and at their end is the machine's, whether all of them were made or a part.
-use Rattle.std.proofs.Common.{◌≡◌, ◌∙◌, ◌<◌, ◌^◌, List, length, ap, subst, sym}
-use Rattle.std.specs.Prelude.{Ok, Err}
+use Rattle.std.{proofs.Common.{◌≡◌, ◌∙◌, ◌<◌, ◌^◌, List, length, ap, subst, sym}, specs.Prelude.{Ok, Err}}
 use Rattle.df_base.specs.Log.{Event}
-use Rattle.df_format.specs.SuperRules.{IsUsable}
-use Rattle.df_format.specs.declared.superblock.SuperFields.{SuperFields}
+use Rattle.df_format.specs.{SuperRules.{IsUsable}, declared.superblock.SuperFields.{SuperFields}}
 use Rattle.df_superblock.proofs.Laws.{update_is_steps}
 use Rattle.df_theory.specs.Device.{AreSteps}
 use Rattle.df_damage.specs.Below.{IsState, State, boot_fields}
-use Rattle.df_opening.specs.Below.{update_events}
-use Rattle.df_opening.specs.Keeping.{format}
-use Rattle.df_opening.specs.Mending.{AddsUpdating, mending_events, mending_steps, raised_state}
-use Rattle.df_opening.specs.Raising.{RaisesEach, opening_events}
-use Rattle.df_opening.specs.Survey.{Survey, survey_in}
-use Rattle.df_opening.proofs.RaiseAnew.{raises_anew}
-use Rattle.df_opening.proofs.RaiseSteps.{opening_is_steps, raises_over}
-use Rattle.df_opening.proofs.Refused.{updating_error, updating_fault, updating_ok, updating_then}
+use Rattle.df_opening.{specs.{Below.{update_events}, Keeping.{format}, Mending.{AddsUpdating, mending_events, mending_steps, raised_state}, Raising.{RaisesEach, opening_events}, Survey.{Survey, survey_in}}, proofs.{RaiseAnew.{raises_anew}, RaiseSteps.{opening_is_steps, raises_over}, Refused.{updating_error, updating_fault, updating_ok, updating_then}}}
 use Rattle.df_opening.proofs.mended.mend_file.Goals as goal
 
 -- the device calls of the mending

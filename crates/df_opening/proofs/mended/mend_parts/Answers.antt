@@ -1,8 +1,7 @@
 -- The list that is written is the rooms'.
 use Rattle.std.proofs.Common.{List, subst}
 use Rattle.df_layout.specs.declared.damage.Mend.{Mend}
-use Rattle.df_opening.specs.Mending.{AddsSteps, mending_events, mending_steps}
-use Rattle.df_opening.specs.Keeping.{format}
+use Rattle.df_opening.specs.{Mending.{AddsSteps, mending_events, mending_steps}, Keeping.{format}}
 use Rattle.df_opening.proofs.mended.mend_parts.Goals as goal
 
 pub returns-clause-does : goal.returns-clause-does

@@ -1,7 +1,6 @@
 -- The superblock of the next boot obeys the rules.
 use Rattle.std.proofs.Common.{◌≡◌, ◌∙◌, ◌+◌, None, ap, subst, sym}
-use Rattle.df_format.specs.SuperRules.{fault_of}
-use Rattle.df_format.specs.declared.superblock.SuperFields.{SuperFields}
+use Rattle.df_format.specs.{SuperRules.{fault_of}, declared.superblock.SuperFields.{SuperFields}}
 use Rattle.df_damage.specs.Below.{recorded, state_in}
 use Rattle.df_opening.proofs.RaisedState.{no_fault}
 use Rattle.df_opening.proofs.mended.next_fields.Goals as goal

@@ -1,11 +1,9 @@
 -- The boot that is set is that of the superblock that was written, and what is after it makes sense.
 use Rattle.std.proofs.Common.{◌≡◌, ◌∙◌, ◌+◌, ℕ, true, ap, subst, sym, arith}
-use Rattle.df_format.specs.SuperRules.{IsUsable}
-use Rattle.df_format.specs.declared.superblock.SuperFields.{SuperFields}
+use Rattle.df_format.specs.{SuperRules.{IsUsable}, declared.superblock.SuperFields.{SuperFields}}
 use Rattle.df_grid.specs.Grid.{GridState}
 use Rattle.df_damage.specs.Below.{FitsGrid, IsState, State, state_in}
-use Rattle.df_opening.proofs.RaisedState.{raised_sense}
-use Rattle.df_opening.proofs.Refused.{unharmed_fault, unharmed_of, unharmed_ok}
+use Rattle.df_opening.proofs.{RaisedState.{raised_sense}, Refused.{unharmed_fault, unharmed_of, unharmed_ok}}
 use Rattle.df_opening.proofs.mended.raise_parts.Goals as goal
 
 pub set_boot-requires : goal.set_boot-requires

@@ -1,12 +1,10 @@
 -- The sectors, and a sync after them where there is one.
 use Rattle.std.proofs.Common.{◌∷◌, [], List, sym, ◌∙◌, subst}
 use Rattle.df_base.specs.Log.{Event, Sync}
-use Rattle.df_disk.specs.Adds.{Adds}
-use Rattle.df_disk.proofs.Laws.{adds_then}
+use Rattle.df_disk.{specs.Adds.{Adds}, proofs.Laws.{adds_then}}
 use Rattle.df_headers.specs.Ring.{sector_writes}
 use Rattle.df_journal.proofs.Laws.{sync_adds}
-use Rattle.df_opening.specs.Mending.{sectors_of}
-use Rattle.df_opening.proofs.MendEvents.{headers_fail, headers_some}
+use Rattle.df_opening.{specs.Mending.{sectors_of}, proofs.MendEvents.{headers_fail, headers_some}}
 use Rattle.df_opening.proofs.mending.mend_headers.Goals as goal
 
 pub returns-in-Ok-true-clause-events : goal.returns-in-Ok-true-clause-events

@@ -1,8 +1,7 @@
 -- Each turn adds the write of one sector, or nothing.
 use Rattle.std.proofs.Common.{◌||◌, Bool, ap, sym, ◌∙◌, arith}
-use Rattle.df_opening.proofs.MendEvents.{turn_adds, turn_fails, wrote_more}
+use Rattle.df_opening.proofs.{MendEvents.{turn_adds, turn_fails, wrote_more}, mending.mend_sectors.Goals.{then-wrote, else-wrote}}
 use Rattle.df_opening.proofs.mending.mend_sectors.Goals as goal
-use Rattle.df_opening.proofs.mending.mend_sectors.Goals.{then-wrote, else-wrote}
 
 pub returns-in-Err-clause-events : goal.returns-in-Err-clause-events
 returns-in-Err-clause-events g c =

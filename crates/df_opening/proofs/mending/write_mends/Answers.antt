@@ -1,8 +1,7 @@
 -- The header sectors, and the copies after them; the calls are the theory's steps.
 use Rattle.df_disk.proofs.Laws.{part_then, adds_then}
 use Rattle.df_superblock.specs.Events.{repair_events}
-use Rattle.df_opening.specs.Mending.{header_events, sectors_of}
-use Rattle.df_opening.proofs.MendSteps.{mending_is_steps}
+use Rattle.df_opening.{specs.Mending.{header_events, sectors_of}, proofs.MendSteps.{mending_is_steps}}
 use Rattle.df_opening.proofs.mending.write_mends.Goals as goal
 
 pub returns-in-Ok-clause-does : goal.returns-in-Ok-clause-does

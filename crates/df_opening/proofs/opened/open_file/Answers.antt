@@ -1,34 +1,12 @@
 -- What was surveyed after the barrier is mended and raised, and the state is that of the survey, but for its boot.
-use Rattle.std.proofs.Common.{◌≡◌, ◌∙◌, ℕ, List, ◌∷◌, Option, Some, inr, refl, ap, subst, sym}
-use Rattle.std.specs.Prelude.{Ok, Err}
-use Rattle.df_base.specs.Causes.{Blamed}
-use Rattle.df_base.specs.Image.{Image}
-use Rattle.df_base.specs.Log.{Event, Sync, add}
-use Rattle.df_disk.specs.Adds.{AddsPart, after_all}
-use Rattle.df_disk.specs.Told.{Told, after, did}
-use Rattle.df_damage.specs.Anew.{restarted}
-use Rattle.df_damage.specs.Histories.{IsLivedDisk}
-use Rattle.df_damage.proofs.Laws.{begun_goes_on, found_was_since}
+use Rattle.std.{proofs.Common.{◌≡◌, ◌∙◌, ℕ, List, ◌∷◌, Option, Some, inr, refl, ap, subst, sym}, specs.Prelude.{Ok, Err}}
+use Rattle.df_base.specs.{Causes.{Blamed}, Image.{Image}, Log.{Event, Sync, add}}
+use Rattle.df_disk.specs.{Adds.{AddsPart, after_all}, Told.{Told, after, did}}
+use Rattle.df_damage.{specs.{Anew.{restarted}, Histories.{IsLivedDisk}, Below.{State, boot_fields, shape, state_in}, Surveys.{IsOpenedAs}}, proofs.Laws.{begun_goes_on, found_was_since}}
 use Rattle.df_layout.specs.declared.layout.Layout.{Layout}
-use Rattle.df_units.proofs.Laws.{steps_within}
-use Rattle.df_units.specs.Bytes.{unit_at}
-use Rattle.df_model.specs.Faults.{is_mend_fault, is_open_fault}
-use Rattle.df_model.specs.Work.{kept}
-use Rattle.df_model.specs.declared.errors.OpenError.{OpenError}
-use Rattle.df_damage.specs.Below.{State, boot_fields, shape, state_in}
-use Rattle.df_damage.specs.Surveys.{IsOpenedAs}
-use Rattle.df_opening.specs.Mending.{StaysFound, begun_state, raised_state}
-use Rattle.df_opening.specs.Opened.{MendsAll}
-use Rattle.df_opening.specs.Keeping.{Firm, IsGoodFor, StandsFor, format}
-use Rattle.df_opening.specs.Raising.{opening_events, opening_steps}
-use Rattle.df_opening.specs.Survey.{Survey, survey_in}
-use Rattle.df_opening.specs.Surveying.{TellsSurvey}
-use Rattle.df_opening.proofs.Barriers.{barrier_rests}
-use Rattle.df_opening.proofs.Hurts.{answers}
-use Rattle.df_opening.proofs.Followed.{begun_may_open}
-use Rattle.df_opening.proofs.MendShows.{front_spares, raising_copies, raising_spares}
-use Rattle.df_opening.proofs.Opens.{front_moments, mend_stops, open_settles, own_raising, planned_same, stands_anew, stands_over}
-use Rattle.df_opening.proofs.Refused.{blamed_open, fault_adds, no_refusal, refused_tells}
+use Rattle.df_units.{proofs.Laws.{steps_within}, specs.Bytes.{unit_at}}
+use Rattle.df_model.specs.{Faults.{is_mend_fault, is_open_fault}, Work.{kept}, declared.errors.OpenError.{OpenError}}
+use Rattle.df_opening.{specs.{Mending.{StaysFound, begun_state, raised_state}, Opened.{MendsAll}, Keeping.{Firm, IsGoodFor, StandsFor, format}, Raising.{opening_events, opening_steps}, Survey.{Survey, survey_in}, Surveying.{TellsSurvey}}, proofs.{Barriers.{barrier_rests}, Hurts.{answers}, Followed.{begun_may_open}, MendShows.{front_spares, raising_copies, raising_spares}, Opens.{front_moments, mend_stops, open_settles, own_raising, planned_same, stands_anew, stands_over}, Refused.{blamed_open, fault_adds, no_refusal, refused_tells}}}
 use Rattle.df_opening.proofs.opened.open_file.Goals as goal
 
 pub returns-in-Ok-mend_file-clause-parts : goal.returns-in-Ok-mend_file-clause-parts

@@ -1,12 +1,9 @@
 -- The parts make sense by themselves: what was found is in its ranges, and the table is one of the file.
-use Rattle.std.proofs.Common.{◌≡◌, ◌∙◌, ℕ, List, refl, sym, ◌<◌, ◌^◌, ap, subst}
-use Rattle.std.specs.Prelude.{None, false, true}
+use Rattle.std.{proofs.Common.{◌≡◌, ◌∙◌, ℕ, List, refl, sym, ◌<◌, ◌^◌, ap, subst}, specs.Prelude.{None, false, true}}
 use Rattle.df_format.specs.SuperRules.{IsUsable}
-use Rattle.df_damage.specs.Below.{ScrubState, Staged}
-use Rattle.df_damage.specs.Types.{Surveyed}
+use Rattle.df_damage.{specs.{Below.{ScrubState, Staged}, Types.{Surveyed}}, proofs.Laws.{found_awaits, found_ends, found_staging, second_super}}
 use Rattle.df_model.specs.Work.{Request}
 use Rattle.df_opening.specs.Survey.{Survey}
-use Rattle.df_damage.proofs.Laws.{found_awaits, found_ends, found_staging, second_super}
 use Rattle.df_opening.proofs.surveying.parts_of.Goals as goal
 
 pub returns-clause-found : goal.returns-clause-found

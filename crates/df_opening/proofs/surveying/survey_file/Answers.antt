@@ -1,10 +1,6 @@
 -- What was surveyed of version 2 has its parts, and is planned from what was read after the barrier.
 use Rattle.std.proofs.Common.{◌∙◌, Ok, Err, ap, subst, sym}
-use Rattle.df_opening.specs.Raising.{IsPlannedOf}
-use Rattle.df_opening.specs.Survey.{Survey}
-use Rattle.df_opening.specs.Surveying.{TellsMends, TellsSurvey}
-use Rattle.df_opening.proofs.Hurts.{answers}
-use Rattle.df_opening.proofs.SurveyPlans.{survey_planned, told_mends}
+use Rattle.df_opening.{specs.{Raising.{IsPlannedOf}, Survey.{Survey}, Surveying.{TellsMends, TellsSurvey}}, proofs.{Hurts.{answers}, SurveyPlans.{survey_planned, told_mends}}}
 use Rattle.df_opening.proofs.surveying.survey_file.Goals as goal
 
 pub returns-in-Ok-clause-surveyed : goal.returns-in-Ok-clause-surveyed

@@ -1,5 +1,4 @@
-use Rattle.df_pace.proofs.Idle.{answered_law, idle_law}
-use Rattle.df_pace.proofs.Sessions.{session_law}
+use Rattle.df_pace.proofs.{Idle.{answered_law, idle_law}, Sessions.{session_law}}
 use Rattle.df_pace.proofs.beside.a_paced_script_is_a_session.Goals as goal
 
 pub returns-clause-idle : goal.returns-clause-idle

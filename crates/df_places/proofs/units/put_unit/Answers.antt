@@ -1,11 +1,9 @@
 -- The sectors of a sound room lie in the place that is the unit's own.
 use Rattle.std.proofs.Common.{ap, subst}
-use Rattle.df_layout.specs.declared.layout.Layout.{Layout}
-use Rattle.df_layout.specs.declared.places.Span.{Span}
+use Rattle.df_layout.specs.{declared.layout.Layout.{Layout}, declared.places.Span.{Span}}
 use Rattle.df_format.proofs.Laws.{valid_belongs}
 use Rattle.df_buffers.specs.Sounds.{AreWholeSectors}
-use Rattle.df_places.proofs.Rooms.{are_sectors}
-use Rattle.df_places.proofs.Steps.{put_is_steps, write_brings}
+use Rattle.df_places.proofs.{Rooms.{are_sectors}, Steps.{put_is_steps, write_brings}}
 use Rattle.df_places.proofs.units.put_unit.Goals as goal
 
 pub sectors_of-requires : goal.sectors_of-requires

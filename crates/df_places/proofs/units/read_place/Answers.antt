@@ -1,7 +1,6 @@
 -- A room has the sectors of its place.
 use Rattle.std.proofs.Common.{◌∙◌, ap}
-use Rattle.df_layout.specs.declared.layout.Layout.{Layout}
-use Rattle.df_layout.specs.declared.places.Span.{Span}
+use Rattle.df_layout.specs.{declared.layout.Layout.{Layout}, declared.places.Span.{Span}}
 use Rattle.df_buffers.specs.Rooms.{room_size}
 use Rattle.df_places.proofs.Rooms.{room_sectors}
 use Rattle.df_places.proofs.units.read_place.Goals as goal

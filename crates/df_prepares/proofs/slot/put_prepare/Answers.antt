@@ -1,16 +1,10 @@
 -- A sound prepare stands in its own slot.
 use Rattle.std.proofs.Common.{◌≡◌, ap, refl, subst, sym, ◌∙◌, take}
 use Rattle.df_layout.specs.declared.places.Place.{Place}
-use Rattle.df_format.specs.declared.header.Header.{Header}
-use Rattle.df_format.specs.Brings.{Brings}
-use Rattle.df_format.specs.Message.{sectors_end}
-use Rattle.df_format.specs.Valid.{IsUnit}
-use Rattle.df_theory.specs.Device.{AreSteps}
-use Rattle.df_theory.specs.Units.{PreparePlace, PrepareUnit}
-use Rattle.df_places.specs.Below.{format_of, message_of}
-use Rattle.df_places.specs.Units.{put_events, put_steps}
-use Rattle.df_prepares.specs.Slots.{slot_place}
-use Rattle.df_prepares.proofs.Own.{in_place}
+use Rattle.df_format.specs.{declared.header.Header.{Header}, Brings.{Brings}, Message.{sectors_end}, Valid.{IsUnit}}
+use Rattle.df_theory.specs.{Device.{AreSteps}, Units.{PreparePlace, PrepareUnit}}
+use Rattle.df_places.specs.{Below.{format_of, message_of}, Units.{put_events, put_steps}}
+use Rattle.df_prepares.{specs.Slots.{slot_place}, proofs.Own.{in_place}}
 use Rattle.df_prepares.proofs.slot.put_prepare.Goals as goal
 
 pub put_unit-requires-clause-own : goal.put_unit-requires-clause-own

@@ -2,8 +2,7 @@
 use Rattle.std.proofs.Common.{refl}
 use Rattle.df_layout.specs.declared.places.Zone.TheVariants.{WalPrepares}
 use Rattle.df_places.proofs.Laws.{write_brings}
-use Rattle.df_prepares.specs.Slots.{slot_place}
-use Rattle.df_prepares.proofs.Own.{in_place}
+use Rattle.df_prepares.{specs.Slots.{slot_place}, proofs.Own.{in_place}}
 use Rattle.df_prepares.proofs.slot.stands_in_slot.Goals as goal
 
 pub returns-clause-own : goal.returns-clause-own

@@ -1,6 +1,4 @@
-use Rattle.std.proofs.Common.{◌∙◌, lit<}
-use Rattle.std.specs.Prelude.{decimal, None, Some}
-use Rattle.std.proofs.lemmas.Str.Pattern.{split_after}
+use Rattle.std.{proofs.{Common.{◌∙◌, lit<}, lemmas.Str.Pattern.{split_after}}, specs.Prelude.{decimal, None, Some}}
 use Rattle.df_program.proofs.Commas.{no_comma}
 use Rattle.df_program.proofs.layout.number_before_comma.Goals as goal
 

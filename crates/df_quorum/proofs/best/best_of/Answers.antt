@@ -1,8 +1,6 @@
 use Rattle.std.proofs.Common.{◌≡◌, ℕ, ◌+◌, Option, option_copied, sym, subst, arith}
 use Rattle.df_format.specs.Copies.{Content, content_in_copy}
-use Rattle.df_quorum.specs.Quorum.{copies_of}
-use Rattle.df_quorum.specs.Best.{Best}
-use Rattle.df_quorum.proofs.Candidates.{best_next, best_is_chosen}
+use Rattle.df_quorum.{specs.{Quorum.{copies_of}, Best.{Best}}, proofs.Candidates.{best_next, best_is_chosen}}
 use Rattle.df_quorum.proofs.best.best_of.Goals as goal
 
 pub loop-number-preserved : goal.loop-number-preserved

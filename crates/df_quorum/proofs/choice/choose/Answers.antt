@@ -1,8 +1,7 @@
 -- One content is chosen, so what holds of the one that was found holds of each.
 use Rattle.std.proofs.Common.{ap, subst}
 use Rattle.df_format.specs.Copies.{Content}
-use Rattle.df_quorum.specs.Quorum.{copies_of, content_of_copy, AreMembers}
-use Rattle.df_quorum.proofs.Choices.{one_law}
+use Rattle.df_quorum.{specs.Quorum.{copies_of, content_of_copy, AreMembers}, proofs.Choices.{one_law}}
 use Rattle.df_quorum.proofs.choice.choose.Goals as goal
 
 pub returns-in-Some-clause-exactly : goal.returns-in-Some-clause-exactly

@@ -1,6 +1,5 @@
 -- After the last all are equal.
-use Rattle.std.proofs.Common.{◌≡◌, ◌∙◌, [], length, refl, sym, arith}
-use Rattle.std.proofs.lemmas.List.{ext_get_or}
+use Rattle.std.proofs.{Common.{◌≡◌, ◌∙◌, [], length, refl, sym, arith}, lemmas.List.{ext_get_or}}
 use Rattle.df_quorum.proofs.fields.same_checks.Goals as goal
 
 pub returns : goal.returns

@@ -2,9 +2,7 @@
 use Rattle.std.proofs.Common.{◌≡◌, subst, ap}
 use Rattle.df_format.specs.declared.superblock.SuperFields.{SuperFields}
 use Rattle.df_sessions.specs.Table.{Table}
-use Rattle.df_recovery.specs.Scanning.{base_in}
-use Rattle.df_recovery.proofs.Bases.{empty_fits, no_op, told_none}
-use Rattle.df_recovery.proofs.Tracked.{none_of_checkpoint}
+use Rattle.df_recovery.{specs.Scanning.{base_in}, proofs.{Bases.{empty_fits, no_op, told_none}, Tracked.{none_of_checkpoint}}}
 use Rattle.df_recovery.proofs.checkpoint.read_checkpoint.Goals as goal
 
 pub returns-then-fields-eq0-clause-reads : goal.returns-then-fields-eq0-clause-reads

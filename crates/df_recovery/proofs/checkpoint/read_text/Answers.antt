@@ -1,6 +1,5 @@
 -- What the chain and its text say is the checkpoint's, and each refusal of them is one of the trailer.
-use Rattle.std.proofs.Common.{◌≡◌, ◌+◌, ◌/◌, ℕ, refl, sym, ◌∙◌, ap, subst}
-use Rattle.std.specs.Prelude.{Err, vec_len}
+use Rattle.std.{proofs.Common.{◌≡◌, ◌+◌, ◌/◌, ℕ, refl, sym, ◌∙◌, ap, subst}, specs.Prelude.{Err, vec_len}}
 use Rattle.df_layout.specs.declared.layout.Layout.{Layout}
 use Rattle.df_format.specs.declared.superblock.SuperFields.{SuperFields}
 use Rattle.df_units.specs.Meaning.{layout_of}
@@ -10,8 +9,7 @@ use Rattle.df_model.specs.declared.errors.OpenError.{OpenError}
 use Rattle.df_sessions.specs.Table.{Table}
 use Rattle.df_checkpoint.proofs.Laws.{complete_gives}
 use Rattle.df_rooms.specs.State.{shape}
-use Rattle.df_recovery.specs.Checkpoints.{TellsCheckpoint, TellsText}
-use Rattle.df_recovery.proofs.Bases.{room_fits, told_refused, told_text}
+use Rattle.df_recovery.{specs.Checkpoints.{TellsCheckpoint, TellsText}, proofs.Bases.{room_fits, told_refused, told_text}}
 use Rattle.df_recovery.proofs.checkpoint.read_text.Goals as goal
 
 pub invariant_of-room : goal.invariant_of-room

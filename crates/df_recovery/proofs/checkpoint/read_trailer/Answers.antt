@@ -1,12 +1,8 @@
 -- The text's sessions are the checkpoint's, and each op that waits has its session, or the trailer is refused.
-use Rattle.std.proofs.Common.{None, Some, sym, subst}
-use Rattle.std.specs.Prelude.{Err}
+use Rattle.std.{proofs.Common.{None, Some, sym, subst}, specs.Prelude.{Err}}
 use Rattle.df_model.specs.declared.errors.OpenError.{OpenError}
 use Rattle.df_checkpoint.proofs.Laws.{pending_of}
-use Rattle.df_recovery.specs.Checkpoints.{TellsCheckpoint}
-use Rattle.df_recovery.specs.Scanning.{base_in}
-use Rattle.df_recovery.proofs.Bases.{told_base, told_untracked}
-use Rattle.df_recovery.proofs.Tracked.{of_checkpoint}
+use Rattle.df_recovery.{specs.{Checkpoints.{TellsCheckpoint}, Scanning.{base_in}}, proofs.{Bases.{told_base, told_untracked}, Tracked.{of_checkpoint}}}
 use Rattle.df_recovery.proofs.checkpoint.read_trailer.Goals as goal
 
 pub returns-in-None-clause-reads : goal.returns-in-None-clause-reads

@@ -1,23 +1,13 @@
 -- Each step answers as the theory's step.
-use Rattle.std.proofs.Common.{Bool, refl, sym, ◌∙◌, ap, subst, arith}
-use Rattle.std.specs.Bool.{OnFalse}
+use Rattle.std.{proofs.Common.{Bool, refl, sym, ◌∙◌, ap, subst, arith}, specs.Bool.{OnFalse}}
 use Rattle.df_layout.specs.declared.damage.Class.TheVariants.{Stale}
-use Rattle.df_format.specs.SuperRules.{IsSuper}
-use Rattle.df_format.specs.declared.superblock.SuperFields.{SuperFields}
-use Rattle.df_journal.specs.Scan.{entry}
-use Rattle.df_journal.specs.Seen.{class_of}
-use Rattle.df_journal.proofs.Laws.{class_shown}
-use Rattle.df_replies.specs.Answers.{AllAnswered}
-use Rattle.df_replies.proofs.Laws.{stored_found}
+use Rattle.df_format.specs.{SuperRules.{IsSuper}, declared.superblock.SuperFields.{SuperFields}}
+use Rattle.df_journal.{specs.{Scan.{entry}, Seen.{class_of}}, proofs.Laws.{class_shown}}
+use Rattle.df_replies.{specs.Answers.{AllAnswered}, proofs.Laws.{stored_found}}
 use Rattle.df_sessions.specs.Requests.{sessions_of}
 use Rattle.df_stamps.specs.Evidence.{IsComplete}
-use Rattle.df_theory.specs.Opens.{LacksReply}
-use Rattle.df_theory.specs.Sessions.{Tracks}
-use Rattle.df_theory.specs.Units.{Content, CopyPlace, PreparePlace, ReplyPlace}
-use Rattle.df_recovery.specs.Finding.{lowest_of}
-use Rattle.df_recovery.specs.Surveying.{EndsBehind}
-use Rattle.df_recovery.proofs.FindingBounds.{any_base, any_is, any_shape, asked_on, boot_unspent, few_wait, image_of, not_above, shows_replies, shows_table, tracks_on}
-use Rattle.df_recovery.proofs.FindingSteps.{at_place, below_spent, boot_is, content_same, counts_bound, finds, is_base, opens_behind, opens_known, opens_lacking, opens_lost, opens_spent}
+use Rattle.df_theory.specs.{Opens.{LacksReply}, Sessions.{Tracks}, Units.{Content, CopyPlace, PreparePlace, ReplyPlace}}
+use Rattle.df_recovery.{specs.{Finding.{lowest_of}, Surveying.{EndsBehind}}, proofs.{FindingBounds.{any_base, any_is, any_shape, asked_on, boot_unspent, few_wait, image_of, not_above, shows_replies, shows_table, tracks_on}, FindingSteps.{at_place, below_spent, boot_is, content_same, counts_bound, finds, is_base, opens_behind, opens_known, opens_lacking, opens_lost, opens_spent}}}
 use Rattle.df_recovery.proofs.finding.find_state.Goals as goal
 
 pub returns-then-is_behind-clause-answer : goal.returns-then-is_behind-clause-answer

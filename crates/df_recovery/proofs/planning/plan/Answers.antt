@@ -1,9 +1,7 @@
 -- Each turn plans one slot, and the whole table is one of the layout, with the meaning that it has on an image that is found.
 use Rattle.std.proofs.Common.{◌≡◌, ◌++◌, List, ℕ, ap, sym, subst, ◌∙◌, append_assoc, arith}
 use Rattle.df_layout.specs.declared.damage.Mend.{Mend}
-use Rattle.df_recovery.specs.Plan.{ArePlanned, copy_mends, if_wanted, needs_header, shown_class, slot_mend, slot_mends}
-use Rattle.df_recovery.proofs.Plans.{planned_more, planned_table, size_kept, slot_mends_more}
-use Rattle.df_recovery.proofs.Planned.{plan_tells, plan_whole}
+use Rattle.df_recovery.{specs.Plan.{ArePlanned, copy_mends, if_wanted, needs_header, shown_class, slot_mend, slot_mends}, proofs.{Plans.{planned_more, planned_table, size_kept, slot_mends_more}, Planned.{plan_tells, plan_whole}}}
 use Rattle.df_recovery.proofs.planning.plan.Goals as goal
 
 pub loop-slot-preserved : goal.loop-slot-preserved

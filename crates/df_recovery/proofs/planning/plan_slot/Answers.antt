@@ -1,7 +1,6 @@
 -- The decision is the theory's, at the op that belongs in the slot.
 use Rattle.std.proofs.Common.{◌++◌, Bool, ap, ◌∙◌, arith}
-use Rattle.df_recovery.specs.Plan.{if_wanted, is_mended, op_above_in_slot, shown_class, slot_mend}
-use Rattle.df_recovery.proofs.Plans.{op_in_is}
+use Rattle.df_recovery.{specs.Plan.{if_wanted, is_mended, op_above_in_slot, shown_class, slot_mend}, proofs.Plans.{op_in_is}}
 use Rattle.df_recovery.proofs.planning.plan_slot.Goals as goal
 
 pub returns-clause-list : goal.returns-clause-list

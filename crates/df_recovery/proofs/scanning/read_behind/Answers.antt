@@ -1,8 +1,7 @@
 -- The tables are of the file, after its superblock; a failing disk says nothing of the trailer.
 use Rattle.std.proofs.Common.{◌∙◌, ap}
 use Rattle.df_journal.specs.Starting.{start_of}
-use Rattle.df_recovery.proofs.Bases.{told_fault}
-use Rattle.df_recovery.proofs.Scans.{tables_of}
+use Rattle.df_recovery.proofs.{Bases.{told_fault}, Scans.{tables_of}}
 use Rattle.df_recovery.proofs.scanning.read_behind.Goals as goal
 
 pub returns-in-Ok-clause-reads : goal.returns-in-Ok-clause-reads

@@ -1,6 +1,5 @@
 -- The session gets the checksum of its reply.
-use Rattle.std.proofs.Common.{◌≡◌, ◌≤◌, List, Some, sym, ◌∙◌, ap, subst}
-use Rattle.std.specs.List.{slice_get}
+use Rattle.std.{proofs.Common.{◌≡◌, ◌≤◌, List, Some, sym, ◌∙◌, ap, subst}, specs.List.{slice_get}}
 use Rattle.df_sessions.specs.declared.session.Session.{Session}
 use Rattle.df_recovery.proofs.KeptReplies.{reply_there, stored_now}
 use Rattle.df_recovery.proofs.stored.store_reply.Goals as goal

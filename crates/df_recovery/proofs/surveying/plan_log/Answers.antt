@@ -1,8 +1,7 @@
 -- The plan is that of the rooms' layout, which is the file's.
 use Rattle.std.proofs.Common.{rules, subst}
 use Rattle.df_layout.specs.declared.layout.Layout.{Layout}
-use Rattle.df_recovery.specs.Plan.{ArePlanned}
-use Rattle.df_recovery.specs.Surveying.{ArePlannedFrom}
+use Rattle.df_recovery.specs.{Plan.{ArePlanned}, Surveying.{ArePlannedFrom}}
 use Rattle.df_recovery.proofs.surveying.plan_log.Goals as goal
 
 pub returns-clause-planned : goal.returns-clause-planned

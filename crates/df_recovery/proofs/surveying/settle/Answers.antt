@@ -1,9 +1,7 @@
 -- What is found of a file that was read is the answer to an open.
 use Rattle.std.proofs.Common.{refl, ◌∙◌, subst, sym}
 use Rattle.df_theory.specs.Sessions.{Tracks}
-use Rattle.df_recovery.specs.Below.{AreAsked}
-use Rattle.df_recovery.specs.declared.scanned.Scanned.{Scanned}
-use Rattle.df_recovery.proofs.Settled.{numbered_by, opened, refused}
+use Rattle.df_recovery.{specs.{Below.{AreAsked}, declared.scanned.Scanned.{Scanned}}, proofs.Settled.{numbered_by, opened, refused}}
 use Rattle.df_recovery.proofs.surveying.settle.Goals as goal
 
 pub with_plan-requires-clause-scanned : goal.with_plan-requires-clause-scanned

@@ -1,9 +1,7 @@
 -- What was settled is of what the disk tells.
 use Rattle.std.proofs.Common.{◌≡◌, ◌∙◌, ap}
 use Rattle.df_rooms.specs.declared.file.DataFile.{DataFile}
-use Rattle.df_recovery.specs.Surveying.{IsReadOf, KeepsScannedFile, found_or_refused}
-use Rattle.df_recovery.specs.declared.surveying.Surveyed.{Surveyed}
-use Rattle.df_recovery.proofs.Settled.{if_ok_more, lawful, read_kept, told_answer, told_mends, version_is}
+use Rattle.df_recovery.{specs.{Surveying.{IsReadOf, KeepsScannedFile, found_or_refused}, declared.surveying.Surveyed.{Surveyed}}, proofs.Settled.{if_ok_more, lawful, read_kept, told_answer, told_mends, version_is}}
 use Rattle.df_recovery.proofs.surveying.survey_version.Goals as goal
 
 pub settle-requires-clause-scanned : goal.settle-requires-clause-scanned

@@ -1,7 +1,6 @@
 -- What is planned makes sense, and as many prepares wait as are above the stored replies.
 use Rattle.std.proofs.Common.{◌-◌, ◌≡◌, ◌∙◌, sym, ap, subst, length, arith}
-use Rattle.df_journal.specs.Scan.{Scan}
-use Rattle.df_journal.specs.Shows.{IsSeenTable as AreSlots}
+use Rattle.df_journal.specs.{Scan.{Scan}, Shows.{IsSeenTable as AreSlots}}
 use Rattle.df_recovery.proofs.Waits.{waiting_count}
 use Rattle.df_recovery.proofs.surveying.with_plan.Goals as goal
 

@@ -1,7 +1,6 @@
 -- Zeros are no checksum.
 use Rattle.std.proofs.Common.{Option, ap}
-use Rattle.df_format.specs.Spelling.{no_checksum}
-use Rattle.df_format.specs.declared.header.Header.{Header}
+use Rattle.df_format.specs.{Spelling.{no_checksum}, declared.header.Header.{Header}}
 use Rattle.df_recovery.specs.Waiting.{shown_sum}
 use Rattle.df_recovery.proofs.waiting.shown_sum.Goals as goal
 

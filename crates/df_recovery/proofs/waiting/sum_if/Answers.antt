@@ -1,6 +1,5 @@
 -- Zeros are no checksum.
-use Rattle.std.proofs.Common.{Bool, sym, ap}
-use Rattle.std.specs.Prelude.{if◌then◌else◌}
+use Rattle.std.{proofs.Common.{Bool, sym, ap}, specs.Prelude.{if◌then◌else◌}}
 use Rattle.df_format.specs.Spelling.{no_checksum}
 use Rattle.df_recovery.proofs.waiting.sum_if.Goals as goal
 

@@ -1,17 +1,7 @@
 -- The block that is made is valid at its address.
-use Rattle.std.proofs.Common.{◌≡◌, ◌∙◌, ℕ, List, Option, Some, sym, ap, subst}
-use Rattle.std.proofs.lemmas.Option.{same_Some}
-use Rattle.df_layout.specs.declared.layout.Layout.{Layout}
-use Rattle.df_layout.specs.declared.places.Place.{Place}
-use Rattle.df_layout.specs.declared.places.Zone.{Zone}
-use Rattle.df_layout.specs.declared.places.Zone.TheVariants.{Grid}
-use Rattle.df_format.specs.declared.header.Header.{Header}
-use Rattle.df_format.specs.declared.kind.Kind.{Kind}
-use Rattle.df_format.specs.declared.kind.Kind.TheVariants.{Block}
-use Rattle.df_format.specs.Message.{Message}
-use Rattle.df_format.specs.Own.{named_elsewhere, named_place, place_in}
-use Rattle.df_format.specs.Valid.{IsUnit}
-use Rattle.df_format.proofs.Laws.{own_is}
+use Rattle.std.proofs.{Common.{◌≡◌, ◌∙◌, ℕ, List, Option, Some, sym, ap, subst}, lemmas.Option.{same_Some}}
+use Rattle.df_layout.specs.{declared.layout.Layout.{Layout}, declared.places.Place.{Place}, declared.places.Zone.{Zone}, declared.places.Zone.TheVariants.{Grid}}
+use Rattle.df_format.{specs.{declared.header.Header.{Header}, declared.kind.Kind.{Kind}, declared.kind.Kind.TheVariants.{Block}, Message.{Message}, Own.{named_elsewhere, named_place, place_in}, Valid.{IsUnit}}, proofs.Laws.{own_is}}
 use Rattle.df_buffers.specs.Sounds.{Holding, IsSound}
 use Rattle.df_places.specs.Shelves.{HoldsMade}
 use Rattle.df_replica.specs.Appending.{unit_made}

@@ -6,11 +6,9 @@ use Rattle.df_buffers.specs.Sounds.{Holding}
 use Rattle.df_format.specs.declared.header.Header.{Header}
 use Rattle.df_headers.specs.Ring.{IsHeaderTable}
 use Rattle.df_layout.specs.declared.layout.Layout.{Layout}
-use Rattle.df_journal.specs.Append.{settle_events}
-use Rattle.df_journal.specs.Flush.{MayPutGroup, held_prepares, sectors_of, with_headers}
+use Rattle.df_journal.specs.{Append.{settle_events}, Flush.{MayPutGroup, held_prepares, sectors_of, with_headers}}
 use Rattle.df_opening.specs.Below.{DataFile}
-use Rattle.df_replica.specs.Flushing.{AreMadeFor}
-use Rattle.df_replica.proofs.FlushUnits.{puts_same}
+use Rattle.df_replica.{specs.Flushing.{AreMadeFor}, proofs.FlushUnits.{puts_same}}
 use Rattle.df_replica.proofs.flush.flush_in.Goals as goal
 
 may_put : (file : DataFile) (helds : List Holding) (table : List Header) → AreMadeFor file helds → IsHeaderTable file.layout file.cluster table → MayPutGroup file.layout file.cluster helds table

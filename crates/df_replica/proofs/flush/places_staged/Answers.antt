@@ -1,12 +1,9 @@
 -- A request of a client that has no session yet takes one place more.
 use Rattle.std.proofs.Common.{◌≡◌, ◌<◌, ◌+◌, List, length, refl, ap, arith}
 use Rattle.df_opening.specs.Below.{asker_of}
-use Rattle.df_theory.specs.Sessions.{noted}
-use Rattle.df_theory.specs.Units.{Session}
-use Rattle.df_replica.specs.Flushing.{sessions_staged}
-use Rattle.df_replica.proofs.StageTests.{count_one, request_at, staged_more}
+use Rattle.df_theory.specs.{Sessions.{noted}, Units.{Session}}
+use Rattle.df_replica.{specs.Flushing.{sessions_staged}, proofs.{StageTests.{count_one, request_at, staged_more}, flush.places_staged.Goals.{then-is_none, else-is_none}}}
 use Rattle.df_replica.proofs.flush.places_staged.Goals as goal
-use Rattle.df_replica.proofs.flush.places_staged.Goals.{then-is_none, else-is_none}
 
 pub overflow_add-taken : goal.overflow_add-taken
 overflow_add-taken c = record { fits = omega (arith, c.loop-i.invariant.few, c.loop-i.invariant.within, c.requires.ops) }

@@ -1,21 +1,13 @@
 -- Each turn makes the prepare of the first request that is left.
 use Rattle.std.proofs.Common.{◌≡◌, ◌<◌, ◌≤◌, ◌+◌, ◌++◌, ◌∷◌, [], ℕ, List, length, drop, IsSome, refl, sym, ◌∙◌, ap, subst, arith, append-nil}
 use Rattle.df_base.proofs.Laws.{AreBytes-check_of, length-check_of}
-use Rattle.df_buffers.specs.Below.{WalPrepares}
-use Rattle.df_buffers.specs.Sounds.{Holding}
-use Rattle.df_format.specs.declared.header.Header.{Header}
-use Rattle.df_format.specs.Message.{Message}
-use Rattle.df_format.specs.Own.{own_place}
-use Rattle.df_format.specs.Spelling.{IsCheck}
+use Rattle.df_buffers.specs.{Below.{WalPrepares}, Sounds.{Holding}}
+use Rattle.df_format.specs.{declared.header.Header.{Header}, Message.{Message}, Own.{own_place}, Spelling.{IsCheck}}
 use Rattle.df_layout.specs.declared.layout.Layout.{Layout}
 use Rattle.df_journal.specs.Flush.{held_prepares}
 use Rattle.df_model.specs.Work.{Request}
 use Rattle.df_opening.specs.Below.{Staged, first_request}
-use Rattle.df_replica.specs.declared.flush.Group.{Group}
-use Rattle.df_replica.specs.Appending.{unit_made}
-use Rattle.df_replica.specs.Flushing.{AreMadeFor, IsMadeFor, MaySeal, group_prepares, header_in, request_made}
-use Rattle.df_replica.proofs.FlushUnits.{first_there, length_later, seal_on, units_turn}
-use Rattle.df_replica.proofs.StageTests.{get_pushed}
+use Rattle.df_replica.{specs.{declared.flush.Group.{Group}, Appending.{unit_made}, Flushing.{AreMadeFor, IsMadeFor, MaySeal, group_prepares, header_in, request_made}}, proofs.{FlushUnits.{first_there, length_later, seal_on, units_turn}, StageTests.{get_pushed}}}
 use Rattle.df_replica.proofs.flush.seal_all.Goals as goal
 
 -- nothing is left

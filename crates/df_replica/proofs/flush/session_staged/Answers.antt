@@ -1,15 +1,10 @@
 -- The table's session, and each staged request of the client in place of the one before it.
-use Rattle.std.proofs.Common.{◌≡◌, ◌+◌, ◌==◌, false, Some, refl, sym, ap, ◌∙◌, arith, ne_eqb}
-use Rattle.std.specs.Prelude.{option_map}
-use Rattle.std.specs.List.{position}
+use Rattle.std.{proofs.Common.{◌≡◌, ◌+◌, ◌==◌, false, Some, refl, sym, ap, ◌∙◌, arith, ne_eqb}, specs.{Prelude.{option_map}, List.{position}}}
 use Rattle.df_model.specs.Refusals.{session_of_client}
 use Rattle.df_opening.specs.Below.{asker_of}
 use Rattle.df_sessions.specs.declared.session.Session as told
-use Rattle.df_sessions.specs.Requests.{session_of}
-use Rattle.df_sessions.specs.Table.{has_client}
-use Rattle.df_replica.specs.Flushing.{sessions_staged}
-use Rattle.df_replica.proofs.AppendTests.{session_found, small_session, each_small}
-use Rattle.df_replica.proofs.StageTests.{other_session, own_session, request_at, staged_more}
+use Rattle.df_sessions.specs.{Requests.{session_of}, Table.{has_client}}
+use Rattle.df_replica.{specs.Flushing.{sessions_staged}, proofs.{AppendTests.{session_found, small_session, each_small}, StageTests.{other_session, own_session, request_at, staged_more}}}
 use Rattle.df_replica.proofs.flush.session_staged.Goals as goal
 
 pub loop-i-init : goal.loop-i-init

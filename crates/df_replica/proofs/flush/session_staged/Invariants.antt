@@ -1,6 +1,5 @@
 -- The session is that after the requests before the index.
-use Rattle.std.proofs.Common.{◌≡◌, ◌≤◌, ◌-◌, ◌^◌}
-use Rattle.std.specs.Prelude.{IfSome, option_map}
+use Rattle.std.{proofs.Common.{◌≡◌, ◌≤◌, ◌-◌, ◌^◌}, specs.Prelude.{IfSome, option_map}}
 use Rattle.df_sessions.specs.Requests.{session_of}
 use Rattle.df_model.specs.Refusals.{session_of_client}
 use Rattle.df_replica.specs.Flushing.{sessions_staged}

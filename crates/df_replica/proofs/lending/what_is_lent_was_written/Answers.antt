@@ -1,5 +1,4 @@
-use Rattle.df_replica.proofs.LentCalls.{call_is_own, call_is_the_one, struck_reads_are_own}
-use Rattle.df_replica.proofs.LentKept.{kept_is_written, opened_is_written_for}
+use Rattle.df_replica.proofs.{LentCalls.{call_is_own, call_is_the_one, struck_reads_are_own}, LentKept.{kept_is_written, opened_is_written_for}}
 use Rattle.df_replica.proofs.lending.what_is_lent_was_written.Goals as goal
 
 pub returns-clause-call : goal.returns-clause-call

@@ -1,12 +1,10 @@
 -- What the room holds is what the image shows.
-use Rattle.std.proofs.Common.{subst}
-use Rattle.std.specs.Prelude.{IfOk}
+use Rattle.std.{proofs.Common.{subst}, specs.Prelude.{IfOk}}
 use Rattle.df_layout.specs.declared.places.Place.{Place}
 use Rattle.df_format.specs.declared.kind.Kind.TheVariants.{Reply}
 use Rattle.df_buffers.specs.declared.identity.Identity.{Identity}
 use Rattle.df_places.specs.Shelves.{HoldsFound, IsRead}
-use Rattle.df_replica.proofs.LookupFinds.{if_tells}
-use Rattle.df_replica.proofs.ReadFinds.{wanted_at}
+use Rattle.df_replica.proofs.{LookupFinds.{if_tells}, ReadFinds.{wanted_at}}
 use Rattle.df_replica.proofs.lookup.load_known.Goals as goal
 
 pub returns-clause-tells : goal.returns-clause-tells

@@ -1,13 +1,10 @@
 -- What was found is held, and shown.
-use Rattle.std.proofs.Common.{Option, Result, Ok, Err, subst}
-use Rattle.std.specs.Prelude.{IfOk}
+use Rattle.std.{proofs.Common.{Option, Result, Ok, Err, subst}, specs.Prelude.{IfOk}}
 use Rattle.df_base.specs.declared.Failed.{Failed}
 use Rattle.df_disk.specs.Told.{Told}
 use Rattle.df_layout.specs.declared.damage.Class.{Class}
-use Rattle.df_format.specs.declared.kind.Kind.{Kind}
-use Rattle.df_format.specs.declared.kind.Kind.TheVariants.{Prepare}
-use Rattle.df_buffers.specs.declared.identity.Identity.{Identity}
-use Rattle.df_buffers.specs.Sounds.{Holding}
+use Rattle.df_format.specs.{declared.kind.Kind.{Kind}, declared.kind.Kind.TheVariants.{Prepare}}
+use Rattle.df_buffers.specs.{declared.identity.Identity.{Identity}, Sounds.{Holding}}
 use Rattle.df_places.specs.Shelves.{HoldsFound, IsRead}
 use Rattle.df_replica.specs.Reading.{IsLoaded}
 use Rattle.df_replica.proofs.reading.load_prepare.Goals as goal

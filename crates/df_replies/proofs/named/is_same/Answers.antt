@@ -1,9 +1,7 @@
 -- Two checksums are equal where they are one number.
-use Rattle.std.proofs.Common.{sym, ◌∙◌, ap}
-use Rattle.std.proofs.lemmas.Slice.Eq.{bytes_eq-Decides}
+use Rattle.std.proofs.{Common.{sym, ◌∙◌, ap}, lemmas.Slice.Eq.{bytes_eq-Decides}}
 use Rattle.df_format.specs.Spelling.{IsCheck}
-use Rattle.df_units.proofs.Laws.{one_number}
-use Rattle.df_units.specs.Meaning.{number_of}
+use Rattle.df_units.{proofs.Laws.{one_number}, specs.Meaning.{number_of}}
 use Rattle.df_replies.proofs.named.is_same.Goals as goal
 
 pub returns : goal.returns

@@ -1,15 +1,11 @@
 -- A sound reply stands in its own slot.
 use Rattle.std.proofs.Common.{◌≡◌, ap, refl, subst, sym, ◌∙◌}
 use Rattle.df_layout.specs.declared.places.Place.{Place}
-use Rattle.df_format.specs.declared.header.Header.{Header}
-use Rattle.df_format.specs.Valid.{IsUnit}
-use Rattle.df_theory.specs.Device.{AreSteps}
-use Rattle.df_theory.specs.Units.{ReplyPlace, ReplyUnit}
-use Rattle.df_units.specs.Format.{format_of}
-use Rattle.df_units.specs.Meaning.{message_of}
+use Rattle.df_format.specs.{declared.header.Header.{Header}, Valid.{IsUnit}}
+use Rattle.df_theory.specs.{Device.{AreSteps}, Units.{ReplyPlace, ReplyUnit}}
+use Rattle.df_units.specs.{Format.{format_of}, Meaning.{message_of}}
 use Rattle.df_places.specs.Units.{unit_events, unit_steps}
-use Rattle.df_replies.specs.Slots.{reply_place}
-use Rattle.df_replies.proofs.Own.{in_own_slot}
+use Rattle.df_replies.{specs.Slots.{reply_place}, proofs.Own.{in_own_slot}}
 use Rattle.df_replies.proofs.slot.write_reply.Goals as goal
 
 pub write_unit-requires-clause-own : goal.write_unit-requires-clause-own

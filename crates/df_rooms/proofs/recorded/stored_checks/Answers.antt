@@ -1,7 +1,5 @@
 -- Once all places were passed, all are filled.
-use Rattle.std.proofs.Common.{[], rules}
-use Rattle.std.specs.List.{slice_get}
-use Rattle.std.proofs.lemmas.List.FromFn.{fill_by_all}
+use Rattle.std.{proofs.{Common.{[], rules}, lemmas.List.FromFn.{fill_by_all}}, specs.List.{slice_get}}
 use Rattle.df_rooms.specs.Recorded.{stored_check, stored_checks}
 use Rattle.df_rooms.proofs.recorded.stored_checks.Goals as goal
 

@@ -1,6 +1,5 @@
 -- The places that were passed have the checksums of their replies.
-use Rattle.std.proofs.Common.{◌≡◌, ◌<◌, ℕ, [], get_or, length}
-use Rattle.std.specs.List.{slice_get}
+use Rattle.std.{proofs.Common.{◌≡◌, ◌<◌, ℕ, [], get_or, length}, specs.List.{slice_get}}
 use Rattle.df_rooms.specs.Recorded.{stored_check}
 use Rattle.df_rooms.proofs.recorded.stored_checks.Given as goal
 

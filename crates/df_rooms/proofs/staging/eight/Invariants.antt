@@ -1,6 +1,5 @@
 -- Each turn adds a room, and there is a place for it.
-use Rattle.std.proofs.Common.{◌≤◌, ◌-◌, length}
-use Rattle.std.specs.Prelude.{vec_capacity}
+use Rattle.std.{proofs.Common.{◌≤◌, ◌-◌, length}, specs.Prelude.{vec_capacity}}
 use Rattle.df_rooms.specs.Stagings.{AreFree}
 use Rattle.df_rooms.proofs.staging.eight.Given as goal
 

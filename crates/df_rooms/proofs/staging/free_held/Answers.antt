@@ -1,6 +1,5 @@
 use Rattle.std.proofs.Common.{◌∙◌}
-use Rattle.df_rooms.specs.declared.staging.Held.{Held}
-use Rattle.df_rooms.proofs.Stagings.{moved_all, moved_fit}
+use Rattle.df_rooms.{specs.declared.staging.Held.{Held}, proofs.Stagings.{moved_all, moved_fit}}
 use Rattle.df_rooms.proofs.staging.free_held.Goals as goal
 
 pub loop-free-preserved : goal.loop-free-preserved

@@ -1,6 +1,5 @@
 -- Each turn moves one room to the free ones.
-use Rattle.std.proofs.Common.{◌≡◌, ◌+◌, length}
-use Rattle.std.specs.Prelude.{vec_capacity}
+use Rattle.std.{proofs.Common.{◌≡◌, ◌+◌, length}, specs.Prelude.{vec_capacity}}
 use Rattle.df_layout.specs.declared.layout.Layout.{Layout}
 use Rattle.df_rooms.specs.Stagings.{AreFree, AreHeld}
 use Rattle.df_rooms.proofs.staging.free_held.Given as goal

@@ -1,6 +1,5 @@
 use Rattle.std.proofs.Common.{◌∙◌, ap}
-use Rattle.df_buffers.specs.Rooms.{Room}
-use Rattle.df_buffers.specs.Sounds.{Holding}
+use Rattle.df_buffers.specs.{Rooms.{Room}, Sounds.{Holding}}
 use Rattle.df_rooms.proofs.Stagings.{moved_all, moved_fit}
 use Rattle.df_rooms.proofs.staging.free_units.Goals as goal
 

@@ -1,6 +1,5 @@
 -- The first of the zeros are zeros.
-use Rattle.std.proofs.Common.{◌++◌, ℕ, List, ap, ◌∙◌, arith}
-use Rattle.std.proofs.lemmas.List.{take-replicate}
+use Rattle.std.proofs.{Common.{◌++◌, ℕ, List, ap, ◌∙◌, arith}, lemmas.List.{take-replicate}}
 use Rattle.df_rows.proofs.bytes.put_zeros.Goals as goal
 
 pub returns-clause-put : goal.returns-clause-put

@@ -1,7 +1,6 @@
 -- What stands after the first byte is a key.
 use Rattle.std.proofs.Common.{◌∷◌, List, ℕ, length, ap, sym, ◌∙◌, arith}
-use Rattle.df_base.specs.Fields.{spelled}
-use Rattle.df_base.proofs.Laws.{length-spelled}
+use Rattle.df_base.{specs.Fields.{spelled}, proofs.Laws.{length-spelled}}
 use Rattle.df_rows.proofs.Bodies.{key_alone}
 use Rattle.df_rows.proofs.command.drop_in.Goals as goal
 

@@ -1,11 +1,8 @@
 -- What stands after the first byte is a key and a value.
-use Rattle.std.proofs.Common.{◌∷◌, ◌++◌, ℕ, List, ap, sym, ◌∙◌, arith}
-use Rattle.std.proofs.lemmas.List.{take_rest}
+use Rattle.std.proofs.{Common.{◌∷◌, ◌++◌, ℕ, List, ap, sym, ◌∙◌, arith}, lemmas.List.{take_rest}}
 use Rattle.df_base.specs.Fields.{spelled}
-use Rattle.df_rows.specs.Rows.{Entry}
-use Rattle.df_rows.proofs.Bodies.{key_read, put_length}
+use Rattle.df_rows.{specs.Rows.{Entry}, proofs.{Bodies.{key_read, put_length}, command.put_in.Goals.{then-rest-lt-KEY-via-then-rest-lt-KEY, then-rest-lt-KEY-via-else-rest-lt-KEY+then-rest}}}
 use Rattle.df_rows.proofs.command.put_in.Goals as goal
-use Rattle.df_rows.proofs.command.put_in.Goals.{then-rest-lt-KEY-via-then-rest-lt-KEY, then-rest-lt-KEY-via-else-rest-lt-KEY+then-rest}
 
 pub returns-then-rest-lt-KEY-clause-none : goal.returns-then-rest-lt-KEY-clause-none
 returns-then-rest-lt-KEY-clause-none c = λ entry is same.

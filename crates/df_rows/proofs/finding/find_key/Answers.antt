@@ -1,8 +1,6 @@
 -- The closure gives a row's key, and the keys rise.
-use Rattle.std.proofs.Common.{rules}
-use Rattle.std.proofs.lemmas.List.Sorted.{answers_always}
-use Rattle.df_rows.specs.Rows.{Entry}
-use Rattle.df_rows.proofs.Found.{searched}
+use Rattle.std.proofs.{Common.{rules}, lemmas.List.Sorted.{answers_always}}
+use Rattle.df_rows.{specs.Rows.{Entry}, proofs.Found.{searched}}
 use Rattle.df_rows.proofs.finding.find_key.Goals as goal
 
 pub returns : goal.returns

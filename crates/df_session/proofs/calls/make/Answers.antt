@@ -1,10 +1,7 @@
 -- Each call is exact, and what is heard of its answer is what it came to.
 use Rattle.std.proofs.Common.{subst, sym}
-use Rattle.df_model.specs.Called.{command_of}
-use Rattle.df_model.specs.declared.commands.Command.{Command}
-use Rattle.df_session.specs.Endings.{KeepsTour, MakesTo}
-use Rattle.df_session.proofs.Exact.{append_called, begin_called, flush_called, release_called, reply_called, stage_called, step_called, write_called}
-use Rattle.df_session.proofs.InWords.{heard_so}
+use Rattle.df_model.specs.{Called.{command_of}, declared.commands.Command.{Command}}
+use Rattle.df_session.{specs.Endings.{KeepsTour, MakesTo}, proofs.{Exact.{append_called, begin_called, flush_called, release_called, reply_called, stage_called, step_called, write_called}, InWords.{heard_so}}}
 use Rattle.df_session.proofs.calls.make.Goals as goal
 
 pub returns-in-Append : goal.returns-in-Append

@@ -1,6 +1,5 @@
 -- The laws are proved.
-use Rattle.df_session.proofs.Agreed.{next_same}
-use Rattle.df_session.proofs.Folds.{result_agrees}
+use Rattle.df_session.proofs.{Agreed.{next_same}, Folds.{result_agrees}}
 use Rattle.df_session.proofs.results.what_agrees_is_not_told_apart.Goals as goal
 
 pub returns-clause-next : goal.returns-clause-next

@@ -1,6 +1,5 @@
 use Rattle.std.proofs.Common.{arith}
-use Rattle.df_superblock.proofs.Mended.{keeps_members, repairs_unless_misled, ends_repaired}
-use Rattle.df_superblock.proofs.Stepped.{repair_is_steps}
+use Rattle.df_superblock.proofs.{Mended.{keeps_members, repairs_unless_misled, ends_repaired}, Stepped.{repair_is_steps}}
 use Rattle.df_superblock.proofs.repairs.repair.Goals as goal
 
 pub returns-clause-steps : goal.returns-clause-steps

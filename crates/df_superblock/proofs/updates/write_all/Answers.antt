@@ -1,5 +1,4 @@
-use Rattle.df_superblock.proofs.Written.{updates_safely, ends_shown, ends_equal}
-use Rattle.df_superblock.proofs.Stepped.{update_is_steps}
+use Rattle.df_superblock.proofs.{Written.{updates_safely, ends_shown, ends_equal}, Stepped.{update_is_steps}}
 use Rattle.df_superblock.proofs.updates.write_all.Goals as goal
 
 pub returns-clause-steps : goal.returns-clause-steps

@@ -1,11 +1,7 @@
 -- The append isn't refused but for want of ops, and the reply to it not at all.
 use Rattle.std.proofs.Common.{◌∙◌, [], ap}
-use Rattle.df_session.specs.Below.{State as Replica, memory}
-use Rattle.df_table.proofs.Changed.{append_ends, both_made, reply_ends}
-use Rattle.df_table.proofs.Fine.{may_answer, may_store}
-use Rattle.df_table.proofs.Stored.{ready_stored}
-use Rattle.df_table.specs.Policy.{request}
-use Rattle.df_session.specs.Replying.{next_reply}
+use Rattle.df_session.specs.{Below.{State as Replica, memory}, Replying.{next_reply}}
+use Rattle.df_table.{proofs.{Changed.{append_ends, both_made, reply_ends}, Fine.{may_answer, may_store}, Stored.{ready_stored}}, specs.Policy.{request}}
 use Rattle.df_table.proofs.appending.store.Goals as goal
 
 pub append-requires : goal.append-requires

@@ -1,13 +1,8 @@
 -- The prepare was appended, no op is left, or the call has no answer.
 use Rattle.std.proofs.Common.{ap, subst, sym, ℕ, Err, Ok}
-use Rattle.df_model.specs.Commands.{Append}
-use Rattle.df_model.specs.declared.answers.Receipt.{Receipt}
-use Rattle.df_session.specs.Appending.{next_unit, with_prepare_appended}
-use Rattle.df_session.proofs.Laws.{append_called}
-use Rattle.df_table.specs.declared.ending.Ending.{Ending}
-use Rattle.df_table.specs.Calls.{MayAppendCommand}
-use Rattle.df_table.specs.Policy.{the_client}
-use Rattle.df_table.proofs.Called.{Takes, append_takes}
+use Rattle.df_model.specs.{Commands.{Append}, declared.answers.Receipt.{Receipt}}
+use Rattle.df_session.{specs.Appending.{next_unit, with_prepare_appended}, proofs.Laws.{append_called}}
+use Rattle.df_table.{specs.{declared.ending.Ending.{Ending}, Calls.{MayAppendCommand}, Policy.{the_client}}, proofs.Called.{Takes, append_takes}}
 use Rattle.df_table.proofs.calls.append.Goals as goal
 
 pub returns-in-Ok : goal.returns-in-Ok

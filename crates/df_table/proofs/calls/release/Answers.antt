@@ -1,8 +1,7 @@
 -- The call was made and accepted.
 use Rattle.std.proofs.Common.{Option, ap, ◌∙◌}
 use Rattle.df_disk.specs.Told.{Told}
-use Rattle.df_session.specs.Below.{State as Replica}
-use Rattle.df_session.proofs.Laws.{release_called}
+use Rattle.df_session.{specs.Below.{State as Replica}, proofs.Laws.{release_called}}
 use Rattle.df_table.proofs.Called.{release_takes}
 use Rattle.df_table.proofs.calls.release.Goals as goal
 

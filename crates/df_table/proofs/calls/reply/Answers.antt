@@ -1,13 +1,8 @@
 -- The reply was stored, or the call has no answer.
 use Rattle.std.proofs.Common.{◌≡◌, subst, sym, [], Err, None, Ok}
-use Rattle.df_model.specs.Commands.{Reply}
-use Rattle.df_model.specs.Refusals.{first_refusal, reply_refusals}
-use Rattle.df_session.specs.Below.{memory}
-use Rattle.df_session.specs.Replying.{next_reply, with_stored_reply}
-use Rattle.df_session.proofs.Laws.{reply_called}
-use Rattle.df_table.specs.declared.ending.Ending.{Ending}
-use Rattle.df_table.specs.declared.ending.Ending.TheVariants.{Disk}
-use Rattle.df_table.proofs.Called.{Takes, reply_fails, reply_takes}
+use Rattle.df_model.specs.{Commands.{Reply}, Refusals.{first_refusal, reply_refusals}}
+use Rattle.df_session.{specs.{Below.{memory}, Replying.{next_reply, with_stored_reply}}, proofs.Laws.{reply_called}}
+use Rattle.df_table.{specs.{declared.ending.Ending.{Ending}, declared.ending.Ending.TheVariants.{Disk}}, proofs.Called.{Takes, reply_fails, reply_takes}}
 use Rattle.df_table.proofs.calls.reply.Goals as goal
 
 pub returns-in-Ok : goal.returns-in-Ok

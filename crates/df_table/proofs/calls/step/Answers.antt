@@ -1,13 +1,8 @@
 -- The step was taken, or the call has no answer.
-use Rattle.std.proofs.Common.{subst, sym, Bool, [], ◌∷◌, ◌≡◌, true, Result}
-use Rattle.std.specs.Prelude.{IfErr, IfOk, OnOk}
+use Rattle.std.{proofs.Common.{subst, sym, Bool, [], ◌∷◌, ◌≡◌, true, Result}, specs.Prelude.{IfErr, IfOk, OnOk}}
 use Rattle.df_base.specs.Causes.{IsBlamed}
 use Rattle.df_model.specs.Commands.{Advance}
-use Rattle.df_table.specs.declared.ending.Ending.{Ending}
-use Rattle.df_table.specs.Calls.{CheckpointStepped, Comes}
-use Rattle.df_table.specs.Statuses.{is_disk}
-use Rattle.df_table.specs.Turns.{IsOfCall}
-use Rattle.df_table.proofs.Called.{step_takes}
+use Rattle.df_table.{specs.{declared.ending.Ending.{Ending}, Calls.{CheckpointStepped, Comes}, Statuses.{is_disk}, Turns.{IsOfCall}}, proofs.Called.{step_takes}}
 use Rattle.df_table.proofs.calls.step.Goals as goal
 
 pub returns : goal.returns

@@ -1,12 +1,8 @@
 -- The block was written, or the call has no answer.
 use Rattle.std.proofs.Common.{◌≡◌, subst, sym, Err, None, Ok}
-use Rattle.df_model.specs.Commands.{WriteBlock}
-use Rattle.df_model.specs.Refusals.{block_refusals, first_refusal}
-use Rattle.df_session.specs.Below.{memory}
-use Rattle.df_session.specs.Blocks.{next_block, written}
-use Rattle.df_session.proofs.Laws.{write_called}
-use Rattle.df_table.specs.declared.ending.Ending.{Ending}
-use Rattle.df_table.proofs.Called.{Takes, write_takes}
+use Rattle.df_model.specs.{Commands.{WriteBlock}, Refusals.{block_refusals, first_refusal}}
+use Rattle.df_session.{specs.{Below.{memory}, Blocks.{next_block, written}}, proofs.Laws.{write_called}}
+use Rattle.df_table.{specs.declared.ending.Ending.{Ending}, proofs.Called.{Takes, write_takes}}
 use Rattle.df_table.proofs.calls.write.Goals as goal
 
 pub returns-in-Ok : goal.returns-in-Ok

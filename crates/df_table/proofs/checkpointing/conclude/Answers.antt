@@ -1,15 +1,8 @@
 -- The checkpoint is begun, and then finished.
-use Rattle.std.proofs.Common.{[], refl, subst, sym, ap}
-use Rattle.std.specs.Prelude.{OnOk}
+use Rattle.std.{proofs.Common.{[], refl, subst, sym, ap}, specs.Prelude.{OnOk}}
 use Rattle.df_base.specs.Causes.{Blamed}
-use Rattle.df_session.specs.Beginning.{captured}
-use Rattle.df_session.specs.Below.{State as Replica}
-use Rattle.df_table.specs.declared.ending.Ending.{Ending}
-use Rattle.df_table.specs.Calls.{IsCheckpointing}
-use Rattle.df_table.specs.Ready.{IsFinished}
-use Rattle.df_table.specs.Statuses.{is_disk}
-use Rattle.df_table.specs.Turns.{IsOfCall}
-use Rattle.df_table.proofs.Finished.{concluded}
+use Rattle.df_session.specs.{Beginning.{captured}, Below.{State as Replica}}
+use Rattle.df_table.{specs.{declared.ending.Ending.{Ending}, Calls.{IsCheckpointing}, Ready.{IsFinished}, Statuses.{is_disk}, Turns.{IsOfCall}}, proofs.Finished.{concluded}}
 use Rattle.df_table.proofs.checkpointing.conclude.Goals as goal
 
 pub finish-requires : goal.finish-requires

@@ -1,11 +1,9 @@
 -- The blocks are written, and then made durable.
 use Rattle.std.proofs.Common.{◌∙◌, ap}
 use Rattle.std.specs.FinMap as map
-use Rattle.df_rows.specs.Limits.{block_count, rows_in_block}
-use Rattle.df_rows.proofs.Laws.{tables_fit}
+use Rattle.df_rows.{specs.Limits.{block_count, rows_in_block}, proofs.Laws.{tables_fit}}
 use Rattle.df_session.specs.Below.{State as Replica}
-use Rattle.df_table.proofs.Changed.{goes_on}
-use Rattle.df_table.proofs.Finished.{fill_ends, filled, free_emptied, may_conclude, room_made}
+use Rattle.df_table.proofs.{Changed.{goes_on}, Finished.{fill_ends, filled, free_emptied, may_conclude, room_made}}
 use Rattle.df_table.proofs.checkpointing.fill.Goals as goal
 
 pub conclude-requires : goal.conclude-requires

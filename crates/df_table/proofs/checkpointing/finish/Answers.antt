@@ -1,10 +1,7 @@
 -- Each turn takes one step more.
 use Rattle.std.proofs.Common.{◌+◌, ◌∙◌, ℕ, Bool, refl, subst}
 use Rattle.df_base.specs.Causes.{Blamed}
-use Rattle.df_table.specs.Calls.{CheckpointStepped}
-use Rattle.df_table.specs.Statuses.{is_disk}
-use Rattle.df_table.proofs.Joined.{make_none}
-use Rattle.df_table.proofs.Steps.{fewer, one_step_ends, one_step_more, still_runs, under_done, under_more, under_start}
+use Rattle.df_table.{specs.{Calls.{CheckpointStepped}, Statuses.{is_disk}}, proofs.{Joined.{make_none}, Steps.{fewer, one_step_ends, one_step_more, still_runs, under_done, under_more, under_start}}}
 use Rattle.df_table.proofs.checkpointing.finish.Goals as goal
 
 pub loop-done-init : goal.loop-done-init

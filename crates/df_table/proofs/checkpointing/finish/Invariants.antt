@@ -1,11 +1,8 @@
 -- The steps so far were taken, and the checkpoint runs on.
-use Rattle.std.proofs.Common.{◌≡◌, ℕ, true, length}
-use Rattle.std.specs.Prelude.{replicate, Some}
+use Rattle.std.{proofs.Common.{◌≡◌, ℕ, true, length}, specs.Prelude.{replicate, Some}}
 use Rattle.df_model.specs.Commands.{Advance}
 use Rattle.df_session.specs.Below.{RunningState}
-use Rattle.df_table.specs.Calls.{IsCheckpointing}
-use Rattle.df_table.specs.Turns.{MakeAll}
-use Rattle.df_table.proofs.Steps.{IsUnder}
+use Rattle.df_table.{specs.{Calls.{IsCheckpointing}, Turns.{MakeAll}}, proofs.Steps.{IsUnder}}
 use Rattle.df_table.proofs.checkpointing.finish.Given as goal
 
 abbrev pub invariant-loop-done : goal.invariant-loop-done

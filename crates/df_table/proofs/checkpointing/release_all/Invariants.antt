@@ -1,8 +1,7 @@
 -- The blocks up to an address are released.
 use Rattle.std.proofs.Common.{◌≡◌, Option, true}
 use Rattle.df_disk.specs.Told.{Told}
-use Rattle.df_table.specs.Ready.{IsReadyReplica}
-use Rattle.df_table.proofs.Released.{IsReleasing}
+use Rattle.df_table.{specs.Ready.{IsReadyReplica}, proofs.Released.{IsReleasing}}
 use Rattle.df_table.proofs.checkpointing.release_all.Given as goal
 
 abbrev pub invariant-loop-before : goal.invariant-loop-before

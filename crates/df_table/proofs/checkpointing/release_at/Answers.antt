@@ -1,8 +1,7 @@
 -- The block is let go where one is live, and else nothing is done.
 use Rattle.std.proofs.Common.{ap, sym}
 use Rattle.df_model.specs.Work.{is_known}
-use Rattle.df_table.proofs.Changed.{goes_or_ends}
-use Rattle.df_table.proofs.Released.{release_none, release_some, released_none}
+use Rattle.df_table.proofs.{Changed.{goes_or_ends}, Released.{release_none, release_some, released_none}}
 use Rattle.df_table.proofs.checkpointing.release_at.Goals as goal
 
 pub release-requires : goal.release-requires

@@ -1,11 +1,8 @@
 -- The rows of the block are the body that is written.
-use Rattle.std.proofs.Common.{ℕ, List, [], ◌∷◌, take, subst, arith}
-use Rattle.std.proofs.lemmas.List.{length-take-le}
+use Rattle.std.proofs.{Common.{ℕ, List, [], ◌∷◌, take, subst, arith}, lemmas.List.{length-take-le}}
 use Rattle.df_model.specs.Commands.{WriteBlock}
 use Rattle.df_session.specs.Blocks.{next_block}
-use Rattle.df_table.specs.Calls.{Comes}
-use Rattle.df_table.proofs.Changed.{goes_or_ends}
-use Rattle.df_table.proofs.Wrote.{may_put, wrote_one}
+use Rattle.df_table.{specs.Calls.{Comes}, proofs.{Changed.{goes_or_ends}, Wrote.{may_put, wrote_one}}}
 use Rattle.df_table.proofs.checkpointing.write_rows.Goals as goal
 
 pub returns-clause-makes : goal.returns-clause-makes

@@ -5,10 +5,7 @@ use Rattle.df_base.specs.Causes.{Blamed}
 use Rattle.df_model.specs.Commands.{Command}
 use Rattle.df_rows.specs.Limits.{block_count, rows_in_block}
 use Rattle.df_session.specs.Below.{State as Replica}
-use Rattle.df_table.specs.Ready.{WroteBlocks}
-use Rattle.df_table.specs.Statuses.{is_disk}
-use Rattle.df_table.specs.Turns.{EndIn, MakeAll}
-use Rattle.df_table.proofs.Wrote.{all_puts, free_next, writing_all, writing_ends, writing_more, writing_none, wrote_more, wrote_none}
+use Rattle.df_table.{specs.{Ready.{WroteBlocks}, Statuses.{is_disk}, Turns.{EndIn, MakeAll}}, proofs.Wrote.{all_puts, free_next, writing_all, writing_ends, writing_more, writing_none, wrote_more, wrote_none}}
 use Rattle.df_table.proofs.checkpointing.write_table.Goals as goal
 
 pub loop-block-init : goal.loop-block-init

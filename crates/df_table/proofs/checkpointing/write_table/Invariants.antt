@@ -2,8 +2,7 @@
 use Rattle.std.proofs.Common.{◌≡◌, ◌*◌, ◌≤◌, true, length}
 use Rattle.std.specs.FinMap as map
 use Rattle.df_rows.specs.Limits.{block_count, rows_in_block}
-use Rattle.df_table.specs.Ready.{HasFree, WroteBlocks}
-use Rattle.df_table.proofs.Wrote.{IsWriting}
+use Rattle.df_table.{specs.Ready.{HasFree, WroteBlocks}, proofs.Wrote.{IsWriting}}
 use Rattle.df_table.proofs.checkpointing.write_table.Given as goal
 
 abbrev pub invariant-loop-block : goal.invariant-loop-block

@@ -1,10 +1,8 @@
 -- A failing disk has no line.
 use Rattle.std.proofs.Common.{List, ℕ, sym, subst, Ok}
 use Rattle.df_base.specs.declared.Failed.{Failed}
-use Rattle.df_inspect.proofs.Laws.{appends_none}
-use Rattle.df_inspect.specs.Prints.{Prints}
-use Rattle.df_table.specs.declared.ending.Ending.{Ending}
-use Rattle.df_table.specs.Statuses.{ending_text}
+use Rattle.df_inspect.{proofs.Laws.{appends_none}, specs.Prints.{Prints}}
+use Rattle.df_table.specs.{declared.ending.Ending.{Ending}, Statuses.{ending_text}}
 use Rattle.df_table.proofs.ending.print_ending.Goals as goal
 
 pub returns-in-Disk-clause-prints : goal.returns-in-Disk-clause-prints

@@ -1,12 +1,10 @@
 -- The probe reads alone, so that what is said of the file is said from the start on.
-use Rattle.std.proofs.Common.{◌≡◌, inr, subst}
-use Rattle.std.specs.Prelude.{Option, Some, Ok}
+use Rattle.std.{proofs.Common.{◌≡◌, inr, subst}, specs.Prelude.{Option, Some, Ok}}
 use Rattle.df_base.specs.Image.{IsImage}
 use Rattle.df_disk.specs.Told.{Told}
 use Rattle.df_layout.specs.declared.layout.Layout.{Layout}
 use Rattle.df_session.specs.Below.{TellsLayout}
-use Rattle.df_table.specs.Outside.{Outside}
-use Rattle.df_table.specs.Run.{DoesTable}
+use Rattle.df_table.specs.{Outside.{Outside}, Run.{DoesTable}}
 use Rattle.df_table.proofs.engine.run_file.Goals as goal
 
 pub returns-in-Ok-reserve-clause-runs : goal.returns-in-Ok-reserve-clause-runs

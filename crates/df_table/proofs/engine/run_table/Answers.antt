@@ -1,6 +1,5 @@
 -- The words are the table's, or they aren't: the clauses of the other say nothing.
-use Rattle.std.proofs.Common.{sym, ◌∙◌}
-use Rattle.std.proofs.lemmas.Bool.{false≢true}
+use Rattle.std.proofs.{Common.{sym, ◌∙◌}, lemmas.Bool.{false≢true}}
 use Rattle.df_table.proofs.engine.run_table.Goals as goal
 
 -- ---- the word of the table

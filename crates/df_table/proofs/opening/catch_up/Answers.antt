@@ -1,15 +1,9 @@
 -- Each turn replies to the op that waits the longest.
-use Rattle.std.proofs.Common.{◌≡◌, ◌∙◌, ◌+◌, ◌-◌, ◌<◌, ◌≤◌, ℕ, [], map, ap, arith, refl, subst, sym}
-use Rattle.std.specs.List.{range_with_len}
+use Rattle.std.{proofs.Common.{◌≡◌, ◌∙◌, ◌+◌, ◌-◌, ◌<◌, ◌≤◌, ℕ, [], map, ap, arith, refl, subst, sym}, specs.List.{range_with_len}}
 use Rattle.df_base.specs.Causes.{Blamed}
-use Rattle.df_model.specs.Commands.{Reply}
-use Rattle.df_model.specs.declared.answers.Summary.{Summary}
-use Rattle.df_session.specs.Replying.{next_reply}
-use Rattle.df_session.specs.Below.{memory}
-use Rattle.df_table.specs.Policy.{replies}
-use Rattle.df_table.specs.Statuses.{is_disk}
-use Rattle.df_table.proofs.Begun.{HasReplied, caught_up, may_catch, replied_more, replied_none}
-use Rattle.df_table.proofs.Making.{IsMaking, all_counted, counted_ends, counted_more, making_none}
+use Rattle.df_model.specs.{Commands.{Reply}, declared.answers.Summary.{Summary}}
+use Rattle.df_session.specs.{Replying.{next_reply}, Below.{memory}}
+use Rattle.df_table.{specs.{Policy.{replies}, Statuses.{is_disk}}, proofs.{Begun.{HasReplied, caught_up, may_catch, replied_more, replied_none}, Making.{IsMaking, all_counted, counted_ends, counted_more, making_none}}}
 use Rattle.df_table.proofs.opening.catch_up.Goals as goal
 
 pub loop-before-init : goal.loop-before-init

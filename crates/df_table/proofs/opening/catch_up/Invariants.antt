@@ -1,11 +1,8 @@
 -- The ops so far have their replies.
-use Rattle.std.proofs.Common.{◌≡◌, ◌+◌, ◌-◌, [], map, true}
-use Rattle.std.specs.List.{range_with_len}
+use Rattle.std.{proofs.Common.{◌≡◌, ◌+◌, ◌-◌, [], map, true}, specs.List.{range_with_len}}
 use Rattle.df_model.specs.Commands.{Reply}
 use Rattle.df_session.specs.Below.{memory}
-use Rattle.df_table.specs.Policy.{replies}
-use Rattle.df_table.proofs.Begun.{HasReplied}
-use Rattle.df_table.proofs.Making.{IsMaking}
+use Rattle.df_table.{specs.Policy.{replies}, proofs.{Begun.{HasReplied}, Making.{IsMaking}}}
 use Rattle.df_table.proofs.opening.catch_up.Given as goal
 
 abbrev pub invariant-loop-before : goal.invariant-loop-before

@@ -2,12 +2,7 @@
 use Rattle.std.proofs.Common.{◌∙◌, inl, inr, Ok, Err, Result, ap, subst}
 use Rattle.df_rows.specs.Tables.{Table}
 use Rattle.df_session.specs.Below.{State as Replica, memory}
-use Rattle.df_table.specs.declared.ending.Ending.{Ending}
-use Rattle.df_table.specs.Calls.{Comes}
-use Rattle.df_table.specs.Opening.{Found}
-use Rattle.df_table.specs.Policy.{prepare_reads, replies}
-use Rattle.df_table.specs.Ready.{HasCaughtUp}
-use Rattle.df_table.proofs.Joined.{comes_more, end_front}
+use Rattle.df_table.{specs.{declared.ending.Ending.{Ending}, Calls.{Comes}, Opening.{Found}, Policy.{prepare_reads, replies}, Ready.{HasCaughtUp}}, proofs.Joined.{comes_more, end_front}}
 use Rattle.df_table.proofs.opening.follow.Goals as goal
 
 pub take_tail-requires : goal.take_tail-requires

@@ -1,19 +1,10 @@
 -- The sessions, the blocks, and what stands after the checkpoint.
-use Rattle.std.proofs.Common.{◌∙◌, ◌++◌, inr, ℕ, [], Err, ap, subst, sym}
-use Rattle.std.specs.Prelude.{OnOk}
-use Rattle.std.proofs.lemmas.List.{length-map}
+use Rattle.std.{proofs.{Common.{◌∙◌, ◌++◌, inr, ℕ, [], Err, ap, subst, sym}, lemmas.List.{length-map}}, specs.Prelude.{OnOk}}
 use Rattle.df_layout.specs.declared.places.Zone.TheVariants.{ClientReplies}
 use Rattle.df_sessions.specs.Requests.{session_of}
 use Rattle.df_rows.specs.Tables.{Table}
-use Rattle.df_session.specs.Below.{State as Replica, memory}
-use Rattle.df_session.specs.Reading.{shown_of}
-use Rattle.df_table.specs.declared.ending.Ending.{Ending}
-use Rattle.df_table.specs.Calls.{Comes}
-use Rattle.df_table.specs.Opening.{AreTakenBlocks, FindsOf, NoneIsOther, OtherClient, place_at}
-use Rattle.df_table.specs.Policy.{block_reads, opening, prepare_reads, replies}
-use Rattle.df_table.specs.Ready.{HasCaughtUp, IsBegun}
-use Rattle.df_table.proofs.Begun.{ready_found}
-use Rattle.df_table.proofs.Joined.{comes_more, end_front, end_none}
+use Rattle.df_session.specs.{Below.{State as Replica, memory}, Reading.{shown_of}}
+use Rattle.df_table.{specs.{declared.ending.Ending.{Ending}, Calls.{Comes}, Opening.{AreTakenBlocks, FindsOf, NoneIsOther, OtherClient, place_at}, Policy.{block_reads, opening, prepare_reads, replies}, Ready.{HasCaughtUp, IsBegun}}, proofs.{Begun.{ready_found}, Joined.{comes_more, end_front, end_none}}}
 use Rattle.df_table.proofs.opening.open_table.Goals as goal
 
 -- ---- another client's session

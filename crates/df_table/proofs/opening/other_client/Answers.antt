@@ -1,6 +1,5 @@
 -- The first place that is another client's is the least one.
-use Rattle.std.proofs.Common.{◌≡◌, ◌∙◌, ℕ, length, ap, arith, subst, sym}
-use Rattle.std.proofs.lemmas.Bool.{false≢true}
+use Rattle.std.proofs.{Common.{◌≡◌, ◌∙◌, ℕ, length, ap, arith, subst, sym}, lemmas.Bool.{false≢true}}
 use borrow.Author.Count.{below_more}
 use Rattle.df_model.specs.declared.answers.Summary.{Summary}
 use Rattle.df_session.specs.Below.{memory}

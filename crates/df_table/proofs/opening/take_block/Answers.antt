@@ -1,19 +1,10 @@
 -- The block is lent, or it isn't.
 use Rattle.std.proofs.Common.{◌≡◌, ◌∙◌, [], ◌∷◌, Err, ap, subst, sym}
 use Rattle.df_base.specs.Causes.{Blamed}
-use Rattle.df_model.specs.Commands.{ReadBlock}
-use Rattle.df_model.specs.Faults.{is_read_fault}
+use Rattle.df_model.specs.{Commands.{ReadBlock}, Faults.{is_read_fault}}
 use Rattle.df_rows.specs.Tables.{Table}
-use Rattle.df_session.specs.Below.{State as Replica, memory}
-use Rattle.df_session.specs.Reading.{shown_of}
-use Rattle.df_session.specs.Stopping.{left_by}
-use Rattle.df_table.specs.declared.ending.Ending.{Ending}
-use Rattle.df_table.specs.Calls.{Comes}
-use Rattle.df_table.specs.Opening.{GivesRows, LacksRows, ReadsTableBlock, block_ending}
-use Rattle.df_table.specs.Statuses.{is_disk}
-use Rattle.df_table.proofs.BlockTaken.{block_comes, block_found_here, block_refused, block_unfound, live_there, read_blamed}
-use Rattle.df_table.proofs.BodyTaken.{body_blamed}
-use Rattle.df_table.proofs.Called.{on_ok}
+use Rattle.df_session.specs.{Below.{State as Replica, memory}, Reading.{shown_of}, Stopping.{left_by}}
+use Rattle.df_table.{specs.{declared.ending.Ending.{Ending}, Calls.{Comes}, Opening.{GivesRows, LacksRows, ReadsTableBlock, block_ending}, Statuses.{is_disk}}, proofs.{BlockTaken.{block_comes, block_found_here, block_refused, block_unfound, live_there, read_blamed}, BodyTaken.{body_blamed}, Called.{on_ok}}}
 use Rattle.df_table.proofs.opening.take_block.Goals as goal
 
 -- ---- it is

@@ -3,14 +3,8 @@ use Rattle.std.proofs.Common.{◌≡◌, ◌∙◌, ◌+◌, ◌<◌, ℕ, ap, a
 use Rattle.df_base.specs.Causes.{Blamed}
 use Rattle.df_model.specs.Blocks.{sum_at}
 use Rattle.df_rows.specs.Tables.{Table}
-use Rattle.df_session.specs.Below.{State as Replica, memory}
-use Rattle.df_session.specs.Reading.{shown_of}
-use Rattle.df_table.specs.declared.ending.Ending.{Ending}
-use Rattle.df_table.specs.declared.opening.Taken.{Taken}
-use Rattle.df_table.specs.Opening.{ReadsNext}
-use Rattle.df_table.specs.Statuses.{is_disk}
-use Rattle.df_table.proofs.Begun.{begun_entries}
-use Rattle.df_table.proofs.Taking.{IsTaking, reading_all, reading_ends, reading_more, reading_none, taking_all, taking_ends, taking_next, taking_none}
+use Rattle.df_session.specs.{Below.{State as Replica, memory}, Reading.{shown_of}}
+use Rattle.df_table.{specs.{declared.ending.Ending.{Ending}, declared.opening.Taken.{Taken}, Opening.{ReadsNext}, Statuses.{is_disk}}, proofs.{Begun.{begun_entries}, Taking.{IsTaking, reading_all, reading_ends, reading_more, reading_none, taking_all, taking_ends, taking_next, taking_none}}}
 use Rattle.df_table.proofs.opening.take_blocks.Goals as goal
 
 pub loop-before-init : goal.loop-before-init

@@ -1,18 +1,9 @@
 -- The blocks up to an address were taken.
-use Rattle.std.proofs.Common.{◌≡◌, ◌+◌, ◌-◌, ◌≤◌, length}
-use Rattle.std.specs.Prelude.{Some}
-use Rattle.std.specs.List.{range_with_len}
+use Rattle.std.{proofs.Common.{◌≡◌, ◌+◌, ◌-◌, ◌≤◌, length}, specs.{Prelude.{Some}, List.{range_with_len}}}
 use Rattle.df_disk.specs.Told.{Told}
-use Rattle.df_model.specs.Blocks.{entries}
-use Rattle.df_model.specs.Work.{Work}
-use Rattle.df_session.specs.Below.{memory}
-use Rattle.df_session.specs.Reading.{shown_of}
-use Rattle.df_table.specs.Opening.{NoneIsOther}
-use Rattle.df_table.specs.Policy.{block_reads}
-use Rattle.df_table.specs.Ready.{IsBegun}
-use Rattle.df_table.specs.Table.{empty_table}
-use Rattle.df_table.proofs.Making.{IsMaking}
-use Rattle.df_table.proofs.Taking.{IsTaking, reads_of}
+use Rattle.df_model.specs.{Blocks.{entries}, Work.{Work}}
+use Rattle.df_session.specs.{Below.{memory}, Reading.{shown_of}}
+use Rattle.df_table.{specs.{Opening.{NoneIsOther}, Policy.{block_reads}, Ready.{IsBegun}, Table.{empty_table}}, proofs.{Making.{IsMaking}, Taking.{IsTaking, reads_of}}}
 use Rattle.df_table.proofs.opening.take_blocks.Given as goal
 
 abbrev pub invariant-loop-before : goal.invariant-loop-before

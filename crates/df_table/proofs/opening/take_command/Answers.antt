@@ -1,9 +1,7 @@
 -- A command for which there is no room is none of the table's.
 use Rattle.std.proofs.Common.{Err, refl, subst, sym}
 use Rattle.df_layout.specs.declared.places.Zone.TheVariants.{WalPrepares}
-use Rattle.df_table.specs.declared.ending.Ending.{Ending}
-use Rattle.df_table.specs.Opening.{TakesCommand, place_at}
-use Rattle.df_table.proofs.Following.{no_command}
+use Rattle.df_table.{specs.{declared.ending.Ending.{Ending}, Opening.{TakesCommand, place_at}}, proofs.Following.{no_command}}
 use Rattle.df_table.proofs.opening.take_command.Goals as goal
 
 pub returns-else-can_apply : goal.returns-else-can_apply

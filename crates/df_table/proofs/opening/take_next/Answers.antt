@@ -1,12 +1,8 @@
 -- A block is read where one is live.
 use Rattle.std.proofs.Common.{◌+◌, ℕ, Option, Ok, Err, Result, ap, refl, subst, sym}
 use Rattle.df_model.specs.Work.{is_known}
-use Rattle.df_session.specs.Below.{memory}
-use Rattle.df_session.specs.Reading.{shown_of}
-use Rattle.df_table.specs.declared.ending.Ending.{Ending}
-use Rattle.df_table.specs.declared.opening.Taken.{Taken}
-use Rattle.df_table.specs.Opening.{ReadsNext}
-use Rattle.df_table.proofs.Taking.{reads_none, reads_some}
+use Rattle.df_session.specs.{Below.{memory}, Reading.{shown_of}}
+use Rattle.df_table.{specs.{declared.ending.Ending.{Ending}, declared.opening.Taken.{Taken}, Opening.{ReadsNext}}, proofs.Taking.{reads_none, reads_some}}
 use Rattle.df_table.proofs.opening.take_next.Goals as goal
 
 pub take_block-requires : goal.take_block-requires

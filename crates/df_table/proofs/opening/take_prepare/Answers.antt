@@ -2,18 +2,9 @@
 use Rattle.std.proofs.Common.{◌≡◌, ◌∙◌, ◌%◌, ℕ, [], ◌∷◌, Err, ap, arith, subst, sym}
 use Rattle.df_base.specs.Causes.{Blamed}
 use Rattle.df_layout.specs.declared.places.Zone.TheVariants.{WalPrepares}
-use Rattle.df_model.specs.Commands.{ReadPrepare}
-use Rattle.df_model.specs.Faults.{is_prepare_fault}
-use Rattle.df_session.specs.Below.{State as Replica, memory}
-use Rattle.df_session.specs.Reading.{shown_of}
-use Rattle.df_session.specs.Stopping.{left_by}
-use Rattle.df_table.specs.declared.ending.Ending.{Ending}
-use Rattle.df_table.proofs.BodyTaken.{body_blamed}
-use Rattle.df_table.proofs.Called.{on_ok}
-use Rattle.df_table.specs.Calls.{Comes}
-use Rattle.df_table.specs.Opening.{GivesCommand, LacksCommand, ReadsPrepare, TakesCommand, place_at, prepare_ending}
-use Rattle.df_table.specs.Statuses.{is_disk}
-use Rattle.df_table.proofs.PrepareTaken.{kept_there, prepare_comes, prepare_found_here, prepare_refused, prepare_unfound, unread_blamed}
+use Rattle.df_model.specs.{Commands.{ReadPrepare}, Faults.{is_prepare_fault}}
+use Rattle.df_session.specs.{Below.{State as Replica, memory}, Reading.{shown_of}, Stopping.{left_by}}
+use Rattle.df_table.{specs.{declared.ending.Ending.{Ending}, Calls.{Comes}, Opening.{GivesCommand, LacksCommand, ReadsPrepare, TakesCommand, place_at, prepare_ending}, Statuses.{is_disk}}, proofs.{BodyTaken.{body_blamed}, Called.{on_ok}, PrepareTaken.{kept_there, prepare_comes, prepare_found_here, prepare_refused, prepare_unfound, unread_blamed}}}
 use Rattle.df_table.proofs.opening.take_prepare.Goals as goal
 
 -- ---- it is

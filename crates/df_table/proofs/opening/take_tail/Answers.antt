@@ -1,18 +1,9 @@
 -- Each turn applies the command of the next prepare.
-use Rattle.std.proofs.Common.{◌≡◌, ◌∙◌, ◌+◌, ◌-◌, ◌<◌, ◌≤◌, ℕ, map, ap, arith, refl, subst, sym, Result, Ok, Err}
-use Rattle.std.specs.List.{range_with_len}
+use Rattle.std.{proofs.Common.{◌≡◌, ◌∙◌, ◌+◌, ◌-◌, ◌<◌, ◌≤◌, ℕ, map, ap, arith, refl, subst, sym, Result, Ok, Err}, specs.List.{range_with_len}}
 use Rattle.df_base.specs.Causes.{Blamed}
-use Rattle.df_model.specs.Commands.{ReadPrepare}
-use Rattle.df_model.specs.declared.answers.Summary.{Summary}
-use Rattle.df_session.specs.Below.{State as Replica, memory}
-use Rattle.df_session.specs.Reading.{shown_of}
-use Rattle.df_table.specs.declared.ending.Ending.{Ending}
-use Rattle.df_table.specs.Opening.{AreFollowed, ReadsPrepare}
-use Rattle.df_table.specs.Policy.{prepare_reads}
-use Rattle.df_table.specs.Statuses.{is_disk}
-use Rattle.df_table.proofs.Begun.{begun_order}
-use Rattle.df_table.proofs.Following.{followed_ends, followed_more, followed_none}
-use Rattle.df_table.proofs.Making.{IsMaking, all_counted, counted_ends, counted_more, making_none}
+use Rattle.df_model.specs.{Commands.{ReadPrepare}, declared.answers.Summary.{Summary}}
+use Rattle.df_session.specs.{Below.{State as Replica, memory}, Reading.{shown_of}}
+use Rattle.df_table.{specs.{declared.ending.Ending.{Ending}, Opening.{AreFollowed, ReadsPrepare}, Policy.{prepare_reads}, Statuses.{is_disk}}, proofs.{Begun.{begun_order}, Following.{followed_ends, followed_more, followed_none}, Making.{IsMaking, all_counted, counted_ends, counted_more, making_none}}}
 use Rattle.df_table.proofs.opening.take_tail.Goals as goal
 
 pub loop-before-init : goal.loop-before-init

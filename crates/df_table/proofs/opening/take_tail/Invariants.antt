@@ -1,16 +1,9 @@
 -- The prepares up to an op were applied.
-use Rattle.std.proofs.Common.{◌≡◌, ◌+◌, ◌-◌, map, Ok}
-use Rattle.std.specs.Prelude.{Some}
-use Rattle.std.specs.List.{range_with_len}
+use Rattle.std.{proofs.Common.{◌≡◌, ◌+◌, ◌-◌, map, Ok}, specs.{Prelude.{Some}, List.{range_with_len}}}
 use Rattle.df_disk.specs.Told.{Told}
-use Rattle.df_model.specs.Commands.{ReadPrepare}
-use Rattle.df_model.specs.Work.{Work}
-use Rattle.df_session.specs.Below.{memory}
-use Rattle.df_session.specs.Reading.{shown_of}
-use Rattle.df_table.specs.Opening.{AreFollowed, TakesBlocks}
-use Rattle.df_table.specs.Policy.{prepare_reads}
-use Rattle.df_table.specs.Ready.{IsBegun}
-use Rattle.df_table.proofs.Making.{IsMaking}
+use Rattle.df_model.specs.{Commands.{ReadPrepare}, Work.{Work}}
+use Rattle.df_session.specs.{Below.{memory}, Reading.{shown_of}}
+use Rattle.df_table.{specs.{Opening.{AreFollowed, TakesBlocks}, Policy.{prepare_reads}, Ready.{IsBegun}}, proofs.Making.{IsMaking}}
 use Rattle.df_table.proofs.opening.take_tail.Given as goal
 
 abbrev pub invariant-loop-before : goal.invariant-loop-before

@@ -1,15 +1,10 @@
 -- The table is found, and its script served; or why it isn't is told.
 use Rattle.std.proofs.Common.{◌≡◌, ◌∙◌, ℕ, false, true, ap, arith, refl, subst, sym, Ok, Err}
 use Rattle.df_lines.specs.Text.{Reading}
-use Rattle.df_session.specs.Below.{memory}
-use Rattle.df_session.specs.Reading.{shown_of}
-use Rattle.df_table.specs.declared.session.Session.{Session}
+use Rattle.df_session.specs.{Below.{memory}, Reading.{shown_of}}
+use Rattle.df_table.{specs.{declared.session.Session.{Session}, Outside.{Blames, Outside}, Session.{NotOpened, Served}}, proofs.{Blamed.{line_apart, line_never, told_disk, told_line}, ServedLines.{found_steady, lines_served}}}
 use Rattle.df_table.specs.declared.status.Status.TheVariants as status
-use Rattle.df_table.specs.Outside.{Blames, Outside}
-use Rattle.df_table.specs.Session.{NotOpened, Served}
-use Rattle.df_table.proofs.Blamed.{line_apart, line_never, told_disk, told_line}
 use Rattle.df_program.proofs.Laws.{no_blame}
-use Rattle.df_table.proofs.ServedLines.{found_steady, lines_served}
 use Rattle.df_table.proofs.serving.serve_opened.Goals as goal
 
 pub open_table-requires : goal.open_table-requires

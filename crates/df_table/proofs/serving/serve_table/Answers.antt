@@ -4,15 +4,9 @@ use Rattle.df_layout.specs.declared.layout.Layout.{Layout}
 use Rattle.df_lines.specs.Room.{IsFresh, line_bound}
 use Rattle.df_model.specs.declared.answers.Summary.{Summary}
 use Rattle.df_rows.specs.Limits as limits
-use Rattle.df_session.specs.Below.{State as Replica}
-use Rattle.df_session.specs.Reading.{shown_of}
-use Rattle.df_session.proofs.Laws.{opened_agrees, agree_self}
+use Rattle.df_session.{specs.{Below.{State as Replica}, Reading.{shown_of}}, proofs.Laws.{opened_agrees, agree_self}}
 use Rattle.df_table.specs.declared.status.Status.TheVariants as status
-use Rattle.df_table.specs.Outside.{Blames, Outside}
-use Rattle.df_table.specs.Run.{DoesTable}
-use Rattle.df_table.specs.Table.{empty_table}
-use Rattle.df_table.proofs.Refused.{not_found, refused_causes, refused_never}
-use Rattle.df_table.proofs.Served.{begun, does}
+use Rattle.df_table.{specs.{Outside.{Blames, Outside}, Run.{DoesTable}, Table.{empty_table}}, proofs.{Refused.{not_found, refused_causes, refused_never}, Served.{begun, does}}}
 use Rattle.df_table.proofs.serving.serve_table.Goals as goal
 
 -- ---- it is opened

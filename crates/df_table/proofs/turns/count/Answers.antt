@@ -1,6 +1,5 @@
 -- The number is that of the map's rows.
-use Rattle.std.proofs.Common.{ℕ, subst}
-use Rattle.std.specs.Prelude.{codes}
+use Rattle.std.{proofs.Common.{ℕ, subst}, specs.Prelude.{codes}}
 use Rattle.df_script_model.specs.Texts.{line_of, numbered}
 use Rattle.df_table.specs.Serving.{TellsLine}
 use Rattle.df_table.proofs.turns.count.Goals as goal

@@ -1,11 +1,8 @@
 -- The command is the drop of the key.
-use Rattle.std.proofs.Common.{◌∙◌, ℕ, ap, sym}
-use Rattle.std.specs.Prelude.{codes}
+use Rattle.std.{proofs.Common.{◌∙◌, ℕ, ap, sym}, specs.Prelude.{codes}}
 use Rattle.df_rows.specs.declared.command.Command.TheVariants as commands
 use Rattle.df_script_model.specs.Texts.{line_of, numbered}
-use Rattle.df_table.proofs.Behind.{done_executes, ended_executes}
-use Rattle.df_table.proofs.Blamed.{told_disk}
-use Rattle.df_table.proofs.Executed.{drop_asks, drop_text}
+use Rattle.df_table.proofs.{Behind.{done_executes, ended_executes}, Blamed.{told_disk}, Executed.{drop_asks, drop_text}}
 use Rattle.df_rows.specs.Grammar.{Drop}
 use Rattle.df_table.proofs.turns.drop_key.Goals as goal
 

@@ -1,10 +1,7 @@
 -- A line that is refused does nothing.
 use Rattle.std.proofs.Common.{◌≡◌, ◌∙◌, Some, ap, refl, sym}
-use Rattle.df_rows.specs.Answers.{refusal_of}
-use Rattle.df_rows.specs.Grammar.{said_with}
-use Rattle.df_rows.specs.Lines.{line_in}
-use Rattle.df_table.proofs.Behind.{told_executes}
-use Rattle.df_table.proofs.Executed.{line_back, refused_none, refused_text}
+use Rattle.df_rows.specs.{Answers.{refusal_of}, Grammar.{said_with}, Lines.{line_in}}
+use Rattle.df_table.proofs.{Behind.{told_executes}, Executed.{line_back, refused_none, refused_text}}
 use Rattle.df_table.proofs.turns.execute.Goals as goal
 
 pub perform-requires : goal.perform-requires

@@ -1,8 +1,7 @@
 -- The value is that of the map.
 use Rattle.std.proofs.Common.{◌≡◌, ℕ, List, Some, sym, subst}
 use Rattle.std.specs.FinMap as map
-use Rattle.df_table.specs.Serving.{TellsLine}
-use Rattle.df_table.proofs.Executed.{found_text, not_missing}
+use Rattle.df_table.{specs.Serving.{TellsLine}, proofs.Executed.{found_text, not_missing}}
 use Rattle.df_table.proofs.turns.get.Goals as goal
 
 pub returns-in-Some-clause-tells : goal.returns-in-Some-clause-tells

@@ -1,12 +1,7 @@
 -- Each line by its kind.
 use Rattle.std.proofs.Common.{◌≡◌, ◌≤◌, length, None, refl, sym, subst}
-use Rattle.df_rows.specs.declared.line.Line.{Line}
-use Rattle.df_rows.specs.Answers.{refusal_of}
-use Rattle.df_rows.specs.Grammar.{Count, Get, said_with, value_length}
-use Rattle.df_table.specs.Serving.{ExecutesLine}
-use Rattle.df_table.proofs.Behind.{told_executes}
-use Rattle.df_table.proofs.Blamed.{tells_disk}
-use Rattle.df_table.proofs.Executed.{fine_text, get_has, get_none}
+use Rattle.df_rows.specs.{declared.line.Line.{Line}, Answers.{refusal_of}, Grammar.{Count, Get, said_with, value_length}}
+use Rattle.df_table.{specs.Serving.{ExecutesLine}, proofs.{Behind.{told_executes}, Blamed.{tells_disk}, Executed.{fine_text, get_has, get_none}}}
 use Rattle.df_table.proofs.turns.perform.Goals as goal
 
 pub put-requires : goal.put-requires

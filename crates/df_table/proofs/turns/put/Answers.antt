@@ -1,18 +1,9 @@
 -- The command is the put of the value that stands in the buffer.
-use Rattle.std.proofs.Common.{◌≡◌, ◌∙◌, ℕ, List, take, length, Ok, Err, ap, arith, sym, subst}
-use Rattle.std.specs.Prelude.{codes}
-use Rattle.df_rows.specs.declared.command.Command.{Command}
+use Rattle.std.{proofs.{Common.{◌≡◌, ◌∙◌, ℕ, List, take, length, Ok, Err, ap, arith, sym, subst}, lemmas.List.{length-take-le}}, specs.Prelude.{codes}}
+use Rattle.df_rows.specs.{declared.command.Command.{Command}, Tables.{with_command, HasRoom}, Grammar.{Put}, Rows.{Entry, IsEntry}}
 use Rattle.df_rows.specs.declared.command.Command.TheVariants as commands
-use Rattle.df_rows.specs.Tables.{with_command}
 use Rattle.df_script_model.specs.Texts.{line_of, numbered}
-use Rattle.df_table.specs.Calls.{IsChanged}
-use Rattle.df_table.proofs.Behind.{done_executes, ended_executes}
-use Rattle.df_table.proofs.Blamed.{told_disk}
-use Rattle.df_table.proofs.Executed.{put_asks, put_may, put_short, put_text}
-use Rattle.std.proofs.lemmas.List.{length-take-le}
-use Rattle.df_rows.specs.Grammar.{Put}
-use Rattle.df_rows.specs.Rows.{Entry, IsEntry}
-use Rattle.df_rows.specs.Tables.{HasRoom}
+use Rattle.df_table.{specs.Calls.{IsChanged}, proofs.{Behind.{done_executes, ended_executes}, Blamed.{told_disk}, Executed.{put_asks, put_may, put_short, put_text}}}
 use Rattle.df_table.proofs.turns.put.Goals as goal
 
 pub new-row-requires : goal.new-row-requires

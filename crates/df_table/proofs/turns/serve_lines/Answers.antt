@@ -1,9 +1,7 @@
 -- Each turn goes on with one line more, or ends the session.
 use Rattle.std.proofs.Common.{◌∙◌, refl, sym, subst}
 use Rattle.df_layout.specs.declared.layout.Layout.{Layout}
-use Rattle.df_table.specs.Ready.{IsSteady}
-use Rattle.df_table.specs.Serving.{IsServing, ServingEndsIn, ServingGoesOn, ServingState, state}
-use Rattle.df_table.proofs.Turned.{ended_all, goes_none, goes_on_more}
+use Rattle.df_table.{specs.{Ready.{IsSteady}, Serving.{IsServing, ServingEndsIn, ServingGoesOn, ServingState, state}}, proofs.Turned.{ended_all, goes_none, goes_on_more}}
 use Rattle.df_table.proofs.turns.serve_lines.Goals as goal
 
 pub loop-status-init : goal.loop-status-init

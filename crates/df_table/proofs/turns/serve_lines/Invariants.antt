@@ -1,7 +1,6 @@
 -- The lines so far were executed, and nothing has failed.
 use Rattle.std.proofs.Common.{◌≡◌}
-use Rattle.df_table.specs.Ready.{IsSteady}
-use Rattle.df_table.specs.Serving.{IsServing, ServingGoesOn, state}
+use Rattle.df_table.specs.{Ready.{IsSteady}, Serving.{IsServing, ServingGoesOn, state}}
 use Rattle.df_table.proofs.turns.serve_lines.Given as goal
 
 abbrev pub invariant-loop-status : goal.invariant-loop-status

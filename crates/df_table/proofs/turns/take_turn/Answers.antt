@@ -3,13 +3,10 @@ use Rattle.std.proofs.Common.{◌+◌, ℕ, ap, arith, refl, subst}
 use Rattle.df_lines.specs.Reads.{GivesNext, Spends}
 use Rattle.df_lines.specs.declared.next.Next.TheVariants as nexts
 use Rattle.df_rows.specs.Grammar.{table_lines}
-use Rattle.df_table.specs.Outside.{Outside}
+use Rattle.df_table.{specs.Outside.{Outside}, proofs.{Behind.{ready_next, taken_line}, Blamed.{line_turn, unread_source}, TurnEnds.{by_turn, ends_done, ends_read, ends_refused}}}
 use Rattle.df_table.specs.declared.status.Status.TheVariants as status
-use Rattle.df_table.proofs.Behind.{ready_next, taken_line}
-use Rattle.df_table.proofs.Blamed.{line_turn, unread_source}
 use Rattle.df_program.proofs.Laws.{no_blame, text_ends}
 use Rattle.df_inspect.specs.Opening.{script_text}
-use Rattle.df_table.proofs.TurnEnds.{by_turn, ends_done, ends_read, ends_refused}
 use Rattle.df_table.proofs.turns.take_turn.Goals as goal
 
 pub returns-in-Ok-Line-clause-turns : goal.returns-in-Ok-Line-clause-turns

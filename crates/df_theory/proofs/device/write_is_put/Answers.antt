@@ -1,5 +1,4 @@
-use Rattle.df_theory.proofs.Bridge.{put_law}
-use Rattle.df_theory.proofs.PutShown.{put_shown_law}
+use Rattle.df_theory.proofs.{Bridge.{put_law}, PutShown.{put_shown_law}}
 use Rattle.df_theory.proofs.device.write_is_put.Goals as goal
 
 pub returns-clause-put : goal.returns-clause-put

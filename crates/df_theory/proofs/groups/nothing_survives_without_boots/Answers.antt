@@ -1,5 +1,4 @@
-use Rattle.df_theory.proofs.TidyGroups.{clear_law}
-use Rattle.df_theory.proofs.GroupWalks.{clear_slot_law}
+use Rattle.df_theory.proofs.{TidyGroups.{clear_law}, GroupWalks.{clear_slot_law}}
 use Rattle.df_theory.proofs.groups.nothing_survives_without_boots.Goals as goal
 
 pub returns-clause-settled : goal.returns-clause-settled

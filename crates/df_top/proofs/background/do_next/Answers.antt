@@ -1,11 +1,8 @@
 -- What becomes of the session by the piece that is next.
 use Rattle.std.proofs.Common.{ap}
-use Rattle.df_lines.specs.Room.{ReaderParts}
-use Rattle.df_lines.specs.Text.{unread}
+use Rattle.df_lines.specs.{Room.{ReaderParts}, Text.{unread}}
 use Rattle.df_pace.specs.Beats.{command_of_piece}
-use Rattle.df_top.specs.Outside.{around}
-use Rattle.df_top.specs.Session.{SessionState, state}
-use Rattle.df_top.proofs.Passed.{fewer_behind, passes_turns}
+use Rattle.df_top.{specs.{Outside.{around}, Session.{SessionState, state}}, proofs.Passed.{fewer_behind, passes_turns}}
 use Rattle.df_top.proofs.background.do_next.Goals as goal
 
 pub returns-clause-turns : goal.returns-clause-turns

@@ -1,7 +1,6 @@
 -- Each piece has its own call.
 use Rattle.std.proofs.Common.{subst, sym}
-use Rattle.df_pace.specs.Beats.{command_of_piece}
-use Rattle.df_pace.specs.declared.beat.Piece.{Piece}
+use Rattle.df_pace.specs.{Beats.{command_of_piece}, declared.beat.Piece.{Piece}}
 use Rattle.df_top.specs.Turning.{DoesPiece}
 use Rattle.df_top.proofs.background.do_piece.Goals as goal
 

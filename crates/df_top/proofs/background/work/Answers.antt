@@ -1,11 +1,7 @@
 -- Each turn goes on with one piece more, or ends the session.
 use Rattle.std.proofs.Common.{◌∙◌, refl, subst}
 use Rattle.df_pace.specs.declared.pace.Pace.{Pace}
-use Rattle.df_top.specs.Outside.{around}
-use Rattle.df_top.specs.Session.{SessionState, state}
-use Rattle.df_top.specs.Step.{EndsIn, SessionGoesOn}
-use Rattle.df_top.proofs.Passed.{leaves_on}
-use Rattle.df_top.proofs.Progress.{on_ends, on_more, on_none}
+use Rattle.df_top.{specs.{Outside.{around}, Session.{SessionState, state}, Step.{EndsIn, SessionGoesOn}}, proofs.{Passed.{leaves_on}, Progress.{on_ends, on_more, on_none}}}
 use Rattle.df_top.proofs.background.work.Goals as goal
 
 pub loop-piece-init : goal.loop-piece-init

@@ -1,10 +1,7 @@
 -- The pieces so far were done, and nothing has failed.
 use Rattle.std.proofs.Common.{◌≡◌, true, List, ℕ, Option}
 use Rattle.df_pace.specs.Beats.{pieces_left}
-use Rattle.df_top.specs.Outside.{around}
-use Rattle.df_top.specs.Session.{state}
-use Rattle.df_top.specs.Step.{SessionGoesOn}
-use Rattle.df_top.specs.Turning.{LeavesReader}
+use Rattle.df_top.specs.{Outside.{around}, Session.{state}, Step.{SessionGoesOn}, Turning.{LeavesReader}}
 use Rattle.df_top.proofs.background.work.Given as goal
 
 abbrev pub invariant-loop-piece : goal.invariant-loop-piece

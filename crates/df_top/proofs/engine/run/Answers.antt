@@ -1,21 +1,8 @@
 -- Words ask for one thing at most, so that the clauses of the others say nothing.
-use Rattle.std.proofs.Common.{ℕ, refl, sym, ◌∙◌, subst}
-use Rattle.std.specs.Prelude.{map, string_bytes}
+use Rattle.std.{proofs.Common.{ℕ, refl, sym, ◌∙◌, subst}, specs.Prelude.{map, string_bytes}}
 use Rattle.df_layout.specs.declared.layout.Layout.{Layout}
 use Rattle.df_units.specs.Within.{AddsWithin}
-use Rattle.df_top.specs.Mode.{Means}
-use Rattle.df_top.specs.Formats.{Formats, MakesFile}
-use Rattle.df_top.specs.Outside.{Outside}
-use Rattle.df_top.specs.Run.{Runs}
-use Rattle.df_top.specs.Usage.{usage}
-use Rattle.df_top.specs.declared.mode.Mode.{Mode}
-use Rattle.df_top.specs.declared.mode.Mode.TheVariants.{Format, Inspect, Upgrade}
-use Rattle.df_top.proofs.Hurts.{runs_over_hurt}
-use Rattle.df_top.proofs.Modes.{one_mode}
-use Rattle.df_top.proofs.Reopens.{runs_over_history}
-use Rattle.df_top.proofs.Upgrades.{upgrades_over_hurt, upgrades_within}
-use Rattle.df_top.proofs.Within.{runs_within}
-use Rattle.df_top.proofs.Words.{makes_alone, makes_file, makes_none, no_upgrade_asked, none_asked, opens_file, runnable, same_cluster_asked, same_layout_asked, upgrades_alone, upgrades_file}
+use Rattle.df_top.{specs.{Mode.{Means}, Formats.{Formats, MakesFile}, Outside.{Outside}, Run.{Runs}, Usage.{usage}, declared.mode.Mode.{Mode}, declared.mode.Mode.TheVariants.{Format, Inspect, Upgrade}}, proofs.{Hurts.{runs_over_hurt}, Modes.{one_mode}, Reopens.{runs_over_history}, Upgrades.{upgrades_over_hurt, upgrades_within}, Within.{runs_within}, Words.{makes_alone, makes_file, makes_none, no_upgrade_asked, none_asked, opens_file, runnable, same_cluster_asked, same_layout_asked, upgrades_alone, upgrades_file}}}
 use Rattle.df_top.proofs.engine.run.Goals as goal
 
 -- ---- a word on a file

@@ -1,11 +1,9 @@
 -- The probe reads alone, so that what is said of the file is said from the start on.
-use Rattle.std.proofs.Common.{inr, subst}
-use Rattle.std.specs.Prelude.{Option, Ok}
+use Rattle.std.{proofs.Common.{inr, subst}, specs.Prelude.{Option, Ok}}
 use Rattle.df_disk.specs.Told.{Told}
 use Rattle.df_layout.specs.declared.layout.Layout.{Layout}
 use Rattle.df_session.specs.Below.{TellsLayout}
-use Rattle.df_top.specs.Outside.{Outside}
-use Rattle.df_top.specs.Run.{ServesIn}
+use Rattle.df_top.specs.{Outside.{Outside}, Run.{ServesIn}}
 use Rattle.df_top.proofs.engine.run_file.Goals as goal
 
 pub returns-in-Ok-reserve-clause-runs : goal.returns-in-Ok-reserve-clause-runs

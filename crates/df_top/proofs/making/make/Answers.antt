@@ -1,6 +1,5 @@
 -- What the making leaves is what is promised of the word.
-use Rattle.df_top.proofs.Made.{makes_on, not_done}
-use Rattle.df_top.proofs.Within.{making_within}
+use Rattle.df_top.proofs.{Made.{makes_on, not_done}, Within.{making_within}}
 use Rattle.df_top.proofs.making.make.Goals as goal
 
 pub returns-in-Ok-clause-makes : goal.returns-in-Ok-clause-makes

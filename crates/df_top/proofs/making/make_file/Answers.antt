@@ -1,7 +1,6 @@
 -- The rooms are of the layout.
 use Rattle.std.proofs.Common.{refl, subst}
-use Rattle.df_units.proofs.Laws.{none_within}
-use Rattle.df_units.specs.Within.{AddsWithin}
+use Rattle.df_units.{proofs.Laws.{none_within}, specs.Within.{AddsWithin}}
 use Rattle.df_layout.specs.declared.layout.Layout.{Layout}
 use Rattle.df_top.specs.Formats.{MakesFile}
 use Rattle.df_top.proofs.making.make_file.Goals as goal

@@ -1,6 +1,5 @@
 -- A number above 64 is none of a pace.
-use Rattle.std.proofs.Common.{arith, ◌∙◌}
-use Rattle.std.proofs.lemmas.Bool.Decides.{nat_tests}
+use Rattle.std.proofs.{Common.{arith, ◌∙◌}, lemmas.Bool.Decides.{nat_tests}}
 use Rattle.df_top.proofs.Modes.{past_pieces}
 use Rattle.df_top.proofs.mode.pieces_of.Goals as goal
 

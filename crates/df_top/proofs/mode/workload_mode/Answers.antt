@@ -1,6 +1,5 @@
 -- Where a number is missing, or the count is out of its range, the words have no meaning.
-use Rattle.std.proofs.Common.{arith, ◌∙◌}
-use Rattle.std.proofs.lemmas.Bool.Decides.{nat_tests}
+use Rattle.std.proofs.{Common.{arith, ◌∙◌}, lemmas.Bool.Decides.{nat_tests}}
 use Rattle.df_top.proofs.Modes.{only_workload, out_of_range}
 use Rattle.df_top.proofs.mode.workload_mode.Goals as goal
 

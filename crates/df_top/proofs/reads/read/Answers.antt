@@ -1,14 +1,11 @@
 -- A read comes to a turn by what was found and by what was printed of it.
-use Rattle.std.proofs.Common.{ap, Err, Ok}
-use Rattle.std.specs.Prelude.{codes}
+use Rattle.std.{proofs.Common.{ap, Err, Ok}, specs.Prelude.{codes}}
 use Rattle.df_inspect.specs.Answers.{command_of}
-use Rattle.df_model.specs.Commands.{ReadBlock, ReadPrepare, ReadReply}
-use Rattle.df_model.specs.Faults.{is_lookup_fault, is_prepare_fault, is_read_fault}
+use Rattle.df_model.specs.{Commands.{ReadBlock, ReadPrepare, ReadReply}, Faults.{is_lookup_fault, is_prepare_fault, is_read_fault}}
 use Rattle.df_model.specs.declared.commands.Answer.TheVariants as answers
 use Rattle.df_session.specs.Endings.{heard}
-use Rattle.df_top.proofs.BlockReadTurns.{block_refused, block_shown}
+use Rattle.df_top.proofs.{BlockReadTurns.{block_refused, block_shown}, ReadTurns.{came_as, prepare_refused, prepare_shown, reply_refused, reply_shown, shown_turn, tells_as}}
 use Rattle.df_top.proofs.BlockReadTurns as block
-use Rattle.df_top.proofs.ReadTurns.{came_as, prepare_refused, prepare_shown, reply_refused, reply_shown, shown_turn, tells_as}
 use Rattle.df_top.proofs.reads.read.Goals as goal
 
 pub returns-in-Ok-clause-answers : goal.returns-in-Ok-clause-answers

@@ -1,10 +1,7 @@
 -- The survey answers of the file that the disk shows, and adds no event but a sync.
 use Rattle.std.proofs.Common.{inr, refl}
 use Rattle.df_session.specs.Below.{State}
-use Rattle.df_top.specs.Outside.{Outside}
-use Rattle.df_top.specs.Reporting.{report_of, status_of}
-use Rattle.df_top.proofs.Causes.{calm_report, line_causes, never_printed, refused_causes, refused_never}
-use Rattle.df_top.proofs.Reported.{inspects, not_surveyed, syncs_part}
+use Rattle.df_top.{specs.{Outside.{Outside}, Reporting.{report_of, status_of}}, proofs.{Causes.{calm_report, line_causes, never_printed, refused_causes, refused_never}, Reported.{inspects, not_surveyed, syncs_part}}}
 use Rattle.df_top.proofs.reporting.inspect_file.Goals as goal
 
 pub returns-in-Ok-clause-inspects : goal.returns-in-Ok-clause-inspects

@@ -1,14 +1,8 @@
 -- The open answers of the file that the disk shows, and what it mends is kept.
 use Rattle.std.proofs.Common.{inr, refl}
 use Rattle.df_inspect.specs.Reports.{summary_text}
-use Rattle.df_session.specs.Below.{State}
-use Rattle.df_session.specs.Replica.{summary_of}
-use Rattle.df_top.specs.Outside.{Outside}
-use Rattle.df_top.specs.declared.mode.Mode.TheVariants.{Recover}
-use Rattle.df_top.specs.declared.status.Status.TheVariants.{Done}
-use Rattle.df_top.proofs.Causes.{calm_done, line_causes, never_printed, refused_causes, refused_never}
-use Rattle.df_top.proofs.Reported.{recovers}
-use Rattle.df_top.proofs.Served.{not_opened}
+use Rattle.df_session.specs.{Below.{State}, Replica.{summary_of}}
+use Rattle.df_top.{specs.{Outside.{Outside}, declared.mode.Mode.TheVariants.{Recover}, declared.status.Status.TheVariants.{Done}}, proofs.{Causes.{calm_done, line_causes, never_printed, refused_causes, refused_never}, Reported.{recovers}, Served.{not_opened}}}
 use Rattle.df_top.proofs.reporting.recover_file.Goals as goal
 
 pub returns-in-Ok-clause-recovers : goal.returns-in-Ok-clause-recovers

@@ -2,10 +2,7 @@
 use Rattle.std.proofs.Common.{ℕ, List, ◌∙◌, ap, subst}
 use Rattle.df_inspect.specs.Prints.{Prints}
 use Rattle.df_session.specs.Replica.{summary_of}
-use Rattle.df_top.specs.Outside.{PrintsLine}
-use Rattle.df_top.specs.Reporting.{report_of, status_of}
-use Rattle.df_top.specs.declared.status.Status.{Status}
-use Rattle.df_top.proofs.Reported.{same_report}
+use Rattle.df_top.{specs.{Outside.{PrintsLine}, Reporting.{report_of, status_of}, declared.status.Status.{Status}}, proofs.Reported.{same_report}}
 use Rattle.df_top.proofs.reporting.report.Goals as goal
 
 pub returns-clause-prints : goal.returns-clause-prints

@@ -1,8 +1,6 @@
 -- Each place is read once.
-use Rattle.std.proofs.Common.{◌≡◌, ◌≤◌, ◌<◌, ◌++◌, ◌∙◌, refl, sym, length, arith}
-use Rattle.std.proofs.lemmas.List.{take_all}
-use Rattle.df_top.specs.Findings.{items_of}
-use Rattle.df_top.proofs.RingTurns.{items_few, take_more}
+use Rattle.std.proofs.{Common.{◌≡◌, ◌≤◌, ◌<◌, ◌++◌, ◌∙◌, refl, sym, length, arith}, lemmas.List.{take_all}}
+use Rattle.df_top.{specs.Findings.{items_of}, proofs.RingTurns.{items_few, take_more}}
 use Rattle.df_top.proofs.ring.fill.Goals as goal
 
 pub loop-place-init : goal.loop-place-init

@@ -1,8 +1,7 @@
 -- A finding stands after those before it.
 use Rattle.std.proofs.Common.{◌++◌, ◌∙◌, Option, ap, sym, take}
 use Rattle.df_layout.specs.declared.damage.Finding.{Finding}
-use Rattle.df_top.specs.Findings.{items_of}
-use Rattle.df_top.proofs.RingTurns.{take_set}
+use Rattle.df_top.{specs.Findings.{items_of}, proofs.RingTurns.{take_set}}
 use Rattle.df_top.proofs.ring.keep.Goals as goal
 
 pub returns-in-Some-clause-kept : goal.returns-in-Some-clause-kept

@@ -4,9 +4,7 @@ use Rattle.df_inspect.specs.Prints.{Prints}
 use Rattle.df_layout.specs.declared.damage.Finding.{Finding}
 use Rattle.df_model.specs.Commands.{Recent}
 use Rattle.df_script_model.specs.Texts.{recent_text}
-use Rattle.df_top.specs.Step.{AnswersCommand}
-use Rattle.df_top.specs.Outside.{Turn}
-use Rattle.df_top.proofs.RingTurns.{ring_printed}
+use Rattle.df_top.{specs.{Step.{AnswersCommand}, Outside.{Turn}}, proofs.RingTurns.{ring_printed}}
 use Rattle.df_top.proofs.ring.recent.Goals as goal
 
 pub returns-clause-answers : goal.returns-clause-answers

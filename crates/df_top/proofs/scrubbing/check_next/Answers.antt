@@ -1,7 +1,6 @@
 -- The step is told, or the disk failed in it.
 use Rattle.std.proofs.Common.{inl, inr, refl}
-use Rattle.df_top.proofs.Taken.{adds_nothing, disk_ends, is_scrub}
-use Rattle.df_top.proofs.Tours.{disk_still}
+use Rattle.df_top.proofs.{Taken.{adds_nothing, disk_ends, is_scrub}, Tours.{disk_still}}
 use Rattle.df_top.proofs.scrubbing.check_next.Goals as goal
 
 pub returns-in-Ok-Scrub-clause-steps : goal.returns-in-Ok-Scrub-clause-steps

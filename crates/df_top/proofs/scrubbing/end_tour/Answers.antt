@@ -2,8 +2,7 @@
 use Rattle.std.proofs.Common.{subst}
 use Rattle.df_model.specs.declared.answers.Scrubbed.TheVariants as scrubs
 use Rattle.df_script_model.specs.Texts.{scrubbed_text}
-use Rattle.df_top.specs.Outside.{PrintsLine}
-use Rattle.df_top.specs.declared.status.Status.{Status}
+use Rattle.df_top.specs.{Outside.{PrintsLine}, declared.status.Status.{Status}}
 use Rattle.df_top.proofs.scrubbing.end_tour.Goals as goal
 
 pub returns-clause-prints : goal.returns-clause-prints

@@ -1,18 +1,9 @@
 -- The open answers of the file that the disk shows, and the tour leaves what it keeps.
-use Rattle.std.proofs.Common.{ℕ, inr, refl, subst, sym}
-use Rattle.std.specs.Prelude.{Option}
+use Rattle.std.{proofs.Common.{ℕ, inr, refl, subst, sym}, specs.Prelude.{Option}}
 use Rattle.df_disk.specs.Told.{Told}
-use Rattle.df_session.specs.Below.{State}
-use Rattle.df_session.specs.Found.{FoundFile}
-use Rattle.df_top.specs.Outside.{Blames, Outside}
-use Rattle.df_top.specs.Scrubs.{ScrubsFile}
-use Rattle.df_top.specs.declared.mode.Mode.TheVariants.{Scrub}
-use Rattle.df_top.specs.declared.status.Status.TheVariants.{DiskFault, Memory, ReadFault, Words}
+use Rattle.df_session.specs.{Below.{State}, Found.{FoundFile}}
+use Rattle.df_top.{specs.{Outside.{Blames, Outside}, Scrubs.{ScrubsFile}, declared.mode.Mode.TheVariants.{Scrub}, declared.status.Status.TheVariants.{DiskFault, Memory, ReadFault, Words}}, proofs.{Causes.{refused_causes, refused_never}, Reported.{scrubs}, Served.{not_opened}, Tours.{never_so}}}
 use Rattle.df_program.proofs.Laws.{no_blame}
-use Rattle.df_top.proofs.Causes.{refused_causes, refused_never}
-use Rattle.df_top.proofs.Reported.{scrubs}
-use Rattle.df_top.proofs.Served.{not_opened}
-use Rattle.df_top.proofs.Tours.{never_so}
 use Rattle.df_top.proofs.scrubbing.scrub_file.Goals as goal
 
 pub returns-in-Ok-clause-scrubs : goal.returns-in-Ok-clause-scrubs

@@ -3,12 +3,9 @@ use Rattle.std.proofs.Common.{◌∙◌, Ok, Option, ap, refl, subst}
 use Rattle.df_inspect.proofs.Laws.{appends_none}
 use Rattle.df_disk.specs.Told.{Told}
 use Rattle.df_model.specs.declared.answers.Scrubbed.TheVariants.{Checked}
-use Rattle.df_session.specs.Scrubbing.{IsScrub}
-use Rattle.df_session.specs.Below.{State}
-use Rattle.df_top.specs.Touring.{TakesStep}
-use Rattle.df_top.specs.declared.status.Status.{Status}
+use Rattle.df_session.specs.{Scrubbing.{IsScrub}, Below.{State}}
+use Rattle.df_top.{specs.{Touring.{TakesStep}, declared.status.Status.{Status}}, proofs.Tours.{ends, ends_so, fewer, found_told, goes_on, same_on, starts, went_on}}
 use Rattle.df_program.specs.declared.turn.Turn.TheVariants.{Ends}
-use Rattle.df_top.proofs.Tours.{ends, ends_so, fewer, found_told, goes_on, same_on, starts, went_on}
 use Rattle.df_top.proofs.scrubbing.tour.Goals as goal
 
 pub loop-status-init : goal.loop-status-init

@@ -2,8 +2,7 @@
 use Rattle.std.proofs.Common.{◌≡◌, Some, length}
 use Rattle.df_disk.specs.Told.{Told}
 use Rattle.df_model.specs.Work.{first_tour}
-use Rattle.df_session.specs.Scrubbing.{scrub_of, with_scrub}
-use Rattle.df_session.specs.Below.{left_in, grid_with}
+use Rattle.df_session.specs.{Scrubbing.{scrub_of, with_scrub}, Below.{left_in, grid_with}}
 use Rattle.df_top.proofs.Tours.{IsTouring}
 use Rattle.df_top.proofs.scrubbing.tour.Given as goal
 

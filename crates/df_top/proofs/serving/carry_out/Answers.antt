@@ -1,11 +1,7 @@
 -- A word that executes a script is served by its pace; no other one reads it.
 use Rattle.std.proofs.Common.{◌≡◌, refl, sym, ◌∙◌, subst}
 use Rattle.df_pace.specs.Beats.{idle}
-use Rattle.df_top.specs.Mode.{ReadsScript}
-use Rattle.df_top.specs.Outside.{Outside, around}
-use Rattle.df_top.specs.Run.{ServesIn}
-use Rattle.df_top.specs.declared.mode.Mode.{Mode}
-use Rattle.df_top.specs.declared.mode.Mode.TheVariants.{Run, Inspect, Paced}
+use Rattle.df_top.specs.{Mode.{ReadsScript}, Outside.{Outside, around}, Run.{ServesIn}, declared.mode.Mode.{Mode}, declared.mode.Mode.TheVariants.{Run, Inspect, Paced}}
 use Rattle.df_top.proofs.serving.carry_out.Goals as goal
 
 pub returns-in-Run : goal.returns-in-Run

@@ -1,15 +1,6 @@
 -- The words have one meaning, so that what is said of it is said of what they ask for.
-use Rattle.std.proofs.Common.{subst}
-use Rattle.std.specs.Prelude.{map, string_bytes}
-use Rattle.df_top.specs.Outside.{Outside}
-use Rattle.df_top.specs.Run.{ServesIn}
-use Rattle.df_top.specs.declared.mode.Mode.{Mode}
-use Rattle.df_top.specs.declared.mode.Mode.TheVariants.{Inspect}
-use Rattle.df_top.proofs.Hurts.{serves_over_hurt}
-use Rattle.df_top.proofs.Modes.{one_mode}
-use Rattle.df_top.proofs.Reopens.{serves_over_history}
-use Rattle.df_top.proofs.Within.{does_within}
-use Rattle.df_top.proofs.Words.{of_file_asked, runnable}
+use Rattle.std.{proofs.Common.{subst}, specs.Prelude.{map, string_bytes}}
+use Rattle.df_top.{specs.{Outside.{Outside}, Run.{ServesIn}, declared.mode.Mode.{Mode}, declared.mode.Mode.TheVariants.{Inspect}}, proofs.{Hurts.{serves_over_hurt}, Modes.{one_mode}, Reopens.{serves_over_history}, Within.{does_within}, Words.{of_file_asked, runnable}}}
 use Rattle.df_top.proofs.serving.serve.Goals as goal
 
 pub carry_out-requires : goal.carry_out-requires

@@ -2,14 +2,9 @@
 use Rattle.std.proofs.Common.{◌≡◌, ℕ, true, false, refl, sym, ap, ◌∙◌, subst, arith}
 use Rattle.df_lines.specs.Text.{Reading}
 use Rattle.df_session.specs.Below.{State}
-use Rattle.df_top.specs.Outside.{Blames, Outside}
+use Rattle.df_top.{specs.{Outside.{Blames, Outside}, declared.session.Session.{Session}, declared.status.Status.TheVariants.{DiskFault}, Session.{state}}, proofs.{Causes.{ended_never, refused_causes, refused_never}, Served.{executed, from_start, not_executed, serves}}}
 use Rattle.df_model.specs.declared.answers.Summary.{Summary}
 use Rattle.df_pace.specs.Beats.{started}
-use Rattle.df_top.specs.declared.session.Session.{Session}
-use Rattle.df_top.specs.declared.status.Status.TheVariants.{DiskFault}
-use Rattle.df_top.specs.Session.{state}
-use Rattle.df_top.proofs.Causes.{ended_never, refused_causes, refused_never}
-use Rattle.df_top.proofs.Served.{executed, from_start, not_executed, serves}
 use Rattle.df_top.proofs.serving.serve_file.Goals as goal
 
 -- a reader that has read nothing hasn't ended, and has its whole budget

@@ -2,12 +2,7 @@
 use Rattle.std.proofs.Common.{◌≡◌, refl, sym, subst, ℕ}
 use Rattle.df_layout.specs.declared.layout.Layout.{Layout}
 use Rattle.df_pace.specs.Beats.{idle}
-use Rattle.df_top.specs.Mode.{IsRunnable, ReadsScript}
-use Rattle.df_top.specs.Outside.{Outside, around}
-use Rattle.df_top.specs.Run.{ServesIn}
-use Rattle.df_top.specs.declared.mode.Mode.{Mode}
-use Rattle.df_top.specs.declared.mode.Mode.TheVariants.{Format, Run, Recover, Inspect, Scrub, Workload, Upgrade, Paced}
-use Rattle.df_top.specs.declared.status.Status.{Status}
+use Rattle.df_top.specs.{Mode.{IsRunnable, ReadsScript}, Outside.{Outside, around}, Run.{ServesIn}, declared.mode.Mode.{Mode}, declared.mode.Mode.TheVariants.{Format, Run, Recover, Inspect, Scrub, Workload, Upgrade, Paced}, declared.status.Status.{Status}}
 use Rattle.df_top.proofs.serving.work_on.Goals as goal
 
 served : (mode word : Mode) (layout : Layout) (old new : Outside) (status : Status) → mode ≡ word → ServesIn word layout old new status → ServesIn mode layout old new status

@@ -4,8 +4,7 @@ use Rattle.df_disk.specs.Told.{Told}
 use Rattle.df_inspect.specs.Answers.{command_of}
 use Rattle.df_model.specs.Commands.{Command}
 use Rattle.df_session.specs.Below.{State as Replica}
-use Rattle.df_top.specs.Step.{AnswersCommand}
-use Rattle.df_top.specs.Outside.{Turn}
+use Rattle.df_top.specs.{Step.{AnswersCommand}, Outside.{Turn}}
 use Rattle.df_top.proofs.turns.execute.Goals as goal
 
 -- what answers the command that is asked for answers the line

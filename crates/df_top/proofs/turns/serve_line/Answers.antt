@@ -1,11 +1,8 @@
 -- A session that goes on has a replica that does.
-use Rattle.std.proofs.Common.{◌+◌, ℕ, ap, arith}
-use Rattle.std.proofs.lemmas.Grind.{common_steps}
+use Rattle.std.proofs.{Common.{◌+◌, ℕ, ap, arith}, lemmas.Grind.{common_steps}}
 use Rattle.df_lines.specs.Grammar.{said_with}
 use Rattle.df_program.specs.declared.turn.Turn.TheVariants.{GoesOn, Ends}
-use Rattle.df_top.specs.Outside.{Turn}
-use Rattle.df_top.specs.Turning.{OnGoing}
-use Rattle.df_top.proofs.LineEnds.{live_on}
+use Rattle.df_top.{specs.{Outside.{Turn}, Turning.{OnGoing}}, proofs.LineEnds.{live_on}}
 use Rattle.df_top.proofs.turns.serve_line.Goals as goal
 
 -- what holds in any case holds where the session goes on

@@ -1,12 +1,8 @@
 -- Each turn goes on with one line more and the work after it, or ends the session.
 use Rattle.std.proofs.Common.{[], ◌++◌, refl, ◌∙◌, ap, subst, ℕ}
 use Rattle.df_pace.specs.declared.pace.Pace.{Pace}
-use Rattle.df_top.specs.Outside.{Outside, around}
-use Rattle.df_top.specs.Session.{SessionState, state}
-use Rattle.df_top.specs.Step.{EndsIn, SessionGoesOn}
+use Rattle.df_top.{specs.{Outside.{Outside, around}, Session.{SessionState, state}, Step.{EndsIn, SessionGoesOn}}, proofs.{Passed.{worked_ready}, Progress.{executed_none, on_ends, on_more}}}
 use Rattle.df_lines.specs.Room.{ReaderParts}
-use Rattle.df_top.proofs.Passed.{worked_ready}
-use Rattle.df_top.proofs.Progress.{executed_none, on_ends, on_more}
 use Rattle.df_top.proofs.turns.serve_script.Goals as goal
 
 pub loop-status-init : goal.loop-status-init

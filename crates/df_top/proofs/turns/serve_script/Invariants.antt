@@ -1,10 +1,6 @@
 -- The lines so far were executed, with the work after each, and nothing has failed.
 use Rattle.std.proofs.Common.{◌≡◌, List}
-use Rattle.df_top.specs.Lines.{Turned}
-use Rattle.df_top.specs.Pacing.{IsIdleBeat}
-use Rattle.df_top.specs.Outside.{around}
-use Rattle.df_top.specs.Session.{Executed, state}
-use Rattle.df_top.specs.Turning.{IsReadySession}
+use Rattle.df_top.specs.{Lines.{Turned}, Pacing.{IsIdleBeat}, Outside.{around}, Session.{Executed, state}, Turning.{IsReadySession}}
 use Rattle.df_top.proofs.turns.serve_script.Given as goal
 
 abbrev pub invariant-loop-status : goal.invariant-loop-status

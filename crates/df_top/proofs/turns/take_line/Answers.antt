@@ -1,11 +1,7 @@
 -- Each arm is one way in which a line ends or goes on.
 use Rattle.std.proofs.Common.{refl, subst}
-use Rattle.df_lines.specs.Grammar.{script_lines}
-use Rattle.df_lines.specs.Reads.{GivesNext}
-use Rattle.df_top.specs.Outside.{Outside, around}
-use Rattle.df_top.specs.Session.{state}
-use Rattle.df_top.proofs.LineEnds.{ends_refused, held_next, line_turns, refused_next}
-use Rattle.df_top.proofs.Progress.{ends_done, ends_read}
+use Rattle.df_lines.specs.{Grammar.{script_lines}, Reads.{GivesNext}}
+use Rattle.df_top.{specs.{Outside.{Outside, around}, Session.{state}}, proofs.{LineEnds.{ends_refused, held_next, line_turns, refused_next}, Progress.{ends_done, ends_read}}}
 use Rattle.df_top.proofs.turns.take_line.Goals as goal
 
 pub returns-in-Ok-Line-clause-turns : goal.returns-in-Ok-Line-clause-turns

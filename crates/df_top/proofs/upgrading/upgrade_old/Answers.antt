@@ -1,11 +1,9 @@
 -- The probe reads alone, so that what is said of the file is said from the start on.
-use Rattle.std.proofs.Common.{inr, ℕ, subst}
-use Rattle.std.specs.Prelude.{Option, Ok}
+use Rattle.std.{proofs.Common.{inr, ℕ, subst}, specs.Prelude.{Option, Ok}}
 use Rattle.df_disk.specs.Told.{Told}
 use Rattle.df_layout.specs.declared.layout.Layout.{Layout}
 use Rattle.df_upgrade.specs.Below.{TellsLayoutAs}
-use Rattle.df_top.specs.Outside.{HasCauses, Outside}
-use Rattle.df_top.specs.Upgrading.{UpgradesIn}
+use Rattle.df_top.specs.{Outside.{HasCauses, Outside}, Upgrading.{UpgradesIn}}
 use Rattle.df_top.proofs.upgrading.upgrade_old.Goals as goal
 
 pub returns-in-Ok-reserve-clause-upgrades : goal.returns-in-Ok-reserve-clause-upgrades

@@ -1,10 +1,7 @@
 -- The upgrade answers of the file that the disk shows.
 use Rattle.std.proofs.Common.{inr, ℕ, refl}
 use Rattle.df_inspect.specs.Opening.{upgraded_text}
-use Rattle.df_top.specs.Outside.{Outside}
-use Rattle.df_top.specs.declared.status.Status.TheVariants.{Done}
-use Rattle.df_top.proofs.Causes.{calm_done, line_causes, never_printed, refused_causes, refused_never}
-use Rattle.df_top.proofs.Upgrades.{not_upgraded}
+use Rattle.df_top.{specs.{Outside.{Outside}, declared.status.Status.TheVariants.{Done}}, proofs.{Causes.{calm_done, line_causes, never_printed, refused_causes, refused_never}, Upgrades.{not_upgraded}}}
 use Rattle.df_top.proofs.upgrading.upgrade_there.Goals as goal
 
 pub returns-in-Ok-clause-upgrades : goal.returns-in-Ok-clause-upgrades

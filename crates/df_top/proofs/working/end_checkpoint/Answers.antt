@@ -1,8 +1,7 @@
 -- Each turn goes on with one command more, or ends the run.
 use Rattle.std.proofs.Common.{◌∙◌, refl, Err, Result}
 use Rattle.df_session.specs.declared.hearing.Fault.{Fault}
-use Rattle.df_top.specs.Works.{Comes}
-use Rattle.df_top.proofs.Runs.{comes_more, handed_on, works_more, works_none}
+use Rattle.df_top.{specs.Works.{Comes}, proofs.Runs.{comes_more, handed_on, works_more, works_none}}
 use Rattle.df_top.proofs.working.end_checkpoint.Goals as goal
 
 pub loop-disk-init : goal.loop-disk-init

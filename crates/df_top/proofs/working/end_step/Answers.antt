@@ -2,11 +2,8 @@
 use Rattle.std.proofs.Common.{◌≡◌, ◌<◌, true, refl, subst, sym, Result}
 use Rattle.df_model.specs.Commands.{Advance}
 use Rattle.df_session.specs.declared.hearing.Fault.{Fault}
-use Rattle.df_workload.specs.declared.state.State.{State as Run}
-use Rattle.df_workload.specs.declared.state.Point.TheVariants.{Ending}
-use Rattle.df_workload.proofs.Laws.{ends_by_step, may_end, still_ending}
-use Rattle.df_top.specs.Works.{Comes, IsRunning, Works, steps_left}
-use Rattle.df_top.proofs.Runs.{fewer_steps, handed_on, made_fails, made_live, made_runs, made_works, not_refused}
+use Rattle.df_workload.{specs.{declared.state.State.{State as Run}, declared.state.Point.TheVariants.{Ending}}, proofs.Laws.{ends_by_step, may_end, still_ending}}
+use Rattle.df_top.{specs.Works.{Comes, IsRunning, Works, steps_left}, proofs.Runs.{fewer_steps, handed_on, made_fails, made_live, made_runs, made_works, not_refused}}
 use Rattle.df_top.proofs.working.end_step.Goals as goal
 
 pub hear-requires : goal.hear-requires

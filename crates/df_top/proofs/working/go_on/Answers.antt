@@ -1,10 +1,8 @@
 -- The call that is asked for was made, and the run heard of its answer.
 use Rattle.std.proofs.Common.{◌≡◌, true, subst, sym, Result}
 use Rattle.df_session.specs.declared.hearing.Fault.{Fault}
-use Rattle.df_workload.specs.declared.state.State.{State as Run}
-use Rattle.df_workload.proofs.Laws.{asks_some, may_go_on}
-use Rattle.df_top.specs.Works.{Comes, IsRunning, Works}
-use Rattle.df_top.proofs.Runs.{handed_on, made_fails, made_live, made_runs, made_works}
+use Rattle.df_workload.{specs.declared.state.State.{State as Run}, proofs.Laws.{asks_some, may_go_on}}
+use Rattle.df_top.{specs.Works.{Comes, IsRunning, Works}, proofs.Runs.{handed_on, made_fails, made_live, made_runs, made_works}}
 use Rattle.df_top.proofs.working.go_on.Goals as goal
 
 pub make_next-requires : goal.make_next-requires

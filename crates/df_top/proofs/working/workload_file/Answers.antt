@@ -3,17 +3,9 @@ use Rattle.std.proofs.Common.{◌≡◌, ℕ, true, false, inr, refl, sym, subst
 use Rattle.df_base.specs.Causes.{IsBlamed}
 use Rattle.df_layout.specs.declared.layout.Layout.{Layout}
 use Rattle.df_model.specs.declared.answers.Summary.{Summary}
-use Rattle.df_session.specs.Below.{State}
-use Rattle.df_workload.specs.Rounds.{start}
-use Rattle.df_workload.specs.declared.state.State.{State as Run}
-use Rattle.df_top.specs.Outside.{Outside}
-use Rattle.df_session.specs.Endings.{is_disk_fault}
-use Rattle.df_top.specs.Works.{Comes}
-use Rattle.df_top.specs.declared.mode.Mode.TheVariants.{Workload}
-use Rattle.df_top.proofs.Causes.{refused_causes, refused_never}
-use Rattle.df_top.proofs.Runs.{ends_run}
-use Rattle.df_top.proofs.Served.{not_opened}
-use Rattle.df_top.proofs.WorksOn.{run_causes, run_never, works_through}
+use Rattle.df_session.specs.{Below.{State}, Endings.{is_disk_fault}}
+use Rattle.df_workload.specs.{Rounds.{start}, declared.state.State.{State as Run}}
+use Rattle.df_top.{specs.{Outside.{Outside}, Works.{Comes}, declared.mode.Mode.TheVariants.{Workload}}, proofs.{Causes.{refused_causes, refused_never}, Runs.{ends_run}, Served.{not_opened}, WorksOn.{run_causes, run_never, works_through}}}
 use Rattle.df_top.proofs.working.workload_file.Goals as goal
 
 pub work-worked-requires : goal.work-worked-requires

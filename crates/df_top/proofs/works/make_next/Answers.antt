@@ -1,11 +1,9 @@
 -- The call is the one that the run asks for.
 use Rattle.std.proofs.Common.{ap, refl}
 use Rattle.df_model.specs.Commands.{Advance, Append, Begin, Command, Release, Reply, WriteBlock}
-use Rattle.df_workload.specs.Asking.{number_body}
-use Rattle.df_workload.specs.Draw.{drawn_body}
+use Rattle.df_workload.specs.{Asking.{number_body}, Draw.{drawn_body}}
 use Rattle.df_workload.specs.declared.asked.Asked.TheVariants as asked
-use Rattle.df_top.specs.Works.{HearsOf, StillRuns}
-use Rattle.df_top.proofs.Runs.{as_asked, asks_so}
+use Rattle.df_top.{specs.Works.{HearsOf, StillRuns}, proofs.Runs.{as_asked, asks_so}}
 use Rattle.df_top.proofs.works.make_next.Goals as goal
 
 pub returns-in-Some-Append : goal.returns-in-Some-Append

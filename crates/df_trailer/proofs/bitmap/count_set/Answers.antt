@@ -1,8 +1,6 @@
 use Rattle.std.proofs.Common.{◌+◌, ◌*◌, ◌<◌, ◌/◌, ℕ, arith}
-use Rattle.df_trailer.specs.Rooms.{bits_in_words}
-use Rattle.df_trailer.proofs.OneBit.{count_next, count_same}
+use Rattle.df_trailer.{specs.Rooms.{bits_in_words}, proofs.{OneBit.{count_next, count_same}, bitmap.count_set.Goals.{then-is_set, else-is_set}}}
 use Rattle.df_trailer.proofs.bitmap.count_set.Goals as goal
-use Rattle.df_trailer.proofs.bitmap.count_set.Goals.{then-is_set, else-is_set}
 
 pub loop-place-preserved : goal.loop-place-preserved
 loop-place-preserved c =

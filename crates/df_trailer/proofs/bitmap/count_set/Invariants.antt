@@ -1,6 +1,5 @@
 use Rattle.std.proofs.Common.{◌≡◌, ◌≤◌, ◌+◌, ◌/◌}
-use Rattle.df_trailer.specs.Rooms.{bits_in_words}
-use Rattle.df_trailer.specs.Text.{bits_of, ones}
+use Rattle.df_trailer.specs.{Rooms.{bits_in_words}, Text.{bits_of, ones}}
 use Rattle.df_trailer.proofs.bitmap.count_set.Given as goal
 
 abbrev pub invariant-loop-place : goal.invariant-loop-place

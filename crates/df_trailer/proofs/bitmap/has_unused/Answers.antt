@@ -1,10 +1,5 @@
-use Rattle.std.proofs.Common.{◌≡◌, ◌-◌, ◌+◌, ◌*◌, ◌/◌, ◌^◌, ◌<◌, ◌∙◌, ℕ, List, length, sym, subst, arith}
-use Rattle.std.proofs.lemmas.Bool.{le-leb, lt-leb, eqb-true}
-use Rattle.df_trailer.specs.Rooms.{bits_in_words, byte_in_words}
-use Rattle.df_trailer.specs.Spelling.{listed}
-use Rattle.df_trailer.proofs.OneBit.{clear_is_small, number_fits, set_is_large}
-use Rattle.df_trailer.proofs.Blocks.{length_listed}
-use Rattle.df_trailer.proofs.Words.{words_fit}
+use Rattle.std.proofs.{Common.{◌≡◌, ◌-◌, ◌+◌, ◌*◌, ◌/◌, ◌^◌, ◌<◌, ◌∙◌, ℕ, List, length, sym, subst, arith}, lemmas.Bool.{le-leb, lt-leb, eqb-true}}
+use Rattle.df_trailer.{specs.{Rooms.{bits_in_words, byte_in_words}, Spelling.{listed}}, proofs.{OneBit.{clear_is_small, number_fits, set_is_large}, Blocks.{length_listed}, Words.{words_fit}}}
 use Rattle.df_trailer.proofs.bitmap.has_unused.Goals as goal
 
 pub returns-then-is_set : goal.returns-then-is_set

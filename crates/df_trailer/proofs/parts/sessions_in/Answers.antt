@@ -1,10 +1,7 @@
-use Rattle.std.proofs.Common.{◌+◌, ◌*◌, ◌∙◌, ◌++◌, ℕ, List, [], ◌∷◌, map, ap, sym, arith}
+use Rattle.std.proofs.{Common.{◌+◌, ◌*◌, ◌∙◌, ◌++◌, ℕ, List, [], ◌∷◌, map, ap, sym, arith}, lemmas.List.{map-append}}
 use Rattle.df_sessions.specs.declared.session.Session as table
 use Rattle.df_theory.specs.Units as model
-use Rattle.std.proofs.lemmas.List.{map-append}
-use Rattle.df_trailer.specs.Rooms.{without_reply}
-use Rattle.df_trailer.specs.Text.{read_sessions, session}
-use Rattle.df_trailer.proofs.Sessions.{read_more}
+use Rattle.df_trailer.{specs.{Rooms.{without_reply}, Text.{read_sessions, session}}, proofs.Sessions.{read_more}}
 use Rattle.df_trailer.proofs.parts.sessions_in.Goals as goal
 
 pub loop-place-preserved : goal.loop-place-preserved

@@ -1,7 +1,6 @@
 use Rattle.std.proofs.Common.{◌≡◌, map}
 use Rattle.arrayvec.specs.ArrayVec.{array_vec_len}
-use Rattle.df_trailer.specs.Rooms.{without_reply}
-use Rattle.df_trailer.specs.Text.{read_sessions}
+use Rattle.df_trailer.specs.{Rooms.{without_reply}, Text.{read_sessions}}
 use Rattle.df_trailer.proofs.parts.sessions_in.Given as goal
 
 abbrev pub invariant-loop-place : goal.invariant-loop-place

@@ -1,7 +1,5 @@
 use Rattle.std.proofs.Common.{◌≡◌, ◌+◌, ◌-◌, ◌/◌, ◌∙◌, ℕ, sym, arith}
-use Rattle.df_trailer.specs.Rooms.{bits_in_words}
-use Rattle.df_trailer.proofs.References.{few_ones}
-use Rattle.df_trailer.proofs.Spread.{rank_set, spread_first, spread_set, spread_unset}
+use Rattle.df_trailer.{specs.Rooms.{bits_in_words}, proofs.{References.{few_ones}, Spread.{rank_set, spread_first, spread_set, spread_unset}}}
 use Rattle.df_trailer.proofs.parts.spread.Goals as goal
 
 pub loop-place-init : goal.loop-place-init

@@ -1,6 +1,5 @@
 use Rattle.std.proofs.Common.{◌+◌, ◌/◌}
-use Rattle.df_trailer.specs.Rooms.{bits_in_words}
-use Rattle.df_trailer.proofs.Spread.{IsSpread}
+use Rattle.df_trailer.{specs.Rooms.{bits_in_words}, proofs.Spread.{IsSpread}}
 use Rattle.df_trailer.proofs.parts.spread.Given as goal
 
 abbrev pub invariant-loop-place : goal.invariant-loop-place

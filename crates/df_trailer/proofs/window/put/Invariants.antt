@@ -1,5 +1,4 @@
-use Rattle.std.proofs.Common.{◌≡◌, ℕ, ◌+◌, ◌<◌, length}
-use Rattle.std.specs.Prelude.{slice_index}
+use Rattle.std.{proofs.Common.{◌≡◌, ℕ, ◌+◌, ◌<◌, length}, specs.Prelude.{slice_index}}
 use Rattle.df_trailer.proofs.window.put.Given as goal
 
 abbrev pub invariant-loop-i : goal.invariant-loop-i

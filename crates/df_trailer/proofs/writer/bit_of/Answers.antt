@@ -1,7 +1,5 @@
 use Rattle.std.proofs.Common.{ℕ, Option, ap, sym, ◌∙◌, arith}
-use Rattle.df_trailer.specs.Rooms.{number_in}
-use Rattle.df_trailer.proofs.BitBytes.{bit_for}
-use Rattle.df_trailer.proofs.Shown.{captured_bit, captured_past}
+use Rattle.df_trailer.{specs.Rooms.{number_in}, proofs.{BitBytes.{bit_for}, Shown.{captured_bit, captured_past}}}
 use Rattle.df_trailer.proofs.writer.bit_of.Goals as goal
 
 pub returns-in-Some : goal.returns-in-Some

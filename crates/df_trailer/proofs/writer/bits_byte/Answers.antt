@@ -1,7 +1,5 @@
-use Rattle.std.proofs.Common.{◌+◌, ◌*◌, ◌<◌, ℕ, ap, sym, subst, arith}
-use Rattle.std.proofs.lemmas.Nat.Bits.{bit_at-lt}
-use Rattle.df_trailer.specs.Writing.{captured_bits}
-use Rattle.df_trailer.proofs.BitBytes.{byte_more, shifted}
+use Rattle.std.proofs.{Common.{◌+◌, ◌*◌, ◌<◌, ℕ, ap, sym, subst, arith}, lemmas.Nat.Bits.{bit_at-lt}}
+use Rattle.df_trailer.{specs.Writing.{captured_bits}, proofs.BitBytes.{byte_more, shifted}}
 use Rattle.df_trailer.proofs.writer.bits_byte.Goals as goal
 
 pub loop-bit-preserved : goal.loop-bit-preserved

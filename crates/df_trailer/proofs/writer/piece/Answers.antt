@@ -1,9 +1,6 @@
-use Rattle.std.proofs.Common.{◌≡◌, ◌-◌, ◌*◌, ℕ, List, length, take, drop, arith, ap}
-use Rattle.std.proofs.lemmas.List.{length-take-le}
+use Rattle.std.proofs.{Common.{◌≡◌, ◌-◌, ◌*◌, ℕ, List, length, take, drop, arith, ap}, lemmas.List.{length-take-le}}
 use Rattle.df_units.specs.Meaning.{layout_of}
-use Rattle.df_trailer.specs.Spelling.{spell}
-use Rattle.df_trailer.specs.Writing.{captured_parts}
-use Rattle.df_trailer.proofs.Shown.{piece_is}
+use Rattle.df_trailer.{specs.{Spelling.{spell}, Writing.{captured_parts}}, proofs.Shown.{piece_is}}
 use Rattle.df_trailer.proofs.writer.piece.Goals as goal
 
 pub returns-clause-piece : goal.returns-clause-piece

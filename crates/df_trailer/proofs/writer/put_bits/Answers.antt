@@ -1,11 +1,6 @@
-use Rattle.std.proofs.Common.{◌+◌, ◌/◌, ◌<◌, ◌≤◌, inl, inr, ◌∷◌, [], ◌++◌, ℕ, List, ap, sym, refl, ◌∙◌, arith, append_assoc, length-append}
-use Rattle.std.proofs.lemmas.Bool.{cases_lt}
-use Rattle.df_base.specs.Fields.{spelled}
-use Rattle.df_base.proofs.Laws.{length-spelled}
-use Rattle.df_trailer.specs.Writing.{captured_bits}
-use Rattle.df_trailer.proofs.BitBytes.{spelled_more}
-use Rattle.df_trailer.proofs.Shown.{shown_all}
-use Rattle.df_trailer.proofs.Skipped.{bytes_begun, bytes_shown}
+use Rattle.std.proofs.{Common.{◌+◌, ◌/◌, ◌<◌, ◌≤◌, inl, inr, ◌∷◌, [], ◌++◌, ℕ, List, ap, sym, refl, ◌∙◌, arith, append_assoc, length-append}, lemmas.Bool.{cases_lt}}
+use Rattle.df_base.{specs.Fields.{spelled}, proofs.Laws.{length-spelled}}
+use Rattle.df_trailer.{specs.Writing.{captured_bits}, proofs.{BitBytes.{spelled_more}, Shown.{shown_all}, Skipped.{bytes_begun, bytes_shown}}}
 use Rattle.df_trailer.proofs.writer.put_bits.Goals as goal
 
 pub loop-number-init : goal.loop-number-init

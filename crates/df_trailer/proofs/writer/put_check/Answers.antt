@@ -1,8 +1,6 @@
 use Rattle.std.proofs.Common.{◌≡◌, ℕ, Option, Some, List, [], ◌∷◌, length, ap, sym, ◌∙◌, arith, append-nil}
-use Rattle.df_base.specs.Fields.{spelled}
-use Rattle.df_base.proofs.Laws.{length-spelled}
-use Rattle.df_trailer.specs.Rooms.{number_in}
-use Rattle.df_trailer.specs.Spelling.{spell_checks}
+use Rattle.df_base.{specs.Fields.{spelled}, proofs.Laws.{length-spelled}}
+use Rattle.df_trailer.specs.{Rooms.{number_in}, Spelling.{spell_checks}}
 use Rattle.df_trailer.proofs.writer.put_check.Goals as goal
 
 pub returns-in-Some-clause-next : goal.returns-in-Some-clause-next

@@ -1,8 +1,5 @@
 use Rattle.std.proofs.Common.{◌≡◌, ◌+◌, ◌++◌, ℕ, List, Option, [], ◌∷◌, arith, length, length-append, refl, sym, ap, ◌∙◌, append_assoc}
-use Rattle.df_trailer.specs.Spelling.{spell_checks}
-use Rattle.df_trailer.specs.Writing.{captured_blocks}
-use Rattle.df_trailer.proofs.Shown.{checks_more, shown_all}
-use Rattle.df_trailer.proofs.Skipped.{checks_begun, checks_front, checks_size, front_short, referenced_few, shown_whole}
+use Rattle.df_trailer.{specs.{Spelling.{spell_checks}, Writing.{captured_blocks}}, proofs.{Shown.{checks_more, shown_all}, Skipped.{checks_begun, checks_front, checks_size, front_short, referenced_few, shown_whole}}}
 use Rattle.df_trailer.proofs.writer.put_checks.Goals as goal
 
 pub loop-place-init : goal.loop-place-init

@@ -1,6 +1,5 @@
 use Rattle.std.proofs.Common.{◌≡◌, ℕ, ◌+◌, ◌++◌, List, length}
-use Rattle.df_trailer.specs.Spelling.{spell_checks}
-use Rattle.df_trailer.specs.Writing.{IsPieceShown, captured_blocks}
+use Rattle.df_trailer.specs.{Spelling.{spell_checks}, Writing.{IsPieceShown, captured_blocks}}
 use Rattle.df_trailer.proofs.writer.put_checks.Given as goal
 
 abbrev pub invariant-loop-place : goal.invariant-loop-place

@@ -1,7 +1,6 @@
 use Rattle.std.proofs.Common.{◌++◌, ℕ, List}
 use Rattle.df_base.specs.Fields.{spelled}
-use Rattle.df_trailer.specs.Rooms.{trailer_session}
-use Rattle.df_trailer.proofs.Shown.{grown, one_session, shown_all}
+use Rattle.df_trailer.{specs.Rooms.{trailer_session}, proofs.Shown.{grown, one_session, shown_all}}
 use Rattle.df_trailer.proofs.writer.put_session.Goals as goal
 
 pub returns-clause-shown : goal.returns-clause-shown

@@ -1,10 +1,6 @@
-use Rattle.std.proofs.Common.{◌≡◌, ◌++◌, ℕ, List, [], ◌∷◌, get_or, arith, length, take, sym, ap, ◌∙◌, None}
-use Rattle.std.proofs.lemmas.List.{take_all}
+use Rattle.std.proofs.{Common.{◌≡◌, ◌++◌, ℕ, List, [], ◌∷◌, get_or, arith, length, take, sym, ap, ◌∙◌, None}, lemmas.List.{take_all}}
 use Rattle.df_sessions.specs.declared.session.Session.{Session}
-use Rattle.df_trailer.specs.Rooms.{trailer_session}
-use Rattle.df_trailer.specs.Spelling.{spell_sessions}
-use Rattle.df_trailer.specs.Writing.{sessions_of}
-use Rattle.df_trailer.proofs.Shown.{sessions_more, shown_all, size_before}
+use Rattle.df_trailer.{specs.{Rooms.{trailer_session}, Spelling.{spell_sessions}, Writing.{sessions_of}}, proofs.Shown.{sessions_more, shown_all, size_before}}
 use Rattle.df_trailer.proofs.writer.put_sessions.Goals as goal
 
 pub loop-session-preserved : goal.loop-session-preserved

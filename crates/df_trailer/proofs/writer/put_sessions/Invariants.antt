@@ -1,6 +1,5 @@
 use Rattle.std.proofs.Common.{◌≡◌, ℕ, ◌+◌, ◌*◌, ◌++◌, List, length, take}
-use Rattle.df_trailer.specs.Spelling.{spell_sessions}
-use Rattle.df_trailer.specs.Writing.{IsPieceShown, sessions_of}
+use Rattle.df_trailer.specs.{Spelling.{spell_sessions}, Writing.{IsPieceShown, sessions_of}}
 use Rattle.df_trailer.proofs.writer.put_sessions.Given as goal
 
 abbrev pub invariant-loop-session : goal.invariant-loop-session

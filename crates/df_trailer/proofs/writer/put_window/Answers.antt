@@ -1,12 +1,7 @@
-use Rattle.std.proofs.Common.{◌≡◌, ◌+◌, ◌-◌, ◌/◌, ◌++◌, ℕ, List, take, drop, ap, sym, ◌∙◌, arith, length, length-append}
-use Rattle.std.specs.Prelude.{min}
-use Rattle.df_base.specs.Fields.{spelled}
-use Rattle.df_base.proofs.Laws.{length-spelled}
+use Rattle.std.{proofs.Common.{◌≡◌, ◌+◌, ◌-◌, ◌/◌, ◌++◌, ℕ, List, take, drop, ap, sym, ◌∙◌, arith, length, length-append}, specs.Prelude.{min}}
+use Rattle.df_base.{specs.Fields.{spelled}, proofs.Laws.{length-spelled}}
 use Rattle.df_units.specs.Meaning.{layout_of}
-use Rattle.df_trailer.specs.Spelling.{spell, spell_checks, spell_sessions}
-use Rattle.df_trailer.specs.Writing.{IsPieceShown, captured_bits, captured_blocks, captured_parts, sessions_of}
-use Rattle.df_trailer.proofs.Sessions.{so_sessions}
-use Rattle.df_trailer.proofs.Shown.{length_of, same_text, window_is}
+use Rattle.df_trailer.{specs.{Spelling.{spell, spell_checks, spell_sessions}, Writing.{IsPieceShown, captured_bits, captured_blocks, captured_parts, sessions_of}}, proofs.{Sessions.{so_sessions}, Shown.{length_of, same_text, window_is}}}
 use Rattle.df_trailer.proofs.writer.put_window.Goals as goal
 
 pub returns-clause-shown : goal.returns-clause-shown

@@ -1,5 +1,4 @@
-use Rattle.df_units.proofs.Parts.{call_good, call_good_units, call_safe, call_whole, call_ends}
-use Rattle.df_units.proofs.Within.{steps_within}
+use Rattle.df_units.proofs.{Parts.{call_good, call_good_units, call_safe, call_whole, call_ends}, Within.{steps_within}}
 use Rattle.df_units.proofs.calls.calls_are_steps.Goals as goal
 
 pub returns-clause-good : goal.returns-clause-good

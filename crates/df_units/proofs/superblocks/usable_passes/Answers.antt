@@ -1,5 +1,4 @@
-use Rattle.df_units.proofs.Chosen.{shown_checks}
-use Rattle.df_units.proofs.Usable.{passing_is_usable, usable_passes}
+use Rattle.df_units.proofs.{Chosen.{shown_checks}, Usable.{passing_is_usable, usable_passes}}
 use Rattle.df_units.proofs.superblocks.usable_passes.Goals as goal
 
 pub returns-clause-passes : goal.returns-clause-passes

@@ -1,7 +1,6 @@
 -- The superblock of an upgrade obeys the rules.
 use Rattle.std.proofs.Common.{◌≡◌, ◌∙◌, ℕ, List, None, ap, subst, sym}
-use Rattle.df_format.specs.SuperRules.{fault_of}
-use Rattle.df_format.specs.declared.superblock.SuperFields.{SuperFields}
+use Rattle.df_format.specs.{SuperRules.{fault_of}, declared.superblock.SuperFields.{SuperFields}}
 use Rattle.df_rooms.specs.Recorded.{stored_checks}
 use Rattle.df_upgrade.proofs.Records.{base_passes}
 use Rattle.df_upgrade.proofs.base.fields_of.Goals as goal

@@ -1,22 +1,13 @@
 -- What was surveyed after the barrier is mended and gets its superblock of version 2.
-use Rattle.std.proofs.Common.{◌≡◌, ◌∙◌, ℕ, List, Option, Some, inr, refl, ap, subst, sym}
-use Rattle.std.specs.Prelude.{Ok, Err}
-use Rattle.df_base.specs.Causes.{Blamed}
-use Rattle.df_base.specs.Log.{Event, Sync}
-use Rattle.df_disk.specs.Adds.{AddsPart, after_all}
-use Rattle.df_disk.specs.Told.{Told, after, did}
+use Rattle.std.{proofs.Common.{◌≡◌, ◌∙◌, ℕ, List, Option, Some, inr, refl, ap, subst, sym}, specs.Prelude.{Ok, Err}}
+use Rattle.df_base.specs.{Causes.{Blamed}, Log.{Event, Sync}}
+use Rattle.df_disk.specs.{Adds.{AddsPart, after_all}, Told.{Told, after, did}}
 use Rattle.df_format.specs.declared.superblock.SuperFields.{SuperFields}
 use Rattle.df_units.proofs.Laws.{steps_within}
-use Rattle.df_model.specs.Faults.{is_mend_fault, is_open_fault}
-use Rattle.df_model.specs.declared.errors.OpenError.{OpenError}
-use Rattle.df_damage.specs.Anew.{restarted}
-use Rattle.df_damage.specs.Surveying.{TellsSurveyAs}
-use Rattle.df_opening.specs.Keeping.{format}
-use Rattle.df_opening.specs.Survey.{Survey}
-use Rattle.df_opening.proofs.Laws.{blamed_open, fault_adds, front_moments, front_spares, mend_stops, no_refusal, own_raising, planned_same, raising_spares, refused_tells}
-use Rattle.df_upgrade.specs.Base.{base_fields}
-use Rattle.df_upgrade.specs.Upgrading.{UpgradeStaysBare, upgrading_events, upgrading_steps}
-use Rattle.df_upgrade.proofs.Asked.{answers_old, stands_old}
+use Rattle.df_model.specs.{Faults.{is_mend_fault, is_open_fault}, declared.errors.OpenError.{OpenError}}
+use Rattle.df_damage.specs.{Anew.{restarted}, Surveying.{TellsSurveyAs}}
+use Rattle.df_opening.{specs.{Keeping.{format}, Survey.{Survey}}, proofs.Laws.{blamed_open, fault_adds, front_moments, front_spares, mend_stops, no_refusal, own_raising, planned_same, raising_spares, refused_tells}}
+use Rattle.df_upgrade.{specs.{Base.{base_fields}, Upgrading.{UpgradeStaysBare, upgrading_events, upgrading_steps}}, proofs.Asked.{answers_old, stands_old}}
 use Rattle.df_upgrade.proofs.upgraded.upgrade_file.Goals as goal
 
 pub returns-in-Ok-upgrade_surveyed-clause-answers : goal.returns-in-Ok-upgrade_surveyed-clause-answers

@@ -1,24 +1,11 @@
 -- What is listed is mended, and the four copies are written after it: the device calls are steps, so what they leave is the theory's.
-use Rattle.std.proofs.Common.{◌≡◌, refl, subst, sym}
-use Rattle.std.specs.Prelude.{Ok, Err}
-use Rattle.df_format.specs.SuperRules.{IsUsable}
-use Rattle.df_format.specs.declared.superblock.SuperFields.{SuperFields}
-use Rattle.df_format.proofs.Laws.{faults}
-use Rattle.df_superblock.specs.Events.{update_events}
-use Rattle.df_superblock.proofs.Laws.{update_is_steps}
-use Rattle.df_theory.specs.CopyPuts.{update_steps}
-use Rattle.df_theory.proofs.Laws.{steps_join_law}
+use Rattle.std.{proofs.Common.{◌≡◌, refl, subst, sym}, specs.Prelude.{Ok, Err}}
+use Rattle.df_format.{specs.{SuperRules.{IsUsable}, declared.superblock.SuperFields.{SuperFields}}, proofs.Laws.{faults}}
+use Rattle.df_superblock.{specs.Events.{update_events}, proofs.Laws.{update_is_steps}}
+use Rattle.df_theory.{specs.{CopyPuts.{update_steps}, Device.{AreSteps}}, proofs.Laws.{steps_join_law}}
 use Rattle.df_units.specs.Puts.{put_copies}
-use Rattle.df_opening.specs.Keeping.{format}
-use Rattle.df_opening.specs.Mending.{AddsUpdating}
-use Rattle.df_opening.specs.Survey.{Survey}
-use Rattle.df_opening.proofs.Laws.{updating_error, updating_fault, updating_ok, updating_then}
-use Rattle.df_upgrade.specs.Base.{MayUpgradeTo, base_fields}
-use Rattle.df_upgrade.specs.Old.{IsSoundSurvey}
-use Rattle.df_upgrade.specs.Upgrading.{UpgradesEach, restoring_events, restoring_steps, upgrading_events, upgrading_steps}
-use Rattle.df_theory.specs.Device.{AreSteps}
-use Rattle.df_upgrade.proofs.Above.{is_above}
-use Rattle.df_upgrade.proofs.Anew.{upgrades_anew}
+use Rattle.df_opening.{specs.{Keeping.{format}, Mending.{AddsUpdating}, Survey.{Survey}}, proofs.Laws.{updating_error, updating_fault, updating_ok, updating_then}}
+use Rattle.df_upgrade.{specs.{Base.{MayUpgradeTo, base_fields}, Old.{IsSoundSurvey}, Upgrading.{UpgradesEach, restoring_events, restoring_steps, upgrading_events, upgrading_steps}}, proofs.{Above.{is_above}, Anew.{upgrades_anew}}}
 use Rattle.df_upgrade.proofs.upgraded.upgrade_surveyed.Goals as goal
 
 both_steps : (s : Survey) → IsUsable (base_fields s.state) → AreSteps (format s.state.file) (restoring_events s) (restoring_steps s) → AreSteps (format s.state.file) (upgrading_events s) (upgrading_steps s)

@@ -1,7 +1,5 @@
 use Rattle.std.proofs.Common.{length, sym, ◌∙◌, ap}
-use Rattle.df_buffers.specs.Fillings.{Filling}
-use Rattle.df_buffers.proofs.Bodies.{filled_has}
-use Rattle.df_buffers.proofs.Finds.{is_no_ring}
+use Rattle.df_buffers.{specs.Fillings.{Filling}, proofs.{Bodies.{filled_has}, Finds.{is_no_ring}}}
 use Rattle.df_buffers.proofs.filled.Filled.len.Goals as goal
 
 pub returns : goal.returns

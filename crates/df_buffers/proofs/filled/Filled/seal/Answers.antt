@@ -1,20 +1,8 @@
 -- The room is sound, with the unit of the header and the body.
-use Rattle.std.proofs.Common.{◌≡◌, ◌≤◌, ◌+◌, ◌++◌, ℕ, List, length, take, drop, sym, ◌∙◌, ap, subst, arith}
-use Rattle.std.specs.Prelude.{IsSome}
+use Rattle.std.{proofs.Common.{◌≡◌, ◌≤◌, ◌+◌, ◌++◌, ℕ, List, length, take, drop, sym, ◌∙◌, ap, subst, arith}, specs.Prelude.{IsSome}}
 use Rattle.df_layout.specs.declared.layout.Layout.{Layout}
-use Rattle.df_format.specs.declared.header.Header.{Header}
-use Rattle.df_format.specs.Making.{for_body}
-use Rattle.df_format.specs.Message.{Message, sectors_end, sectors_of}
-use Rattle.df_format.specs.Own.{own_place}
-use Rattle.df_format.specs.Spelling.{sealed}
-use Rattle.df_format.specs.UnitLaws.{MadeIsUnit}
-use Rattle.df_format.specs.Whole.{greatest_size}
-use Rattle.df_buffers.specs.Fillings.{Filling}
-use Rattle.df_buffers.specs.Rooms.{FillsRoom}
-use Rattle.df_buffers.proofs.Bodies.{filled_has}
-use Rattle.df_buffers.proofs.Finds.{is_no_ring}
-use Rattle.df_buffers.proofs.Making.{IsMade, made_in, put_back}
-use Rattle.df_buffers.proofs.filled.Filled.seal.Given.{Over}
+use Rattle.df_format.specs.{declared.header.Header.{Header}, Making.{for_body}, Message.{Message, sectors_end, sectors_of}, Own.{own_place}, Spelling.{sealed}, UnitLaws.{MadeIsUnit}, Whole.{greatest_size}}
+use Rattle.df_buffers.{specs.{Fillings.{Filling}, Rooms.{FillsRoom}}, proofs.{Bodies.{filled_has}, Finds.{is_no_ring}, Making.{IsMade, made_in, put_back}, filled.Filled.seal.Given.{Over}}}
 use Rattle.df_buffers.proofs.filled.Filled.seal.Goals as goal
 
 pub seal_unit-made-requires-clause-room : goal.seal_unit-made-requires-clause-room

@@ -2,9 +2,7 @@
 use Rattle.std.proofs.Common.{◌≡◌, ◌≤◌, ◌+◌, ◌++◌, ℕ, List, length, take, drop, sym, ◌∙◌, ap, subst, arith}
 use Rattle.df_layout.specs.declared.layout.Layout.{Layout}
 use Rattle.df_format.specs.Whole.{greatest_size}
-use Rattle.df_buffers.specs.Rooms.{Room}
-use Rattle.df_buffers.proofs.Finds.{is_no_ring}
-use Rattle.df_buffers.proofs.Making.{made_fits, put_back}
+use Rattle.df_buffers.{specs.Rooms.{Room}, proofs.{Finds.{is_no_ring}, Making.{made_fits, put_back}}}
 use Rattle.df_buffers.proofs.raw.Raw.fill.Goals as goal
 
 pub put_body-requires : goal.put_body-requires

@@ -1,15 +1,7 @@
-use Rattle.std.proofs.Common.{◌≡◌, ◌≤◌, ◌+◌, ◌++◌, ℕ, List, length, take, drop, sym, ◌∙◌, ap, subst, arith}
+use Rattle.std.{proofs.Common.{◌≡◌, ◌≤◌, ◌+◌, ◌++◌, ℕ, List, length, take, drop, sym, ◌∙◌, ap, subst, arith}, specs.Prelude.{IsSome}}
 use Rattle.df_layout.specs.declared.layout.Layout.{Layout}
-use Rattle.df_format.specs.declared.header.Header.{Header}
-use Rattle.df_format.specs.Message.{Message, sectors_end, sectors_of}
-use Rattle.df_format.specs.Whole.{greatest_size}
-use Rattle.df_format.specs.Own.{own_place}
-use Rattle.std.specs.Prelude.{IsSome}
-use Rattle.df_format.specs.UnitLaws.{MadeIsUnit}
-use Rattle.df_buffers.specs.Rooms.{Room, FillsRoom}
-use Rattle.df_buffers.proofs.Finds.{is_no_ring}
-use Rattle.df_buffers.proofs.Making.{IsMade, made_in, made_fits, put_back}
-use Rattle.df_buffers.proofs.raw.Raw.make.Given.{Over}
+use Rattle.df_format.specs.{declared.header.Header.{Header}, Message.{Message, sectors_end, sectors_of}, Whole.{greatest_size}, Own.{own_place}, UnitLaws.{MadeIsUnit}}
+use Rattle.df_buffers.{specs.Rooms.{Room, FillsRoom}, proofs.{Finds.{is_no_ring}, Making.{IsMade, made_in, made_fits, put_back}, raw.Raw.make.Given.{Over}}}
 use Rattle.df_buffers.proofs.raw.Raw.make.Goals as goal
 
 pub make_unit-made-requires-clause-room : goal.make_unit-made-requires-clause-room

@@ -1,6 +1,5 @@
 use Rattle.std.proofs.Common.{sym, ◌∙◌, ap}
-use Rattle.df_buffers.specs.Rooms.{Room}
-use Rattle.df_buffers.proofs.Finds.{sound_from, found_in, there_in}
+use Rattle.df_buffers.{specs.Rooms.{Room}, proofs.Finds.{sound_from, found_in, there_in}}
 use Rattle.df_buffers.proofs.raw.Raw.prove.Goals as goal
 
 pub invariant_of-result : goal.invariant_of-result

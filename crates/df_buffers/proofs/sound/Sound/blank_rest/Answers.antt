@@ -1,11 +1,7 @@
 -- The room with zeros after its unit is sound still.
 use Rattle.std.proofs.Common.{◌-◌, ◌++◌, List, ℕ, length, take, drop, replicate, ◌∙◌, ap, subst, arith}
 use Rattle.df_base.specs.Fields.{AreBytes}
-use Rattle.df_buffers.specs.Sounds.{Holding, holding_of}
-use Rattle.df_buffers.proofs.Finds.{ends}
-use Rattle.df_buffers.proofs.Making.{put_back}
-use Rattle.df_buffers.proofs.Tidied.{IsStill, blanked}
-use Rattle.df_buffers.proofs.sound.Sound.blank_rest.Given.{Over}
+use Rattle.df_buffers.{specs.Sounds.{Holding, holding_of}, proofs.{Finds.{ends}, Making.{put_back}, Tidied.{IsStill, blanked}, sound.Sound.blank_rest.Given.{Over}}}
 use Rattle.df_buffers.proofs.sound.Sound.blank_rest.Goals as goal
 
 pub blank_from-requires : goal.blank_from-requires

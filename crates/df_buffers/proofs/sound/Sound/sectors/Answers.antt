@@ -1,6 +1,5 @@
 use Rattle.std.proofs.Common.{arith, rules, subst}
-use Rattle.df_buffers.specs.Sounds.{Holding, IsSound}
-use Rattle.df_buffers.proofs.Finds.{ends, are_whole, sectors_bring}
+use Rattle.df_buffers.{specs.Sounds.{Holding, IsSound}, proofs.Finds.{ends, are_whole, sectors_bring}}
 use Rattle.df_buffers.proofs.sound.Sound.sectors.Goals as goal
 
 pub sectors_in-requires : goal.sectors_in-requires

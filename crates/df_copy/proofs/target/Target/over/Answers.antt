@@ -1,10 +1,8 @@
 -- The rooms hold no block and no checksum.
 use Rattle.std.proofs.Common.{refl, ap, ◌∙◌}
 use Rattle.df_layout.specs.declared.layout.Layout.{Layout}
-use Rattle.df_format.specs.Spelling.{no_checksum}
-use Rattle.df_format.specs.Super.{no_checksums}
-use Rattle.df_grid.specs.Grid.{GridState}
-use Rattle.df_grid.specs.Table.{no_blocks}
+use Rattle.df_format.specs.{Spelling.{no_checksum}, Super.{no_checksums}}
+use Rattle.df_grid.specs.{Grid.{GridState}, Table.{no_blocks}}
 use Rattle.df_copy.proofs.target.Target.over.Goals as goal
 
 pub returns : goal.returns

@@ -1,8 +1,6 @@
 -- What isn't counted is free.
-use Rattle.std.proofs.Common.{◌≡◌, arith}
-use Rattle.std.specs.Prelude.{count_ones, sum_by}
-use Rattle.df_freeset.proofs.Counts.{none_free, all_taken}
-use Rattle.df_freeset.proofs.Views.{free_left}
+use Rattle.std.{proofs.Common.{◌≡◌, arith}, specs.Prelude.{count_ones, sum_by}}
+use Rattle.df_freeset.proofs.{Counts.{none_free, all_taken}, Views.{free_left}}
 use Rattle.df_freeset.proofs.set.FreeSet.free.Goals as goal
 
 pub overflow_sub-result : goal.overflow_sub-result

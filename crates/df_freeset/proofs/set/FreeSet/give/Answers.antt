@@ -1,9 +1,6 @@
 -- The address's bit is cleared, and the bit of its word.
 use Rattle.std.proofs.Common.{◌≡◌, ◌-◌, ◌/◌, refl}
-use Rattle.df_freeset.specs.Bits.{clearing}
-use Rattle.df_freeset.proofs.Counts.{one_more}
-use Rattle.df_freeset.proofs.Views.{bit_below, given_view, word_there, written_back}
-use Rattle.df_freeset.proofs.Summary.{empties, summary_inside}
+use Rattle.df_freeset.{specs.Bits.{clearing}, proofs.{Counts.{one_more}, Views.{bit_below, given_view, word_there, written_back}, Summary.{empties, summary_inside}}}
 use Rattle.df_freeset.proofs.set.FreeSet.give.Goals as goal
 
 pub clear_bit-requires : goal.clear_bit-requires

@@ -1,12 +1,6 @@
 -- The summary is full, or its lowest zero is beyond the words, or is the first word with a zero.
-use Rattle.std.proofs.Common.{◌≡◌, ◌≤◌, ◌<◌, IsNone, ◌*◌, ◌+◌, length, arith, rules, refl, sym, subst, ◌∙◌}
-use Rattle.std.specs.Prelude.{slice_index}
-use Rattle.std.proofs.lemmas.Bool.{ltb-true, ltb-false}
-use Rattle.std.proofs.lemmas.List.{get_or_read}
-use Rattle.df_freeset.specs.Addresses.{AreAllTaken, IsLeastFree}
-use Rattle.df_freeset.specs.Bits.{IsLowestZero, AreFull}
-use Rattle.df_freeset.proofs.Least.{zero_is_least, zero_is_beyond, not_both}
-use Rattle.df_freeset.proofs.Summary.{summary_full, summary_beyond, summary_lowest}
+use Rattle.std.{proofs.{Common.{◌≡◌, ◌≤◌, ◌<◌, IsNone, ◌*◌, ◌+◌, length, arith, rules, refl, sym, subst, ◌∙◌}, lemmas.Bool.{ltb-true, ltb-false}, lemmas.List.{get_or_read}}, specs.Prelude.{slice_index}}
+use Rattle.df_freeset.{specs.{Addresses.{AreAllTaken, IsLeastFree}, Bits.{IsLowestZero, AreFull}}, proofs.{Least.{zero_is_least, zero_is_beyond, not_both}, Summary.{summary_full, summary_beyond, summary_lowest}}}
 use Rattle.df_freeset.proofs.set.FreeSet.least_free.Goals as goal
 
 pub returns-in_err-word-clause-none : goal.returns-in_err-word-clause-none

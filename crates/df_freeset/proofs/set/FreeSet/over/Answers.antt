@@ -1,7 +1,5 @@
 -- Zeros have no bit set.
-use Rattle.std.proofs.Common.{inl, inr, length}
-use Rattle.std.proofs.lemmas.Bool.{cases_lt}
-use Rattle.std.proofs.lemmas.List.{get_or_past}
+use Rattle.std.proofs.{Common.{inl, inr, length}, lemmas.Bool.{cases_lt}, lemmas.List.{get_or_past}}
 use Rattle.df_freeset.proofs.Words.{taken_zeros}
 use Rattle.df_freeset.proofs.set.FreeSet.over.Goals as goal
 

@@ -1,10 +1,6 @@
 -- The address's bit is set, and the bit of its word where this fills it.
-use Rattle.std.proofs.Common.{◌≡◌, ◌-◌, ◌/◌, refl, sym, ◌∙◌, arith}
-use Rattle.std.specs.Prelude.{slice_index}
-use Rattle.df_freeset.specs.Bits.{setting}
-use Rattle.df_freeset.proofs.Counts.{one_fewer}
-use Rattle.df_freeset.proofs.Views.{bit_below, taken_view, word_there, written_back, read_back}
-use Rattle.df_freeset.proofs.Summary.{fills, leaves_open, summary_inside}
+use Rattle.std.{proofs.Common.{◌≡◌, ◌-◌, ◌/◌, refl, sym, ◌∙◌, arith}, specs.Prelude.{slice_index}}
+use Rattle.df_freeset.{specs.Bits.{setting}, proofs.{Counts.{one_fewer}, Views.{bit_below, taken_view, word_there, written_back, read_back}, Summary.{fills, leaves_open, summary_inside}}}
 use Rattle.df_freeset.proofs.set.FreeSet.take.Goals as goal
 
 pub set_bit-requires : goal.set_bit-requires

@@ -1,6 +1,5 @@
 -- A checksum and its marks are the entry.
-use Rattle.std.proofs.Common.{◌-◌, ◌<◌, length, refl, ap, arith}
-use Rattle.std.proofs.lemmas.Option.{slice_get_read}
+use Rattle.std.proofs.{Common.{◌-◌, ◌<◌, length, refl, ap, arith}, lemmas.Option.{slice_get_read}}
 use Rattle.df_grid.proofs.Zips.{length_entries, get_entries}
 use Rattle.df_grid.proofs.entries.Entries.get.Goals as goal
 

@@ -1,6 +1,5 @@
 -- It is the table's.
-use Rattle.std.proofs.Common.{◌≡◌, ◌*◌, subst}
-use Rattle.std.specs.Prelude.{IfSome}
+use Rattle.std.{proofs.Common.{◌≡◌, ◌*◌, subst}, specs.Prelude.{IfSome}}
 use Rattle.df_model.specs.Blocks.{sum_at}
 use Rattle.df_trailer.specs.Writing.{referenced_among}
 use Rattle.df_grid.specs.Grid.{GridState}

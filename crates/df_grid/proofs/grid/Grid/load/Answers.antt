@@ -1,12 +1,9 @@
 -- What was read into the room is what the machine reads.
-use Rattle.std.proofs.Common.{◌≡◌, Some, sym, ap, subst, ◌∙◌, arith}
-use Rattle.std.specs.Prelude.{IfOk}
+use Rattle.std.{proofs.Common.{◌≡◌, Some, sym, ap, subst, ◌∙◌, arith}, specs.Prelude.{IfOk}}
 use Rattle.df_model.specs.Blocks.{sum_at}
 use Rattle.df_units.specs.Meaning.{number_of}
 use Rattle.df_trailer.specs.Rooms.{number_in}
-use Rattle.df_grid.specs.Grid.{GridState}
-use Rattle.df_grid.specs.Reads.{HoldsKnown, Loads}
-use Rattle.df_grid.proofs.Loading.{holds_all, loads_all}
+use Rattle.df_grid.{specs.{Grid.{GridState}, Reads.{HoldsKnown, Loads}}, proofs.Loading.{holds_all, loads_all}}
 use Rattle.df_grid.proofs.grid.Grid.load.Goals as goal
 
 pub load-requires-clause-place : goal.load-requires-clause-place

@@ -1,9 +1,6 @@
 -- The first that isn't held is one of the grid's.
-use Rattle.std.proofs.Common.{ℕ, ◌∙◌, ap}
-use Rattle.std.specs.Prelude.{slice_get}
-use Rattle.df_grid.specs.Grid.{GridState, free_addresses}
-use Rattle.df_grid.specs.Table.{unheld}
-use Rattle.df_grid.proofs.Answered.{next_unheld}
+use Rattle.std.{proofs.Common.{ℕ, ◌∙◌, ap}, specs.Prelude.{slice_get}}
+use Rattle.df_grid.{specs.{Grid.{GridState, free_addresses}, Table.{unheld}}, proofs.Answered.{next_unheld}}
 use Rattle.df_grid.proofs.grid.Grid.next.Goals as goal
 
 pub returns-clause-unheld : goal.returns-clause-unheld

@@ -1,13 +1,10 @@
 -- What was read into the room is what the machine reads.
-use Rattle.std.proofs.Common.{◌≡◌, Some, refl, sym, ap, subst, ◌∙◌, arith}
-use Rattle.std.specs.Prelude.{Ok, Err}
+use Rattle.std.{proofs.Common.{◌≡◌, Some, refl, sym, ap, subst, ◌∙◌, arith}, specs.Prelude.{Ok, Err}}
 use Rattle.df_format.specs.declared.kind.Kind.TheVariants.{Block}
 use Rattle.df_model.specs.Blocks.{sum_at}
 use Rattle.df_units.specs.Meaning.{block_of, number_of}
 use Rattle.df_trailer.specs.Rooms.{number_in}
-use Rattle.df_grid.specs.Grid.{GridState, IsKnownBlock}
-use Rattle.df_grid.specs.Reads.{ReadsBlock}
-use Rattle.df_grid.proofs.Reading.{shows_block, shows_other_block, shows_valid}
+use Rattle.df_grid.{specs.{Grid.{GridState, IsKnownBlock}, Reads.{ReadsBlock}}, proofs.Reading.{shows_block, shows_other_block, shows_valid}}
 use Rattle.df_grid.proofs.grid.Grid.show.Goals as goal
 
 pub load-requires-clause-place : goal.load-requires-clause-place

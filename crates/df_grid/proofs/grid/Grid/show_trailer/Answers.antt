@@ -1,11 +1,8 @@
 -- What was read into the room is what the machine reads.
-use Rattle.std.proofs.Common.{Some, refl, subst}
-use Rattle.std.specs.Prelude.{Ok, Err}
+use Rattle.std.{proofs.Common.{Some, refl, subst}, specs.Prelude.{Ok, Err}}
 use Rattle.df_format.specs.declared.kind.Kind.TheVariants.{Trailer}
 use Rattle.df_units.specs.Meaning.{block_of, number_of}
-use Rattle.df_grid.specs.Grid.{GridState, IsKnownBlock}
-use Rattle.df_grid.specs.Reads.{ReadsTrailer}
-use Rattle.df_grid.proofs.Reading.{shows_other_trailer, shows_trailer, shows_valid}
+use Rattle.df_grid.{specs.{Grid.{GridState, IsKnownBlock}, Reads.{ReadsTrailer}}, proofs.Reading.{shows_other_trailer, shows_trailer, shows_valid}}
 use Rattle.df_grid.proofs.grid.Grid.show_trailer.Goals as goal
 
 pub returns-in-Some : goal.returns-in-Some

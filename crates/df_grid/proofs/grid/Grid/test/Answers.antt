@@ -1,12 +1,9 @@
 -- What is wrong with what is seen is what the machine finds wrong.
 use Rattle.std.proofs.Common.{subst}
-use Rattle.df_layout.specs.declared.layout.Layout.{Layout}
-use Rattle.df_layout.specs.declared.places.Place.{Place}
+use Rattle.df_layout.specs.{declared.layout.Layout.{Layout}, declared.places.Place.{Place}}
 use Rattle.df_units.specs.Meaning.{number_of}
 use Rattle.df_places.specs.Units.{IsSeen}
-use Rattle.df_grid.specs.Grid.{GridState}
-use Rattle.df_grid.specs.Reads.{Tests}
-use Rattle.df_grid.proofs.Reading.{tests}
+use Rattle.df_grid.{specs.{Grid.{GridState}, Reads.{Tests}}, proofs.Reading.{tests}}
 use Rattle.df_grid.proofs.grid.Grid.test.Goals as goal
 
 pub returns-clause-tested : goal.returns-clause-tested

@@ -1,13 +1,8 @@
 -- A sound block stands at its own address, and its write is the machine's put.
 use Rattle.std.proofs.Common.{◌≡◌, ◌≤◌, sym, ap, subst, ◌∙◌, arith}
-use Rattle.df_layout.specs.declared.places.Place.{Place}
-use Rattle.df_layout.specs.declared.places.Zone.TheVariants.{Grid as InGrid}
-use Rattle.df_format.specs.declared.header.Header.{Header}
-use Rattle.df_format.specs.declared.kind.Kind.TheVariants.{Block}
-use Rattle.df_format.specs.Own.{place_in}
-use Rattle.df_format.specs.Valid.{IsUnit}
-use Rattle.df_grid.specs.Grid.{GridState}
-use Rattle.df_grid.proofs.Writing.{own_address, own_block, own_steps}
+use Rattle.df_layout.specs.{declared.places.Place.{Place}, declared.places.Zone.TheVariants.{Grid as InGrid}}
+use Rattle.df_format.specs.{declared.header.Header.{Header}, declared.kind.Kind.TheVariants.{Block}, Own.{place_in}, Valid.{IsUnit}}
+use Rattle.df_grid.{specs.Grid.{GridState}, proofs.Writing.{own_address, own_block, own_steps}}
 use Rattle.df_grid.proofs.grid.Grid.write.Goals as goal
 
 pub put_unit-requires-clause-own : goal.put_unit-requires-clause-own

@@ -1,13 +1,9 @@
 -- The block that was made is the running trailer's next one.
-use Rattle.std.proofs.Common.{◌≡◌, ℕ, List, ap, subst, ◌∙◌, arith}
-use Rattle.std.specs.Prelude.{slice_get}
+use Rattle.std.{proofs.Common.{◌≡◌, ℕ, List, ap, subst, ◌∙◌, arith}, specs.Prelude.{slice_get}}
 use Rattle.df_disk.specs.Adds.{AddsPart, after_all}
 use Rattle.df_format.specs.declared.header.Header.{Header}
 use Rattle.df_units.specs.Meaning.{number_of}
-use Rattle.df_grid.specs.Grid.{GridState, with_blocks}
-use Rattle.df_grid.specs.Table.{TableState, next_written}
-use Rattle.df_grid.specs.Writes.{address_in, checksum_in, made, made_events, next_header, next_unit}
-use Rattle.df_grid.proofs.Writing.{state_of, header_next, header_owns, next_is, next_steps}
+use Rattle.df_grid.{specs.{Grid.{GridState, with_blocks}, Table.{TableState, next_written}, Writes.{address_in, checksum_in, made, made_events, next_header, next_unit}}, proofs.Writing.{state_of, header_next, header_owns, next_is, next_steps}}
 use Rattle.df_grid.proofs.grid.Grid.write_trailer.Goals as goal
 
 pub put_made-requires-clause-own : goal.put_made-requires-clause-own

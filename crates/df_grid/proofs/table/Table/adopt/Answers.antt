@@ -1,10 +1,7 @@
 -- Its entry was unmarked.
 use Rattle.std.proofs.Common.{◌-◌, length, refl, ap, ◌∙◌, arith}
 use Rattle.df_model.specs.Blocks.{is_held_in}
-use Rattle.df_grid.specs.Table.{TableState}
-use Rattle.df_grid.proofs.Groups.{counts_kept}
-use Rattle.df_grid.proofs.Keeping.{unheld_entry}
-use Rattle.df_grid.proofs.Views.{adopt_chained, adopt_chained_state, adopt_live, adopt_live_state, length_pairs}
+use Rattle.df_grid.{specs.Table.{TableState}, proofs.{Groups.{counts_kept}, Keeping.{unheld_entry}, Views.{adopt_chained, adopt_chained_state, adopt_live, adopt_live_state, length_pairs}}}
 use Rattle.df_grid.proofs.table.Table.adopt.Goals as goal
 
 pub insert-requires : goal.insert-requires

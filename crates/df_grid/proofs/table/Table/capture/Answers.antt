@@ -1,14 +1,7 @@
 -- All entries are captured, and the least free addresses taken.
-use Rattle.std.proofs.Common.{◌≡◌, List, [], length, take, map, ap, subst, ◌∙◌, arith}
-use Rattle.std.proofs.lemmas.List.{length-map}
+use Rattle.std.proofs.{Common.{◌≡◌, List, [], length, take, map, ap, subst, ◌∙◌, arith}, lemmas.List.{length-map}}
 use Rattle.df_model.specs.Blocks.{blocks_captured}
-use Rattle.df_grid.specs.declared.entry.Entry.{Entry}
-use Rattle.df_grid.specs.Table.{AreCounts, IsGridTable, TableState, blocks_in, capturing, is_captured, open_from, picked, unheld}
-use Rattle.df_grid.proofs.Held.{unheld_open}
-use Rattle.df_grid.proofs.Free.{open_count}
-use Rattle.df_grid.proofs.Captures.{captured_blocks, captured_kept, no_pairs}
-use Rattle.df_grid.proofs.Groups.{all_counted}
-use Rattle.df_grid.proofs.Views.{viewed}
+use Rattle.df_grid.{specs.{declared.entry.Entry.{Entry}, Table.{AreCounts, IsGridTable, TableState, blocks_in, capturing, is_captured, open_from, picked, unheld}}, proofs.{Held.{unheld_open}, Free.{open_count}, Captures.{captured_blocks, captured_kept, no_pairs}, Groups.{all_counted}, Views.{viewed}}}
 use Rattle.df_grid.proofs.table.Table.capture.Goals as goal
 
 pub take_least-self-inside-requires-clause-enough : goal.take_least-self-inside-requires-clause-enough

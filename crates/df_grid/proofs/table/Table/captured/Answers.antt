@@ -2,9 +2,7 @@
 use Rattle.std.proofs.Common.{sym, ap, ◌∙◌}
 use Rattle.df_model.specs.Blocks.{sum_at}
 use Rattle.df_trailer.specs.Rooms.{number_in}
-use Rattle.df_grid.specs.Table.{TableState, is_captured}
-use Rattle.df_grid.proofs.Held.{look_none, look_some}
-use Rattle.df_grid.proofs.Views.{known_number}
+use Rattle.df_grid.{specs.Table.{TableState, is_captured}, proofs.{Held.{look_none, look_some}, Views.{known_number}}}
 use Rattle.df_grid.proofs.table.Table.captured.Goals as goal
 
 pub returns-in_err-entry : goal.returns-in_err-entry

@@ -1,10 +1,8 @@
 -- A count of the table's is right, and there is one where all are kept.
-use Rattle.std.proofs.Common.{◌≡◌, ◌-◌, ◌*◌, ℕ, List, ap, sym, subst, ◌∙◌, arith}
-use Rattle.std.specs.Prelude.{IfSome, slice_get}
+use Rattle.std.{proofs.Common.{◌≡◌, ◌-◌, ◌*◌, ℕ, List, ap, sym, subst, ◌∙◌, arith}, specs.Prelude.{IfSome, slice_get}}
 use Rattle.df_model.specs.Blocks.{sum_at}
 use Rattle.df_trailer.specs.Writing.{referenced_among}
-use Rattle.df_grid.specs.Table.{TableState}
-use Rattle.df_grid.proofs.Groups.{copied_at, count_is, count_there}
+use Rattle.df_grid.{specs.Table.{TableState}, proofs.Groups.{copied_at, count_is, count_there}}
 use Rattle.df_grid.proofs.table.Table.counted.Goals as goal
 
 pub returns-clause-count : goal.returns-clause-count

@@ -1,16 +1,7 @@
 -- All entries are finished.
-use Rattle.std.proofs.Common.{◌≡◌, List, ℕ, [], Some, length, map, ap, subst, ◌∙◌, arith}
-use Rattle.std.specs.Prelude.{slice_get}
-use Rattle.std.proofs.lemmas.List.{length-map}
-use Rattle.std.proofs.lemmas.Option.{slice_get_within}
+use Rattle.std.{proofs.{Common.{◌≡◌, List, ℕ, [], Some, length, map, ap, subst, ◌∙◌, arith}, lemmas.List.{length-map}, lemmas.Option.{slice_get_within}}, specs.Prelude.{slice_get}}
 use Rattle.df_model.specs.Blocks.{capture_finished}
-use Rattle.df_grid.specs.declared.entry.Entry.{Entry}
-use Rattle.df_grid.specs.Entries.{is_marked}
-use Rattle.df_grid.specs.Table.{IsGridTable, TableState, blocks_in, finishing}
-use Rattle.df_grid.proofs.Captures.{finished_blocks, finished_kept}
-use Rattle.df_grid.proofs.Groups.{none_counted}
-use Rattle.df_grid.proofs.Turns.{part_all}
-use Rattle.df_grid.proofs.Views.{viewed}
+use Rattle.df_grid.{specs.{declared.entry.Entry.{Entry}, Entries.{is_marked}, Table.{IsGridTable, TableState, blocks_in, finishing}}, proofs.{Captures.{finished_blocks, finished_kept}, Groups.{none_counted}, Turns.{part_all}, Views.{viewed}}}
 use Rattle.df_grid.proofs.table.Table.finish.Goals as goal
 
 pub invariant_of-self : goal.invariant_of-self

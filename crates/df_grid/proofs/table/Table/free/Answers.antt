@@ -1,8 +1,6 @@
 -- The free ones are those that are not held.
 use Rattle.std.proofs.Common.{length, sym, ap, ◌∙◌}
-use Rattle.df_grid.specs.Table.{TableState, unheld}
-use Rattle.df_grid.proofs.Held.{unheld_open}
-use Rattle.df_grid.proofs.Free.{open_count}
+use Rattle.df_grid.{specs.Table.{TableState, unheld}, proofs.{Held.{unheld_open}, Free.{open_count}}}
 use Rattle.df_grid.proofs.table.Table.free.Goals as goal
 
 pub returns : goal.returns

@@ -1,8 +1,6 @@
 -- It is one of the table, with its checksum.
-use Rattle.std.proofs.Common.{◌≡◌, ◌-◌, List, ℕ, Some, sym, ap, ◌∙◌, arith}
-use Rattle.std.specs.Prelude.{slice_get}
-use Rattle.df_grid.specs.Table.{TableState}
-use Rattle.df_grid.proofs.Views.{written_first, written_inside}
+use Rattle.std.{proofs.Common.{◌≡◌, ◌-◌, List, ℕ, Some, sym, ap, ◌∙◌, arith}, specs.Prelude.{slice_get}}
+use Rattle.df_grid.{specs.Table.{TableState}, proofs.Views.{written_first, written_inside}}
 use Rattle.df_grid.proofs.table.Table.last_written.Goals as goal
 
 pub get-requires : goal.get-requires

@@ -2,9 +2,7 @@
 use Rattle.std.proofs.Common.{sym, ap, ◌∙◌, arith}
 use Rattle.df_model.specs.Blocks.{sum_at}
 use Rattle.df_trailer.specs.Rooms.{number_in}
-use Rattle.df_grid.specs.Table.{TableState, is_live}
-use Rattle.df_grid.proofs.Held.{look_none, look_some}
-use Rattle.df_grid.proofs.Views.{if_none, if_some, entry_is, known_number}
+use Rattle.df_grid.{specs.Table.{TableState, is_live}, proofs.{Held.{look_none, look_some}, Views.{if_none, if_some, entry_is, known_number}}}
 use Rattle.df_grid.proofs.table.Table.live.Goals as goal
 
 pub returns-in_err-entry-clause-checksum : goal.returns-in_err-entry-clause-checksum

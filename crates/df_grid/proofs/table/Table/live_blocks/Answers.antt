@@ -1,11 +1,8 @@
 -- What is counted is what is looked up.
 use Rattle.std.proofs.Common.{map, ap, ◌∙◌}
 use Rattle.df_model.specs.Blocks.{sum_at}
-use Rattle.df_trailer.specs.Spelling.{is_referenced}
-use Rattle.df_trailer.specs.Text.{ones}
-use Rattle.df_trailer.specs.Writing.{captured_blocks}
-use Rattle.df_grid.specs.Table.{TableState, is_live}
-use Rattle.df_grid.proofs.Counted.{counted}
+use Rattle.df_trailer.specs.{Spelling.{is_referenced}, Text.{ones}, Writing.{captured_blocks}}
+use Rattle.df_grid.{specs.Table.{TableState, is_live}, proofs.Counted.{counted}}
 use Rattle.df_grid.proofs.table.Table.live_blocks.Goals as goal
 
 pub returns-clause-captured : goal.returns-clause-captured

@@ -1,7 +1,5 @@
 -- The marked ones are those that are referenced.
-use Rattle.std.proofs.Common.{List, ℕ, sym, ap, ◌∙◌}
-use Rattle.std.specs.Prelude.{nat_lt, slice_get}
-use Rattle.std.specs.List.{filter}
+use Rattle.std.{proofs.Common.{List, ℕ, sym, ap, ◌∙◌}, specs.{Prelude.{nat_lt, slice_get}, List.{filter}}}
 use Rattle.df_grid.proofs.Held.{referenced_marked}
 use Rattle.df_grid.proofs.table.Table.next_referenced.Goals as goal
 

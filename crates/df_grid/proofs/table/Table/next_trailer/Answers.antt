@@ -1,8 +1,6 @@
 -- It is one of the table's.
-use Rattle.std.proofs.Common.{ℕ, List, ◌≤◌, ap, subst, ◌∙◌}
-use Rattle.std.specs.Prelude.{IfSome, slice_get}
-use Rattle.df_grid.specs.Table.{TableState}
-use Rattle.df_grid.proofs.Views.{left_inside}
+use Rattle.std.{proofs.Common.{ℕ, List, ◌≤◌, ap, subst, ◌∙◌}, specs.Prelude.{IfSome, slice_get}}
+use Rattle.df_grid.{specs.Table.{TableState}, proofs.Views.{left_inside}}
 use Rattle.df_grid.proofs.table.Table.next_trailer.Goals as goal
 
 pub returns-clause-inside : goal.returns-clause-inside

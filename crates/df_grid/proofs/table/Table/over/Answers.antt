@@ -1,11 +1,6 @@
 -- No entry is marked, and no address is taken.
-use Rattle.std.proofs.Common.{ℕ, [], length, sym, ap, ◌∙◌, arith}
-use Rattle.std.proofs.lemmas.Option.{get_or_from_slice_get, slice_get_within}
-use Rattle.df_grid.specs.Entries.{entries_of}
-use Rattle.df_grid.proofs.Zips.{length_entries}
-use Rattle.df_grid.specs.Table.{blocks_in}
-use Rattle.df_grid.proofs.Groups.{none_counted}
-use Rattle.df_grid.proofs.Views.{new_blocks, new_table, state_of}
+use Rattle.std.proofs.{Common.{ℕ, [], length, sym, ap, ◌∙◌, arith}, lemmas.Option.{get_or_from_slice_get, slice_get_within}}
+use Rattle.df_grid.{specs.{Entries.{entries_of}, Table.{blocks_in}}, proofs.{Zips.{length_entries}, Groups.{none_counted}, Views.{new_blocks, new_table, state_of}}}
 use Rattle.df_grid.proofs.table.Table.over.Goals as goal
 
 pub invariant_of-result : goal.invariant_of-result

@@ -1,13 +1,8 @@
 -- Its entry was unmarked.
-use Rattle.std.proofs.Common.{◌-◌, true, set, refl, ap, ◌∙◌, arith}
-use Rattle.std.proofs.lemmas.List.{length-set}
+use Rattle.std.proofs.{Common.{◌-◌, true, set, refl, ap, ◌∙◌, arith}, lemmas.List.{length-set}}
 use Rattle.df_model.specs.Blocks.{block_written, is_held_in}
 use Rattle.df_units.specs.Meaning.{number_of}
-use Rattle.df_grid.specs.Table.{TableState, blocks_in}
-use Rattle.df_grid.proofs.Groups.{counts_kept}
-use Rattle.df_grid.proofs.Keeping.{unheld_entry}
-use Rattle.df_grid.proofs.Moves.{live_blocks, live_kept}
-use Rattle.df_grid.proofs.Views.{viewed}
+use Rattle.df_grid.{specs.Table.{TableState, blocks_in}, proofs.{Groups.{counts_kept}, Keeping.{unheld_entry}, Moves.{live_blocks, live_kept}, Views.{viewed}}}
 use Rattle.df_grid.proofs.table.Table.put_live.Goals as goal
 
 pub invariant_of-self : goal.invariant_of-self

@@ -1,9 +1,7 @@
 -- The first of those to come is the next one.
 use Rattle.std.proofs.Common.{◌≡◌, ◌-◌, [], drop, refl, sym, ap, ◌∙◌, arith}
 use Rattle.df_units.specs.Meaning.{number_of}
-use Rattle.df_grid.specs.Table.{TableState, next_written}
-use Rattle.df_grid.proofs.Groups.{counts_kept}
-use Rattle.df_grid.proofs.Views.{coming_inside, coming_kept, coming_whole, first_rest, state_of}
+use Rattle.df_grid.{specs.Table.{TableState, next_written}, proofs.{Groups.{counts_kept}, Views.{coming_inside, coming_kept, coming_whole, first_rest, state_of}}}
 use Rattle.df_grid.proofs.table.Table.put_trailer.Goals as goal
 
 pub get-requires : goal.get-requires

@@ -1,12 +1,7 @@
 -- What was live is gone, and nothing else.
-use Rattle.std.proofs.Common.{◌-◌, refl, sym, ap, ◌∙◌}
-use Rattle.std.proofs.lemmas.Bool.{not-true, not-false}
-use Rattle.df_model.specs.Work.{is_known}
-use Rattle.df_model.specs.Blocks.{sum_at}
-use Rattle.df_grid.specs.Table.{TableState, is_live}
-use Rattle.df_grid.proofs.Groups.{counts_kept}
-use Rattle.df_grid.proofs.Held.{look_none}
-use Rattle.df_grid.proofs.Views.{is_live_there, not_live, not_live_state, released_kept, released_state, entry_is}
+use Rattle.std.proofs.{Common.{◌-◌, refl, sym, ap, ◌∙◌}, lemmas.Bool.{not-true, not-false}}
+use Rattle.df_model.specs.{Work.{is_known}, Blocks.{sum_at}}
+use Rattle.df_grid.{specs.Table.{TableState, is_live}, proofs.{Groups.{counts_kept}, Held.{look_none}, Views.{is_live_there, not_live, not_live_state, released_kept, released_state, entry_is}}}
 use Rattle.df_grid.proofs.table.Table.release.Goals as goal
 
 pub returns-in_default-clause-answer : goal.returns-in_default-clause-answer

@@ -1,10 +1,8 @@
 -- The sixteen headers are those of the table, and fill one sector of the disk.
 use Rattle.std.proofs.Common.{◌+◌, ◌-◌, ◌*◌, ◌≡◌, ◌∙◌, ℕ, List, take, drop, sym, subst, arith}
-use Rattle.df_format.specs.declared.header.Header.{Header}
-use Rattle.df_format.specs.UnitLaws.{AreSixteen}
+use Rattle.df_format.specs.{declared.header.Header.{Header}, UnitLaws.{AreSixteen}}
 use Rattle.df_units.proofs.Laws.{headers_put}
-use Rattle.df_headers.specs.Ring.{in_sector}
-use Rattle.df_headers.proofs.Rooms.{one_sector}
+use Rattle.df_headers.{specs.Ring.{in_sector}, proofs.Rooms.{one_sector}}
 use Rattle.df_headers.proofs.table.HeaderTable.write_sector.Goals as goal
 
 pub put_all-requires-clause-sixteen : goal.put_all-requires-clause-sixteen

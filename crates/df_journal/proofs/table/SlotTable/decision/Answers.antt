@@ -1,9 +1,7 @@
 -- The op is the slot's, and the entry is the table's.
 use Rattle.std.proofs.Common.{◌≡◌, ◌∙◌, ap, ℕ}
 use Rattle.df_cases.specs.Cases.{decision_of}
-use Rattle.df_journal.specs.Scan.{Scan}
-use Rattle.df_journal.specs.Seen.{decision_on}
-use Rattle.df_journal.proofs.Decisions.{decided_slot}
+use Rattle.df_journal.{specs.{Scan.{Scan}, Seen.{decision_on}}, proofs.Decisions.{decided_slot}}
 use Rattle.df_journal.proofs.table.SlotTable.decision.Goals as goal
 
 pub returns : goal.returns

@@ -1,7 +1,6 @@
 -- The op is the slot's.
 use Rattle.std.proofs.Common.{◌≡◌, ◌∙◌, ap, length, subst, ℕ}
-use Rattle.df_journal.specs.Scan.{Scan}
-use Rattle.df_journal.specs.Seen.{IsOpOf}
+use Rattle.df_journal.specs.{Scan.{Scan}, Seen.{IsOpOf}}
 use Rattle.df_journal.proofs.table.SlotTable.op_at.Goals as goal
 
 pub returns : goal.returns

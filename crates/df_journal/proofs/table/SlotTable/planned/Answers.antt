@@ -1,10 +1,7 @@
 -- The op is the slot's, and the entry is the table's.
 use Rattle.std.proofs.Common.{◌≡◌, ◌∙◌, ap}
 use Rattle.df_cases.specs.Cases.{decision_of}
-use Rattle.df_journal.specs.declared.table.Start.{Start}
-use Rattle.df_journal.specs.Planned.{planned_on}
-use Rattle.df_journal.specs.Scan.{Scan}
-use Rattle.df_journal.proofs.Decisions.{planned_slot}
+use Rattle.df_journal.{specs.{declared.table.Start.{Start}, Planned.{planned_on}, Scan.{Scan}}, proofs.Decisions.{planned_slot}}
 use Rattle.df_journal.proofs.table.SlotTable.planned.Goals as goal
 
 pub returns : goal.returns

@@ -1,8 +1,6 @@
 -- A line that the case of its first word refuses says nothing.
-use Rattle.std.proofs.Common.{codes, rules, arith}
-use Rattle.std.proofs.lemmas.Slice.Eq.{text_from_reads}
-use Rattle.df_lines.proofs.Meanings.{only}
-use Rattle.df_lines.proofs.WordsBehind.{appended, blocked, replied, rooted, staged}
+use Rattle.std.proofs.{Common.{codes, rules, arith}, lemmas.Slice.Eq.{text_from_reads}}
+use Rattle.df_lines.proofs.{Meanings.{only}, WordsBehind.{appended, blocked, replied, rooted, staged}}
 use Rattle.df_lines.proofs.parser.LineLineKind.parse.Goals as goal
 
 pub returns-in_err-client-in-append-clause-none : goal.returns-in_err-client-in-append-clause-none

@@ -1,7 +1,5 @@
 use Rattle.std.proofs.Common.{◌∙◌, subst, arith}
-use Rattle.df_lines.specs.Window.{FindsLine}
-use Rattle.df_lines.specs.contracts.reader.LineRoom.{the_view}
-use Rattle.df_lines.proofs.Texts.{gives_refusal, next_line}
+use Rattle.df_lines.{specs.{Window.{FindsLine}, contracts.reader.LineRoom.{the_view}}, proofs.Texts.{gives_refusal, next_line}}
 use Rattle.df_lines.proofs.reader.LineRoom.next.Goals as goal
 
 pub returns-in-Line-clause-gives : goal.returns-in-Line-clause-gives

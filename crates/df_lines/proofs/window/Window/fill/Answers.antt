@@ -1,6 +1,5 @@
 use Rattle.std.proofs.Common.{◌-◌, ◌∙◌, ap, arith}
-use Rattle.df_lines.specs.Room.{Contents}
-use Rattle.df_lines.proofs.Pieces.{read_on}
+use Rattle.df_lines.{specs.Room.{Contents}, proofs.Pieces.{read_on}}
 use Rattle.df_lines.proofs.window.Window.fill.Goals as goal
 
 pub returns-clause-same_text : goal.returns-clause-same_text

@@ -1,6 +1,5 @@
 use Rattle.std.proofs.Common.{◌≤◌, length, subst, sym, refl}
-use Rattle.df_lines.specs.Room.{Contents}
-use Rattle.df_lines.proofs.Pieces.{taken_front}
+use Rattle.df_lines.{specs.Room.{Contents}, proofs.Pieces.{taken_front}}
 use Rattle.df_lines.proofs.window.Window.skip.Goals as goal
 
 pub returns : goal.returns

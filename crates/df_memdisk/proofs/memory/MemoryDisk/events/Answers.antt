@@ -1,8 +1,7 @@
 -- The log begins blank, and its events are those that the disk keeps. With no strike a sector shows what they left.
 use Rattle.std.proofs.Common.{rules, ap, List}
 use Rattle.df_base.proofs.Laws.{blank_is_image}
-use Rattle.df_memdisk.specs.Struck.{shown_after}
-use Rattle.df_memdisk.specs.declared.shown.Struck.{Struck}
+use Rattle.df_memdisk.specs.{Struck.{shown_after}, declared.shown.Struck.{Struck}}
 use Rattle.df_memdisk.proofs.memory.MemoryDisk.events.Goals as goal
 
 pub returns-clause-log : goal.returns-clause-log

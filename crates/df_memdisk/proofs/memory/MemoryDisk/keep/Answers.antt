@@ -1,17 +1,9 @@
 -- The past is one event longer, and each strike was made before it.
-use Rattle.std.proofs.Common.{◌≡◌, List, [], ◌∷◌, ◌++◌, length, sym, ap, subst, ◌∙◌, arith}
-use Rattle.std.specs.Prelude.{reverse}
-use Rattle.std.proofs.lemmas.List.{length-append}
+use Rattle.std.{proofs.{Common.{◌≡◌, List, [], ◌∷◌, ◌++◌, length, sym, ap, subst, ◌∙◌, arith}, lemmas.List.{length-append}}, specs.Prelude.{reverse}}
 use Rattle.df_base.specs.Log.{AreEvents}
-use Rattle.df_disk.specs.Told.{IsHonest, did}
-use Rattle.df_disk.proofs.Laws.{honest_did}
-use Rattle.df_memdisk.specs.History.{event_of, events_of}
-use Rattle.df_memdisk.specs.State.{DiskState, IsDisk, told_by, told_of}
-use Rattle.df_memdisk.specs.declared.history.Happened.{Happened}
-use Rattle.df_memdisk.proofs.Past.{events_of-push}
-use Rattle.df_memdisk.proofs.Struck.{AreBehind-more, told-more}
+use Rattle.df_disk.{specs.Told.{IsHonest, did}, proofs.Laws.{honest_did}}
+use Rattle.df_memdisk.{specs.{History.{event_of, events_of}, State.{DiskState, IsDisk, told_by, told_of}, declared.history.Happened.{Happened}}, proofs.{Past.{events_of-push}, Struck.{AreBehind-more, told-more}, memory.MemoryDisk.keep.Goals.{in-Ok, in-Err}}}
 use Rattle.df_memdisk.proofs.memory.MemoryDisk.keep.Goals as goal
-use Rattle.df_memdisk.proofs.memory.MemoryDisk.keep.Goals.{in-Ok, in-Err}
 
 pub invariant_of-self : goal.invariant_of-self
 invariant_of-self c =

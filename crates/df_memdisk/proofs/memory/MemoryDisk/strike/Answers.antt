@@ -1,16 +1,9 @@
 -- The newest strike is this one.
-use Rattle.std.proofs.Common.{◌≡◌, List, length, sym, ap, ◌∙◌}
-use Rattle.std.specs.Prelude.{reverse}
+use Rattle.std.{proofs.Common.{◌≡◌, List, length, sym, ap, ◌∙◌}, specs.Prelude.{reverse}}
 use Rattle.df_base.specs.Log.{now}
 use Rattle.df_disk.specs.Told.{Told}
-use Rattle.df_memdisk.specs.History.{events_of}
-use Rattle.df_memdisk.specs.State.{DiskState, told_by, told_of}
-use Rattle.df_memdisk.specs.Strikes.{bytes_by, hit}
-use Rattle.df_memdisk.specs.declared.history.Happened.{Happened}
-use Rattle.df_memdisk.specs.declared.shown.Struck.{Struck}
-use Rattle.df_memdisk.proofs.Struck.{told-struck, hit-log}
+use Rattle.df_memdisk.{specs.{History.{events_of}, State.{DiskState, told_by, told_of}, Strikes.{bytes_by, hit}, declared.history.Happened.{Happened}, declared.shown.Struck.{Struck}}, proofs.{Struck.{told-struck, hit-log}, memory.MemoryDisk.strike.Goals.{in-Ok, in-Err}}}
 use Rattle.df_memdisk.proofs.memory.MemoryDisk.strike.Goals as goal
-use Rattle.df_memdisk.proofs.memory.MemoryDisk.strike.Goals.{in-Ok, in-Err}
 
 pub returns-clause-struck : goal.returns-clause-struck
 returns-clause-struck c =

@@ -2,13 +2,10 @@
 use Rattle.std.proofs.Common.{◌≡◌, sym, ap, subst, ◌∙◌, List, ℕ}
 use Rattle.df_base.specs.Fields.{AreBytes}
 use Rattle.df_disk.specs.Told.{Shows}
-use Rattle.df_layout.specs.declared.layout.Layout.{Layout}
-use Rattle.df_layout.specs.Spans.{span_of}
+use Rattle.df_layout.specs.{declared.layout.Layout.{Layout}, Spans.{span_of}}
 use Rattle.df_format.specs.Message.{Message}
-use Rattle.df_buffers.specs.Found.{FindsKind, class_for}
-use Rattle.df_buffers.specs.Rooms.{FillsRoom}
-use Rattle.df_places.specs.Shelves.{Shelved}
-use Rattle.df_places.proofs.Shelves.{found_read, lacks_read, unwritten}
+use Rattle.df_buffers.specs.{Found.{FindsKind, class_for}, Rooms.{FillsRoom}}
+use Rattle.df_places.{specs.Shelves.{Shelved}, proofs.Shelves.{found_read, lacks_read, unwritten}}
 use Rattle.df_places.proofs.shelf.Shelf.load.Goals as goal
 
 pub returns-in-Ok-prove-clause-read : goal.returns-in-Ok-prove-clause-read

@@ -2,9 +2,7 @@
 use Rattle.std.proofs.Common.{ap, subst, ◌∙◌, List, ℕ}
 use Rattle.df_format.specs.Shown.{class_of, header_or_class, unit_in}
 use Rattle.df_buffers.proofs.Laws.{is_no_ring}
-use Rattle.df_places.specs.Shelves.{Shelved}
-use Rattle.df_places.specs.Units.{IsSeen}
-use Rattle.df_places.proofs.Rooms.{read_seen}
+use Rattle.df_places.{specs.{Shelves.{Shelved}, Units.{IsSeen}}, proofs.Rooms.{read_seen}}
 use Rattle.df_places.proofs.shelf.Shelf.see.Goals as goal
 
 pub returns-in-Ok-clause-seen : goal.returns-in-Ok-clause-seen

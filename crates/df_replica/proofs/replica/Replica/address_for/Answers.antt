@@ -1,6 +1,5 @@
 -- The refusals are the machine's, over the numbers in memory, and the address is the least that isn't held.
-use Rattle.std.proofs.Common.{◌-◌, ℕ, sym, ap, ◌∙◌}
-use Rattle.std.specs.Prelude.{slice_get}
+use Rattle.std.{proofs.Common.{◌-◌, ℕ, sym, ap, ◌∙◌}, specs.Prelude.{slice_get}}
 use Rattle.df_layout.specs.declared.layout.Layout.{Layout}
 use Rattle.df_model.specs.Blocks.{free_in}
 use Rattle.df_units.specs.Meaning.{layout_of}

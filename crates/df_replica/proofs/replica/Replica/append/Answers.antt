@@ -1,17 +1,8 @@
 -- What isn't refused may be the next prepare, and each call is the machine's.
 use Rattle.std.proofs.Common.{◌≡◌, Err, refl, sym, ap, subst, ◌∙◌}
-use Rattle.df_model.specs.Commands.{Append}
-use Rattle.df_model.specs.Faults.{is_append_fault}
-use Rattle.df_model.specs.Refusals.{append_refusals, first_refusal}
-use Rattle.df_model.specs.declared.answers.Receipt.{Receipt}
+use Rattle.df_model.specs.{Commands.{Append}, Faults.{is_append_fault}, Refusals.{append_refusals, first_refusal}, declared.answers.Receipt.{Receipt}}
 use Rattle.df_opening.specs.Below.{State, memory}
-use Rattle.df_replica.specs.Answering.{answer_of, as_append}
-use Rattle.df_replica.specs.Appending.{append_events, next_unit}
-use Rattle.df_replica.specs.Stopping.{stopped}
-use Rattle.df_replica.proofs.AppendAnswers.{fault_serves, receipt_serves, refusal_serves, refused_exact}
-use Rattle.df_replica.proofs.AppendTests.{may_next}
-use Rattle.df_replica.proofs.Owns.{all_own, part_own, refused_own}
-use Rattle.df_replica.proofs.Unblamed.{append_unblamed, refused_blames}
+use Rattle.df_replica.{specs.{Answering.{answer_of, as_append}, Appending.{append_events, next_unit}, Stopping.{stopped}}, proofs.{AppendAnswers.{fault_serves, receipt_serves, refusal_serves, refused_exact}, AppendTests.{may_next}, Owns.{all_own, part_own, refused_own}, Unblamed.{append_unblamed, refused_blames}}}
 use Rattle.df_replica.proofs.replica.Replica.append.Goals as goal
 
 pub append_next-requires : goal.append_next-requires

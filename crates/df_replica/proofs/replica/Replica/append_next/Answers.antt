@@ -1,7 +1,6 @@
 -- The checksum of what was made is one.
 use Rattle.std.proofs.Common.{sym, subst}
-use Rattle.df_format.specs.declared.header.Header.{Header}
-use Rattle.df_format.specs.Spelling.{IsCheck}
+use Rattle.df_format.specs.{declared.header.Header.{Header}, Spelling.{IsCheck}}
 use Rattle.df_base.proofs.Laws.{length-check_of, AreBytes-check_of}
 use Rattle.df_replica.proofs.replica.Replica.append_next.Goals as goal
 

@@ -1,12 +1,8 @@
 -- The refusal is the machine's, by the client's session, and after it by what is staged.
-use Rattle.std.proofs.Common.{◌≡◌, ℕ, nat_lt, [], ◌∷◌, length, map, ◌∙◌, sym, ap}
-use Rattle.std.specs.Prelude.{option_map}
-use Rattle.std.specs.List.{position}
-use Rattle.df_sessions.specs.Requests.{session_of}
-use Rattle.df_sessions.specs.Table.{has_client}
-use Rattle.df_model.specs.Refusals.{first_refusal, is_staged, request_refusals, session_of_client}
+use Rattle.std.{proofs.Common.{◌≡◌, ℕ, nat_lt, [], ◌∷◌, length, map, ◌∙◌, sym, ap}, specs.{Prelude.{option_map}, List.{position}}}
+use Rattle.df_sessions.specs.{Requests.{session_of}, Table.{has_client}}
+use Rattle.df_model.{specs.Refusals.{first_refusal, is_staged, request_refusals, session_of_client}, proofs.Laws.{behind_decides, first_refuses}}
 use Rattle.df_model.specs.declared.errors.AppendError.TheVariants as append
-use Rattle.df_model.proofs.Laws.{behind_decides, first_refuses}
 use Rattle.df_opening.specs.Below.{State, memory}
 use Rattle.df_replica.proofs.AppendTests.{session_found, small_session, each_small}
 use Rattle.df_replica.proofs.replica.Replica.append_refusal.Goals as goal

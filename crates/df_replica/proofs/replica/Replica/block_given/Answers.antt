@@ -1,13 +1,8 @@
 -- What the maker says obeys the rules of a block, with any body that fits.
 use Rattle.std.proofs.Common.{sym, subst, arith, rules, refl}
-use Rattle.df_format.specs.declared.header.Header.{Header}
-use Rattle.df_format.specs.declared.kind.Kind.TheVariants.{Block as AsBlock}
-use Rattle.df_format.specs.Making.{for_body}
-use Rattle.df_format.specs.Rules.{ObeysRules}
-use Rattle.df_opening.proofs.Laws.{boot_made}
-use Rattle.df_format.proofs.Laws.{given_obeys, of_second}
+use Rattle.df_format.{specs.{declared.header.Header.{Header}, declared.kind.Kind.TheVariants.{Block as AsBlock}, Making.{for_body}, Rules.{ObeysRules}}, proofs.Laws.{given_obeys, of_second}}
+use Rattle.df_opening.{proofs.Laws.{boot_made}, specs.Below.{IsState, memory}}
 use Rattle.df_model.specs.Making.{next_address}
-use Rattle.df_opening.specs.Below.{IsState, memory}
 use Rattle.df_replica.specs.Blocks.{block_header_given}
 use Rattle.df_replica.proofs.replica.Replica.block_given.Goals as goal
 

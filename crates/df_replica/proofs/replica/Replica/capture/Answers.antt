@@ -7,8 +7,7 @@ use Rattle.df_model.specs.Blocks.{Blocks, blocks_captured, free_in}
 use Rattle.df_units.specs.Meaning.{layout_of}
 use Rattle.df_grid.specs.Grid.{GridState}
 use Rattle.df_opening.specs.Below.{FitsGrid, IsRunningCheckpoint, IsState, State, state_in}
-use Rattle.df_replica.specs.Beginning.{MayBeginCheckpoint, captured, with_checkpoint_begun}
-use Rattle.df_replica.proofs.BeginState.{is_running, with_course}
+use Rattle.df_replica.{specs.Beginning.{MayBeginCheckpoint, captured, with_checkpoint_begun}, proofs.BeginState.{is_running, with_course}}
 use Rattle.df_replica.proofs.replica.Replica.capture.Goals as goal
 
 pub invariant_of-self : goal.invariant_of-self

@@ -1,10 +1,7 @@
 -- Where no checkpoint runs, the step is the machine's too, and in each case it adds its own device calls.
 use Rattle.std.proofs.Common.{ap, refl, sym, Err, Some}
-use Rattle.df_model.specs.Commands.{Advance, ToAdvance}
-use Rattle.df_model.specs.declared.errors.StepError.TheVariants.{NotRunning}
-use Rattle.df_replica.specs.Own.{running_events}
-use Rattle.df_replica.proofs.Owns.{adds_none, step_own}
-use Rattle.df_replica.proofs.StepAnswers.{idle_call, none_pending}
+use Rattle.df_model.specs.{Commands.{Advance, ToAdvance}, declared.errors.StepError.TheVariants.{NotRunning}}
+use Rattle.df_replica.{specs.Own.{running_events}, proofs.{Owns.{adds_none, step_own}, StepAnswers.{idle_call, none_pending}}}
 use Rattle.df_replica.proofs.replica.Replica.checkpoint_step.Goals as goal
 
 pub returns-in-None-clause-call : goal.returns-in-None-clause-call

@@ -1,12 +1,9 @@
 -- The state in which the checkpoint is the durable one makes sense.
 use Rattle.std.proofs.Common.{◌≡◌, Option, None, Some, sym, subst}
-use Rattle.df_format.specs.SuperRules.{IsUsable}
-use Rattle.df_format.specs.declared.superblock.SuperFields.{SuperFields}
+use Rattle.df_format.specs.{SuperRules.{IsUsable}, declared.superblock.SuperFields.{SuperFields}}
 use Rattle.df_grid.specs.Grid.{GridState}
 use Rattle.df_opening.specs.Below.{FitsGrid, IsState, RunningCheckpoint, RunningState, State, running_of, running_state, state_in}
-use Rattle.df_replica.specs.Stepping.{OfRunning, finished, next_fields}
-use Rattle.df_replica.proofs.FinishState.{finished_sense}
-use Rattle.df_replica.proofs.StepState.{taken_level, taken_runs}
+use Rattle.df_replica.{specs.Stepping.{OfRunning, finished, next_fields}, proofs.{FinishState.{finished_sense}, StepState.{taken_level, taken_runs}}}
 use Rattle.df_replica.proofs.replica.Replica.finish.Goals as goal
 
 pub invariant_of-self : goal.invariant_of-self

@@ -1,15 +1,8 @@
 -- Each flush is the machine's.
-use Rattle.std.proofs.Common.{◌≡◌, ◌<◌, ℕ, Bool, nat_lt, not, length, Some, None, ap, subst, arith, lt-ltb, Err, refl}
-use Rattle.std.specs.Prelude.{if◌then◌else◌}
-use Rattle.df_model.specs.Commands.{Flush}
-use Rattle.df_model.specs.Faults.{is_flush_fault}
-use Rattle.df_model.specs.Refusals.{first_refusal, flush_refusals}
-use Rattle.df_model.specs.declared.errors.FlushError.TheVariants.{NothingStaged}
+use Rattle.std.{proofs.Common.{◌≡◌, ◌<◌, ℕ, Bool, nat_lt, not, length, Some, None, ap, subst, arith, lt-ltb, Err, refl}, specs.Prelude.{if◌then◌else◌}}
+use Rattle.df_model.specs.{Commands.{Flush}, Faults.{is_flush_fault}, Refusals.{first_refusal, flush_refusals}, declared.errors.FlushError.TheVariants.{NothingStaged}}
 use Rattle.df_opening.specs.Below.{IsState, State, memory}
-use Rattle.df_replica.specs.Answering.{answer_of, as_flush}
-use Rattle.df_replica.specs.Flushing.{flush_events}
-use Rattle.df_replica.proofs.FlushAnswers.{count_serves, fault_serves, refusal_serves}
-use Rattle.df_replica.proofs.Owns.{all_own, part_own, refused_own}
+use Rattle.df_replica.{specs.{Answering.{answer_of, as_flush}, Flushing.{flush_events}}, proofs.{FlushAnswers.{count_serves, fault_serves, refusal_serves}, Owns.{all_own, part_own, refused_own}}}
 use Rattle.df_replica.proofs.replica.Replica.flush.Goals as goal
 
 none_staged : (s : State) → length s.staged ≡ 0 → first_refusal (flush_refusals (memory s)) ≡ Some NothingStaged

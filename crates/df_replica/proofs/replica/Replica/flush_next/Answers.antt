@@ -1,13 +1,9 @@
 -- The rooms hold the group of all that is staged, and what is noted of them is the state after it.
 use Rattle.std.proofs.Common.{◌≡◌, ◌+◌, ◌∙◌, true, length, ℕ, List, sym, ap, subst, arith}
-use Rattle.df_format.specs.declared.header.Header.{Header}
-use Rattle.df_format.specs.Message.{Message}
+use Rattle.df_format.specs.{declared.header.Header.{Header}, Message.{Message}}
 use Rattle.df_journal.specs.Flush.{with_headers}
 use Rattle.df_opening.specs.Below.{IsState, State, state_in}
-use Rattle.df_replica.specs.declared.flush.Group.{Group}
-use Rattle.df_replica.specs.Flushing.{AreHeld, HavePlaces, MaySeal, flush_units, flushed, group_in}
-use Rattle.df_replica.proofs.FlushState.{flushed_as, flushed_state, have_places}
-use Rattle.df_replica.proofs.FlushUnits.{lent_count, lent_held, lent_long, lent_made, lent_units, may_seal}
+use Rattle.df_replica.{specs.{declared.flush.Group.{Group}, Flushing.{AreHeld, HavePlaces, MaySeal, flush_units, flushed, group_in}}, proofs.{FlushState.{flushed_as, flushed_state, have_places}, FlushUnits.{lent_count, lent_held, lent_long, lent_made, lent_units, may_seal}}}
 use Rattle.df_replica.proofs.replica.Replica.flush_next.Goals as goal
 
 pub seal_all-requires-clause-may : goal.seal_all-requires-clause-may

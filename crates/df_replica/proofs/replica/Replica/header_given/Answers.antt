@@ -1,15 +1,9 @@
 -- What the maker says obeys the rules of a prepare, with any body that fits.
 use Rattle.std.proofs.Common.{◌≡◌, ◌+◌, ◌∙◌, true, sym, ap, subst, arith, rules, refl}
-use Rattle.df_format.specs.declared.header.Header.{Header}
-use Rattle.df_format.specs.declared.kind.Kind.TheVariants.{Prepare as AsPrepare}
-use Rattle.df_format.specs.Making.{for_body}
-use Rattle.df_format.specs.Rules.{ObeysRules}
-use Rattle.df_opening.proofs.Laws.{boot_made}
-use Rattle.df_format.proofs.Laws.{given_obeys, of_second}
-use Rattle.df_opening.specs.Below.{State, state_in}
-use Rattle.df_replica.specs.Appending.{header_given}
+use Rattle.df_format.{specs.{declared.header.Header.{Header}, declared.kind.Kind.TheVariants.{Prepare as AsPrepare}, Making.{for_body}, Rules.{ObeysRules}}, proofs.Laws.{given_obeys, of_second}}
+use Rattle.df_opening.{proofs.Laws.{boot_made}, specs.Below.{State, state_in}}
+use Rattle.df_replica.{specs.Appending.{header_given}, proofs.AppendTests.{small_slot}}
 use Rattle.df_replica.proofs.replica.Replica.header_given.Goals as goal
-use Rattle.df_replica.proofs.AppendTests.{small_slot}
 
 pub returns-clause-value : goal.returns-clause-value
 returns-clause-value c = search rules

@@ -2,8 +2,7 @@
 use Rattle.std.proofs.Common.{◌≡◌, ap, subst}
 use Rattle.df_format.specs.declared.superblock.SuperFields.{SuperFields}
 use Rattle.df_opening.specs.Below.{State}
-use Rattle.df_replica.specs.Stepping.{OfRunning, finished}
-use Rattle.df_replica.proofs.LastSteps.{error_serves, last_serves}
+use Rattle.df_replica.{specs.Stepping.{OfRunning, finished}, proofs.LastSteps.{error_serves, last_serves}}
 use Rattle.df_replica.proofs.replica.Replica.last_step.Goals as goal
 
 pub returns-in-Ok-clause-call : goal.returns-in-Ok-clause-call

@@ -1,16 +1,12 @@
 -- The fields are those of the next superblock, which obey the rules.
 use Rattle.std.proofs.Common.{◌≡◌, ◌≤◌, ◌∙◌, ℕ, None, refl, sym, ap, subst, arith}
 use Rattle.df_base.specs.Fields.{spelled}
-use Rattle.df_format.specs.SuperRules.{fault_of}
-use Rattle.df_format.specs.declared.superblock.SuperFields.{SuperFields}
+use Rattle.df_format.specs.{SuperRules.{fault_of}, declared.superblock.SuperFields.{SuperFields}}
 use Rattle.df_grid.specs.Writes.{first_address, first_sum}
 use Rattle.df_layout.specs.declared.layout.Layout.{Layout}
 use Rattle.df_opening.specs.Below.{State, recorded, running_state, state_in}
-use Rattle.df_units.specs.Meaning.{number_of}
-use Rattle.df_units.proofs.Laws.{whole_check}
-use Rattle.df_replica.specs.Stepping.{MayFinishCheckpoint, captured_fields, next_fields}
-use Rattle.df_replica.proofs.FinishState.{last_is, no_fault}
-use Rattle.df_replica.proofs.StepState.{of_running, taken_level, taken_runs}
+use Rattle.df_units.{specs.Meaning.{number_of}, proofs.Laws.{whole_check}}
+use Rattle.df_replica.{specs.Stepping.{MayFinishCheckpoint, captured_fields, next_fields}, proofs.{FinishState.{last_is, no_fault}, StepState.{of_running, taken_level, taken_runs}}}
 use Rattle.df_replica.proofs.replica.Replica.next_fields.Goals as goal
 
 pub returns-clause-fields : goal.returns-clause-fields

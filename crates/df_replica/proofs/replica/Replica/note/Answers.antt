@@ -1,15 +1,11 @@
 -- The state after a prepare that is noted makes sense.
-use Rattle.std.proofs.Common.{◌≡◌, ◌+◌, ℕ, List, [], length, refl, sym, ap, subst, ◌∙◌, arith}
-use Rattle.std.proofs.lemmas.List.{length_push}
+use Rattle.std.proofs.{Common.{◌≡◌, ◌+◌, ℕ, List, [], length, refl, sym, ap, subst, ◌∙◌, arith}, lemmas.List.{length_push}}
 use Rattle.df_journal.specs.Tail.{AreNumbered}
-use Rattle.df_replica.specs.Appending.{MayNote}
-use Rattle.df_opening.specs.Below.{AreAsked, State, asker_of, running_of, state_in}
-use Rattle.df_opening.proofs.Laws.{asked_noted, course_on, level_beyond, staging_none}
+use Rattle.df_replica.{specs.Appending.{MayNote}, proofs.AppendTests.{numbered_on}}
+use Rattle.df_opening.{specs.Below.{AreAsked, State, asker_of, running_of, state_in}, proofs.Laws.{asked_noted, course_on, level_beyond, staging_none}}
 use Rattle.df_sessions.specs.Requests.{sessions_of}
-use Rattle.df_theory.specs.Sessions.{Tracks, noted}
+use Rattle.df_theory.{specs.Sessions.{Tracks, noted}, proofs.Laws.{tracks_noted}}
 use Rattle.df_theory.specs.Units
-use Rattle.df_theory.proofs.Laws.{tracks_noted}
-use Rattle.df_replica.proofs.AppendTests.{numbered_on}
 use Rattle.df_replica.proofs.replica.Replica.note.Goals as goal
 
 pub invariant_of-self : goal.invariant_of-self

@@ -2,8 +2,7 @@
 use Rattle.std.proofs.Common.{◌≡◌, ◌<◌, ◌+◌, length, refl, sym, subst, ◌∙◌, arith}
 use Rattle.df_sessions.specs.Requests.{sessions_of}
 use Rattle.df_theory.specs.Sessions.{Tracks}
-use Rattle.df_opening.specs.Below.{AreAsked, State, state_in}
-use Rattle.df_opening.proofs.Laws.{numbered_by, staging_on}
+use Rattle.df_opening.{specs.Below.{AreAsked, State, state_in}, proofs.Laws.{numbered_by, staging_on}}
 use Rattle.df_replica.proofs.replica.Replica.note_reply.Goals as goal
 
 pub invariant_of-self : goal.invariant_of-self

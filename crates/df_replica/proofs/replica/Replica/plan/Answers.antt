@@ -3,13 +3,10 @@ use Rattle.std.proofs.Common.{subst, ◌≡◌, ◌≤◌, ◌-◌, ◌∙◌, �
 use Rattle.df_layout.specs.declared.layout.Layout.{Layout}
 use Rattle.df_model.specs.Blocks.{sum_at}
 use Rattle.df_theory.specs.Trailer.{IsCount}
-use Rattle.df_trailer.specs.Spelling.{is_referenced, text_size}
-use Rattle.df_trailer.specs.Text.{ones}
-use Rattle.df_trailer.specs.Writing.{captured_blocks}
+use Rattle.df_trailer.specs.{Spelling.{is_referenced, text_size}, Text.{ones}, Writing.{captured_blocks}}
 use Rattle.df_units.specs.Meaning.{layout_of}
 use Rattle.df_opening.specs.Below.{State, state_in}
-use Rattle.df_replica.specs.Beginning.{IsPlan}
-use Rattle.df_replica.proofs.BeginPlan.{planned}
+use Rattle.df_replica.{specs.Beginning.{IsPlan}, proofs.BeginPlan.{planned}}
 use Rattle.df_replica.proofs.replica.Replica.plan.Goals as goal
 
 pub returns : goal.returns

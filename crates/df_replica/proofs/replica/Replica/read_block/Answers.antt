@@ -1,14 +1,11 @@
 -- What the room holds is what the machine reads.
 use Rattle.std.proofs.Common.{◌≡◌, ◌∙◌, ℕ, Bool, None, Some, refl, ap, subst}
 use Rattle.df_layout.specs.declared.layout.Layout.{Layout}
-use Rattle.df_model.specs.Blocks.{sum_at}
-use Rattle.df_model.specs.Refusals.{first_refusal, read_refusals}
+use Rattle.df_model.specs.{Blocks.{sum_at}, Refusals.{first_refusal, read_refusals}}
 use Rattle.df_model.specs.declared.reading.ReadError.TheVariants as read
 use Rattle.df_grid.specs.Reads.{HoldsKnown, Loads}
 use Rattle.df_opening.specs.Below.{State, memory, state_in}
-use Rattle.df_replica.specs.Stopping.{stopped}
-use Rattle.df_replica.proofs.BlockReadCalls.{block_refused, block_stopped, is_live, lends_block, not_live, tells_block}
-use Rattle.df_replica.proofs.Lent.{lends_written_block}
+use Rattle.df_replica.{specs.Stopping.{stopped}, proofs.{BlockReadCalls.{block_refused, block_stopped, is_live, lends_block, not_live, tells_block}, Lent.{lends_written_block}}}
 use Rattle.df_replica.proofs.replica.Replica.read_block.Goals as goal
 
 pub returns-then-is_none : goal.returns-then-is_none

@@ -3,13 +3,9 @@ use Rattle.std.proofs.Common.{◌≡◌, Bool, List, Some, None, true, refl, sym
 use Rattle.df_format.specs.declared.header.Header.{Header}
 use Rattle.df_buffers.specs.Sounds.{Holding}
 use denote.Ref.{Bor}
-use Rattle.df_model.specs.Faults.{is_prepare_fault}
-use Rattle.df_model.specs.Refusals.{first_refusal, prepare_refusals}
+use Rattle.df_model.specs.{Faults.{is_prepare_fault}, Refusals.{first_refusal, prepare_refusals}}
 use Rattle.df_opening.specs.Below.{State, memory, state_in}
-use Rattle.df_replica.specs.Stopping.{stopped}
-use Rattle.df_replica.proofs.Lent.{lends_written_prepare}
-use Rattle.df_replica.proofs.ReadCalls.{LendsAs, TellsOf, lends_as, prepare_stopped, refused_reads, refused_serves, tells_of}
-use Rattle.df_replica.proofs.Unblamed.{prepare_unblamed, refused_blames, refused_leaves}
+use Rattle.df_replica.{specs.Stopping.{stopped}, proofs.{Lent.{lends_written_prepare}, ReadCalls.{LendsAs, TellsOf, lends_as, prepare_stopped, refused_reads, refused_serves, tells_of}, Unblamed.{prepare_unblamed, refused_blames, refused_leaves}}}
 use Rattle.df_replica.proofs.replica.Replica.read_prepare.Goals as goal
 
 pub returns-in-Some : goal.returns-in-Some

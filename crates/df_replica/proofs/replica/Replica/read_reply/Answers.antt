@@ -1,14 +1,9 @@
 -- What the room holds is what the machine reads.
 use Rattle.std.proofs.Common.{◌≡◌, Bool, Some, true, refl, sym, ap, subst, ◌∙◌}
 use Rattle.df_buffers.specs.Sounds.{Holding}
-use Rattle.df_model.specs.Faults.{is_lookup_fault}
-use Rattle.df_model.specs.Refusals.{first_refusal, lookup_refusals}
+use Rattle.df_model.specs.{Faults.{is_lookup_fault}, Refusals.{first_refusal, lookup_refusals}}
 use Rattle.df_opening.specs.Below.{State, memory, state_in}
-use Rattle.df_replica.specs.Lookups.{IsStoredFor}
-use Rattle.df_replica.specs.Stopping.{stopped}
-use Rattle.df_replica.proofs.Lent.{lends_written_reply}
-use Rattle.df_replica.proofs.LookupCalls.{LendsAs, TellsOf, lends_as, lookup_stopped, refused_reads, refused_serves, tells_of}
-use Rattle.df_replica.proofs.Unblamed.{lookup_unblamed, refused_blames, refused_leaves}
+use Rattle.df_replica.{specs.{Lookups.{IsStoredFor}, Stopping.{stopped}}, proofs.{Lent.{lends_written_reply}, LookupCalls.{LendsAs, TellsOf, lends_as, lookup_stopped, refused_reads, refused_serves, tells_of}, Unblamed.{lookup_unblamed, refused_blames, refused_leaves}}}
 use Rattle.df_replica.proofs.replica.Replica.read_reply.Goals as goal
 use denote.Ref.{Bor}
 

@@ -1,15 +1,9 @@
 -- Each release is the machine's, and the state after it makes sense.
-use Rattle.std.proofs.Common.{◌≡◌, ℕ, false, true, Some, sym, ap, subst, ◌∙◌}
-use Rattle.std.specs.Prelude.{Err}
+use Rattle.std.{proofs.Common.{◌≡◌, ℕ, false, true, Some, sym, ap, subst, ◌∙◌}, specs.Prelude.{Err}}
 use Rattle.df_grid.specs.Grid.{GridState, with_blocks}
-use Rattle.df_model.specs.Blocks.{Blocks, block_released, sum_at, without_entry}
-use Rattle.df_model.specs.Commands.{Release, ToRelease}
-use Rattle.df_model.specs.Work.{is_known}
+use Rattle.df_model.specs.{Blocks.{Blocks, block_released, sum_at, without_entry}, Commands.{Release, ToRelease}, Work.{is_known}}
 use Rattle.df_opening.specs.Below.{AreWhole, Parts, State, state_in}
-use Rattle.df_replica.specs.Answering.{Serves}
-use Rattle.df_replica.specs.Blocks.{released}
-use Rattle.df_replica.proofs.BlockStates.{live_state, not_live_stays}
-use Rattle.df_replica.proofs.ReleaseAnswers.{none_is, refused_is, refused_release, released_serves}
+use Rattle.df_replica.{specs.{Answering.{Serves}, Blocks.{released}}, proofs.{BlockStates.{live_state, not_live_stays}, ReleaseAnswers.{none_is, refused_is, refused_release, released_serves}}}
 use Rattle.df_replica.proofs.replica.Replica.release.Goals as goal
 
 -- another grid of the file, with other live blocks

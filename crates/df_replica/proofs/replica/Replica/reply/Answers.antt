@@ -1,15 +1,8 @@
 -- What isn't refused may be the next reply, and each call is the machine's.
 use Rattle.std.proofs.Common.{Err, refl, sym, ap, ◌∙◌}
-use Rattle.df_model.specs.Commands.{Reply}
-use Rattle.df_model.specs.Faults.{is_reply_fault}
-use Rattle.df_model.specs.Refusals.{first_refusal, reply_refusals}
+use Rattle.df_model.specs.{Commands.{Reply}, Faults.{is_reply_fault}, Refusals.{first_refusal, reply_refusals}}
 use Rattle.df_opening.specs.Below.{State, memory}
-use Rattle.df_replica.specs.Answering.{answer_of, as_reply}
-use Rattle.df_replica.specs.Replying.{next_reply, reply_events}
-use Rattle.df_replica.specs.Stopping.{stopped}
-use Rattle.df_replica.proofs.Owns.{all_own, part_own, refused_own}
-use Rattle.df_replica.proofs.ReplyAnswers.{fault_serves, refusal_serves, stored_serves}
-use Rattle.df_replica.proofs.ReplyTests.{may_reply}
+use Rattle.df_replica.{specs.{Answering.{answer_of, as_reply}, Replying.{next_reply, reply_events}, Stopping.{stopped}}, proofs.{Owns.{all_own, part_own, refused_own}, ReplyAnswers.{fault_serves, refusal_serves, stored_serves}, ReplyTests.{may_reply}}}
 use Rattle.df_replica.proofs.replica.Replica.reply.Goals as goal
 
 pub reply_next-requires : goal.reply_next-requires

@@ -1,17 +1,10 @@
 -- The parts are those of the next reply, which obeys the rules.
 use Rattle.std.proofs.Common.{◌≡◌, ◌<◌, ◌^◌, ◌∙◌, ℕ, IsSome, length, sym, ap, subst, arith}
 use Rattle.df_layout.specs.declared.places.Zone.TheVariants.{ClientReplies}
-use Rattle.df_format.specs.declared.header.Header.{Header}
-use Rattle.df_format.specs.declared.superblock.SuperFields.{SuperFields}
-use Rattle.df_format.specs.Making.{for_body}
-use Rattle.df_format.specs.Own.{own_place}
-use Rattle.df_format.specs.Rules.{ObeysRules}
-use Rattle.df_format.specs.Spelling.{IsCheck}
+use Rattle.df_format.specs.{declared.header.Header.{Header}, declared.superblock.SuperFields.{SuperFields}, Making.{for_body}, Own.{own_place}, Rules.{ObeysRules}, Spelling.{IsCheck}}
 use Rattle.df_sessions.specs.Table.{IsSessionTable}
 use Rattle.df_opening.specs.Below.{IsState, State, state_in}
-use Rattle.df_replica.specs.Replying.{first_check, reply_given}
-use Rattle.df_replica.proofs.ReplyGiven.{given_own, given_rules, header_is, place_small}
-use Rattle.df_replica.proofs.ReplyTests.{place_inside}
+use Rattle.df_replica.{specs.Replying.{first_check, reply_given}, proofs.{ReplyGiven.{given_own, given_rules, header_is, place_small}, ReplyTests.{place_inside}}}
 use Rattle.df_replica.proofs.replica.Replica.reply_given.Goals as goal
 
 pub session_in-session-requires : goal.session_in-session-requires

@@ -2,12 +2,9 @@
 use Rattle.std.proofs.Common.{◌≡◌, ◌∙◌, ◌++◌, List, refl, sym, ap, subst}
 use Rattle.df_layout.specs.declared.damage.Finding.{Finding}
 use Rattle.df_grid.specs.Grid.{GridState}
-use Rattle.df_model.specs.After.{newest}
-use Rattle.df_model.specs.Work.{Tour, first_tour}
+use Rattle.df_model.specs.{After.{newest}, Work.{Tour, first_tour}}
 use Rattle.df_opening.specs.Below.{ListsFailing, State, grid_with, state_in}
-use Rattle.df_replica.specs.Scrubbing.{toured}
-use Rattle.df_replica.proofs.ScrubTours.{tour_serves}
-use Rattle.df_replica.proofs.StepState.{grid_is}
+use Rattle.df_replica.{specs.Scrubbing.{toured}, proofs.{ScrubTours.{tour_serves}, StepState.{grid_is}}}
 use Rattle.df_replica.proofs.replica.Replica.scrub.Goals as goal
 
 pub returns-in-Ok : goal.returns-in-Ok

@@ -1,12 +1,8 @@
 -- The scrubber's step over the grid is the machine's.
-use Rattle.std.proofs.Common.{◌≡◌, true, sym, ap, subst}
-use Rattle.std.specs.Prelude.{Ok}
+use Rattle.std.{proofs.Common.{◌≡◌, true, sym, ap, subst}, specs.Prelude.{Ok}}
 use Rattle.df_grid.specs.Grid.{GridState}
 use Rattle.df_opening.specs.Below.{IsMachines, State, state_in}
-use Rattle.df_replica.specs.Answering.{ServesScrub}
-use Rattle.df_replica.specs.Scrubbing.{with_scrub}
-use Rattle.df_replica.proofs.ScrubCalls.{scrub_serves, scrub_stopped}
-use Rattle.df_replica.proofs.StepState.{grid_is}
+use Rattle.df_replica.{specs.{Answering.{ServesScrub}, Scrubbing.{with_scrub}}, proofs.{ScrubCalls.{scrub_serves, scrub_stopped}, StepState.{grid_is}}}
 use Rattle.df_replica.proofs.replica.Replica.scrub_step.Goals as goal
 
 pub returns-in-Ok-clause-call : goal.returns-in-Ok-clause-call

@@ -1,7 +1,6 @@
 -- What isn't refused may be staged, and each call is the machine's.
 use Rattle.std.proofs.Common.{refl, sym, ◌∙◌}
-use Rattle.df_replica.proofs.StageAnswers.{refusal_serves, stage_serves}
-use Rattle.df_replica.proofs.StageTests.{may_stage}
+use Rattle.df_replica.proofs.{StageAnswers.{refusal_serves, stage_serves}, StageTests.{may_stage}}
 use Rattle.df_replica.proofs.replica.Replica.stage.Goals as goal
 
 pub stage_next-requires : goal.stage_next-requires

@@ -1,11 +1,9 @@
 -- The refusal is the machine's, by the client's session as if what is staged were appended.
-use Rattle.std.proofs.Common.{◌≡◌, ℕ, ◌∙◌, ap, subst}
-use Rattle.std.specs.Prelude.{option_map}
+use Rattle.std.{proofs.Common.{◌≡◌, ℕ, ◌∙◌, ap, subst}, specs.Prelude.{option_map}}
 use Rattle.df_sessions.specs.Requests.{session_of}
 use Rattle.df_model.specs.Refusals.{counted_staged, session_of_client}
 use Rattle.df_opening.specs.Below.{State, memory, state_in}
-use Rattle.df_replica.specs.Flushing.{sessions_staged}
-use Rattle.df_replica.proofs.StageTests.{all_staged}
+use Rattle.df_replica.{specs.Flushing.{sessions_staged}, proofs.StageTests.{all_staged}}
 use Rattle.df_replica.proofs.replica.Replica.stage_refusal.Goals as goal
 
 pub session_staged-last-requires-clause-requests : goal.session_staged-last-requires-clause-requests

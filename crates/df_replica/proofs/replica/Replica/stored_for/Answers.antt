@@ -1,11 +1,9 @@
 -- The client's session is the machine's.
 use Rattle.std.proofs.Common.{◌≡◌, Some, sym, subst, ◌∙◌}
-use Rattle.df_model.specs.Refusals.{first_refusal, lookup_refusals}
-use Rattle.df_model.specs.declared.reading.LookupError.TheVariants.{NoClient, ReplyPending}
+use Rattle.df_model.specs.{Refusals.{first_refusal, lookup_refusals}, declared.reading.LookupError.TheVariants.{NoClient, ReplyPending}}
 use Rattle.df_sessions.proofs.Laws.{no_gap}
 use Rattle.df_opening.specs.Below.{State, memory, state_in}
-use Rattle.df_replica.specs.Lookups.{IsStoredFor}
-use Rattle.df_replica.proofs.LookupSessions.{is_stored, no_client, pending}
+use Rattle.df_replica.{specs.Lookups.{IsStoredFor}, proofs.LookupSessions.{is_stored, no_client, pending}}
 use Rattle.df_replica.proofs.replica.Replica.stored_for.Goals as goal
 
 pub returns-in_default-clause-refused : goal.returns-in_default-clause-refused

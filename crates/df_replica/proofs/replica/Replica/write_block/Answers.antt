@@ -1,15 +1,9 @@
 -- What isn't refused may be written next, and each call is the machine's.
 use Rattle.std.proofs.Common.{Err, refl, sym, ap, ◌∙◌}
 use Rattle.df_format.specs.declared.reference.Reference.{Reference}
-use Rattle.df_model.specs.Commands.{WriteBlock}
-use Rattle.df_model.specs.Faults.{is_block_fault}
-use Rattle.df_model.specs.Refusals.{block_refusals, first_refusal}
+use Rattle.df_model.specs.{Commands.{WriteBlock}, Faults.{is_block_fault}, Refusals.{block_refusals, first_refusal}}
 use Rattle.df_opening.specs.Below.{State, memory}
-use Rattle.df_replica.specs.Answering.{answer_of, as_write_block}
-use Rattle.df_replica.specs.Blocks.{block_events, next_block}
-use Rattle.df_replica.proofs.BlockAnswers.{fault_serves, refusal_serves, written_serves}
-use Rattle.df_replica.proofs.BlockStates.{address_given, refusal_given}
-use Rattle.df_replica.proofs.Owns.{all_own, part_own, refused_own}
+use Rattle.df_replica.{specs.{Answering.{answer_of, as_write_block}, Blocks.{block_events, next_block}}, proofs.{BlockAnswers.{fault_serves, refusal_serves, written_serves}, BlockStates.{address_given, refusal_given}, Owns.{all_own, part_own, refused_own}}}
 use Rattle.df_replica.proofs.replica.Replica.write_block.Goals as goal
 
 pub returns-in-Err-clause-call : goal.returns-in-Err-clause-call

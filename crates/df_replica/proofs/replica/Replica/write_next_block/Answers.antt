@@ -3,8 +3,7 @@ use Rattle.df_model.specs.Blocks.{block_written, with_entry}
 use Rattle.df_units.specs.Meaning.{number_of}
 use Rattle.df_grid.specs.Grid.{GridState}
 use Rattle.df_opening.specs.Below.{FitsGrid, IsState, state_in}
-use Rattle.df_replica.specs.Appending.{unit_made}
-use Rattle.df_replica.proofs.BlockStates.{either_grid, live_state}
+use Rattle.df_replica.{specs.Appending.{unit_made}, proofs.BlockStates.{either_grid, live_state}}
 use Rattle.df_replica.proofs.replica.Replica.write_next_block.Goals as goal
 
 pub invariant_of-self : goal.invariant_of-self

@@ -4,16 +4,11 @@ use Rattle.df_base.specs.Log.{Event}
 use Rattle.df_disk.specs.Adds.{AddsPart, after_all}
 use Rattle.df_theory.specs.Device.{AreSteps}
 use Rattle.df_checkpoint.specs.Writing.{unit_in}
-use Rattle.df_grid.specs.Grid.{GridState}
-use Rattle.df_grid.specs.Table.{next_written}
-use Rattle.df_grid.specs.Writes.{block_steps, made_events}
-use Rattle.df_units.specs.Format.{format_of}
-use Rattle.df_units.specs.Meaning.{number_of}
+use Rattle.df_grid.specs.{Grid.{GridState}, Table.{next_written}, Writes.{block_steps, made_events}}
+use Rattle.df_units.specs.{Format.{format_of}, Meaning.{number_of}}
 use Rattle.df_model.specs.Blocks.{Blocks}
 use Rattle.df_opening.specs.Below.{FitsGrid, IsRunningCheckpoint, IsState, Parts, RunningCheckpoint, State, running_state, state_in}
-use Rattle.df_replica.specs.Stepping.{MayAdvance, OfRunning, advanced, block_events, trailer_unit}
-use Rattle.df_replica.proofs.BeginState.{with_course}
-use Rattle.df_replica.proofs.StepState.{grid_is, of_running, running_on, taken_level, taken_runs}
+use Rattle.df_replica.{specs.Stepping.{MayAdvance, OfRunning, advanced, block_events, trailer_unit}, proofs.{BeginState.{with_course}, StepState.{grid_is, of_running, running_on, taken_level, taken_runs}}}
 use Rattle.df_replica.proofs.replica.Replica.write_trailer_block.Goals as goal
 
 pub invariant_of-self : goal.invariant_of-self

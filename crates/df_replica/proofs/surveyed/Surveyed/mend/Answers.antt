@@ -1,11 +1,6 @@
 -- What a mending and a boot update leave is said of the survey that the parts are seen as.
-use Rattle.std.proofs.Common.{subst}
-use Rattle.std.specs.Prelude.{Err}
-use Rattle.df_opening.specs.Below.{Parts, State, state_in}
-use Rattle.df_opening.specs.Mending.{AddsRaising, IsReadBack}
-use Rattle.df_opening.specs.Raising.{RaisesEach, opening_events}
-use Rattle.df_opening.specs.Survey.{Survey}
-use Rattle.df_opening.proofs.Laws.{adds_error, read_error, unharmed_error, unharmed_ok}
+use Rattle.std.{proofs.Common.{subst}, specs.Prelude.{Err}}
+use Rattle.df_opening.{specs.{Below.{Parts, State, state_in}, Mending.{AddsRaising, IsReadBack}, Raising.{RaisesEach, opening_events}, Survey.{Survey}}, proofs.Laws.{adds_error, read_error, unharmed_error, unharmed_ok}}
 use Rattle.df_replica.specs.Below.{boot_fields}
 use Rattle.df_replica.proofs.surveyed.Surveyed.mend.Goals as goal
 

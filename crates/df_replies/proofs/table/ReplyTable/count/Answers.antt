@@ -1,10 +1,8 @@
 -- What is counted of the table is what the image shows.
-use Rattle.std.proofs.Common.{◌∙◌, List, length, subst}
-use Rattle.std.specs.Prelude.{Result}
+use Rattle.std.{proofs.Common.{◌∙◌, List, length, subst}, specs.Prelude.{Result}}
 use Rattle.df_layout.specs.declared.damage.Class.{Class}
 use Rattle.df_format.specs.declared.header.Header.{Header}
-use Rattle.df_replies.specs.Counts.{CountsSome}
-use Rattle.df_replies.proofs.Counted.{counts_boot, counts_checkpoint, counts_top}
+use Rattle.df_replies.{specs.Counts.{CountsSome}, proofs.Counted.{counts_boot, counts_checkpoint, counts_top}}
 use Rattle.df_replies.proofs.table.ReplyTable.count.Goals as goal
 
 pub returns-clause-checkpoint : goal.returns-clause-checkpoint

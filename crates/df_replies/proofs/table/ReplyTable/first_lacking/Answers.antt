@@ -1,10 +1,8 @@
 -- What is found in the table is so in the theory's image.
-use Rattle.std.proofs.Common.{◌∙◌, List, subst}
-use Rattle.std.specs.Prelude.{Result}
+use Rattle.std.{proofs.Common.{◌∙◌, List, subst}, specs.Prelude.{Result}}
 use Rattle.df_layout.specs.declared.damage.Class.{Class}
 use Rattle.df_format.specs.declared.header.Header.{Header}
-use Rattle.df_replies.specs.Answers.{LacksHere}
-use Rattle.df_replies.proofs.Stored.{lacking_class, lacking_within, lacks_shown}
+use Rattle.df_replies.{specs.Answers.{LacksHere}, proofs.Stored.{lacking_class, lacking_within, lacks_shown}}
 use Rattle.df_replies.proofs.table.ReplyTable.first_lacking.Goals as goal
 
 pub returns-clause-lacks : goal.returns-clause-lacks

@@ -1,10 +1,8 @@
 -- The greatest of the numbers is the theory's number of replies.
-use Rattle.std.proofs.Common.{◌∙◌, List, length, max, subst, ℕ}
-use Rattle.std.specs.Prelude.{Result}
+use Rattle.std.{proofs.Common.{◌∙◌, List, length, max, subst, ℕ}, specs.Prelude.{Result}}
 use Rattle.df_layout.specs.declared.damage.Class.{Class}
 use Rattle.df_format.specs.declared.header.Header.{Header}
-use Rattle.df_replies.specs.Counts.{IsGreatest}
-use Rattle.df_replies.proofs.Counted.{greatest_is_replies}
+use Rattle.df_replies.{specs.Counts.{IsGreatest}, proofs.Counted.{greatest_is_replies}}
 use Rattle.df_replies.proofs.table.ReplyTable.replies.Goals as goal
 
 pub returns : goal.returns

@@ -1,11 +1,8 @@
 -- The first request's body is in the room that is sealed.
 use Rattle.std.proofs.Common.{◌≡◌, ◌<◌, ◌∷◌, [], ◌++◌, ℕ, List, length, take, sym, ◌∙◌, ap, subst}
-use Rattle.df_format.specs.Making.{for_body}
-use Rattle.df_format.specs.Message.{Message, sectors_end}
-use Rattle.df_format.specs.Spelling.{sealed}
+use Rattle.df_format.specs.{Making.{for_body}, Message.{Message, sectors_end}, Spelling.{sealed}}
 use Rattle.df_model.specs.Work.{Request}
-use Rattle.df_rooms.specs.Stagings.{Staged, first_request}
-use Rattle.df_rooms.proofs.Stagings.{first_body, first_fit}
+use Rattle.df_rooms.{specs.Stagings.{Staged, first_request}, proofs.Stagings.{first_body, first_fit}}
 use Rattle.df_rooms.proofs.staging.Staging.seal_first.Goals as goal
 
 pub returns-clause-sealed : goal.returns-clause-sealed

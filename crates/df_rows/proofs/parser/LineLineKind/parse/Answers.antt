@@ -1,6 +1,5 @@
 -- A put that is refused says nothing.
-use Rattle.std.proofs.Common.{codes, rules, arith}
-use Rattle.std.proofs.lemmas.Slice.Eq.{text_from_reads}
+use Rattle.std.proofs.{Common.{codes, rules, arith}, lemmas.Slice.Eq.{text_from_reads}}
 use Rattle.df_rows.proofs.Words.{only, putting}
 use Rattle.df_rows.proofs.parser.LineLineKind.parse.Goals as goal
 

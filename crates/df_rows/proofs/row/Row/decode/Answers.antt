@@ -1,7 +1,6 @@
 -- The key, the value and the zeros after it are those of the row.
 use Rattle.std.proofs.Common.{refl, ap, sym, ◌∙◌, arith}
-use Rattle.df_rows.specs.Rows.{row_of}
-use Rattle.df_rows.proofs.Entries.{row_read}
+use Rattle.df_rows.{specs.Rows.{row_of}, proofs.Entries.{row_read}}
 use Rattle.df_rows.proofs.row.Row.decode.Goals as goal
 
 pub returns-clause-found : goal.returns-clause-found

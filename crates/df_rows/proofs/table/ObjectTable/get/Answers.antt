@@ -1,8 +1,6 @@
 -- What stands at the key's place is what the map has, and in a gap there is nothing.
-use Rattle.std.proofs.Common.{[], Some, refl, ap, sym, ◌∙◌}
-use Rattle.std.proofs.lemmas.List.{get_or_default}
-use Rattle.df_rows.specs.Rows.{Entry}
-use Rattle.df_rows.proofs.Held.{get_at, get_gap, same_gap, same_place}
+use Rattle.std.proofs.{Common.{[], Some, refl, ap, sym, ◌∙◌}, lemmas.List.{get_or_default}}
+use Rattle.df_rows.{specs.Rows.{Entry}, proofs.Held.{get_at, get_gap, same_gap, same_place}}
 use Rattle.df_rows.proofs.table.ObjectTable.get.Goals as goal
 
 pub returns-in-Ok : goal.returns-in-Ok

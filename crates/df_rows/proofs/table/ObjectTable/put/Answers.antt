@@ -1,11 +1,6 @@
 -- The row stands in place of the one of its key, or in the gap for it, for which there is room.
-use Rattle.std.proofs.Common.{List, cond, ap, sym, subst, ◌∙◌, arith}
-use Rattle.std.specs.Vec.{vec_capacity}
-use Rattle.std.specs.List.{insert}
-use Rattle.df_rows.specs.Rows.{Entry}
-use Rattle.df_rows.specs.Sorted.{AreRows}
-use Rattle.df_rows.proofs.Edited.{rows_insert}
-use Rattle.df_rows.proofs.Held.{put_at_place, put_in_gap, room_in_gap, same_gap, same_place, table_of}
+use Rattle.std.{proofs.Common.{List, cond, ap, sym, subst, ◌∙◌, arith}, specs.{Vec.{vec_capacity}, List.{insert}}}
+use Rattle.df_rows.{specs.{Rows.{Entry}, Sorted.{AreRows}}, proofs.{Edited.{rows_insert}, Held.{put_at_place, put_in_gap, room_in_gap, same_gap, same_place, table_of}}}
 use Rattle.df_rows.proofs.table.ObjectTable.put.Goals as goal
 
 pub invariant_of-self-in-Err : goal.invariant_of-self-in-Err

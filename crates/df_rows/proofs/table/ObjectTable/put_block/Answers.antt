@@ -1,6 +1,5 @@
 -- The rows are the entries of the map, and a block has the rows that the layout says.
-use Rattle.std.proofs.Common.{ℕ, ◌<◌, length, ap, sym, subst, ◌∙◌}
-use Rattle.std.specs.FinMap.{len-entries}
+use Rattle.std.{proofs.Common.{ℕ, ◌<◌, length, ap, sym, subst, ◌∙◌}, specs.FinMap.{len-entries}}
 use Rattle.df_rows.specs.Limits.{block_count, rows_in_block}
 use Rattle.df_rows.proofs.table.ObjectTable.put_block.Goals as goal
 

@@ -1,9 +1,6 @@
 -- The bytes are one row, whose key isn't new.
-use Rattle.std.proofs.Common.{ℕ, ap, sym, subst, ◌∙◌}
-use Rattle.std.proofs.lemmas.Bool.{false≢true}
-use Rattle.df_rows.specs.Rows.{Entry}
-use Rattle.df_rows.specs.Tables.{IsNew}
-use Rattle.df_rows.proofs.Entries.{one_row}
+use Rattle.std.proofs.{Common.{ℕ, ap, sym, subst, ◌∙◌}, lemmas.Bool.{false≢true}}
+use Rattle.df_rows.{specs.{Rows.{Entry}, Tables.{IsNew}}, proofs.Entries.{one_row}}
 use Rattle.df_rows.proofs.table.ObjectTable.take_row.Goals as goal
 
 pub returns-then-not-is_new-clause-refused : goal.returns-then-not-is_new-clause-refused

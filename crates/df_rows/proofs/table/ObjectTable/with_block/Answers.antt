@@ -1,10 +1,6 @@
 -- The rows of the body, one by one: a body whose length isn't that of whole rows has none, and the first row that isn't taken refuses it.
-use Rattle.std.proofs.Common.{◌≡◌, ℕ, ◌+◌, ◌-◌, ◌*◌, List, [], length, take, drop, sym, subst, ◌∙◌, arith}
-use Rattle.std.proofs.lemmas.Bool.{false≢true}
-use Rattle.std.proofs.lemmas.List.{drop_all, length-drop, length-take}
-use Rattle.df_rows.specs.Tables.{Table}
-use Rattle.df_rows.specs.Blocks.{TableTakes}
-use Rattle.df_rows.proofs.Taken.{Carries, carries_more, refused_first, row_cut, taken_none, whole_rows}
+use Rattle.std.proofs.{Common.{◌≡◌, ℕ, ◌+◌, ◌-◌, ◌*◌, List, [], length, take, drop, sym, subst, ◌∙◌, arith}, lemmas.Bool.{false≢true}, lemmas.List.{drop_all, length-drop, length-take}}
+use Rattle.df_rows.{specs.{Tables.{Table}, Blocks.{TableTakes}}, proofs.Taken.{Carries, carries_more, refused_first, row_cut, taken_none, whole_rows}}
 use Rattle.df_rows.proofs.table.ObjectTable.with_block.Goals as goal
 
 pub returns-then-not-is_multiple_of-clause-none : goal.returns-then-not-is_multiple_of-clause-none

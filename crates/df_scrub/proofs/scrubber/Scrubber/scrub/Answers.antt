@@ -2,8 +2,7 @@
 use Rattle.std.proofs.Common.{◌<◌, refl, ◌∙◌, sym, subst, length, vec_len, arith}
 use Rattle.df_model.specs.declared.answers.Scrubbed.TheVariants.{Checked}
 use Rattle.df_grid.specs.Grid.{GridState}
-use Rattle.df_scrub.specs.Scrubber.{left_in}
-use Rattle.df_scrub.proofs.Touring.{begins, fewer, goes_on, has_room, same_step}
+use Rattle.df_scrub.{specs.Scrubber.{left_in}, proofs.Touring.{begins, fewer, goes_on, has_room, same_step}}
 use Rattle.df_scrub.proofs.scrubber.Scrubber.scrub.Goals as goal
 
 pub loop-address-init : goal.loop-address-init

@@ -1,9 +1,6 @@
 -- Where the client is known its session is put at its place, and else it is pushed.
 use Rattle.std.proofs.Common.{ap, lit<, ◌∙◌}
-use Rattle.df_sessions.specs.Table.{Table}
-use Rattle.df_sessions.specs.Requests.{sessions_of}
-use Rattle.df_sessions.proofs.Noted.{request_noted}
-use Rattle.df_sessions.proofs.Applied.{known_client, new_client, stays_table, has_room}
+use Rattle.df_sessions.{specs.{Table.{Table}, Requests.{sessions_of}}, proofs.{Noted.{request_noted}, Applied.{known_client, new_client, stays_table, has_room}}}
 use Rattle.df_sessions.proofs.table.SessionTable.apply.Goals as goal
 
 pub invariant_of-self : goal.invariant_of-self

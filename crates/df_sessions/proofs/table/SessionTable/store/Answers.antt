@@ -1,9 +1,6 @@
 -- The session at the place is read, changed and put back.
 use Rattle.std.proofs.Common.{◌≡◌, ap, ◌∙◌}
-use Rattle.df_sessions.specs.Table.{Table, requested}
-use Rattle.df_sessions.specs.Requests.{sessions_of}
-use Rattle.df_sessions.proofs.Noted.{reply_unnoted}
-use Rattle.df_sessions.proofs.Applied.{has_reply, reply_stays_table}
+use Rattle.df_sessions.{specs.{Table.{Table, requested}, Requests.{sessions_of}}, proofs.{Noted.{reply_unnoted}, Applied.{has_reply, reply_stays_table}}}
 use Rattle.df_sessions.proofs.table.SessionTable.store.Goals as goal
 
 pub invariant_of-self : goal.invariant_of-self

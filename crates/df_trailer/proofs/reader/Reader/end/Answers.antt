@@ -1,7 +1,5 @@
 use Rattle.std.proofs.Common.{◌∙◌, Option, ap}
-use Rattle.df_trailer.specs.declared.fault.Failing.{Failing}
-use Rattle.df_trailer.specs.Text.{answer, fault_in}
-use Rattle.df_trailer.proofs.Fed.{fails_as_read}
+use Rattle.df_trailer.{specs.{declared.fault.Failing.{Failing}, Text.{answer, fault_in}}, proofs.Fed.{fails_as_read}}
 use Rattle.df_trailer.proofs.reader.Reader.end.Goals as goal
 
 pub returns-clause-fault : goal.returns-clause-fault

@@ -1,9 +1,5 @@
-use Rattle.std.proofs.Common.{◌≡◌, Option, ap, ◌∙◌, arith, subst, ◌-◌, ◌+◌, ◌++◌, ℕ, List, take, drop, length, length-drop}
-use Rattle.std.proofs.lemmas.List.{take_all}
-use Rattle.df_trailer.specs.declared.fault.Failing.{Failing}
-use Rattle.df_trailer.specs.Reading.{IsRestTaken}
-use Rattle.df_trailer.specs.Text.{answer, refusal_in}
-use Rattle.df_trailer.proofs.Fed.{IsFed, fails_as_read, read_more}
+use Rattle.std.proofs.{Common.{◌≡◌, Option, ap, ◌∙◌, arith, subst, ◌-◌, ◌+◌, ◌++◌, ℕ, List, take, drop, length, length-drop}, lemmas.List.{take_all}}
+use Rattle.df_trailer.{specs.{declared.fault.Failing.{Failing}, Reading.{IsRestTaken}, Text.{answer, refusal_in}}, proofs.Fed.{IsFed, fails_as_read, read_more}}
 use Rattle.df_trailer.proofs.reader.Reader.feed.Goals as goal
 
 fed : (c : goal.After-refused) → IsFed c.args.self.now c.take_rest.new.self c.args.piece.now c.take-head.result

@@ -1,9 +1,5 @@
 use Rattle.std.proofs.Common.{◌∙◌, ℕ, List, get_or, [], take, drop, map, ap, refl}
-use Rattle.df_trailer.specs.Rooms.{without_reply}
-use Rattle.df_trailer.specs.Text.{count, read_sessions, root_size, sessions_at}
-use Rattle.df_trailer.proofs.Listed.{sessions_listed}
-use Rattle.df_trailer.proofs.Said.{empty_room, moved_room, parts_said, same_rows, same_words}
-use Rattle.df_trailer.proofs.Words.{lent_back}
+use Rattle.df_trailer.{specs.{Rooms.{without_reply}, Text.{count, read_sessions, root_size, sessions_at}}, proofs.{Listed.{sessions_listed}, Said.{empty_room, moved_room, parts_said, same_rows, same_words}, Words.{lent_back}}}
 use Rattle.df_trailer.proofs.reader.Reader.into_parts.Goals as goal
 
 pub returns-clause-parts : goal.returns-clause-parts

@@ -1,7 +1,5 @@
 use Rattle.std.proofs.Common.{◌+◌, ◌/◌, refl, arith}
-use Rattle.df_trailer.specs.Rooms.{byte_in_words}
-use Rattle.df_trailer.proofs.Kept.{nothing_kept}
-use Rattle.df_trailer.proofs.Blocks.{length_listed}
+use Rattle.df_trailer.{specs.Rooms.{byte_in_words}, proofs.{Kept.{nothing_kept}, Blocks.{length_listed}}}
 use Rattle.df_trailer.proofs.reader.Reader.new.Goals as goal
 
 pub returns-clause-fresh : goal.returns-clause-fresh

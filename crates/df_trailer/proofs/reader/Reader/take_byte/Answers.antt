@@ -1,6 +1,5 @@
 use Rattle.std.proofs.Common.{◌∙◌, ℕ, List, ap}
-use Rattle.df_trailer.specs.Rooms.{byte_in_checks, byte_in_words}
-use Rattle.df_trailer.proofs.Words.{lent_back}
+use Rattle.df_trailer.{specs.Rooms.{byte_in_checks, byte_in_words}, proofs.Words.{lent_back}}
 use Rattle.df_trailer.proofs.reader.Reader.take_byte.Goals as goal
 
 pub returns-clause-bits : goal.returns-clause-bits

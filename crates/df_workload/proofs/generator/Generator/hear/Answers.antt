@@ -1,8 +1,6 @@
 -- The run stays sound, and its room has the body that was drawn last.
 use Rattle.std.proofs.Common.{◌≡◌, ◌<◌, false, subst, sym}
-use Rattle.df_workload.specs.Sound.{IsSoundState, MayBeTold, is_at_end, left}
-use Rattle.df_workload.specs.declared.state.State.{State}
-use Rattle.df_workload.proofs.Nearing.{heard_on, some_left}
+use Rattle.df_workload.{specs.{Sound.{IsSoundState, MayBeTold, is_at_end, left}, declared.state.State.{State}}, proofs.Nearing.{heard_on, some_left}}
 use Rattle.df_workload.proofs.generator.Generator.hear.Goals as goal
 
 pub invariant_of-self : goal.invariant_of-self

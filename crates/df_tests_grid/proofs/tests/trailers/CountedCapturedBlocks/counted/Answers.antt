@@ -1,11 +1,7 @@
 -- As many of the first addresses are referenced as there are up to the last one that is.
-use Rattle.std.proofs.Common.{◌≡◌, ℕ, zero, suc, ◌*◌, ◌%◌, ◌<◌, ◌≤◌, Bool, true, false, Option, Some, None, ◌∷◌, ap, sym, ◌∙◌, arith}
-use Rattle.std.specs.Prelude.{if◌then◌else◌, map, min, nat_le, replicate}
-use Rattle.std.proofs.lemmas.Bool.{le-leb, lt-leb}
+use Rattle.std.{proofs.{Common.{◌≡◌, ℕ, zero, suc, ◌*◌, ◌%◌, ◌<◌, ◌≤◌, Bool, true, false, Option, Some, None, ◌∷◌, ap, sym, ◌∙◌, arith}, lemmas.Bool.{le-leb, lt-leb}}, specs.Prelude.{if◌then◌else◌, map, min, nat_le, replicate}}
 use Rattle.df_base.specs.Fields.{field_at}
-use Rattle.df_trailer.specs.Spelling.{is_referenced, listed}
-use Rattle.df_trailer.specs.Text.{ones}
-use Rattle.df_trailer.specs.Writing.{referenced_among}
+use Rattle.df_trailer.specs.{Spelling.{is_referenced, listed}, Text.{ones}, Writing.{referenced_among}}
 use Rattle.df_tests_grid.proofs.tests.trailers.CountedCapturedBlocks.counted.Goals as goal
 
 -- where those at the first places are referenced, and no others
