@@ -1,6 +1,7 @@
 // Requests that are staged, and the flush that appends them as one group. A staged request is in memory alone, its body in the room
 // that its prepare is made in and written from.
-ghost use Rattle.std.specs.Prelude.{◌≡◌, ◌≤◌, ◌<◌, ◌+◌, ◌++◌, ◌^◌, ℕ, List, [], length, option_map, true, Option, IfSome, IsSome, OnErr, OnOk};
+ghost use Rattle.std.specs.Prelude.{◌≡◌, ◌≤◌, ◌<◌, ◌+◌, ◌++◌, ℕ, List, [], length, option_map, true, Option, IfSome, IsSome, OnErr, OnOk};
+ghost use Rattle.df_base.specs.declared.TheConstants.{GREATEST, HEADER};
 ghost use Rattle.df_replica.specs.Below.{HasCause, IsBlamed, Adds, WalPrepares, for_body, own_place, ObeysRules, Stage, Flush, is_flush_fault};
 ghost use Rattle.df_replica.specs.Below.{stage_refusals, first_refusal, session_of_client, session_of, IsState, Told, memory, counted_staged};
 ghost use Rattle.df_opening.specs.Below.{AreStaging};

@@ -26,7 +26,7 @@ invariant_of-self c =
     let three = subst (λ (n : ℕ). IsRunningCheckpoint s.file s.fields s.head (with_checkpoint_begun s root).blocks (record (captured s root) { size = plan.size; blocks = n })) (sym may.planned.blocks) two in
     let four = subst (λ (r : List ℕ). IsRunningCheckpoint s.file s.fields s.head (with_checkpoint_begun s root).blocks (record (captured s root) { root = r; size = plan.size; blocks = plan.blocks })) (sym c.of-capture.ensures.root) three in
     let five = subst (λ (ss : List Session). IsRunningCheckpoint s.file s.fields s.head (with_checkpoint_begun s root).blocks (record (captured s root) { root = c.of-capture.result.root.items; sessions = ss; size = plan.size; blocks = plan.blocks })) (sym (c.of-capture.ensures.sessions ∙ c.as_slice.ensures)) four in
-    let six = subst (λ (n : ℕ). IsRunningCheckpoint s.file s.fields s.head (with_checkpoint_begun s root).blocks (record (captured s root) { root = c.of-capture.result.root.items; sessions = c.of-capture.result.sessions.items; sequence = n; size = plan.size; blocks = plan.blocks })) (sym (c.of-capture.ensures.sequence ∙ ap (λ (f : SuperFields). f.sequence + 1) c.fields-sequence.ensures.value)) five in
+    let six = subst (λ (n : ℕ). IsRunningCheckpoint s.file s.fields s.head (with_checkpoint_begun s root).blocks (record (captured s root) { root = c.of-capture.result.root.items; sessions = c.of-capture.result.sessions.items; sequence = n; size = plan.size; blocks = plan.blocks })) (sym (c.of-capture.ensures.sequence ∙ ap (λ (f : SuperFields). f.sequence + 1) c.fields.ensures.value)) five in
     let course = subst (λ (b : Blocks). IsRunningCheckpoint s.file s.fields s.head b (record (captured s root) { root = c.of-capture.result.root.items; sessions = c.of-capture.result.sessions.items; sequence = c.of-capture.result.sequence; size = plan.size; blocks = plan.blocks })) blocks six in
     record {
       state = subst (λ (n : ℕ). IsState (record s { blocks = c.capture.new.self.blocks; running = Some (record (captured s root) { root = c.of-capture.result.root.items; sessions = c.of-capture.result.sessions.items; sequence = c.of-capture.result.sequence; size = plan.size; blocks = plan.blocks }); boot = n }))
