@@ -1,13 +1,12 @@
 -- Each run of the table's program is a run over its file, and each copy is one over its source.
-use Rattle.std.proofs.Common.{◌≡◌, inl, inr, [], Option, Some, None, Result, refl, sym, ◌∙◌, ap, subst}
+use Rattle.std.proofs.Common.{◌≡◌, inl, inr, [], Option, Some, None, refl, sym, ◌∙◌, ap, subst}
 use Rattle.df_base.specs.Image.{IsImage}
 use Rattle.df_disk.specs.Told.{Told}
 use Rattle.df_layout.specs.declared.layout.Layout.{Layout}
-use Rattle.df_rows.specs.Tables.{Table}
-use Rattle.df_session.{specs.{Below.{IsOpened, State as Replica}, Found.{FoundFile, no_calls}, Links.{CallsMade, NoCalls}, Opened.{MendsAll}, Programs.{FileRun}}, proofs.Laws.{calls_keep}}
+use Rattle.df_session.{specs.{Below.{IsOpened, State as Replica}, Found.{FoundFile, no_calls}, Links.{NoCalls}, Opened.{MendsAll}, Programs.{FileRun}}, proofs.Laws.{calls_keep}}
 use Rattle.df_program.specs.Two as two
 use Rattle.df_table.specs.Outside as table
-use Rattle.df_table.specs.{Run.{DoesTable, TableOutcome}, Session.{AreCallsOf, NotOpened, Served, ServesFoundTable}, declared.ending.Ending.{Ending}}
+use Rattle.df_table.{specs.Run.{DoesTable, TableOutcome}, proofs.Laws.{made_on_found}}
 use Rattle.df_table.specs.declared.status.Status as table_status
 use Rattle.df_copy.specs.Run.{CopyOutcome, DoesCopy}
 use Rattle.df_copy.specs.declared.status.Status as copy_status
@@ -15,19 +14,13 @@ use Rattle.df_lifetime.{specs.Programs.{CopyDoesAs, CopyGoesAs, SourceIsRun, Tab
 
 -- ---- a table
 
--- its calls are made on what was found
-made_on_found : (layout : Layout) (s : Replica) (told : Option Told) (old new : table.Outside) (status : table_status.Status) (opened : Result Table Ending) (serves : ServesFoundTable layout s told old new status opened) (c : CallsMade)
-    → AreCallsOf layout s told old new status opened serves c → (c.from ≡ s) × (c.old ≡ told) × (c.new ≡ new.told)
-made_on_found layout s told old new status opened (NotOpened ending last ends unread writes) c of = (of.0, of.1, of.2)
-made_on_found layout s told old new status opened (Served t u mid opens lines) c of = (of.0, of.1, of.2)
-
 module _ (t n : Told) (old new : table.Outside) (status : table_status.Status) (to : new.told ≡ Some n) where
   table_does : (layout : Layout) (does : DoesTable layout t old new status) → (run : FileRun t n) × TableDoesAs run layout old new status does
   table_does layout (inl refuses) = barred t n new.told to refuses.barrier
   table_does layout (inr (inl fails)) = stopped t n new.told to layout fails.disk
   table_does layout (inr (inr serves)) =
       let found = serves.0 in
-      let by = made_on_found layout found.replica found.mended old new status serves.1.opened serves.1.serves serves.1.made serves.1.of in
+      let by = made_on_found layout t found old new status serves.1 in
       session t n layout found serves.1.made by.0 by.1 (by.2 ∙ to) serves.1.calls
 
   table_goes : old.told ≡ Some t → (outcome : TableOutcome t old new status) → (run : FileRun t n) × TableGoesAs run old new status outcome
