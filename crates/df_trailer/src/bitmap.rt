@@ -1,22 +1,11 @@
 // Bits in words of 64, from the lowest bit of the first word on: as bytes, and counted.
 ghost use Rattle.std.specs.Prelude.{◌≡◌, ◌≢◌, ◌+◌, ◌*◌, ◌/◌, ◌^◌, ◌<◌, ◌≤◌, ◌==◌, ℕ, length, nat_le};
 ghost use Rattle.std.specs.Int.{bit_at};
-ghost use Rattle.df_trailer.specs.Rooms.{bits_in_words, byte_of_word, byte_in_words};
+ghost use Rattle.df_trailer.specs.Rooms.{bits_in_words, byte_in_words};
 ghost use Rattle.df_trailer.specs.Text.{bits_of, ones};
 
 /// Bits of a word.
 const WORD: u64 = 64;
-
-/// A word with one of its eight bytes changed.
-pub(crate) fn with_byte(word: u64, place: usize, byte: u8) -> u64
-    requires { place < 8 }
-    ensures here { byte_of_word result place ≡ byte }
-    ensures others { (other : ℕ) → other < 8 → other ≢ place → byte_of_word result other ≡ byte_of_word word other }
-{
-    let mut bytes = word.to_le_bytes();
-    bytes[place] = byte;
-    u64::from_le_bytes(bytes)
-}
 
 /// Changes a byte of the words.
 pub(crate) fn put_byte(words: &mut [u64], place: usize, byte: u8)
@@ -25,8 +14,9 @@ pub(crate) fn put_byte(words: &mut [u64], place: usize, byte: u8)
     ensures here { byte_in_words words.new place ≡ byte }
     ensures others { (other : ℕ) → other < 8 * length words.old → other ≢ place → byte_in_words words.new other ≡ byte_in_words words.old other }
 {
-    let word = place / 8;
-    words[word] = with_byte(words[word], place % 8, byte);
+    let mut word = words[place / 8].to_le_bytes();
+    word[place % 8] = byte;
+    words[place / 8] = u64::from_le_bytes(word);
 }
 
 /// Tells whether a bit is set.

@@ -5,8 +5,8 @@ ghost use Rattle.df_base.specs.declared.TheConstants.{HEADER};
 ghost use Rattle.df_trailer.specs.Writing.{referenced_among};
 
 use crate::CapturedBlocks;
-use crate::behind::CHECK;
 use crate::captured::GROUP;
+use crate::parts::CHECK;
 
 /// Where the checksums of the blocks from a place on begin.
 #[derive(Clone, Copy)]

@@ -1,19 +1,20 @@
-// Root and sessions, which a text begins with: how much of a text is its head, and the first part of it that fails.
-ghost use Rattle.std.specs.Prelude.{◌≡◌, ◌+◌, ◌*◌, ◌<◌, ◌≤◌, Some, [], length};
+// The head of a text, which has root and sessions, as pieces of it come: how much of a text it is, and the first part of it that fails.
+ghost use Rattle.std.specs.Prelude.{◌≡◌, ◌+◌, ◌*◌, ◌++◌, ◌<◌, ◌≤◌, Some, [], length, take, true};
 ghost use Rattle.df_base.specs.declared.TheConstants.{GREATEST};
 ghost use Rattle.df_model.specs.Refusals.{first_refusal};
 ghost use Rattle.df_trailer.specs.declared.fault.Cause.TheVariants.{Ends, Says};
-ghost use Rattle.df_trailer.specs.Text.{earlier, fails, head_end, head_tests, is_repeated, is_wrong, session, wrong_place, read_sessions};
+ghost use Rattle.df_trailer.specs.Text.{earlier, fails, head_end, head_tests, is_repeated, is_whole, is_wrong, session, wrong_place, read_sessions};
 
 use crate::fault::{Cause, Failing, Fault};
+use arrayvec::ArrayVec;
 use df_base::{GREATEST, u32_at, u64_at, u128_at};
 use df_layout::{Field, ROOT};
 
 /// The most bytes of a head: two lengths, a root, and 64 sessions.
-pub(crate) const HEAD: usize = 3080;
+const HEAD: usize = 3080;
 
 /// How many bytes the head of a text has, as far as its front tells.
-pub(crate) fn end_of_head(front: &[u8]) -> u64
+fn end_of_head(front: &[u8]) -> u64
     requires { length front.now < GREATEST }
     ensures { result ≡ head_end front.now }
 {
@@ -25,6 +26,48 @@ pub(crate) fn end_of_head(front: &[u8]) -> u64
         return sessions;
     }
     sessions + 32 * u64::from(u32_at(front, sessions as usize - 4))
+}
+
+/// The bytes of a text up to its bits, as far as they came.
+#[derive(Drop)]
+pub(crate) struct Front {
+    pub(crate) head: ArrayVec<u8, 3080>,
+}
+
+/// Tells whether a head is there whole, or is longer than any may be.
+fn whole(head: &[u8]) -> bool
+    requires { length head.now < GREATEST }
+    ensures { result ≡ is_whole head.now }
+{
+    head.len() >= HEAD || head.len() as u64 >= end_of_head(head)
+}
+
+impl Front {
+    /// Nothing of a head.
+    pub(crate) fn new() -> Front
+        ensures { result.head.items ≡ [] }
+    {
+        Front {
+            head: ArrayVec::new(),
+        }
+    }
+
+    /// Takes what belongs to the head from the front of a piece, and answers how many bytes these are.
+    pub(crate) fn take(&mut self, piece: &[u8]) -> usize
+        ensures within { result ≤ length piece.now }
+        ensures bytes { self.new.head.items ≡ self.old.head.items ++ take result piece.now }
+        ensures fits { length self.old.head.items ≤ head_end self.old.head.items → length self.new.head.items ≤ head_end self.new.head.items }
+        ensures stays { is_whole self.old.head.items ≡ true → result ≡ 0 }
+        ensures whole { result < length piece.now → is_whole self.new.head.items ≡ true }
+    {
+        for (i, byte) in piece.iter().enumerate() {
+            if whole(&self.head) {
+                return i;
+            }
+            self.head.push(*byte);
+        }
+        piece.len()
+    }
 }
 
 /// Tells whether the session at an offset breaks a rule, where `before` sessions stand from offset `from` on.

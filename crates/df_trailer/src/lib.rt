@@ -1,11 +1,9 @@
 //! The text of a checkpoint's trailer: root, sessions, and which blocks of the grid are referenced, made and read in pieces.
 #![tactic(auto)]
 
-mod behind;
 mod bitmap;
 mod captured;
 mod fault;
-mod front;
 mod groups;
 mod head;
 mod meaning;

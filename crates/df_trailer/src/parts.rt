@@ -1,14 +1,17 @@
 // The parts of a trailer, as a reader gives them, in rooms that its caller gave.
-ghost use Rattle.std.specs.Prelude.{◌≡◌, ◌+◌, ◌*◌, ◌/◌, ◌≤◌, ◌<◌, ◌==◌, ℕ, [], length, take, drop, map, get_or, slice_set, replicate, true, false};
+ghost use Rattle.std.specs.Prelude.{◌≡◌, ◌≢◌, ◌+◌, ◌*◌, ◌/◌, ◌≤◌, ◌<◌, ◌==◌, ℕ, [], length, take, drop, map, get_or, slice_set, replicate, true, false};
 ghost use Rattle.std.specs.Int.{bit_at};
-ghost use Rattle.df_trailer.specs.Rooms.{bits_in_words, without_reply};
-ghost use Rattle.df_trailer.specs.Text.{session, bits_at, bits_of, count, count_at, ones, read_sessions, root_size, sessions_at};
+ghost use Rattle.df_trailer.specs.Rooms.{bits_in_words, byte_in_checks, without_reply};
+ghost use Rattle.df_trailer.specs.Text.{bits_at, bits_of, count, count_at, ones, read_sessions, root_size, sessions_at};
 
 use crate::bitmap::{count_set, is_set};
 use arrayvec::ArrayVec;
 use df_base::{Check, u32_at, u64_at, u128_at};
 use df_layout::ROOT;
 use df_sessions::Session;
+
+/// Bytes of a checksum.
+pub(crate) const CHECK: u64 = 16;
 
 /// What a trailer says.
 #[derive(Drop)]
@@ -21,6 +24,18 @@ pub struct Parts {
     pub bits: Vec<u64>,
     /// The checksum of each referenced block, that of address a at index `a - 1`: `blocks` entries.
     pub checks: Vec<Check>,
+}
+
+/// Changes a byte of the checksums.
+pub(crate) fn put_check_byte(checks: &mut [Check], place: usize, byte: u8)
+    requires { place < 16 * length checks.old }
+    ensures length { length checks.new ≡ length checks.old }
+    ensures here { byte_in_checks checks.new place ≡ byte }
+    ensures others { (other : ℕ) → other ≢ place → byte_in_checks checks.new other ≡ byte_in_checks checks.old other }
+{
+    let mut check = checks[place / 16];
+    check[place % 16] = byte;
+    checks[place / 16] = check;
 }
 
 /// The root that a head has.
@@ -37,19 +52,6 @@ pub(crate) fn root_in(head: &[u8]) -> ArrayVec<u8, ROOT>
     root
 }
 
-/// The session at an offset of a head.
-fn session_at(head: &[u8], at: usize) -> Session
-    requires { at + 32 ≤ length head.now }
-    ensures { result ≡ without_reply (session at head.now) }
-{
-    Session {
-        client: u128_at(head, at),
-        request: u64_at(head, at + 16),
-        op: u64_at(head, at + 24),
-        reply: None,
-    }
-}
-
 /// The sessions that a head has.
 pub(crate) fn sessions_in(head: &[u8]) -> ArrayVec<Session, 64>
     requires some { 4 ≤ length head.now }
@@ -61,7 +63,13 @@ pub(crate) fn sessions_in(head: &[u8]) -> ArrayVec<Session, 64>
     let from = u32_at(head, 0) as usize + 8;
     let mut sessions = ArrayVec::new();
     for place in 0..u32_at(head, from - 4) as usize {
-        sessions.push(session_at(head, from + 32 * place));
+        let at = from + 32 * place;
+        sessions.push(Session {
+            client: u128_at(head, at),
+            request: u64_at(head, at + 16),
+            op: u64_at(head, at + 24),
+            reply: None,
+        });
     }
     sessions
 }

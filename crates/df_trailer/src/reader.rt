@@ -4,13 +4,12 @@ ghost use Rattle.df_base.specs.declared.TheConstants.{GREATEST};
 ghost use Rattle.df_layout.specs.declared.layout.Layout.{Layout as FileLayout};
 ghost use Rattle.df_units.specs.Meaning.{layout_of};
 ghost use Rattle.df_trailer.specs.Rooms.{byte_in_checks, byte_in_words};
-ghost use Rattle.df_trailer.specs.Text.{answer, fault_in, refusal_in};
+ghost use Rattle.df_trailer.specs.Text.{answer, refusal_in};
 
-use crate::behind::{put_bits, put_checks};
-use crate::bitmap::is_set;
+use crate::bitmap::{is_set, put_byte};
 use crate::fault::{Cause, Failing};
-use crate::front::Front;
-use crate::parts::{root_in, sessions_in, spread};
+use crate::head::{Front, failing_head};
+use crate::parts::{CHECK, put_check_byte, root_in, sessions_in, spread};
 use crate::rest::{failing_bits, failing_end};
 use crate::{Fault, Parts};
 use df_base::Check;
@@ -27,29 +26,6 @@ pub struct Reader {
     behind: u64,
     ghost bits_room: { vec_len parts.bits ≡ (layout.blocks + 63) / 64 },
     ghost checks_room: { vec_len parts.checks ≡ layout.blocks },
-}
-
-/// What fails, whatever comes after it.
-fn refusal_of(failing: Option<Failing>) -> Result<(), Fault>
-    ensures { result ≡ answer (refusal_in failing) }
-{
-    match failing {
-        None => Ok(()),
-        Some(failing) => match failing.cause {
-            Cause::Ends => Ok(()),
-            Cause::Says => Err(failing.fault),
-        },
-    }
-}
-
-/// What fails in a whole text.
-fn fault_of(failing: Option<Failing>) -> Result<(), Fault>
-    ensures { result ≡ answer (fault_in failing) }
-{
-    match failing {
-        None => Ok(()),
-        Some(failing) => Err(failing.fault),
-    }
 }
 
 /// The checksum with a number.
@@ -97,14 +73,14 @@ impl Reader {
         ensures layout { self.new.layout ≡ self.old.layout }
         ensures op { self.new.op ≡ self.old.op }
     {
-        put_bits(&mut self.parts.bits, self.layout.blocks, self.behind, byte);
-        put_checks(
-            &mut self.parts.checks,
-            self.layout.blocks,
-            self.behind,
-            byte,
-        );
+        let place = self.behind;
+        let bits = u64::from(self.layout.blocks.div_ceil(8));
         self.behind += 1;
+        if place < bits {
+            put_byte(&mut self.parts.bits, place as usize, byte);
+        } else if place - bits < CHECK * u64::from(self.layout.blocks) {
+            put_check_byte(&mut self.parts.checks, (place - bits) as usize, byte);
+        }
     }
 
     /// Takes bytes after the head.
@@ -126,7 +102,7 @@ impl Reader {
         requires { bytes_read self.now < GREATEST }
         ensures { result ≡ failing_before_end self.now }
     {
-        match self.front.failing(self.layout.clients, self.op) {
+        match failing_head(&self.front.head, self.layout.clients, self.op) {
             Some(failing) => Some(failing),
             None => failing_bits(
                 self.layout.blocks,
@@ -158,7 +134,13 @@ impl Reader {
         requires { bytes_read self.now < GREATEST }
         ensures { result ≡ answer (refusal_in (failing_in self.now)) }
     {
-        refusal_of(self.failing_before_end())
+        match self.failing_before_end() {
+            None => Ok(()),
+            Some(failing) => match failing.cause {
+                Cause::Ends => Ok(()),
+                Cause::Says => Err(failing.fault),
+            },
+        }
     }
 
     /// Takes the next piece of the text. It refuses exactly where the text so far says what it may not say, whatever
@@ -181,7 +163,10 @@ impl Reader {
         ensures fault { (layout : FileLayout) (op : ℕ) (text : List ℕ) → HasRead layout op self.now text → result ≡ answer (fault (layout_of layout) op text) }
         ensures whole { IsOk result ↔ (failing_in self.now ≡ None) }
     {
-        fault_of(self.failing())
+        match self.failing() {
+            None => Ok(()),
+            Some(failing) => Err(failing.fault),
+        }
     }
 
     /// The checksum of the block at an address of the grid, None exactly where the text doesn't refer to it, once `end` has answered Ok.
