@@ -1,7 +1,8 @@
-// Reads and writes of single copies. A copy is durable before its writer answers.
-ghost use Rattle.std.specs.Prelude.{◌≡◌, ◌<◌, [], ◌∷◌, length, IfOk, OnOk};
+// Reads and writes of single copies, and which of the four places is written. A copy is durable before its writer answers.
+ghost use Rattle.std.specs.Prelude.{◌≡◌, ◌<◌, [], ◌∷◌, length, IfNone, IfOk, IfSome, OnOk};
 ghost use Rattle.df_base.specs.declared.TheConstants.{SECTOR};
 ghost use Rattle.df_superblock.specs.Below.{HasCause, Sync, Adds, own_copy};
+ghost use Rattle.df_superblock.specs.Blank.{AreBlank, IsFirstWrittenOf};
 ghost use Rattle.df_superblock.specs.Calls.{ShowsSector, ShowsCopySlot, ShowsSlots, ShowsCopies, slot_of};
 ghost use Rattle.df_superblock.specs.Events.{copy_written};
 ghost use Rattle.df_superblock.specs.Steps.{AreStepsOfCopies, copy_write_steps};
@@ -10,7 +11,7 @@ use df_base::Failed;
 use df_buffers::{ProbeRoom, Raw, SuperSector};
 use df_disk::Disk;
 use df_format::{Super, encode_copy};
-use df_layout::{Place, Zone};
+use df_layout::{Class, Place, Zone};
 use df_quorum::Slot;
 
 // Reads the sector of one copy.
@@ -62,6 +63,19 @@ pub fn read_all<D: Disk>(disk: &mut D, room: &mut ProbeRoom) -> Result<[Slot; 4]
     let third = read_copy(disk, room.sector_mut(2), 2)?;
     let fourth = read_copy(disk, room.sector_mut(3), 3)?;
     Ok([first, second, third, fourth])
+}
+
+/// The first place that holds a byte other than zero.
+pub fn first_written(copies: &[Slot; 4]) -> Option<u8>
+    ensures some { IfSome result (IsFirstWrittenOf copies.now) }
+    ensures none { IfNone result (AreBlank copies.now 4) }
+{
+    for number in 0..4u8 {
+        if copies[usize::from(number)] != Slot::Bad(Class::Blank) {
+            return Some(number);
+        }
+    }
+    None
 }
 
 /// Writes the copy with this number, 0 to 3, into its own place, and makes it durable. After an error the place may show

@@ -2,14 +2,12 @@
 //! every moment.
 #![tactic(auto)]
 
-mod blank;
 mod copies;
 mod misleading;
 mod repairs;
 mod updates;
 
-pub use blank::first_written;
-pub use copies::{read_all, write_copy};
+pub use copies::{first_written, read_all, write_copy};
 pub use misleading::a_start_can_mislead;
 pub use repairs::repair;
 pub use updates::{UpdateError, update, write_copies};

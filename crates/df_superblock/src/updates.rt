@@ -9,7 +9,7 @@ use crate::copies::{read_all, write_copy};
 use df_base::{BlamesDisk, Failed};
 use df_buffers::ProbeRoom;
 use df_disk::Disk;
-use df_format::{Super, SuperCopy};
+use df_format::Super;
 use df_layout::{Class, Place, Zone};
 use df_quorum::{Slot, same_fields};
 
@@ -72,27 +72,14 @@ fn class_of(slot: &Slot) -> Class
     }
 }
 
-fn has_fields(copy: &SuperCopy, content: &Super) -> bool
-    ensures { IsTrue result ↔ (copy.now.fields ≡ content.now) }
-{
-    same_fields(&copy.fields, content.fields())
-}
-
 // Whether the slot of this number holds the copy that was written.
 fn holds(number: u8, slot: &Slot, content: &Super) -> bool
     ensures { IsTrue result ↔ SlotHolds number slot.now content.now }
 {
     match slot {
-        Slot::Sound(copy) => copy.number == number && has_fields(copy, content),
+        Slot::Sound(copy) => copy.number == number && same_fields(&copy.fields, content.fields()),
         Slot::Bad(_) => false,
     }
-}
-
-fn is_read(slots: &[Slot; 4], content: &Super, number: u8) -> bool
-    requires { number < 4 }
-    ensures { IsTrue result ↔ IsCopyRead slots.now content.now number }
-{
-    holds(number, &slots[usize::from(number)], content)
 }
 
 // The first copy from a number on that wasn't read as it was written.
@@ -101,7 +88,7 @@ fn first_missing(slots: &[Slot; 4], content: &Super, from: u8) -> Option<u8>
     ensures none { IfNone result ((n : ℕ) → from ≤ n → n < 4 → IsCopyRead slots.now content.now n) }
 {
     for number in from..4 {
-        if !is_read(slots, content, number) {
+        if !holds(number, &slots[usize::from(number)], content) {
             return Some(number);
         }
     }
