@@ -4,10 +4,8 @@
 
 mod copies;
 mod misleading;
-mod repairs;
 mod updates;
 
 pub use copies::{first_written, read_all, write_copy};
 pub use misleading::a_start_can_mislead;
-pub use repairs::repair;
-pub use updates::{UpdateError, update, write_copies};
+pub use updates::{UpdateError, repair, update, write_copies};

@@ -1,6 +1,6 @@
 use Rattle.std.proofs.Common.{arith}
 use Rattle.df_superblock.proofs.{Mended.{keeps_members, repairs_unless_misled, ends_repaired}, Stepped.{repair_is_steps}}
-use Rattle.df_superblock.proofs.repairs.repair.Goals as goal
+use Rattle.df_superblock.proofs.updates.repair.Goals as goal
 
 pub returns-clause-steps : goal.returns-clause-steps
 returns-clause-steps g c = repair_is_steps c.args.content.now c.args.chosen.now.members (omega (arith, c.mend_each.ensures.size)) c.fields-fields.ensures.usable
