@@ -2,15 +2,12 @@
 //! valid at its own place.
 #![tactic(auto)]
 
-mod copies;
 mod filled;
 mod find;
-mod headers;
 mod identity;
 mod kinds;
 mod make;
 mod probe;
-mod prove;
 mod raw;
 mod slots;
 mod sound;

@@ -30,14 +30,6 @@ impl<K: UnitKind> Model for Sound<K> {
     ghost invariant = { λ s. IsSound K.ZONE K.KIND (holding_of s.layout s.header s.bytes.items) };
 }
 
-// What follows the header in a unit of this size.
-fn body_in(bytes: &[u8], size: u32) -> &[u8]
-    requires { (HEADER ≤ size) × (size ≤ length bytes.now) }
-    ensures { result.now ≡ take (size - HEADER) (drop HEADER bytes.now) }
-{
-    &bytes[HEADER..size as usize]
-}
-
 // The whole sectors that so many bytes cover.
 fn sectors_in(bytes: &[u8], size: u32) -> &[u8]
     requires { sectors_end size ≤ length bytes.now }
@@ -69,7 +61,7 @@ impl<K: UnitKind> Sound<K> {
     pub fn body(&self) -> &[u8]
         ensures { result.now ≡ self.now.unit.body }
     {
-        body_in(&self.bytes, self.header.size)
+        &self.bytes[HEADER..self.header.size as usize]
     }
 
     /// The whole sectors that the unit covers.
