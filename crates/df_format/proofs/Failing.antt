@@ -1,6 +1,6 @@
 -- The first test that fails, of some tests and further ones after them.
-use Rattle.std.{proofs.{Common.{◌≡◌, inl, inr, List, [], ◌∷◌, ◌++◌, Some, None, refl, sym, ◌∙◌, ap}, lemmas.Result.{err_from_is_err_and}, lemmas.Bool.{cases_Bool, cond-true, cond-false}}, specs.{Prelude.{Result, IsErr, IsErrAnd}, Result.{result_err}}}
-use Rattle.df_format.specs.{SuperRules.{Test, first_failing}, declared.superblock.SuperFault.{SuperFault}, declared.superblock.SuperFault.TheVariants.{BadField}}
+use Rattle.std.{proofs.{Common.{◌≡◌, inl, inr, List, [], ◌∷◌, ◌++◌, Some, None, refl, sym, ◌∙◌, ap}, lemmas.Result.{err_from_is_err_and}, lemmas.Bool.{cases_Bool, cond-true, cond-false}}, specs.{Prelude.{Option, Result, IsErr, IsErrAnd, if◌then◌else◌}, Result.{result_err}}}
+use Rattle.df_format.specs.{SuperRules.{Test, fault_of, field_tests, first_failing, is_known_version}, declared.superblock.SuperFault.{SuperFault}, declared.superblock.SuperFault.TheVariants.{BadField, Version}, declared.superblock.SuperFields.{SuperFields}}
 
 -- the further ones aren't asked where one of the first fails
 pub failing_front : (ts more : List Test) (fault : SuperFault) → Some fault ≡ first_failing ts → Some fault ≡ first_failing (ts ++ more)
@@ -30,3 +30,22 @@ pub handed_on : (r : Result (Unit {0}) SuperFault) (fault : SuperFault) → IsEr
 handed_on r fault is =
     let p = err_from_is_err_and r is.1 in
     ap result_err p.1 ∙ ap Some p.2
+
+-- the version is tested first
+pub fault_of_version : (f : SuperFields) (fault : SuperFault) → Some fault ≡ (if is_known_version f.version then None else Some (Version f.version)) → Some fault ≡ fault_of f
+unfolding fault_of
+fault_of_version f fault is = elim (cases_Bool (is_known_version f.version)) [
+  | inl known ↦ absurd (let both : Some fault ≡ None = is ∙ cond-true (is_known_version f.version) None (Some (Version f.version)) known in cc)
+  | inr other ↦
+      is
+      ∙ cond-false (is_known_version f.version) None (Some (Version f.version)) other
+      ∙ sym (cond-false (is_known_version f.version) (first_failing (field_tests f)) (Some (Version f.version)) other)
+]
+
+-- and where it is known, the fields decide
+pub fault_of_fields : (f : SuperFields) (o : Option SuperFault) → None ≡ (if is_known_version f.version then None else Some (Version f.version)) → o ≡ first_failing (field_tests f) → o ≡ fault_of f
+unfolding fault_of
+fault_of_fields f o version is = elim (cases_Bool (is_known_version f.version)) [
+  | inl known ↦ is ∙ sym (cond-true (is_known_version f.version) (first_failing (field_tests f)) (Some (Version f.version)) known)
+  | inr other ↦ absurd (let both : None ≡ Some (Version f.version) = version ∙ cond-false (is_known_version f.version) None (Some (Version f.version)) other in cc)
+]

@@ -1,11 +1,10 @@
 // The 256 bytes of a header: how they are written, and how they are tested and read. A header has one spelling.
-ghost use Rattle.std.specs.Prelude.{◌≡◌, ◌+◌, ◌≤◌, ◌++◌, ◌∷◌, [], length, take, drop};
+ghost use Rattle.std.specs.Prelude.{◌≡◌, ◌+◌, ◌-◌, ◌≤◌, ◌++◌, length, take, drop, replicate};
 ghost use Rattle.df_base.specs.declared.TheConstants.{HEADER};
 ghost use Rattle.df_format.specs.Spelling.{sealed, spelling, spelling_rest, code_of, tail_of};
 ghost use Rattle.df_format.specs.Rules.{ObeysRules, IsSealed};
-ghost use Rattle.df_format.specs.Reading.{kind_of, fields_of, ends_in_zeros, is_spelled, header_in};
+ghost use Rattle.df_format.specs.Reading.{kind_of, fields_of, is_spelled, header_in};
 
-use crate::pieces::{put_bytes, put_zeros};
 use crate::rules::has_numbers;
 use crate::{Header, Kind};
 use df_base::{
@@ -20,6 +19,25 @@ const KIND: usize = 120;
 
 // Where the fields end; zeros follow up to the end of the header.
 const END: usize = 148;
+
+// Writes bytes from offset `at` on.
+pub(crate) fn put_bytes(into: &mut [u8], at: usize, bytes: &[u8])
+    requires { at + length bytes.now ≤ length into.old }
+    ensures front { take (at + length bytes.now) into.new ≡ take at into.old ++ bytes.now }
+    ensures rest { drop (at + length bytes.now) into.new ≡ drop (at + length bytes.now) into.old }
+{
+    into[at..at + bytes.len()].copy_from_slice(bytes);
+}
+
+// Writes zeros from offset `at` up to offset `end`.
+pub(crate) fn put_zeros(into: &mut [u8], at: usize, end: usize)
+    requires order { at ≤ end }
+    requires room { end ≤ length into.old }
+    ensures front { take end into.new ≡ take at into.old ++ replicate (end - at) 0 }
+    ensures rest { drop end into.new ≡ drop end into.old }
+{
+    into[at..end].fill(0);
+}
 
 // Writes a checksum over 16 bytes.
 pub(crate) fn put_check(into: &mut [u8], at: usize, value: &Check)
@@ -41,14 +59,6 @@ fn code_of(kind: Kind) -> u8
         Kind::Block => 4,
         Kind::Trailer => 5,
     }
-}
-
-// Writes the kind, and what its owner says of a block.
-fn put_kind(into: &mut [u8], kind: Kind, block_kind: u8)
-    requires { length into.old ≡ HEADER }
-    ensures { take 122 into.new ≡ take 120 into.old ++ (code_of kind ∷ block_kind ∷ []) }
-{
-    put_bytes(into, KIND, &[code_of(kind), block_kind]);
 }
 
 // Writes the version with what it says of boot and group, and the zeros after them.
@@ -78,7 +88,7 @@ fn put_fields(into: &mut [u8], header: &Header)
     put_u64(into, 104, header.checkpoint);
     put_u32(into, 112, header.size);
     put_u32(into, 116, header.slot);
-    put_kind(into, header.kind, header.block_kind);
+    put_bytes(into, KIND, &[code_of(header.kind), header.block_kind]);
     put_tail(into, header);
 }
 
@@ -156,20 +166,13 @@ fn kind_of(code: u8) -> Option<Kind>
     }
 }
 
-// Whether the bytes after the fields are zero.
-fn ends_in_zeros(bytes: &[u8]) -> bool
-    requires { length bytes.now ≡ HEADER }
-    ensures { result ≡ ends_in_zeros bytes.now }
-{
-    bytes[END..HEADER] == [0; 108]
-}
-
+// Whether the checksum is right, and zeros stand after the fields.
 #[tactic(auto, unfolding(crate::specs::Reading::is_spelled))]
 fn is_spelled(bytes: &[u8]) -> bool
     requires { length bytes.now ≡ HEADER }
     ensures { result ≡ is_spelled bytes.now }
 {
-    &bytes[..SUMMED] == check(&bytes[SUMMED..HEADER]).as_slice() && ends_in_zeros(bytes)
+    &bytes[..SUMMED] == check(&bytes[SUMMED..HEADER]).as_slice() && bytes[END..HEADER] == [0; 108]
 }
 
 /// The header, of either version, that 256 bytes are the spelling of; None where they are that of no header that obeys the

@@ -1,13 +1,58 @@
-// The unit that the bytes of a place show, or the class of what stands there.
-ghost use Rattle.std.specs.Prelude.{◌≡◌, ◌≢◌, ◌≤◌, ◌↔◌, length, IsTrue};
+// The unit that the bytes of a place show, or the class of what stands there; and the place that a unit belongs at.
+ghost use Rattle.std.specs.Prelude.{◌≡◌, ◌≢◌, ◌≤◌, length};
 ghost use Rattle.df_base.specs.declared.TheConstants.{HEADER};
+ghost use Rattle.df_format.specs.Own.{named_place, has_op_of_slot, own_place};
 ghost use Rattle.df_format.specs.Whole.{greatest_size, has_body, is_unit, whole_in, owner_of};
-ghost use Rattle.df_format.specs.Shown.{is_blank, class_of_none, unit_in, class_of, header_or_class};
+ghost use Rattle.df_format.specs.Shown.{unit_in, class_of, header_or_class};
 ghost use Rattle.df_format.specs.UnitLaws.{place_size};
 
-use crate::{Header, decode_header, own_place};
+use crate::{Header, Kind, decode_header};
 use df_base::{HEADER, check};
 use df_layout::{Class, Layout, Place, Zone};
+
+// The place that a header names, by the zone that it is read in. In the header ring stand reserved headers and those of
+// prepares alone, and elsewhere each kind but a reserved header has its zone.
+fn named_place(zone: Zone, header: &Header) -> Option<Place>
+    ensures { result ≡ named_place zone header.now }
+{
+    let slot = u64::from(header.slot);
+    let (zone, index) = match zone {
+        Zone::Superblock => return None,
+        Zone::WalHeaders => match header.kind {
+            Kind::Reserved | Kind::Prepare => (Zone::WalHeaders, slot),
+            Kind::Reply | Kind::Block | Kind::Trailer => return None,
+        },
+        Zone::WalPrepares | Zone::ClientReplies | Zone::Grid => match header.kind {
+            Kind::Reserved => return None,
+            Kind::Prepare => (Zone::WalPrepares, slot),
+            Kind::Reply => (Zone::ClientReplies, slot),
+            Kind::Block | Kind::Trailer => (Zone::Grid, header.op),
+        },
+    };
+    Some(Place { zone, index })
+}
+
+fn has_op_of_slot(layout: &Layout, header: &Header) -> bool
+    ensures { result ≡ has_op_of_slot layout.now header.now.kind header.now }
+{
+    match header.kind {
+        Kind::Prepare => u64::from(header.slot) == header.op % u64::from(layout.slots),
+        Kind::Reserved | Kind::Reply | Kind::Block | Kind::Trailer => true,
+    }
+}
+
+/// The place that a unit belongs at whose header is read in this zone. None where there is no such place: a prepare's
+/// slot isn't that of its op, the layout lacks the place, or units of this kind don't stand in this zone.
+#[tactic(auto, unfolding(crate::specs::Own::own_place))]
+pub fn own_place(layout: &Layout, zone: Zone, header: &Header) -> Option<Place>
+    ensures { result ≡ own_place layout.now zone header.now }
+{
+    if !has_op_of_slot(layout, header) {
+        return None;
+    }
+    let place = named_place(zone, header)?;
+    if layout.has(place) { Some(place) } else { None }
+}
 
 // The greatest size of a unit that is read in a zone; no copy of the superblock is one.
 fn greatest_size(layout: &Layout, zone: Zone) -> u32
@@ -59,32 +104,6 @@ fn whole_in(layout: &Layout, cluster: u128, zone: Zone, bytes: &[u8]) -> Option<
     Some((header, own))
 }
 
-#[tactic(auto, unfolding(crate::specs::Shown::is_blank))]
-fn is_blank(bytes: &[u8]) -> bool
-    requires { HEADER ≤ length bytes.now }
-    ensures { result ≡ is_blank bytes.now }
-{
-    bytes[..HEADER] == [0; HEADER]
-}
-
-// The class of bytes that are no whole unit.
-fn class_of_none(bytes: &[u8]) -> Class
-    requires { HEADER ≤ length bytes.now }
-    ensures { result ≡ class_of_none bytes.now }
-{
-    if is_blank(bytes) {
-        Class::Blank
-    } else {
-        Class::Garbled
-    }
-}
-
-fn is_same(own: Place, place: Place) -> bool
-    ensures { IsTrue result ↔ (own ≡ place) }
-{
-    own == place
-}
-
 /// The header of the unit that is valid at a place with these bytes; the body follows it, but for a header of the
 /// header ring. Where no unit is valid there: the class of what is. The bytes are those of the whole place, for the
 /// header ring 256. A copy of the superblock isn't read by this.
@@ -99,8 +118,9 @@ pub fn decode_unit(
     ensures { result ≡ header_or_class (unit_in layout.now cluster place bytes.now) (class_of layout.now cluster place bytes.now) }
 {
     match whole_in(layout, cluster, place.zone, bytes) {
-        None => Err(class_of_none(bytes)),
-        Some((header, own)) if is_same(own, place) => Ok(header),
+        None if bytes[..HEADER] == [0; HEADER] => Err(Class::Blank),
+        None => Err(Class::Garbled),
+        Some((header, own)) if own == place => Ok(header),
         Some((_, own)) => Err(Class::Elsewhere(own)),
     }
 }

@@ -7,8 +7,6 @@ mod decode;
 mod header;
 mod kind;
 mod make;
-mod own;
-mod pieces;
 mod reference;
 mod rules;
 mod super_codec;
@@ -21,11 +19,10 @@ pub use copy_laws::{
     blank_shows_no_copy, copies_have_one_spelling, nameless_copy_ends_in_zeros,
     same_sector_same_copy, valid_copy_is_stale, written_copy_is_shown,
 };
-pub use decode::decode_unit;
+pub use decode::{decode_unit, own_place};
 pub use header::{HEADER_VERSION, Header, NO_CHECKSUM, NO_CHECKSUMS};
 pub use kind::Kind;
 pub use make::{Made, make_unit, seal_unit};
-pub use own::own_place;
 pub use reference::Reference;
 pub use super_codec::{decode_copy, decode_own_copy, encode_copy};
 pub use super_rules::{Super, faults_are_broken_rules, test_fields};

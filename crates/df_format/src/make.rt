@@ -8,7 +8,7 @@ ghost use Rattle.df_format.specs.Message.{sectors_end, sectors_of};
 ghost use Rattle.df_format.specs.Making.{for_body};
 ghost use Rattle.df_format.specs.UnitLaws.{MadeIsUnit};
 
-use crate::pieces::{put_bytes, put_zeros};
+use crate::codec::{put_bytes, put_zeros};
 use crate::{Header, encode_header, seal_header};
 use df_base::{HEADER, SECTOR, check};
 

@@ -1,7 +1,7 @@
 // The tests of a header that need no layout: the rules of its kind and of its version. A field that these have no use for is
 // zero.
 ghost use Rattle.std.specs.Prelude.{◌≡◌};
-ghost use Rattle.df_format.specs.Reading.{is_counter, has_no_parent, is_prepare, is_reply, is_bare, is_reserved, is_block, is_linked, is_trailer, is_of_kind, is_ungrouped, is_grouped, is_first, has_boot, has_group, is_second, has_version, has_numbers};
+ghost use Rattle.df_format.specs.Reading.{is_counter, is_prepare, is_reply, is_bare, is_reserved, is_block, is_linked, is_trailer, is_ungrouped, is_grouped, is_first, is_second, has_numbers};
 
 use crate::{Header, Kind, NO_CHECKSUM};
 use df_base::{FIRST_VERSION, GREATEST, HEADER, VERSION, check};
@@ -15,18 +15,11 @@ fn is_counter(n: u64) -> bool
     0 < n && n <= GREATEST
 }
 
-#[tactic(auto, unfolding(crate::specs::Spelling::no_checksum))]
-fn has_no_parent(header: &Header) -> bool
-    ensures { result ≡ has_no_parent header.now }
-{
-    header.parent == NO_CHECKSUM
-}
-
-#[tactic(auto, unfolding(crate::specs::Reading::is_prepare))]
+#[tactic(auto, unfolding(crate::specs::Reading::is_prepare, crate::specs::Spelling::no_checksum))]
 fn is_prepare(header: &Header) -> bool
     ensures { result ≡ is_prepare header.now }
 {
-    (header.op != 1 || has_no_parent(header))
+    (header.op != 1 || header.parent == NO_CHECKSUM)
         && 0 < header.client
         && is_counter(header.op)
         && is_counter(header.request)
@@ -49,11 +42,11 @@ fn is_reply(header: &Header) -> bool
 }
 
 // Whether a header names neither a parent nor a client, and no request, mark or sequence.
-#[tactic(auto, unfolding(crate::specs::Reading::is_bare))]
+#[tactic(auto, unfolding(crate::specs::Reading::is_bare, crate::specs::Spelling::no_checksum))]
 fn is_bare(header: &Header) -> bool
     ensures { result ≡ is_bare header.now }
 {
-    has_no_parent(header)
+    header.parent == NO_CHECKSUM
         && header.client == 0
         && header.request == 0
         && header.mark == 0
@@ -79,11 +72,12 @@ fn is_block(header: &Header) -> bool
 }
 
 // Whether a trailer block refers to the one before it, and to none where its index is 0.
+#[tactic(auto, unfolding(crate::specs::Spelling::no_checksum))]
 fn is_linked(header: &Header) -> bool
     ensures { result ≡ is_linked header.now }
 {
     if header.mark == 0 {
-        header.request == 0 && has_no_parent(header)
+        header.request == 0 && header.parent == NO_CHECKSUM
     } else {
         0 < header.request
     }
@@ -100,18 +94,6 @@ fn is_trailer(header: &Header) -> bool
         && header.checkpoint <= GREATEST
         && header.slot == 0
         && header.block_kind == 0
-}
-
-fn is_of_kind(header: &Header) -> bool
-    ensures { result ≡ is_of_kind header.now.kind header.now }
-{
-    match header.kind {
-        Kind::Reserved => is_reserved(header),
-        Kind::Prepare => is_prepare(header),
-        Kind::Reply => is_reply(header),
-        Kind::Block => is_block(header),
-        Kind::Trailer => is_trailer(header),
-    }
 }
 
 #[tactic(auto, unfolding(crate::specs::Reading::is_ungrouped))]
@@ -139,41 +121,36 @@ fn is_first(header: &Header) -> bool
     u32::from(header.version) == FIRST_VERSION && header.boot == 0 && is_ungrouped(header)
 }
 
-fn has_boot(header: &Header) -> bool
-    ensures { result ≡ has_boot header.now.kind header.now }
-{
-    match header.kind {
-        Kind::Reserved => header.boot == 0,
-        Kind::Prepare | Kind::Reply | Kind::Block | Kind::Trailer => is_counter(header.boot),
-    }
-}
-
-fn has_group(header: &Header) -> bool
-    ensures { result ≡ has_group header.now.kind header.now }
-{
-    match header.kind {
-        Kind::Prepare => is_grouped(header),
-        Kind::Reserved | Kind::Reply | Kind::Block | Kind::Trailer => is_ungrouped(header),
-    }
-}
-
+// Whether the header is of version 2, with the boot and the group that a header of its kind has.
 #[tactic(auto, unfolding(crate::specs::Reading::is_second))]
 fn is_second(header: &Header) -> bool
     ensures { result ≡ is_second header.now.kind header.now }
 {
-    u32::from(header.version) == VERSION && has_boot(header) && has_group(header)
+    if u32::from(header.version) != VERSION {
+        return false;
+    }
+    match header.kind {
+        Kind::Reserved => header.boot == 0 && is_ungrouped(header),
+        Kind::Prepare => is_counter(header.boot) && is_grouped(header),
+        Kind::Reply | Kind::Block | Kind::Trailer => {
+            is_counter(header.boot) && is_ungrouped(header)
+        }
+    }
 }
 
-// Whether the header is one of version 1 or one of version 2.
-fn has_version(header: &Header) -> bool
-    ensures { result ≡ has_version header.now }
-{
-    is_first(header) || is_second(header)
-}
-
-// Whether the numbers of a header are in the ranges of its kind and its version.
+// Whether the numbers of a header are in the ranges of its kind and of its version, which is 1 or 2.
 pub(crate) fn has_numbers(header: &Header) -> bool
     ensures { result ≡ has_numbers header.now }
 {
-    0 < header.cluster && HEADER as u32 <= header.size && is_of_kind(header) && has_version(header)
+    let is_of_kind = match header.kind {
+        Kind::Reserved => is_reserved(header),
+        Kind::Prepare => is_prepare(header),
+        Kind::Reply => is_reply(header),
+        Kind::Block => is_block(header),
+        Kind::Trailer => is_trailer(header),
+    };
+    0 < header.cluster
+        && HEADER as u32 <= header.size
+        && is_of_kind
+        && (is_first(header) || is_second(header))
 }

@@ -2,13 +2,12 @@
 ghost use Rattle.std.specs.Prelude.{◌≡◌, ◌<◌, ◌≤◌, ◌+◌, ◌++◌, ◌==◌, not, length, take, drop, replicate, position, IfSome, IsTrue};
 ghost use Rattle.df_base.specs.declared.TheConstants.{SECTOR};
 ghost use Rattle.df_base.specs.Fields.{field_at, spelled};
-ghost use Rattle.df_format.specs.Super.{checks_bytes, fields_bytes, named_bytes, covered_bytes, copy_bytes};
+ghost use Rattle.df_format.specs.Super.{checks_bytes, fields_bytes, named_bytes, copy_bytes};
 ghost use Rattle.df_format.specs.SuperRules.{IsUsable};
 ghost use Rattle.df_format.specs.Own.{place_in};
 ghost use Rattle.df_format.specs.Copies.{nonzero_between, first_nonzero_of, checks_at, super_fields_of, has_checksum, has_zeros, is_copy, copy_in, is_blank_copy, class_of_no_copy, own_copy};
 
-use crate::codec::{check_at, put_check};
-use crate::pieces::put_zeros;
+use crate::codec::{check_at, put_check, put_zeros};
 use crate::{NO_CHECKSUMS, Super, SuperCopy, SuperFields};
 use df_base::{Check, SECTOR, VERSION, check, put_u32, put_u64, put_u128, u32_at, u64_at, u128_at};
 use df_layout::{Class, Place, Zone};
@@ -83,15 +82,6 @@ fn put_named(into: &mut [u8], fields: &SuperFields)
     put_zeros(into, END, SECTOR);
 }
 
-// Writes all that the checksum covers.
-fn put_covered(into: &mut [u8], fields: &SuperFields)
-    requires { length into.old ≡ SECTOR }
-    ensures { drop 32 into.new ≡ covered_bytes fields.now }
-{
-    put_fields(into, fields);
-    put_named(into, fields);
-}
-
 // Writes what the checksum doesn't cover: itself, the number and the zeros after it.
 fn put_front(into: &mut [u8], sum: &Check, number: u8)
     requires { length into.old ≡ SECTOR }
@@ -110,7 +100,9 @@ pub fn encode_copy(content: &Super, number: u8, into: &mut [u8])
     ensures bytes { into.new ≡ copy_bytes number content.now }
     ensures usable { IsUsable content.now }
 {
-    put_covered(into, content.fields());
+    let fields = content.fields();
+    put_fields(into, fields);
+    put_named(into, fields);
     let sum = check(&into[COVERED..]);
     put_front(into, &sum, number);
 }

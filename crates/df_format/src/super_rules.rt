@@ -3,7 +3,7 @@ ghost use Rattle.std.specs.Prelude.{◌≡◌, ◌==◌, ◌<◌, [], ◌∷◌,
 ghost use Rattle.std.specs.Result.{result_err};
 ghost use Rattle.df_format.specs.Spelling.{IsCheck};
 ghost use Rattle.df_format.specs.Super.{AreChecks};
-ghost use Rattle.df_format.specs.SuperRules.{IsSuper, IsUsable, FaultsAreBrokenRules, is_whole_between, is_zero_check, greatest_trailer, has_trailer_size, test, size_tests, checkpoint_tests, progress_tests, trailer_tests, first_named, first_spare, names_none, first_tests, has_head_checksum, second_tests, version_tests, field_tests, first_failing, is_known_version, fault_of};
+ghost use Rattle.df_format.specs.SuperRules.{IsSuper, IsUsable, FaultsAreBrokenRules, is_whole_between, is_zero_check, greatest_trailer, has_trailer_size, test, size_tests, checkpoint_tests, progress_tests, trailer_tests, first_named, first_spare, first_tests, second_tests, field_tests, first_failing, is_known_version, fault_of};
 
 use crate::{NO_CHECKSUM, SuperFault, SuperFields};
 use df_base::{Check, FIRST_VERSION, GREATEST, VERSION, u128_at};
@@ -214,29 +214,18 @@ fn first_spare(fields: &SuperFields) -> Option<u64>
     Some(u64::from(fields.clients) + place as u64)
 }
 
-fn names_none(fields: &SuperFields) -> bool
-    ensures { result ≡ names_none fields.now }
-{
-    is_zero_check(&fields.head_checksum) && first_named(&fields.reply_checksums).is_none()
-}
-
 // What version 1 leaves empty.
 fn test_first(fields: &SuperFields) -> Result<(), SuperFault>
     ensures { result_err result ≡ first_failing (first_tests fields.now) }
 {
     test(fields.boot == 0, Field::Boot, u128::from(fields.boot))?;
     test(
-        fields.first_nonzero.is_none() && names_none(fields),
+        fields.first_nonzero.is_none()
+            && (is_zero_check(&fields.head_checksum)
+                && first_named(&fields.reply_checksums).is_none()),
         Field::Zero,
         u128::from(fields.first_nonzero.unwrap_or(0)),
     )
-}
-
-fn has_head_checksum(fields: &SuperFields) -> bool
-    ensures { result ≡ has_head_checksum fields.now }
-{
-    (fields.head != 0 || is_zero_check(&fields.head_checksum))
-        && (fields.head != fields.op || fields.head_checksum == fields.op_checksum)
 }
 
 // The boot of version 2, what it names, and what it leaves empty.
@@ -250,7 +239,8 @@ fn test_second(fields: &SuperFields) -> Result<(), SuperFault>
         u128::from(fields.boot),
     )?;
     test(
-        has_head_checksum(fields),
+        (fields.head != 0 || is_zero_check(&fields.head_checksum))
+            && (fields.head != fields.op || fields.head_checksum == fields.op_checksum),
         Field::Head,
         u128_at(&fields.head_checksum, 0),
     )?;
@@ -266,18 +256,7 @@ fn test_second(fields: &SuperFields) -> Result<(), SuperFault>
     )
 }
 
-// The tests of one version.
-fn test_by_version(fields: &SuperFields) -> Result<(), SuperFault>
-    ensures { result_err result ≡ first_failing (version_tests fields.now) }
-{
-    if fields.version == FIRST_VERSION {
-        test_first(fields)
-    } else {
-        test_second(fields)
-    }
-}
-
-// All fields, in the order of their tests.
+// All fields, in the order of their tests; those of its version last.
 fn test_each(fields: &SuperFields) -> Result<(), SuperFault>
     ensures { result_err result ≡ first_failing (field_tests fields.now) }
 {
@@ -285,7 +264,11 @@ fn test_each(fields: &SuperFields) -> Result<(), SuperFault>
     test_checkpoint(fields)?;
     test_progress(fields)?;
     test_trailer(fields)?;
-    test_by_version(fields)
+    if fields.version == FIRST_VERSION {
+        test_first(fields)
+    } else {
+        test_second(fields)
+    }
 }
 
 fn test_version(version: u32) -> Result<(), SuperFault>
@@ -296,15 +279,6 @@ fn test_version(version: u32) -> Result<(), SuperFault>
     } else {
         Err(SuperFault::Version { found: version })
     }
-}
-
-// The version first, and then the fields.
-#[tactic(auto, unfolding(crate::specs::SuperRules::fault_of))]
-fn test_all(fields: &SuperFields) -> Result<(), SuperFault>
-    ensures { result_err result ≡ fault_of fields.now }
-{
-    test_version(fields.version)?;
-    test_each(fields)
 }
 
 // A checksum has sixteen bytes, as its type says.
@@ -352,7 +326,8 @@ pub fn test_fields(fields: &SuperFields) -> Result<Super, SuperFault>
     ensures usable { IfOk result (λ _. fault_of fields.now ≡ None) }
     ensures fault { IfErr result (λ fault. fault_of fields.now ≡ Some fault) }
 {
-    test_all(fields)?;
+    test_version(fields.version)?;
+    test_each(fields)?;
     Ok(usable(*fields))
 }
 

@@ -1,6 +1,6 @@
 -- The first part that fails decides.
-use Rattle.std.proofs.Common.{◌∙◌, List, ◌++◌}
-use Rattle.df_format.{specs.{SuperRules.{Test, size_tests, checkpoint_tests, progress_tests, trailer_tests, version_tests}, declared.superblock.SuperFields.{SuperFields}}, proofs.Failing.{failing_front, handed_on, passing_front}}
+use Rattle.std.proofs.{Common.{◌≡◌, ◌==◌, ◌∙◌, List, ◌++◌, None, ap, sym}, lemmas.Bool.{cond-false, cond-true, eq-eqb, ne_eqb}}
+use Rattle.df_format.{specs.{SuperRules.{Test, field_tests, first_failing, first_tests, second_tests, size_tests, checkpoint_tests, progress_tests, trailer_tests, version_tests}, declared.superblock.SuperFields.{SuperFields}}, proofs.Failing.{failing_front, handed_on, passing_front}}
 use Rattle.df_format.proofs.super_rules.test_each.Goals as goal
 
 abbrev trailer_on : SuperFields → List Test
@@ -41,11 +41,25 @@ returns-in_err-test_trailer c =
     ∙ passing_front (checkpoint_tests f) (progress_on f) c.in_ok-test_checkpoint.ensures
     ∙ passing_front (size_tests f) (checkpoint_on f) c.in_ok-test_sizes.ensures
 
-pub returns : goal.returns
-returns c =
+-- those of the version decide where the others pass
+version_decides : (f : SuperFields) → None ≡ first_failing (size_tests f) → None ≡ first_failing (checkpoint_tests f) → None ≡ first_failing (progress_tests f) → None ≡ first_failing (trailer_tests f)
+    → first_failing (version_tests f) ≡ first_failing (field_tests f)
+version_decides f sizes checkpoint progress trailer =
+    passing_front (trailer_tests f) (version_tests f) trailer
+    ∙ passing_front (progress_tests f) (trailer_on f) progress
+    ∙ passing_front (checkpoint_tests f) (progress_on f) checkpoint
+    ∙ passing_front (size_tests f) (checkpoint_on f) sizes
+
+pub returns-then-fields-eq-FIRST_VERSION : goal.returns-then-fields-eq-FIRST_VERSION
+returns-then-fields-eq-FIRST_VERSION c =
     let f = c.args.fields.now in
-    c.test_by_version.ensures
-    ∙ passing_front (trailer_tests f) (version_tests f) c.in_ok-test_trailer.ensures
-    ∙ passing_front (progress_tests f) (trailer_on f) c.in_ok-test_progress.ensures
-    ∙ passing_front (checkpoint_tests f) (progress_on f) c.in_ok-test_checkpoint.ensures
-    ∙ passing_front (size_tests f) (checkpoint_on f) c.in_ok-test_sizes.ensures
+    c.test_first.ensures
+    ∙ ap first_failing (sym (cond-true (f.version == 1) (first_tests f) (second_tests f) (eq-eqb f.version 1 c.if-fields-eq-FIRST_VERSION.true)))
+    ∙ version_decides f c.in_ok-test_sizes.ensures c.in_ok-test_checkpoint.ensures c.in_ok-test_progress.ensures c.in_ok-test_trailer.ensures
+
+pub returns-else-fields-eq-FIRST_VERSION : goal.returns-else-fields-eq-FIRST_VERSION
+returns-else-fields-eq-FIRST_VERSION c =
+    let f = c.args.fields.now in
+    c.test_second.ensures
+    ∙ ap first_failing (sym (cond-false (f.version == 1) (first_tests f) (second_tests f) (ne_eqb f.version 1 c.if-fields-eq-FIRST_VERSION.false)))
+    ∙ version_decides f c.in_ok-test_sizes.ensures c.in_ok-test_checkpoint.ensures c.in_ok-test_progress.ensures c.in_ok-test_trailer.ensures

@@ -1,5 +1,5 @@
 use Rattle.std.proofs.{Common.{arith, ◌-◌, drop, ◌∙◌}, lemmas.List.{length-take-le, length-drop}, lemmas.Slice.{drop-put_mid}}
-use Rattle.df_format.proofs.pieces.put_zeros.Goals as goal
+use Rattle.df_format.proofs.codec.put_zeros.Goals as goal
 
 pub returns-clause-rest : goal.returns-clause-rest
 returns-clause-rest c =
