@@ -108,7 +108,7 @@ impl Layout {
 
 impl Layout {
     ghost use Rattle.df_layout.specs.Zones.{message_sectors, block_sectors, first_sector, file_sectors};
-    ghost use Rattle.df_layout.specs.Spans.{HasPlace, place_sectors, sectors_before, span_of};
+    ghost use Rattle.df_layout.specs.Spans.{HasPlace, span_of};
 
     /// Whether the layout has the place: a copy 0 to 3, a slot below `slots`, a session's place below `clients`, or a
     /// block's address from 1 to `blocks`.
@@ -124,14 +124,29 @@ impl Layout {
     }
 
     /// The sectors of a place; for a header slot the one sector that holds it.
-    #[tactic(auto, using(crate::proofs::Spans::first_below), unfolding(crate::specs::Spans::span_of))]
+    #[tactic(auto, using(crate::proofs::Spans::first_below, crate::proofs::Sizes::sizes), unfolding(crate::specs::Spans::span_of, crate::specs::Spans::sectors_before, crate::specs::Spans::place_sectors))]
     pub fn sectors_of(&self, place: Place) -> Span
         requires { HasPlace self.now place }
         ensures { result ≡ span_of self.now place }
     {
-        Span {
-            first: self.first_sector(place.zone) + self.sectors_before(place),
-            count: self.place_sectors(place.zone),
+        let zone = self.first_sector(place.zone);
+        match place.zone {
+            Zone::Superblock => Span {
+                first: zone + place.index,
+                count: 1,
+            },
+            Zone::WalHeaders => Span {
+                first: zone + place.index / u64::from(SECTOR_HEADERS),
+                count: 1,
+            },
+            Zone::WalPrepares | Zone::ClientReplies => Span {
+                first: zone + place.index * self.message_sectors(),
+                count: self.message_sectors(),
+            },
+            Zone::Grid => Span {
+                first: zone + (place.index - 1) * self.block_sectors(),
+                count: self.block_sectors(),
+            },
         }
     }
 
@@ -171,32 +186,6 @@ impl Layout {
             Zone::WalPrepares => prepares,
             Zone::ClientReplies => replies,
             Zone::Grid => end.div_ceil(self.block_sectors()) * self.block_sectors(),
-        }
-    }
-
-    /// How many sectors of the zone stand before the place.
-    #[tactic(auto, using(crate::proofs::Sizes::sizes), unfolding(crate::specs::Spans::sectors_before))]
-    fn sectors_before(&self, place: Place) -> u64
-        requires { HasPlace self.now place }
-        ensures { result ≡ sectors_before self.now place.zone place.index }
-    {
-        match place.zone {
-            Zone::Superblock => place.index,
-            Zone::WalHeaders => place.index / u64::from(SECTOR_HEADERS),
-            Zone::WalPrepares | Zone::ClientReplies => place.index * self.message_sectors(),
-            Zone::Grid => (place.index - 1) * self.block_sectors(),
-        }
-    }
-
-    /// How many sectors a place of the zone has.
-    #[tactic(auto, unfolding(crate::specs::Spans::place_sectors))]
-    fn place_sectors(&self, zone: Zone) -> u64
-        ensures { result ≡ place_sectors self.now zone }
-    {
-        match zone {
-            Zone::Superblock | Zone::WalHeaders => 1,
-            Zone::WalPrepares | Zone::ClientReplies => self.message_sectors(),
-            Zone::Grid => self.block_sectors(),
         }
     }
 }
