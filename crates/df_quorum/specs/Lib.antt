@@ -1,4 +1,3 @@
 pub mod Quorum
 pub mod Best
 pub mod Laws
-pub mod SameFields

@@ -4,7 +4,6 @@
 mod best;
 mod choice;
 mod choice_laws;
-mod fields;
 mod slot;
 mod votes;
 
@@ -12,5 +11,5 @@ pub use choice::{Chosen, choose};
 pub use choice_laws::{
     copies_decide, one_is_chosen, three_equal_are_chosen, two_newest_are_chosen,
 };
-pub use fields::same_fields;
 pub use slot::Slot;
+pub use votes::same_fields;

@@ -5,9 +5,15 @@ ghost use Rattle.df_quorum.specs.Quorum.{copies_of, content_of_copy, AreMembers}
 ghost use Rattle.df_quorum.specs.Best.{Votes, HasOtherCopy};
 
 use crate::Slot;
-use crate::fields::same_fields;
 use crate::slot::shown;
-use df_format::SuperCopy;
+use df_format::{SuperCopy, SuperFields};
+
+/// Whether all fields are equal.
+pub fn same_fields(one: &SuperFields, other: &SuperFields) -> bool
+    ensures { IsTrue result ↔ (one.now ≡ other.now) }
+{
+    *one == *other
+}
 
 // Two copies agree where all but their numbers are equal.
 fn agree(one: &SuperCopy, other: &SuperCopy) -> bool
