@@ -9,7 +9,6 @@ mod head;
 mod meaning;
 mod parts;
 mod reader;
-mod rest;
 mod size;
 mod window;
 mod writer;

@@ -1,16 +1,15 @@
 // The reader of a text that comes in pieces. It keeps what it needs of the text and nothing else: the head, the bits and the checksums.
-ghost use Rattle.std.specs.Prelude.{◌≡◌, ◌≢◌, ◌↔◌, ◌++◌, IsOk, IfSome, IfNone, ◌+◌, ◌-◌, ◌*◌, ◌/◌, ◌<◌, ℕ, List, Option, [], None, get_or, length, vec_len};
+ghost use Rattle.std.specs.Prelude.{◌≡◌, ◌≢◌, ◌↔◌, ◌++◌, IsOk, IfSome, IfNone, ◌+◌, ◌-◌, ◌*◌, ◌/◌, ◌<◌, ℕ, List, Option, [], None, length, vec_len};
 ghost use Rattle.df_base.specs.declared.TheConstants.{GREATEST};
 ghost use Rattle.df_layout.specs.declared.layout.Layout.{Layout as FileLayout};
 ghost use Rattle.df_units.specs.Meaning.{layout_of};
 ghost use Rattle.df_trailer.specs.Rooms.{byte_in_checks, byte_in_words};
 ghost use Rattle.df_trailer.specs.Text.{answer, refusal_in};
 
-use crate::bitmap::{is_set, put_byte};
+use crate::bitmap::{failing_bits, failing_end, is_set, put_byte};
 use crate::fault::{Cause, Failing};
 use crate::head::{Front, failing_head};
 use crate::parts::{CHECK, put_check_byte, root_in, sessions_in, spread};
-use crate::rest::{failing_bits, failing_end};
 use crate::{Fault, Parts};
 use df_base::Check;
 use df_layout::Layout;
@@ -26,14 +25,6 @@ pub struct Reader {
     behind: u64,
     ghost bits_room: { vec_len parts.bits ≡ (layout.blocks + 63) / 64 },
     ghost checks_room: { vec_len parts.checks ≡ layout.blocks },
-}
-
-/// The checksum with a number.
-fn check_at(checks: &[Check], number: u64) -> Check
-    requires { number < length checks.now }
-    ensures { result ≡ get_or checks.now number [] }
-{
-    checks[number as usize]
 }
 
 impl Reader {
@@ -181,7 +172,7 @@ impl Reader {
         ensures few { before < address }
     {
         if is_set(&self.parts.bits, address - 1) {
-            Some(check_at(&self.parts.checks, before))
+            Some(self.parts.checks[before as usize])
         } else {
             None
         }

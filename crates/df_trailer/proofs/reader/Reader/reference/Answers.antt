@@ -1,16 +1,22 @@
 -- A block's checksum stands after those of the lower ones.
-use Rattle.std.proofs.Common.{◌∙◌, ℕ, true, false, [], get_or, refl, sym, ap, arith}
+use Rattle.std.proofs.{Common.{◌∙◌, ℕ, List, true, false, [], get_or, refl, sym, ap, arith}, lemmas.List.{get_or_read}}
 use Rattle.df_trailer.proofs.Said.{below_few, below_next, inside_of, kept_here, kept_said}
 use Rattle.df_trailer.proofs.reader.Reader.reference.Goals as goal
 
-pub check_at-requires : goal.check_at-requires
-check_at-requires c = let few = below_few c.args.self.now c.args.address c.args.before c.requires.inside c.requires.before in let rows = c.args.self.now.checks_room in omega (arith, c.requires.inside.1, rows, c.deref-then-is_set.ensures.len)
+pub index-requires : goal.index-requires
+index-requires c =
+    let few = below_few c.args.self.now c.args.address c.args.before c.requires.inside c.requires.before in
+    omega (arith, c.requires.inside.1, c.args.self.now.checks_room)
 
 pub returns-then-is_set-clause-value : goal.returns-then-is_set-clause-value
 returns-then-is_set-clause-value c =
-    kept_here c.args.self.now c.args.address c.deref.result.now c.deref-then-is_set.result.now true c.check_at.result c.requires.inside c.deref.ensures.value c.deref-then-is_set.ensures.value
+    let r = c.args.self.now in
+    let rows : List (List ℕ) = r.parts.checks.items in
+    let few = below_few r c.args.address c.args.before c.requires.inside c.requires.before in
+    let read = get_or_read rows _ _ (omega (arith, c.requires.inside.1, r.checks_room, r.parts.checks.ok.0)) c.index.ensures [] in
+    kept_here r c.args.address c.deref.result.now rows true c.index.result.now c.requires.inside c.deref.ensures.value refl
     (λ bytes h. sym c.if-is_set.true ∙ c.is_set.ensures bytes h)
-    (λ _. c.check_at.ensures ∙ ap (λ (n : ℕ). get_or c.deref-then-is_set.result.now n []) c.requires.before)
+    (λ _. read ∙ ap (λ (n : ℕ). get_or rows n []) c.requires.before)
 
 pub returns-then-is_set-clause-said : goal.returns-then-is_set-clause-said
 returns-then-is_set-clause-said c = λ layout op text none read.
