@@ -1,5 +1,5 @@
 // The parts of a trailer, as a reader gives them, in rooms that its caller gave.
-ghost use Rattle.std.specs.Prelude.{◌≡◌, ◌≢◌, ◌+◌, ◌*◌, ◌/◌, ◌≤◌, ◌<◌, ◌==◌, ℕ, [], length, take, drop, map, get_or, slice_set, replicate, true, false};
+ghost use Rattle.std.specs.Prelude.{◌≡◌, ◌≢◌, ◌+◌, ◌*◌, ◌/◌, ◌≤◌, ◌<◌, ◌==◌, ℕ, [], length, take, drop, map, get_or, replicate, true, false};
 ghost use Rattle.std.specs.Int.{bit_at};
 ghost use Rattle.df_trailer.specs.Rooms.{bits_in_words, byte_in_checks, without_reply};
 ghost use Rattle.df_trailer.specs.Text.{bits_at, bits_of, count, count_at, ones, read_sessions, root_size, sessions_at};
@@ -74,15 +74,6 @@ pub(crate) fn sessions_in(head: &[u8]) -> ArrayVec<Session, 64>
     sessions
 }
 
-/// Puts a checksum that stands at one place at another one.
-fn copy(checks: &mut [Check], from: usize, to: usize)
-    requires from { from < length checks.old }
-    requires to { to < length checks.old }
-    ensures { checks.new ≡ slice_set checks.old to (get_or checks.old from []) }
-{
-    checks[to] = checks[from];
-}
-
 /// Moves the checksums of the referenced blocks, which stand one after the other, each to the place of its block, and
 /// puts zeros where no block is referenced. From the last place down, so that none is overwritten before it is moved.
 pub(crate) fn spread(bits: &[u64], checks: &mut [Check], blocks: u32)
@@ -97,7 +88,7 @@ pub(crate) fn spread(bits: &[u64], checks: &mut [Check], blocks: u32)
     for place in (0..blocks as usize).rev() {
         if is_set(bits, place as u64) {
             rank -= 1;
-            copy(checks, rank, place);
+            checks[place] = checks[rank];
         } else {
             checks[place] = [0; 16];
         }

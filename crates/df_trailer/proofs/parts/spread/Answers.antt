@@ -14,12 +14,16 @@ overflow_sub-rank c =
     let r = rank_set x p c.loop-place.rank (rw (sym at) c.loop-place.invariant.ranked) (sym (c.is_set.ensures n (omega arith)) ∙ c.if-is_set.true) in
     omega (arith, r)
 
-pub copy-requires-clause-from : goal.copy-requires-clause-from
-copy-requires-clause-from c =
-    let n : ℕ = (c.args.blocks + 7) / 8 in
-    let x : ℕ = bits_in_words n c.args.bits.now in
-    let few = few_ones c.loop-place.place x in
+-- the checksum that is moved stands among them
+pub slice_copy_out-checks : goal.slice_copy_out-checks
+slice_copy_out-checks c =
+    let few = few_ones c.loop-place.place (bits_in_words ((c.args.blocks + 7) / 8) c.args.bits.now) in
     omega (arith, few, c.loop-place.invariant.ranked, c.loop-place.invariant.size)
+
+pub offset_bounds-checks-rank : goal.offset_bounds-checks-rank
+offset_bounds-checks-rank c =
+    let few = few_ones c.loop-place.place (bits_in_words ((c.args.blocks + 7) / 8) c.args.bits.now) in
+    omega (arith, few, c.loop-place.invariant.ranked)
 
 pub loop-place-preserved-then-is_set : goal.loop-place-preserved-then-is_set
 loop-place-preserved-then-is_set c =
@@ -27,8 +31,8 @@ loop-place-preserved-then-is_set c =
     let p : ℕ = c.loop-place.place - 1 in
     let at : c.loop-place.place ≡ p + 1 = omega arith in
     let r = rank_set (bits_in_words n c.args.bits.now) p c.loop-place.rank (rw (sym at) c.loop-place.invariant.ranked) (sym (c.is_set.ensures n (omega arith)) ∙ c.if-is_set.true) in
-    rw c.copy.ensures (spread_set (bits_in_words n c.args.bits.now) c.args.blocks c.args.checks.now c.loop-place.checks c.loop-place.rank c.loop-place.place (c.loop-place.place - 1) (c.loop-place.rank - 1)
-    (omega arith) (omega (arith, r)) (omega arith) (sym (c.is_set.ensures n (omega arith)) ∙ c.if-is_set.true) c.loop-place.invariant)
+    spread_set (bits_in_words n c.args.bits.now) c.args.blocks c.args.checks.now c.loop-place.checks c.loop-place.rank c.loop-place.place (c.loop-place.place - 1) (c.loop-place.rank - 1)
+    (omega arith) (omega (arith, r)) (omega arith) (sym (c.is_set.ensures n (omega arith)) ∙ c.if-is_set.true) c.loop-place.invariant
 
 pub loop-place-preserved : goal.loop-place-preserved
 loop-place-preserved c =
