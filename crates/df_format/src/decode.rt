@@ -1,36 +1,14 @@
 // The unit that the bytes of a place show, or the class of what stands there; and the place that a unit belongs at.
 ghost use Rattle.std.specs.Prelude.{◌≡◌, ◌≢◌, ◌≤◌, length};
 ghost use Rattle.df_base.specs.declared.TheConstants.{HEADER};
-ghost use Rattle.df_format.specs.Own.{named_place, has_op_of_slot, own_place};
-ghost use Rattle.df_format.specs.Whole.{greatest_size, has_body, is_unit, whole_in, owner_of};
+ghost use Rattle.df_format.specs.Own.{has_op_of_slot, own_place};
+ghost use Rattle.df_format.specs.Whole.{greatest_size, has_body, whole_in, owner_of};
 ghost use Rattle.df_format.specs.Shown.{unit_in, class_of, header_or_class};
 ghost use Rattle.df_format.specs.UnitLaws.{place_size};
 
 use crate::{Header, Kind, decode_header};
 use df_base::{HEADER, check};
 use df_layout::{Class, Layout, Place, Zone};
-
-// The place that a header names, by the zone that it is read in. In the header ring stand reserved headers and those of
-// prepares alone, and elsewhere each kind but a reserved header has its zone.
-fn named_place(zone: Zone, header: &Header) -> Option<Place>
-    ensures { result ≡ named_place zone header.now }
-{
-    let slot = u64::from(header.slot);
-    let (zone, index) = match zone {
-        Zone::Superblock => return None,
-        Zone::WalHeaders => match header.kind {
-            Kind::Reserved | Kind::Prepare => (Zone::WalHeaders, slot),
-            Kind::Reply | Kind::Block | Kind::Trailer => return None,
-        },
-        Zone::WalPrepares | Zone::ClientReplies | Zone::Grid => match header.kind {
-            Kind::Reserved => return None,
-            Kind::Prepare => (Zone::WalPrepares, slot),
-            Kind::Reply => (Zone::ClientReplies, slot),
-            Kind::Block | Kind::Trailer => (Zone::Grid, header.op),
-        },
-    };
-    Some(Place { zone, index })
-}
 
 fn has_op_of_slot(layout: &Layout, header: &Header) -> bool
     ensures { result ≡ has_op_of_slot layout.now header.now.kind header.now }
@@ -50,7 +28,22 @@ pub fn own_place(layout: &Layout, zone: Zone, header: &Header) -> Option<Place>
     if !has_op_of_slot(layout, header) {
         return None;
     }
-    let place = named_place(zone, header)?;
+    // In the header ring stand reserved headers and those of prepares alone; elsewhere each kind but a reserved header has its zone.
+    let slot = u64::from(header.slot);
+    let (zone, index) = match zone {
+        Zone::Superblock => return None,
+        Zone::WalHeaders => match header.kind {
+            Kind::Reserved | Kind::Prepare => (Zone::WalHeaders, slot),
+            Kind::Reply | Kind::Block | Kind::Trailer => return None,
+        },
+        Zone::WalPrepares | Zone::ClientReplies | Zone::Grid => match header.kind {
+            Kind::Reserved => return None,
+            Kind::Prepare => (Zone::WalPrepares, slot),
+            Kind::Reply => (Zone::ClientReplies, slot),
+            Kind::Block | Kind::Trailer => (Zone::Grid, header.op),
+        },
+    };
+    let place = Place { zone, index };
     if layout.has(place) { Some(place) } else { None }
 }
 
@@ -79,25 +72,18 @@ fn has_body(zone: Zone, bytes: &[u8], header: &Header) -> bool
     }
 }
 
-// The tests of a header by the file's cluster, the zone that it is read in, and the body.
-fn is_unit(layout: &Layout, cluster: u128, zone: Zone, bytes: &[u8], header: &Header) -> bool
-    requires size { length bytes.now ≡ place_size layout.now zone }
-    requires least { HEADER ≤ header.now.size }
-    ensures { result ≡ is_unit layout.now cluster zone bytes.now header.now }
-{
-    header.cluster == cluster
-        && header.size <= greatest_size(layout, zone)
-        && has_body(zone, bytes, header)
-}
-
-// The header of the whole unit that the bytes are, and the place that it belongs at.
+// The header of the whole unit that the bytes are, and the place that it belongs at. It is tested by the file's cluster, the zone
+// that it is read in, and the body.
 #[tactic(auto, unfolding(crate::specs::Whole::whole_in))]
 fn whole_in(layout: &Layout, cluster: u128, zone: Zone, bytes: &[u8]) -> Option<(Header, Place)>
     requires { length bytes.now ≡ place_size layout.now zone }
     ensures { result ≡ owner_of (whole_in layout.now cluster zone bytes.now) }
 {
     let header = decode_header(&bytes[..HEADER])?;
-    if !is_unit(layout, cluster, zone, bytes, &header) {
+    let is_unit = header.cluster == cluster
+        && header.size <= greatest_size(layout, zone)
+        && has_body(zone, bytes, &header);
+    if !is_unit {
         return None;
     }
     let own = own_place(layout, zone, &header)?;
