@@ -1,9 +1,12 @@
-// Unsigned numbers in bytes, the lowest byte first. A put leaves all bytes outside its field, and
-// the law at the end says that reading loses nothing of a field.
+// What a header or a copy is made of: unsigned numbers in bytes, the lowest byte first, and the checksum of units, the first
+// half of SHA-256 (FIPS 180-4). A put leaves all bytes outside its field, and the law at the end says that reading loses nothing of
+// a field.
 ghost use Rattle.std.specs.Prelude.{◌≡◌, ◌≤◌, ◌+◌, length};
-ghost use Rattle.df_base.specs.Fields.{field_at, put_at, FieldsAreSpelled};
+ghost use Rattle.df_base.specs.Fields.{check_of, field_at, put_at, FieldsAreSpelled};
 
+use crate::Check;
 use byteorder::{ByteOrder, LittleEndian};
+use sha2::{Digest, Sha256};
 
 /// The number in the 2 bytes from offset `at` on.
 #[tactic(auto, unfolding(crate::specs::Fields::field_at))]
@@ -83,6 +86,17 @@ pub fn put_u128(bytes: &mut [u8], at: usize, value: u128)
     let mut field = [0u8; 16];
     LittleEndian::write_u128(&mut field, value);
     bytes[at..at + 16].copy_from_slice(&field);
+}
+
+/// The first 16 bytes of the SHA-256 of the bytes.
+#[tactic(auto, unfolding(crate::specs::Fields::check_of))]
+pub fn check(bytes: &[u8]) -> Check
+    ensures { result ≡ check_of bytes.now }
+{
+    let digest = Sha256::digest(bytes);
+    let mut first = [0u8; 16];
+    first.copy_from_slice(&digest[..16]);
+    first
 }
 
 /// A law for every width, offset and list of bytes: the bytes of the number that a field reads as
