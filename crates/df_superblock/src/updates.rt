@@ -50,20 +50,6 @@ pub fn write_copies<D: Disk>(
     write_copy(disk, room, content, 3)
 }
 
-// The same, and what that means for the copies.
-fn write_all<D: Disk>(disk: &mut D, room: &mut ProbeRoom, content: &Super) -> Result<(), Failed>
-    ensures events { Adds (update_events content.now) (D.told disk.old) (D.told disk.new) result }
-    ensures steps { AreStepsOfCopies (update_events content.now) (update_steps (put_copies content.now)) }
-    ensures moments { UpdatesSafely content.now (D.told disk.old) (D.told disk.new) }
-    ensures shown { OnOk result (ShowsEqual content.now (D.told disk.new)) }
-    ensures equal { OnOk result (EndsEqual content.now (D.told disk.new)) }
-    ensures cause { HasCause (D.faults disk.old) (D.faults disk.new) result }
-{
-    // Its fields obey their rules.
-    let _fields = content.fields();
-    write_copies(disk, room, content)
-}
-
 fn class_of(slot: &Slot) -> Class
     ensures { result ≡ class_of_written_slot slot.now }
 {
@@ -132,7 +118,9 @@ pub fn update<D: Disk>(
     ensures equal { OnOk result (EndsEqual content.now (D.told disk.new)) }
     ensures cause { IsBlamed is_update_fault (D.faults disk.old) (D.faults disk.new) result }
 {
-    match write_all(disk, room, content) {
+    // Its fields obey their rules.
+    let _fields = content.fields();
+    match write_copies(disk, room, content) {
         Ok(()) => {}
         Err(_) => return Err(UpdateError::DiskFault),
     }
