@@ -32,7 +32,8 @@ handed_on r fault is =
     ap result_err p.1 ∙ ap Some p.2
 
 -- the version is tested first
-pub fault_of_version : (f : SuperFields) (fault : SuperFault) → Some fault ≡ (if is_known_version f.version then None else Some (Version f.version)) → Some fault ≡ fault_of f
+pub fault_of_version : (f : SuperFields) (fault : SuperFault)
+    → Some fault ≡ (if is_known_version f.version then None else Some (Version f.version)) → Some fault ≡ fault_of f
 unfolding fault_of
 fault_of_version f fault is = elim (cases_Bool (is_known_version f.version)) [
   | inl known ↦ absurd (let both : Some fault ≡ None = is ∙ cond-true (is_known_version f.version) None (Some (Version f.version)) known in cc)
@@ -43,7 +44,8 @@ fault_of_version f fault is = elim (cases_Bool (is_known_version f.version)) [
 ]
 
 -- and where it is known, the fields decide
-pub fault_of_fields : (f : SuperFields) (o : Option SuperFault) → None ≡ (if is_known_version f.version then None else Some (Version f.version)) → o ≡ first_failing (field_tests f) → o ≡ fault_of f
+pub fault_of_fields : (f : SuperFields) (o : Option SuperFault) → None ≡ (if is_known_version f.version then None else Some (Version f.version))
+    → o ≡ first_failing (field_tests f) → o ≡ fault_of f
 unfolding fault_of
 fault_of_fields f o version is = elim (cases_Bool (is_known_version f.version)) [
   | inl known ↦ is ∙ sym (cond-true (is_known_version f.version) (first_failing (field_tests f)) (Some (Version f.version)) known)

@@ -16,11 +16,13 @@ slice_bounds-eq-end c = sym (length-take-le 256 c.args.bytes.now (omega (arith, 
 
 pub returns-in-None : goal.returns-in-None
 returns-in-None c =
-    decoded_none c.args.layout.now c.args.cluster c.args.place c.args.bytes.now Blank c.in-None.ensures (tells_blank c.args.bytes.now c.eq.result c.eq.ensures c.if-eq.true)
+    decoded_none c.args.layout.now c.args.cluster c.args.place c.args.bytes.now Blank c.in-None.ensures
+    (tells_blank c.args.bytes.now c.eq.result c.eq.ensures c.if-eq.true)
 
 pub returns-in-None-2 : goal.returns-in-None-2
 returns-in-None-2 c =
-    decoded_none c.args.layout.now c.args.cluster c.args.place c.args.bytes.now Garbled c.in-None-2.ensures (tells_garbled c.args.bytes.now c.eq.result c.eq.ensures c.if-eq.false)
+    decoded_none c.args.layout.now c.args.cluster c.args.place c.args.bytes.now Garbled c.in-None-2.ensures
+    (tells_garbled c.args.bytes.now c.eq.result c.eq.ensures c.if-eq.false)
 
 pub returns-in-Some : goal.returns-in-Some
 returns-in-Some c =

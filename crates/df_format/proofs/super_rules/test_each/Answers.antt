@@ -42,7 +42,8 @@ returns-in_err-test_trailer c =
     ∙ passing_front (size_tests f) (checkpoint_on f) c.in_ok-test_sizes.ensures
 
 -- those of the version decide where the others pass
-version_decides : (f : SuperFields) → None ≡ first_failing (size_tests f) → None ≡ first_failing (checkpoint_tests f) → None ≡ first_failing (progress_tests f) → None ≡ first_failing (trailer_tests f)
+version_decides : (f : SuperFields) → None ≡ first_failing (size_tests f) → None ≡ first_failing (checkpoint_tests f)
+    → None ≡ first_failing (progress_tests f) → None ≡ first_failing (trailer_tests f)
     → first_failing (version_tests f) ≡ first_failing (field_tests f)
 version_decides f sizes checkpoint progress trailer =
     passing_front (trailer_tests f) (version_tests f) trailer

@@ -11,7 +11,8 @@ pub returns-in-Err-clause-steps : goal.returns-in-Err-clause-steps
 returns-in-Err-clause-steps g c = update_is_steps c.args.content.now c.fields-fields.ensures.usable
 
 pub returns-in-Err-clause-moments : goal.returns-in-Err-clause-moments
-returns-in-Err-clause-moments g c = updates_safely c.args.content.now _ _ c.write_copies.result c.fields-fields.ensures.usable c.write_copies.ensures.events
+returns-in-Err-clause-moments g c =
+    updates_safely c.args.content.now _ _ c.write_copies.result c.fields-fields.ensures.usable c.write_copies.ensures.events
 
 pub returns-in-Ok-read_all-clause-steps : goal.returns-in-Ok-read_all-clause-steps
 returns-in-Ok-read_all-clause-steps g c = update_is_steps c.args.content.now c.fields-fields.ensures.usable

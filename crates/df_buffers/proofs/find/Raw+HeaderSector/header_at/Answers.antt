@@ -11,7 +11,8 @@ returns-clause-found c =
     let f = c.in_ok-header.ensures.found in
     let here : c.header_bytes.result.now ≡ header_bytes c.args.place c.args.self.now.bytes = search rules in
     let one : Message = record { header = c.in_ok-header.header; body = [] } in
-    subst (λ (bytes : List ℕ). FindsUnit c.args.identity.now bytes one) here (found_header c.args.identity.now c.header_bytes.result.now f.0 c.in_ok-header.header c.requires.zone f.1 f.2)
+    subst (λ (bytes : List ℕ). FindsUnit c.args.identity.now bytes one) here
+    (found_header c.args.identity.now c.header_bytes.result.now f.0 c.in_ok-header.header c.requires.zone f.1 f.2)
 
 pub returns-clause-there : goal.returns-clause-there
 returns-clause-there c =
@@ -19,4 +20,7 @@ returns-clause-there c =
     header_there c.args.identity.now c.header_bytes.result.now f.0 c.in_ok-header.header c.requires.zone f.1 f.2 f.3
 
 pub returns-in_err-header-clause-any : goal.returns-in_err-header-clause-any
-returns-in_err-header-clause-any c = λ any. (let none = none_any c.args.identity.now c.header_bytes.result.now c.in_err-header.field-0.0 any c.in_err-header.ensures.unwanted c.in_err-header.ensures.class in search (rules, none, c.from_residual.ensures))
+returns-in_err-header-clause-any c = λ any. (
+    let e = c.in_err-header in
+    let none = none_any c.args.identity.now c.header_bytes.result.now e.field-0.0 any e.ensures.unwanted e.ensures.class in
+    search (rules, none, c.from_residual.ensures))

@@ -14,7 +14,8 @@ returns-in-Ok-clause-class g c =
 stands : (g : Over) (c : goal.After-kind-1 g) → StandsIn g.K.UnitKind.KIND c.args.identity.now.place.zone
 stands g c = subst (λ (z : Zone). StandsIn g.K.UnitKind.KIND z) (sym c.requires.zone) g.met.K.UnitKind.stands
 
-found : (g : Over) (c : goal.After-kind-1 g) → let bytes = c.self.inside.bytes.items in FindsKind g.K.UnitKind.KIND c.args.identity.now bytes (unit_with c.in-Ok.header bytes)
+found : (g : Over) (c : goal.After-kind-1 g)
+    → let bytes = c.self.inside.bytes.items in FindsKind g.K.UnitKind.KIND c.args.identity.now bytes (unit_with c.in-Ok.header bytes)
 found g c =
     let f = c.in-Ok.ensures.found in
     let of : c.in-Ok.header.kind ≡ c.KIND.result = search rules in
