@@ -3,19 +3,11 @@ ghost use Rattle.std.specs.Prelude.{◌≡◌, ◌↔◌, ◌<◌, ◌≤◌, �
 ghost use Rattle.df_group.specs.Below.{sessions_of, MayAsk, Fits, header_of, number_of};
 ghost use Rattle.df_group.specs.Fitting.{FitsAt};
 
-use crate::groups::fits_group;
+use crate::groups::{follows, group_last};
 use crate::{Position, Tail};
 use df_base::Check;
 use df_format::Header;
-use df_sessions::{Session, SessionTable};
-
-fn follows(session: &Session, header: &Header) -> bool
-    ensures { IsTrue result ↔ ((header.now.request ≡ session.now.request + 1) × (session.now.op ≤ header.now.mark)) }
-{
-    header.request > session.request
-        && header.request - session.request == 1
-        && session.op <= header.mark
-}
+use df_sessions::SessionTable;
 
 // Whether the client had the reply to its last request, or is new and has a place.
 fn may_ask(sessions: &SessionTable, clients: u32, header: &Header) -> bool
@@ -25,7 +17,9 @@ fn may_ask(sessions: &SessionTable, clients: u32, header: &Header) -> bool
     let count = sessions.len();
     match sessions.place_of(header.client) {
         Some(place) => match sessions.get(place) {
-            Some(session) => follows(&session, header),
+            Some(session) => {
+                header.request.saturating_sub(session.request) == 1 && session.op <= header.mark
+            }
             None => false,
         },
         None => header.request == 1 && count < u64::from(clients),
@@ -72,5 +66,7 @@ pub fn goes_on(
     requires group { header.now.op ≤ (header_of header.now).group_last }
     ensures { IsTrue result ↔ FitsAt clients head at.now sessions.now.sessions header.now }
 {
-    fits(&at.last, sessions, clients, header) && fits_group(head, at, header)
+    fits(&at.last, sessions, clients, header)
+        && follows(at, header)
+        && (header.op != head || group_last(header) <= head)
 }

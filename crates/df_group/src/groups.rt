@@ -1,7 +1,9 @@
 // Where a walk along prepares stands, and the group that it is in: one is begun where the group before it is over, and counts as a whole.
-ghost use Rattle.std.specs.Prelude.{◌≡◌, ◌↔◌, ◌≤◌, ◌+◌, IsTrue};
-ghost use Rattle.df_group.specs.Below.{FitsGroup, header_of, number_or};
-ghost use Rattle.df_group.specs.Fitting.{GroupFitsAt, position_of, tail_to};
+// A prepare tells of the head by its op, but where it is of a group that was cut off there.
+ghost use Rattle.std.specs.Prelude.{◌≡◌, ◌↔◌, ◌<◌, ◌≤◌, ◌+◌, ◌^◌, IsTrue};
+ghost use Rattle.df_group.specs.Below.{BindsHead, FitsGroup, header_of, number_or};
+ghost use Rattle.df_group.specs.Cut.{binding_op, is_cut_off};
+ghost use Rattle.df_group.specs.Fitting.{position_of};
 
 use df_base::Check;
 use df_format::Header;
@@ -36,18 +38,6 @@ pub fn empty_tail(op: u64, checksum: &Check) -> Tail
     }
 }
 
-// The end of a tail whose last prepare has this header.
-fn tail_to(header: &Header) -> Tail
-    ensures { result ≡ tail_to header.now }
-{
-    let checksum = header.checksum;
-    Tail {
-        op: header.op,
-        checksum,
-        mark: header.mark,
-    }
-}
-
 // A number, or another one where it is 0.
 fn number_or(number: u64, other: u64) -> u64
     ensures { result ≡ number_or number other }
@@ -55,8 +45,8 @@ fn number_or(number: u64, other: u64) -> u64
     if number == 0 { other } else { number }
 }
 
-/// The first op of a prepare's group: its own where it was appended by itself, with no group.
-pub(crate) fn group_first(header: &Header) -> u64
+// The first op of a prepare's group: its own where it was appended by itself, with no group.
+fn group_first(header: &Header) -> u64
     ensures { result ≡ (header_of header.now).group }
 {
     number_or(header.group, header.op)
@@ -84,23 +74,21 @@ pub fn position_behind(last: &Tail) -> Position
 pub fn position_of(header: &Header) -> Position
     ensures { result ≡ position_of header.now }
 {
+    let checksum = header.checksum;
     Position {
-        last: tail_to(header),
+        last: Tail {
+            op: header.op,
+            checksum,
+            mark: header.mark,
+        },
         group: group_first(header),
         group_last: group_last(header),
     }
 }
 
-/// Whether no prepare of the group is to come.
-pub(crate) fn is_over(at: &Position) -> bool
-    ensures { IsTrue result ↔ (at.now.group_last ≤ at.now.last.op) }
-{
-    at.group_last <= at.last.op
-}
-
-// Whether the prepare with this header, which has the next op, begins a group where one is over, or goes on with it. Its group
-// ends there or later.
-fn follows(at: &Position, header: &Header) -> bool
+/// Whether the prepare with this header, which has the next op, begins a group where one is over, or goes on with it. Its group
+/// ends there or later.
+pub(crate) fn follows(at: &Position, header: &Header) -> bool
     requires op { header.now.op ≡ at.now.last.op + 1 }
     requires ends { header.now.op ≤ (header_of header.now).group_last }
     ensures { IsTrue result ↔ FitsGroup at.now.group at.now.group_last (at.now.last.op + 1) (header_of header.now) }
@@ -112,19 +100,25 @@ fn follows(at: &Position, header: &Header) -> bool
     }
 }
 
-// Whether a prepare's group is over at this head, if the prepare has that op.
-fn ends_at(head: u64, header: &Header) -> bool
-    ensures { IsTrue result ↔ (header.now.op ≡ head → (header_of header.now).group_last ≤ head) }
+// Whether a prepare is of a group of several that begins right above this op, and so was cut off there.
+fn is_cut_off(header: &Header, top: u64) -> bool
+    requires { top < 2 ^ 63 }
+    ensures { result ≡ is_cut_off top (header_of header.now) }
 {
-    header.op != head || group_last(header) <= head
+    let first = group_first(header);
+    header.boot > 0 && first == top + 1 && first < group_last(header) && header.op > top
 }
 
-/// Whether the group of the prepare with this header, which has the next op, fits there: it follows what is over or goes on with
-/// what isn't, and no group goes on past this head. The group ends at that op or later.
-pub(crate) fn fits_group(head: u64, at: &Position, header: &Header) -> bool
-    requires op { header.now.op ≡ at.now.last.op + 1 }
-    requires ends { header.now.op ≤ (header_of header.now).group_last }
-    ensures { IsTrue result ↔ GroupFitsAt head at.now header.now }
+/// The op of a prepare that binds the head in this boot, where the head that is found is `top`: 0 of one that was cut off with its
+/// group above that head, and of one of any other boot.
+pub fn binding_op(header: &Header, boot: u64, top: u64) -> u64
+    requires { top < 2 ^ 63 }
+    ensures value { result ≡ binding_op boot top (header_of header.now) }
+    ensures binds { (result ≤ top) ↔ (header.now.boot ≡ boot → BindsHead top (header_of header.now)) }
 {
-    follows(at, header) && ends_at(head, header)
+    if header.boot != boot || is_cut_off(header, top) {
+        0
+    } else {
+        header.op
+    }
 }

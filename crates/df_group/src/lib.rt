@@ -2,14 +2,12 @@
 //! along them ends, and what a header or a prepare above that end says of it.
 #![tactic(auto)]
 
-mod cut;
 mod fits;
 mod groups;
 mod reach;
 mod words;
 
-pub use cut::binding_op;
 pub use fits::goes_on;
-pub use groups::{Position, Tail, empty_tail, position_behind, position_of};
+pub use groups::{Position, Tail, binding_op, empty_tail, position_behind, position_of};
 pub use reach::{Reach, keep_whole};
 pub use words::{groups_follow_one_another, head_is_told, lost_is_told, survivors_are_told};

@@ -1,7 +1,6 @@
 // How far a walk along prepares comes after a checkpoint; the tail ends where the last whole group does.
 ghost use Rattle.std.specs.Prelude.{◌≡◌, ◌≤◌, ◌<◌};
 
-use crate::groups::is_over;
 use crate::{Position, Tail};
 use df_sessions::SessionTable;
 
@@ -19,7 +18,7 @@ pub fn keep_whole(at: &Position, ahead: &SessionTable, tail: &mut Tail, sessions
     ensures over { at.now.group_last ≤ at.now.last.op → (tail.new ≡ at.now.last) × (sessions.new ≡ ahead.now) }
     ensures open { at.now.last.op < at.now.group_last → (tail.new ≡ tail.old) × (sessions.new ≡ sessions.old) }
 {
-    if is_over(at) {
+    if at.group_last <= at.last.op {
         *tail = at.last;
         *sessions = ahead.copied();
     }
