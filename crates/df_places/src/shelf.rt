@@ -1,7 +1,7 @@
 // The room of a kind of unit, as it lies between two calls: with any bytes, or with a sound unit in it, which it lends.
-ghost use Rattle.std.specs.Prelude.{◌≡◌, ◌≢◌, ◌≤◌, ◌+◌, None, Some, length, IfOk, IsSome};
+ghost use Rattle.std.specs.Prelude.{◌≡◌, ◌≤◌, ◌+◌, None, Some, length, IfOk, IsSome};
 ghost use Rattle.df_base.specs.declared.TheConstants.{HEADER};
-ghost use Rattle.df_places.specs.Below.{HasCause, AreBytes, HasPlace, Zone, class_of, for_body, header_or_class, own_place, ObeysRules, greatest_size, place_size, unit_in};
+ghost use Rattle.df_places.specs.Below.{HasCause, AreBytes, HasPlace, for_body, own_place, ObeysRules, greatest_size};
 ghost use Rattle.df_places.specs.Shelves.{HoldsBlanked, HoldsFound, HoldsMade, IsRead, IsShelf};
 ghost use Rattle.df_places.specs.Units.{IsSeen, IsThere};
 
@@ -45,17 +45,6 @@ impl<K: UnitKind> Model for Shelf<K> {
 fn are_bytes(bytes: &[u8])
     ensures { AreBytes bytes.now }
 {}
-
-// What the bytes of a place show.
-fn shown_in(layout: &Layout, cluster: u128, place: Place, bytes: &[u8]) -> Result<Header, Class>
-    requires size { length bytes.now ≡ place_size layout.now place.zone }
-    requires copy { place.zone ≢ Zone.Superblock }
-    ensures shown { result ≡ header_or_class (unit_in layout.now cluster place bytes.now) (class_of layout.now cluster place bytes.now) }
-    ensures there { IsThere layout.now cluster place result }
-{
-    are_bytes(bytes);
-    decode_unit(layout, cluster, place, bytes)
-}
 
 // The room, whatever is in it.
 fn room_of<K: UnitKind>(_layout: &Layout, loose: Option<Raw<K>>, held: Option<Sound<K>>) -> Raw<K>
@@ -157,7 +146,9 @@ impl<K: UnitKind> Shelf<K> {
                 Err(failed)
             }
             Ok(()) => {
-                let seen = shown_in(&self.layout, cluster, place, room.bytes_mut());
+                let bytes = room.bytes_mut();
+                are_bytes(bytes);
+                let seen = decode_unit(&self.layout, cluster, place, bytes);
                 self.loose = Some(room);
                 Ok(seen)
             }
