@@ -3,7 +3,6 @@
 
 mod reserved;
 mod sectors;
-mod spelled;
 mod table;
 
 pub use reserved::reserved_header;

@@ -1,5 +1,5 @@
 // The headers of empty slots.
-ghost use Rattle.std.specs.Prelude.{◌≡◌, ◌<◌, ◌≤◌, length, slice_set};
+ghost use Rattle.std.specs.Prelude.{◌≡◌, ◌<◌, ◌≤◌, length};
 ghost use Rattle.df_headers.specs.Below.{reserved_header};
 ghost use Rattle.df_headers.specs.Ring.{AreReserved};
 
@@ -20,14 +20,6 @@ pub fn reserved_header(cluster: u128, slot: u32) -> Header
     })
 }
 
-// Puts a header in the place of another.
-pub(crate) fn put(slots: &mut [Header], slot: usize, header: Header)
-    requires { slot < length slots.old }
-    ensures { slots.new ≡ slice_set slots.old slot header }
-{
-    slots[slot] = header;
-}
-
 /// Puts a reserved header into each slot.
 pub(crate) fn put_reserved(slots: &mut [Header], cluster: u128)
     requires cluster { 0 < cluster }
@@ -37,7 +29,7 @@ pub(crate) fn put_reserved(slots: &mut [Header], cluster: u128)
 {
     let mut slot = 0;
     while slot < slots.len() {
-        put(slots, slot, reserved_header(cluster, slot as u32));
+        slots[slot] = reserved_header(cluster, slot as u32);
         slot += 1;
     }
 }

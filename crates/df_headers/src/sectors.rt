@@ -1,11 +1,12 @@
-// Where the sectors of the header ring lie, and reads of them.
-ghost use Rattle.std.specs.Prelude.{◌≡◌, ◌<◌, ◌*◌, ◌^◌, length, OnOk};
-ghost use Rattle.df_base.specs.declared.TheConstants.{SECTOR};
-ghost use Rattle.df_headers.specs.Below.{HasCause, Shows, Layout, HeaderPlace, first_at};
+// The sectors of the header ring: where they lie, reads of them, and their bytes, sixteen headers one after the other.
+ghost use Rattle.std.specs.Prelude.{◌≡◌, ◌<◌, ◌≤◌, ◌+◌, ◌*◌, ◌^◌, ◌++◌, [], ◌∷◌, length, take, OnOk};
+ghost use Rattle.df_base.specs.declared.TheConstants.{HEADER, SECTOR};
+ghost use Rattle.df_headers.specs.Below.{HasCause, Shows, Layout, HeaderPlace, IsSealed, AreSixteen, first_at, headers_bytes};
 
-use df_base::Failed;
+use df_base::{Failed, HEADER};
 use df_buffers::{HeaderSector, Raw};
 use df_disk::Disk;
+use df_format::{Header, encode_header};
 
 // The first sector of the ring, after the four copies of the superblock in every layout.
 const FIRST: u64 = 4;
@@ -34,4 +35,29 @@ pub fn read_sector<D: Disk>(
     ensures cause { HasCause (D.faults disk.old) (D.faults disk.new) result }
 {
     disk.read(first_of(sector), room.bytes_mut())
+}
+
+// Writes one header over its 256 bytes.
+fn put_one(header: &Header, bytes: &mut [u8], at: usize)
+    requires header { IsSealed header.now }
+    requires room { at + HEADER ≤ length bytes.old }
+    ensures front { take (at + HEADER) bytes.new ≡ take at bytes.old ++ headers_bytes (header.now ∷ []) }
+    ensures size { length bytes.new ≡ length bytes.old }
+{
+    let mut one = [0u8; HEADER];
+    encode_header(header, &mut one);
+    bytes[at..at + HEADER].copy_from_slice(&one);
+}
+
+/// Writes sixteen headers over the bytes of a sector.
+pub(crate) fn put_all(headers: &[Header], bytes: &mut [u8])
+    requires sixteen { AreSixteen headers.now }
+    requires room { length bytes.old ≡ SECTOR }
+    ensures { bytes.new ≡ headers_bytes headers.now }
+{
+    let mut i = 0;
+    while i < headers.len() {
+        put_one(&headers[i], bytes, HEADER * i);
+        i += 1;
+    }
 }

@@ -3,9 +3,8 @@ ghost use Rattle.std.specs.Prelude.{◌≡◌, ◌<◌, ◌≤◌, ◌+◌, ◌*
 ghost use Rattle.df_headers.specs.Below.{HasCause, Adds, AreSixteen, AreSteps, format_of, AreHeaders};
 ghost use Rattle.df_headers.specs.Ring.{AreReserved, ReservedIsTable, TableIsKept, TableIsWritten, in_sector, sector_events, sector_steps};
 
-use crate::reserved::{put, put_reserved};
-use crate::sectors::first_of;
-use crate::spelled::put_all;
+use crate::reserved::put_reserved;
+use crate::sectors::{first_of, put_all};
 use df_base::Failed;
 use df_buffers::{HeaderSector, Raw};
 use df_disk::Disk;
@@ -55,7 +54,7 @@ impl HeaderTable {
         requires { slot < length self.old }
         ensures { self.new ≡ slice_set self.old slot header }
     {
-        put(&mut self.slots, slot as usize, header);
+        self.slots[slot as usize] = header;
     }
 
     /// Puts a reserved header, that of an empty slot, into each slot. Nothing is written.

@@ -1,7 +1,7 @@
 -- The headers so far stand one after the other.
 use Rattle.std.proofs.Common.{◌≡◌, ◌≤◌, ◌*◌, ◌-◌, length, take}
 use Rattle.df_format.specs.UnitLaws.{headers_bytes}
-use Rattle.df_headers.proofs.spelled.put_all.Given as goal
+use Rattle.df_headers.proofs.sectors.put_all.Given as goal
 
 abbrev pub invariant-loop-i : goal.invariant-loop-i
 invariant-loop-i l = record {

@@ -1,7 +1,7 @@
 use Rattle.std.proofs.{Common.{◌≡◌, ◌<◌, ◌+◌, ◌*◌, ◌++◌, [], ◌∷◌, ℕ, suc, take, length, slice_index_or, List, ap, ◌∙◌, sym, arith, rules}, lemmas.Option.{slice_get-get_or}}
 use Rattle.df_format.specs.{UnitLaws.{headers_bytes}, declared.header.Header.{Header}}
 use Rattle.df_headers.proofs.Bytes.{bytes_more}
-use Rattle.df_headers.proofs.spelled.put_all.Goals as goal
+use Rattle.df_headers.proofs.sectors.put_all.Goals as goal
 
 -- the bytes of one header more; what stands past the end of the list doesn't matter
 one_more : (headers : List Header) (i : ℕ) (past : Header) → i < length headers → headers_bytes (take i headers) ++ headers_bytes (slice_index_or headers i past ∷ []) ≡ headers_bytes (take (i + 1) headers)
