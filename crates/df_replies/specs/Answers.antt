@@ -36,12 +36,7 @@ abbrev pub class_of_reply : Result Header Class → Class
 class_of_reply (Ok h) = Stale
 class_of_reply (Err class) = class
 
--- a slot answers the session, or it has this class
-abbrev pub TestsReply : SuperFields → ℕ → Session → Result Header Class → Option Class → Type 0
-TestsReply f place s reply None = AnswersIn f place s reply
-TestsReply f place s reply (Some class) = (AnswersIn f place s reply → ⊥) × (class ≡ class_of_reply reply)
-
--- the same of a session whose reply is stored
+-- a slot answers the session, or it has this class, where the reply is stored
 abbrev pub TestsStored : SuperFields → ℕ → Session → ℕ → Result Header Class → Option Class → Type 0
 TestsStored f place s n reply None = s.op ≤ n → AnswersIn f place s reply
 TestsStored f place s n reply (Some class) = (s.op ≤ n) × (AnswersIn f place s reply → ⊥) × (class ≡ class_of_reply reply)

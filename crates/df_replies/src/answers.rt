@@ -1,10 +1,13 @@
-// The number of replies, and the first session whose reply is missing.
-ghost use Rattle.std.specs.Prelude.{◌≡◌, ◌↔◌, ◌<◌, Option, Some, length, max, IsTrue};
-ghost use Rattle.df_replies.specs.Answers.{IsReplyOf, LacksHere, TestsReply, TestsStored};
+// The number of replies, and the first session whose reply is missing. A superblock takes the replies that it names by their checksums,
+// and each later one of its boot.
+ghost use Rattle.std.specs.Prelude.{◌≡◌, ◌↔◌, ◌<◌, length, IsTrue};
+ghost use Rattle.df_replies.specs.Below.{number_of};
+ghost use Rattle.df_replies.specs.Answers.{IsReplyOf, LacksHere, TestsStored};
 ghost use Rattle.df_replies.specs.Counts.{IsGreatest};
+ghost use Rattle.df_replies.specs.Named.{IsNamedBy};
 
 use crate::counts::op_in;
-use crate::named::is_named;
+use df_base::{Check, VERSION};
 use df_format::{Header, SuperFields};
 use df_layout::Class;
 use df_sessions::{Session, SessionTable};
@@ -29,6 +32,25 @@ pub(crate) fn greatest_op(start: u64, replies: &[Result<Header, Class>], boot: u
     top
 }
 
+fn is_same(one: &Check, other: &Check) -> bool
+    ensures { IsTrue result ↔ (number_of one.now ≡ number_of other.now) }
+{
+    *one == *other
+}
+
+// Whether the superblock takes the reply with this header in the slot of a place. A superblock of version 2 names the replies up
+// to its own number of them; no other version names any.
+fn is_named(fields: &SuperFields, place: u64, header: &Header) -> bool
+    requires { place < 64 }
+    ensures { IsTrue result ↔ IsNamedBy fields.now place header.now }
+{
+    if fields.version == VERSION && header.op <= fields.replies {
+        is_same(&fields.reply_checksums[place as usize], &header.checksum)
+    } else {
+        header.boot == fields.boot
+    }
+}
+
 // Whether the header is that of the reply to the session's last request.
 fn is_of(session: &Session, header: &Header) -> bool
     ensures { IsTrue result ↔ IsReplyOf session.now header.now }
@@ -36,30 +58,8 @@ fn is_of(session: &Session, header: &Header) -> bool
     header.client == session.client && header.request == session.request && header.op == session.op
 }
 
-// The class of the slot of a place that doesn't show the reply to the session's last request.
+// The class of the slot of a place that doesn't show the reply to the session's last request, where that reply is stored.
 fn lacks(
-    fields: &SuperFields,
-    place: u64,
-    session: &Session,
-    reply: &Result<Header, Class>,
-) -> Option<Class>
-    requires { place < 64 }
-    ensures { TestsReply fields.now place session.now reply.now result }
-{
-    match reply {
-        Ok(header) => {
-            if is_of(session, header) && is_named(fields, place, header) {
-                None
-            } else {
-                Some(Class::Stale)
-            }
-        }
-        Err(class) => Some(*class),
-    }
-}
-
-// The same, where that reply is stored.
-fn lacks_stored(
     fields: &SuperFields,
     place: u64,
     session: &Session,
@@ -69,10 +69,18 @@ fn lacks_stored(
     requires { place < 64 }
     ensures { TestsStored fields.now place session.now stored reply.now result }
 {
-    if session.op <= stored {
-        lacks(fields, place, session, reply)
-    } else {
-        None
+    if stored < session.op {
+        return None;
+    }
+    match reply {
+        Ok(header) => {
+            if is_of(session, header) && is_named(fields, place, header) {
+                None
+            } else {
+                Some(Class::Stale)
+            }
+        }
+        Err(class) => Some(*class),
     }
 }
 
@@ -90,7 +98,7 @@ pub(crate) fn first_lacking(
     while place < sessions.len() {
         let session = sessions.get(place)?;
         let reply = &replies[place as usize];
-        if let Some(class) = lacks_stored(fields, place, &session, stored, reply) {
+        if let Some(class) = lacks(fields, place, &session, stored, reply) {
             return Some(Lacking { place, class });
         }
         place += 1;

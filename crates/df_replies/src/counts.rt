@@ -1,11 +1,12 @@
 // The greatest numbers of the replies that are shown.
 ghost use Rattle.std.specs.Prelude.{◌≡◌, length};
-ghost use Rattle.df_replies.specs.Counts.{CountsSome, boot_in, checkpoint_in, counting_reply, mark_in, op_of_reply};
+ghost use Rattle.df_replies.specs.Counts.{CountsSome, counting_reply, op_of_reply};
 
 use df_format::Header;
 use df_layout::Class;
 use df_stamps::Counters;
 
+/// The op of a reply of this boot, 0 of any other.
 pub(crate) fn op_in(seen: &Result<Header, Class>, boot: u64) -> u64
     ensures { result ≡ op_of_reply boot seen.now }
 {
@@ -15,44 +16,21 @@ pub(crate) fn op_in(seen: &Result<Header, Class>, boot: u64) -> u64
     }
 }
 
-fn mark_in(seen: &Result<Header, Class>, boot: u64) -> u64
-    ensures { result ≡ mark_in boot seen.now }
-{
-    match seen {
-        Ok(header) => { if header.boot == boot { header.mark } else { 0 } }
-        Err(_) => 0,
-    }
-}
-
-fn checkpoint_in(seen: &Result<Header, Class>) -> u64
-    ensures { result ≡ checkpoint_in seen.now }
-{
-    match seen {
-        Ok(header) => header.checkpoint,
-        Err(_) => 0,
-    }
-}
-
-fn boot_in(seen: &Result<Header, Class>) -> u64
-    ensures { result ≡ boot_in seen.now }
-{
-    match seen {
-        Ok(header) => header.boot,
-        Err(_) => 0,
-    }
-}
-
 // The counters with one more reply: its op and its mark count in this boot alone.
 fn with_reply(seen: &Counters, reply: &Result<Header, Class>, boot: u64) -> Counters
     ensures { result ≡ counting_reply boot seen.now reply.now }
 {
-    Counters {
-        ring_op: seen.ring_op,
-        reply_top: seen
-            .reply_top
-            .max(op_in(reply, boot).max(mark_in(reply, boot))),
-        checkpoint: seen.checkpoint.max(checkpoint_in(reply)),
-        boot: seen.boot.max(boot_in(reply)),
+    match reply {
+        Ok(header) => {
+            let mark = if header.boot == boot { header.mark } else { 0 };
+            Counters {
+                ring_op: seen.ring_op,
+                reply_top: seen.reply_top.max(op_in(reply, boot).max(mark)),
+                checkpoint: seen.checkpoint.max(header.checkpoint),
+                boot: seen.boot.max(header.boot),
+            }
+        }
+        Err(_) => *seen,
     }
 }
 

@@ -3,8 +3,6 @@
 
 mod answers;
 mod counts;
-mod named;
-mod scans;
 mod shown;
 mod slot;
 mod table;

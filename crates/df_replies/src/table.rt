@@ -3,12 +3,12 @@ ghost use Rattle.std.specs.Prelude.{◌≡◌, ◌↔◌, ◌<◌, ◌≤◌, Li
 ghost use Rattle.df_replies.specs.Below.{HasCause, Blank, IsReplies, last_mark, Content, Message, Units, content_of, content_with};
 ghost use Rattle.df_replies.specs.Answers.{HasClass, Lacks};
 ghost use Rattle.df_replies.specs.Counts.{RepliesWithin, in_boot};
-ghost use Rattle.df_replies.specs.Shown.{AreRepliesScanned, ShowsReplies};
+ghost use Rattle.df_replies.specs.Shown.{AreRepliesScanned, AreSeenReplies, ShowsReplies};
 
 use crate::Lacking;
 use crate::answers::{first_lacking, greatest_op};
 use crate::counts::count_replies;
-use crate::scans::scan_replies;
+use crate::slot::reply_place;
 use df_base::{Failed, OutOfMemory};
 use df_buffers::Reply;
 use df_disk::Disk;
@@ -35,6 +35,30 @@ impl Model for ReplyTable {
     ghost Value = { List (Result Header Class) };
 
     ghost view = { λ t. t.replies.items };
+}
+
+// Fills the list with what the slots show, also those that no session has yet.
+fn scan_replies<D: Disk>(
+    disk: &mut D,
+    layout: &Layout,
+    cluster: u128,
+    replies: &mut [Result<Header, Class>],
+    shelf: &mut Shelf<Reply>,
+) -> Result<(), Failed>
+    requires replies { length replies.old ≡ layout.now.clients }
+    requires shelf { shelf.old.layout ≡ layout.now }
+    ensures seen { OnOk result (AreSeenReplies layout.now cluster (D.told disk.old) layout.now.clients replies.new) }
+    ensures count { length replies.new ≡ length replies.old }
+    ensures shelf { shelf.new.layout ≡ layout.now }
+    ensures same { D.told disk.new ≡ D.told disk.old }
+    ensures cause { HasCause (D.faults disk.old) (D.faults disk.new) result }
+{
+    let mut place = 0;
+    while place < layout.clients {
+        replies[place as usize] = shelf.see(disk, cluster, reply_place(place))?;
+        place += 1;
+    }
+    Ok(())
 }
 
 impl ReplyTable {

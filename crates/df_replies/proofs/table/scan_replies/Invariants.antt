@@ -1,7 +1,7 @@
 -- The slots before this one are in the list.
 use Rattle.std.proofs.Common.{◌≡◌, ◌-◌, ◌≤◌, length}
 use Rattle.df_replies.specs.Shown.{AreSeenReplies}
-use Rattle.df_replies.proofs.scans.scan_replies.Given as goal
+use Rattle.df_replies.proofs.table.scan_replies.Given as goal
 
 abbrev pub invariant-loop-place : goal.invariant-loop-place
 invariant-loop-place g l = record {

@@ -2,7 +2,7 @@
 use Rattle.std.proofs.{Common.{sym, ◌∙◌, ap}, lemmas.Slice.Eq.{bytes_eq-Decides}}
 use Rattle.df_format.specs.Spelling.{IsCheck}
 use Rattle.df_units.{proofs.Laws.{one_number}, specs.Meaning.{number_of}}
-use Rattle.df_replies.proofs.named.is_same.Goals as goal
+use Rattle.df_replies.proofs.answers.is_same.Goals as goal
 
 pub returns : goal.returns
 returns c =
