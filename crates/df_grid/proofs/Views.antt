@@ -1,5 +1,5 @@
 -- A table's value after a change, and what its requirements say of its entries.
-use Rattle.std.{proofs.{Common.{◌≡◌, ℕ, zero, suc, ◌-◌, ◌<◌, ◌≤◌, ◌==◌, ◌||◌, Bool, true, false, cond, Option, Some, None, List, [], ◌∷◌, length, drop, get_or, not, set, refl, sym, ap, subst, ◌∙◌, arith, eq-eqb}, lemmas.List.{length-replicate, length-set}, lemmas.Option.{slice_get_within}, lemmas.Bool.{or_left}}, specs.Prelude.{IfSome, IsNone, ◌↔◌, slice_get, replicate}}
+use Rattle.std.{proofs.{Common.{◌≡◌, ℕ, zero, suc, ◌-◌, ◌<◌, ◌≤◌, ◌==◌, ◌||◌, Bool, true, false, cond, Option, Some, None, List, [], ◌∷◌, length, drop, get_or, not, set, refl, sym, ap, subst, ◌∙◌, arith, eq-eqb}, lemmas.List.{length-replicate, length-set}, lemmas.Option.{slice_get_within}, lemmas.Bool.{or_left}}, specs.{Prelude.{IfSome, IsNone, ◌↔◌, slice_get, replicate}, Bool.{then_some}}}
 use Rattle.df_freeset.specs.Addresses.{AreAllTaken, IsLeastFree}
 use Rattle.df_model.{specs.{Work.{is_in, is_known}, Blocks.{Blocks, block_released, sum_at, trailer_written}}, proofs.Laws.{without_none}}
 use Rattle.df_units.specs.Meaning.{number_of}
@@ -71,7 +71,7 @@ module _ (es : List Entry) (taken : List Bool) (written left chain : List ℕ) (
 
 -- ---- what is known
 
-pub known_number : (b : Bool) (c : List ℕ) → number_in (cond b (Some c) None) ≡ cond b (Some (number_of c)) None
+pub known_number : (b : Bool) (c : List ℕ) → number_in (then_some b c) ≡ cond b (Some (number_of c)) None
 known_number true c = refl
 known_number false c = refl
 

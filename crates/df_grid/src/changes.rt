@@ -5,8 +5,7 @@ ghost use Rattle.df_grid.specs.declared.entry.Entry.{Entry as AnyEntry};
 ghost use Rattle.df_grid.specs.Entries.{HasEntry, is_marked};
 ghost use Rattle.df_grid.specs.Table.{AreFinished, AreTaken, capturing, finishing};
 
-use crate::entries::Entries;
-use crate::entry::{Entry, is_marked};
+use crate::entry::{Entries, Entry, is_marked};
 use arrayvec::ArrayVec;
 use df_freeset::FreeSet;
 use df_layout::LINKS;
@@ -19,15 +18,7 @@ pub(crate) fn replace(entries: &mut Entries, free: &mut FreeSet, address: u64, e
     ensures free { free.new ≡ slice_set free.old (address - 1) (is_marked entry.now) }
 {
     entries.set(address, entry);
-    mark(free, address, is_marked(entry));
-}
-
-// Takes an address, or gives it back.
-fn mark(free: &mut FreeSet, address: u64, taken: bool)
-    requires { (1 ≤ address) × (address ≤ length free.old) }
-    ensures { free.new ≡ slice_set free.old (address - 1) taken }
-{
-    if taken {
+    if is_marked(entry) {
         free.take(address);
     } else {
         free.give(address);

@@ -1,9 +1,14 @@
-// What is known of the block at an address, and its marks in one byte.
-ghost use Rattle.std.specs.Prelude.{◌≡◌, if◌then◌else◌, Some, None};
-ghost use Rattle.df_grid.specs.Entries.{entry_of, is_marked, mark_of};
-ghost use Rattle.df_grid.specs.Table.{is_held_for};
+// What is known of the block at each address: kept as a checksum and a byte of marks, looked up, and counted.
+ghost use Rattle.std.specs.Prelude.{◌≡◌, ◌-◌, ◌≤◌, List, Some, length, nat_lt, slice_get, slice_set};
+ghost use Rattle.std.specs.List.{filter};
+ghost use Rattle.df_grid.specs.Entries.{HasEntry, entries_of, entry_of, is_marked, mark_of};
+ghost use Rattle.df_grid.specs.Table.{AreCounts, entry_at, is_held_for, pair_in, picked};
 
+use arrayvec::ArrayVec;
 use df_base::Check;
+use df_format::Reference;
+use df_trailer::GROUP;
+use std::marker::Model;
 
 /// What is known of the block at an address: its checksum, where it is held and written, and the five reasons for that.
 #[derive(Clone, Copy, Debug, PartialEq, Eq)]
@@ -47,15 +52,8 @@ pub(crate) fn is_held_for(entry: &Entry, reason: Reason) -> bool
     }
 }
 
-/// A checksum, where the test holds.
-pub(crate) fn checksum_if(holds: bool, checksum: Check) -> Option<Check>
-    ensures { result ≡ (if holds then Some checksum else None) }
-{
-    if holds { Some(checksum) } else { None }
-}
-
-/// The marks, one bit for each reason, from the lowest on.
-pub(crate) fn mark_of(entry: &Entry) -> u8
+// The marks, one bit for each reason, from the lowest on.
+fn mark_of(entry: &Entry) -> u8
     ensures { result ≡ mark_of entry.now }
 {
     u8::from(entry.live)
@@ -65,8 +63,8 @@ pub(crate) fn mark_of(entry: &Entry) -> u8
         + 16 * u8::from(entry.chained)
 }
 
-/// The entry with these marks.
-pub(crate) fn entry_of(checksum: Check, mark: u8) -> Entry
+// The entry with these marks.
+fn entry_of(checksum: Check, mark: u8) -> Entry
     ensures { result ≡ entry_of checksum mark }
 {
     Entry {
@@ -77,4 +75,131 @@ pub(crate) fn entry_of(checksum: Check, mark: u8) -> Entry
         durable: mark / 8 % 2 == 1,
         chained: mark / 16 % 2 == 1,
     }
+}
+
+/// The entries of the addresses from 1 on; contracts see them as a list.
+#[derive(Drop)]
+pub struct Entries {
+    checks: Vec<Check>,
+    marks: Vec<u8>,
+}
+
+impl Model for Entries {
+    ghost use Rattle.std.specs.Prelude.{◌≡◌, List, length};
+    ghost use Rattle.df_grid.specs.declared.entry.Entry.{Entry};
+    ghost use Rattle.df_grid.specs.Entries.{entries_of};
+
+    ghost Value = { List Entry };
+
+    ghost view = { λ s. entries_of s.checks.items s.marks.items };
+
+    ghost invariant = { λ s. length s.checks.items ≡ length s.marks.items };
+}
+
+impl Entries {
+    /// The entries of these checksums and marks.
+    pub(crate) fn over(checks: Vec<Check>, marks: Vec<u8>) -> Entries
+        requires { length checks.items ≡ length marks.items }
+        ensures { result ≡ entries_of checks.items marks.items }
+    {
+        Entries { checks, marks }
+    }
+
+    /// The checksums and marks.
+    pub(crate) fn into_room(self) -> (Vec<Check>, Vec<u8>)
+        ensures checks { length result.0.items ≡ length self }
+        ensures marks { length result.1.items ≡ length self }
+    {
+        let Entries { checks, marks } = self;
+        (checks, marks)
+    }
+
+    /// How many addresses there are.
+    pub(crate) fn len(&self) -> u64
+        ensures { result ≡ length self.now }
+    {
+        self.checks.len() as u64
+    }
+
+    /// The entry of an address.
+    pub(crate) fn get(&self, address: u64) -> Entry
+        requires { HasEntry self.now address }
+        ensures { slice_get self.now (address - 1) ≡ Some result }
+    {
+        let place = (address - 1) as usize;
+        entry_of(self.checks[place], self.marks[place])
+    }
+
+    /// Replaces the entry of an address.
+    pub(crate) fn set(&mut self, address: u64, entry: &Entry)
+        requires { HasEntry self.old address }
+        ensures { self.new ≡ slice_set self.old (address - 1) entry.now }
+    {
+        let place = (address - 1) as usize;
+        self.checks[place] = entry.checksum;
+        self.marks[place] = mark_of(entry);
+    }
+}
+
+/// The entry of an address, None where there is no such address.
+pub(crate) fn entry_in(entries: &Entries, address: u64) -> Option<Entry>
+    ensures { result ≡ entry_at entries.now address }
+{
+    if address >= 1 && address <= entries.len() {
+        Some(entries.get(address))
+    } else {
+        None
+    }
+}
+
+/// The least marked address above another one, with its checksum.
+pub(crate) fn first_marked(entries: &Entries, above: u64) -> Option<Reference>
+    ensures { pair_in result ≡ slice_get (filter (λ x. nat_lt above x.0) (picked is_marked 1 entries.now)) 0 }
+{
+    let mut place = above;
+    while place < entries.len() {
+        let entry = entries.get(place + 1);
+        if is_marked(&entry) {
+            return Some(Reference {
+                address: place + 1,
+                checksum: entry.checksum,
+            });
+        }
+        place += 1;
+    }
+    None
+}
+
+/// How many entries are of blocks that are held for this reason.
+pub(crate) fn count_held(entries: &Entries, reason: Reason) -> u64
+    ensures count { result ≡ length (picked (is_held_for reason) 1 entries.now) }
+    ensures most { result ≤ length entries.now }
+{
+    let mut count = 0;
+    let mut place = 0;
+    while place < entries.len() {
+        let entry = entries.get(place + 1);
+        let held = is_held_for(&entry, reason);
+        if held {
+            count += 1;
+        }
+        place += 1;
+    }
+    count
+}
+
+/// How many entries of the first group are of captured blocks, of the first two, and so on, as long as groups are full.
+pub(crate) fn count_captured(entries: &Entries) -> ArrayVec<u64, 64>
+    requires { length entries.now ≤ 16384 }
+    ensures { AreCounts entries.now (length entries.now) result.items }
+{
+    let mut counts = ArrayVec::new();
+    let mut count = 0;
+    for place in 0..entries.len() {
+        count += u64::from(entries.get(place + 1).captured);
+        if (place + 1) % GROUP == 0 {
+            counts.push(count);
+        }
+    }
+    counts
 }

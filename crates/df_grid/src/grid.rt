@@ -4,6 +4,7 @@ ghost use Rattle.std.specs.List.{filter};
 ghost use Rattle.df_base.specs.declared.TheConstants.{GREATEST};
 ghost use Rattle.df_grid.specs.Below.{block_released, blocks_captured, capture_finished, sum_at, is_known, number_in, is_referenced, ones, captured_blocks, referenced_among, number_of};
 ghost use Rattle.df_grid.specs.Grid.{GridState, HasAddress, IsUnheld, free_addresses, referenced_of, with_blocks, with_boot};
+ghost use Rattle.df_grid.specs.Laws.{ChainsHaveRoom};
 ghost use Rattle.df_grid.specs.Table.{IsIdle, adopted, last_trailer_block, no_blocks, pair_in};
 
 use crate::table::Table;
@@ -13,6 +14,7 @@ use df_format::Reference;
 use df_freeset::FreeSet;
 use df_layout::Layout;
 use df_places::Shelf;
+use df_trailer::CapturedBlocks;
 use std::marker::Model;
 
 /// The blocks of a file. An address is held where it is live (written and not released), captured by the running checkpoint, a block
@@ -183,15 +185,6 @@ impl Grid {
         self.table.captured(address)
     }
 
-    /// How many of the first 256 * `groups` addresses the running checkpoint captured, None where that isn't kept. It is for each full
-    /// group of 256 addresses of the grid, while a block of the checkpoint's trailer is to come, and costs one look.
-    pub fn counted(&self, groups: u64) -> Option<u64>
-        ensures count { IfSome result (λ count. count ≡ referenced_among (λ a. sum_at a self.now.blocks.captured) (256 * groups)) }
-        ensures kept { self.now.blocks.left ≢ [] → 256 * groups ≤ self.now.layout.blocks → IsSome result }
-    {
-        self.table.counted(groups)
-    }
-
     /// Ends a checkpoint whose trailer blocks are all written: it is the durable one, and only it holds addresses beside the live ones.
     pub fn finish(&mut self)
         requires running { self.old.blocks.written ≢ [] }
@@ -234,3 +227,24 @@ impl Grid {
         self.table.referenced()
     }
 }
+
+impl CapturedBlocks for Grid {
+    ghost captured = { λ g address. sum_at address g.blocks.captured };
+
+    fn captured(&self, address: u64) -> Option<Check> {
+        Grid::captured(self, address)
+    }
+
+    // It is kept for each full group of 256 addresses of the grid, while a block of the checkpoint's trailer is to come, and costs one look.
+    fn counted(&self, groups: u64) -> Option<u64>
+        ensures count { IfSome result (λ count. count ≡ referenced_among (λ a. sum_at a self.now.blocks.captured) (256 * groups)) }
+        ensures kept { self.now.blocks.left ≢ [] → 256 * groups ≤ self.now.layout.blocks → IsSome result }
+    {
+        self.table.counted(groups)
+    }
+}
+
+/// A trailer of any layout has at most 70 blocks, so a chain has room for each.
+pub fn chains_have_room()
+    ensures { ChainsHaveRoom }
+{}

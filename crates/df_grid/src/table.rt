@@ -5,9 +5,7 @@ ghost use Rattle.df_grid.specs.Below.{block_released, block_written, blocks_capt
 ghost use Rattle.df_grid.specs.Table.{IsIdle, TableState, adopted, last_trailer_block, next_written, no_blocks, pair_in, unheld};
 
 use crate::changes::{capture_all, finish_all, replace, take_least};
-use crate::entries::Entries;
-use crate::entry::{Entry, Reason, checksum_if};
-use crate::lookups::{count_captured, count_held, entry_in, first_marked};
+use crate::entry::{Entries, Entry, Reason, count_captured, count_held, entry_in, first_marked};
 use arrayvec::ArrayVec;
 use df_base::Check;
 use df_format::Reference;
@@ -99,7 +97,7 @@ impl Table {
         ensures inside { IfSome result (λ _. (1 ≤ address) × (address ≤ self.now.size)) }
     {
         let entry = entry_in(&self.entries, address)?;
-        checksum_if(entry.live, entry.checksum)
+        entry.live.then_some(entry.checksum)
     }
 
     /// The checksum of a block that the running checkpoint captured, None where it didn't.
@@ -107,7 +105,7 @@ impl Table {
         ensures { number_in result ≡ sum_at address self.now.blocks.captured }
     {
         let entry = entry_in(&self.entries, address)?;
-        checksum_if(entry.captured, entry.checksum)
+        entry.captured.then_some(entry.checksum)
     }
 
     /// How many of the first 256 * `groups` addresses the running checkpoint captured, None where that isn't kept. It is for each full

@@ -1,7 +1,7 @@
 -- The entries above, one after the other, up to the first that is marked.
 use Rattle.std.{proofs.Common.{ℕ, true, false, List, Some, drop, ◌≡◌, ◌+◌, ◌-◌, sym, ◌∙◌, ap, arith}, specs.Prelude.{slice_get}}
 use Rattle.df_grid.{specs.{Entries.{is_marked}, Table.{picked}}, proofs.Turns.{drop_past, drop_there, front_fails, front_passes, pick_above}}
-use Rattle.df_grid.proofs.lookups.first_marked.Goals as goal
+use Rattle.df_grid.proofs.entry.first_marked.Goals as goal
 
 pub loop-place-init : goal.loop-place-init
 loop-place-init c = pick_above is_marked c.args.above 1 c.args.above c.args.entries.now (omega arith) ∙ (let n : 1 + c.args.above ≡ c.args.above + 1 = omega arith in ap (λ (k : ℕ). picked is_marked k (drop c.args.above c.args.entries.now)) n)

@@ -1,7 +1,7 @@
 -- Those after the place are of the rest.
 use Rattle.std.proofs.Common.{◌≡◌, ◌≤◌, ◌+◌, ◌-◌, drop, length}
 use Rattle.df_grid.specs.Table.{is_held_for, picked}
-use Rattle.df_grid.proofs.lookups.count_held.Given as goal
+use Rattle.df_grid.proofs.entry.count_held.Given as goal
 
 abbrev pub invariant-loop-place : goal.invariant-loop-place
 invariant-loop-place l = record {

@@ -1,7 +1,7 @@
 -- So many of the entries gone over are of captured blocks, and each full group among them has its count.
 use Rattle.std.proofs.Common.{◌≡◌}
 use Rattle.df_grid.specs.Table.{AreCounts, captured_among}
-use Rattle.df_grid.proofs.lookups.count_captured.Given as goal
+use Rattle.df_grid.proofs.entry.count_captured.Given as goal
 
 abbrev pub invariant-loop-place : goal.invariant-loop-place
 invariant-loop-place l = record {

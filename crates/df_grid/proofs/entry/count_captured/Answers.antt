@@ -1,7 +1,7 @@
 -- One entry more, and with the last one of a group a count more.
 use Rattle.std.{proofs.Common.{◌≡◌, ◌+◌, ◌-◌, ℕ, Some, ap, ◌∙◌, arith}, specs.Prelude.{slice_get}}
-use Rattle.df_grid.{specs.Table.{captured_among}, proofs.{Groups.{as_bit, next_count, one_more, same_counts}, lookups.count_captured.Goals.{then-place-eq0, else-place-eq0}}}
-use Rattle.df_grid.proofs.lookups.count_captured.Goals as goal
+use Rattle.df_grid.{specs.Table.{captured_among}, proofs.{Groups.{as_bit, next_count, one_more, same_counts}, entry.count_captured.Goals.{then-place-eq0, else-place-eq0}}}
+use Rattle.df_grid.proofs.entry.count_captured.Goals as goal
 
 pub loop-place-preserved : goal.loop-place-preserved
 loop-place-preserved c =

@@ -1,7 +1,7 @@
 -- Both places are written.
 use Rattle.std.proofs.Common.{◌-◌, length, ap, arith}
 use Rattle.df_grid.proofs.Zips.{length_entries, set_entries}
-use Rattle.df_grid.proofs.entries.Entries.set.Goals as goal
+use Rattle.df_grid.proofs.entry.Entries.set.Goals as goal
 
 pub index_mut-requires : goal.index_mut-requires
 index_mut-requires c = let s = c.self.inside in omega (arith, c.requires.0, c.requires.1, s.checks.ok.0, length_entries s.checks.items s.marks.items c.self.invariant, ap length c.self.view_is)

@@ -3,7 +3,7 @@ use Rattle.std.proofs.{Common.{◌≡◌, ℕ, ◌-◌, ◌*◌, ◌<◌, ◌≤
 use Rattle.df_layout.specs.declared.layout.Layout.{Layout}
 use Rattle.df_theory.specs.Trailer.{IsCount, greatest_trailer}
 use Rattle.df_units.specs.Meaning.{layout_of}
-use Rattle.df_grid.proofs.captured.chains_have_room.Goals as goal
+use Rattle.df_grid.proofs.grid.chains_have_room.Goals as goal
 
 few : (layout : Layout) (size blocks : ℕ) → size ≤ greatest_trailer (layout_of layout) → IsCount (layout.block_size - 256) size blocks → blocks ≤ 70
 few layout size blocks longest count = elim (cases_lt 70 blocks) [

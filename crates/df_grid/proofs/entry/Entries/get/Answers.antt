@@ -1,7 +1,7 @@
 -- A checksum and its marks are the entry.
 use Rattle.std.proofs.{Common.{◌-◌, ◌<◌, length, refl, ap, arith}, lemmas.Option.{slice_get_read}}
 use Rattle.df_grid.proofs.Zips.{length_entries, get_entries}
-use Rattle.df_grid.proofs.entries.Entries.get.Goals as goal
+use Rattle.df_grid.proofs.entry.Entries.get.Goals as goal
 
 pub index-requires : goal.index-requires
 index-requires c = let s = c.self.inside in omega (arith, c.requires.0, c.requires.1, s.checks.ok.0, length_entries s.checks.items s.marks.items c.self.invariant, ap length c.self.view_is)

@@ -1,7 +1,7 @@
 -- One more entry is counted, where it is held for the reason.
 use Rattle.std.{proofs.Common.{◌≡◌, ◌+◌, ◌-◌, ◌∙◌, ℕ, Bool, List, ◌∷◌, Some, drop, length, ap, sym, arith}, specs.Prelude.{slice_get}}
-use Rattle.df_grid.{specs.{declared.entry.Entry.{Entry}, Table.{is_held_for, picked}}, proofs.{Turns.{drop_past, drop_there, front_counts, front_fails}, lookups.count_held.Goals.{then-held, else-held}}}
-use Rattle.df_grid.proofs.lookups.count_held.Goals as goal
+use Rattle.df_grid.{specs.{declared.entry.Entry.{Entry}, Table.{is_held_for, picked}}, proofs.{Turns.{drop_past, drop_there, front_counts, front_fails}, entry.count_held.Goals.{then-held, else-held}}}
+use Rattle.df_grid.proofs.entry.count_held.Goals as goal
 
 pub loop-place-preserved : goal.loop-place-preserved
 loop-place-preserved c =
