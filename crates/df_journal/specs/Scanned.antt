@@ -47,11 +47,6 @@ pub record HoldsSector (layout : Layout) (told : Option Told) (slot : ℕ) (byte
 abbrev pub IsHeld : Layout → Option Told → ℕ → List ℕ → Type 0
 IsHeld layout told slot bytes = 0 < slot % 16 → HoldsSector layout told slot bytes
 
--- a table has the start and the number of entries that it had
-pub record KeepsScan (before after : Scan) : Type 0 where
-  pub start : after.start ≡ before.start
-  pub size : length after.slots ≡ length before.slots
-
 -- a table that was scanned says what the image shows, in the words of the theory
 abbrev pub RingsAreShown : Type 0
 RingsAreShown = (layout : Layout) (t : Told) (scan : Scan) → IsScanned layout (Some t) scan → TellsRings layout (Bytes.unit_at layout scan.start.cluster t.shown) scan

@@ -37,11 +37,6 @@ pub record IsTakenPrepare (start : Start) (op : ℕ) (seen : SlotSeen) (h : Head
 abbrev pub MayTakeSlot : Start → ℕ → SlotSeen → Type 0
 MayTakeSlot start op seen = (op ≤ start.head) ⊎ IsTake (decision_on start.boot op seen)
 
--- the prepare that is shown, if it has the op
-abbrev pub ShowsNow : ℕ → SlotSeen → Option Header → Type 0
-ShowsNow op seen None = (h : Header) → seen.prepare ≡ Ok h → h.op ≡ op → ⊥
-ShowsNow op seen (Some h) = (seen.prepare ≡ Ok h) × (h.op ≡ op)
-
 -- as an answer
 abbrev pub TakesNow : Start → ℕ → SlotSeen → Option Header → Type 0
 TakesNow start op seen None = (h : Header) → IsTakenPrepare start op seen h → ⊥

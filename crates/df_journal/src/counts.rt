@@ -1,5 +1,5 @@
 // The greatest numbers of the units in the two rings, and what they say of a state with those of the replies.
-ghost use Rattle.std.specs.Prelude.{◌≡◌, ◌↔◌, ◌<◌, ◌^◌, Ok, IsTrue, IsFalse, max};
+ghost use Rattle.std.specs.Prelude.{◌≡◌, ◌↔◌, ◌<◌, ◌^◌, IsTrue, IsFalse};
 ghost use Rattle.std.specs.Bool.{OnFalse};
 ghost use Rattle.df_stamps.specs.Evidence.{IsComplete};
 ghost use Rattle.df_journal.specs.Below.{Content, Units, Shape, slots as shape_slots, NotBehind, NotLost};
@@ -12,24 +12,17 @@ use df_group::binding_op;
 use df_layout::Class;
 use df_stamps::{Counters, behind, lost};
 
-// The counters with one more header.
-fn with_header(seen: &Counters, header: &Header) -> Counters
-    ensures { result ≡ with_unit seen.now (Ok header.now) }
-{
-    Counters {
-        ring_op: seen.ring_op.max(header.op),
-        reply_top: seen.reply_top,
-        checkpoint: seen.checkpoint.max(header.checkpoint),
-        boot: seen.boot.max(header.boot),
-    }
-}
-
 // The counters with one more unit of the rings.
 fn with_unit(seen: &Counters, ring: &Result<Header, Class>) -> Counters
     ensures { result ≡ with_unit seen.now ring.now }
 {
     match ring {
-        Ok(header) => with_header(seen, header),
+        Ok(header) => Counters {
+            ring_op: seen.ring_op.max(header.op),
+            reply_top: seen.reply_top,
+            checkpoint: seen.checkpoint.max(header.checkpoint),
+            boot: seen.boot.max(header.boot),
+        },
         Err(_) => *seen,
     }
 }
@@ -56,13 +49,6 @@ fn own_op(seen: &Result<Header, Class>, boot: u64) -> u64
     }
 }
 
-// The greater of a number and the op of a unit of this boot.
-fn raised(top: u64, seen: &Result<Header, Class>, boot: u64) -> u64
-    ensures { result ≡ max top (number_in (in_boot boot (λ h. h.op)) seen.now) }
-{
-    top.max(own_op(seen, boot))
-}
-
 // The op of a prepare that binds the head in this boot, 0 of any other.
 fn bound_op(seen: &Result<Header, Class>, boot: u64, top: u64) -> u64
     requires { top < 2 ^ 63 }
@@ -74,28 +60,17 @@ fn bound_op(seen: &Result<Header, Class>, boot: u64, top: u64) -> u64
     }
 }
 
-// The greater of a number and the op of a prepare that binds the head.
-fn raised_bound(greatest: u64, seen: &Result<Header, Class>, boot: u64, top: u64) -> u64
-    requires { top < 2 ^ 63 }
-    ensures { result ≡ max greatest (number_in (binding_op boot top) seen.now) }
-{
-    greatest.max(bound_op(seen, boot, top))
-}
-
 /// The greatest op that binds the head in this boot, 0 where none does, where the head that is found is `top`: of a header of this
 /// boot, and of a prepare of it that wasn't cut off with its group above that head.
 pub fn bound_top(found: &SlotTable, boot: u64, top: u64) -> u64
     requires { top < 2 ^ 63 }
     ensures { (image : Units) → ShowsTable image found.now.slots → CountsBinding boot top image result }
 {
-    let mut greatest = 0;
+    let mut greatest: u64 = 0;
     for slot in &found.slots {
-        greatest = raised_bound(
-            raised(greatest, &slot.header, boot),
-            &slot.prepare,
-            boot,
-            top,
-        );
+        greatest = greatest
+            .max(own_op(&slot.header, boot))
+            .max(bound_op(&slot.prepare, boot, top));
     }
     greatest
 }

@@ -1,17 +1,16 @@
 // The scan: each sector of the header ring and each slot of the ring of prepares is read once, into one room each, which are lent.
-ghost use Rattle.std.specs.Prelude.{◌≡◌, ◌<◌, ◌≤◌, ◌%◌, length, IfOk, OnOk};
+ghost use Rattle.std.specs.Prelude.{◌≡◌, ◌<◌, ◌≤◌, length, IfOk, OnOk};
 ghost use Rattle.df_base.specs.declared.TheConstants.{GREATEST};
-ghost use Rattle.df_journal.specs.Below.{HasCause, WalHeaders, place_in, class_of, header_or_class, unit_in, header_bytes};
-ghost use Rattle.df_journal.specs.Shows.{IsHeaderThere, IsSlot};
-ghost use Rattle.df_journal.specs.Scanned.{ClassIsShown, HoldsSector, IsHeld, IsScanned, IsSlotSeen, KeepsScan, RingsAreShown};
+ghost use Rattle.df_journal.specs.Below.{HasCause, place_in};
+ghost use Rattle.df_journal.specs.Shows.{IsSlot};
+ghost use Rattle.df_journal.specs.Scanned.{ClassIsShown, HoldsSector, IsHeld, IsScanned, IsSlotSeen, RingsAreShown};
 
 use crate::{SlotTable, Start};
 use df_base::Failed;
 use df_buffers::{HeaderSector, Identity, Prepare, Raw, SlotSeen, Wanted};
 use df_disk::Disk;
-use df_format::Header;
 use df_headers::read_sector;
-use df_layout::{Class, Layout, Place, SECTOR_HEADERS, Zone};
+use df_layout::{Layout, Place, SECTOR_HEADERS, Zone};
 use df_places::Shelf;
 
 fn place_in(zone: Zone, slot: u32) -> Place
@@ -21,25 +20,6 @@ fn place_in(zone: Zone, slot: u32) -> Place
         zone,
         index: u64::from(slot),
     }
-}
-
-// What a header sector shows at a slot.
-fn header_seen(
-    layout: &Layout,
-    cluster: u128,
-    slot: u32,
-    sector: &Raw<HeaderSector>,
-) -> Result<Header, Class>
-    ensures seen { result ≡ header_or_class (unit_in layout.now cluster (place_in WalHeaders slot) (header_bytes (slot % 16) sector.now.bytes)) (class_of layout.now cluster (place_in WalHeaders slot) (header_bytes (slot % 16) sector.now.bytes)) }
-    ensures valid { IsHeaderThere layout.now cluster slot result }
-{
-    let identity = Identity {
-        layout: *layout,
-        cluster,
-        place: place_in(Zone::WalHeaders, slot),
-        wanted: Wanted::Any,
-    };
-    sector.header_at(u64::from(slot % SECTOR_HEADERS), &identity)
 }
 
 // What both rings show at a slot, whose header sector was read.
@@ -60,7 +40,13 @@ fn scan_slot<D: Disk>(
     ensures same { D.told disk.new ≡ D.told disk.old }
     ensures cause { HasCause (D.faults disk.old) (D.faults disk.new) result }
 {
-    let header = header_seen(layout, cluster, slot, sector);
+    let identity = Identity {
+        layout: *layout,
+        cluster,
+        place: place_in(Zone::WalHeaders, slot),
+        wanted: Wanted::Any,
+    };
+    let header = sector.header_at(u64::from(slot % SECTOR_HEADERS), &identity);
     let prepare = shelf.see(disk, cluster, place_in(Zone::WalPrepares, slot))?;
     Ok(SlotSeen { header, prepare })
 }
@@ -86,34 +72,6 @@ fn hold_sector<D: Disk>(
     }
 }
 
-// Scans all slots, after the checkpoint that the table names.
-fn scan_all<D: Disk>(
-    disk: &mut D,
-    layout: &Layout,
-    found: &mut SlotTable,
-    sector: &mut Raw<HeaderSector>,
-    shelf: &mut Shelf<Prepare>,
-) -> Result<(), Failed>
-    requires table { length found.old.slots ≡ layout.now.slots }
-    requires shelf { shelf.old.layout ≡ layout.now }
-    ensures scanned { OnOk result (IsScanned layout.now (D.told disk.old) found.new) }
-    ensures table { KeepsScan found.old found.new }
-    ensures shelf { shelf.new.layout ≡ layout.now }
-    ensures sector { sector.new.layout ≡ sector.old.layout }
-    ensures same { D.told disk.new ≡ D.told disk.old }
-    ensures cause { HasCause (D.faults disk.old) (D.faults disk.new) result }
-{
-    let cluster = found.start.cluster;
-    let mut slot = 0;
-    while slot < layout.slots {
-        hold_sector(disk, layout, slot, sector)?;
-        let seen = scan_slot(disk, layout, cluster, slot, sector, shelf)?;
-        found.set(slot, seen);
-        slot += 1;
-    }
-    Ok(())
-}
-
 /// Fills the table with what the two rings of a file show after a checkpoint: one device call for each header sector and
 /// for each slot, whose prepare is read onto the shelf. The table and the rooms are ones of the layout. After an error the
 /// table holds any entries.
@@ -137,7 +95,14 @@ pub fn scan_shelf<D: Disk>(
     ensures cause { HasCause (D.faults disk.old) (D.faults disk.new) result }
 {
     found.begin(start);
-    scan_all(disk, layout, found, sector, shelf)
+    let mut slot = 0;
+    while slot < layout.slots {
+        hold_sector(disk, layout, slot, sector)?;
+        let seen = scan_slot(disk, layout, start.cluster, slot, sector, shelf)?;
+        found.set(slot, seen);
+        slot += 1;
+    }
+    Ok(())
 }
 
 /// The same with a room of prepares, which comes back with either result.

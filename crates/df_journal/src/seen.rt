@@ -1,17 +1,20 @@
 // What is decided of a slot where an op is wanted there, in a boot: a unit of an earlier one proves nothing. And which prepare is
-// taken from it, up to the superblock's head and above it.
+// taken from it, up to the superblock's head and above it; and what is planned once the head is known.
 ghost use Rattle.std.specs.Prelude.{◌≡◌, ◌↔◌, IsTrue};
-ghost use Rattle.df_journal.specs.Below.{IsTake, HasCheck, decision_of, seen_of};
-ghost use Rattle.df_journal.specs.Seen.{decision_on, seen_in, HasChecks, IsOfCheck, MayTakeSlot, ShowsNow, TakesNow};
+ghost use Rattle.df_journal.specs.Below.{IsCheck, IsTake, HasCheck, decision_of, seen_of};
+ghost use Rattle.df_theory.specs.Cases.{cut};
+ghost use Rattle.df_journal.specs.Planned.{has_header_of, named_on, planned_on};
+ghost use Rattle.df_journal.specs.Seen.{decision_on, seen_in, HasChecks, IsOfCheck, MayTakeSlot, TakesNow};
 
 use crate::Start;
+use df_base::Check;
 use df_buffers::SlotSeen;
 use df_cases::{Decision, Seen, case};
 use df_format::Header;
 use df_layout::Class;
 
 // What a ring shows, where the op is wanted in this boot.
-pub(crate) fn seen_in(ring: &Result<Header, Class>, op: u64, boot: u64) -> Seen
+fn seen_in(ring: &Result<Header, Class>, op: u64, boot: u64) -> Seen
     ensures shown { seen_of result ≡ seen_in boot op ring.now }
     ensures check { IsOfCheck ring.now → HasCheck result }
 {
@@ -49,16 +52,6 @@ fn is_take(decision: &Decision) -> bool
     matches!(decision, Decision::Take { .. })
 }
 
-// The prepare that is shown, if it has the op.
-fn shown(seen: &SlotSeen, op: u64) -> Option<Header>
-    ensures { ShowsNow op seen.now result }
-{
-    match &seen.prepare {
-        Ok(header) => { if header.op == op { Some(*header) } else { None } }
-        Err(_) => None,
-    }
-}
-
 // Whether the op is one of those whose prepares the superblock names, or the table takes it.
 fn may_take(seen: &SlotSeen, start: &Start, op: u64) -> bool
     requires { HasChecks seen.now }
@@ -73,9 +66,60 @@ pub(crate) fn taken(seen: &SlotSeen, start: &Start, op: u64) -> Option<Header>
     requires { HasChecks seen.now }
     ensures { TakesNow start.now op seen.now result }
 {
-    if may_take(seen, start, op) {
-        shown(seen, op)
+    if !may_take(seen, start, op) {
+        return None;
+    }
+    match &seen.prepare {
+        Ok(header) => { if header.op == op { Some(*header) } else { None } }
+        Err(_) => None,
+    }
+}
+
+// Whether the header ring shows the header with this checksum.
+fn has_header(ring: &Result<Header, Class>, checksum: &Check) -> bool
+    ensures { IsCheck checksum.now → IsOfCheck ring.now → result ≡ has_header_of checksum.now ring.now }
+{
+    match ring {
+        Ok(header) => header.checksum == *checksum,
+        Err(_) => false,
+    }
+}
+
+// The decision on the slot of a prepare that the superblock names.
+fn named_on(seen: &SlotSeen) -> Decision
+    ensures { HasChecks seen.now → decision_of result ≡ named_on seen.now }
+{
+    match &seen.prepare {
+        Ok(header) => Decision::Take {
+            mend: !has_header(&seen.header, &header.checksum),
+        },
+        Err(_) => Decision::Lost,
+    }
+}
+
+// The decision on a slot above the head: a prepare that would be taken was cut off.
+fn cut(header: &Seen, decision: &Decision) -> Decision
+    ensures { decision_of result ≡ cut (seen_of header.now) (decision_of decision.now) }
+{
+    match decision {
+        Decision::Take { mend: true } => Decision::Empty {
+            mend: matches!(header, Seen::Nothing),
+        },
+        _ => *decision,
+    }
+}
+
+/// The decision on a slot where the op is wanted, with this head found.
+pub(crate) fn planned_of(seen: &SlotSeen, start: &Start, op: u64, head: u64) -> Decision
+    ensures { HasChecks seen.now → decision_of result ≡ planned_on start.now head op seen.now }
+{
+    if op <= start.head {
+        return named_on(seen);
+    }
+    let decision = decision_on(seen, op, start.boot);
+    if op <= head {
+        decision
     } else {
-        None
+        cut(&seen_in(&seen.header, op, start.boot), &decision)
     }
 }

@@ -1,17 +1,18 @@
 // The table of slots: what the two rings show, slot by slot, and what is decided of each.
 ghost use Rattle.std.specs.Prelude.{◌≡◌, ◌<◌, ◌≤◌, ℕ, length, slice_get};
 ghost use Rattle.df_base.specs.declared.TheConstants.{GREATEST};
-ghost use Rattle.df_journal.specs.Below.{Layout as AnyLayout, Units, decision as decided, decision_of};
+ghost use Rattle.df_journal.specs.Below.{Layout as AnyLayout, Units, decision as decided, decision_of, pin_of};
 ghost use Rattle.df_journal.specs.Scan.{entry, with_slot};
 ghost use Rattle.df_journal.specs.Seen.{IsOpOf, class_of, header_of_seen};
 ghost use Rattle.df_journal.specs.Planned.{planned};
 ghost use Rattle.df_journal.specs.Shows.{TellsRings};
+ghost use Rattle.df_journal.specs.Starting.{start_of};
 
-use crate::plans::planned_of;
-use crate::seen::decision_on;
+use crate::seen::{decision_on, planned_of};
+use df_base::VERSION;
 use df_buffers::SlotSeen;
 use df_cases::Decision;
-use df_format::Header;
+use df_format::{Header, SuperFields};
 use df_layout::Class;
 use std::marker::Model;
 
@@ -23,6 +24,31 @@ pub struct Start {
     pub op: u64,
     pub head: u64,
     pub boot: u64,
+}
+
+/// The greatest op whose prepare a superblock names: in version 2 its head, in any other its checkpoint's op.
+pub fn pin_of(fields: &SuperFields) -> u64
+    ensures { result ≡ pin_of fields.now }
+{
+    if fields.version == VERSION {
+        fields.head
+    } else {
+        fields.op
+    }
+}
+
+impl Start {
+    /// The start of the scan of a file that has this superblock.
+    pub fn of(fields: &SuperFields) -> Start
+        ensures { result ≡ start_of fields.now }
+    {
+        Start {
+            cluster: fields.cluster,
+            op: fields.op,
+            head: pin_of(fields),
+            boot: fields.boot,
+        }
+    }
 }
 
 /// What a scan saw of each slot, after the checkpoint that it started from. Before the first scan it holds any entries.
@@ -47,32 +73,6 @@ impl Model for SlotTable {
     ghost view = { λ t. record { start = t.start; slots = t.slots.items } };
 
     ghost invariant = { λ t. IsScan (record { start = t.start; slots = t.slots.items }) };
-}
-
-fn header_in(ring: &Result<Header, Class>) -> Option<Header>
-    ensures { result ≡ header_of_seen ring.now }
-{
-    ring.ok()
-}
-
-fn class_in(ring: &Result<Header, Class>) -> Class
-    ensures { result ≡ class_of ring.now }
-{
-    match ring {
-        Ok(_) => Class::Stale,
-        Err(class) => *class,
-    }
-}
-
-// The op above the checkpoint's that belongs in the slot.
-fn op_of(slots: u64, op: u64, slot: u64) -> u64
-    requires few { slots ≤ 1024 }
-    requires op { op ≤ GREATEST }
-    requires slot { slot < slots }
-    ensures { IsOpOf slots op slot result }
-{
-    let first = op + 1;
-    first + (slot + slots - first % slots) % slots
 }
 
 impl SlotTable {
@@ -122,11 +122,9 @@ impl SlotTable {
         requires { slot < length self.now.slots }
         ensures { IsOpOf (length self.now.slots) self.now.start.op slot result }
     {
-        op_of(
-            self.slots.as_slice().len() as u64,
-            self.start.op,
-            u64::from(slot),
-        )
+        let slots = self.slots.as_slice().len() as u64;
+        let first = self.start.op + 1;
+        first + (u64::from(slot) + slots - first % slots) % slots
     }
 
     /// What is decided of a slot, by the table of recovery cases: of the op above the checkpoint's that belongs there.
@@ -154,7 +152,7 @@ impl SlotTable {
         requires { slot < length self.now.slots }
         ensures { result ≡ header_of_seen (entry self.now slot).prepare }
     {
-        header_in(&self.seen(slot).prepare)
+        self.seen(slot).prepare.ok()
     }
 
     /// The valid header that the header ring shows in a slot; it may be a reserved one.
@@ -162,7 +160,7 @@ impl SlotTable {
         requires { slot < length self.now.slots }
         ensures { result ≡ header_of_seen (entry self.now slot).header }
     {
-        header_in(&self.seen(slot).header)
+        self.seen(slot).header.ok()
     }
 
     /// The class of what the ring of prepares shows in a slot, Stale where a valid unit is there.
@@ -170,7 +168,7 @@ impl SlotTable {
         requires { slot < length self.now.slots }
         ensures { result ≡ class_of (entry self.now slot).prepare }
     {
-        class_in(&self.seen(slot).prepare)
+        self.seen(slot).prepare.err().unwrap_or(Class::Stale)
     }
 
     /// The class of what the header ring shows in a slot, Stale where a valid header is there.
@@ -178,6 +176,6 @@ impl SlotTable {
         requires { slot < length self.now.slots }
         ensures { result ≡ class_of (entry self.now slot).header }
     {
-        class_in(&self.seen(slot).header)
+        self.seen(slot).header.err().unwrap_or(Class::Stale)
     }
 }

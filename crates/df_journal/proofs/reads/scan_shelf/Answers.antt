@@ -1,9 +1,9 @@
 -- Each turn puts one slot into the table.
-use Rattle.std.proofs.{Common.{◌≡◌, ℕ, Option, length, sym, ◌∙◌, ap, subst, arith}, lemmas.List.{length-set}}
+use Rattle.std.proofs.{Common.{ℕ, Option, length, sym, ◌∙◌, ap, subst, arith}, lemmas.List.{length-set}}
 use Rattle.df_disk.specs.Told.{Told}
 use Rattle.df_buffers.specs.declared.slots.SlotSeen.{SlotSeen}
-use Rattle.df_journal.{specs.{Scan.{Scan}, Shows.{IsSlot}, Scanned.{AreSeen, HoldsSector, IsSlotSeen}, declared.table.Start.{Start}}, proofs.Scans.{held_still, seen_all, seen_more}}
-use Rattle.df_journal.proofs.reads.scan_all.Goals as goal
+use Rattle.df_journal.{specs.{Scan.{Scan}, Scanned.{AreSeen, HoldsSector, IsSlotSeen}, declared.table.Start.{Start}}, proofs.Scans.{held_still, seen_all, seen_more}}
+use Rattle.df_journal.proofs.reads.scan_shelf.Goals as goal
 
 pub loop-slot-preserved : goal.loop-slot-preserved
 loop-slot-preserved g c =
@@ -12,7 +12,6 @@ loop-slot-preserved g c =
     let layout = c.args.layout.now in
     let put = c.set.ensures in
     let before = c.hold_sector.ensures.same ∙ c.loop-slot.invariant.same in
-    let own : c.found.inside.start.cluster ≡ c.args.found.now.start.cluster = ap (λ (scan : Scan). scan.start.cluster) c.found.view_is in
     let holds : HoldsSector layout told c.loop-slot.slot c.hold_sector.new.sector.bytes = subst (λ (t : Option Told). HoldsSector layout t c.loop-slot.slot c.hold_sector.new.sector.bytes) c.loop-slot.invariant.same c.in_ok-hold_sector.ensures.holds in
     record {
       within = omega (arith, c.loop-slot-test.true);
@@ -23,9 +22,9 @@ loop-slot-preserved g c =
       same = c.scan_slot.ensures.same ∙ before;
       faults = c.in_ok-seen.ensures.cause.same ∙ c.in_ok-hold_sector.ensures.cause.same ∙ c.loop-slot.invariant.faults;
       held = λ some. held_still layout c.loop-slot.slot told c.hold_sector.new.sector.bytes some holds;
-      seen = seen_more layout c.args.found.now.start.cluster told c.loop-slot.slot c.loop-slot.found.slots c.set.new.self.slots seen
+      seen = seen_more layout c.args.start.now.cluster told c.loop-slot.slot c.loop-slot.found.slots c.set.new.self.slots seen
           (omega (arith, c.loop-slot.invariant.size, c.loop-slot-test.true)) (ap (λ (scan : Scan). scan.slots) put)
-          (subst (λ (t : Option Told). IsSlotSeen layout c.args.found.now.start.cluster t c.loop-slot.slot seen) before (subst (λ (n : ℕ). IsSlotSeen layout n (g.D.Disk.told c.hold_sector.new.disk) c.loop-slot.slot seen) own c.in_ok-seen.ensures.seen)) (subst (λ (n : ℕ). IsSlot layout n c.loop-slot.slot seen) own c.in_ok-seen.ensures.valid) c.loop-slot.invariant.seen;
+          (subst (λ (t : Option Told). IsSlotSeen layout c.args.start.now.cluster t c.loop-slot.slot seen) before c.in_ok-seen.ensures.seen) c.in_ok-seen.ensures.valid c.loop-slot.invariant.seen;
     }
 
 pub returns-clause-scanned : goal.returns-clause-scanned

@@ -3,7 +3,7 @@ use Rattle.std.{proofs.{Common.{◌≡◌, ◌∙◌, ap, sym, subst}, lemmas.Sl
 use Rattle.df_format.specs.Spelling.{IsCheck}
 use Rattle.df_units.specs.Meaning.{number_of}
 use Rattle.df_journal.{specs.{Planned.{has_header_of}, Seen.{IsOfCheck}}, proofs.Decisions.{same_sums}}
-use Rattle.df_journal.proofs.plans.has_header.Goals as goal
+use Rattle.df_journal.proofs.seen.has_header.Goals as goal
 
 pub returns-in-Ok : goal.returns-in-Ok
 returns-in-Ok c = λ checksum ring.
