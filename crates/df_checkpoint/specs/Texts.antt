@@ -66,8 +66,3 @@ TextAnswer g told refs op reader (Err (BadField field value)) =
     OfTold g told (λ shown. (chain : List (ℕ × Block)) → Names shown refs chain → fault (layout_of g.layout) op (text_of chain) ≡ Some (record { field = field; value = value }))
 TextAnswer g told refs op reader (Err (Damaged address class)) = OfTold g told (λ shown. (chain : List (ℕ × Block)) → Names shown refs chain → ⊥)
 TextAnswer g told refs op reader (Err DiskFault) = Unit {0}
-
--- all blocks were read, or the first refusal came before that
-abbrev pub FedAnswer : GridState → Option Told → List Link → ℕ → Reader → Result (Unit {0}) TrailerFault → Type 0
-FedAnswer g told refs op reader (Ok x) = HasReadTo g told refs op (length refs) reader
-FedAnswer g told refs op reader (Err e) = TextAnswer g told refs op reader (Err e)

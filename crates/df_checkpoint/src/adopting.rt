@@ -1,13 +1,12 @@
 // What the grid takes over of a checkpoint that was read: the blocks that it references, and those of its trailer. Before anything is taken
 // over, each address of the chain is tested: none of them may be referenced.
 ghost use Rattle.std.specs.Prelude.{◌≡◌, ◌+◌, ◌≤◌, ℕ, [], OnErr, false, length, true};
-ghost use Rattle.df_checkpoint.specs.Below.{is_held_in, HasBit, kept_at, referenced_below, with_blocks, no_blocks};
+ghost use Rattle.df_checkpoint.specs.Below.{is_held_in, HasBit, kept_at, with_blocks, no_blocks};
 ghost use Rattle.df_checkpoint.specs.Chain.{AreDistinctLinks, is_among};
 ghost use Rattle.df_checkpoint.specs.Adopting.{AdoptAnswer, FirstAnswer, blocks_to, chained};
 
 use crate::TrailerFault;
-use crate::forwards::link_after;
-use crate::links::{Link, broken};
+use crate::links::{Link, broken, link_after};
 use df_format::Reference;
 use df_grid::Grid;
 use df_trailer::Reader;
@@ -29,26 +28,6 @@ fn first_referenced(reader: &Reader, blocks: &[Link]) -> Option<u64>
     least
 }
 
-// Adopts the block at an address, where the text refers to it; how many lower addresses it refers to is counted. The answer is the count
-// with this address.
-fn adopt_at(grid: &mut Grid, reader: &Reader, address: u64, before: u64) -> u64
-    requires inside { HasBit reader.now address }
-    requires address { address ≤ grid.old.layout.blocks }
-    requires before { before ≡ referenced_below reader.now address }
-    requires blocks { grid.old.blocks ≡ blocks_to (kept_at reader.now) address }
-    ensures live { grid.new ≡ with_blocks grid.old (blocks_to (kept_at reader.now) (address + 1)) }
-    ensures count { result ≡ referenced_below reader.now (address + 1) }
-    ensures few { result ≤ address }
-{
-    match reader.reference(address, before) {
-        Some(checksum) => {
-            grid.adopt(Reference { address, checksum }, true);
-            before + 1
-        }
-        None => before,
-    }
-}
-
 // Adopts all blocks that the text refers to, as live ones.
 fn adopt_live(grid: &mut Grid, reader: &Reader)
     requires bits { (address : ℕ) → 1 ≤ address → address ≤ grid.old.layout.blocks → HasBit reader.now address }
@@ -56,9 +35,14 @@ fn adopt_live(grid: &mut Grid, reader: &Reader)
     ensures { grid.new ≡ with_blocks grid.old (blocks_to (kept_at reader.now) (grid.old.layout.blocks + 1)) }
 {
     let last = u64::from(grid.layout().blocks);
+    // How many lower addresses the text refers to.
     let mut before = 0;
     for address in 1..last + 1 {
-        before = adopt_at(grid, reader, address, before);
+        let Some(checksum) = reader.reference(address, before) else {
+            continue;
+        };
+        grid.adopt(Reference { address, checksum }, true);
+        before += 1;
     }
 }
 

@@ -2,19 +2,14 @@
 #![tactic(auto)]
 
 mod adopting;
-mod backwards;
 mod capture;
 mod fault;
-mod forwards;
 mod links;
 mod meaning;
 mod reading;
-mod waiting;
 
-pub use backwards::is_among;
 pub use capture::{Capture, root_of, write_piece};
 pub use fault::TrailerFault;
-pub use links::{Link, link_before};
+pub use links::{Link, is_among, link_before};
 pub use meaning::{damage_is_missed, one_test_fails, refused_is_shown, refused_is_unreadable};
-pub use reading::{block_count, read_chain};
-pub use waiting::pending;
+pub use reading::{block_count, pending, read_chain};

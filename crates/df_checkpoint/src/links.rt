@@ -1,16 +1,18 @@
-// One link of the chain: the block that is asked for, and the reference that it has to the one before.
-ghost use Rattle.std.specs.Prelude.{◌≡◌, ◌-◌, ◌<◌, ◌≤◌, IfNone, IfOk, IfSome};
+// The links of the chain, each the block that is asked for, with the reference that it has to the one before; and the walk along them,
+// from the last block, which the superblock refers to, back to index 0.
+ghost use Rattle.std.specs.Prelude.{◌≡◌, ◌-◌, ◌<◌, ◌≤◌, length, get_or, IfNone, IfOk, IfSome};
 ghost use Rattle.df_base.specs.declared.TheConstants.{HEADER};
-ghost use Rattle.df_checkpoint.specs.Below.{IsBlamed, TrailerChain, Shape, piece_size, layout_of, AreFieldsOf, HasAddress};
-ghost use Rattle.df_checkpoint.specs.Chain.{IsLinkOf, IsNoLink, LinkAnswer, OfTold, before_of, content_in, is_link, is_trailer_fault};
+ghost use Rattle.df_checkpoint.specs.Below.{array_vec_len, IsBlamed, TrailerChain, Shape, IsCount, layout_of, AreFieldsOf, HasAddress};
+ghost use Rattle.df_checkpoint.specs.Chain.{AreDistinctLinks, IsLinkOf, IsNoLink, LinkAnswer, OfTold, WalkAnswer, before_of, content_in, is_among, is_link, is_trailer_fault};
 
 use crate::TrailerFault;
+use arrayvec::ArrayVec;
 use df_base::{Check, HEADER};
 use df_buffers::{Sound, Trailer};
 use df_disk::Disk;
 use df_format::{Header, Reference, SuperFields};
 use df_grid::Grid;
-use df_layout::{Field, Layout};
+use df_layout::{Field, LINKS, Layout};
 
 /// Where a block of the chain stands, and the checksum that its header has to have; address 0 ends the chain.
 #[derive(Clone, Copy, Debug, PartialEq, Eq, Default)]
@@ -32,22 +34,14 @@ impl Link {
     }
 }
 
-// Bytes of the piece with an index: a block's body, or what is left for the last one.
-fn piece_size(layout: &Layout, content: &SuperFields, index: u64) -> u64
-    requires { index < 70 }
-    ensures { result ≡ piece_size (layout.now.block_size - HEADER) content.now.trailer_size index }
-{
-    let room = u64::from(layout.block_size - HEADER as u32);
-    room.min(content.trailer_size.saturating_sub(room * index))
-}
-
 // Whether a trailer block with a body of this size is the link with this index: the checkpoint's sequence, that index, the size of that
 // piece, and but for the first one a block of the grid before it.
 fn is_link(layout: &Layout, content: &SuperFields, index: u64, header: &Header, size: u64) -> bool
     requires { index < 70 }
     ensures { result ≡ is_link layout.now content.now index header.now size }
 {
-    let wanted = piece_size(layout, content, index);
+    let room = u64::from(layout.block_size - HEADER as u32);
+    let wanted = room.min(content.trailer_size.saturating_sub(room * index));
     let before = header.request;
     header.checkpoint == content.sequence
         && header.mark == index
@@ -90,8 +84,8 @@ pub fn link_before(
     None
 }
 
-/// The reference before the link with this index, which is asked for at a reference; 0 before the first one.
-pub(crate) fn read_link<D: Disk>(
+// The reference before the link with this index, which is asked for at a reference; 0 before the first one.
+fn read_link<D: Disk>(
     disk: &mut D,
     content: &SuperFields,
     grid: &mut Grid,
@@ -119,4 +113,58 @@ pub(crate) fn read_link<D: Disk>(
         }),
         Err(_) => Err(TrailerFault::DiskFault),
     }
+}
+
+/// The link that is so many after the first block of the chain: the links are from the last block to the first.
+pub(crate) fn link_after(blocks: &[Link], done: usize) -> Link
+    requires { done < length blocks.now }
+    ensures { result ≡ get_or blocks.now (length blocks.now - 1 - done) result }
+{
+    blocks[blocks.len() - 1 - done]
+}
+
+/// Whether an address is one of those of the references.
+pub fn is_among(blocks: &[Link], address: u64) -> bool
+    ensures { result ≡ is_among address blocks.now }
+{
+    blocks.iter().any(|link| link.address == address)
+}
+
+/// The references to the blocks of the chain, from the last one to the first.
+pub(crate) fn walk<D: Disk>(
+    disk: &mut D,
+    content: &SuperFields,
+    grid: &mut Grid,
+    count: u64,
+) -> Result<ArrayVec<Link, LINKS>, TrailerFault>
+    requires inside { HasAddress grid.old content.now.trailer_address }
+    requires few { (0 < count) × (count ≤ 70) }
+    requires count { IsCount (grid.old.layout.block_size - HEADER) content.now.trailer_size count }
+    requires file { AreFieldsOf grid.old.layout grid.old.cluster content.now }
+    ensures walked { (sh : Shape) → sh.layout ≡ layout_of grid.old.layout → OfTold grid.old (D.told disk.old) (λ shown. WalkAnswer sh shown (content_in content.now) count result) }
+    ensures apart { IfOk result (λ blocks. AreDistinctLinks grid.old blocks.items) }
+    ensures size { IfOk result (λ blocks. array_vec_len blocks ≡ count) }
+    ensures grid { grid.new ≡ grid.old }
+    ensures same { D.told disk.new ≡ D.told disk.old }
+    ensures cause { IsBlamed is_trailer_fault (D.faults disk.old) (D.faults disk.new) result }
+{
+    let mut blocks = ArrayVec::new();
+    let checksum = content.trailer_checksum;
+    let mut at = Link {
+        address: content.trailer_address,
+        checksum,
+    };
+    for done in 0..count {
+        let before = match read_link(disk, content, grid, at, count - 1 - done) {
+            Ok(before) => before,
+            Err(fault) => return Err(fault),
+        };
+        // No chain comes to an address twice, since the block there has one index.
+        if is_among(&blocks, at.address) {
+            return Err(broken(at.address));
+        }
+        blocks.push(at);
+        at = before;
+    }
+    Ok(blocks)
 }

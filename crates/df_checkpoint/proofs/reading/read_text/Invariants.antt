@@ -2,7 +2,7 @@
 use Rattle.std.proofs.Common.{◌≡◌, ℕ, ◌*◌, ◌≤◌, ◌^◌, []}
 use Rattle.df_trailer.specs.Reading.{HasRead, bytes_read}
 use Rattle.df_checkpoint.specs.Texts.{HasReadTo}
-use Rattle.df_checkpoint.proofs.forwards.feed_all.Given as goal
+use Rattle.df_checkpoint.proofs.reading.read_text.Given as goal
 
 abbrev pub invariant-loop-done : goal.invariant-loop-done
 invariant-loop-done g l = record {

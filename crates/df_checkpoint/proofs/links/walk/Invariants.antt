@@ -5,7 +5,7 @@ use Rattle.df_theory.specs.Shape.{Shape}
 use Rattle.df_units.specs.Meaning.{layout_of}
 use Rattle.df_grid.specs.Grid.{HasAddress}
 use Rattle.df_checkpoint.specs.Chain.{AreDistinctLinks, HasWalked, OfTold, content_in}
-use Rattle.df_checkpoint.proofs.backwards.walk.Given as goal
+use Rattle.df_checkpoint.proofs.links.walk.Given as goal
 
 abbrev pub invariant-loop-done : goal.invariant-loop-done
 invariant-loop-done g l = record {

@@ -1,8 +1,8 @@
--- Each block adds its body to the text.
-use Rattle.std.{proofs.Common.{◌≡◌, ℕ, ◌-◌, ◌∙◌, length, refl, sym, arith, subst}, specs.Prelude.{Ok, Err}}
+-- Each block adds its body to the text, and what the reader answers at the end is what fails in it.
+use Rattle.std.{proofs.Common.{◌-◌, ◌∙◌, length, refl, sym, arith, subst}, specs.Prelude.{Ok, Err}}
 use Rattle.df_grid.specs.Grid.{GridState, HasAddress}
-use Rattle.df_checkpoint.{specs.Texts.{HasReadTo}, proofs.Fed.{apart_inside, feed_same, read_first, read_more, read_refused}}
-use Rattle.df_checkpoint.proofs.forwards.feed_all.Goals as goal
+use Rattle.df_checkpoint.proofs.Fed.{apart_inside, feed_same, read_first, read_more, read_refused, text_ends}
+use Rattle.df_checkpoint.proofs.reading.read_text.Goals as goal
 
 pub loop-done-init : goal.loop-done-init
 loop-done-init g c = record {
@@ -19,8 +19,8 @@ feed_block-requires-clause-inside g c =
     subst (λ (h : GridState). HasAddress h c.link_after.result.address) (sym c.loop-done.invariant.grid)
     (apart_inside c.args.grid.now c.args.blocks.now (length c.args.blocks.now - 1 - c.loop-done.done) c.link_after.result c.requires.apart (omega (arith, c.loop-done-test)) c.link_after.ensures)
 
-pub returns-in-Err-clause-fed : goal.returns-in-Err-clause-fed
-returns-in-Err-clause-fed g c = λ op has.
+pub returns-in-Err-clause-text : goal.returns-in-Err-clause-text
+returns-in-Err-clause-text g c = λ op has.
     let i = c.loop-done.invariant in
     read_refused c.args.grid.now (g.D.Disk.told c.args.disk.now) c.args.blocks.now op c.loop-done.done (length c.args.blocks.now - 1 - c.loop-done.done) c.link_after.result c.loop-done.reader c.feed_block.new.reader c.feed_block.new.reader c.in-Err.fault
     (omega (arith, c.loop-done-test)) c.link_after.ensures
@@ -39,7 +39,7 @@ loop-done-preserved g c =
           (feed_same c.loop-done.grid c.args.grid.now (g.D.Disk.told c.loop-done.disk) (g.D.Disk.told c.args.disk.now) c.link_after.result c.loop-done.reader c.feed_block.new.reader (Ok c.in-Ok.field-0) i.grid i.told c.in-Ok.ensures.fed) (i.read op has);
     }
 
-pub returns-clause-fed : goal.returns-clause-fed
-returns-clause-fed g c = λ op has.
-    let all : c.loop-done.done ≡ length c.args.blocks.now = omega (arith, c.loop-done-test, c.loop-done.auto) in
-    subst (λ (n : ℕ). HasReadTo c.args.grid.now (g.D.Disk.told c.args.disk.now) c.args.blocks.now op n c.loop-done.reader) all (c.loop-done.invariant.read op has)
+pub returns-clause-text : goal.returns-clause-text
+returns-clause-text g c = λ op has.
+    text_ends c.args.grid.now (g.D.Disk.told c.args.disk.now) c.args.blocks.now op c.loop-done.done c.loop-done.reader c.end.result c.as_bad.result (omega (arith, c.loop-done-test, c.loop-done.auto))
+    (c.loop-done.invariant.read op has) c.end.ensures.fault c.end.ensures.whole c.as_bad.ensures
