@@ -1,5 +1,5 @@
 // The rooms of the grid: its table, its free set, and those that blocks are read into.
-ghost use Rattle.std.specs.Prelude.{◌≡◌, ◌<◌, All, false, length, replicate, vec_len, IfOk};
+ghost use Rattle.std.specs.Prelude.{◌≡◌, ◌<◌, length, IfOk};
 ghost use Rattle.df_rooms.specs.Below.{no_blocks};
 
 use df_base::{Check, OutOfMemory};
@@ -25,61 +25,13 @@ pub struct GridRooms {
     pub ghost trailer_fits: { trailer.layout ≡ layout },
 }
 
-fn words(alloc: Global, count: usize) -> Result<Vec<u64>, OutOfMemory>
-    ensures count { IfOk result (λ words. vec_len words ≡ count) }
-    ensures zero { IfOk result (λ words. All (λ word. word ≡ 0) words.items) }
-{
-    Ok(vec![in alloc; 0u64; count]?)
-}
-
-fn checks(alloc: Global, layout: &Layout) -> Result<Vec<Check>, OutOfMemory>
-    ensures { IfOk result (λ checks. length checks.items ≡ layout.now.blocks) }
-{
-    Ok(vec![in alloc; [0u8; 16]; layout.blocks as usize]?)
-}
-
-fn marks(alloc: Global, layout: &Layout) -> Result<Vec<u8>, OutOfMemory>
-    ensures { IfOk result (λ marks. length marks.items ≡ layout.now.blocks) }
-{
-    Ok(vec![in alloc; 0u8; layout.blocks as usize]?)
-}
-
 fn free_set(alloc: Global, layout: &Layout) -> Result<FreeSet, OutOfMemory>
     ensures { IfOk result (λ free. length free ≡ layout.now.blocks) }
 {
     let count = layout.blocks.div_ceil(64);
-    let bits = words(alloc, count as usize)?;
-    let summary = words(alloc, count.div_ceil(64) as usize)?;
-    Ok(FreeSet::over(bits, summary, layout.blocks))
-}
-
-// The words, all of them zero.
-fn cleared(words: Vec<u64>) -> Vec<u64>
-    ensures size { vec_len result ≡ vec_len words }
-    ensures zero { All (λ word. word ≡ 0) result.items }
-{
-    let mut words = words;
-    words.fill(0);
-    words
-}
-
-// The marks, all of them zero.
-fn unmarked(marks: Vec<u8>) -> Vec<u8>
-    ensures size { length result.items ≡ length marks.items }
-    ensures zero { All (λ mark. mark ≡ 0) result.items }
-{
-    let mut marks = marks;
-    marks.fill(0);
-    marks
-}
-
-// The set in which all addresses are free.
-fn emptied(free: FreeSet, blocks: u32) -> FreeSet
-    requires { length free ≡ blocks }
-    ensures { result ≡ replicate blocks false }
-{
-    let (words, summary) = free.into_room();
-    FreeSet::over(cleared(words), cleared(summary), blocks)
+    let words = vec![in alloc; 0u64; count as usize]?;
+    let summary = vec![in alloc; 0u64; count.div_ceil(64) as usize]?;
+    Ok(FreeSet::over(words, summary, layout.blocks))
 }
 
 impl GridRooms {
@@ -90,8 +42,8 @@ impl GridRooms {
         let block = Raw::reserve(alloc, layout)?;
         let trailer = Raw::reserve(alloc, layout)?;
         let free = free_set(alloc, layout)?;
-        let checks = checks(alloc, layout)?;
-        let marks = marks(alloc, layout)?;
+        let checks = vec![in alloc; [0u8; 16]; layout.blocks as usize]?;
+        let marks = vec![in alloc; 0u8; layout.blocks as usize]?;
         Ok(GridRooms {
             layout: *layout,
             checks,
@@ -111,19 +63,16 @@ impl GridRooms {
             layout,
             checks,
             free,
-            marks,
+            mut marks,
             block,
             trailer,
         } = self;
-        Grid::over(
-            layout,
-            cluster,
-            emptied(free, layout.blocks),
-            checks,
-            unmarked(marks),
-            block,
-            trailer,
-        )
+        let (mut words, mut summary) = free.into_room();
+        words.fill(0);
+        summary.fill(0);
+        marks.fill(0);
+        let free = FreeSet::over(words, summary, layout.blocks);
+        Grid::over(layout, cluster, free, checks, marks, block, trailer)
     }
 
     /// The rooms of a grid that is done with.

@@ -35,32 +35,6 @@ pub struct LogRooms {
     pub ghost mends_fit: { layout.slots + 4 ≤ vec_capacity mends },
 }
 
-fn header_table(alloc: Global, layout: &Layout) -> Result<HeaderTable, OutOfMemory>
-    ensures { IfOk result (λ table. length table ≡ layout.now.slots) }
-{
-    // Stands in the table until a header is put there.
-    let blank = Header::of(Kind::Reserved, 0);
-    let room = vec![in alloc; blank; layout.slots as usize]?;
-    Ok(HeaderTable::over(room))
-}
-
-fn slot_table(alloc: Global, layout: &Layout) -> Result<SlotTable, OutOfMemory>
-    ensures { IfOk result (λ table. length table.slots ≡ layout.now.slots) }
-{
-    let blank = SlotSeen {
-        header: Err(Class::Blank),
-        prepare: Err(Class::Blank),
-    };
-    let room = vec![in alloc; blank; layout.slots as usize]?;
-    Ok(SlotTable::over(room))
-}
-
-fn mend_list(alloc: Global, layout: &Layout) -> Result<Vec<Mend>, OutOfMemory>
-    ensures { IfOk result (λ mends. layout.now.slots + 4 ≤ vec_capacity mends) }
-{
-    Ok(Vec::with_capacity(alloc, layout.slots as usize + 4)?)
-}
-
 impl LogRooms {
     /// The rooms for a layout, or the refusal of memory for one of them.
     pub(crate) fn reserve(alloc: Global, layout: &Layout) -> Result<LogRooms, OutOfMemory>
@@ -70,18 +44,24 @@ impl LogRooms {
         let sector = Raw::reserve(alloc, layout)?;
         let prepare = Raw::reserve(alloc, layout)?;
         let reply = Raw::reserve(alloc, layout)?;
-        let headers = header_table(alloc, layout)?;
-        let slots = slot_table(alloc, layout)?;
+        // Stands in the table until a header is put there.
+        let reserved = Header::of(Kind::Reserved, 0);
+        let headers = vec![in alloc; reserved; layout.slots as usize]?;
+        let unseen = SlotSeen {
+            header: Err(Class::Blank),
+            prepare: Err(Class::Blank),
+        };
+        let slots = vec![in alloc; unseen; layout.slots as usize]?;
         let replies = ReplyTable::reserve(alloc, layout)?;
-        let mends = mend_list(alloc, layout)?;
+        let mends = Vec::with_capacity(alloc, layout.slots as usize + 4)?;
         Ok(LogRooms {
             layout: *layout,
             superblock,
             sector,
             prepare: Shelf::over(*layout, prepare),
             reply: Shelf::over(*layout, reply),
-            headers,
-            slots,
+            headers: HeaderTable::over(headers),
+            slots: SlotTable::over(slots),
             replies,
             mends,
         })

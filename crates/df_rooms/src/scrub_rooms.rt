@@ -17,12 +17,6 @@ pub struct ScrubRooms {
     pub ghost report_fits: { layout.blocks ≤ vec_capacity report },
 }
 
-fn finding_list(alloc: Global, layout: &Layout) -> Result<Vec<Finding>, OutOfMemory>
-    ensures { IfOk result (λ findings. layout.now.blocks ≤ vec_capacity findings) }
-{
-    Ok(Vec::with_capacity(alloc, layout.blocks as usize)?)
-}
-
 impl ScrubRooms {
     /// The rooms for a layout, or the refusal of memory for one of them: no tour was made yet, and nothing was found.
     pub(crate) fn reserve(alloc: Global, layout: &Layout) -> Result<ScrubRooms, OutOfMemory>
@@ -30,7 +24,7 @@ impl ScrubRooms {
         ensures new { IfOk result (λ rooms. rooms.scrubber ≡ new_scrub) }
     {
         let scrubber = Scrubber::reserve(alloc)?;
-        let report = finding_list(alloc, layout)?;
+        let report = Vec::with_capacity(alloc, layout.blocks as usize)?;
         Ok(ScrubRooms {
             layout: *layout,
             scrubber,

@@ -52,19 +52,6 @@ impl Model for Staging {
     ghost invariant = { λ s. IsStaging s.layout s.free.items s.staged.items s.sealed.items (vec_capacity s.free) (vec_capacity s.staged) (vec_capacity s.sealed) };
 }
 
-// Eight rooms.
-fn eight(alloc: Global, layout: &Layout) -> Result<Vec<Raw<Prepare>>, OutOfMemory>
-    ensures count { IfOk result (λ rooms. length rooms.items ≡ 8) }
-    ensures layout { IfOk result (λ rooms. AreFree layout.now rooms.items) }
-    ensures capacity { IfOk result (λ rooms. 8 ≤ vec_capacity rooms) }
-{
-    let mut rooms = Vec::with_capacity(alloc, 8)?;
-    while rooms.len() < 8 {
-        rooms.push_reserved(Raw::reserve(alloc, layout)?);
-    }
-    Ok(rooms)
-}
-
 // Moves the rooms of all units to the free ones.
 fn free_units(free: &mut Vec<Raw<Prepare>>, units: &mut Vec<Sound<Prepare>>)
     requires { length free.old.items + length units.old.items ≤ vec_capacity free.old }
@@ -96,7 +83,10 @@ impl Staging {
     pub(crate) fn reserve(alloc: Global, layout: &Layout) -> Result<Staging, OutOfMemory>
         ensures { IfOk result (λ staging. staging ≡ record { layout = layout.now; requests = []; sealed = [] }) }
     {
-        let free = eight(alloc, layout)?;
+        let mut free = Vec::with_capacity(alloc, 8)?;
+        while free.len() < 8 {
+            free.push_reserved(Raw::reserve(alloc, layout)?);
+        }
         let staged = Vec::with_capacity(alloc, 8)?;
         let sealed = Vec::with_capacity(alloc, 8)?;
         Ok(Staging {

@@ -35,32 +35,14 @@ pub struct TrailerRooms {
     pub ghost block_fits: { block.layout ≡ layout },
 }
 
-fn bits(alloc: Global, layout: &Layout) -> Result<Vec<u64>, OutOfMemory>
-    ensures { IfOk result (λ bits. vec_len bits ≡ (layout.now.blocks + 63) / 64) }
-{
-    Ok(vec![in alloc; 0u64; layout.blocks.div_ceil(64) as usize]?)
-}
-
-fn checks(alloc: Global, layout: &Layout) -> Result<Vec<Check>, OutOfMemory>
-    ensures { IfOk result (λ checks. vec_len checks ≡ layout.now.blocks) }
-{
-    Ok(vec![in alloc; [0u8; 16]; layout.blocks as usize]?)
-}
-
-fn piece(alloc: Global, layout: &Layout) -> Result<Vec<u8>, OutOfMemory>
-    ensures { IfOk result (λ piece. vec_len piece ≡ layout.now.block_size - HEADER) }
-{
-    Ok(vec![in alloc; 0u8; layout.block_size as usize - HEADER]?)
-}
-
 impl TrailerRooms {
     /// The rooms for a layout, or the refusal of memory for one of them.
     pub(crate) fn reserve(alloc: Global, layout: &Layout) -> Result<TrailerRooms, OutOfMemory>
         ensures { IfOk result (λ rooms. rooms.layout ≡ layout.now) }
     {
-        let bits = bits(alloc, layout)?;
-        let checks = checks(alloc, layout)?;
-        let piece = piece(alloc, layout)?;
+        let bits = vec![in alloc; 0u64; layout.blocks.div_ceil(64) as usize]?;
+        let checks = vec![in alloc; [0u8; 16]; layout.blocks as usize]?;
+        let piece = vec![in alloc; 0u8; layout.block_size as usize - HEADER]?;
         let block = Raw::reserve(alloc, layout)?;
         let reader = ReaderRoom {
             layout: *layout,
