@@ -232,7 +232,7 @@ impl CapturedBlocks for Grid {
     ghost captured = { λ g address. sum_at address g.blocks.captured };
 
     fn captured(&self, address: u64) -> Option<Check> {
-        Grid::captured(self, address)
+        self.table.captured(address)
     }
 
     // It is kept for each full group of 256 addresses of the grid, while a block of the checkpoint's trailer is to come, and costs one look.
