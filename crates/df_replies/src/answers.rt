@@ -1,16 +1,16 @@
-// The number of replies, and the first session whose reply is missing. A superblock takes the replies that it names by their checksums,
-// and each later one of its boot.
+// What a reply that is shown counts for, and whether it answers its session: a superblock takes the replies that it names by their
+// checksums, and each later one of its boot.
 ghost use Rattle.std.specs.Prelude.{◌≡◌, ◌↔◌, ◌<◌, length, IsTrue};
 ghost use Rattle.df_replies.specs.Below.{number_of};
 ghost use Rattle.df_replies.specs.Answers.{IsReplyOf, LacksHere, TestsStored};
-ghost use Rattle.df_replies.specs.Counts.{IsGreatest};
+ghost use Rattle.df_replies.specs.Counts.{counting_reply, op_of_reply};
 ghost use Rattle.df_replies.specs.Named.{IsNamedBy};
 
-use crate::counts::op_in;
 use df_base::{Check, VERSION};
 use df_format::{Header, SuperFields};
 use df_layout::Class;
 use df_sessions::{Session, SessionTable};
+use df_stamps::Counters;
 
 /// A session whose reply is stored and not shown.
 #[derive(Clone, Copy, Debug, PartialEq, Eq)]
@@ -21,15 +21,32 @@ pub struct Lacking {
     pub class: Class,
 }
 
-// The greatest of a start and of the ops of the replies of this boot.
-pub(crate) fn greatest_op(start: u64, replies: &[Result<Header, Class>], boot: u64) -> u64
-    ensures { IsGreatest boot start replies.now (length replies.now) result }
+/// The op of a reply of this boot, 0 of any other.
+pub(crate) fn op_in(seen: &Result<Header, Class>, boot: u64) -> u64
+    ensures { result ≡ op_of_reply boot seen.now }
 {
-    let mut top = start;
-    for reply in replies {
-        top = top.max(op_in(reply, boot));
+    match seen {
+        Ok(header) => { if header.boot == boot { header.op } else { 0 } }
+        Err(_) => 0,
     }
-    top
+}
+
+/// The counters with one more reply: its op and its mark count in this boot alone.
+pub(crate) fn with_reply(seen: &Counters, reply: &Result<Header, Class>, boot: u64) -> Counters
+    ensures { result ≡ counting_reply boot seen.now reply.now }
+{
+    match reply {
+        Ok(header) => {
+            let mark = if header.boot == boot { header.mark } else { 0 };
+            Counters {
+                ring_op: seen.ring_op,
+                reply_top: seen.reply_top.max(op_in(reply, boot).max(mark)),
+                checkpoint: seen.checkpoint.max(header.checkpoint),
+                boot: seen.boot.max(header.boot),
+            }
+        }
+        Err(_) => *seen,
+    }
 }
 
 fn is_same(one: &Check, other: &Check) -> bool

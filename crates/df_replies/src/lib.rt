@@ -2,7 +2,6 @@
 #![tactic(auto)]
 
 mod answers;
-mod counts;
 mod shown;
 mod slot;
 mod table;

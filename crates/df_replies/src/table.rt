@@ -6,8 +6,7 @@ ghost use Rattle.df_replies.specs.Counts.{RepliesWithin, in_boot};
 ghost use Rattle.df_replies.specs.Shown.{AreRepliesScanned, AreSeenReplies, ShowsReplies};
 
 use crate::Lacking;
-use crate::answers::{first_lacking, greatest_op};
-use crate::counts::count_replies;
+use crate::answers::{first_lacking, op_in, with_reply};
 use crate::slot::reply_place;
 use df_base::{Failed, OutOfMemory};
 use df_buffers::Reply;
@@ -110,7 +109,11 @@ impl ReplyTable {
         ensures top { (image : Units) (n : ℕ) → ShowsReplies image self.now
             → (result.reply_top ≤ n) ↔ ((rings.now.reply_top ≤ n) × RepliesWithin image (in_boot boot (λ h. h.op)) n × RepliesWithin image (in_boot boot (λ h. h.mark)) n) }
     {
-        count_replies(rings, &self.replies, boot)
+        let mut seen = *rings;
+        for reply in &self.replies {
+            seen = with_reply(&seen, reply, boot);
+        }
+        seen
     }
 
     /// The number of replies: the greatest of the superblock's, the mark of the tail's last prepare, and the ops of the replies of
@@ -119,7 +122,11 @@ impl ReplyTable {
         ensures { (image : Units) (c : Content) (tail : List Message) → ShowsReplies image self.now → c.boot ≡ boot → c.replies ≡ superblock → last_mark 0 tail ≡ mark
             → IsReplies image c tail result }
     {
-        greatest_op(superblock.max(mark), &self.replies, boot)
+        let mut top = superblock.max(mark);
+        for reply in &self.replies {
+            top = top.max(op_in(reply, boot));
+        }
+        top
     }
 
     /// The first session, by place, whose op is at most `stored` and whose slot doesn't show the reply to its last request: of those
