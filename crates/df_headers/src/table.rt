@@ -1,14 +1,13 @@
-// The table of headers, slot by slot, and the write of one of its sectors.
+// The table of headers, slot by slot, reserved ones for the empty slots; and the write of one of its sectors.
 ghost use Rattle.std.specs.Prelude.{◌≡◌, ◌<◌, ◌≤◌, ◌+◌, ◌*◌, ℕ, Some, length, slice_get, slice_set};
-ghost use Rattle.df_headers.specs.Below.{HasCause, Adds, AreSixteen, AreSteps, format_of, AreHeaders};
+ghost use Rattle.df_headers.specs.Below.{HasCause, Adds, AreSixteen, AreSteps, format_of, AreHeaders, reserved_header};
 ghost use Rattle.df_headers.specs.Ring.{AreReserved, ReservedIsTable, TableIsKept, TableIsWritten, in_sector, sector_events, sector_steps};
 
-use crate::reserved::put_reserved;
 use crate::sectors::{first_of, put_all};
-use df_base::Failed;
+use df_base::{Failed, HEADER, check};
 use df_buffers::{HeaderSector, Raw};
 use df_disk::Disk;
-use df_format::Header;
+use df_format::{HEADER_VERSION, Header, Kind, seal_header};
 use std::marker::Model;
 
 /// One header for each slot of the ring: what the slot is to show. Contracts see the list of them.
@@ -24,6 +23,34 @@ impl Model for HeaderTable {
     ghost Value = { List Header };
 
     ghost view = { λ t. t.slots.items };
+}
+
+/// The header of an empty slot, sealed, for the header ring of a file of this cluster.
+pub fn reserved_header(cluster: u128, slot: u32) -> Header
+    requires { 0 < cluster }
+    ensures { result ≡ reserved_header cluster slot }
+{
+    seal_header(Header {
+        checksum_body: check(&[]),
+        size: HEADER as u32,
+        slot,
+        version: HEADER_VERSION,
+        ..Header::of(Kind::Reserved, cluster)
+    })
+}
+
+// Puts a reserved header into each slot.
+fn put_reserved(slots: &mut [Header], cluster: u128)
+    requires cluster { 0 < cluster }
+    requires few { length slots.old ≤ 1024 }
+    ensures count { length slots.new ≡ length slots.old }
+    ensures each { AreReserved cluster slots.new }
+{
+    let mut slot = 0;
+    while slot < slots.len() {
+        slots[slot] = reserved_header(cluster, slot as u32);
+        slot += 1;
+    }
 }
 
 impl HeaderTable {

@@ -2,7 +2,7 @@
 use Rattle.std.proofs.{Common.{◌<◌, ◌≤◌, length, sym, ◌∙◌, arith}, lemmas.Bool.{eqb-true, ltb-true, lt-ltb, leb-true, le-leb}}
 use Rattle.df_sessions.proofs.Laws.{no_gap}
 use Rattle.df_group.proofs.Asks.{asks_known, asks_new}
-use Rattle.df_group.proofs.fits.may_ask.Goals as goal
+use Rattle.df_group.proofs.groups.may_ask.Goals as goal
 
 pub returns-then-saturating_sub-eq1 : goal.returns-then-saturating_sub-eq1
 returns-then-saturating_sub-eq1 c =

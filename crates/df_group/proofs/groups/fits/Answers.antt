@@ -1,7 +1,7 @@
 -- A test that fails leaves a rule broken.
 use Rattle.std.proofs.Common.{arith, ◌∙◌}
-use Rattle.df_group.proofs.fits.fits.Goals as goal
-use Rattle.df_group.proofs.fits.fits.Goals.{then-is_same, else-is_same}
+use Rattle.df_group.proofs.groups.fits.Goals as goal
+use Rattle.df_group.proofs.groups.fits.Goals.{then-is_same, else-is_same}
 
 pub returns-else-has_mark : goal.returns-else-has_mark
 returns-else-has_mark c = (

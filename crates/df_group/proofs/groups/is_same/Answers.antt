@@ -2,7 +2,7 @@
 use Rattle.std.proofs.{Common.{rules, ap, sym, ◌∙◌}, lemmas.Slice.Eq.{bytes_eq-Decides}}
 use Rattle.df_format.specs.Spelling.{IsCheck}
 use Rattle.df_units.{specs.Meaning.{number_of}, proofs.Laws.{one_number}}
-use Rattle.df_group.proofs.fits.is_same.Goals as goal
+use Rattle.df_group.proofs.groups.is_same.Goals as goal
 
 pub returns : goal.returns
 returns c =
