@@ -1,6 +1,6 @@
 -- Checksums and marks side by side are entries, and an entry is found again in its marks.
-use Rattle.std.{proofs.Common.{◌≡◌, ℕ, zero, suc, ◌+◌, ◌*◌, ◌/◌, ◌%◌, ◌≤◌, ◌==◌, Bool, true, false, Some, List, [], ◌∷◌, length, set, refl, ap, ◌∙◌, arith}, specs.Prelude.{slice_get}}
-use Rattle.df_grid.specs.{declared.entry.Entry.{Entry}, Entries.{bit, entries_of, entry_of, mark_of}}
+use Rattle.std.{proofs.Common.{◌≡◌, ℕ, zero, suc, ◌+◌, ◌-◌, ◌*◌, ◌/◌, ◌%◌, ◌<◌, ◌≤◌, ◌==◌, Bool, true, false, Some, List, [], ◌∷◌, length, set, refl, ap, ◌∙◌, arith}, specs.Prelude.{slice_get}}
+use Rattle.df_grid.specs.{declared.entry.Entry.{Entry}, Entries.{HasEntry, bit, entries_of, entry_of, mark_of}}
 
 -- ---- marks
 
@@ -51,6 +51,17 @@ pub length_entries : (cs : List (List ℕ)) (ms : List ℕ) → length cs ≡ le
 length_entries [] ms same = refl
 length_entries (c ∷ cs) [] same = absurd (omega arith)
 length_entries (c ∷ cs) (m ∷ ms) same = omega (arith, length_entries cs ms (omega arith))
+
+-- a place of the table is one of both lists
+pub record IsPlace (checks : List (List ℕ)) (marks : List ℕ) (place : ℕ) : Type 0 where
+  pub check : place < length checks
+  pub mark : place < length marks
+
+pub has_place : (checks : List (List ℕ)) (marks : List ℕ) (seen : List Entry) (address : ℕ) → length checks ≡ length marks → entries_of checks marks ≡ seen → HasEntry seen address → IsPlace checks marks (address - 1)
+has_place checks marks seen address same is has = record {
+  check = omega (arith, has.0, has.1, length_entries checks marks same, ap length is);
+  mark = omega (arith, has.0, has.1, same, length_entries checks marks same, ap length is);
+}
 
 pub get_entries : (cs : List (List ℕ)) (ms : List ℕ) (i : ℕ) (c : List ℕ) (m : ℕ) → slice_get cs i ≡ Some c → slice_get ms i ≡ Some m → slice_get (entries_of cs ms) i ≡ Some (entry_of c m)
 get_entries [] ms i c m has marked = cc

@@ -1,7 +1,7 @@
 // What is known of the block at each address: kept as a checksum and a byte of marks, looked up, and counted.
 ghost use Rattle.std.specs.Prelude.{◌≡◌, ◌-◌, ◌≤◌, List, Some, length, nat_lt, slice_get, slice_set};
 ghost use Rattle.std.specs.List.{filter};
-ghost use Rattle.df_grid.specs.Entries.{HasEntry, entries_of, entry_of, is_marked, mark_of};
+ghost use Rattle.df_grid.specs.Entries.{HasEntry, entries_of, is_marked};
 ghost use Rattle.df_grid.specs.Table.{AreCounts, entry_at, is_held_for, pair_in, picked};
 
 use arrayvec::ArrayVec;
@@ -52,32 +52,7 @@ pub(crate) fn is_held_for(entry: &Entry, reason: Reason) -> bool
     }
 }
 
-// The marks, one bit for each reason, from the lowest on.
-fn mark_of(entry: &Entry) -> u8
-    ensures { result ≡ mark_of entry.now }
-{
-    u8::from(entry.live)
-        + 2 * u8::from(entry.captured)
-        + 4 * u8::from(entry.written)
-        + 8 * u8::from(entry.durable)
-        + 16 * u8::from(entry.chained)
-}
-
-// The entry with these marks.
-fn entry_of(checksum: Check, mark: u8) -> Entry
-    ensures { result ≡ entry_of checksum mark }
-{
-    Entry {
-        checksum,
-        live: mark % 2 == 1,
-        captured: mark / 2 % 2 == 1,
-        written: mark / 4 % 2 == 1,
-        durable: mark / 8 % 2 == 1,
-        chained: mark / 16 % 2 == 1,
-    }
-}
-
-/// The entries of the addresses from 1 on; contracts see them as a list.
+/// The entries of the addresses from 1 on: a mark has a bit for each reason, from the lowest on. Contracts see them as a list.
 #[derive(Drop)]
 pub struct Entries {
     checks: Vec<Check>,
@@ -127,7 +102,16 @@ impl Entries {
         ensures { slice_get self.now (address - 1) ≡ Some result }
     {
         let place = (address - 1) as usize;
-        entry_of(self.checks[place], self.marks[place])
+        let checksum = self.checks[place];
+        let mark = self.marks[place];
+        Entry {
+            checksum,
+            live: mark % 2 == 1,
+            captured: mark / 2 % 2 == 1,
+            written: mark / 4 % 2 == 1,
+            durable: mark / 8 % 2 == 1,
+            chained: mark / 16 % 2 == 1,
+        }
     }
 
     /// Replaces the entry of an address.
@@ -137,7 +121,11 @@ impl Entries {
     {
         let place = (address - 1) as usize;
         self.checks[place] = entry.checksum;
-        self.marks[place] = mark_of(entry);
+        self.marks[place] = u8::from(entry.live)
+            + 2 * u8::from(entry.captured)
+            + 4 * u8::from(entry.written)
+            + 8 * u8::from(entry.durable)
+            + 16 * u8::from(entry.chained);
     }
 }
 

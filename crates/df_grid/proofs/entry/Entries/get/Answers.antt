@@ -1,18 +1,18 @@
 -- A checksum and its marks are the entry.
-use Rattle.std.proofs.{Common.{◌-◌, ◌<◌, length, refl, ap, arith}, lemmas.Option.{slice_get_read}}
-use Rattle.df_grid.proofs.Zips.{length_entries, get_entries}
+use Rattle.std.proofs.{Common.{◌-◌, length, refl, arith}, lemmas.Option.{slice_get_read}}
+use Rattle.df_grid.proofs.Zips.{get_entries, has_place}
 use Rattle.df_grid.proofs.entry.Entries.get.Goals as goal
 
-pub index-requires : goal.index-requires
-index-requires c = let s = c.self.inside in omega (arith, c.requires.0, c.requires.1, s.checks.ok.0, length_entries s.checks.items s.marks.items c.self.invariant, ap length c.self.view_is)
+pub index-checksum-requires : goal.index-checksum-requires
+index-checksum-requires c = let s = c.self.inside in omega (arith, s.checks.ok.0, has_place s.checks.items s.marks.items c.args.self.now c.args.address c.self.invariant c.self.view_is c.requires)
 
-pub index-requires-2 : goal.index-requires-2
-index-requires-2 c = let s = c.self.inside in omega (arith, c.requires.0, c.requires.1, s.marks.ok.0, c.self.invariant, length_entries s.checks.items s.marks.items c.self.invariant, ap length c.self.view_is)
+pub index-mark-requires : goal.index-mark-requires
+index-mark-requires c = let s = c.self.inside in omega (arith, s.marks.ok.0, has_place s.checks.items s.marks.items c.args.self.now c.args.address c.self.invariant c.self.view_is c.requires)
 
 pub returns : goal.returns
 returns c =
     let s = c.self.inside in
-    let inside : c.args.address - 1 < length s.checks.items = omega (arith, c.requires.0, c.requires.1, length_entries s.checks.items s.marks.items c.self.invariant, ap length c.self.view_is) in
-    let check = slice_get_read s.checks.items (length s.checks.items) (c.args.address - 1) c.index.result.now refl inside c.index.ensures in
-    let mark = slice_get_read s.marks.items (length s.checks.items) (c.args.address - 1) c.index-2.result.now c.self.invariant inside c.index-2.ensures in
-    rw (← c.self.view_is, c.entry_of.ensures) (get_entries s.checks.items s.marks.items (c.args.address - 1) c.index.result.now c.index-2.result.now check mark)
+    let inside = has_place s.checks.items s.marks.items c.args.self.now c.args.address c.self.invariant c.self.view_is c.requires in
+    let check = slice_get_read s.checks.items (length s.checks.items) (c.args.address - 1) c.index-checksum.result.now refl inside.check c.index-checksum.ensures in
+    let mark = slice_get_read s.marks.items (length s.checks.items) (c.args.address - 1) c.index-mark.result.now c.self.invariant inside.check c.index-mark.ensures in
+    rw (← c.self.view_is) (get_entries s.checks.items s.marks.items (c.args.address - 1) c.index-checksum.result.now c.index-mark.result.now check mark)
