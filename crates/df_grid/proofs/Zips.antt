@@ -57,7 +57,8 @@ pub record IsPlace (checks : List (List ℕ)) (marks : List ℕ) (place : ℕ) :
   pub check : place < length checks
   pub mark : place < length marks
 
-pub has_place : (checks : List (List ℕ)) (marks : List ℕ) (seen : List Entry) (address : ℕ) → length checks ≡ length marks → entries_of checks marks ≡ seen → HasEntry seen address → IsPlace checks marks (address - 1)
+pub has_place : (checks : List (List ℕ)) (marks : List ℕ) (seen : List Entry) (address : ℕ) → length checks ≡ length marks
+    → entries_of checks marks ≡ seen → HasEntry seen address → IsPlace checks marks (address - 1)
 has_place checks marks seen address same is has = record {
   check = omega (arith, has.0, has.1, length_entries checks marks same, ap length is);
   mark = omega (arith, has.0, has.1, same, length_entries checks marks same, ap length is);

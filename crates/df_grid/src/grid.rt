@@ -235,7 +235,8 @@ impl CapturedBlocks for Grid {
         self.table.captured(address)
     }
 
-    // It is kept for each full group of 256 addresses of the grid, while a block of the checkpoint's trailer is to come, and costs one look.
+    // It is kept for each full group of 256 addresses of the grid, while a block of the checkpoint's trailer is to come, and costs
+    // one look.
     fn counted(&self, groups: u64) -> Option<u64>
         ensures count { IfSome result (λ count. count ≡ referenced_among (λ a. sum_at a self.now.blocks.captured) (256 * groups)) }
         ensures kept { self.now.blocks.left ≢ [] → 256 * groups ≤ self.now.layout.blocks → IsSome result }

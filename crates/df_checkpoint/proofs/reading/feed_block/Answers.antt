@@ -12,8 +12,12 @@ returns-in-Ok-Ok-clause-fed g c =
       is = c.as_bad.ensures;
       refuses = λ layout op text read. c.as_bad.ensures ∙ ap bad_of (c.feed.ensures.refusal layout op text read);
     } in
-    fed_answer c.args.grid.now (g.D.Disk.told c.args.disk.now) c.args.at c.reference.result c.args.reader.now c.feed.new.self c.in-Ok-Ok.unit.now.unit c.as_bad.result c.reference.ensures
-    (rw c.in-Ok-Ok.field-0-is at c.in-Ok-Ok.ensures.block) (subst (λ (l : List ℕ). Feeds c.args.reader.now c.feed.new.self l c.as_bad.result) c.body.ensures feeds)
+    fed_answer c.args.grid.now (g.D.Disk.told c.args.disk.now)
+    c.args.at c.reference.result c.args.reader.now c.feed.new.self c.in-Ok-Ok.unit.now.unit c.as_bad.result c.reference.ensures
+    (rw c.in-Ok-Ok.field-0-is at c.in-Ok-Ok.ensures.block)
+    (subst (λ (l : List ℕ). Feeds c.args.reader.now c.feed.new.self l c.as_bad.result) c.body.ensures feeds)
 
 pub returns-in-Ok-Ok-clause-cause : goal.returns-in-Ok-Ok-clause-cause
-returns-in-Ok-Ok-clause-cause g c = fed_blames (g.D.Disk.faults c.args.disk.now) (g.D.Disk.faults c.show_trailer.new.disk) c.as_bad.result c.feed.result c.in-Ok-Ok.ensures.cause.same c.as_bad.ensures
+returns-in-Ok-Ok-clause-cause g c =
+    fed_blames (g.D.Disk.faults c.args.disk.now) (g.D.Disk.faults c.show_trailer.new.disk)
+    c.as_bad.result c.feed.result c.in-Ok-Ok.ensures.cause.same c.as_bad.ensures

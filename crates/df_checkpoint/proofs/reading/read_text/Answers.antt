@@ -41,5 +41,7 @@ loop-done-preserved g c =
 
 pub returns-clause-text : goal.returns-clause-text
 returns-clause-text g c = λ op has.
-    text_ends c.args.grid.now (g.D.Disk.told c.args.disk.now) c.args.blocks.now op c.loop-done.done c.loop-done.reader c.end.result c.as_bad.result (omega (arith, c.loop-done-test, c.loop-done.auto))
+    text_ends c.args.grid.now (g.D.Disk.told c.args.disk.now)
+    c.args.blocks.now op c.loop-done.done c.loop-done.reader c.end.result c.as_bad.result
+    (omega (arith, c.loop-done-test, c.loop-done.auto))
     (c.loop-done.invariant.read op has) c.end.ensures.fault c.end.ensures.whole c.as_bad.ensures

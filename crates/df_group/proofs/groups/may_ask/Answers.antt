@@ -7,15 +7,20 @@ use Rattle.df_group.proofs.groups.may_ask.Goals as goal
 pub returns-then-saturating_sub-eq1 : goal.returns-then-saturating_sub-eq1
 returns-then-saturating_sub-eq1 c =
     let fits : length c.args.sessions.now.sessions ≤ c.args.clients = omega (arith, c.len-count.ensures.table.within, c.requires.places) in
-    let own = asks_known c.args.clients c.args.header.now c.args.sessions.now.sessions c.in-Some.place c.in-Some-get.session fits (sym c.place_of.ensures ∙ c.in-Some.is) (sym c.get.ensures ∙ c.in-Some-get.is) in (
-      λ yes. own.1 (omega (arith, c.if-saturating_sub-eq1.true, c.saturating_sub.ensures), leb-true c.in-Some-get.session.op c.args.header.now.mark yes),
+    let own = asks_known c.args.clients c.args.header.now c.args.sessions.now.sessions c.in-Some.place c.in-Some-get.session fits
+    (sym c.place_of.ensures ∙ c.in-Some.is) (sym c.get.ensures ∙ c.in-Some-get.is) in (
+      λ yes. own.1 (
+        omega (arith, c.if-saturating_sub-eq1.true, c.saturating_sub.ensures),
+        leb-true c.in-Some-get.session.op c.args.header.now.mark yes,
+      ),
       λ asks. le-leb c.in-Some-get.session.op c.args.header.now.mark (own.0 asks).1,
     )
 
 pub returns-else-saturating_sub-eq1 : goal.returns-else-saturating_sub-eq1
 returns-else-saturating_sub-eq1 c =
     let fits : length c.args.sessions.now.sessions ≤ c.args.clients = omega (arith, c.len-count.ensures.table.within, c.requires.places) in
-    let own = asks_known c.args.clients c.args.header.now c.args.sessions.now.sessions c.in-Some.place c.in-Some-get.session fits (sym c.place_of.ensures ∙ c.in-Some.is) (sym c.get.ensures ∙ c.in-Some-get.is) in (
+    let own = asks_known c.args.clients c.args.header.now c.args.sessions.now.sessions c.in-Some.place c.in-Some-get.session fits
+    (sym c.place_of.ensures ∙ c.in-Some.is) (sym c.get.ensures ∙ c.in-Some-get.is) in (
       λ yes. absurd (c.if-saturating_sub-eq1.false (eqb-true c.saturating_sub.result 1 yes)),
       λ asks. absurd (c.if-saturating_sub-eq1.false (omega (arith, (own.0 asks).0, c.saturating_sub.ensures))),
     )

@@ -4,8 +4,11 @@ use Rattle.df_journal.{specs.{Counts.{binding_op, in_boot}, Scan.{Scan}, Shows.{
 use Rattle.df_journal.proofs.counts.bound_top.Goals as goal
 
 pub loop-slot-preserved : goal.loop-slot-preserved
-loop-slot-preserved c = bound_turn c.args.boot c.args.top c.deref-slot-items.result.now c.loop-slot.slot-index c.loop-slot.greatest c.max.result c.max-greatest.result _ _ c.loop-slot-test.true
-    (c.max.ensures ∙ ap (max c.loop-slot.greatest) c.own_op.ensures) (c.max-greatest.ensures ∙ ap (max c.max.result) c.bound_op.ensures) c.loop-slot.invariant
+loop-slot-preserved c =
+    bound_turn c.args.boot c.args.top c.deref-slot-items.result.now c.loop-slot.slot-index c.loop-slot.greatest
+    c.max.result c.max-greatest.result _ _ c.loop-slot-test.true
+    (c.max.ensures ∙ ap (max c.loop-slot.greatest) c.own_op.ensures) (c.max-greatest.ensures ∙ ap (max c.max.result) c.bound_op.ensures)
+    c.loop-slot.invariant
 
 pub returns : goal.returns
 returns c = λ image shows.

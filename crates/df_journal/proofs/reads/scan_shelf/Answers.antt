@@ -24,7 +24,8 @@ loop-slot-preserved g c =
       held = λ some. held_still layout c.loop-slot.slot told c.hold_sector.new.sector.bytes some holds;
       seen = seen_more layout c.args.start.now.cluster told c.loop-slot.slot c.loop-slot.found.slots c.set.new.self.slots seen
           (omega (arith, c.loop-slot.invariant.size, c.loop-slot-test.true)) (ap (λ (scan : Scan). scan.slots) put)
-          (subst (λ (t : Option Told). IsSlotSeen layout c.args.start.now.cluster t c.loop-slot.slot seen) before c.in_ok-seen.ensures.seen) c.in_ok-seen.ensures.valid c.loop-slot.invariant.seen;
+          (subst (λ (t : Option Told). IsSlotSeen layout c.args.start.now.cluster t c.loop-slot.slot seen)
+          before c.in_ok-seen.ensures.seen) c.in_ok-seen.ensures.valid c.loop-slot.invariant.seen;
     }
 
 pub returns-clause-scanned : goal.returns-clause-scanned

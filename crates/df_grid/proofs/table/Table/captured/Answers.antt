@@ -11,4 +11,6 @@ returns-in_err-entry c = let s = c.self.inside in
 
 pub returns : goal.returns
 returns c = let s = c.self.inside in
-    ap number_in c.then_some.ensures ∙ known_number c.in_ok-entry.entry.captured c.in_ok-entry.entry.checksum ∙ sym (look_some is_captured s.entries c.args.address c.in_ok-entry.entry (sym c.in_ok-entry.ensures)) ∙ ap (λ (v : TableState). sum_at c.args.address v.blocks.captured) c.self.view_is
+    ap number_in c.then_some.ensures ∙ known_number c.in_ok-entry.entry.captured c.in_ok-entry.entry.checksum
+    ∙ sym (look_some is_captured s.entries c.args.address c.in_ok-entry.entry (sym c.in_ok-entry.ensures))
+    ∙ ap (λ (v : TableState). sum_at c.args.address v.blocks.captured) c.self.view_is

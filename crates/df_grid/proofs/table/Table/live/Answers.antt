@@ -11,7 +11,9 @@ returns-in_err-entry-clause-checksum c = let s = c.self.inside in
 
 pub returns-clause-checksum : goal.returns-clause-checksum
 returns-clause-checksum c = let s = c.self.inside in
-    ap number_in c.then_some.ensures ∙ known_number c.in_ok-entry.entry.live c.in_ok-entry.entry.checksum ∙ sym (look_some is_live s.entries c.args.address c.in_ok-entry.entry (sym c.in_ok-entry.ensures)) ∙ ap (λ (v : TableState). sum_at c.args.address v.blocks.live) c.self.view_is
+    ap number_in c.then_some.ensures ∙ known_number c.in_ok-entry.entry.live c.in_ok-entry.entry.checksum
+    ∙ sym (look_some is_live s.entries c.args.address c.in_ok-entry.entry (sym c.in_ok-entry.ensures))
+    ∙ ap (λ (v : TableState). sum_at c.args.address v.blocks.live) c.self.view_is
 
 pub returns-in_err-entry-clause-inside : goal.returns-in_err-entry-clause-inside
 returns-in_err-entry-clause-inside c = if_none _ c.from_residual.result c.from_residual.ensures

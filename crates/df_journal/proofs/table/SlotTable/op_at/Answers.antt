@@ -12,5 +12,7 @@ returns c =
     let first : ℕ = c.self.inside.start.op + 1 in
     let o : ℕ = first + (c.from.result + slots - first % slots) % slots in
     let below : c.from.result < slots = omega (arith, same, c.requires, c.from.ensures) in
-    let slot : IsOpOf slots c.self.inside.start.op c.args.slot o = subst (λ (k : ℕ). IsOpOf slots c.self.inside.start.op k o) c.from.ensures (op_of_slot slots c.self.inside.start.op c.from.result (omega (arith, below)) below) in
-    subst (λ (n : ℕ). IsOpOf (length scan.slots) n c.args.slot o) op (subst (λ (n : ℕ). IsOpOf n c.self.inside.start.op c.args.slot o) same slot)
+    let slot : IsOpOf slots c.self.inside.start.op c.args.slot o = subst (λ (k : ℕ). IsOpOf slots c.self.inside.start.op k o)
+    c.from.ensures (op_of_slot slots c.self.inside.start.op c.from.result (omega (arith, below)) below) in
+    subst (λ (n : ℕ). IsOpOf (length scan.slots) n c.args.slot o) op
+    (subst (λ (n : ℕ). IsOpOf n c.self.inside.start.op c.args.slot o) same slot)

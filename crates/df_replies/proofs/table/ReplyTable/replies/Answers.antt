@@ -7,7 +7,8 @@ use Rattle.df_replies.proofs.table.ReplyTable.replies.Goals as goal
 
 pub loop-reply-preserved : goal.loop-reply-preserved
 loop-reply-preserved c =
-    greatest_more c.args.boot (max c.args.superblock c.args.mark) c.deref-reply-items.result.now c.loop-reply.reply-index c.loop-reply.top c.max-top-in-loop-reply.result _ c.loop-reply-test.true
+    greatest_more c.args.boot (max c.args.superblock c.args.mark)
+    c.deref-reply-items.result.now c.loop-reply.reply-index c.loop-reply.top c.max-top-in-loop-reply.result _ c.loop-reply-test.true
     (c.max-top-in-loop-reply.ensures ∙ ap (max c.loop-reply.top) c.op_in.ensures) c.loop-reply.invariant
 
 pub returns : goal.returns
@@ -16,5 +17,6 @@ returns c = λ image content tail shows own replies mark.
     let all : c.loop-reply.reply-index ≡ length items = omega (arith, c.loop-reply-test.false, c.loop-reply.auto.reply-index-end) in
     let start = max c.args.superblock c.args.mark in
     greatest_is_replies c.args.boot c.args.superblock c.args.mark c.loop-reply.top c.args.self.now image content tail
-    (subst (λ (l : List (Result Header Class)). IsGreatest c.args.boot start l (length l) c.loop-reply.top) (c.deref-reply-items.ensures.value ∙ c.self.view_is)
+    (subst (λ (l : List (Result Header Class)). IsGreatest c.args.boot start l (length l) c.loop-reply.top)
+    (c.deref-reply-items.ensures.value ∙ c.self.view_is)
     (subst (λ (n : ℕ). IsGreatest c.args.boot start items n c.loop-reply.top) all c.loop-reply.invariant)) shows own replies mark
