@@ -25,15 +25,6 @@ pub struct GridRooms {
     pub ghost trailer_fits: { trailer.layout ≡ layout },
 }
 
-fn free_set(alloc: Global, layout: &Layout) -> Result<FreeSet, OutOfMemory>
-    ensures { IfOk result (λ free. length free ≡ layout.now.blocks) }
-{
-    let count = layout.blocks.div_ceil(64);
-    let words = vec![in alloc; 0u64; count as usize]?;
-    let summary = vec![in alloc; 0u64; count.div_ceil(64) as usize]?;
-    Ok(FreeSet::over(words, summary, layout.blocks))
-}
-
 impl GridRooms {
     /// The rooms for a layout, or the refusal of memory for one of them.
     pub(crate) fn reserve(alloc: Global, layout: &Layout) -> Result<GridRooms, OutOfMemory>
@@ -41,13 +32,15 @@ impl GridRooms {
     {
         let block = Raw::reserve(alloc, layout)?;
         let trailer = Raw::reserve(alloc, layout)?;
-        let free = free_set(alloc, layout)?;
+        let count = layout.blocks.div_ceil(64);
+        let words = vec![in alloc; 0u64; count as usize]?;
+        let summary = vec![in alloc; 0u64; count.div_ceil(64) as usize]?;
         let checks = vec![in alloc; [0u8; 16]; layout.blocks as usize]?;
         let marks = vec![in alloc; 0u8; layout.blocks as usize]?;
         Ok(GridRooms {
             layout: *layout,
             checks,
-            free,
+            free: FreeSet::over(words, summary, layout.blocks),
             marks,
             block,
             trailer,
