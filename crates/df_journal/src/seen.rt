@@ -1,7 +1,7 @@
 // What is decided of a slot where an op is wanted there, in a boot: a unit of an earlier one proves nothing. And which prepare is
 // taken from it, up to the superblock's head and above it; and what is planned once the head is known.
 ghost use Rattle.std.specs.Prelude.{◌≡◌, ◌↔◌, IsTrue};
-ghost use Rattle.df_journal.specs.Below.{IsCheck, IsTake, HasCheck, decision_of, seen_of};
+ghost use Rattle.df_journal.specs.Below.{IsCheck, HasCheck, decision_of, seen_of};
 ghost use Rattle.df_theory.specs.Cases.{cut};
 ghost use Rattle.df_journal.specs.Planned.{has_header_of, named_on, planned_on};
 ghost use Rattle.df_journal.specs.Seen.{decision_on, seen_in, HasChecks, IsOfCheck, MayTakeSlot, TakesNow};
@@ -46,18 +46,12 @@ pub(crate) fn decision_on(seen: &SlotSeen, op: u64, boot: u64) -> Decision
     )
 }
 
-fn is_take(decision: &Decision) -> bool
-    ensures { IsTrue result ↔ IsTake (decision_of decision.now) }
-{
-    matches!(decision, Decision::Take { .. })
-}
-
 // Whether the op is one of those whose prepares the superblock names, or the table takes it.
 fn may_take(seen: &SlotSeen, start: &Start, op: u64) -> bool
     requires { HasChecks seen.now }
     ensures { IsTrue result ↔ MayTakeSlot start.now op seen.now }
 {
-    op <= start.head || is_take(&decision_on(seen, op, start.boot))
+    op <= start.head || matches!(decision_on(seen, op, start.boot), Decision::Take { .. })
 }
 
 /// The header of the prepare that is taken from a slot, where the op is wanted there. Up to the head that the superblock names
