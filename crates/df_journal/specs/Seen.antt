@@ -1,5 +1,5 @@
 -- What is decided of a slot by what the table of slots says of it.
-use Rattle.std.specs.Prelude.{◌≡◌, ◌⊎◌, ◌<◌, ◌≤◌, ◌+◌, ◌%◌, ℕ, Option, Some, None, Result, Ok, Err}
+use Rattle.std.specs.Prelude.{◌≡◌, ◌<◌, ◌≤◌, ◌+◌, ◌%◌, ℕ, Option, Some, None, Result, Ok, Err}
 use Rattle.df_layout.specs.declared.damage.Class.{Class}
 use Rattle.df_layout.specs.declared.damage.Class.TheVariants.{Stale}
 use Rattle.df_format.specs.declared.header.Header.{Header}
@@ -33,11 +33,7 @@ pub record IsTakenPrepare (start : Start) (op : ℕ) (seen : SlotSeen) (h : Head
   pub op_is : h.op ≡ op
   pub take : start.head < op → IsTake (decision_on start.boot op seen)
 
--- that op's prepare may be taken from the slot: the superblock names it, or the table takes it
-abbrev pub MayTakeSlot : Start → ℕ → SlotSeen → Type 0
-MayTakeSlot start op seen = (op ≤ start.head) ⊎ IsTake (decision_on start.boot op seen)
-
--- as an answer
+-- it is taken, or no prepare is; as an answer
 abbrev pub TakesNow : Start → ℕ → SlotSeen → Option Header → Type 0
 TakesNow start op seen None = (h : Header) → IsTakenPrepare start op seen h → ⊥
 TakesNow start op seen (Some h) = IsTakenPrepare start op seen h

@@ -1,10 +1,10 @@
 // What is decided of a slot where an op is wanted there, in a boot: a unit of an earlier one proves nothing. And which prepare is
 // taken from it, up to the superblock's head and above it; and what is planned once the head is known.
-ghost use Rattle.std.specs.Prelude.{◌≡◌, ◌↔◌, IsTrue};
+ghost use Rattle.std.specs.Prelude.{◌≡◌};
 ghost use Rattle.df_journal.specs.Below.{IsCheck, HasCheck, decision_of, seen_of};
 ghost use Rattle.df_theory.specs.Cases.{cut};
 ghost use Rattle.df_journal.specs.Planned.{has_header_of, named_on, planned_on};
-ghost use Rattle.df_journal.specs.Seen.{decision_on, seen_in, HasChecks, IsOfCheck, MayTakeSlot, TakesNow};
+ghost use Rattle.df_journal.specs.Seen.{decision_on, seen_in, HasChecks, IsOfCheck, TakesNow};
 
 use crate::Start;
 use df_base::Check;
@@ -46,21 +46,15 @@ pub(crate) fn decision_on(seen: &SlotSeen, op: u64, boot: u64) -> Decision
     )
 }
 
-// Whether the op is one of those whose prepares the superblock names, or the table takes it.
-fn may_take(seen: &SlotSeen, start: &Start, op: u64) -> bool
-    requires { HasChecks seen.now }
-    ensures { IsTrue result ↔ MayTakeSlot start.now op seen.now }
-{
-    op <= start.head || matches!(decision_on(seen, op, start.boot), Decision::Take { .. })
-}
-
 /// The header of the prepare that is taken from a slot, where the op is wanted there. Up to the head that the superblock names
 /// the prepare that is shown is the one that is named, by its checksum, and the table isn't asked; above it the table decides.
 pub(crate) fn taken(seen: &SlotSeen, start: &Start, op: u64) -> Option<Header>
     requires { HasChecks seen.now }
     ensures { TakesNow start.now op seen.now result }
 {
-    if !may_take(seen, start, op) {
+    let takes = op <= start.head
+        || matches!(decision_on(seen, op, start.boot), Decision::Take { .. });
+    if !takes {
         return None;
     }
     match &seen.prepare {

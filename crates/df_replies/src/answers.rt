@@ -68,13 +68,6 @@ fn is_named(fields: &SuperFields, place: u64, header: &Header) -> bool
     }
 }
 
-// Whether the header is that of the reply to the session's last request.
-fn is_of(session: &Session, header: &Header) -> bool
-    ensures { IsTrue result ↔ IsReplyOf session.now header.now }
-{
-    header.client == session.client && header.request == session.request && header.op == session.op
-}
-
 // The class of the slot of a place that doesn't show the reply to the session's last request, where that reply is stored.
 fn lacks(
     fields: &SuperFields,
@@ -91,7 +84,10 @@ fn lacks(
     }
     match reply {
         Ok(header) => {
-            if is_of(session, header) && is_named(fields, place, header) {
+            let own = header.client == session.client
+                && header.request == session.request
+                && header.op == session.op;
+            if own && is_named(fields, place, header) {
                 None
             } else {
                 Some(Class::Stale)
