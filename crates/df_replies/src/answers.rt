@@ -2,14 +2,14 @@
 // checksums, and each later one of its boot.
 ghost use Rattle.std.specs.Prelude.{◌≡◌, ◌↔◌, ◌<◌, length, IsTrue};
 ghost use Rattle.df_replies.specs.Below.{number_of};
-ghost use Rattle.df_replies.specs.Answers.{IsReplyOf, LacksHere, TestsStored};
+ghost use Rattle.df_replies.specs.Answers.{TestsStored};
 ghost use Rattle.df_replies.specs.Counts.{counting_reply, op_of_reply};
 ghost use Rattle.df_replies.specs.Named.{IsNamedBy};
 
 use df_base::{Check, VERSION};
 use df_format::{Header, SuperFields};
 use df_layout::Class;
-use df_sessions::{Session, SessionTable};
+use df_sessions::Session;
 use df_stamps::Counters;
 
 /// A session whose reply is stored and not shown.
@@ -68,8 +68,8 @@ fn is_named(fields: &SuperFields, place: u64, header: &Header) -> bool
     }
 }
 
-// The class of the slot of a place that doesn't show the reply to the session's last request, where that reply is stored.
-fn lacks(
+/// The class of the slot of a place that doesn't show the reply to the session's last request, where that reply is stored.
+pub(crate) fn lacks(
     fields: &SuperFields,
     place: u64,
     session: &Session,
@@ -95,26 +95,4 @@ fn lacks(
         }
         Err(class) => Some(*class),
     }
-}
-
-// The first session, by place, whose reply is stored and not shown.
-pub(crate) fn first_lacking(
-    sessions: &SessionTable,
-    stored: u64,
-    replies: &[Result<Header, Class>],
-    fields: &SuperFields,
-) -> Option<Lacking>
-    requires { sessions.now.max ≡ length replies.now }
-    ensures { LacksHere fields.now sessions.now.sessions stored replies.now result }
-{
-    let mut place = 0;
-    while place < sessions.len() {
-        let session = sessions.get(place)?;
-        let reply = &replies[place as usize];
-        if let Some(class) = lacks(fields, place, &session, stored, reply) {
-            return Some(Lacking { place, class });
-        }
-        place += 1;
-    }
-    None
 }

@@ -6,7 +6,7 @@ ghost use Rattle.df_replies.specs.Counts.{RepliesWithin, in_boot};
 ghost use Rattle.df_replies.specs.Shown.{AreRepliesScanned, AreSeenReplies, ShowsReplies};
 
 use crate::Lacking;
-use crate::answers::{first_lacking, op_in, with_reply};
+use crate::answers::{lacks, op_in, with_reply};
 use crate::slot::reply_place;
 use df_base::{Failed, OutOfMemory};
 use df_buffers::Reply;
@@ -142,6 +142,15 @@ impl ReplyTable {
         ensures class { IfSome result (HasClass self.now) }
         ensures within { IfSome result (λ lacking. lacking.place < length self.now) }
     {
-        first_lacking(sessions, stored, &self.replies, fields)
+        let mut place = 0;
+        while place < sessions.len() {
+            let session = sessions.get(place)?;
+            let reply = &self.replies[place as usize];
+            if let Some(class) = lacks(fields, place, &session, stored, reply) {
+                return Some(Lacking { place, class });
+            }
+            place += 1;
+        }
+        None
     }
 }
