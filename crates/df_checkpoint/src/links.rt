@@ -3,14 +3,14 @@
 ghost use Rattle.std.specs.Prelude.{◌≡◌, ◌-◌, ◌<◌, ◌≤◌, length, get_or, IfNone, IfOk, IfSome};
 ghost use Rattle.df_base.specs.declared.TheConstants.{HEADER};
 ghost use Rattle.df_checkpoint.specs.Below.{array_vec_len, IsBlamed, TrailerChain, Shape, IsCount, layout_of, AreFieldsOf, HasAddress};
-ghost use Rattle.df_checkpoint.specs.Chain.{AreDistinctLinks, IsLinkOf, IsNoLink, LinkAnswer, OfTold, WalkAnswer, before_of, content_in, is_among, is_link, is_trailer_fault};
+ghost use Rattle.df_checkpoint.specs.Chain.{AreDistinctLinks, IsLinkOf, IsNoLink, LinkAnswer, OfTold, WalkAnswer, before_of, content_in, is_among, is_trailer_fault};
 
 use crate::TrailerFault;
 use arrayvec::ArrayVec;
 use df_base::{Check, HEADER};
 use df_buffers::{Sound, Trailer};
 use df_disk::Disk;
-use df_format::{Header, Reference, SuperFields};
+use df_format::{Reference, SuperFields};
 use df_grid::Grid;
 use df_layout::{Field, LINKS, Layout};
 
@@ -32,21 +32,6 @@ impl Link {
             checksum,
         }
     }
-}
-
-// Whether a trailer block with a body of this size is the link with this index: the checkpoint's sequence, that index, the size of that
-// piece, and but for the first one a block of the grid before it.
-fn is_link(layout: &Layout, content: &SuperFields, index: u64, header: &Header, size: u64) -> bool
-    requires { index < 70 }
-    ensures { result ≡ is_link layout.now content.now index header.now size }
-{
-    let room = u64::from(layout.block_size - HEADER as u32);
-    let wanted = room.min(content.trailer_size.saturating_sub(room * index));
-    let before = header.request;
-    header.checkpoint == content.sequence
-        && header.mark == index
-        && size == wanted
-        && (index == 0 || (1 <= before && before <= u64::from(layout.blocks)))
 }
 
 // A block that isn't the link that the chain asks for.
@@ -74,14 +59,21 @@ pub fn link_before(
 {
     let header = unit.header();
     let size = unit.body().len() as u64;
-    if is_link(layout, content, index, header, size) {
-        let checksum = header.parent;
-        return Some(Link {
-            address: header.request,
-            checksum,
-        });
+    let room = u64::from(layout.block_size - HEADER as u32);
+    let wanted = room.min(content.trailer_size.saturating_sub(room * index));
+    let before = header.request;
+    let is_link = header.checkpoint == content.sequence
+        && header.mark == index
+        && size == wanted
+        && (index == 0 || (1 <= before && before <= u64::from(layout.blocks)));
+    if !is_link {
+        return None;
     }
-    None
+    let checksum = header.parent;
+    Some(Link {
+        address: before,
+        checksum,
+    })
 }
 
 // The reference before the link with this index, which is asked for at a reference; 0 before the first one.
