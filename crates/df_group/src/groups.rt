@@ -118,13 +118,6 @@ fn may_ask(sessions: &SessionTable, clients: u32, header: &Header) -> bool
     }
 }
 
-// Whether no reply is missing that was stored before, and at most eight prepares waited.
-fn has_mark(last: &Tail, header: &Header) -> bool
-    ensures { IsTrue result ↔ ((last.now.mark ≤ header.now.mark) × (header.now.mark < header.now.op) × (header.now.op ≤ header.now.mark + 8)) }
-{
-    last.mark <= header.mark && header.mark < header.op && header.op - header.mark <= 8
-}
-
 // Whether two checksums are one.
 fn is_same(parent: Check, checksum: Check) -> bool
     ensures { IsTrue result ↔ (number_of parent ≡ number_of checksum) }
@@ -139,9 +132,9 @@ fn fits(last: &Tail, sessions: &SessionTable, clients: u32, header: &Header) -> 
     requires group { header.now.op ≤ (header_of header.now).group_last }
     ensures { IsTrue result ↔ Fits clients (last.now.op + 1) (number_of last.now.checksum) last.now.mark (sessions_of sessions.now.sessions) (header_of header.now) }
 {
-    is_same(header.parent, last.checksum)
-        && has_mark(last, header)
-        && may_ask(sessions, clients, header)
+    // No reply is missing that was stored before, and at most eight prepares waited.
+    let waits = last.mark <= header.mark && header.mark < header.op && header.op - header.mark <= 8;
+    waits && is_same(header.parent, last.checksum) && may_ask(sessions, clients, header)
 }
 
 /// Whether the prepare with this header, which has the next op, fits where a walk stands, and so does its group: where it has the op
