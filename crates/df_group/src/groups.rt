@@ -125,18 +125,6 @@ fn is_same(parent: Check, checksum: Check) -> bool
     parent == checksum
 }
 
-// Whether the prepare with this header, which has the next op, fits. Its group ends there or later.
-fn fits(last: &Tail, sessions: &SessionTable, clients: u32, header: &Header) -> bool
-    requires places { sessions.now.max ≡ clients }
-    requires op { header.now.op ≡ last.now.op + 1 }
-    requires group { header.now.op ≤ (header_of header.now).group_last }
-    ensures { IsTrue result ↔ Fits clients (last.now.op + 1) (number_of last.now.checksum) last.now.mark (sessions_of sessions.now.sessions) (header_of header.now) }
-{
-    // No reply is missing that was stored before, and at most eight prepares waited.
-    let waits = last.mark <= header.mark && header.mark < header.op && header.op - header.mark <= 8;
-    waits && is_same(header.parent, last.checksum) && may_ask(sessions, clients, header)
-}
-
 /// Whether the prepare with this header, which has the next op, fits where a walk stands, and so does its group: where it has the op
 /// of the head that the superblock names, its group ends with it. The group ends at that op or later.
 pub fn goes_on(
@@ -151,9 +139,14 @@ pub fn goes_on(
     requires group { header.now.op ≤ (header_of header.now).group_last }
     ensures { IsTrue result ↔ FitsAt clients head at.now sessions.now.sessions header.now }
 {
-    fits(&at.last, sessions, clients, header)
-        && follows(at, header)
-        && (header.op != head || group_last(header) <= head)
+    // No reply is missing that was stored before, and at most eight prepares waited.
+    let waits = at.last.mark <= header.mark
+        && header.mark < header.op
+        && header.op - header.mark <= 8;
+    let fits = waits
+        && is_same(header.parent, at.last.checksum)
+        && may_ask(sessions, clients, header);
+    fits && follows(at, header) && (header.op != head || group_last(header) <= head)
 }
 
 // Whether a prepare is of a group of several that begins right above this op, and so was cut off there.
