@@ -3,7 +3,7 @@
 ghost use Rattle.std.specs.Prelude.{◌≡◌};
 ghost use Rattle.df_journal.specs.Below.{IsCheck, HasCheck, decision_of, seen_of};
 ghost use Rattle.df_theory.specs.Cases.{cut};
-ghost use Rattle.df_journal.specs.Planned.{has_header_of, named_on, planned_on};
+ghost use Rattle.df_journal.specs.Planned.{has_header_of, planned_on};
 ghost use Rattle.df_journal.specs.Seen.{decision_on, seen_in, HasChecks, IsOfCheck, TakesNow};
 
 use crate::Start;
@@ -73,18 +73,6 @@ fn has_header(ring: &Result<Header, Class>, checksum: &Check) -> bool
     }
 }
 
-// The decision on the slot of a prepare that the superblock names.
-fn named_on(seen: &SlotSeen) -> Decision
-    ensures { HasChecks seen.now → decision_of result ≡ named_on seen.now }
-{
-    match &seen.prepare {
-        Ok(header) => Decision::Take {
-            mend: !has_header(&seen.header, &header.checksum),
-        },
-        Err(_) => Decision::Lost,
-    }
-}
-
 // The decision on a slot above the head: a prepare that would be taken was cut off.
 fn cut(header: &Seen, decision: &Decision) -> Decision
     ensures { decision_of result ≡ cut (seen_of header.now) (decision_of decision.now) }
@@ -102,7 +90,13 @@ pub(crate) fn planned_of(seen: &SlotSeen, start: &Start, op: u64, head: u64) -> 
     ensures { HasChecks seen.now → decision_of result ≡ planned_on start.now head op seen.now }
 {
     if op <= start.head {
-        return named_on(seen);
+        // The superblock names the prepare that is shown, by its checksum.
+        return match &seen.prepare {
+            Ok(header) => Decision::Take {
+                mend: !has_header(&seen.header, &header.checksum),
+            },
+            Err(_) => Decision::Lost,
+        };
     }
     let decision = decision_on(seen, op, start.boot);
     if op <= head {
