@@ -2,13 +2,11 @@
 // needed, since each of them has a slot of its own.
 ghost use Rattle.std.specs.Prelude.{◌≡◌, ◌≤◌, ◌<◌, ◌%◌, IfSome};
 ghost use Rattle.df_journal.specs.Below.{Content, IsCheck, Shape, Units};
-ghost use Rattle.df_journal.specs.Known.{HasSum, NamesFrom, TellsKnown};
+ghost use Rattle.df_journal.specs.Known.{NamesFrom, TellsKnown};
 ghost use Rattle.df_journal.specs.Shows.{IsSeenTable, TellsRings};
 
 use crate::SlotTable;
 use df_base::Check;
-use df_buffers::SlotSeen;
-use df_format::Header;
 use df_layout::Layout;
 
 /// The slot of an op.
@@ -17,22 +15,6 @@ pub fn slot_of(layout: &Layout, op: u64) -> u32
     ensures below { result < layout.now.slots }
 {
     (op % u64::from(layout.slots)) as u32
-}
-
-// The header of the prepare that is shown, if it has this checksum.
-fn with_sum(seen: &SlotSeen, checksum: &Check) -> Option<Header>
-    ensures { HasSum seen.now checksum.now result }
-{
-    match &seen.prepare {
-        Ok(header) => {
-            if header.checksum == *checksum {
-                Some(*header)
-            } else {
-                None
-            }
-        }
-        Err(_) => None,
-    }
 }
 
 /// Of the ops that a superblock names, whose head has this checksum, the greatest one whose slot doesn't show the prepare that is
@@ -48,13 +30,14 @@ pub fn lacking_known(layout: &Layout, found: &SlotTable, checksum: &Check) -> Op
     let mut op = found.start.head;
     let mut wanted = *checksum;
     while found.start.op < op {
-        match with_sum(&found.seen(slot_of(layout, op)), &wanted) {
-            Some(header) => {
-                wanted = header.parent;
-                op -= 1;
-            }
-            None => return Some(op),
+        let Ok(header) = found.seen(slot_of(layout, op)).prepare else {
+            return Some(op);
+        };
+        if header.checksum != wanted {
+            return Some(op);
         }
+        wanted = header.parent;
+        op -= 1;
     }
     None
 }
