@@ -6,11 +6,9 @@ use Rattle.df_sessions.specs.declared.session.Session.{Session}
 use Rattle.df_replies.{specs.Answers.{AnsweredTo, AnswersIn, IsFirstLacking, TestsStored}, proofs.Stored.{lacking_class, lacks_shown}}
 use Rattle.df_replies.proofs.table.ReplyTable.first_lacking.Goals as goal
 
-module _ (f : SuperFields) (ss : List Session) (n : ℕ) (replies : List (Result Header Class)) (place : ℕ) (s : Session)
-    (reply : Result Header Class)
+module _ (f : SuperFields) (ss : List Session) (n : ℕ) (replies : List (Result Header Class)) (place : ℕ) (s : Session) (reply : Result Header Class)
     (at : slice_get ss place ≡ Some s) (there : slice_get replies place ≡ Some reply) (before : AnsweredTo f ss n replies place) where
-  first_at : (class : Class) → TestsStored f place s n reply (Some class) → IsFirstLacking f ss n replies
-  (record { place = place; class = class })
+  first_at : (class : Class) → TestsStored f place s n reply (Some class) → IsFirstLacking f ss n replies (record { place = place; class = class })
   first_at class tests = record {
     session = s;
     at = at;
@@ -35,8 +33,7 @@ module _ (f : SuperFields) (ss : List Session) (n : ℕ) (replies : List (Result
   ]
 
 -- the entry that is read is the table's
-read_at : (items replies : List (Result Header Class)) (k : ℕ) (reply : Result Header Class) → items ≡ replies
-    → slice_get items k ≡ Some reply
+read_at : (items replies : List (Result Header Class)) (k : ℕ) (reply : Result Header Class) → items ≡ replies → slice_get items k ≡ Some reply
     → slice_get replies k ≡ Some reply
 read_at items replies k reply same there = subst (λ (l : List (Result Header Class)). slice_get l k ≡ Some reply) same there
 
