@@ -7,14 +7,21 @@ use Rattle.df_trailer.specs.Text.{parse_of}
 use Rattle.df_rooms.specs.{State.{shape}, declared.file.DataFile.{DataFile}}
 use Rattle.df_recovery.specs.Opening.{fault_as}
 
+-- of the version that is asked for the fault is that of the fields, and any other version is one
+pub fault_asked : (version : ℕ) (f : SuperFields) → f.version ≡ version → fault_as version f ≡ fault_of f
+fault_asked version f of = cond-true (f.version == version) (fault_of f) (Some (OtherVersion f.version)) (eq-eqb f.version version of)
+
+pub fault_other : (version : ℕ) (f : SuperFields) → (f.version ≡ version → ⊥) → fault_as version f ≡ Some (OtherVersion f.version)
+fault_other version f other = cond-false (f.version == version) (fault_of f) (Some (OtherVersion f.version)) (ne_eqb f.version version other)
+
 pub super_as : (version : ℕ) (f : SuperFields) → fault_as version f ≡ None → (f.version ≡ version) × IsSuper f
 super_as version f none = elim (cases_eq f.version version) [
-  | inl of ↦ (of, (faults f).0 (sym (cond-true (f.version == version) (fault_of f) (Some (OtherVersion f.version)) (eq-eqb f.version version of)) ∙ none))
-  | inr other ↦ absurd (let some = sym (cond-false (f.version == version) (fault_of f) (Some (OtherVersion f.version)) (ne_eqb f.version version other)) ∙ none in cc)
+  | inl of ↦ (of, (faults f).0 (sym (fault_asked version f of) ∙ none))
+  | inr other ↦ absurd (let some = sym (fault_other version f other) ∙ none in cc)
 ]
 
 pub as_none : (version : ℕ) (f : SuperFields) → f.version ≡ version → IsSuper f → fault_as version f ≡ None
-as_none version f of is = cond-true (f.version == version) (fault_of f) (Some (OtherVersion f.version)) (eq-eqb f.version version of) ∙ (faults f).1 is
+as_none version f of is = fault_asked version f of ∙ (faults f).1 is
 
 -- ---- in the theory
 

@@ -1,8 +1,8 @@
 -- Each step of what an open finds is the theory's.
-use Rattle.std.{proofs.{Common.{inl, inr, ◌≡◌, ◌≢◌, ◌↔◌, ℕ, ◌+◌, ◌<◌, ◌≤◌, ◌%◌, ◌^◌, List, length, refl, sym, ◌∙◌, ap, subst, arith}, lemmas.Bool.{cases_lt}}, specs.List.{slice_get}}
+use Rattle.std.{proofs.{Common.{inl, inr, ◌≡◌, ◌≢◌, ◌↔◌, ℕ, ◌+◌, ◌<◌, ◌≤◌, ◌%◌, ◌^◌, List, length, refl, sym, ◌∙◌, ap, subst, arith}, lemmas.Bool.{cases_lt}}, specs.{Prelude.{Result}, List.{slice_get}}}
 use Rattle.df_disk.specs.Told.{Told}
 use Rattle.df_layout.specs.{declared.damage.Class.{Class}, declared.layout.Layout.{Layout}}
-use Rattle.df_format.specs.{Copies.{content_with}, declared.superblock.SuperFields.{SuperFields}}
+use Rattle.df_format.specs.{Copies.{content_with}, declared.header.Header.{Header}, declared.superblock.SuperFields.{SuperFields}}
 use Rattle.df_sessions.specs.{declared.session.Session.{Session}, Requests.{sessions_of}}
 use Rattle.df_stamps.specs.declared.counters.Counters.{Counters}
 use Rattle.df_theory.specs.Units
@@ -10,15 +10,16 @@ use Rattle.df_theory.specs.{Units.{Content, CopyPlace, PreparePlace, ReplyPlace}
 use Rattle.df_theory.specs.Found
 use Rattle.df_model.specs.declared.errors.OpenError.{OpenError}
 use Rattle.df_units.specs.Meaning.{content_of}
-use Rattle.df_journal.specs.{Counts.{CountsAll, CountsBound, CountsReplies, CountsRings, RepliesWithin, RingsWithin, in_boot}, Tail.{IsReached}}
+use Rattle.df_journal.specs.{Counts.{CountsAll, CountsBinding, CountsBound, CountsReplies, CountsRings, RepliesWithin, RingsWithin, in_boot}, Shows.{ShowsTable}, Tail.{IsReached}}
 use Rattle.df_group.specs.{declared.reach.Reach.{Reach}, declared.groups.Tail.{Tail}}
-use Rattle.df_replies.specs.Answers.{AllAnswered, StoredAreFound, stored_by}
+use Rattle.df_buffers.specs.declared.slots.SlotSeen.{SlotSeen}
+use Rattle.df_replies.specs.{Answers.{AllAnswered, StoredAreFound, stored_by}, Shown.{ShowsReplies}}
 use Rattle.df_recovery.specs.{Finding.{EachOpens, FindsView, IsReadFrom, IsRefusedOpen, IsScannedFrom, Read, damage, lowest_of}, Surveys.{class_there}, Known.{BlamesKnown, IsBaseOf}}
 
 -- ---- the counters
 
 -- the counters of the rings with those of the replies count both
-pub counts_all : (image : Units.Units) (rings seen : Counters) → CountsRings image rings → seen.ring_op ≡ rings.ring_op
+counts_all : (image : Units.Units) (rings seen : Counters) → CountsRings image rings → seen.ring_op ≡ rings.ring_op
     → ((n : ℕ) → (seen.checkpoint ≤ n) ↔ ((rings.checkpoint ≤ n) × RepliesWithin image (λ h. h.checkpoint) n))
     → ((n : ℕ) → (seen.boot ≤ n) ↔ ((rings.boot ≤ n) × RepliesWithin image (λ h. h.boot) n))
     → CountsAll image seen
@@ -35,12 +36,19 @@ counts_all image rings seen counts ring_op checkpoint boot = record {
 }
 
 -- those of the rings count no reply
-pub counts_replies : (boot : ℕ) (image : Units.Units) (rings seen : Counters) → rings.reply_top ≡ 0
+counts_replies : (boot : ℕ) (image : Units.Units) (rings seen : Counters) → rings.reply_top ≡ 0
     → ((n : ℕ) → (seen.reply_top ≤ n) ↔ ((rings.reply_top ≤ n) × RepliesWithin image (in_boot boot (λ h. h.op)) n × RepliesWithin image (in_boot boot (λ h. h.mark)) n)) → CountsReplies boot image seen
 counts_replies boot image rings seen none top n = (
   λ le. let all = (top n).0 le in (all.1, all.2),
   λ both. (top n).1 (omega (arith, none), both.0, both.1),
 )
+
+-- the counters of this boot, with the greatest op that binds the head
+pub bound_counts : (boot head ring_op : ℕ) (slots : List SlotSeen) (replies : List (Result Header Class)) (rings seen : Counters)
+    → ((i : Units.Units) → ShowsTable i slots → CountsBinding boot head i ring_op) → rings.reply_top ≡ 0
+    → ((i : Units.Units) (n : ℕ) → ShowsReplies i replies → (seen.reply_top ≤ n) ↔ ((rings.reply_top ≤ n) × RepliesWithin i (in_boot boot (λ h. h.op)) n × RepliesWithin i (in_boot boot (λ h. h.mark)) n))
+    → (image : Units.Units) → ShowsTable image slots → ShowsReplies image replies → CountsBound boot head image (record seen { ring_op = ring_op })
+bound_counts boot head ring_op slots replies rings seen binds none top image table shows = record { ring_op = binds image table; replies = counts_replies boot image rings seen none (λ n. top image n shows) }
 
 -- ---- the steps
 
@@ -69,9 +77,20 @@ module _ (sh : Shape) (image : Units.Units) (b : Checkpoint) (read : Read) (is :
   pub is_base : (fields : SuperFields) → fields ≡ read.found.content → IsBaseOf sh b read.layout fields read.sessions
   is_base fields same = record { slots_are = is.slots_are; clients_are = is.clients_are; content_is = content_same fields same; sessions_are = is.sessions_are }
 
-  -- the counters of a boot are those of the content's
-  pub counts_bound : (fields : SuperFields) (top : ℕ) (seen : Counters) → fields ≡ read.found.content → CountsBound fields.boot top image seen → CountsBound b.content.boot top image seen
-  counts_bound fields top seen same = subst (λ (boot : ℕ). CountsBound boot top image seen) (sym (boot_is fields same))
+  -- the counters are of the image
+  pub counted : (rings seen : Counters) → ((i : Units.Units) → ShowsTable i read.slots.slots → CountsRings i rings) → seen.ring_op ≡ rings.ring_op
+      → ((i : Units.Units) (n : ℕ) → ShowsReplies i read.replies → (seen.checkpoint ≤ n) ↔ ((rings.checkpoint ≤ n) × RepliesWithin i (λ h. h.checkpoint) n))
+      → ((i : Units.Units) (n : ℕ) → ShowsReplies i read.replies → (seen.boot ≤ n) ↔ ((rings.boot ≤ n) × RepliesWithin i (λ h. h.boot) n)) → CountsAll image seen
+  counted rings seen counts ring_op checkpoint boot = counts_all image rings seen (counts image is.tells.shows) ring_op (λ n. checkpoint image n is.shows) (λ n. boot image n is.shows)
+
+  -- and those of a boot are of the content's
+  pub counts_bound : (fields : SuperFields) (head ring_op : ℕ) (rings seen : Counters) → fields ≡ read.found.content
+      → ((i : Units.Units) → ShowsTable i read.slots.slots → CountsBinding fields.boot head i ring_op) → rings.reply_top ≡ 0
+      → ((i : Units.Units) (n : ℕ) → ShowsReplies i read.replies → (seen.reply_top ≤ n) ↔ ((rings.reply_top ≤ n) × RepliesWithin i (in_boot fields.boot (λ h. h.op)) n × RepliesWithin i (in_boot fields.boot (λ h. h.mark)) n))
+      → CountsBound b.content.boot head image (record seen { ring_op = ring_op })
+  counts_bound fields head ring_op rings seen same binds none top =
+      subst (λ (boot : ℕ). CountsBound boot head image (record seen { ring_op = ring_op })) (sym (boot_is fields same))
+      (bound_counts fields.boot head ring_op read.slots.slots read.replies rings seen binds none top image is.tells.shows is.shows)
 
   pub opens_behind : (NotBehind sh image b.content → ⊥) → Opens sh image (Refused (Damages (CopyPlace (lowest_of read.found.chosen.members))))
   opens_behind behind = Behind b (lowest_of read.found.chosen.members) is.readable behind is.lowest_is

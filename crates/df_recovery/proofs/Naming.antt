@@ -1,12 +1,11 @@
 -- What a superblock of either version names: how the search for named prepares and the walk after its checkpoint begin, and which of them is blamed.
-use Rattle.std.{proofs.{Common.{inl, inr, ◌≡◌, ℕ, ◌+◌, ◌≤◌, ◌%◌, List, sym, ◌∙◌, ap, subst, arith}, lemmas.Bool.{cases_eq}}, specs.Prelude.{Result, Ok, Err, IfErr, IfOk}}
+use Rattle.std.{proofs.{Common.{inl, inr, ◌≡◌, ℕ, ◌+◌, ◌≤◌, ◌%◌, List, sym, ◌∙◌, ap, subst, arith}, lemmas.Bool.{cases_eq}}}
 use Rattle.df_layout.specs.declared.layout.Layout.{Layout}
 use Rattle.df_format.specs.{Spelling.{IsCheck}, SuperRules.{IsSuper, IsUsable}, declared.superblock.SuperFields.{SuperFields}}
 use Rattle.df_sessions.specs.declared.session.Session.{Session}
 use Rattle.df_theory.specs.{Units.{Content, Units}, Shape.{Shape, slots}, Opens.{LacksKnown}, View.{Checkpoint}}
 use Rattle.df_units.{specs.Meaning.{number_of, pin_checksum_of, pin_of}, proofs.Laws.{by_other, by_second}}
-use Rattle.df_journal.specs.{Known.{AllKnown, NamesFrom}, Scan.{Scan}, Shows.{TellsRings}, Tail.{BeginsAt, IsReached, StopsAt}, declared.table.Start.{Start}, Starting.{start_of}}
-use Rattle.df_group.specs.declared.reach.Reach.{Reach}
+use Rattle.df_journal.specs.{Known.{NamesFrom}, Tail.{BeginsAt, StopsAt}, declared.table.Start.{Start}, Starting.{start_of}}
 use Rattle.df_recovery.specs.Known.{BlamesKnown, IsBaseOf}
 
 -- the prepares up to the pin: those of the checkpoint, or in version 2 those up to the head
@@ -90,21 +89,3 @@ module _ (sh : Shape) (b : Checkpoint) (layout : Layout) (f : SuperFields) (star
 -- the greatest op that the content names is that of the fields
 pub content_pin : (sh : Shape) (b : Checkpoint) (layout : Layout) (f : SuperFields) (sessions : List Session) → IsBaseOf sh b layout f sessions → b.content.pin ≡ pin_of f
 content_pin sh b layout f sessions is = ap (λ (c : Content). c.pin) is.content_is
-
--- ---- where each named prepare is shown
-
-module _ (layout : Layout) (scan : Scan) (f : SuperFields) (old new : List Session) where
-  abbrev AreShown : Type 0
-  AreShown = (sh : Shape) (image : Units) (b : Checkpoint) → TellsRings layout image scan → IsBaseOf sh b layout f old → AllKnown sh image b.content
-
-  pub all_known : (result : Result Reach ℕ) → AreShown
-      → IfOk result (λ reach. (sh : Shape) (image : Units) (b : Checkpoint) → TellsRings layout image scan → IsBaseOf sh b layout f old → AllKnown sh image b.content → IsReached sh image b reach new)
-      → IfOk result (λ reach. (sh : Shape) (image : Units) (b : Checkpoint) → TellsRings layout image scan → IsBaseOf sh b layout f old → IsReached sh image b reach new)
-  all_known (Ok reach) shown is = λ sh image b tells of. is sh image b tells of (shown sh image b tells of)
-  all_known (Err slot) shown is = is
-
-  pub none_lacking : (result : Result Reach ℕ) → AreShown
-      → IfErr result (λ slot. (sh : Shape) (image : Units) (b : Checkpoint) → TellsRings layout image scan → IsBaseOf sh b layout f old → AllKnown sh image b.content → BlamesKnown sh image b slot)
-      → IfErr result (λ slot. (sh : Shape) (image : Units) (b : Checkpoint) → TellsRings layout image scan → IsBaseOf sh b layout f old → BlamesKnown sh image b slot)
-  none_lacking (Ok reach) shown is = is
-  none_lacking (Err slot) shown is = λ sh image b tells of. is sh image b tells of (shown sh image b tells of)

@@ -1,5 +1,5 @@
 -- What is read after the barrier is what the disk showed before it, and a refusal is the answer to the open.
-use Rattle.std.{proofs.Common.{◌≡◌, ◌∙◌, ℕ, List, Option, Some, None, Result, Ok, Err, refl, sym, ap, subst}, specs.Prelude.{IfErr, IfOk}}
+use Rattle.std.proofs.Common.{◌≡◌, ◌∙◌, ℕ, List, Option, Some, None, Result, Ok, Err, refl, sym, ap, subst}
 use Rattle.df_base.specs.{Image.{Image, IsImage}, Log.{Sync}}
 use Rattle.df_disk.specs.Told.{Told, after}
 use Rattle.df_layout.specs.{declared.layout.Layout.{Layout}, declared.damage.Class.{Class}}
@@ -8,11 +8,8 @@ use Rattle.df_model.specs.declared.errors.OpenError.{OpenError}
 use Rattle.df_journal.specs.{Scan.{Scan}, declared.table.Start.{Start}, Starting.{start_of}}
 use Rattle.df_journal.specs.Scanned as rings
 use Rattle.df_replies.specs.Shown as slots
-use Rattle.df_rooms.specs.{declared.file.DataFile.{DataFile}, declared.rooms.Rooms.{Rooms}}
-use Rattle.df_recovery.{specs.{Checkpoints.{Base, TellsCheckpoint}, Finding.{IsOfFile, read_of}, Found.{IsFoundAs, IsFoundFile}, Opening.{HasSuperAs, IsLayoutOf}, Scanning.{AreCopies, AreScanned, IsFileOf, IsFileScan, IsReadBehind, IsScanAs, IsServed, RefusesBase, TellsReadAs, base_scanned, without_rooms}, Surveys.{SurveysAs}, declared.scanned.Scanned.{Scanned}, declared.scanning.Copies.{Copies}}, proofs.{Asked.{super_as}, Refusals.{trailer_refused}, Synced.{synced}}}
-
-pub refuses_base : (layout : Layout) (f : SuperFields) (told : Option Told) (e : OpenError) (file : DataFile) → TellsCheckpoint file told f (Err e) → IsFileOf layout f file → RefusesBase layout f told e
-refuses_base layout f told e file tells of = record { file = file; of = of; tells = tells }
+use Rattle.df_rooms.specs.declared.file.DataFile.{DataFile}
+use Rattle.df_recovery.{specs.{Checkpoints.{Base, TellsCheckpoint}, Finding.{IsOfFile, read_of}, Found.{IsFoundAs, IsFoundFile}, Opening.{HasSuperAs, IsLayoutOf}, Scanning.{AreCopies, AreScanned, IsFileOf, IsFileScan, IsReadBehind, IsScanAs, IsServed, TellsReadAs, base_scanned}, Surveys.{SurveysAs}, declared.scanned.Scanned.{Scanned}, declared.scanning.Copies.{Copies}}, proofs.{Asked.{super_as}, Refusals.{trailer_refused}, Synced.{synced}}}
 
 -- the tables have what the file shows
 pub tables_of : (l layout : Layout) (start : Start) (f : SuperFields) (now told : Option Told) (scan : Scan) (replies : List (Result Header Class)) → AreScanned l start.cluster now scan replies → l ≡ layout → start ≡ start_of f → now ≡ told → AreScanned layout f.cluster told scan replies
@@ -36,12 +33,10 @@ behind_synced layout told s read = record {
   tables = synced layout s.copies.found.content.cluster told s.rooms.log.slots s.rooms.log.replies read.tables;
 }
 
-pub scan_read : (version : ℕ) (layout : Layout) (copies : Copies) (old new : Option Told) (result : Result Scanned (Rooms × OpenError)) → new ≡ after Sync old → AreCopies version old copies → IsServed layout copies.found.content
-    → IfOk result (λ s. s.copies ≡ copies) → IfOk result (IsReadBehind layout new) → IfOk result (IsScanAs version layout old)
-scan_read version layout copies old new (Err refused) barrier found served same read = same
-scan_read version layout copies old new (Ok s) barrier found served same read = record {
-  copies = subst (AreCopies version old) (sym same) found;
-  served = subst (λ (c : Copies). IsServed layout c.found.content) (sym same) served;
+pub scan_read : (version : ℕ) (layout : Layout) (old new : Option Told) (s : Scanned) → new ≡ after Sync old → AreCopies version old s.copies → IsServed layout s.copies.found.content → IsReadBehind layout new s → IsScanAs version layout old s
+scan_read version layout old new s barrier found served read = record {
+  copies = found;
+  served = served;
   behind = behind_synced layout old s (subst (λ (t : Option Told). IsReadBehind layout t s) barrier read);
 }
 
@@ -51,18 +46,22 @@ file_asked version image f file has of =
     let same : file.version ≡ version = of ∙ (super_as version f has.usable).0 in
     (same, subst (λ (v : ℕ). HasSuperAs v image f) (sym same) has)
 
-pub scan_answers : (version : ℕ) (layout : Layout) (copies : Copies) (old new : Option Told) (result : Result Scanned (Rooms × OpenError)) → new ≡ after Sync old → IsServed layout copies.found.content → TellsReadAs version (λ (c : Copies). c.found) layout old (Ok copies)
-    → IfOk result (λ s. s.copies ≡ copies) → IfErr result (λ refused. RefusesBase layout copies.found.content new refused.1) → TellsReadAs version (λ (s : Scanned). s.copies.found) layout old (without_rooms result)
-scan_answers version layout copies None new result barrier served answer same refuses = tt
-scan_answers version layout copies (Some t) new (Ok s) barrier served answer same refuses = subst (λ (c : Copies). IsFoundAs version t.shown c.found) (sym same) answer
-scan_answers version layout copies (Some t) new (Err refused) barrier served answer same refuses = λ whole.
+-- the superblock is the answer so far
+pub scan_found : (version : ℕ) (layout : Layout) (told : Option Told) (copies : Copies) (s : Scanned) → s.copies ≡ copies → TellsReadAs version (λ (c : Copies). c.found) layout told (Ok copies) → TellsReadAs version (λ (x : Scanned). x.copies.found) layout told (Ok s)
+scan_found version layout None copies s same answer = tt
+scan_found version layout (Some t) copies s same answer = subst (λ (c : Copies). IsFoundAs version t.shown c.found) (sym same) answer
+
+-- and so is a refusal of the trailer after it
+pub scan_refused : (version : ℕ) (layout : Layout) (copies : Copies) (old new : Option Told) (file : DataFile) (e : OpenError) → new ≡ after Sync old → IsServed layout copies.found.content → TellsReadAs version (λ (c : Copies). c.found) layout old (Ok copies)
+    → IsFileOf layout copies.found.content file → TellsCheckpoint file new copies.found.content (Err e) → TellsReadAs version (λ (s : Scanned). s.copies.found) layout old (Err e)
+scan_refused version layout copies None new file e barrier served answer of refused = tt
+scan_refused version layout copies (Some t) new file e barrier served answer of refused = λ whole.
     let f = copies.found.content in
-    let file = refuses.file in
-    let asked = file_asked version t.shown f file answer.super refuses.of.version_is in
-    let tells : TellsCheckpoint refuses.file (Some t) f (Err refused.1) = tells_synced file (Some t) f (Err refused.1) (subst (λ (u : Option Told). TellsCheckpoint refuses.file u f (Err refused.1)) barrier refuses.tells) in
-    subst (λ (l : Layout). SurveysAs version l t.shown (Err refused.1)) refuses.of.layout_is
-    (subst (λ (v : ℕ). SurveysAs v file.layout t.shown (Err refused.1)) asked.0
-    (trailer_refused file t.shown f (record { super = asked.1; layout = subst (λ (l : Layout). IsLayoutOf l f) (sym refuses.of.layout_is) served.layout_is; cluster = sym refuses.of.cluster_is }) whole refused.1 tells))
+    let asked = file_asked version t.shown f file answer.super of.version_is in
+    let tells : TellsCheckpoint file (Some t) f (Err e) = tells_synced file (Some t) f (Err e) (subst (λ (u : Option Told). TellsCheckpoint file u f (Err e)) barrier refused) in
+    subst (λ (l : Layout). SurveysAs version l t.shown (Err e)) of.layout_is
+    (subst (λ (v : ℕ). SurveysAs v file.layout t.shown (Err e)) asked.0
+    (trailer_refused file t.shown f (record { super = asked.1; layout = subst (λ (l : Layout). IsLayoutOf l f) (sym of.layout_is) served.layout_is; cluster = sym of.cluster_is }) whole e tells))
 
 -- ---- what was scanned is of its file
 

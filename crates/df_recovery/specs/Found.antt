@@ -6,12 +6,10 @@ use Rattle.df_disk.specs.Told.{Told, after}
 use Rattle.df_disk.specs.Adds.{AddsPart}
 use Rattle.df_layout.specs.declared.layout.Layout.{Layout}
 use Rattle.df_format.specs.Copies.{Content, content_at}
-use Rattle.df_format.specs.declared.superblock.SuperFault.{SuperFault}
-use Rattle.df_format.specs.declared.superblock.SuperFault.TheVariants.{Version as OtherVersion, BadField as BrokenField}
 use Rattle.df_format.specs.declared.superblock.SuperFields.{SuperFields}
 use Rattle.df_quorum.specs.Quorum.{IsChosenContent, AreMembers}
 use Rattle.df_quorum.specs.declared.choice.Chosen.{Chosen}
-use Rattle.df_recovery.specs.Opening.{HasSuperAs, IsLayoutOf, RefusesAs, fault_as}
+use Rattle.df_recovery.specs.Opening.{HasSuperAs, IsLayoutOf, RefusesAs}
 use Rattle.df_model.specs.declared.errors.OpenError.{OpenError}
 use Rattle.df_model.specs.declared.errors.OpenError.TheVariants.{NotFormatted, NoQuorum, Version, BadField, LayoutDiffers, Damaged, DiskFault, BootSpent}
 use Rattle.df_recovery.specs.declared.superblock.Found.{Found}
@@ -64,14 +62,6 @@ TellsFoundAs version (Some t) result = AnswersAs version (IsFoundAs version t.sh
 abbrev pub TellsLayoutAs : ℕ → Option Told → Result Layout OpenError → Type 0
 TellsLayoutAs version None result = Unit {0}
 TellsLayoutAs version (Some t) result = AnswersAs version (IsLayoutShownAs version t.shown) t.shown result
-
--- the refusal of a superblock that can't be used
-abbrev pub fault_error : SuperFault → OpenError
-fault_error (OtherVersion found) = Version found
-fault_error (BrokenField field value) = BadField field value
-
-abbrev pub HasFaultOf : ℕ → SuperFields → OpenError → Type 0
-HasFaultOf version f e = (fault : SuperFault) × (fault_as version f ≡ Some fault) × (e ≡ fault_error fault)
 
 -- a refusal by what the copies say, and nothing else
 abbrev pub IsRefusal : OpenError → Type 0

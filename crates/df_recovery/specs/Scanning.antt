@@ -1,5 +1,5 @@
 -- What an open reads of a file before it finds the state: the superblock, whether the rooms serve its file, the trailer, and what the rings and the reply slots show.
-use Rattle.std.specs.Prelude.{◌≡◌, ◌≢◌, ℕ, List, Option, Some, None, Result, Ok, Err}
+use Rattle.std.specs.Prelude.{◌≡◌, ℕ, List, Option, Some, None, Result, Ok, Err}
 use Rattle.df_base.specs.Image.{Image, IsImage}
 use Rattle.df_disk.specs.Told.{Told}
 use Rattle.df_layout.specs.declared.damage.Class.{Class}
@@ -9,7 +9,6 @@ use Rattle.df_format.specs.declared.superblock.SuperFields.{SuperFields}
 use Rattle.df_journal.specs.Scan.{Scan}
 use Rattle.df_journal.specs.Scanned
 use Rattle.df_model.specs.declared.errors.OpenError.{OpenError}
-use Rattle.df_model.specs.declared.errors.OpenError.TheVariants.{LayoutDiffers}
 use Rattle.df_replies.specs.Shown
 use Rattle.df_recovery.specs.Found.{IsFoundAs}
 use Rattle.df_recovery.specs.Opening.{IsLayoutOf}
@@ -30,16 +29,6 @@ use Rattle.df_rooms.specs.declared.file_rooms.FileRooms.{FileRooms}
 -- the rooms of a layout serve the file of a superblock: it is of their layout
 pub record IsServed (layout : Layout) (f : SuperFields) : Type 0 where
   pub layout_is : IsLayoutOf layout f
-
--- the superblock without what the places of its copies show
-abbrev pub found_in : Result Copies OpenError → Result Found OpenError
-found_in (Ok copies) = Ok copies.found
-found_in (Err e) = Err e
-
--- why they don't
-abbrev pub IsUnserved : Layout → SuperFields → OpenError → Type 0
-IsUnserved layout f (LayoutDiffers reserved found) = (reserved ≡ layout) × IsLayoutOf found f × (found ≢ layout)
-IsUnserved layout f e = ⊥
 
 -- what the image answers so far, where the version is asked for: the superblock, or, of whole sectors, the survey's refusal
 abbrev pub ReadsAs : {T : Type 0} → ℕ → (T → Found) → Layout → Image → Result T OpenError → Type 0
@@ -147,12 +136,6 @@ pub record IsFileOf (layout : Layout) (f : SuperFields) (file : DataFile) : Type
   pub layout_is : file.layout ≡ layout
   pub cluster_is : file.cluster ≡ f.cluster
   pub version_is : file.version ≡ f.version
-
--- what stands after the superblock isn't read: the disk failed, or the trailer of its file is refused
-pub record RefusesBase (layout : Layout) (f : SuperFields) (told : Option Told) (e : OpenError) : Type 0 where
-  pub file : DataFile
-  pub of : IsFileOf layout f file
-  pub tells : TellsCheckpoint file told f (Err e)
 
 -- what stands after the superblock was read into rooms of a layout
 pub record IsReadBehind (layout : Layout) (told : Option Told) (s : Scanned) : Type 0 where

@@ -1,9 +1,9 @@
 // What an open finds after a superblock, from what a scan saw of the slots and of the replies: the state, or the first
 // damage in the order of open.
-ghost use Rattle.std.specs.Prelude.{◌≡◌, ◌<◌, ◌+◌, ◌^◌, length, position, IfOk, IfErr};
-ghost use Rattle.df_recovery.specs.Below.{CopyPlace, PreparePlace, ReplyPlace, Units, CountsAll, CountsBound, CountsReplies, entry, class_of, KeepsRules, ShowsTable, ShowsReplies};
+ghost use Rattle.std.specs.Prelude.{◌≡◌, ◌≢◌, ◌<◌, ℕ, Some, length, position, slice_get, IfOk, IfErr};
+ghost use Rattle.df_recovery.specs.Below.{CopyPlace, KeepsRules, PreparePlace, Session as AnySession, class_of, entry, sessions_of};
 ghost use Rattle.df_journal.specs.Shows.{IsSeenTable};
-ghost use Rattle.df_recovery.specs.Finding.{AnswersFinding, FileIsRead, IsDamage, KeptIsAnswer, RefusedIsAnswer, StateIsOpened, damage, lowest_of};
+ghost use Rattle.df_recovery.specs.Finding.{AnswersFinding, FileIsRead, IsDamage, KeptIsAnswer, RefusedIsAnswer, StateIsOpened, StoredIsKept, StoresTo, damage, lowest_of, with_stored};
 ghost use Rattle.df_recovery.specs.Checkpoints.{AreOfCheckpoint};
 ghost use Rattle.df_journal.specs.Starting.{start_of};
 ghost use Rattle.df_recovery.specs.Surveying.{AreAfter, EndsBehind};
@@ -11,9 +11,10 @@ ghost use Rattle.df_recovery.specs.Surveying.{AreAfter, EndsBehind};
 use crate::known::find_known;
 use crate::{Found, OpenError};
 use df_base::GREATEST;
+use df_format::Header;
 use df_journal::{SlotTable, Tail, bound_top, count_rings, is_behind, is_lost, slot_of};
 use df_layout::{Class, Layout, Place, Zone};
-use df_replies::{Lacking, ReplyTable};
+use df_replies::ReplyTable;
 use df_sessions::SessionTable;
 use df_stamps::Counters;
 
@@ -22,23 +23,6 @@ use df_stamps::Counters;
 pub struct Traces {
     pub tail: Tail,
     pub replies: u64,
-}
-
-// The number of the lowest copy that is a member.
-fn lowest_member(members: &[bool; 4]) -> Option<usize>
-    ensures { result ≡ position (λ member. member) members.now }
-{
-    members.iter().position(|member| *member)
-}
-
-// The same, and 0 where there is none.
-fn lowest_of(members: &[bool; 4]) -> u64
-    ensures { result ≡ lowest_of members.now }
-{
-    match lowest_member(members) {
-        Some(number) => number as u64,
-        None => 0,
-    }
 }
 
 fn damage(zone: Zone, index: u64, class: Class) -> OpenError
@@ -50,15 +34,19 @@ fn damage(zone: Zone, index: u64, class: Class) -> OpenError
     }
 }
 
-// The copy that names a checkpoint which something is later than.
+// The number of the lowest copy that is a member.
+fn lowest_member(members: &[bool; 4]) -> Option<usize>
+    ensures { result ≡ position (λ member. member) members.now }
+{
+    members.iter().position(|member| *member)
+}
+
+// The copy that names a checkpoint which something is later than: the lowest one that is a member of the choice.
 fn behind_damage(found: &Found) -> OpenError
     ensures { result ≡ damage (CopyPlace (lowest_of found.now.chosen.members)) Class.Stale }
 {
-    damage(
-        Zone::Superblock,
-        lowest_of(&found.chosen.members),
-        Class::Stale,
-    )
+    let lowest = lowest_member(&found.chosen.members).unwrap_or(0);
+    damage(Zone::Superblock, lowest as u64, Class::Stale)
 }
 
 // The slot of an op whose prepare is wanted there.
@@ -67,34 +55,6 @@ fn lost_damage(slots: &SlotTable, slot: u32) -> OpenError
     ensures { result ≡ damage (PreparePlace slot) (class_of (entry slots.now slot).prepare) }
 {
     damage(Zone::WalPrepares, u64::from(slot), slots.class(slot))
-}
-
-// The slot of a reply that isn't shown.
-fn reply_damage(lacking: &Lacking) -> OpenError
-    ensures { result ≡ damage (ReplyPlace lacking.now.place) lacking.now.class }
-{
-    damage(Zone::ClientReplies, lacking.place, lacking.class)
-}
-
-// The counters of all units, in the rings and in the reply slots; the ops and marks are those of the replies of this boot.
-fn count_all(slots: &SlotTable, replies: &ReplyTable, boot: u64) -> Counters
-    ensures all { (image : Units) → ShowsTable image slots.now.slots → ShowsReplies image replies.now → CountsAll image result }
-    ensures own { (image : Units) → ShowsTable image slots.now.slots → ShowsReplies image replies.now → CountsReplies boot image result }
-{
-    replies.count(&count_rings(slots), boot)
-}
-
-// The same counters, but for the ops in the rings: of these the ones that bind the head, where it may be this one.
-fn bound_of(seen: &Counters, slots: &SlotTable, boot: u64, head: u64) -> Counters
-    requires { head < 2 ^ 63 }
-    ensures { (image : Units) → ShowsTable image slots.now.slots → CountsReplies boot image seen.now → CountsBound boot head image result }
-{
-    Counters {
-        ring_op: bound_top(slots, boot, head),
-        reply_top: seen.reply_top,
-        checkpoint: seen.checkpoint,
-        boot: seen.boot,
-    }
 }
 
 /// The state after the checkpoint of a superblock, which the table of slots and the replies show; the sessions, at first
@@ -121,7 +81,7 @@ pub fn find_state(
     ensures rules { KeepsRules sessions.old sessions.new }
 {
     let content = found.content.fields();
-    let seen = count_all(slots, replies, content.boot);
+    let seen = replies.count(&count_rings(slots), content.boot);
     if is_behind(
         &seen,
         content.sequence,
@@ -136,13 +96,16 @@ pub fn find_state(
         Err(slot) => return Err(lost_damage(slots, slot)),
     };
     let tail = reach.tail;
-    let bound = bound_of(&seen, slots, content.boot, tail.op);
+    let bound = Counters {
+        ring_op: bound_top(slots, content.boot, tail.op),
+        ..seen
+    };
     if is_lost(&bound, content.head, tail.op) {
         return Err(lost_damage(slots, slot_of(layout, reach.op + 1)));
     }
     let stored = replies.replies(content.replies, tail.mark, content.boot);
     match replies.first_lacking(sessions, stored, content) {
-        Some(lacking) => Err(reply_damage(&lacking)),
+        Some(lacking) => Err(damage(Zone::ClientReplies, lacking.place, lacking.class)),
         None => {
             if content.boot == GREATEST {
                 Err(OpenError::BootSpent)
@@ -153,6 +116,37 @@ pub fn find_state(
                 })
             }
         }
+    }
+}
+
+// Stores the checksum of a shown reply for the session of a place, if its op is at most `stored`.
+fn store_reply(sessions: &mut SessionTable, place: u64, stored: u64, reply: &Result<Header, Class>)
+    requires { place < length sessions.old.sessions }
+    ensures stored { (s : AnySession) → slice_get sessions.old.sessions place ≡ Some s → slice_get sessions.new.sessions place ≡ Some (with_stored stored (Some reply.now) s) }
+    ensures others { (k : ℕ) → k ≢ place → slice_get sessions.new.sessions k ≡ slice_get sessions.old.sessions k }
+    ensures requests { sessions_of sessions.new.sessions ≡ sessions_of sessions.old.sessions }
+    ensures places { sessions.new.max ≡ sessions.old.max }
+{
+    if let (Some(session), Ok(header)) = (sessions.get(place), reply) {
+        if session.op <= stored {
+            let checksum = header.checksum;
+            sessions.store(place, checksum);
+        }
+    }
+}
+
+/// Stores for each session whose op is at most `stored` the checksum of the reply that its slot shows.
+pub fn store_replies(sessions: &mut SessionTable, stored: u64, replies: &ReplyTable)
+    requires { sessions.old.max ≡ length replies.now }
+    ensures stored { StoresTo stored replies.now (length sessions.old.sessions) sessions.old.sessions sessions.new.sessions }
+    ensures places { sessions.new.max ≡ sessions.old.max }
+{
+    let count = sessions.len();
+    let mut place = 0;
+    while place < count {
+        let reply = replies.get(place as u32);
+        store_reply(sessions, place, stored, &reply);
+        place += 1;
     }
 }
 
@@ -170,4 +164,9 @@ pub fn file_is_read()
 pub fn found_is_answer()
     ensures refused { RefusedIsAnswer }
     ensures kept { KeptIsAnswer }
+{}
+
+/// Where the replies of the sessions are stored so, each is the one that counts as stored in the theory.
+pub fn stored_is_kept()
+    ensures { StoredIsKept }
 {}

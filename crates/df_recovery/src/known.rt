@@ -1,7 +1,6 @@
 // The prepares that a superblock names: they are looked for by their checksums, and then the tail is walked.
 ghost use Rattle.std.specs.Prelude.{◌≡◌, ◌<◌, ◌+◌, IfOk, IfErr};
 ghost use Rattle.df_format.specs.SuperRules.{IsUsable};
-ghost use Rattle.df_journal.specs.Known.{AllKnown};
 ghost use Rattle.df_journal.specs.Shows.{IsSeenTable, TellsRings};
 ghost use Rattle.df_journal.specs.Tail.{IsReached};
 ghost use Rattle.df_recovery.specs.Below.{Checkpoint, IsWithinRing, KeepsRules, Shape, Units, pin_checksum_of, pin_of};
@@ -22,34 +21,6 @@ fn pin_checksum_of(fields: &SuperFields) -> Check
         fields.head_checksum
     } else {
         fields.op_checksum
-    }
-}
-
-// How far taken prepares go on after the checkpoint of a superblock, where each prepare that it names is shown; or the slot of
-// the first one of these that doesn't fit.
-fn find_fitting(
-    layout: &Layout,
-    fields: &SuperFields,
-    slots: &SlotTable,
-    sessions: &mut SessionTable,
-) -> Result<Reach, u32>
-    requires table { IsSeenTable layout.now slots.now.start.cluster slots.now.slots }
-    requires start { slots.now.start ≡ start_of fields.now }
-    requires rules { IsUsable fields.now }
-    requires size { fields.now.slots ≡ layout.now.slots }
-    requires places { sessions.old.max ≡ layout.now.clients }
-    ensures reach { IfOk result (λ reach. (sh : Shape) (image : Units) (b : Checkpoint) → TellsRings layout.now image slots.now → IsBaseOf sh b layout.now fields.now sessions.old.sessions → AllKnown sh image b.content → IsReached sh image b reach sessions.new.sessions) }
-    ensures unfit { IfErr result (λ slot. (sh : Shape) (image : Units) (b : Checkpoint) → TellsRings layout.now image slots.now → IsBaseOf sh b layout.now fields.now sessions.old.sessions → AllKnown sh image b.content → BlamesKnown sh image b slot) }
-    ensures slot { IfErr result (λ slot. slot < layout.now.slots) }
-    ensures bounds { IfOk result (IsWithinRing fields.now.op layout.now.slots fields.now.op_checksum) }
-    ensures sessions { KeepsRules sessions.old sessions.new }
-{
-    let reach = find_reach(layout, slots, &fields.op_checksum, sessions);
-    let pin = pin_of(fields);
-    if reach.op < pin {
-        Err(slot_of(layout, reach.op + 1))
-    } else {
-        Ok(reach)
     }
 }
 
@@ -76,6 +47,14 @@ pub(crate) fn find_known(
     let named = pin_checksum_of(fields);
     match lacking_known(layout, slots, &named) {
         Some(op) => Err(slot_of(layout, op)),
-        None => find_fitting(layout, fields, slots, sessions),
+        None => {
+            let reach = find_reach(layout, slots, &fields.op_checksum, sessions);
+            let pin = pin_of(fields);
+            if reach.op < pin {
+                Err(slot_of(layout, reach.op + 1))
+            } else {
+                Ok(reach)
+            }
+        }
     }
 }

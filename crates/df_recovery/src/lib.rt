@@ -9,21 +9,19 @@ mod opening;
 mod planning;
 mod scanned;
 mod scanning;
-mod stored;
 mod superblock;
 mod surveying;
-mod waiting;
-mod zones;
 
 pub use answers::{one_answer, one_refusal_is_given, super_is_written};
 pub use df_model::OpenError;
 pub use df_rooms::{DataFile, FileRooms, LogRooms, Parts, Rooms, RunningCheckpoint, Staging};
-pub use finding::{Traces, file_is_read, find_state, found_is_answer, state_is_opened};
+pub use finding::{
+    Traces, file_is_read, find_state, found_is_answer, state_is_opened, store_replies,
+    stored_is_kept,
+};
 pub use opening::{probe, probe_version, read_superblock, survey_superblock};
 pub use planning::plan;
 pub use scanned::Scanned;
 pub use scanning::{Copies, scan_file};
-pub use stored::{store_replies, stored_is_kept};
 pub use superblock::Found;
-pub use surveying::{Surveyed, survey_version};
-pub use waiting::waiting_of;
+pub use surveying::{Surveyed, survey_version, waiting_of};

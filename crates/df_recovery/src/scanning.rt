@@ -1,17 +1,17 @@
 // What an open reads of a file: after the barrier the four copies of the superblock, the trailer, both rings and the reply slots.
-ghost use Rattle.std.specs.Prelude.{◌≡◌, IfOk, IfErr, Ok, OnOk};
-ghost use Rattle.df_recovery.specs.Below.{AreFieldsOf, IsBlamed, is_open_fault};
-ghost use Rattle.df_recovery.specs.Found.{Syncs, TellsFoundAs};
-ghost use Rattle.df_recovery.specs.Scanning.{AreCopies, AreRoomsOf, FitsFile, IsReadBehind, IsScanAs, IsServed, IsUnserved, ReadsBehind, RefusesBase, TellsReadAs, found_in, without_rooms};
+ghost use Rattle.std.specs.Prelude.{◌≡◌, ◌≤◌, IfOk, IfErr, OnOk};
+ghost use Rattle.df_base.specs.declared.TheConstants.{GREATEST};
+ghost use Rattle.df_recovery.specs.Below.{AreFieldsOf, HasCause, IsBlamed, is_open_fault};
+ghost use Rattle.df_recovery.specs.Found.{Syncs};
+ghost use Rattle.df_recovery.specs.Scanning.{AreCopies, AreRoomsOf, AreScanned, FitsFile, IsScanAs, IsServed, ReadsBehind, TellsReadAs, without_rooms};
 
 use crate::checkpoint::{Checkpoint, read_checkpoint};
 use crate::superblock::superblock_of;
-use crate::zones::scan_zones;
 use crate::{Found, OpenError, Scanned};
-use df_buffers::ProbeRoom;
+use df_base::Failed;
 use df_disk::Disk;
 use df_format::Super;
-use df_journal::Start;
+use df_journal::{Start, scan_shelf};
 use df_layout::Layout;
 use df_quorum::Slot;
 use df_rooms::{DataFile, FileRooms, LogRooms, Rooms};
@@ -24,59 +24,8 @@ pub struct Copies {
     pub slots: [Slot; 4],
 }
 
-// The superblock that the four places show, with what they show.
-fn read_copies<D: Disk>(
-    disk: &mut D,
-    room: &mut ProbeRoom,
-    version: u32,
-) -> Result<Copies, OpenError>
-    ensures copies { IfOk result (AreCopies version (D.told disk.old)) }
-    ensures answer { TellsFoundAs version (D.told disk.old) (found_in result) }
-    ensures same { D.told disk.new ≡ D.told disk.old }
-    ensures cause { IsBlamed is_open_fault (D.faults disk.old) (D.faults disk.new) result }
-{
-    match read_all(disk, room) {
-        Ok(slots) => {
-            let found = superblock_of(&slots, version)?;
-            Ok(Copies { found, slots })
-        }
-        Err(_) => Err(OpenError::DiskFault),
-    }
-}
-
-// Whether rooms of a layout serve the file of a superblock.
-fn test_served(layout: &Layout, content: &Super) -> Result<(), OpenError>
-    ensures served { OnOk result (IsServed layout.now content.now) }
-    ensures unserved { IfErr result (IsUnserved layout.now content.now) }
-{
-    let found = content.layout();
-    if found != *layout {
-        return Err(OpenError::LayoutDiffers {
-            reserved: *layout,
-            found,
-        });
-    }
-    Ok(())
-}
-
-// Makes durable whatever an earlier call left loose, and then finds the superblock.
-fn find_copies<D: Disk>(
-    disk: &mut D,
-    room: &mut ProbeRoom,
-    version: u32,
-) -> Result<Copies, OpenError>
-    ensures copies { IfOk result (AreCopies version (D.told disk.old)) }
-    ensures answer { TellsFoundAs version (D.told disk.old) (found_in result) }
-    ensures barrier { Syncs (D.told disk.old) (D.told disk.new) result }
-    ensures cause { IsBlamed is_open_fault (D.faults disk.old) (D.faults disk.new) result }
-{
-    match disk.sync() {
-        Ok(()) => read_copies(disk, room, version),
-        Err(_) => Err(OpenError::DiskFault),
-    }
-}
-
-// The superblock, where rooms of the layout serve its file.
+// Finds the superblock, after a sync that makes durable whatever an earlier call left loose, where rooms of the layout serve its
+// file.
 fn find_served<D: Disk>(
     disk: &mut D,
     layout: &Layout,
@@ -90,9 +39,46 @@ fn find_served<D: Disk>(
     ensures barrier { Syncs (D.told disk.old) (D.told disk.new) result }
     ensures cause { IsBlamed is_open_fault (D.faults disk.old) (D.faults disk.new) result }
 {
-    let copies = find_copies(disk, &mut rooms.superblock, version)?;
-    test_served(layout, &copies.found.content)?;
-    Ok(copies)
+    match disk.sync() {
+        Ok(()) => {}
+        Err(_) => return Err(OpenError::DiskFault),
+    }
+    let slots = match read_all(disk, &mut rooms.superblock) {
+        Ok(slots) => slots,
+        Err(_) => return Err(OpenError::DiskFault),
+    };
+    let found = superblock_of(&slots, version)?;
+    let there = found.content.layout();
+    if there != *layout {
+        return Err(OpenError::LayoutDiffers {
+            reserved: *layout,
+            found: there,
+        });
+    }
+    Ok(Copies { found, slots })
+}
+
+// Scans the rings and then the reply slots into the tables of the rooms, which are lent.
+fn scan_zones<D: Disk>(disk: &mut D, start: &Start, rooms: &mut LogRooms) -> Result<(), Failed>
+    requires op { start.now.op ≤ GREATEST }
+    ensures scanned { OnOk result (AreScanned rooms.old.layout start.now.cluster (D.told disk.old) rooms.new.slots rooms.new.replies) }
+    ensures start { rooms.new.slots.start ≡ start.now }
+    ensures rooms { rooms.new.layout ≡ rooms.old.layout }
+    ensures same { D.told disk.new ≡ D.told disk.old }
+    ensures cause { HasCause (D.faults disk.old) (D.faults disk.new) result }
+{
+    let layout = rooms.layout;
+    scan_shelf(
+        disk,
+        &layout,
+        start,
+        &mut rooms.slots,
+        &mut rooms.sector,
+        &mut rooms.prepare,
+    )?;
+    rooms
+        .replies
+        .scan(disk, &layout, start.cluster, &mut rooms.reply)
 }
 
 // Reads what stands after a superblock: its checkpoint, and then the rings and the reply slots.
@@ -116,39 +102,6 @@ fn read_behind<D: Disk>(
     }
 }
 
-// Reads what stands after a superblock that the rooms serve.
-fn scan_served<D: Disk>(
-    disk: &mut D,
-    copies: &Copies,
-    rooms: Rooms,
-) -> Result<Scanned, (Rooms, OpenError)>
-    requires served { IsServed rooms.layout copies.now.found.content }
-    ensures read { IfOk result (IsReadBehind rooms.layout (D.told disk.old)) }
-    ensures copies { IfOk result (λ s. s.copies ≡ copies.now) }
-    ensures given_back { IfErr result (λ refused. refused.0.layout ≡ rooms.layout) }
-    ensures refused { IfErr result (λ refused. RefusesBase rooms.layout copies.now.found.content (D.told disk.old) refused.1) }
-    ensures same { D.told disk.new ≡ D.told disk.old }
-    ensures cause { IsBlamed is_open_fault (D.faults disk.old) (D.faults disk.new) (without_rooms result) }
-{
-    let content = copies.found.content;
-    let file = DataFile {
-        layout: rooms.layout,
-        cluster: content.fields().cluster,
-        version: content.fields().version,
-    };
-    let mut rooms = rooms.into_file(file.cluster);
-    match read_behind(disk, &file, &content, &mut rooms) {
-        Ok(Checkpoint { root, sessions }) => Ok(Scanned {
-            file,
-            copies: *copies,
-            rooms,
-            root,
-            sessions,
-        }),
-        Err(refusal) => Err((rooms.into_rooms(), refusal)),
-    }
-}
-
 /// Makes durable whatever an earlier call left loose, finds the superblock, where this version is asked for, and where the rooms
 /// serve its file reads each block of the trailer twice, and each sector of the header ring, each slot of the ring of prepares and
 /// each reply slot once. The rooms come back with a refusal: one of the superblock, `LayoutDiffers`, or one of the trailer.
@@ -165,8 +118,25 @@ pub fn scan_file<D: Disk>(
 {
     let mut rooms = rooms;
     let layout = rooms.layout;
-    match find_served(disk, &layout, &mut rooms.log, version) {
-        Ok(copies) => scan_served(disk, &copies, rooms),
-        Err(refusal) => Err((rooms, refusal)),
+    let copies = match find_served(disk, &layout, &mut rooms.log, version) {
+        Ok(copies) => copies,
+        Err(refusal) => return Err((rooms, refusal)),
+    };
+    let content = &copies.found.content;
+    let file = DataFile {
+        layout,
+        cluster: content.fields().cluster,
+        version: content.fields().version,
+    };
+    let mut rooms = rooms.into_file(file.cluster);
+    match read_behind(disk, &file, content, &mut rooms) {
+        Ok(Checkpoint { root, sessions }) => Ok(Scanned {
+            file,
+            copies,
+            rooms,
+            root,
+            sessions,
+        }),
+        Err(refusal) => Err((rooms.into_rooms(), refusal)),
     }
 }

@@ -1,26 +1,27 @@
 // The survey of a file of either version: what it shows is read, its state is found, and what is to be mended is listed. Nothing is
 // written.
-ghost use Rattle.std.specs.Prelude.{◌≡◌, ◌≤◌, ◌+◌, IfOk, IfErr};
-ghost use Rattle.df_journal.specs.Shows.{IsSeenTable as AreSlots};
+ghost use Rattle.std.specs.Prelude.{◌≡◌, ◌≤◌, ◌+◌, length, IfOk, IfErr};
 ghost use Rattle.df_recovery.specs.Below.{IsBlamed, Told, is_open_fault};
 ghost use Rattle.df_recovery.specs.Checkpoints.{AreOfCheckpoint};
 ghost use Rattle.df_recovery.specs.Finding.{IsDamage, IsOfFile, read_of};
 ghost use Rattle.df_recovery.specs.Found.{Syncs};
 ghost use Rattle.df_recovery.specs.Scanning.{base_scanned, without_rooms};
-ghost use Rattle.df_recovery.specs.Surveying.{AreAfter, EndsBehind, HavePlan, IsLawfulScan, IsPlannedFor, IsReadOf, IsWellFound, KeepsRead, KeepsScannedFile, TellsPlannedMends, TellsSurveyAs, found_or_refused};
+ghost use Rattle.df_recovery.specs.Surveying.{AreAfter, EndsBehind, IsLawfulScan, IsPlannedFor, IsReadOf, IsWellFound, KeepsRead, KeepsScannedFile, TellsPlannedMends, TellsSurveyAs, found_or_refused};
 ghost use Rattle.df_recovery.specs.Surveys.{SurveysAs};
-ghost use Rattle.df_recovery.specs.Waiting.{waiting_in};
+ghost use Rattle.df_recovery.specs.Waiting.{waiting_at, waiting_in};
 
-use crate::finding::{Traces, find_state};
+use crate::finding::{Traces, find_state, store_replies};
 use crate::planning::plan;
-use crate::scanning::{Copies, scan_file};
-use crate::stored::store_replies;
-use crate::waiting::waiting_of;
+use crate::scanning::scan_file;
 use crate::{OpenError, Scanned};
 use arrayvec::ArrayVec;
 use df_base::Check;
 use df_disk::Disk;
-use df_rooms::{DataFile, LogRooms, Rooms};
+use df_format::NO_CHECKSUM;
+use df_headers::HeaderTable;
+use df_journal::SlotTable;
+use df_layout::Layout;
+use df_rooms::Rooms;
 
 /// A file that was surveyed: what was read of it, with the sessions and their stored replies after the tail, and in its rooms the
 /// header that each slot of the header ring is to have and the list of what is to be mended; where the tail ends, how many replies
@@ -32,52 +33,63 @@ pub struct Surveyed {
     pub waiting: ArrayVec<Check, 8>,
 }
 
-// Plans the mending in the rooms, with the head that was found: the header that each slot is to have, and the list.
-fn plan_log(file: &DataFile, copies: &Copies, head: u64, rooms: &mut LogRooms)
-    requires layout { rooms.old.layout ≡ file.now.layout }
-    requires cluster { rooms.old.slots.start.cluster ≡ file.now.cluster }
-    requires slots { AreSlots file.now.layout file.now.cluster rooms.old.slots.slots }
-    ensures planned { HavePlan file.now copies.now head rooms.new }
-    ensures layout { rooms.new.layout ≡ file.now.layout }
-    ensures slots { rooms.new.slots ≡ rooms.old.slots }
-    ensures replies { rooms.new.replies ≡ rooms.old.replies }
+// The checksum of the prepare with an op: after the checkpoint by the header table, and else by what its slot showed, zeros where it
+// showed none.
+#[tactic(auto, unfolding(df_format::specs::Spelling::no_checksum))]
+fn waiting_at(
+    layout: &Layout,
+    slots: &SlotTable,
+    headers: &HeaderTable,
+    base: u64,
+    op: u64,
+) -> Check
+    requires slots { length slots.now.slots ≡ layout.now.slots }
+    requires headers { length headers.now ≡ layout.now.slots }
+    requires base { base ≡ slots.now.start.op }
+    ensures { result ≡ waiting_at layout.now.slots slots.now headers.now op }
 {
-    let layout = rooms.layout;
-    let members = copies.found.chosen.members;
-    plan(
-        &layout,
-        file.cluster,
-        &rooms.slots,
-        head,
-        &copies.slots,
-        &members,
-        &mut rooms.headers,
-        &mut rooms.mends,
-    );
+    let slot = (op % u64::from(layout.slots)) as u32;
+    if base < op {
+        return headers.get(slot).checksum;
+    }
+    match slots.prepare(slot) {
+        Some(header) => {
+            if header.op == op {
+                header.checksum
+            } else {
+                NO_CHECKSUM
+            }
+        }
+        None => NO_CHECKSUM,
+    }
 }
 
-// The checksums of the prepares that wait, by the tables of the rooms.
-fn waits_in(
-    file: &DataFile,
-    rooms: &LogRooms,
+/// The checksums of the prepares above the stored replies, up to the head, in order of op. That of an op above the checkpoint's
+/// is the one in the header table; that of any other op is the one of the prepare with it that its slot showed, and zeros where
+/// the slot showed none.
+#[tactic(auto, using(crate::proofs::Waits::waiting_count, crate::proofs::Waits::waiting_more, crate::proofs::Waits::waiting_none))]
+pub fn waiting_of(
+    layout: &Layout,
+    slots: &SlotTable,
+    headers: &HeaderTable,
     base: u64,
     replies: u64,
     head: u64,
 ) -> ArrayVec<Check, 8>
-    requires layout { rooms.now.layout ≡ file.now.layout }
-    requires base { base ≡ rooms.now.slots.start.op }
+    requires slots { length slots.now.slots ≡ layout.now.slots }
+    requires headers { length headers.now ≡ layout.now.slots }
+    requires base { base ≡ slots.now.start.op }
     requires order { replies ≤ head }
     requires few { head ≤ replies + 8 }
-    ensures { result.items ≡ waiting_in file.now.layout.slots rooms.now.slots rooms.now.headers replies head }
+    ensures { result.items ≡ waiting_in layout.now.slots slots.now headers.now replies head }
 {
-    waiting_of(
-        &file.layout,
-        &rooms.slots,
-        &rooms.headers,
-        base,
-        replies,
-        head,
-    )
+    let mut waiting = ArrayVec::new();
+    let mut op = replies;
+    while op < head {
+        op += 1;
+        waiting.push(waiting_at(layout, slots, headers, base, op));
+    }
+    waiting
 }
 
 // The survey of a file whose state was found: of what was read, with the sessions after the tail and their stored replies.
@@ -94,12 +106,25 @@ fn with_plan(traces: &Traces, scanned: Scanned) -> Surveyed
     let mut scanned = scanned;
     let file = scanned.file;
     let copies = scanned.copies;
+    let members = copies.found.chosen.members;
     let head = traces.tail.op;
     let rooms = &mut scanned.rooms;
-    plan_log(&file, &copies, head, &mut rooms.log);
-    let waiting = waits_in(
-        &file,
-        &scanned.rooms.log,
+    let log = &mut rooms.log;
+    let layout = log.layout;
+    plan(
+        &layout,
+        file.cluster,
+        &log.slots,
+        head,
+        &copies.slots,
+        &members,
+        &mut log.headers,
+        &mut log.mends,
+    );
+    let waiting = waiting_of(
+        &layout,
+        &log.slots,
+        &log.headers,
         copies.found.content.fields().op,
         traces.replies,
         head,

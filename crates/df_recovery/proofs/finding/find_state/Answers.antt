@@ -5,16 +5,16 @@ use Rattle.df_format.specs.{SuperRules.{IsSuper}, declared.superblock.SuperField
 use Rattle.df_journal.{specs.{Scan.{entry}, Seen.{class_of}}, proofs.Laws.{class_shown}}
 use Rattle.df_replies.{specs.Answers.{AllAnswered}, proofs.Laws.{stored_found}}
 use Rattle.df_sessions.specs.Requests.{sessions_of}
-use Rattle.df_stamps.specs.Evidence.{IsComplete}
+use Rattle.df_stamps.specs.{Evidence.{IsComplete}, declared.counters.Counters.{Counters}}
 use Rattle.df_theory.specs.{Opens.{LacksReply}, Sessions.{Tracks}, Units.{Content, CopyPlace, PreparePlace, ReplyPlace}}
-use Rattle.df_recovery.{specs.{Finding.{lowest_of}, Surveying.{EndsBehind}}, proofs.{FindingBounds.{any_base, any_is, any_shape, asked_on, boot_unspent, few_wait, image_of, not_above, shows_replies, shows_table, tracks_on}, FindingSteps.{at_place, below_spent, boot_is, content_same, counts_bound, finds, is_base, opens_behind, opens_known, opens_lacking, opens_lost, opens_spent}}}
+use Rattle.df_recovery.{specs.{Finding.{lowest_of}, Surveying.{EndsBehind}}, proofs.{FindingBounds.{any_base, any_is, any_shape, asked_on, boot_unspent, few_wait, image_of, not_above, shows_replies, shows_table, tracks_on}, FindingSteps.{at_place, below_spent, boot_is, bound_counts, content_same, counted, counts_bound, finds, is_base, opens_behind, opens_known, opens_lacking, opens_lost, opens_spent}}}
 use Rattle.df_recovery.proofs.finding.find_state.Goals as goal
 
 pub returns-then-is_behind-clause-answer : goal.returns-then-is_behind-clause-answer
 returns-then-is_behind-clause-answer c = at_place _ (CopyPlace (lowest_of c.args.found.now.chosen.members)) Stale c.behind_damage.result c.behind_damage.ensures
     (λ sh image b is.
     let content = content_same sh image b _ is c.fields-content.result.now c.fields-content.ensures.value in
-    let counts = c.count_all-seen.ensures.all image is.tells.shows is.shows in
+    let counts = counted sh image b _ is c.count_rings.result c.count-seen.result c.count_rings.ensures.rings c.count-seen.ensures.rings c.count-seen.ensures.checkpoint c.count-seen.ensures.boot in
     opens_behind sh image b _ is ((c.is_behind.ensures.behind sh image b.content counts (boot_is sh image b _ is c.fields-content.result.now c.fields-content.ensures.value) (ap (λ (x : Content). x.sequence) content) (ap (λ (x : Content). x.op) content) is.slots_are).0 c.if-is_behind.true))
     (λ t scanned. refl)
 
@@ -22,7 +22,7 @@ pub returns-in-Err-clause-answer : goal.returns-in-Err-clause-answer
 returns-in-Err-clause-answer c = at_place _ (PreparePlace c.in-Err.slot) (class_of (entry c.args.slots.now c.in-Err.slot).prepare) c.lost_damage.result c.lost_damage.ensures
     (λ sh image b is.
     let content = content_same sh image b _ is c.fields-content.result.now c.fields-content.ensures.value in
-    let counts = c.count_all-seen.ensures.all image is.tells.shows is.shows in
+    let counts = counted sh image b _ is c.count_rings.result c.count-seen.result c.count_rings.ensures.rings c.count-seen.ensures.rings c.count-seen.ensures.checkpoint c.count-seen.ensures.boot in
     let early = (c.is_behind.ensures.none sh image b.content counts (boot_is sh image b _ is c.fields-content.result.now c.fields-content.ensures.value) (ap (λ (x : Content). x.sequence) content) (ap (λ (x : Content). x.op) content) is.slots_are).0 c.if-is_behind.false in
     opens_known sh image b _ is c.in-Err.slot early (c.in-Err.ensures.blames sh image b is.tells (is_base sh image b _ is c.fields-content.result.now c.fields-content.ensures.value)))
     (λ t scanned. (class_shown c.args.layout.now t c.args.slots.now c.in-Err.slot scanned.slots c.in-Err.ensures.slot).1)
@@ -31,22 +31,22 @@ pub returns-then-is_lost-clause-answer : goal.returns-then-is_lost-clause-answer
 returns-then-is_lost-clause-answer c = at_place _ (PreparePlace c.slot_of.result) (class_of (entry c.args.slots.now c.slot_of.result).prepare) c.lost_damage-then-is_lost.result c.lost_damage-then-is_lost.ensures
     (λ sh image b is.
     let content = content_same sh image b _ is c.fields-content.result.now c.fields-content.ensures.value in
-    let counts = c.count_all-seen.ensures.all image is.tells.shows is.shows in
+    let counts = counted sh image b _ is c.count_rings.result c.count-seen.result c.count_rings.ensures.rings c.count-seen.ensures.rings c.count-seen.ensures.checkpoint c.count-seen.ensures.boot in
     let early = (c.is_behind.ensures.none sh image b.content counts (boot_is sh image b _ is c.fields-content.result.now c.fields-content.ensures.value) (ap (λ (x : Content). x.sequence) content) (ap (λ (x : Content). x.op) content) is.slots_are).0 c.if-is_behind.false in
     let found = c.in-Ok.ensures.reach sh image b is.tells (is_base sh image b _ is c.fields-content.result.now c.fields-content.ensures.value) in
-    let bound = counts_bound sh image b _ is c.fields-content.result.now c.in-Ok.reach.tail.op c.bound_of-bound.result c.fields-content.ensures.value (c.bound_of-bound.ensures image is.tells.shows (c.count_all-seen.ensures.own image is.tells.shows is.shows)) in
+    let bound = counts_bound sh image b _ is c.fields-content.result.now c.in-Ok.reach.tail.op c.bound_top.result c.count_rings.result c.count-seen.result c.fields-content.ensures.value c.bound_top.ensures c.count_rings.ensures.replies c.count-seen.ensures.top in
     let lost = (c.is_lost.ensures.lost image b.content bound (ap (λ (x : Content). x.head) content)).0 c.if-is_lost.true in
     opens_lost sh image b _ is c.in-Ok.reach c.find_known.new.sessions.sessions early found c.slot_of.result c.slot_of.ensures.value lost)
     (λ t scanned. (class_shown c.args.layout.now t c.args.slots.now c.slot_of.result scanned.slots c.slot_of.ensures.below).1)
 
 pub returns-in-Some-clause-answer : goal.returns-in-Some-clause-answer
-returns-in-Some-clause-answer c = at_place _ (ReplyPlace c.in-Some.lacking.place) c.in-Some.lacking.class c.reply_damage.result c.reply_damage.ensures
+returns-in-Some-clause-answer c = at_place _ (ReplyPlace c.in-Some.lacking.place) c.in-Some.lacking.class c.damage.result c.damage.ensures
     (λ sh image b is.
     let content = content_same sh image b _ is c.fields-content.result.now c.fields-content.ensures.value in
-    let counts = c.count_all-seen.ensures.all image is.tells.shows is.shows in
+    let counts = counted sh image b _ is c.count_rings.result c.count-seen.result c.count_rings.ensures.rings c.count-seen.ensures.rings c.count-seen.ensures.checkpoint c.count-seen.ensures.boot in
     let early = (c.is_behind.ensures.none sh image b.content counts (boot_is sh image b _ is c.fields-content.result.now c.fields-content.ensures.value) (ap (λ (x : Content). x.sequence) content) (ap (λ (x : Content). x.op) content) is.slots_are).0 c.if-is_behind.false in
     let found = c.in-Ok.ensures.reach sh image b is.tells (is_base sh image b _ is c.fields-content.result.now c.fields-content.ensures.value) in
-    let bound = counts_bound sh image b _ is c.fields-content.result.now c.in-Ok.reach.tail.op c.bound_of-bound.result c.fields-content.ensures.value (c.bound_of-bound.ensures image is.tells.shows (c.count_all-seen.ensures.own image is.tells.shows is.shows)) in
+    let bound = counts_bound sh image b _ is c.fields-content.result.now c.in-Ok.reach.tail.op c.bound_top.result c.count_rings.result c.count-seen.result c.fields-content.ensures.value c.bound_top.ensures c.count_rings.ensures.replies c.count-seen.ensures.top in
     let kept = (c.is_lost.ensures.none image b.content bound (ap (λ (x : Content). x.head) content)).0 c.if-is_lost.false in
     let number = c.replies-stored.ensures image b.content found.tail is.shows (boot_is sh image b _ is c.fields-content.result.now c.fields-content.ensures.value) (ap (λ (x : Content). x.replies) content) (sym found.ends.mark) in
     opens_lacking sh image b _ is c.in-Ok.reach c.find_known.new.sessions.sessions early found c.replies-stored.result c.in-Some.lacking.place kept number
@@ -57,10 +57,10 @@ returns-in-Some-clause-answer c = at_place _ (ReplyPlace c.in-Some.lacking.place
 pub returns-then-content-eq-GREATEST-clause-answer : goal.returns-then-content-eq-GREATEST-clause-answer
 returns-then-content-eq-GREATEST-clause-answer c = λ sh image b is.
     let content = content_same sh image b _ is c.fields-content.result.now c.fields-content.ensures.value in
-    let counts = c.count_all-seen.ensures.all image is.tells.shows is.shows in
+    let counts = counted sh image b _ is c.count_rings.result c.count-seen.result c.count_rings.ensures.rings c.count-seen.ensures.rings c.count-seen.ensures.checkpoint c.count-seen.ensures.boot in
     let early = (c.is_behind.ensures.none sh image b.content counts (boot_is sh image b _ is c.fields-content.result.now c.fields-content.ensures.value) (ap (λ (x : Content). x.sequence) content) (ap (λ (x : Content). x.op) content) is.slots_are).0 c.if-is_behind.false in
     let found = c.in-Ok.ensures.reach sh image b is.tells (is_base sh image b _ is c.fields-content.result.now c.fields-content.ensures.value) in
-    let bound = counts_bound sh image b _ is c.fields-content.result.now c.in-Ok.reach.tail.op c.bound_of-bound.result c.fields-content.ensures.value (c.bound_of-bound.ensures image is.tells.shows (c.count_all-seen.ensures.own image is.tells.shows is.shows)) in
+    let bound = counts_bound sh image b _ is c.fields-content.result.now c.in-Ok.reach.tail.op c.bound_top.result c.count_rings.result c.count-seen.result c.fields-content.ensures.value c.bound_top.ensures c.count_rings.ensures.replies c.count-seen.ensures.top in
     let kept = (c.is_lost.ensures.none image b.content bound (ap (λ (x : Content). x.head) content)).0 c.if-is_lost.false in
     let number = c.replies-stored.ensures image b.content found.tail is.shows (boot_is sh image b _ is c.fields-content.result.now c.fields-content.ensures.value) (ap (λ (x : Content). x.replies) content) (sym found.ends.mark) in
     opens_spent sh image b _ is c.in-Ok.reach c.find_known.new.sessions.sessions early found c.replies-stored.result (boot_is sh image b _ is c.fields-content.result.now c.fields-content.ensures.value ∙ c.if-content-eq-GREATEST.true) stored_found kept number
@@ -69,10 +69,10 @@ returns-then-content-eq-GREATEST-clause-answer c = λ sh image b is.
 pub returns-else-content-eq-GREATEST-clause-answer : goal.returns-else-content-eq-GREATEST-clause-answer
 returns-else-content-eq-GREATEST-clause-answer c = λ sh image b is.
     let content = content_same sh image b _ is c.fields-content.result.now c.fields-content.ensures.value in
-    let counts = c.count_all-seen.ensures.all image is.tells.shows is.shows in
+    let counts = counted sh image b _ is c.count_rings.result c.count-seen.result c.count_rings.ensures.rings c.count-seen.ensures.rings c.count-seen.ensures.checkpoint c.count-seen.ensures.boot in
     let early = (c.is_behind.ensures.none sh image b.content counts (boot_is sh image b _ is c.fields-content.result.now c.fields-content.ensures.value) (ap (λ (x : Content). x.sequence) content) (ap (λ (x : Content). x.op) content) is.slots_are).0 c.if-is_behind.false in
     let found = c.in-Ok.ensures.reach sh image b is.tells (is_base sh image b _ is c.fields-content.result.now c.fields-content.ensures.value) in
-    let bound = counts_bound sh image b _ is c.fields-content.result.now c.in-Ok.reach.tail.op c.bound_of-bound.result c.fields-content.ensures.value (c.bound_of-bound.ensures image is.tells.shows (c.count_all-seen.ensures.own image is.tells.shows is.shows)) in
+    let bound = counts_bound sh image b _ is c.fields-content.result.now c.in-Ok.reach.tail.op c.bound_top.result c.count_rings.result c.count-seen.result c.fields-content.ensures.value c.bound_top.ensures c.count_rings.ensures.replies c.count-seen.ensures.top in
     let kept = (c.is_lost.ensures.none image b.content bound (ap (λ (x : Content). x.head) content)).0 c.if-is_lost.false in
     let number = c.replies-stored.ensures image b.content found.tail is.shows (boot_is sh image b _ is c.fields-content.result.now c.fields-content.ensures.value) (ap (λ (x : Content). x.replies) content) (sym found.ends.mark) in
     finds sh image b _ is c.in-Ok.reach c.find_known.new.sessions.sessions early found c.replies-stored.result (below_spent sh image b _ is c.fields-content.result.now c.fields-content.ensures.value c.if-content-eq-GREATEST.false) stored_found kept number
@@ -91,8 +91,9 @@ returns-else-content-eq-GREATEST-clause-tail c =
     let shows = shows_replies slots c.args.replies.now in
     let found = c.in-Ok.ensures.reach shape image (any_base f c.args.sessions.now.sessions) (record { table = c.requires.table; shows = table }) (any_is c.args.layout.now f c.args.sessions.now.sessions) in
     let number = c.replies-stored.ensures image (any_base f c.args.sessions.now.sessions).content found.tail shows refl refl (sym found.ends.mark) in
-    let bound = c.bound_of-bound.ensures image table (c.count_all-seen.ensures.own image table shows) in
-    let complete : IsComplete c.bound_of-bound.result f.head c.in-Ok.reach.tail.op = subst (λ (b : Bool). OnFalse b (IsComplete c.bound_of-bound.result f.head c.in-Ok.reach.tail.op)) c.if-is_lost.false c.is_lost.ensures.counters in
+    let bound = bound_counts f.boot c.in-Ok.reach.tail.op c.bound_top.result slots c.args.replies.now c.count_rings.result c.count-seen.result c.bound_top.ensures c.count_rings.ensures.replies c.count-seen.ensures.top image table shows in
+    let own : Counters = record c.count-seen.result { ring_op = c.bound_top.result } in
+    let complete : IsComplete own f.head c.in-Ok.reach.tail.op = subst (λ (b : Bool). OnFalse b (IsComplete own f.head c.in-Ok.reach.tail.op)) c.if-is_lost.false c.is_lost.ensures.counters in
     let bounds = c.in-Ok.ensures.bounds in
     subst (λ (x : SuperFields). EndsBehind c.args.layout.now x (record { tail = c.in-Ok.reach.tail; replies = c.replies-stored.result })) c.fields-content.ensures.value (record {
       checksum = bounds.checksum;
@@ -100,7 +101,7 @@ returns-else-content-eq-GREATEST-clause-tail c =
       from = bounds.from;
       within = omega (arith, bounds.order, bounds.within);
       most = omega (arith, bounds.order, bounds.most);
-      order = not_above shape image f c.args.sessions.now.sessions c.find_known.new.sessions.sessions c.in-Ok.reach c.replies-stored.result super found number c.bound_of-bound.result bound.replies complete;
+      order = not_above shape image f c.args.sessions.now.sessions c.find_known.new.sessions.sessions c.in-Ok.reach c.replies-stored.result super found number own bound.replies complete;
       few = few_wait shape image f c.args.sessions.now.sessions c.find_known.new.sessions.sessions c.in-Ok.reach c.replies-stored.result super found number;
       unspent = boot_unspent f super c.if-content-eq-GREATEST.false;
     })

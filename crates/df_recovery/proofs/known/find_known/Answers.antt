@@ -1,7 +1,8 @@
--- The greatest named op whose prepare isn't shown, or the walk where all are shown.
-use Rattle.std.proofs.Common.{sym, subst}
+-- The greatest named op whose prepare isn't shown. Where all are shown, the walk; short of the head that the superblock names it has come to a
+-- named prepare that doesn't fit.
+use Rattle.std.proofs.Common.{arith, sym, subst}
 use Rattle.df_format.specs.Spelling.{IsCheck}
-use Rattle.df_recovery.proofs.Naming.{all_known, blames_lacking, names_from, none_lacking, pin_check}
+use Rattle.df_recovery.proofs.Naming.{begins_at, blames_lacking, blames_unfit, content_pin, names_from, pin_check}
 use Rattle.df_recovery.proofs.known.find_known.Goals as goal
 
 pub lacking_known-requires-clause-checksum : goal.lacking_known-requires-clause-checksum
@@ -14,14 +15,19 @@ returns-in-Some-clause-blames c = λ sh image b tells is.
     blames_lacking sh b c.args.layout.now f c.args.slots.now.start c.args.sessions.now.sessions is c.requires.start c.requires.rules.rules c.requires.size image c.in-Some.op c.slot_of.result c.slot_of.ensures.value
     (c.in-Some.ensures.tells sh image b.content tells names)
 
-pub returns-in-None-clause-reach : goal.returns-in-None-clause-reach
-returns-in-None-clause-reach c = all_known c.args.layout.now c.args.slots.now c.args.fields.now c.args.sessions.now.sessions c.find_fitting.new.sessions.sessions c.find_fitting.result (λ sh image b tells is.
-    c.in-None.ensures.tells sh image b.content tells
-    (names_from sh b c.args.layout.now c.args.fields.now c.args.slots.now.start c.args.sessions.now.sessions is c.requires.start c.requires.rules.rules c.requires.size c.pin_checksum_of-named.result c.pin_checksum_of-named.ensures))
-    c.find_fitting.ensures.reach
+pub returns-then-reach-pin-clause-blames : goal.returns-then-reach-pin-clause-blames
+returns-then-reach-pin-clause-blames c = λ sh image b tells is.
+    let f = c.args.fields.now in
+    let names = names_from sh b c.args.layout.now f c.args.slots.now.start c.args.sessions.now.sessions is c.requires.start c.requires.rules.rules c.requires.size c.pin_checksum_of-named.result c.pin_checksum_of-named.ensures in
+    let begins = begins_at sh b c.args.layout.now f c.args.slots.now.start c.args.sessions.now.sessions is c.requires.start c.requires.rules.rules c.requires.size in
+    let found = c.find_reach-reach.ensures.reach sh image b tells begins (c.in-None.ensures.tells sh image b.content tells names) in
+    blames_unfit sh b c.args.layout.now f c.args.slots.now.start c.args.sessions.now.sessions is c.requires.start c.requires.rules.rules c.requires.size image c.find_reach-reach.result.op c.slot_of-then-reach-pin.result c.slot_of-then-reach-pin.ensures.value
+    (found.stops (omega (arith, c.if-reach-pin.true, c.pin_of-pin.ensures, content_pin sh b c.args.layout.now f c.args.sessions.now.sessions is)))
 
-pub returns-in-None-clause-blames : goal.returns-in-None-clause-blames
-returns-in-None-clause-blames c = none_lacking c.args.layout.now c.args.slots.now c.args.fields.now c.args.sessions.now.sessions c.find_fitting.new.sessions.sessions c.find_fitting.result (λ sh image b tells is.
-    c.in-None.ensures.tells sh image b.content tells
-    (names_from sh b c.args.layout.now c.args.fields.now c.args.slots.now.start c.args.sessions.now.sessions is c.requires.start c.requires.rules.rules c.requires.size c.pin_checksum_of-named.result c.pin_checksum_of-named.ensures))
-    c.find_fitting.ensures.unfit
+pub returns-else-reach-pin-clause-reach : goal.returns-else-reach-pin-clause-reach
+returns-else-reach-pin-clause-reach c = λ sh image b tells is.
+    let f = c.args.fields.now in
+    let names = names_from sh b c.args.layout.now f c.args.slots.now.start c.args.sessions.now.sessions is c.requires.start c.requires.rules.rules c.requires.size c.pin_checksum_of-named.result c.pin_checksum_of-named.ensures in
+    let begins = begins_at sh b c.args.layout.now f c.args.slots.now.start c.args.sessions.now.sessions is c.requires.start c.requires.rules.rules c.requires.size in
+    let found = c.find_reach-reach.ensures.reach sh image b tells begins (c.in-None.ensures.tells sh image b.content tells names) in
+    found.reached (omega (arith, c.if-reach-pin.false, c.pin_of-pin.ensures, content_pin sh b c.args.layout.now f c.args.sessions.now.sessions is))

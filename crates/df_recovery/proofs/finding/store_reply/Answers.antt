@@ -2,7 +2,7 @@
 use Rattle.std.{proofs.Common.{◌≡◌, ◌≤◌, List, Some, sym, ◌∙◌, ap, subst}, specs.List.{slice_get}}
 use Rattle.df_sessions.specs.declared.session.Session.{Session}
 use Rattle.df_recovery.proofs.KeptReplies.{reply_there, stored_now}
-use Rattle.df_recovery.proofs.stored.store_reply.Goals as goal
+use Rattle.df_recovery.proofs.finding.store_reply.Goals as goal
 
 pub returns-then-session-stored-clause-stored : goal.returns-then-session-stored-clause-stored
 returns-then-session-stored-clause-stored c = λ s at.

@@ -1,7 +1,7 @@
 -- Those up to this op are in the list.
 use Rattle.std.proofs.Common.{◌-◌, ◌≡◌, ◌≤◌}
 use Rattle.df_recovery.specs.Waiting.{waiting_in}
-use Rattle.df_recovery.proofs.waiting.waiting_of.Given as goal
+use Rattle.df_recovery.proofs.surveying.waiting_of.Given as goal
 
 abbrev pub invariant-loop-op : goal.invariant-loop-op
 invariant-loop-op l = record {
