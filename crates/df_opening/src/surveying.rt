@@ -1,5 +1,5 @@
 // The survey of a file: what it shows is read, its state is found, and what is to be mended is listed. Nothing is written.
-ghost use Rattle.std.specs.Prelude.{◌≡◌, ◌≤◌, length, IfOk, IfErr};
+ghost use Rattle.std.specs.Prelude.{◌≡◌, IfOk, IfErr};
 ghost use Rattle.df_base.specs.declared.TheConstants.{VERSION};
 ghost use Rattle.df_opening.specs.Below.{IsBlamed, is_open_fault, Syncs};
 ghost use Rattle.df_damage.specs.Below.{AreFound};
@@ -8,10 +8,8 @@ ghost use Rattle.df_opening.specs.Survey.{survey_in, survey_of};
 ghost use Rattle.df_opening.specs.Surveying.{AnswersSurvey, IsSurveyed, state_of, survey_found};
 
 use crate::{OpenError, Parts, Rooms};
-use arrayvec::ArrayVec;
 use df_damage::{Surveyed, survey_version};
 use df_disk::Disk;
-use df_layout::ROOT;
 use df_quorum::Chosen;
 
 // The version that is opened.
@@ -23,13 +21,6 @@ const VERSION: u32 = 2;
 pub struct SurveyedFile {
     pub parts: Parts,
     pub chosen: Chosen,
-}
-
-// A root has at most 1,024 bytes.
-fn root_fits(root: &ArrayVec<u8, ROOT>)
-    ensures { length root.now.items ≤ 1024 }
-{
-    let _bytes = root.as_slice();
 }
 
 // What was surveyed of a file of version 2, as parts and the choice, with nothing staged and the tour at its start.
@@ -50,7 +41,8 @@ fn parts_of(surveyed: Surveyed) -> SurveyedFile
     let scrub = rooms.scrub.cleared();
     let copies = scanned.copies;
     let _fields = copies.found.content.fields();
-    root_fits(&scanned.root);
+    // A root has at most 1,024 bytes.
+    let _bytes = scanned.root.as_slice();
     let head_checksum = traces.tail.checksum;
     let parts = Parts {
         file: scanned.file,

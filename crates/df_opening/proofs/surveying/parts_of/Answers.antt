@@ -1,5 +1,5 @@
 -- The parts make sense by themselves: what was found is in its ranges, and the table is one of the file.
-use Rattle.std.{proofs.Common.{◌≡◌, ◌∙◌, ℕ, List, refl, sym, ◌<◌, ◌^◌, ap, subst}, specs.Prelude.{None, false, true}}
+use Rattle.std.{proofs.Common.{◌≡◌, ◌∙◌, ℕ, List, refl, sym, ◌<◌, ◌≤◌, ◌^◌, length, ap, subst}, specs.Prelude.{None, false, true}}
 use Rattle.df_format.specs.SuperRules.{IsUsable}
 use Rattle.df_damage.{specs.{Below.{ScrubState, Staged}, Types.{Surveyed}}, proofs.Laws.{found_awaits, found_ends, found_staging, second_super}}
 use Rattle.df_model.specs.Work.{Request}
@@ -21,7 +21,7 @@ returns-clause-found c =
             version = sym found.read.version;
             second = second_super c.args.surveyed.scanned.file f (sym found.read.version ∙ c.requires.version) usable found.read.fields;
             sequence = usable.rules.sequence;
-            root = c.root_fits.ensures;
+            root = subst (λ (bytes : List ℕ). length bytes ≤ 1024) c.as_slice-bytes.ensures.value c.as_slice-bytes.ensures.fits;
             ring = c.requires.planned.plan.is_table;
           };
           booted = λ live. absurd (let none : false ≡ true = live in cc);

@@ -6,7 +6,7 @@ use Rattle.df_superblock.proofs.Laws.{update_is_steps}
 use Rattle.df_theory.specs.Device.{AreSteps}
 use Rattle.df_damage.specs.Below.{IsState, State, boot_fields}
 use Rattle.df_opening.{specs.{Below.{update_events}, Keeping.{format}, Mending.{AddsUpdating, mending_events, mending_steps, raised_state}, Raising.{RaisesEach, opening_events}, Survey.{Survey, survey_in}}, proofs.{RaiseAnew.{raises_anew}, RaiseSteps.{opening_is_steps, raises_over}, Refused.{updating_error, updating_fault, updating_ok, updating_then}}}
-use Rattle.df_opening.proofs.mended.mend_file.Goals as goal
+use Rattle.df_opening.proofs.mending.mend_file.Goals as goal
 
 -- the device calls of the mending
 abbrev mending : Survey → List Event

@@ -4,7 +4,7 @@ use Rattle.df_format.specs.{SuperRules.{IsUsable}, declared.superblock.SuperFiel
 use Rattle.df_grid.specs.Grid.{GridState}
 use Rattle.df_damage.specs.Below.{FitsGrid, IsState, State, state_in}
 use Rattle.df_opening.proofs.{RaisedState.{raised_sense}, Refused.{unharmed_fault, unharmed_of, unharmed_ok}}
-use Rattle.df_opening.proofs.mended.raise_parts.Goals as goal
+use Rattle.df_opening.proofs.mending.raise_parts.Goals as goal
 
 pub set_boot-requires : goal.set_boot-requires
 set_boot-requires g c =

@@ -2,7 +2,7 @@
 use Rattle.std.proofs.Common.{List, subst}
 use Rattle.df_layout.specs.declared.damage.Mend.{Mend}
 use Rattle.df_opening.specs.{Mending.{AddsSteps, mending_events, mending_steps}, Keeping.{format}}
-use Rattle.df_opening.proofs.mended.mend_parts.Goals as goal
+use Rattle.df_opening.proofs.mending.mend_parts.Goals as goal
 
 pub returns-clause-does : goal.returns-clause-does
 returns-clause-does g c =
