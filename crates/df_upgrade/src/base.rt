@@ -1,8 +1,8 @@
 // The superblock with which a file of version 1 becomes one of version 2: it records the state as it was found.
-ghost use Rattle.std.specs.Prelude.{◌≡◌, None};
+ghost use Rattle.std.specs.Prelude.{◌≡◌};
 ghost use Rattle.df_damage.specs.Surveying.{state_found};
 ghost use Rattle.df_upgrade.specs.Base.{base_fields};
-ghost use Rattle.df_upgrade.specs.Below.{IsUsable, fault_of};
+ghost use Rattle.df_upgrade.specs.Below.{IsUsable};
 ghost use Rattle.df_upgrade.specs.Old.{IsOldSurvey};
 
 use df_base::VERSION;
@@ -10,16 +10,16 @@ use df_damage::Surveyed;
 use df_format::{SuperFields, test_fields};
 use df_rooms::stored_checks;
 
-// What the superblock says that an upgrade writes of a file of version 1 that was surveyed. It obeys the rules.
-fn fields_of(found: &Surveyed) -> SuperFields
+// The superblock that an upgrade writes of a file of version 1 that was surveyed.
+pub(crate) fn base_of(found: &Surveyed) -> SuperFields
     requires old { IsOldSurvey found.now }
     ensures fields { result ≡ base_fields (state_found found.now) }
-    ensures rules { fault_of result ≡ None }
+    ensures usable { IsUsable result }
 {
     // The sessions are a table of the file.
     let _count = found.scanned.sessions.len();
     let fields = found.scanned.copies.found.content.fields();
-    SuperFields {
+    let base = SuperFields {
         version: VERSION,
         boot: 1,
         head: found.traces.tail.op,
@@ -27,16 +27,8 @@ fn fields_of(found: &Surveyed) -> SuperFields
         replies: found.traces.replies,
         reply_checksums: stored_checks(&found.scanned.sessions),
         ..*fields
-    }
-}
-
-// That superblock.
-pub(crate) fn base_of(found: &Surveyed) -> SuperFields
-    requires old { IsOldSurvey found.now }
-    ensures fields { result ≡ base_fields (state_found found.now) }
-    ensures usable { IsUsable result }
-{
-    match test_fields(&fields_of(found)) {
+    };
+    match test_fields(&base) {
         Ok(content) => *content.fields(),
         Err(_) => unreachable!(),
     }

@@ -1,24 +1,12 @@
 // The four copies of version 2.
-ghost use Rattle.std.specs.Prelude.{◌≡◌, None};
 ghost use Rattle.df_upgrade.specs.Base.{MayUpgradeTo};
-ghost use Rattle.df_upgrade.specs.Below.{IsBlamed, fault_of, is_update_fault};
+ghost use Rattle.df_upgrade.specs.Below.{IsBlamed, is_update_fault};
 ghost use Rattle.df_upgrade.specs.Upgrading.{UpdatesTo};
 
 use df_buffers::ProbeRoom;
 use df_disk::Disk;
-use df_format::{Super, SuperFields, test_fields};
+use df_format::{SuperFields, test_fields};
 use df_superblock::{UpdateError, update};
-
-// A superblock that passes its tests.
-fn passed(base: &SuperFields) -> Super
-    requires { fault_of base.now ≡ None }
-    ensures { result ≡ base.now }
-{
-    match test_fields(base) {
-        Ok(content) => content,
-        Err(_) => unreachable!(),
-    }
-}
 
 /// Writes the superblock of version 2: the copies 0, 1, 2 and 3, each durable before the next one is written, and reads all four back. It
 /// is to pass its tests, and to be above the chosen one, by sequence and then by boot. A disk that tells what it shows is told of no
@@ -32,6 +20,8 @@ pub fn upgrade<D: Disk>(
     ensures does { UpdatesTo base.now (D.told disk.old) (D.told disk.new) result }
     ensures cause { IsBlamed is_update_fault (D.faults disk.old) (D.faults disk.new) result }
 {
-    let content = passed(base);
-    update(disk, room, &content)
+    match test_fields(base) {
+        Ok(content) => update(disk, room, &content),
+        Err(_) => unreachable!(),
+    }
 }
