@@ -1,18 +1,22 @@
 // What an open finds after a superblock, from what a scan saw of the slots and of the replies: the state, or the first
 // damage in the order of open.
 ghost use Rattle.std.specs.Prelude.{◌≡◌, ◌≢◌, ◌<◌, ℕ, Some, length, position, slice_get, IfOk, IfErr};
-ghost use Rattle.df_recovery.specs.Below.{CopyPlace, KeepsRules, PreparePlace, Session as AnySession, class_of, entry, sessions_of};
+ghost use Rattle.df_recovery.specs.Below.{CopyPlace, IsWithinRing, KeepsRules, PreparePlace, Session as AnySession, class_of, entry, pin_checksum_of, sessions_of};
+ghost use Rattle.df_format.specs.SuperRules.{IsUsable};
 ghost use Rattle.df_journal.specs.Shows.{IsSeenTable};
 ghost use Rattle.df_recovery.specs.Finding.{AnswersFinding, FileIsRead, IsDamage, KeptIsAnswer, RefusedIsAnswer, StateIsOpened, StoredIsKept, StoresTo, damage, lowest_of, with_stored};
 ghost use Rattle.df_recovery.specs.Checkpoints.{AreOfCheckpoint};
+ghost use Rattle.df_recovery.specs.Known.{AnswersKnown};
 ghost use Rattle.df_journal.specs.Starting.{start_of};
 ghost use Rattle.df_recovery.specs.Surveying.{AreAfter, EndsBehind};
 
-use crate::known::find_known;
 use crate::{Found, OpenError};
-use df_base::GREATEST;
-use df_format::Header;
-use df_journal::{SlotTable, Tail, bound_top, count_rings, is_behind, is_lost, slot_of};
+use df_base::{Check, GREATEST, VERSION};
+use df_format::{Header, SuperFields};
+use df_journal::{
+    Reach, SlotTable, Tail, bound_top, count_rings, find_reach, is_behind, is_lost, lacking_known,
+    pin_of, slot_of,
+};
 use df_layout::{Class, Layout, Place, Zone};
 use df_replies::ReplyTable;
 use df_sessions::SessionTable;
@@ -55,6 +59,50 @@ fn lost_damage(slots: &SlotTable, slot: u32) -> OpenError
     ensures { result ≡ damage (PreparePlace slot) (class_of (entry slots.now slot).prepare) }
 {
     damage(Zone::WalPrepares, u64::from(slot), slots.class(slot))
+}
+
+// The checksum of the last prepare that a superblock names.
+fn pin_checksum_of(fields: &SuperFields) -> Check
+    ensures { result ≡ pin_checksum_of fields.now }
+{
+    if fields.version == VERSION {
+        fields.head_checksum
+    } else {
+        fields.op_checksum
+    }
+}
+
+// How far taken prepares go on after the checkpoint of a superblock; the sessions, at first the checkpoint's, become those after
+// the tail. Or the slot of the first prepare that an open refuses: of those that the superblock names the one of the greatest op
+// that isn't shown, or else that of the least one that doesn't fit.
+fn find_known(
+    layout: &Layout,
+    fields: &SuperFields,
+    slots: &SlotTable,
+    sessions: &mut SessionTable,
+) -> Result<Reach, u32>
+    requires table { IsSeenTable layout.now slots.now.start.cluster slots.now.slots }
+    requires start { slots.now.start ≡ start_of fields.now }
+    requires rules { IsUsable fields.now }
+    requires size { fields.now.slots ≡ layout.now.slots }
+    requires places { sessions.old.max ≡ layout.now.clients }
+    ensures answer { AnswersKnown layout.now slots.now fields.now sessions.old.sessions result sessions.new.sessions }
+    ensures bounds { IfOk result (IsWithinRing fields.now.op layout.now.slots fields.now.op_checksum) }
+    ensures sessions { KeepsRules sessions.old sessions.new }
+{
+    let named = pin_checksum_of(fields);
+    match lacking_known(layout, slots, &named) {
+        Some(op) => Err(slot_of(layout, op)),
+        None => {
+            let reach = find_reach(layout, slots, &fields.op_checksum, sessions);
+            let pin = pin_of(fields);
+            if reach.op < pin {
+                Err(slot_of(layout, reach.op + 1))
+            } else {
+                Ok(reach)
+            }
+        }
+    }
 }
 
 /// The state after the checkpoint of a superblock, which the table of slots and the replies show; the sessions, at first

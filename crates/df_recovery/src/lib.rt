@@ -4,7 +4,6 @@
 mod answers;
 mod checkpoint;
 mod finding;
-mod known;
 mod opening;
 mod planning;
 mod scanned;

@@ -24,8 +24,8 @@ returns-in-Err-clause-answer c = at_place _ (PreparePlace c.in-Err.slot) (class_
     let content = content_same sh image b _ is c.fields-content.result.now c.fields-content.ensures.value in
     let counts = counted sh image b _ is c.count_rings.result c.count-seen.result c.count_rings.ensures.rings c.count-seen.ensures.rings c.count-seen.ensures.checkpoint c.count-seen.ensures.boot in
     let early = (c.is_behind.ensures.none sh image b.content counts (boot_is sh image b _ is c.fields-content.result.now c.fields-content.ensures.value) (ap (λ (x : Content). x.sequence) content) (ap (λ (x : Content). x.op) content) is.slots_are).0 c.if-is_behind.false in
-    opens_known sh image b _ is c.in-Err.slot early (c.in-Err.ensures.blames sh image b is.tells (is_base sh image b _ is c.fields-content.result.now c.fields-content.ensures.value)))
-    (λ t scanned. (class_shown c.args.layout.now t c.args.slots.now c.in-Err.slot scanned.slots c.in-Err.ensures.slot).1)
+    opens_known sh image b _ is c.in-Err.slot early (c.in-Err.ensures.answer.blames sh image b is.tells (is_base sh image b _ is c.fields-content.result.now c.fields-content.ensures.value)))
+    (λ t scanned. (class_shown c.args.layout.now t c.args.slots.now c.in-Err.slot scanned.slots c.in-Err.ensures.answer.below).1)
 
 pub returns-then-is_lost-clause-answer : goal.returns-then-is_lost-clause-answer
 returns-then-is_lost-clause-answer c = at_place _ (PreparePlace c.slot_of.result) (class_of (entry c.args.slots.now c.slot_of.result).prepare) c.lost_damage-then-is_lost.result c.lost_damage-then-is_lost.ensures
@@ -33,7 +33,7 @@ returns-then-is_lost-clause-answer c = at_place _ (PreparePlace c.slot_of.result
     let content = content_same sh image b _ is c.fields-content.result.now c.fields-content.ensures.value in
     let counts = counted sh image b _ is c.count_rings.result c.count-seen.result c.count_rings.ensures.rings c.count-seen.ensures.rings c.count-seen.ensures.checkpoint c.count-seen.ensures.boot in
     let early = (c.is_behind.ensures.none sh image b.content counts (boot_is sh image b _ is c.fields-content.result.now c.fields-content.ensures.value) (ap (λ (x : Content). x.sequence) content) (ap (λ (x : Content). x.op) content) is.slots_are).0 c.if-is_behind.false in
-    let found = c.in-Ok.ensures.reach sh image b is.tells (is_base sh image b _ is c.fields-content.result.now c.fields-content.ensures.value) in
+    let found = c.in-Ok.ensures.answer sh image b is.tells (is_base sh image b _ is c.fields-content.result.now c.fields-content.ensures.value) in
     let bound = counts_bound sh image b _ is c.fields-content.result.now c.in-Ok.reach.tail.op c.bound_top.result c.count_rings.result c.count-seen.result c.fields-content.ensures.value c.bound_top.ensures c.count_rings.ensures.replies c.count-seen.ensures.top in
     let lost = (c.is_lost.ensures.lost image b.content bound (ap (λ (x : Content). x.head) content)).0 c.if-is_lost.true in
     opens_lost sh image b _ is c.in-Ok.reach c.find_known.new.sessions.sessions early found c.slot_of.result c.slot_of.ensures.value lost)
@@ -45,7 +45,7 @@ returns-in-Some-clause-answer c = at_place _ (ReplyPlace c.in-Some.lacking.place
     let content = content_same sh image b _ is c.fields-content.result.now c.fields-content.ensures.value in
     let counts = counted sh image b _ is c.count_rings.result c.count-seen.result c.count_rings.ensures.rings c.count-seen.ensures.rings c.count-seen.ensures.checkpoint c.count-seen.ensures.boot in
     let early = (c.is_behind.ensures.none sh image b.content counts (boot_is sh image b _ is c.fields-content.result.now c.fields-content.ensures.value) (ap (λ (x : Content). x.sequence) content) (ap (λ (x : Content). x.op) content) is.slots_are).0 c.if-is_behind.false in
-    let found = c.in-Ok.ensures.reach sh image b is.tells (is_base sh image b _ is c.fields-content.result.now c.fields-content.ensures.value) in
+    let found = c.in-Ok.ensures.answer sh image b is.tells (is_base sh image b _ is c.fields-content.result.now c.fields-content.ensures.value) in
     let bound = counts_bound sh image b _ is c.fields-content.result.now c.in-Ok.reach.tail.op c.bound_top.result c.count_rings.result c.count-seen.result c.fields-content.ensures.value c.bound_top.ensures c.count_rings.ensures.replies c.count-seen.ensures.top in
     let kept = (c.is_lost.ensures.none image b.content bound (ap (λ (x : Content). x.head) content)).0 c.if-is_lost.false in
     let number = c.replies-stored.ensures image b.content found.tail is.shows (boot_is sh image b _ is c.fields-content.result.now c.fields-content.ensures.value) (ap (λ (x : Content). x.replies) content) (sym found.ends.mark) in
@@ -59,7 +59,7 @@ returns-then-content-eq-GREATEST-clause-answer c = λ sh image b is.
     let content = content_same sh image b _ is c.fields-content.result.now c.fields-content.ensures.value in
     let counts = counted sh image b _ is c.count_rings.result c.count-seen.result c.count_rings.ensures.rings c.count-seen.ensures.rings c.count-seen.ensures.checkpoint c.count-seen.ensures.boot in
     let early = (c.is_behind.ensures.none sh image b.content counts (boot_is sh image b _ is c.fields-content.result.now c.fields-content.ensures.value) (ap (λ (x : Content). x.sequence) content) (ap (λ (x : Content). x.op) content) is.slots_are).0 c.if-is_behind.false in
-    let found = c.in-Ok.ensures.reach sh image b is.tells (is_base sh image b _ is c.fields-content.result.now c.fields-content.ensures.value) in
+    let found = c.in-Ok.ensures.answer sh image b is.tells (is_base sh image b _ is c.fields-content.result.now c.fields-content.ensures.value) in
     let bound = counts_bound sh image b _ is c.fields-content.result.now c.in-Ok.reach.tail.op c.bound_top.result c.count_rings.result c.count-seen.result c.fields-content.ensures.value c.bound_top.ensures c.count_rings.ensures.replies c.count-seen.ensures.top in
     let kept = (c.is_lost.ensures.none image b.content bound (ap (λ (x : Content). x.head) content)).0 c.if-is_lost.false in
     let number = c.replies-stored.ensures image b.content found.tail is.shows (boot_is sh image b _ is c.fields-content.result.now c.fields-content.ensures.value) (ap (λ (x : Content). x.replies) content) (sym found.ends.mark) in
@@ -71,7 +71,7 @@ returns-else-content-eq-GREATEST-clause-answer c = λ sh image b is.
     let content = content_same sh image b _ is c.fields-content.result.now c.fields-content.ensures.value in
     let counts = counted sh image b _ is c.count_rings.result c.count-seen.result c.count_rings.ensures.rings c.count-seen.ensures.rings c.count-seen.ensures.checkpoint c.count-seen.ensures.boot in
     let early = (c.is_behind.ensures.none sh image b.content counts (boot_is sh image b _ is c.fields-content.result.now c.fields-content.ensures.value) (ap (λ (x : Content). x.sequence) content) (ap (λ (x : Content). x.op) content) is.slots_are).0 c.if-is_behind.false in
-    let found = c.in-Ok.ensures.reach sh image b is.tells (is_base sh image b _ is c.fields-content.result.now c.fields-content.ensures.value) in
+    let found = c.in-Ok.ensures.answer sh image b is.tells (is_base sh image b _ is c.fields-content.result.now c.fields-content.ensures.value) in
     let bound = counts_bound sh image b _ is c.fields-content.result.now c.in-Ok.reach.tail.op c.bound_top.result c.count_rings.result c.count-seen.result c.fields-content.ensures.value c.bound_top.ensures c.count_rings.ensures.replies c.count-seen.ensures.top in
     let kept = (c.is_lost.ensures.none image b.content bound (ap (λ (x : Content). x.head) content)).0 c.if-is_lost.false in
     let number = c.replies-stored.ensures image b.content found.tail is.shows (boot_is sh image b _ is c.fields-content.result.now c.fields-content.ensures.value) (ap (λ (x : Content). x.replies) content) (sym found.ends.mark) in
@@ -89,7 +89,7 @@ returns-else-content-eq-GREATEST-clause-tail c =
     let image = image_of slots c.args.replies.now in
     let table = shows_table slots c.args.replies.now in
     let shows = shows_replies slots c.args.replies.now in
-    let found = c.in-Ok.ensures.reach shape image (any_base f c.args.sessions.now.sessions) (record { table = c.requires.table; shows = table }) (any_is c.args.layout.now f c.args.sessions.now.sessions) in
+    let found = c.in-Ok.ensures.answer shape image (any_base f c.args.sessions.now.sessions) (record { table = c.requires.table; shows = table }) (any_is c.args.layout.now f c.args.sessions.now.sessions) in
     let number = c.replies-stored.ensures image (any_base f c.args.sessions.now.sessions).content found.tail shows refl refl (sym found.ends.mark) in
     let bound = bound_counts f.boot c.in-Ok.reach.tail.op c.bound_top.result slots c.args.replies.now c.count_rings.result c.count-seen.result c.bound_top.ensures c.count_rings.ensures.replies c.count-seen.ensures.top image table shows in
     let own : Counters = record c.count-seen.result { ring_op = c.bound_top.result } in
@@ -113,7 +113,7 @@ returns-else-content-eq-GREATEST-clause-after c = λ were.
     let super = subst IsSuper (sym c.fields-content.ensures.value) c.fields-content.ensures.usable.rules in
     let shape = any_shape c.args.layout.now in
     let image = image_of slots c.args.replies.now in
-    let found = c.in-Ok.ensures.reach shape image (any_base f c.args.sessions.now.sessions) (record { table = c.requires.table; shows = shows_table slots c.args.replies.now }) (any_is c.args.layout.now f c.args.sessions.now.sessions) in
+    let found = c.in-Ok.ensures.answer shape image (any_base f c.args.sessions.now.sessions) (record { table = c.requires.table; shows = shows_table slots c.args.replies.now }) (any_is c.args.layout.now f c.args.sessions.now.sessions) in
     let number = c.replies-stored.ensures image (any_base f c.args.sessions.now.sessions).content found.tail (shows_replies slots c.args.replies.now) refl refl (sym found.ends.mark) in
     record {
       numbered = c.in-Ok.ensures.sessions.numbered were.numbered;
