@@ -1,7 +1,7 @@
 // What four copies of the superblock say, once they are read.
 ghost use Rattle.std.specs.Prelude.{◌≡◌, Option, IfOk, IfErr};
 ghost use Rattle.df_recovery.specs.Below.{Told, ShowsSlots, ShowsCopies};
-ghost use Rattle.df_recovery.specs.Found.{TellsChoice, TellsFoundAs, IsRefusal};
+ghost use Rattle.df_recovery.specs.Found.{TellsFoundAs, IsRefusal};
 
 use crate::OpenError;
 use df_format::{Super, SuperFault, test_fields};
@@ -16,20 +16,6 @@ pub struct Found {
     pub content: Super,
 }
 
-// The choice, or why there is none.
-fn chosen(copies: &[Slot; 4]) -> Result<Chosen, OpenError>
-    ensures told { (told : Option Told) → ShowsSlots told copies.now → ShowsCopies told copies.now → TellsChoice told result }
-    ensures refusal { IfErr result IsRefusal }
-{
-    match first_written(copies) {
-        None => Err(OpenError::NotFormatted),
-        Some(_) => match choose(copies) {
-            Ok(chosen) => Ok(chosen),
-            Err(classes) => Err(OpenError::NoQuorum { classes }),
-        },
-    }
-}
-
 /// The superblock that the four places say, where this version is asked for, or the first reason why the file can't be opened.
 pub fn superblock_of(copies: &[Slot; 4], version: u32) -> Result<Found, OpenError>
     ensures same_fields { IfOk result (λ found. found.content ≡ found.chosen.content) }
@@ -37,7 +23,13 @@ pub fn superblock_of(copies: &[Slot; 4], version: u32) -> Result<Found, OpenErro
     ensures told { (told : Option Told) → ShowsSlots told copies.now → ShowsCopies told copies.now → TellsFoundAs version told result }
     ensures refusal { IfErr result IsRefusal }
 {
-    let choice = chosen(copies)?;
+    if first_written(copies).is_none() {
+        return Err(OpenError::NotFormatted);
+    }
+    let choice = match choose(copies) {
+        Ok(choice) => choice,
+        Err(classes) => return Err(OpenError::NoQuorum { classes }),
+    };
     let found = choice.content.version;
     if found != version {
         return Err(OpenError::Version { found });
