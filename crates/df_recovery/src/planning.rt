@@ -5,7 +5,7 @@ ghost use Rattle.df_recovery.specs.Below.{Shape, Units, View, Layout as AnyLayou
 ghost use Rattle.df_theory.specs.MendLaws.{IsTable as IsSlotTable};
 ghost use Rattle.df_headers.specs.Ring.{IsHeaderTable};
 ghost use Rattle.df_journal.specs.Shows.{IsSeenTable as AreSlots};
-ghost use Rattle.df_recovery.specs.Plan.{AreDistinctUnits, ArePlanned, IsScanOf, OthersAreShown, PutsHeader, class_of_slot, copy_mend, copy_mends, header_by, header_or_reserved, headers_in, if_wanted, is_mended, mend_list, needs_header, shown_class, slot_mend};
+ghost use Rattle.df_recovery.specs.Plan.{AreDistinctUnits, ArePlanned, IsScanOf, OthersAreShown, PutsHeader, copy_mend, copy_mends, header_by, header_or_reserved, headers_in, if_wanted, is_mended, mend_list, needs_header, shown_class, slot_mend};
 
 use df_cases::Decision;
 use df_format::Header;
@@ -13,16 +13,6 @@ use df_headers::{HeaderTable, reserved_header};
 use df_journal::SlotTable;
 use df_layout::{Class, Layout, Mend, Place, Zone};
 use df_quorum::Slot;
-
-// The class of what the place of a copy shows that isn't a member of the choice.
-fn class_of(slot: &Slot) -> Class
-    ensures { result ≡ class_of_slot slot.now }
-{
-    match slot {
-        Slot::Sound(_) => Class::Stale,
-        Slot::Bad(class) => *class,
-    }
-}
 
 // Lists a copy, if it isn't a member.
 fn list_copy(copies: &[Slot; 4], members: &[bool; 4], number: u8, mends: &mut Vec<Mend>)
@@ -38,10 +28,11 @@ fn list_copy(copies: &[Slot; 4], members: &[bool; 4], number: u8, mends: &mut Ve
             zone: Zone::Superblock,
             index: u64::from(number),
         };
-        mends.push_reserved(Mend {
-            place,
-            class: class_of(&copies[index]),
-        });
+        let class = match &copies[index] {
+            Slot::Sound(_) => Class::Stale,
+            Slot::Bad(class) => *class,
+        };
+        mends.push_reserved(Mend { place, class });
     }
 }
 
@@ -93,27 +84,7 @@ fn header_for(cluster: u128, found: &SlotTable, slot: u32, decision: &Decision) 
     }
 }
 
-// Lists a slot, if its header is to be written again.
-fn list_slot(found: &SlotTable, slot: u32, is_mended: bool, mends: &mut Vec<Mend>)
-    requires slot { slot < length found.now.slots }
-    requires room { vec_len mends.old < vec_capacity mends.old }
-    ensures list { mends.new.items ≡ mends.old.items ++ if_wanted is_mended (slot_mend (shown_class found.now) slot) }
-    ensures len { vec_len mends.new ≤ vec_len mends.old + 1 }
-    ensures room { vec_capacity mends.new ≡ vec_capacity mends.old }
-{
-    if is_mended {
-        let place = Place {
-            zone: Zone::WalHeaders,
-            index: u64::from(slot),
-        };
-        mends.push_reserved(Mend {
-            place,
-            class: found.header_class(slot),
-        });
-    }
-}
-
-// Plans one slot.
+// Plans one slot, and lists it, if its header is to be written again.
 fn plan_slot(
     cluster: u128,
     found: &SlotTable,
@@ -134,7 +105,16 @@ fn plan_slot(
 {
     let decision = found.planned(slot, head);
     headers.set(slot, header_for(cluster, found, slot, &decision));
-    list_slot(found, slot, is_mended(&decision), mends);
+    if is_mended(&decision) {
+        let place = Place {
+            zone: Zone::WalHeaders,
+            index: u64::from(slot),
+        };
+        mends.push_reserved(Mend {
+            place,
+            class: found.header_class(slot),
+        });
+    }
 }
 
 /// Puts into the table what each slot of the header ring is to show, and lists what is to be written again: the copies that
