@@ -1,6 +1,6 @@
 // What an open finds after a superblock, from what a scan saw of the slots and of the replies: the state, or the first
 // damage in the order of open.
-ghost use Rattle.std.specs.Prelude.{◌≡◌, ◌≢◌, ◌<◌, ℕ, Some, length, position, slice_get, IfOk, IfErr};
+ghost use Rattle.std.specs.Prelude.{◌≡◌, ◌≢◌, ◌<◌, ℕ, Some, length, slice_get, IfOk, IfErr};
 ghost use Rattle.df_recovery.specs.Below.{CopyPlace, IsWithinRing, KeepsRules, PreparePlace, Session as AnySession, class_of, entry, pin_checksum_of, sessions_of};
 ghost use Rattle.df_format.specs.SuperRules.{IsUsable};
 ghost use Rattle.df_journal.specs.Shows.{IsSeenTable};
@@ -38,18 +38,12 @@ fn damage(zone: Zone, index: u64, class: Class) -> OpenError
     }
 }
 
-// The number of the lowest copy that is a member.
-fn lowest_member(members: &[bool; 4]) -> Option<usize>
-    ensures { result ≡ position (λ member. member) members.now }
-{
-    members.iter().position(|member| *member)
-}
-
 // The copy that names a checkpoint which something is later than: the lowest one that is a member of the choice.
 fn behind_damage(found: &Found) -> OpenError
     ensures { result ≡ damage (CopyPlace (lowest_of found.now.chosen.members)) Class.Stale }
 {
-    let lowest = lowest_member(&found.chosen.members).unwrap_or(0);
+    let members = &found.chosen.members;
+    let lowest = members.iter().position(|member| *member).unwrap_or(0);
     damage(Zone::Superblock, lowest as u64, Class::Stale)
 }
 

@@ -4,7 +4,6 @@
 mod answers;
 mod checkpoint;
 mod finding;
-mod opening;
 mod planning;
 mod scanned;
 mod scanning;
@@ -18,9 +17,8 @@ pub use finding::{
     Traces, file_is_read, find_state, found_is_answer, state_is_opened, store_replies,
     stored_is_kept,
 };
-pub use opening::{probe, probe_version, read_superblock, survey_superblock};
 pub use planning::plan;
 pub use scanned::Scanned;
 pub use scanning::{Copies, scan_file};
-pub use superblock::Found;
+pub use superblock::{Found, probe, probe_version, read_superblock, survey_superblock};
 pub use surveying::{Surveyed, survey_version, waiting_of};

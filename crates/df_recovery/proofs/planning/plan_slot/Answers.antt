@@ -1,5 +1,5 @@
 -- The decision is the theory's, at the op that belongs in the slot.
-use Rattle.std.proofs.Common.{◌≡◌, ◌∷◌, [], ◌++◌, Bool, ap, append-nil, ◌∙◌, arith, sym}
+use Rattle.std.proofs.Common.{◌∷◌, [], ◌++◌, Bool, ap, append-nil, ◌∙◌, arith, sym}
 use Rattle.df_layout.specs.declared.{damage.Mend.{Mend}, places.Zone.TheVariants.{WalHeaders}}
 use Rattle.df_recovery.{specs.Plan.{if_wanted, is_mended, op_above_in_slot, shown_class, slot_mend}, proofs.Plans.{op_in_is}}
 use Rattle.df_recovery.proofs.planning.plan_slot.Goals as goal
