@@ -12,7 +12,8 @@ pub fault_asked : (version : ℕ) (f : SuperFields) → f.version ≡ version �
 fault_asked version f of = cond-true (f.version == version) (fault_of f) (Some (OtherVersion f.version)) (eq-eqb f.version version of)
 
 pub fault_other : (version : ℕ) (f : SuperFields) → (f.version ≡ version → ⊥) → fault_as version f ≡ Some (OtherVersion f.version)
-fault_other version f other = cond-false (f.version == version) (fault_of f) (Some (OtherVersion f.version)) (ne_eqb f.version version other)
+fault_other version f other = cond-false (f.version == version) (fault_of f) (Some (OtherVersion f.version))
+    (ne_eqb f.version version other)
 
 pub super_as : (version : ℕ) (f : SuperFields) → fault_as version f ≡ None → (f.version ≡ version) × IsSuper f
 super_as version f none = elim (cases_eq f.version version) [

@@ -46,9 +46,15 @@ counts_replies boot image rings seen none top n = (
 -- the counters of this boot, with the greatest op that binds the head
 pub bound_counts : (boot head ring_op : ℕ) (slots : List SlotSeen) (replies : List (Result Header Class)) (rings seen : Counters)
     → ((i : Units.Units) → ShowsTable i slots → CountsBinding boot head i ring_op) → rings.reply_top ≡ 0
-    → ((i : Units.Units) (n : ℕ) → ShowsReplies i replies → (seen.reply_top ≤ n) ↔ ((rings.reply_top ≤ n) × RepliesWithin i (in_boot boot (λ h. h.op)) n × RepliesWithin i (in_boot boot (λ h. h.mark)) n))
-    → (image : Units.Units) → ShowsTable image slots → ShowsReplies image replies → CountsBound boot head image (record seen { ring_op = ring_op })
-bound_counts boot head ring_op slots replies rings seen binds none top image table shows = record { ring_op = binds image table; replies = counts_replies boot image rings seen none (λ n. top image n shows) }
+    → ((i : Units.Units) (n : ℕ) → ShowsReplies i replies
+    → (seen.reply_top ≤ n) ↔ ((rings.reply_top ≤ n) × RepliesWithin i (in_boot boot (λ h. h.op)) n
+    × RepliesWithin i (in_boot boot (λ h. h.mark)) n))
+    → (image : Units.Units) → ShowsTable image slots → ShowsReplies image replies
+    → CountsBound boot head image (record seen { ring_op = ring_op })
+bound_counts boot head ring_op slots replies rings seen binds none top image table shows = record {
+  ring_op = binds image table;
+  replies = counts_replies boot image rings seen none (λ n. top image n shows);
+}
 
 -- ---- the steps
 
@@ -78,15 +84,21 @@ module _ (sh : Shape) (image : Units.Units) (b : Checkpoint) (read : Read) (is :
   is_base fields same = record { slots_are = is.slots_are; clients_are = is.clients_are; content_is = content_same fields same; sessions_are = is.sessions_are }
 
   -- the counters are of the image
-  pub counted : (rings seen : Counters) → ((i : Units.Units) → ShowsTable i read.slots.slots → CountsRings i rings) → seen.ring_op ≡ rings.ring_op
-      → ((i : Units.Units) (n : ℕ) → ShowsReplies i read.replies → (seen.checkpoint ≤ n) ↔ ((rings.checkpoint ≤ n) × RepliesWithin i (λ h. h.checkpoint) n))
-      → ((i : Units.Units) (n : ℕ) → ShowsReplies i read.replies → (seen.boot ≤ n) ↔ ((rings.boot ≤ n) × RepliesWithin i (λ h. h.boot) n)) → CountsAll image seen
-  counted rings seen counts ring_op checkpoint boot = counts_all image rings seen (counts image is.tells.shows) ring_op (λ n. checkpoint image n is.shows) (λ n. boot image n is.shows)
+  pub counted : (rings seen : Counters) → ((i : Units.Units) → ShowsTable i read.slots.slots → CountsRings i rings)
+      → seen.ring_op ≡ rings.ring_op
+      → ((i : Units.Units) (n : ℕ) → ShowsReplies i read.replies
+      → (seen.checkpoint ≤ n) ↔ ((rings.checkpoint ≤ n) × RepliesWithin i (λ h. h.checkpoint) n))
+      → ((i : Units.Units) (n : ℕ) → ShowsReplies i read.replies → (seen.boot ≤ n) ↔ ((rings.boot ≤ n) × RepliesWithin i (λ h. h.boot) n))
+      → CountsAll image seen
+  counted rings seen counts ring_op checkpoint boot = counts_all image rings seen (counts image is.tells.shows) ring_op
+      (λ n. checkpoint image n is.shows) (λ n. boot image n is.shows)
 
   -- and those of a boot are of the content's
   pub counts_bound : (fields : SuperFields) (head ring_op : ℕ) (rings seen : Counters) → fields ≡ read.found.content
       → ((i : Units.Units) → ShowsTable i read.slots.slots → CountsBinding fields.boot head i ring_op) → rings.reply_top ≡ 0
-      → ((i : Units.Units) (n : ℕ) → ShowsReplies i read.replies → (seen.reply_top ≤ n) ↔ ((rings.reply_top ≤ n) × RepliesWithin i (in_boot fields.boot (λ h. h.op)) n × RepliesWithin i (in_boot fields.boot (λ h. h.mark)) n))
+      → ((i : Units.Units) (n : ℕ) → ShowsReplies i read.replies
+      → (seen.reply_top ≤ n) ↔ ((rings.reply_top ≤ n) × RepliesWithin i (in_boot fields.boot (λ h. h.op)) n
+      × RepliesWithin i (in_boot fields.boot (λ h. h.mark)) n))
       → CountsBound b.content.boot head image (record seen { ring_op = ring_op })
   counts_bound fields head ring_op rings seen same binds none top =
       subst (λ (boot : ℕ). CountsBound boot head image (record seen { ring_op = ring_op })) (sym (boot_is fields same))

@@ -33,7 +33,8 @@ behind_synced layout told s read = record {
   tables = synced layout s.copies.found.content.cluster told s.rooms.log.slots s.rooms.log.replies read.tables;
 }
 
-pub scan_read : (version : ℕ) (layout : Layout) (old new : Option Told) (s : Scanned) → new ≡ after Sync old → AreCopies version old s.copies → IsServed layout s.copies.found.content → IsReadBehind layout new s → IsScanAs version layout old s
+pub scan_read : (version : ℕ) (layout : Layout) (old new : Option Told) (s : Scanned) → new ≡ after Sync old
+    → AreCopies version old s.copies → IsServed layout s.copies.found.content → IsReadBehind layout new s → IsScanAs version layout old s
 scan_read version layout old new s barrier found served read = record {
   copies = found;
   served = served;
@@ -47,21 +48,32 @@ file_asked version image f file has of =
     (same, subst (λ (v : ℕ). HasSuperAs v image f) (sym same) has)
 
 -- the superblock is the answer so far
-pub scan_found : (version : ℕ) (layout : Layout) (told : Option Told) (copies : Copies) (s : Scanned) → s.copies ≡ copies → TellsReadAs version (λ (c : Copies). c.found) layout told (Ok copies) → TellsReadAs version (λ (x : Scanned). x.copies.found) layout told (Ok s)
+pub scan_found : (version : ℕ) (layout : Layout) (told : Option Told) (copies : Copies) (s : Scanned) → s.copies ≡ copies
+    → TellsReadAs version (λ (c : Copies). c.found) layout told (Ok copies) → TellsReadAs version (λ (x : Scanned). x.copies.found) layout
+    told (Ok s)
 scan_found version layout None copies s same answer = tt
 scan_found version layout (Some t) copies s same answer = subst (λ (c : Copies). IsFoundAs version t.shown c.found) (sym same) answer
 
 -- and so is a refusal of the trailer after it
-pub scan_refused : (version : ℕ) (layout : Layout) (copies : Copies) (old new : Option Told) (file : DataFile) (e : OpenError) → new ≡ after Sync old → IsServed layout copies.found.content → TellsReadAs version (λ (c : Copies). c.found) layout old (Ok copies)
-    → IsFileOf layout copies.found.content file → TellsCheckpoint file new copies.found.content (Err e) → TellsReadAs version (λ (s : Scanned). s.copies.found) layout old (Err e)
+pub scan_refused : (version : ℕ) (layout : Layout) (copies : Copies) (old new : Option Told) (file : DataFile) (e : OpenError)
+    → new ≡ after Sync old → IsServed layout copies.found.content → TellsReadAs version (λ (c : Copies). c.found) layout old (Ok copies)
+    → IsFileOf layout copies.found.content file → TellsCheckpoint file new copies.found.content (Err e)
+    → TellsReadAs version (λ (s : Scanned). s.copies.found) layout old (Err e)
 scan_refused version layout copies None new file e barrier served answer of refused = tt
 scan_refused version layout copies (Some t) new file e barrier served answer of refused = λ whole.
     let f = copies.found.content in
     let asked = file_asked version t.shown f file answer.super of.version_is in
-    let tells : TellsCheckpoint file (Some t) f (Err e) = tells_synced file (Some t) f (Err e) (subst (λ (u : Option Told). TellsCheckpoint file u f (Err e)) barrier refused) in
+    let tells : TellsCheckpoint file (Some t) f (Err e) = tells_synced file (Some t) f (Err e)
+    (subst (λ (u : Option Told). TellsCheckpoint file u f (Err e)) barrier refused) in
     subst (λ (l : Layout). SurveysAs version l t.shown (Err e)) of.layout_is
     (subst (λ (v : ℕ). SurveysAs v file.layout t.shown (Err e)) asked.0
-    (trailer_refused file t.shown f (record { super = asked.1; layout = subst (λ (l : Layout). IsLayoutOf l f) (sym of.layout_is) served.layout_is; cluster = sym of.cluster_is }) whole e tells))
+    (trailer_refused file t.shown f
+    (record {
+      super = asked.1;
+      layout = subst (λ (l : Layout). IsLayoutOf l f) (sym of.layout_is) served.layout_is;
+      cluster = sym
+          of.cluster_is;
+    }) whole e tells))
 
 -- ---- what was scanned is of its file
 

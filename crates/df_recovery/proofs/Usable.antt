@@ -25,19 +25,28 @@ tells_refusal version (Some t) e tells = refusal_answers version (IsFoundAs vers
 
 -- ---- the choice, once its fields are tested
 
-broken_choice : (version : ℕ) (image : Image) (choice : Chosen) (fault : SuperFault) → fault_as version choice.content ≡ Some fault → IsChoiceOf image choice → HasFaultAs version image fault
-broken_choice version image choice fault is of = record { content = of.content; chosen = of.is; broken = ap (fault_as version) (sym of.fields) ∙ is }
+broken_choice : (version : ℕ) (image : Image) (choice : Chosen) (fault : SuperFault) → fault_as version choice.content ≡ Some fault
+    → IsChoiceOf image choice → HasFaultAs version image fault
+broken_choice version image choice fault is of = record {
+  content = of.content;
+  chosen = of.is;
+  broken = ap (fault_as version)
+      (sym of.fields) ∙ is;
+}
 
-pub tells_version : (version found : ℕ) (told : Option Told) (choice : Chosen) → fault_as version choice.content ≡ Some (OtherVersion found) → TellsChoice told (Ok choice) → TellsFoundAs version told (Err (Version found))
+pub tells_version : (version found : ℕ) (told : Option Told) (choice : Chosen) → fault_as version choice.content ≡ Some
+    (OtherVersion found) → TellsChoice told (Ok choice) → TellsFoundAs version told (Err (Version found))
 tells_version version found None choice is tells = tt
 tells_version version found (Some t) choice is tells = broken_choice version t.shown choice (OtherVersion found) is tells
 
-pub tells_field : (version : ℕ) (field : Field) (value : ℕ) (told : Option Told) (choice : Chosen) → fault_as version choice.content ≡ Some (BrokenField field value) → TellsChoice told (Ok choice)
+pub tells_field : (version : ℕ) (field : Field) (value : ℕ) (told : Option Told) (choice : Chosen)
+    → fault_as version choice.content ≡ Some (BrokenField field value) → TellsChoice told (Ok choice)
     → TellsFoundAs version told (Err (BadField field value))
 tells_field version field value None choice is tells = tt
 tells_field version field value (Some t) choice is tells = broken_choice version t.shown choice (BrokenField field value) is tells
 
-pub tells_found : (version : ℕ) (told : Option Told) (found : Found) → found.content ≡ found.chosen.content → fault_as version found.content ≡ None → TellsChoice told (Ok found.chosen) → TellsFoundAs version told (Ok found)
+pub tells_found : (version : ℕ) (told : Option Told) (found : Found) → found.content ≡ found.chosen.content
+    → fault_as version found.content ≡ None → TellsChoice told (Ok found.chosen) → TellsFoundAs version told (Ok found)
 tells_found version None found same usable tells = tt
 tells_found version (Some t) found same usable tells = record {
   choice = tells;

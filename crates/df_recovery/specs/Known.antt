@@ -31,9 +31,11 @@ BlamesKnown sh image b slot =
 -- the slot is one of the ring, and of each image that shows what was scanned it is that one
 pub record BlamesSlot (layout : Layout) (scan : Scan) (f : SuperFields) (sessions : List Session) (slot : ℕ) : Type 0 where
   pub below : slot < layout.slots
-  pub blames : (sh : Shape) (image : Units) (b : Checkpoint) → TellsRings layout image scan → IsBaseOf sh b layout f sessions → BlamesKnown sh image b slot
+  pub blames : (sh : Shape) (image : Units) (b : Checkpoint) → TellsRings layout image scan → IsBaseOf sh b layout f sessions
+      → BlamesKnown sh image b slot
 
 -- how far prepares go on, with the sessions after them; or the slot that is blamed
 abbrev pub AnswersKnown : Layout → Scan → SuperFields → List Session → Result Reach ℕ → List Session → Type 0
-AnswersKnown layout scan f sessions (Ok reach) after = (sh : Shape) (image : Units) (b : Checkpoint) → TellsRings layout image scan → IsBaseOf sh b layout f sessions → IsReached sh image b reach after
+AnswersKnown layout scan f sessions (Ok reach) after = (sh : Shape) (image : Units) (b : Checkpoint) → TellsRings layout image scan
+    → IsBaseOf sh b layout f sessions → IsReached sh image b reach after
 AnswersKnown layout scan f sessions (Err slot) after = BlamesSlot layout scan f sessions slot

@@ -12,7 +12,8 @@ pub returns-then-fields-eq0-clause-reads : goal.returns-then-fields-eq0-clause-r
 returns-then-fields-eq0-clause-reads g c =
     let f = c.args.content.now in
     let usable = c.fields-fields.ensures.usable.rules in
-    let none : f.trailer_address ≡ 0 = subst (λ (x : SuperFields). x.trailer_address ≡ 0) c.fields-fields.ensures.value c.if-fields-eq0.true in
+    let none : f.trailer_address ≡ 0 = subst (λ (x : SuperFields). x.trailer_address ≡ 0) c.fields-fields.ensures.value
+    c.if-fields-eq0.true in
     let grid = c.requires.rooms.grid_is in
     record {
       tells = told_none c.args.file.now (g.D.Disk.told c.args.disk.now) f _ c.requires.file usable none
@@ -30,7 +31,8 @@ returns-in-None-clause-reads g c =
     let f = c.args.content.now in
     let base = c.in_ok-base.base in
     let is = c.in_ok-base.ensures.reads in
-    let pending = pending_of c.as_slice.result.now base.sessions.sessions c.fields-fields.result.now f None c.as_slice.ensures c.fields-fields.ensures.value c.in-None.ensures in
+    let pending = pending_of c.as_slice.result.now base.sessions.sessions c.fields-fields.result.now f None c.as_slice.ensures
+    c.fields-fields.ensures.value c.in-None.ensures in
     record {
       tells = told_base file (g.D.Disk.told c.args.disk.now) f (base_in c.read_text.new.grid base) is.tells is.sessions pending;
       sessions = of_checkpoint file.layout.clients f base.sessions.sessions is.sessions pending;
@@ -45,5 +47,7 @@ returns-in-Some-clause-reads g c =
     let base = c.in_ok-base.base in
     subst (λ (n : ℕ). TellsCheckpoint file told f (Err (BadField Pending n))) (sym c.from.ensures)
     (told_untracked file told f (base_in c.read_text.new.grid base) c.in-Some.op
-    (λ zero. c.if-fields-eq0.false (subst (λ (x : SuperFields). x.trailer_address ≡ 0) (sym c.fields-fields.ensures.value) zero)) c.in_ok-base.ensures.reads.tells
-    (pending_of c.as_slice.result.now base.sessions.sessions c.fields-fields.result.now f (Some c.in-Some.op) c.as_slice.ensures c.fields-fields.ensures.value c.in-Some.ensures))
+    (λ zero. c.if-fields-eq0.false (subst (λ (x : SuperFields). x.trailer_address ≡ 0) (sym c.fields-fields.ensures.value) zero))
+    c.in_ok-base.ensures.reads.tells
+    (pending_of c.as_slice.result.now base.sessions.sessions c.fields-fields.result.now f (Some c.in-Some.op) c.as_slice.ensures
+    c.fields-fields.ensures.value c.in-Some.ensures))

@@ -14,9 +14,12 @@ use Rattle.df_recovery.{specs.Checkpoints.{TellsCheckpoint, TellsText}, proofs.B
 use Rattle.df_recovery.proofs.checkpoint.read_text.Goals as goal
 
 -- the sessions of a whole text are in their ranges, and no two of them are one
-read_as : (file : DataFile) (f : SuperFields) (g : GridState) (reader : Reader) (items : List Session) → IsCompleteReader g f.op reader → g.layout ≡ file.layout
-    → ((l : Layout) (op : ℕ) (text : List ℕ) → HasRead l op reader text → AreReadSessions l.clients op items) → AreReadSessions file.layout.clients f.op items
-read_as file f g reader items whole same gives = complete_gives (λ (l : Layout) (op : ℕ). AreReadSessions l.clients op items) g f.op reader file.layout whole same gives
+read_as : (file : DataFile) (f : SuperFields) (g : GridState) (reader : Reader) (items : List Session) → IsCompleteReader g f.op reader
+    → g.layout ≡ file.layout
+    → ((l : Layout) (op : ℕ) (text : List ℕ) → HasRead l op reader text → AreReadSessions l.clients op items)
+    → AreReadSessions file.layout.clients f.op items
+read_as file f g reader items whole same gives = complete_gives (λ (l : Layout) (op : ℕ). AreReadSessions l.clients op items) g f.op
+    reader file.layout whole same gives
 
 pub invariant_of-room : goal.invariant_of-room
 invariant_of-room g c =
@@ -29,7 +32,8 @@ invariant_of-room g c =
     }
 
 pub over-requires-clause-few : goal.over-requires-clause-few
-over-requires-clause-few g c = (read_as c.args.file.now c.args.content.now c.args.grid.now c.read_chain.new.reader c.into_parts-parts.result.sessions.items
+over-requires-clause-few g c = (read_as c.args.file.now c.args.content.now c.args.grid.now c.read_chain.new.reader
+    c.into_parts-parts.result.sessions.items
     c.in-Ok.ensures.complete (ap (λ (x : GridState). x.layout) c.requires.rooms.grid_is) c.into_parts-parts.ensures.sessions).few
 
 pub over-requires-clause-named : goal.over-requires-clause-named
@@ -39,7 +43,8 @@ over-requires-clause-named g c = λ k s at zero.
     omega (arith, (read.each k s at).client, zero)
 
 pub over-requires-clause-apart : goal.over-requires-clause-apart
-over-requires-clause-apart g c = (read_as c.args.file.now c.args.content.now c.args.grid.now c.read_chain.new.reader c.into_parts-parts.result.sessions.items
+over-requires-clause-apart g c = (read_as c.args.file.now c.args.content.now c.args.grid.now c.read_chain.new.reader
+    c.into_parts-parts.result.sessions.items
     c.in-Ok.ensures.complete (ap (λ (x : GridState). x.layout) c.requires.rooms.grid_is) c.into_parts-parts.ensures.sessions).clients
 
 pub returns-in-Ok-clause-reads : goal.returns-in-Ok-clause-reads
@@ -56,7 +61,8 @@ returns-in-Ok-clause-reads g c =
           (told_text file told f c.read_chain.new.grid c.args.grid.now c.read_chain.new.reader parts layout cluster (c.in-Ok.ensures.grid.layout ∙ layout)
           (c.in-Ok.ensures.answer (shape file) (ap layout_of (sym layout)) refl) c.into_parts-parts.ensures.parts);
       sessions = subst (λ (t : Table). AreReadSessions file.layout.clients f.op t.sessions) table
-          (read_as file f c.args.grid.now c.read_chain.new.reader parts.sessions.items c.in-Ok.ensures.complete layout c.into_parts-parts.ensures.sessions);
+          (read_as file f c.args.grid.now c.read_chain.new.reader parts.sessions.items c.in-Ok.ensures.complete layout
+          c.into_parts-parts.ensures.sessions);
       places = ap (λ (t : Table). t.max) c.over.ensures;
     }
 

@@ -11,5 +11,7 @@ or_first_is (Some number) = refl
 pub returns : goal.returns
 returns c =
     let at : c.position.result ≡ position (λ (member : Bool). member) c.args.found.now.chosen.members =
-    position_from_yields_List (λ (member : Bool). member) _ _ c.position.result c.position.ensures.ran (YieldsList-from_slice c.args.found.now.chosen.members (cc)) (λ x b q k. search (rules, tests)) in
-    c.damage.ensures ∙ ap (λ (n : ℕ). damage (CopyPlace n) Stale) (c.unwrap_or-lowest.ensures ∙ or_first_is c.position.result ∙ ap or_first at)
+    position_from_yields_List (λ (member : Bool). member) _ _ c.position.result c.position.ensures.ran
+    (YieldsList-from_slice c.args.found.now.chosen.members (cc)) (λ x b q k. search (rules, tests)) in
+    c.damage.ensures ∙ ap (λ (n : ℕ). damage (CopyPlace n) Stale) (c.unwrap_or-lowest.ensures ∙ or_first_is c.position.result
+    ∙ ap or_first at)

@@ -6,15 +6,18 @@ use Rattle.df_recovery.proofs.Naming.{begins_at, blames_lacking, blames_unfit, c
 use Rattle.df_recovery.proofs.finding.find_known.Goals as goal
 
 pub lacking_known-requires-clause-checksum : goal.lacking_known-requires-clause-checksum
-lacking_known-requires-clause-checksum c = subst IsCheck (sym c.pin_checksum_of-named.ensures) (pin_check c.args.fields.now c.requires.rules)
+lacking_known-requires-clause-checksum c = subst IsCheck (sym c.pin_checksum_of-named.ensures)
+    (pin_check c.args.fields.now c.requires.rules)
 
 pub returns-in-Some-clause-answer : goal.returns-in-Some-clause-answer
 returns-in-Some-clause-answer c = record {
   below = c.slot_of.ensures.below;
   blames = λ sh image b tells is.
       let f = c.args.fields.now in
-      let names = names_from sh b c.args.layout.now f c.args.slots.now.start c.args.sessions.now.sessions is c.requires.start c.requires.rules.rules c.requires.size c.pin_checksum_of-named.result c.pin_checksum_of-named.ensures in
-      blames_lacking sh b c.args.layout.now f c.args.slots.now.start c.args.sessions.now.sessions is c.requires.start c.requires.rules.rules c.requires.size image c.in-Some.op c.slot_of.result c.slot_of.ensures.value
+      let names = names_from sh b c.args.layout.now f c.args.slots.now.start c.args.sessions.now.sessions is c.requires.start
+      c.requires.rules.rules c.requires.size c.pin_checksum_of-named.result c.pin_checksum_of-named.ensures in
+      blames_lacking sh b c.args.layout.now f c.args.slots.now.start c.args.sessions.now.sessions is c.requires.start
+      c.requires.rules.rules c.requires.size image c.in-Some.op c.slot_of.result c.slot_of.ensures.value
       (c.in-Some.ensures.tells sh image b.content tells names);
 }
 
@@ -23,17 +26,30 @@ returns-then-reach-pin-clause-answer c = record {
   below = c.slot_of-then-reach-pin.ensures.below;
   blames = λ sh image b tells is.
       let f = c.args.fields.now in
-      let names = names_from sh b c.args.layout.now f c.args.slots.now.start c.args.sessions.now.sessions is c.requires.start c.requires.rules.rules c.requires.size c.pin_checksum_of-named.result c.pin_checksum_of-named.ensures in
-      let begins = begins_at sh b c.args.layout.now f c.args.slots.now.start c.args.sessions.now.sessions is c.requires.start c.requires.rules.rules c.requires.size in
+      let names = names_from sh b c.args.layout.now f c.args.slots.now.start c.args.sessions.now.sessions is c.requires.start
+      c.requires.rules.rules c.requires.size c.pin_checksum_of-named.result c.pin_checksum_of-named.ensures in
+      let begins = begins_at sh b c.args.layout.now f c.args.slots.now.start c.args.sessions.now.sessions is c.requires.start
+      c.requires.rules.rules c.requires.size in
       let found = c.find_reach-reach.ensures.reach sh image b tells begins (c.in-None.ensures.tells sh image b.content tells names) in
-      blames_unfit sh b c.args.layout.now f c.args.slots.now.start c.args.sessions.now.sessions is c.requires.start c.requires.rules.rules c.requires.size image c.find_reach-reach.result.op c.slot_of-then-reach-pin.result c.slot_of-then-reach-pin.ensures.value
-      (found.stops (omega (arith, c.if-reach-pin.true, c.pin_of-pin.ensures, content_pin sh b c.args.layout.now f c.args.sessions.now.sessions is)));
+      blames_unfit sh b c.args.layout.now f c.args.slots.now.start c.args.sessions.now.sessions is c.requires.start c.requires.rules.rules
+      c.requires.size image c.find_reach-reach.result.op c.slot_of-then-reach-pin.result c.slot_of-then-reach-pin.ensures.value
+      (found.stops
+      (omega (
+        arith,
+        c.if-reach-pin.true,
+        c.pin_of-pin.ensures,
+        content_pin sh b c.args.layout.now f c.args.sessions.now.sessions
+            is,
+      )));
 }
 
 pub returns-else-reach-pin-clause-answer : goal.returns-else-reach-pin-clause-answer
 returns-else-reach-pin-clause-answer c = λ sh image b tells is.
     let f = c.args.fields.now in
-    let names = names_from sh b c.args.layout.now f c.args.slots.now.start c.args.sessions.now.sessions is c.requires.start c.requires.rules.rules c.requires.size c.pin_checksum_of-named.result c.pin_checksum_of-named.ensures in
-    let begins = begins_at sh b c.args.layout.now f c.args.slots.now.start c.args.sessions.now.sessions is c.requires.start c.requires.rules.rules c.requires.size in
+    let names = names_from sh b c.args.layout.now f c.args.slots.now.start c.args.sessions.now.sessions is c.requires.start
+    c.requires.rules.rules c.requires.size c.pin_checksum_of-named.result c.pin_checksum_of-named.ensures in
+    let begins = begins_at sh b c.args.layout.now f c.args.slots.now.start c.args.sessions.now.sessions is c.requires.start
+    c.requires.rules.rules c.requires.size in
     let found = c.find_reach-reach.ensures.reach sh image b tells begins (c.in-None.ensures.tells sh image b.content tells names) in
-    found.reached (omega (arith, c.if-reach-pin.false, c.pin_of-pin.ensures, content_pin sh b c.args.layout.now f c.args.sessions.now.sessions is))
+    found.reached
+    (omega (arith, c.if-reach-pin.false, c.pin_of-pin.ensures, content_pin sh b c.args.layout.now f c.args.sessions.now.sessions is))

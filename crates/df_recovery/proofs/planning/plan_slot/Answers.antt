@@ -11,8 +11,12 @@ returns-then-is_mended-clause-list c = λ layout image tells.
     let of = op_in_is layout op slot (omega (arith, c.requires.slot, tells.table.size)) in
     let mend : Mend = slot_mend (shown_class c.args.found.now) slot in
     c.push_reserved.ensures.items
-    ∙ (λ i. c.args.mends.now.items ++ record { place = record { zone = WalHeaders; index = c.from.ensures i }; class = c.header_class.ensures i } ∷ [])
-    ∙ ap (λ (b : Bool). c.args.mends.now.items ++ if_wanted b mend) (c.if-is_mended.ensures ∙ ap is_mended (c.planned-decision.ensures.model layout image (op_above_in_slot layout.slots op slot) tells of))
+    ∙ (λ i. c.args.mends.now.items ++ record {
+      place = record { zone = WalHeaders; index = c.from.ensures i };
+      class = c.header_class.ensures i;
+    } ∷ [])
+    ∙ ap (λ (b : Bool). c.args.mends.now.items ++ if_wanted b mend) (c.if-is_mended.ensures
+    ∙ ap is_mended (c.planned-decision.ensures.model layout image (op_above_in_slot layout.slots op slot) tells of))
 
 pub returns-else-is_mended-clause-list : goal.returns-else-is_mended-clause-list
 returns-else-is_mended-clause-list c = λ layout image tells.
@@ -21,4 +25,5 @@ returns-else-is_mended-clause-list c = λ layout image tells.
     let of = op_in_is layout op slot (omega (arith, c.requires.slot, tells.table.size)) in
     let mend : Mend = slot_mend (shown_class c.args.found.now) slot in
     sym (append-nil c.args.mends.now.items)
-    ∙ ap (λ (b : Bool). c.args.mends.now.items ++ if_wanted b mend) (c.if-is_mended.ensures ∙ ap is_mended (c.planned-decision.ensures.model layout image (op_above_in_slot layout.slots op slot) tells of))
+    ∙ ap (λ (b : Bool). c.args.mends.now.items ++ if_wanted b mend) (c.if-is_mended.ensures
+    ∙ ap is_mended (c.planned-decision.ensures.model layout image (op_above_in_slot layout.slots op slot) tells of))

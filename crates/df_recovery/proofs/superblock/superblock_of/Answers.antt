@@ -17,7 +17,9 @@ some_there P (Some n) some is = (n, is)
 
 pub returns-then-is_none-clause-told : goal.returns-then-is_none-clause-told
 returns-then-is_none-clause-told c = λ told shown copies.
-    tells_refusal c.args.version told NotFormatted (tells_unformatted told c.args.copies.now shown (none_there (AreBlank c.args.copies.now 4) c.first_written.result c.if-is_none.ensures c.first_written.ensures.none))
+    tells_refusal c.args.version told NotFormatted
+    (tells_unformatted told c.args.copies.now shown
+    (none_there (AreBlank c.args.copies.now 4) c.first_written.result c.if-is_none.ensures c.first_written.ensures.none))
 
 pub returns-in-Err-clause-told : goal.returns-in-Err-clause-told
 returns-in-Err-clause-told c =
@@ -25,7 +27,8 @@ returns-in-Err-clause-told c =
     let first = some_there (IsFirstWrittenOf c.args.copies.now) c.first_written.result c.if-is_none.ensures c.first_written.ensures.some in
     λ told shown copies.
     tells_refusal c.args.version told (NoQuorum c.in-Err.classes)
-    (tells_split told c.args.copies.now c.in-Err.classes first.0 shown copies size c.in-Err.ensures.classes (c.in-Err.ensures.split.0 refl) first.1)
+    (tells_split told c.args.copies.now c.in-Err.classes first.0 shown copies size c.in-Err.ensures.classes
+    (c.in-Err.ensures.split.0 refl) first.1)
 
 pub returns-then-found-version-clause-told : goal.returns-then-found-version-clause-told
 returns-then-found-version-clause-told c = λ told shown copies.
@@ -37,7 +40,8 @@ pub returns-in-Ok-test_fields-clause-told : goal.returns-in-Ok-test_fields-claus
 returns-in-Ok-test_fields-clause-told c = λ told shown copies.
     let choice = c.in-Ok.choice in
     let content = c.in-Ok-test_fields.ensures.fields in
-    tells_found c.args.version told _ content (ap (fault_as c.args.version) content ∙ fault_asked c.args.version choice.content c.if-found-version.false ∙ c.in-Ok-test_fields.ensures.usable)
+    tells_found c.args.version told _ content (ap (fault_as c.args.version) content
+    ∙ fault_asked c.args.version choice.content c.if-found-version.false ∙ c.in-Ok-test_fields.ensures.usable)
     (tells_choice told c.args.copies.now choice shown copies c.in-Ok.ensures.content c.in-Ok.ensures.members)
 
 pub returns-in-Err-Version-clause-told : goal.returns-in-Err-Version-clause-told
@@ -45,7 +49,8 @@ returns-in-Err-Version-clause-told c = λ told shown copies.
     let choice = c.in-Ok.choice in
     let arm = c.in-Err-Version in
     tells_version c.args.version _ told choice
-    (fault_asked c.args.version choice.content c.if-found-version.false ∙ arm.ensures.fault ∙ ap Some (arm.field-0-is ∙ sym (ap OtherVersion arm.found-is)))
+    (fault_asked c.args.version choice.content c.if-found-version.false ∙ arm.ensures.fault
+    ∙ ap Some (arm.field-0-is ∙ sym (ap OtherVersion arm.found-is)))
     (tells_choice told c.args.copies.now choice shown copies c.in-Ok.ensures.content c.in-Ok.ensures.members)
 
 pub returns-in-Err-BadField-clause-told : goal.returns-in-Err-BadField-clause-told
@@ -53,5 +58,6 @@ returns-in-Err-BadField-clause-told c = λ told shown copies.
     let choice = c.in-Ok.choice in
     let arm = c.in-Err-BadField in
     tells_field c.args.version _ _ told choice
-    (fault_asked c.args.version choice.content c.if-found-version.false ∙ arm.ensures.fault ∙ ap Some (arm.field-0-is ∙ sym (λ i. BrokenField (arm.field-is i) (arm.value-is i))))
+    (fault_asked c.args.version choice.content c.if-found-version.false ∙ arm.ensures.fault
+    ∙ ap Some (arm.field-0-is ∙ sym (λ i. BrokenField (arm.field-is i) (arm.value-is i))))
     (tells_choice told c.args.copies.now choice shown copies c.in-Ok.ensures.content c.in-Ok.ensures.members)

@@ -8,9 +8,19 @@ pub returns-clause-found : goal.returns-clause-found
 returns-clause-found c =
     let scanned = c.requires.scanned in
     let count : length c.waiting_of-waiting.result.items ≡ c.args.traces.now.tail.op - c.args.traces.now.replies =
-    ap length c.waiting_of-waiting.ensures ∙ waiting_count c.args.scanned.rooms.log.layout.slots c.args.scanned.rooms.log.slots c.plan.new.headers c.args.traces.now.replies c.args.traces.now.tail.op in
+    ap length c.waiting_of-waiting.ensures ∙ waiting_count c.args.scanned.rooms.log.layout.slots c.args.scanned.rooms.log.slots
+    c.plan.new.headers c.args.traces.now.replies c.args.traces.now.tail.op in
     record {
-      read = record { named = scanned.named; version = scanned.version; size = scanned.size; fields = scanned.fields; start = scanned.start; slots = scanned.slots; places = scanned.places; idle = scanned.idle };
+      read = record {
+        named = scanned.named;
+        version = scanned.version;
+        size = scanned.size;
+        fields = scanned.fields;
+        start = scanned.start;
+        slots = scanned.slots;
+        places = scanned.places;
+        idle = scanned.idle;
+      };
       ends = c.requires.tail;
       sessions = c.requires.sessions;
       waiting = omega (arith, count, c.requires.tail.order);
@@ -24,8 +34,14 @@ returns-clause-planned c =
     let copies = c.args.scanned.copies in
     let head = c.args.traces.now.tail.op in
     record {
-      plan = subst (λ (l : Layout). ArePlannedFrom l cluster slots head copies.slots copies.found.chosen.members c.plan.new.headers c.plan.new.mends.items) same
-          (record { is_table = c.plan.ensures.table; from = c.plan.ensures.tells; others = c.plan.ensures.whole; list = c.plan.ensures.lists });
+      plan = subst (λ (l : Layout). ArePlannedFrom l cluster slots head copies.slots copies.found.chosen.members c.plan.new.headers
+          c.plan.new.mends.items) same
+          (record {
+            is_table = c.plan.ensures.table;
+            from = c.plan.ensures.tells;
+            others = c.plan.ensures.whole;
+            list = c.plan.ensures.lists;
+          });
       each = subst (λ (l : Layout). ArePlanned cluster slots head l.slots c.plan.new.headers) same c.plan.ensures.each;
       four = search rules;
     }
@@ -33,4 +49,6 @@ returns-clause-planned c =
 pub returns-clause-waiting : goal.returns-clause-waiting
 returns-clause-waiting c =
     let same = c.args.scanned.rooms.log_fits ∙ c.args.scanned.rooms_fit in
-    c.waiting_of-waiting.ensures ∙ ap (λ (l : Layout). waiting_in l.slots c.args.scanned.rooms.log.slots c.plan.new.headers c.args.traces.now.replies c.args.traces.now.tail.op) same
+    c.waiting_of-waiting.ensures
+    ∙ ap (λ (l : Layout). waiting_in l.slots c.args.scanned.rooms.log.slots c.plan.new.headers c.args.traces.now.replies
+    c.args.traces.now.tail.op) same
