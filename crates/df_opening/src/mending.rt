@@ -30,13 +30,6 @@ fn lies_in(mend: &Mend, sector: u32) -> bool
     }
 }
 
-// Whether the list has a slot of this sector.
-fn needs_sector(mends: &[Mend], sector: u32) -> bool
-    ensures { result ≡ needs_sector mends.now sector }
-{
-    mends.iter().any(|mend| lies_in(mend, sector))
-}
-
 // Writes a sector, if the list has a slot of it, and answers whether it did.
 fn mend_sector<D: Disk>(
     disk: &mut D,
@@ -54,7 +47,7 @@ fn mend_sector<D: Disk>(
     ensures room { room.new.layout ≡ file.now.layout }
     ensures cause { HasCause (D.faults disk.old) (D.faults disk.new) result }
 {
-    if needs_sector(mends, sector) {
+    if mends.iter().any(|mend| lies_in(mend, sector)) {
         match headers.write_sector(disk, room, sector) {
             Ok(()) => Ok(true),
             Err(failed) => Err(failed),
