@@ -3,9 +3,9 @@
 ghost use Rattle.std.specs.Prelude.{◌≡◌, ◌<◌, ◌/◌, length, IfErr, IfOk, OnErr, OnOk};
 ghost use Rattle.df_base.specs.declared.TheConstants.{GREATEST};
 ghost use Rattle.df_headers.specs.Ring.{IsHeaderTable};
-ghost use Rattle.df_opening.specs.Below.{Adds, HasCause, IsBlamed, is_mend_fault, sector_writes, update_events, without_rooms};
+ghost use Rattle.df_opening.specs.Below.{Adds, HasCause, IsBlamed, is_mend_fault, update_events, without_rooms};
 ghost use Rattle.df_opening.specs.Keeping.{format};
-ghost use Rattle.df_opening.specs.Mending.{AddsSteps, AddsUpdating, header_events, lies_in, mending_events, mending_steps, needs_sector, raised_state, sectors_of, some_of, wanted_writes};
+ghost use Rattle.df_opening.specs.Mending.{AddsSteps, AddsUpdating, header_events, lies_in, mending_events, mending_steps, needs_sector, raised_state, sectors_of, wanted_writes};
 ghost use Rattle.df_opening.specs.Raising.{AreRaised, RaisesEach, opening_events};
 ghost use Rattle.df_opening.specs.Survey.{survey_in};
 ghost use Rattle.df_damage.specs.Below.{AreFound, AreWhole, boot_fields, state_in};
@@ -57,34 +57,7 @@ fn mend_sector<D: Disk>(
     }
 }
 
-// Writes each sector that the list has a slot of, and answers whether there is one.
-fn mend_sectors<D: Disk>(
-    disk: &mut D,
-    file: &DataFile,
-    headers: &HeaderTable,
-    mends: &[Mend],
-    room: &mut Raw<HeaderSector>,
-) -> Result<bool, Failed>
-    requires table { IsHeaderTable file.now.layout file.now.cluster headers.now }
-    requires room { room.old.layout ≡ file.now.layout }
-    ensures events { Adds (sector_writes file.now.layout headers.now (sectors_of file.now.layout mends.now)) (D.told disk.old) (D.told disk.new) result }
-    ensures wrote { IfOk result (λ wrote. wrote ≡ some_of (sectors_of file.now.layout mends.now)) }
-    ensures room { room.new.layout ≡ file.now.layout }
-    ensures cause { HasCause (D.faults disk.old) (D.faults disk.new) result }
-{
-    let mut wrote = false;
-    let mut sector = 0;
-    while sector < file.layout.slots / SECTOR_HEADERS {
-        match mend_sector(disk, file, headers, mends, room, sector) {
-            Ok(done) => wrote = wrote || done,
-            Err(failed) => return Err(failed),
-        }
-        sector += 1;
-    }
-    Ok(wrote)
-}
-
-// Writes the header sectors that the list has a slot of, and makes them durable.
+// Writes the header sectors that the list has a slot of, and makes them durable, where there is one.
 fn mend_headers<D: Disk>(
     disk: &mut D,
     file: &DataFile,
@@ -98,11 +71,16 @@ fn mend_headers<D: Disk>(
     ensures room { room.new.layout ≡ file.now.layout }
     ensures cause { HasCause (D.faults disk.old) (D.faults disk.new) result }
 {
-    match mend_sectors(disk, file, headers, mends, room) {
-        Ok(true) => disk.sync(),
-        Ok(false) => Ok(()),
-        Err(failed) => Err(failed),
+    let mut wrote = false;
+    let mut sector = 0;
+    while sector < file.layout.slots / SECTOR_HEADERS {
+        match mend_sector(disk, file, headers, mends, room, sector) {
+            Ok(done) => wrote = wrote || done,
+            Err(failed) => return Err(failed),
+        }
+        sector += 1;
     }
+    if wrote { disk.sync() } else { Ok(()) }
 }
 
 /// Writes what is listed: each header sector that has a listed slot, once and in order, from the table; one sync, where

@@ -3,7 +3,7 @@ use Rattle.std.proofs.Common.{◌≡◌, ◌≤◌, ◌-◌, ◌/◌}
 use Rattle.df_disk.specs.Adds.{after_all}
 use Rattle.df_headers.specs.Ring.{sector_writes}
 use Rattle.df_opening.specs.Mending.{sectors_to, some_of}
-use Rattle.df_opening.proofs.mending.mend_sectors.Given as goal
+use Rattle.df_opening.proofs.mending.mend_headers.Given as goal
 
 abbrev pub invariant-loop-sector : goal.invariant-loop-sector
 invariant-loop-sector g l = record {
