@@ -3,7 +3,7 @@ use Rattle.std.specs.Prelude.{List, Result, Ok, Err}
 use Rattle.df_layout.specs.declared.damage.Mend.{Mend}
 use Rattle.df_quorum.specs.declared.choice.Chosen.{Chosen}
 use Rattle.df_damage.specs.Below.{state_in, State, Parts}
-use Rattle.df_opening.specs.declared.surveying.SurveyedFile.{SurveyedFile}
+use Rattle.df_opening.specs.declared.opened.SurveyedFile.{SurveyedFile}
 
 -- what a survey found: the state, which copies of the superblock say so, and what is to be mended
 pub record Survey : Type 0 where

@@ -8,7 +8,6 @@ mod making;
 mod mending;
 mod opened;
 mod planned;
-mod surveying;
 
 pub use completeness::what_is_safe_is_not_refused;
 pub use df_damage::{
@@ -21,6 +20,5 @@ pub use df_quorum::Chosen;
 pub use following::what_is_left_may_be_opened;
 pub use making::{format, test_blank, write_headers, write_synced};
 pub use mending::{mend_file, write_mends};
-pub use opened::{open_file, refusal_of};
+pub use opened::{SurveyedFile, open_file, refusal_of, survey_file};
 pub use planned::an_image_is_mended_in_one_way;
-pub use surveying::{SurveyedFile, survey_file};

@@ -1,7 +1,7 @@
 -- What was surveyed of version 2 has its parts, and is planned from what was read after the barrier.
 use Rattle.std.proofs.Common.{◌∙◌, Ok, Err, ap, subst, sym}
 use Rattle.df_opening.{specs.{Raising.{IsPlannedOf}, Survey.{Survey}, Surveying.{TellsMends, TellsSurvey}}, proofs.{Hurts.{answers}, SurveyPlans.{survey_planned, told_mends}}}
-use Rattle.df_opening.proofs.surveying.survey_file.Goals as goal
+use Rattle.df_opening.proofs.opened.survey_file.Goals as goal
 
 pub returns-in-Ok-clause-surveyed : goal.returns-in-Ok-clause-surveyed
 returns-in-Ok-clause-surveyed g c = record {

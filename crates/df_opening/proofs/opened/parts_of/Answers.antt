@@ -4,7 +4,7 @@ use Rattle.df_format.specs.SuperRules.{IsUsable}
 use Rattle.df_damage.{specs.{Below.{ScrubState, Staged}, Types.{Surveyed}}, proofs.Laws.{found_awaits, found_ends, found_staging, second_super}}
 use Rattle.df_model.specs.Work.{Request}
 use Rattle.df_opening.specs.Survey.{Survey}
-use Rattle.df_opening.proofs.surveying.parts_of.Goals as goal
+use Rattle.df_opening.proofs.opened.parts_of.Goals as goal
 
 pub returns-clause-found : goal.returns-clause-found
 returns-clause-found c =
