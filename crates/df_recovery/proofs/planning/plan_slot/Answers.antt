@@ -1,29 +1,33 @@
 -- The decision is the theory's, at the op that belongs in the slot.
-use Rattle.std.proofs.Common.{◌∷◌, [], ◌++◌, Bool, ap, append-nil, ◌∙◌, arith, sym}
-use Rattle.df_layout.specs.declared.{damage.Mend.{Mend}, places.Zone.TheVariants.{WalHeaders}}
-use Rattle.df_recovery.{specs.Plan.{if_wanted, is_mended, op_above_in_slot, shown_class, slot_mend}, proofs.Plans.{op_in_is}}
+use Rattle.std.proofs.Common.{◌≡◌, ◌∷◌, [], ◌++◌, ◌<◌, ℕ, Bool, ap, append-nil, ◌∙◌, arith, length, sym}
+use Rattle.df_layout.specs.declared.{damage.Mend.{Mend}, layout.Layout.{Layout}, places.Zone.TheVariants.{WalHeaders}}
+use Rattle.df_cases.specs.{Cases.{decision_of}, declared.cases.Decision.{Decision}}
+use Rattle.df_theory.specs.Units.{Units}
+use Rattle.df_journal.specs.{Scan.{Scan}, Shows.{TellsRings}}
+use Rattle.df_recovery.{specs.Plan.{IsDecided, if_wanted, is_mended, needs_header, op_above_in_slot, shown_class, slot_mend}, proofs.Plans.{op_in_is}}
 use Rattle.df_recovery.proofs.planning.plan_slot.Goals as goal
+
+needed : (layout : Layout) (image : Units) (scan : Scan) (head slot : ℕ) (d : Decision) (wanted : Bool) → IsDecided scan head slot d
+    → TellsRings layout image scan → slot < length scan.slots → wanted ≡ is_mended (decision_of d)
+    → wanted ≡ needs_header layout scan.start head image slot
+needed layout image scan head slot d wanted decided tells below is =
+    is ∙ ap is_mended (decided layout image (op_above_in_slot layout.slots scan.start.op slot) tells
+    (op_in_is layout scan.start.op slot (omega (arith, below, tells.table.size))))
 
 pub returns-then-is_mended-clause-list : goal.returns-then-is_mended-clause-list
 returns-then-is_mended-clause-list c = λ layout image tells.
     let slot = c.args.slot in
-    let op = c.args.found.now.start.op in
-    let of = op_in_is layout op slot (omega (arith, c.requires.slot, tells.table.size)) in
     let mend : Mend = slot_mend (shown_class c.args.found.now) slot in
     c.push_reserved.ensures.items
-    ∙ (λ i. c.args.mends.now.items ++ record {
-      place = record { zone = WalHeaders; index = c.from.ensures i };
-      class = c.header_class.ensures i;
-    } ∷ [])
-    ∙ ap (λ (b : Bool). c.args.mends.now.items ++ if_wanted b mend) (c.if-is_mended.ensures
-    ∙ ap is_mended (c.planned-decision.ensures.model layout image (op_above_in_slot layout.slots op slot) tells of))
+    ∙ (λ i. c.args.mends.now.items ++ record { place = record { zone = WalHeaders; index = c.from.ensures i }; class = c.header_class.ensures i } ∷ [])
+    ∙ ap (λ (b : Bool). c.args.mends.now.items ++ if_wanted b mend)
+    (needed layout image c.args.found.now c.args.head slot c.planned-decision.result _ c.planned-decision.ensures.model tells c.requires.slot
+    c.if-is_mended.ensures)
 
 pub returns-else-is_mended-clause-list : goal.returns-else-is_mended-clause-list
 returns-else-is_mended-clause-list c = λ layout image tells.
-    let slot = c.args.slot in
-    let op = c.args.found.now.start.op in
-    let of = op_in_is layout op slot (omega (arith, c.requires.slot, tells.table.size)) in
-    let mend : Mend = slot_mend (shown_class c.args.found.now) slot in
+    let mend : Mend = slot_mend (shown_class c.args.found.now) c.args.slot in
     sym (append-nil c.args.mends.now.items)
-    ∙ ap (λ (b : Bool). c.args.mends.now.items ++ if_wanted b mend) (c.if-is_mended.ensures
-    ∙ ap is_mended (c.planned-decision.ensures.model layout image (op_above_in_slot layout.slots op slot) tells of))
+    ∙ ap (λ (b : Bool). c.args.mends.now.items ++ if_wanted b mend)
+    (needed layout image c.args.found.now c.args.head c.args.slot c.planned-decision.result _ c.planned-decision.ensures.model tells
+    c.requires.slot c.if-is_mended.ensures)
