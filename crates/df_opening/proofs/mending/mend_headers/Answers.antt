@@ -11,8 +11,8 @@ pub returns-in-Err-clause-events : goal.returns-in-Err-clause-events
 returns-in-Err-clause-events g c =
     let layout = c.args.file.now.layout in
     headers_fail layout c.args.headers.now (sectors_of layout c.args.mends.now) _ _
-    (turn_fails layout c.args.headers.now c.args.mends.now c.loop-sector.sector _ _ (g.D.Disk.told c.loop-sector.disk) _ c.loop-sector-test.true
-    c.loop-sector.invariant.told c.in-Err.ensures.events)
+    (turn_fails layout c.args.headers.now c.args.mends.now c.loop-sector.sector _ _ (g.D.Disk.told c.loop-sector.disk) _
+    c.loop-sector-test.true c.loop-sector.invariant.told c.in-Err.ensures.events)
 
 pub loop-sector-preserved : goal.loop-sector-preserved
 loop-sector-preserved g c =
@@ -21,7 +21,8 @@ loop-sector-preserved g c =
     record {
       within = omega (arith, c.loop-sector-test.true);
       room = c.mend_sector.ensures.room;
-      told = turn_adds c.args.file.now.layout c.args.headers.now c.args.mends.now c.loop-sector.sector (g.D.Disk.told c.args.disk.now) (g.D.Disk.told c.loop-sector.disk) (g.D.Disk.told c.mend_sector.new.disk) before.told c.in-Ok.ensures.events;
+      told = turn_adds c.args.file.now.layout c.args.headers.now c.args.mends.now c.loop-sector.sector (g.D.Disk.told c.args.disk.now)
+          (g.D.Disk.told c.loop-sector.disk) (g.D.Disk.told c.mend_sector.new.disk) before.told c.in-Ok.ensures.events;
       faults = c.in-Ok.ensures.cause.same ∙ before.faults;
       wrote = elim c.if-wrote.branch [
         | then-wrote w ↦ w.wrote-is ∙ w.if-wrote.true ∙ sym (ap (λ (b : Bool). b || c.in-Ok.done) w.if-wrote.true) ∙ more

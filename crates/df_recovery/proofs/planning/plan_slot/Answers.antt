@@ -18,11 +18,13 @@ pub returns-then-is_mended-clause-list : goal.returns-then-is_mended-clause-list
 returns-then-is_mended-clause-list c = λ layout image tells.
     let slot = c.args.slot in
     let mend : Mend = slot_mend (shown_class c.args.found.now) slot in
+    let at : c.from.result ≡ slot = c.from.ensures in
+    let class = c.header_class.ensures in
     c.push_reserved.ensures.items
-    ∙ (λ i. c.args.mends.now.items ++ record { place = record { zone = WalHeaders; index = c.from.ensures i }; class = c.header_class.ensures i } ∷ [])
+    ∙ (λ i. c.args.mends.now.items ++ record { place = record { zone = WalHeaders; index = at i }; class = class i } ∷ [])
     ∙ ap (λ (b : Bool). c.args.mends.now.items ++ if_wanted b mend)
-    (needed layout image c.args.found.now c.args.head slot c.planned-decision.result _ c.planned-decision.ensures.model tells c.requires.slot
-    c.if-is_mended.ensures)
+    (needed layout image c.args.found.now c.args.head slot c.planned-decision.result _ c.planned-decision.ensures.model tells
+    c.requires.slot c.if-is_mended.ensures)
 
 pub returns-else-is_mended-clause-list : goal.returns-else-is_mended-clause-list
 returns-else-is_mended-clause-list c = λ layout image tells.

@@ -1,4 +1,5 @@
--- What was read after the barrier, which changes nothing of what is shown, stands after the superblock; a refusal is the trailer's, or the disk's.
+-- What was read after the barrier, which changes nothing of what is shown, stands after the superblock; a refusal is the trailer's, or the
+-- disk's.
 use Rattle.std.proofs.Common.{refl, ap}
 use Rattle.df_format.specs.declared.superblock.SuperFields.{SuperFields}
 use Rattle.df_recovery.proofs.Scans.{scan_found, scan_read, scan_refused}

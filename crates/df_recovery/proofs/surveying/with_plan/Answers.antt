@@ -1,4 +1,5 @@
--- What is planned makes sense, and as many prepares wait as are above the stored replies. The plan is that of the rooms' layout, which is the file's.
+-- What is planned makes sense, and as many prepares wait as are above the stored replies. The plan is that of the rooms' layout, which is
+-- the file's.
 use Rattle.std.proofs.Common.{◌-◌, ◌≡◌, ◌∙◌, ap, rules, subst, length, arith}
 use Rattle.df_layout.specs.declared.layout.Layout.{Layout}
 use Rattle.df_recovery.{specs.{Plan.{ArePlanned}, Surveying.{ArePlannedFrom}, Waiting.{waiting_in}}, proofs.Waits.{waiting_count}}
