@@ -91,7 +91,7 @@ def appends() -> str:
 
 
 def groups() -> str:
-    names = (("so many appends", "appends"), ("one flush of so many", "`flush`"), ("with its stages", "with its `stage`"))
+    names = (("N appends", "appends"), ("one flush of N", "`flush`"), ("with its stages", "with its `stage`"))
     return picture([lines(f"{where}, bodies of 128 bytes", "how many", "microseconds by the clock",
                           [one.series(name, column) for name, column in names], by_logarithm=False, each=True)
                     for where, one in zip(("In memory", "On a disk"), tables("BENCHMARKS.md", "Groups", "how many"))])

@@ -162,7 +162,8 @@ def report(case, path):
         lines.append(f"layout {layout_text(f)}, {end} bytes; cluster {f['Cluster']}, version {f['Version']}, boot {f['Boot']}; the superblock stands in copies "
                      f"{members}")
         if file.size % SECTOR:
-            lines.append(f"no program of these leaves such a length, no multiple of {SECTOR}: it was cut, or something was written behind its end")
+            lines.append(f"this length is no multiple of {SECTOR}: the file was cut, something was written after its end, or a full device or a size limit "
+                         "cut a write short")
     lines += refusal_lines(case, file.sectors()) + failing_lines(case) if case.refusal else state_lines(case) + found_lines(case)
     lines += table_lines(case)
     return [*lines, *(f"next: {line}" for line in advice(case))], case.status()

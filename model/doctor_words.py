@@ -21,10 +21,11 @@ FIELDS = {  # what is asked of a field of the superblock, or of a part of its ch
     "TrailerSize": "it has to be 0 where TrailerAddress is 0, else from 1 to the greatest trailer",
     "Zero": "the byte at this offset of the copy has to be zero",
     "TrailerChain": "the block at this address is no link of the trailer's chain, or the trailer references it",
-    "TrailerRoot": "so long is the root, or the text that has no whole length of a root; it has to be at most 1024, and in the text",
-    "TrailerSessions": "so many sessions there are, or the session of this place breaks a rule, or the text ends here",
+    "TrailerRoot": "the length of the root, or of a text that is too short to say it; the root has to have at most 1024 bytes, and to be in the text",
+    "TrailerSessions": "the number of sessions, above Clients or more than the text has; or the place of one that breaks a rule; or the length of a "
+                       "text that ends before that number",
     "TrailerBits": "at this offset of the trailer's text the bits end too early, or have one past the last block",
-    "TrailerEnd": "the text has so many bytes, and its references ask for another number",
+    "TrailerEnd": "the length of the text in bytes; its references ask for another",
     "Pending": "this op waits for its reply, and is the last op of no session",
 }
 

@@ -14,7 +14,7 @@ import sys
 TOP = pathlib.Path(__file__).resolve().parent.parent
 PIECE = r"(Byte|Number|Bytes|zeros)\b\s*(\d+|\w+|\([^()λ]*\))?\s*(\(λ .*\))?"
 # how a page says a width that depends on what is spelled
-WIDTHS = {"root": "so many", "32 * sessions": "32 each", "bits_size l": "`(blocks + 7) / 8`, rounded down"}
+WIDTHS = {"root": "that many", "32 * sessions": "32 each", "bits_size l": "`(blocks + 7) / 8`, rounded down"}
 
 
 def text_of(*path):

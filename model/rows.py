@@ -115,7 +115,7 @@ def told(file, past=False):
     words += [] if past else [f"later op {op}: {line_of(*change)}" for op, change in table.later]
     lacking = bool(table.missing or table.foreign)
     if lacking:
-        words.append(f"{len(lines)} rows, as of op {table.op}{' and of what can be read behind it' if past and table.later else ''}; some may be missing")
+        words.append(f"{len(lines)} rows, as of op {table.op}{' and of what can be read after it' if past and table.later else ''}; some may be missing")
     return lines, words, MISSING if lacking else DONE
 
 
@@ -149,7 +149,7 @@ def fill_streams():
 def words():
     parser = argparse.ArgumentParser(description="Prints the table of a data file as the lines that make it again.")
     parser.add_argument("file", help="the data file, which isn't written")
-    parser.add_argument("--past", action="store_true", help="where an op is missing, let also what can be read behind it change the rows")
+    parser.add_argument("--past", action="store_true", help="where an op is missing, let also what can be read after it change the rows")
     return parser.parse_args()
 
 
