@@ -90,7 +90,8 @@ def trailer():
 
 def row():
     # the value and the zeros after it have no width of their own
-    told = found(r"the key \((\d+) bytes\), how many bytes the value has \((\d+) byte\)", text_of("docs", "OBJECTTABLE.md"), "a row of the page").groups()
+    page = " ".join(text_of("docs", "OBJECTTABLE.md").split())
+    told = found(r"the key \((\d+) bytes\), how many bytes the value has \((\d+) byte\)", page, "a row of the page").groups()
     return differs("a row", list(told), [width for _, width in pieces("df_rows", "Rows", "row_pieces")][:2])
 
 
