@@ -238,7 +238,7 @@ def show_puts(bench: Bench, ground: Ground, stores: list) -> None:
                      f"{durable[len(durable) * 99 // 100]:,.0f}", with_quartiles(rates, 0), f"{FIRST / first:,.0f}"])
     show(f"Durable puts, {ground.name}, {bench.rounds} rounds of {PUTS} puts of each after {FIRST:,}, by the clock",
          ["what keeps them", "at once", "syncs until they are durable", "bytes written until then", "syncs in all",
-          "us until they are durable", "99th of a hundred", "puts a second, in all", "of the first puts"], rows)
+          "us until they are durable", "99th percentile", "puts a second, in all", "of the first puts"], rows)
 
 
 def opened(bench: Bench, ground: Ground, memory: Ground, store: Store, rows: int) -> list:

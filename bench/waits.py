@@ -58,4 +58,4 @@ def show_waits(bench: Bench, grounds: list) -> None:
         rows.append(row_of(bench, ground, f"`run`, a whole checkpoint every {EVERY} appends", ["run"], with_checkpoints(requests())))
         rows.append(row_of(bench, ground, f"`paced 0 {EVERY} 64`", ["paced", "0", str(EVERY), "64"], requests()))
     show(f"The wait for an answer, {APPENDS:,} appends with their replies on `small`, us",
-         ["where", "word", "median", "99th of a hundred", "longest of a session (median of the sessions)"], rows)
+         ["where", "word", "median", "99th percentile", "longest of a session (median of the sessions)"], rows)
