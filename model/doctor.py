@@ -95,7 +95,7 @@ def missing(path, error):
         return f"the folder {folder} isn't there: {FIVE}"
     link = " (the path is a link to a file that isn't there)" if os.path.islink(path) else ""
     if not os.access(folder, os.W_OK | os.X_OK):
-        return f"nothing is there{link}, and this user may make nothing in {folder}: {FIVE}"
+        return f"nothing is there{link}, and this user may not make files in {folder}: {FIVE}"
     return (f"nothing is there{link}. `format` would make a file here; each other word would leave an empty file, and answer "
             "`refused NotFormatted`")
 

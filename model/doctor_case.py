@@ -253,8 +253,8 @@ def lost_clusters(case):
 def lost_checkpoints(case):
     """The superblock, where blocks were written after it under a later one."""
     f = case.fields
-    text = (f"it is older than the file: of boot {f['Boot']} and sequence {f['Sequence']}, and blocks of a later boot or checkpoint stand in the grid. It was put "
-            "back from an older copy, or later ones were lost; or something else stood in this file before it was made")
+    text = (f"it is older than the file: of boot {f['Boot']} and sequence {f['Sequence']}, and blocks of a later boot or checkpoint stand in the grid. It was "
+            "restored from an older copy, or later ones were lost; or something else stood in this file before it was made")
     return [("Superblock", f["Copy"], text)] + [("Grid", address, "written under a later superblock") for address in case.later[:1]] if case.later else []
 
 

@@ -8,8 +8,8 @@ CHECK = "check the device, and that one process at a time uses the file"
 FROM_COPY = f"take the file from a copy, and {CHECK}"
 PROGRAM = "use the program that made the file"
 OLD = "an earlier program made it: end that program, copy the file, and then `datafile FILE upgrade`, once (docs/OPERATING.md, \"Old files\")"
-STRANGE = ("the superblock is another file's, or something else stood in this file before it was made: keep it as it is, no `filemirror` and no word but "
-           "`inspect` over it, and take it whole from its newest copy; where a `filecopy` or a `format` made it, remove it, and make it anew "
+STRANGE = ("the superblock is another file's, or something else stood in this file before it was made: keep it as it is, run no `filemirror` and no word "
+           "but `inspect` over it, and take it whole from its newest copy; if a `filecopy` or a `format` made it, remove it, and make it again "
            "(docs/OPERATING.md, \"An older superblock\")")
 # What a sector of headers is called where the sectors are looked at.
 HEADERS = "sectors of headers"
@@ -29,15 +29,15 @@ def blank_next(file):
     """What to do with a file whose first four sectors are zeros: a new file is one in which nothing else stands either."""
     names = [name for _, _, name, _ in looks(file, file.sectors())]
     if not names:
-        return ["name the right file; or, where this is the one that is meant, `format` it: zeros alone stand in it"]
+        return ["name the right file; or, if this is the one that is meant, `format` it: it holds only zeros"]
     if all(name.startswith(HEADERS) for name in names) and not has_prepares(file):
         return ["a `format`, or a `filecopy`, was stopped before its first copy of the superblock, and nothing but empty headers stands "
-                "here: remove it, and make it anew"]
+                "here: remove it, and make it again"]
     if set(names) == {UNKNOWN}:
-        return ["no `format` here, and no `filecopy` to it: it is no data file, and both would write over what stands in it. Name another path"]
-    return ["no `format` here, and no `filecopy` to it: zeros in the first four sectors don't make it a new file, and what stands behind "
-            "them may be found again. Where it is what a stopped or refused `filecopy` left, or is to be a new file: remove it first",
-            f"where it was in use its superblock is gone, and with it what the rest means: keep it, and {FROM_COPY}"]
+        return ["no `format` here, and no `filecopy` to it: it isn't a data file, and both would write over what is in it. Name another path"]
+    return ["no `format` here, and no `filecopy` to it: zeros in the first four sectors don't make it a new file, and what stands after "
+            "them may be found again. If it is what a stopped or refused `filecopy` left, or is to be a new file: remove it first",
+            f"if it was in use, its superblock is gone, and with it what the rest means: keep it, and {FROM_COPY}"]
 
 
 def has_prepares(file):
@@ -48,10 +48,10 @@ def has_prepares(file):
 def split_next(case):
     """What to do where no two copies agree."""
     alone = [(place, one) for place, one in cases_by_copy(case.file) if not one.refusal]
-    lines = ["where the file was never used, a `format` or a `filecopy` was stopped at its first copy: remove it, and make it anew. Else "
+    lines = ["if the file was never used, a `format` or a `filecopy` was stopped at its first copy: remove it, and make it again. Otherwise "
              + FROM_COPY]
     if alone:
-        lines.append(f"where the line on the copy in sector {alone[0][0]} says what was acknowledged last, it may be written over another one of "
+        lines.append(f"if the line on the copy in sector {alone[0][0]} says what was acknowledged last, that copy may be written over another one of "
                      "the four, in a copy of this file, and nothing is lost (docs/OPERATING.md, \"Three copies hurt\")")
     return lines
 
@@ -63,7 +63,7 @@ def strange_next(case):
     if not own:
         return [STRANGE]
     place, one = own[0]
-    return [STRANGE, f"where no copy of the file is as new: the copy in sector {place} is this file's own, of cluster {cluster}, and an open by it finds head "
+    return [STRANGE, f"if no copy of the file is as new: the copy in sector {place} is this file's own, of cluster {cluster}, and an open by it finds head "
                      f"{one.state['head']} and {one.state['stored']} replies. In a copy of this file write it over each copy of the other one "
                      "(docs/OPERATING.md, \"Three copies hurt\"), and run the doctor over that"]
 
@@ -76,16 +76,16 @@ def damaged_next(case, words):
     if zone == "Superblock" or case.later or newer_reply(case, zone, index):
         return ["no `filemirror` here: by the older superblock it writes older replies over newer ones. Keep the file as it is, and take it "
                 "whole from its newest copy, never parts of one",
-                "where it was made by a `filecopy` or a `format`, something else stood in it before: remove it, and make it anew",
+                "if it was made by a `filecopy` or a `format`, something else stood in it before: remove it, and make it again",
                 CHECK + ": a later superblock that was lost, and two processes at once, leave the same"]
     if cut_lines(case.file, case.fields, zone, index):
         return [f"the file was cut: take it whole from a copy that is as new, and {CHECK}",
-                "where none is, copy this file, and `filemirror FILE COPY` gives back from any copy what the superblock names here; what was appended or "
-                "answered after the last open and the last checkpoint, and stood behind the end, is gone without a trace then"]
+                "if there is none, copy this file, and `filemirror FILE COPY` restores from any copy what the superblock names here; what was appended or "
+                "answered after the last open and the last checkpoint, and stood after the end, is then gone without a trace"]
     if is_named(case, zone, index):
-        return ["what belongs here is known by its checksum: copy this file, then `filemirror FILE COPY` gives it back from any copy that "
-                "shows it, and keeps all that is newer here (docs/OPERATING.md, \"Mending from a copy\")",
-                f"where no copy shows it, this file lacks what was acknowledged: take the whole file from a copy, and {CHECK}"]
+        return ["what belongs here is known by its checksum: copy this file, then `filemirror FILE COPY` restores it from any copy that "
+                "shows it, and keeps everything that is newer here (docs/OPERATING.md, \"Mending from a copy\")",
+                f"if no copy shows it, this file lacks what was acknowledged: take the whole file from a copy, and {CHECK}"]
     return [f"what was acknowledged isn't all there, and `filemirror` doesn't know what belongs here, which came after the last open and the last "
             f"checkpoint: {FROM_COPY}"]
 
@@ -131,5 +131,6 @@ def rolled_lines(case):
         return []
     boot, checkpoint = max(one["boot"] for one in units), max(one["checkpoint"] for one in units)
     return [f"the superblock is older than the file: it is of boot {f['Boot']} and sequence {f['Sequence']}, and units up to boot {boot} and "
-            f"sequence {checkpoint} stand here. It was put back from an older copy, or later ones were lost; or what stands here is of another life of the file",
-            f"{len(later)} places were written under a later superblock, or are above the ring behind its checkpoint's op {f['Op']}"]
+            f"sequence {checkpoint} stand here. It was restored from an older copy, or later ones were lost; or what stands here is of another life of "
+            "the file",
+            f"{len(later)} places were written under a later superblock, or are above the ring after its checkpoint's op {f['Op']}"]

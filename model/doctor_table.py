@@ -41,8 +41,8 @@ def advice(case):
     ring alone."""
     lines = table_next(case)
     others = next_lines(replace(case, failing=[]) if case.table else case)
-    if "gives it back" in others[0]:
-        # Where a copy gives back what an open misses, nothing is lost: that is tried first.
+    if "restores it" in others[0]:
+        # Where a copy restores what an open misses, nothing is lost: that is tried first.
         return others[:1] + lines + others[1:]
     return lines + ([] if lines and others == ["nothing"] else others)
 
@@ -57,7 +57,7 @@ def table_next(case):
     lacking = ", and names what it can't read" if table.missing else ""
     lines = [f"{PRINTS}{lacking}; `objecttable NEW table < lines` over a new file NEW is then the way out (docs/OBJECTTABLE.md)"]
     if case.failing and not case.later:
-        lines.insert(0, "copy this file, then `filemirror FILE COPY` gives the blocks that fail back from any copy that shows them, and the table with "
+        lines.insert(0, "copy this file, then `filemirror FILE COPY` restores the blocks that fail from any copy that shows them, and the table with "
                         "them (docs/OPERATING.md, \"Mending from a copy\"); check the device")
     return lines
 

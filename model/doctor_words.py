@@ -108,7 +108,7 @@ def told(state, head):
 def named_lines(file, state, slot):
     """Why a prepare is missed that the superblock names."""
     f, op = state["fields"], slot_case(state, slot)[0]
-    lines = [f"the superblock names the prepares up to op {f['Pin']}, of boot {f['Boot']} and before, and op {op} belongs into slot {slot}"]
+    lines = [f"the superblock names the prepares up to op {f['Pin']}, of boot {f['Boot']} and before, and op {op} belongs in slot {slot}"]
     if not isinstance(state["prepares"][slot], str):
         lines.append("another prepare stands there, or this one doesn't fit those before it")
     return lines + slot_lines(file, f, slot)
@@ -123,7 +123,7 @@ def lost_lines(file, state):
     """Why the prepare after the tail is missed."""
     f, head = state["fields"], state["head"]
     op, slot = head + 1, (head + 1) % f["Slots"]
-    lines = [f"the file has the ops up to {head}; op {op} belongs into slot {slot}, and is told of by {told(state, head)}"]
+    lines = [f"the file has the ops up to {head}; op {op} belongs in slot {slot}, and is known from {told(state, head)}"]
     one, header = state["prepares"][slot], state["headers"][slot]
     if not isinstance(one, str) and one["op"] == op:
         other = not isinstance(header, str) and header["op"] == op and header["checksum"] != one["checksum"]
@@ -181,7 +181,7 @@ def refusal_lines(case, sectors):
         why = "the first four sectors are zeros" if words[0] == "NotFormatted" else "no two of the four copies agree"
         return [why, *copy_lines(case.file), *alone_lines(case.file), *look_lines(case.file, sectors)]
     if words[0] == "Version":
-        return [f"the superblock has version {words[2]}; the program opens version 2 alone", *copy_lines(case.file)]
+        return [f"the superblock has version {words[2]}; the program opens only version 2", *copy_lines(case.file)]
     if words[0] == "BootSpent":
         return ["the boot is 2^62, the greatest, and no open can raise it", *copy_lines(case.file)]
     return [f"{words[1]} {words[2]}: {FIELDS[words[1]]}", *copy_lines(case.file)]
@@ -202,15 +202,15 @@ def next_lines(case):
         return strange_next(case)
     lines = []
     if case.later:
-        lines.append("the superblock is older than the file: keep it as it is, no `filemirror`, and take it whole from its newest copy; where it was "
-                     "made by a `filecopy` or a `format`, remove it, and make it anew (docs/OPERATING.md, \"An older superblock\")")
+        lines.append("the superblock is older than the file: keep it as it is, run no `filemirror`, and take it whole from its newest copy; if it was "
+                     "made by a `filecopy` or a `format`, remove it, and make it again (docs/OPERATING.md, \"An older superblock\")")
     elif case.lost:
         lines.append("keep a copy of the file, since mending takes some of these traces away; then compare what was acknowledged, "
                      "with `prepare` and `lookup`, before a new line is given: what was taken back is accepted again")
     if case.mends:
-        lines.append("`run`, `recover` or `scrub` mends what is listed so, with nothing to do by hand")
+        lines.append("`run`, `recover` or `scrub` mends what is listed: there is nothing to do by hand")
     if case.failing:
-        lines.append("copy this file, then `filemirror FILE COPY` gives the blocks that fail back from any copy that shows them "
-                     "(docs/OPERATING.md, \"Mending from a copy\"). Where none does: release them, write them again from elsewhere, and make a "
+        lines.append("copy this file, then `filemirror FILE COPY` restores the blocks that fail from any copy that shows them "
+                     "(docs/OPERATING.md, \"Mending from a copy\"). If none does: release them, write them again from elsewhere, and make a "
                      f"checkpoint. In any case {CHECK}")
     return lines or ["nothing"]
