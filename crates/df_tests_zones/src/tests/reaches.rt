@@ -106,7 +106,7 @@ const ROWS: [Row; 13] = [
         [(4, 4), (5, 5), (5, 6), (7, 7), (8, 8)],
     ),
     (
-        "a group behind the head that is named",
+        "a group after the head that is named",
         [(5, 6), (5, 6), (7, 8), (7, 8)],
         6,
         [(4, 4), (4, 5), (6, 6), (6, 7), (8, 8)],
@@ -142,13 +142,13 @@ const ROWS: [Row; 13] = [
         [(4, 4), (4, 5), (4, 5), (4, 5), (4, 5)],
     ),
     (
-        "a group that goes on behind its last",
+        "a group that goes on after its last",
         [(5, 6), (5, 6), (5, 8), (5, 8)],
         4,
         [(4, 4), (4, 5), (6, 6), (6, 6), (6, 6)],
     ),
     (
-        "a group whose first is behind the checkpoint",
+        "a group whose first op is the checkpoint's",
         [(4, 5), (6, 6), (7, 7), (8, 8)],
         4,
         [(4, 4), (4, 4), (4, 4), (4, 4), (4, 4)],

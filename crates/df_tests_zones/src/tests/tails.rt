@@ -87,7 +87,7 @@ fn five(rt: &impl Abort, alloc: Global, layout: &Layout, boots: &Boots) -> Memor
     disk
 }
 
-// What is found behind an empty checkpoint in a boot: the tail, and whether anything is behind or lost.
+// What is found after an empty checkpoint, in a boot: the tail, and whether anything is behind or lost.
 fn found(
     rt: &impl Abort,
     alloc: Global,
