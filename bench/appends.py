@@ -12,7 +12,7 @@ from tries.form import Layout
 from yardstick import SYNC, answered, decoded, plan, taken, unit, write
 
 SIZES = (0, 128, 3840, 7936, 65280, 1048320)
-# Of the bodies of one run at most so many bytes in all, and on a disk so many appends, since each takes three syncs.
+# Of the bodies of one run at most this many bytes in all, and on a disk this many appends, since each takes three syncs.
 BYTES, ON_DISK = 2**25, 32
 
 

@@ -21,7 +21,7 @@ class Asked:
         self.kill()
 
     def ask(self, lines: bytes, answers: int) -> tuple:
-        """Writes these lines; gives the seconds until so many answers are there, and what they are."""
+        """Writes these lines; gives the seconds until this many answers are there, and what they are."""
         start, text = time.perf_counter(), b""
         self.process.stdin.write(lines)
         while text.count(b"\n") < answers:

@@ -60,7 +60,7 @@ def looked(path: str, boot: int, before: bytes) -> bytes:
 
 
 def opened(program: str, ground: Ground, count: int) -> list:
-    """So many opens in a row, and a report between them: a row of the table of times."""
+    """This many opens in a row, and a report between them: a row of the table of times."""
     path = made(program, ground)
     data, opens, reports = looked(path, 1, read(path)), [], []
     for number in range(count):

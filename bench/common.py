@@ -163,13 +163,13 @@ def appends(random: Random, ops: range, size: int, clients: int = 1, replies: in
 
 
 def blocks(random: Random, count: int, size: int) -> Script:
-    """So many blocks, on a grid whose first addresses are free."""
+    """This many blocks, on a grid whose first addresses are free."""
     lines = (b"block 1 %s\n" % digits(random.randbytes(size)) for _ in range(count))
     return Script(b"".join(lines), b"".join(b"wrote %d\n" % address for address in range(1, count + 1)))
 
 
 def begin(trailer: int) -> Script:
-    """The begin of a checkpoint, of which so many blocks are the trailer's."""
+    """The begin of a checkpoint, of which this many blocks are the trailer's."""
     return Script(b"checkpoint -\n", b"begun %d\n" % trailer)
 
 

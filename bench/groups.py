@@ -25,7 +25,7 @@ class Requests:
         self.asked: Counter = Counter()
 
     def lines(self, word: bytes, bodies: list) -> bytes:
-        """A line for each of so many clients."""
+        """A line for each of this many clients."""
         made = []
         for client, body in enumerate(bodies, 1):
             self.asked[client] += 1
@@ -36,7 +36,7 @@ class Requests:
         return b"".join(b"%s %d\n" % (word, self.head + number) for number in range(1, count + 1))
 
     def appended(self, bodies: list) -> float:
-        """So many appends, in one piece: the seconds until the last one is answered."""
+        """This many appends, in one piece: the seconds until the last one is answered."""
         return self.session.want(self.lines(b"append", bodies), self.answers(b"appended", len(bodies)))
 
     def staged(self, bodies: list) -> float:
@@ -63,7 +63,7 @@ def layout_of(size: int) -> Layout:
 
 
 def measured(bench: Bench, ground: Ground, size: int) -> dict:
-    """Microseconds of so many appends, of so many stages, and of a flush of so many, all of one session over a file whose ring was
+    """Microseconds of this many appends, of this many stages, and of a flush of this many, all of one session over a file whose ring was
     written round once."""
     seen: dict = {(what, count): [] for what in ("append", "stage", "flush") for count in range(1, CLIENTS + 1)}
     turns = [(what, count) for what, count in seen if what != "stage"]
@@ -104,7 +104,7 @@ def row_of_size(size: int, seen: dict) -> list:
 
 
 def row_of_count(count: int, seen: dict) -> list:
-    """So many of the size that is told."""
+    """This many of the size that is told."""
     return [count, *(with_quartiles(values, 0) for values in (seen["append", count], seen["flush", count], both(seen, count)))]
 
 

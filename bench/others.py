@@ -153,7 +153,7 @@ class Groups(Store):
 
 
 def puts_of(random: Random, count: int, keys: int) -> list:
-    """Puts of values of the greatest length, of keys that are drawn from so many."""
+    """Puts of values of the greatest length, of keys that are drawn from this many."""
     drawn = [random.getrandbits(128) for _ in range(keys)]
     return [(random.choice(drawn), random.randbytes(objects.LONGEST)) for _ in range(count)]
 
@@ -195,7 +195,7 @@ def kept_in_turn(bench: Bench, ground: Ground, stores: list) -> list:
 
 
 def counted(bench: Bench, ground: Ground, store: Store, count: int, settles: bool) -> tuple:
-    """Syncs and written bytes of so many puts over what was just made; what goes with the last one or group is among them, or isn't."""
+    """Syncs and written bytes of this many puts over what was just made; what goes with the last one or group is among them, or isn't."""
     log, inner = ground.path("calls"), Ground("", ground.path("inner"), True)
     shutil.rmtree(inner.folder, ignore_errors=True)
     os.mkdir(inner.folder)
@@ -242,7 +242,7 @@ def show_puts(bench: Bench, ground: Ground, stores: list) -> None:
 
 
 def opened(bench: Bench, ground: Ground, memory: Ground, store: Store, rows: int) -> list:
-    """Milliseconds of opens of a store with so many rows, up to the first answer of one of them: after a close, and after a kill."""
+    """Milliseconds of opens of a store with this many rows, up to the first answer of one of them: after a close, and after a kill."""
     made = Ground("", memory.path("made"), False)
     keys = [bench.random.getrandbits(128) for _ in range(rows)]
     puts = [(key, bench.random.randbytes(objects.LONGEST)) for key in keys]
@@ -281,7 +281,7 @@ def show_opens(bench: Bench, ground: Ground, memory: Ground, given: argparse.Nam
     others = [Kept("SQLite VERSION", "sqlite", given.python), Kept("LevelDB VERSION", "leveldb", given.python)]
     found = []
     for rows in given.rows:
-        # The ring keeps so many prepares; what is older an application of its own has in blocks.
+        # The ring keeps this many prepares; what is older an application of its own has in blocks.
         ring = [Groups(given.datafile, 8)] if rows < GROUPS.slots else []
         for store in [*table, *ring, *others]:
             cells = opened(bench, ground, memory, store, rows)

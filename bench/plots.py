@@ -134,7 +134,7 @@ def lines(title: str, below: str, unit: str, series: list, by_logarithm: bool = 
 
 
 def dots(title: str, below: str, names: list, rows: list, longest: int) -> list:
-    """Rows of dots by logarithm: each row has its words, so many letters at most, and a value for each name; it is written beside its dot."""
+    """Rows of dots by logarithm: each row has its words, this many letters at most, and a value for each name; it is written beside its dot."""
     wide = EDGE + LETTER * longest
     left, right = wide + 14, wide + 440
     out, top = legend(names, EDGE, 50, right - EDGE) if len(names) > 1 else ([], 40)
@@ -166,7 +166,7 @@ def style() -> str:
 
 
 def picture(panels: list, across: int = 2) -> str:
-    """The text of a picture: its plots, so many beside one another."""
+    """The text of a picture: its plots, this many beside one another."""
     out, top, wide = [], 0.0, 0.0
     for at in range(0, len(panels), across):
         left, row = 0.0, panels[at : at + across]

@@ -48,7 +48,7 @@ def has_valgrind() -> bool:
 
 
 def show_profile(title: str, command: list, source: str, least: float = 1.0) -> None:
-    """The functions that take at least so many percent of the samples; those of the kernel as one."""
+    """The functions that take at least this many percent of the samples; those of the kernel as one."""
     if shutil.which("perf") is None:
         print(f"\n{title}: perf isn't installed")
         return

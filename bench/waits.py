@@ -7,7 +7,7 @@ from common import Bench, Ground, begin, done, join, show, trailer_of, working
 from tries.binary import require
 from tries.form import SMALL
 
-# So many appends by four clients in turn, each with its reply, and a checkpoint at each sixteenth.
+# This many appends by four clients in turn, each with its reply, and a checkpoint at each sixteenth.
 APPENDS, EVERY, CLIENTS = 2048, 16, 4
 
 

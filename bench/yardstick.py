@@ -200,7 +200,7 @@ SYNC = (b"s", 0, 0)
 
 
 def taken(length: int) -> tuple:
-    """A read of the script that asks for so many bytes."""
+    """A read of the script that asks for this many bytes."""
     return b"i", 0, length
 
 
@@ -215,7 +215,7 @@ def hashed(start: int, length: int) -> tuple:
 
 
 def decoded(start: int, length: int) -> tuple:
-    """The bytes of so many digits in the room."""
+    """The bytes of this many digits in the room."""
     return b"d", start, length
 
 

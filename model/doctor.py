@@ -26,7 +26,7 @@ from reader_units import SECTOR, zones_of
 FIVE = "each word of the program answers status 5"
 KINDS = {stat.S_ISDIR: f"a folder: {FIVE}", stat.S_ISFIFO: f"a pipe: {FIVE}", stat.S_ISSOCK: f"a socket: {FIVE}",
          stat.S_ISCHR: "a device, no ordinary file", stat.S_ISBLK: "a device, no ordinary file"}
-# So many places that are to be mended are described one by one.
+# This many places that are to be mended are described one by one.
 FEW = 4
 # The status where the doctor can't say what it is asked for.
 CANNOT = 3

@@ -14,7 +14,7 @@ from reader_units import (
 
 # What a sector is that looks like no part of a data file.
 UNKNOWN = "sectors of something else"
-# Where there are so many blocks more than the greatest table has no table is looked for.
+# Where there are this many blocks more than the greatest table has no table is looked for.
 OTHERS = 16
 NO_SESSION = ("no session has this place, and yet something stands here: the append and the reply of a new client may have been "
               "acknowledged and be lost")

@@ -6,7 +6,7 @@ from reader import class_of_copy, evidence_of, is_copy, later_of
 from reader_units import BLOCK, HEADER, PREPARE, REPLY, RESERVED, SECTOR, bytes_at, fields_at, look, zones_of
 
 NAMES = {RESERVED: "reserved header", PREPARE: "prepare", REPLY: "reply", BLOCK: "block", 5: "trailer block"}
-# So many places are described one by one.
+# This many places are described one by one.
 FEW = 6
 FIELDS = {  # what is asked of a field of the superblock, or of a part of its checkpoint's trailer
     "Slots": "it has to be 16 to 1024, and a multiple of 16", "Clients": "it has to be 1 to 64",

@@ -6,7 +6,7 @@ from reader_trailer import TOP, Refused, chain_of, number, parts_of
 from reader_units import BLOCK, HEADER, TRAILER, bytes_at, checksum, header_of, shown, zones_of
 
 CLIENT = 1
-# Of a table without rows so many boots before the superblock's are tried.
+# Of a table without rows this many boots before the superblock's are tried.
 EARLIER = 1000
 
 
@@ -25,7 +25,7 @@ def references_again(file, state):
 
 
 def guesses(file, f, count):
-    """Where so many blocks of rows may stand. The table writes them at the least addresses that are free, and then the trailer: right before it, or
+    """Where this many blocks of rows may stand. The table writes them at the least addresses that are free, and then the trailer: right before it, or
     where the checkpoint before, whose trailer may still be there, has none."""
     last = f["TrailerAddress"]
     if last > count:

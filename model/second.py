@@ -190,7 +190,7 @@ TAILS = (4, 14, 29)
 
 
 def tail_of(count, named):
-    """So many prepares of client 5, one after the other, of the boot before up to the op that is named; the last one's reply is stored."""
+    """This many prepares of client 5, one after the other, of the boot before up to the op that is named; the last one's reply is stored."""
     listed, parent = [], NONE
     for op in range(1, count + 1):
         listed.append(prepare(op, parent, 5, op, op - 1, BEFORE if op <= named else BOOT))
@@ -208,7 +208,7 @@ def three_of(tail, boot):
 
 
 def grouped(count, named, boot, left):
-    """A file with a tail of so many ops, of which the superblock names those up to one, and what is left of a group after it."""
+    """A file with a tail of this many ops, of which the superblock names those up to one, and what is left of a group after it."""
     tail, stored = tail_of(count, named)
     three = three_of(tail, boot)
     sums = [NONE] + [one.checksum for one in tail + three]

@@ -14,7 +14,7 @@ from tries.units import NO_BYTES, REPLY, Unit
 from tries.words import layout_of, meaning
 
 STATUSES = ("Done", "Found", "Words", "Script", "Refused", "DiskFault", "ReadFault", "WriteFault", "Memory")
-# A body is printed in pieces of so many digits.
+# A body is printed in pieces of this many digits.
 DIGITS = 512
 BODY = re.compile(rb"((?:prepare|reply|block) .* body |root )([0-9a-f-]+)\n")
 RECENT = re.compile(rb"(recent [0-9]+)((?: .*)?)\n")

@@ -16,7 +16,7 @@ def check(data):
 
 
 def put(size, fields):
-    """So many bytes, all zero but for these numbers and bytes at their offsets: (offset, bytes of a number, number) or (offset, bytes)."""
+    """This many bytes, all zero but for these numbers and bytes at their offsets: (offset, bytes of a number, number) or (offset, bytes)."""
     data = bytearray(size)
     for at, *what in fields:
         piece = what[0] if len(what) == 1 else what[1].to_bytes(what[0], "little")

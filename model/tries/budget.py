@@ -52,7 +52,7 @@ def budget(t: Try) -> None:
 
 
 def feed(t: Try, blocks: int, tail: bytes) -> tuple:
-    """Runs the program with so many blocks and then the tail as its input."""
+    """Runs the program with this many blocks and then the tail as its input."""
     answers = os.path.join(t.binary.folder, "answers")
     t.binary.runs += 1
     with open(answers, "wb") as out:

@@ -40,7 +40,7 @@ def realistic() -> tuple:
 
 
 def full(wrote: int, then: str, printed: str, home: Home = HOME) -> tuple:
-    """A new file in which so many blocks are written."""
+    """A new file in which this many blocks are written."""
     told = "".join(f"wrote {address}\n" for address in range(1, wrote + 1))
     return script.fresh(home), "run", "block 1 -\n" * wrote + then, told + printed, 0
 

@@ -77,7 +77,7 @@ def missing_blocks(data: bytes, view: recovery.View) -> list:
 
 
 def reads_of(m: Machine, prepares: int) -> list:
-    """Lines that read what is kept: so many of the last prepares, each client's reply, and each block up to twenty."""
+    """Lines that read what is kept: this many of the last prepares, each client's reply, and each block up to twenty."""
     ops = range(max(m.durable.op + 1, m.head() + 1 - prepares), m.head() + 1)
     blocks = [b"read %d" % address for address in sorted(m.live)[:20]] if knows("blocks") else []
     return [b"prepare %d" % op for op in ops] + [b"lookup %d" % one.client for one in m.sessions] + blocks

@@ -182,7 +182,7 @@ def line_of(random: Random, m: Machine, odds: float, most: Optional[int] = None)
 
 
 def script_of(random: Random, m: Machine, count: int, odds: float, most: Optional[int] = None) -> list:
-    """So many lines of the grammar, each made for what the lines before it leave; the machine goes on by them."""
+    """This many lines of the grammar, each made for what the lines before it leave; the machine goes on by them."""
     listed = []
     for _ in range(count):
         listed.append(line_of(random, m, odds, most))

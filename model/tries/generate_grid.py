@@ -14,7 +14,7 @@ SIZES = (0, 0, 1, 2, 128, 3839, 3840, 3841, 5000, 16127, 16128)
 
 
 def data_of(random: Random, most: int) -> bytes:
-    """The bytes of a block or of a root, at most so many."""
+    """The bytes of a block or of a root, at most this many."""
     size = min(most, random.choice((*SIZES, most - 1, most, random.randint(0, most) if random.random() < 0.1 else 3)))
     return random.randbytes(size) if random.random() < 0.7 else bytes([random.getrandbits(8)]) * size
 
@@ -28,7 +28,7 @@ def spelled(data: bytes) -> bytes:
 
 
 def short(random: Random, m: Machine, count: int) -> bool:
-    """Whether the file stays short where so many free addresses are taken; now and then it needn't."""
+    """Whether the file stays short where this many free addresses are taken; now and then it needn't."""
     free = m.free()
     if len(free) < count or random.random() < 0.01:
         return len(free) >= count

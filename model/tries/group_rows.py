@@ -38,7 +38,7 @@ THREE = "".join(f"stage {client} 1 -\n" for client in range(1, 4)) + "flush\n"
 
 
 def across(count: int) -> tuple:
-    """A group of two whose headers lie in two sectors, after so many requests."""
+    """A group of two whose headers lie in two sectors, after this many requests."""
     lines = f"stage 1 {count + 1} -\nstage 2 1 -\nflush\n"
     return ops(count) + lines, answers(count) + f"staged {count + 1}\nstaged {count + 2}\nflushed 2\n"
 

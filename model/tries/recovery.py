@@ -71,7 +71,7 @@ def rings_of(data: bytes, home: Home) -> Rings:
 
 
 def op_of(slot: int, content: superblock.Content) -> int:
-    """The one op above the checkpoint's, and at most so many above it as there are slots, that belongs to a slot."""
+    """The one op above the checkpoint's, and at most as many above it as there are slots, that belongs to a slot."""
     return content.op + 1 + (slot - content.op - 1) % content.slots
 
 

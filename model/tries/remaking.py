@@ -61,7 +61,7 @@ def made_of(t: Try, what: str, rows: dict) -> None:
 
 
 def filled(t: Try, what: str, layout: Layout, text: bytes, count: int) -> bytes:
-    """So many new rows are put into a new file, each of which is accepted; gives what the tool prints of it."""
+    """This many new rows are put into a new file, each of which is accepted; gives what the tool prints of it."""
     t.binary.put(script.fresh(Home(layout, t.random.randint(1, 9))))
     got = t.binary.run(text, ("table",))
     expect(f"{what}: what the new file answers", "".join(f"put {op}\n" for op in range(1, count + 1)).encode(), got.text)

@@ -164,7 +164,7 @@ def execute(data: bytes, events: list, machine: Machine, text: bytes, pace: tupl
 
 
 def works(machine: Machine, pace: tuple, accepted: int, events: list, spans: list) -> int:
-    """The work after a line, of which nothing is printed: a checkpoint with the durable root is begun once so many prepares were
+    """The work after a line, of which nothing is printed: a checkpoint with the durable root is begun once this many prepares were
     accepted since the last begin here, then come its steps, then those of the scrubber. Gives how many prepares count then."""
     scrub, every, steps = pace
     if every and accepted >= every and not machine.running:

@@ -84,7 +84,7 @@ def run_without_output(t: Try, what: str, text: bytes, words=("run",)):
 
 
 def closing(closed: list, numbers: int = 0):
-    """What a process does before the program starts: it closes these streams, and allows so many open files."""
+    """What a process does before the program starts: it closes these streams, and allows this many open files."""
     def before():
         for fd in closed:
             os.close(fd)

@@ -14,7 +14,7 @@ from .pairs import Pair
 from .plain import Plain, State
 
 NAMES = ("datafile", "objecttable", "filecopy", "filemirror", "notes")
-# So many earlier files of a life are kept, of which damage may bring sectors back.
+# This many earlier files of a life are kept, of which damage may bring sectors back.
 EARLIER = 24
 
 
@@ -109,7 +109,7 @@ class Told(NamedTuple):
         return [event.data for event in self.events if event.kind == "state"]
 
     def after(self, answers: int) -> list:
-        """The states that a stop after so many answers may leave: it keeps each answered line, and of the next one what was begun."""
+        """The states that a stop after this many answers may leave: it keeps each answered line, and of the next one what was begun."""
         listed, seen = [], 0
         for event in self.events:
             if event.kind == "answer":
@@ -182,7 +182,7 @@ def is_said(life: Life, told: str, got: str) -> bool:
 
 
 def went(t: Try, life: Life, what: str, events: list, image: bytes, wanted: Told, answers: Optional[int], opens: bool = True) -> None:
-    """The file that a run left, at its end or ended after so many answers: it has a state that the plain history has then. A run that opens it raises
+    """The file that a run left, at its end or ended after this many answers: it has a state that the plain history has then. A run that opens it raises
     its boot."""
     try:
         found, now = plain_read.read(image)

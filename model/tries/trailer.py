@@ -51,7 +51,7 @@ class Checkpoint(NamedTuple):
 
 
 def word(value: int, size: int) -> bytes:
-    """A number of so many bytes."""
+    """A number of this many bytes."""
     return value.to_bytes(size, "little")
 
 
@@ -160,7 +160,7 @@ class Trailers:
         return self.contradiction(full, content.replies) or full
 
     def contradiction(self, one: Checkpoint, replies: int) -> Optional[str]:
-        """Why the parts of a checkpoint don't go together, beside so many replies: a block of the chain is referenced, or an op waits for
+        """Why the parts of a checkpoint don't go together, beside this many replies: a block of the chain is referenced, or an op waits for
         nobody."""
         both = sorted({address for address, _ in one.chain} & {address for address, _ in one.references})
         if both:

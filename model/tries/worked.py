@@ -14,7 +14,7 @@ def with_headers(copies: bytes) -> bytes:
 
 
 def ops(count: int) -> str:
-    """So many requests of client 1, each with its reply."""
+    """This many requests of client 1, each with its reply."""
     return "".join(f"append 1 {op} -\nreply {op} -\n" for op in range(1, count + 1))
 
 

@@ -8,7 +8,7 @@ from .machine import Machine, opens
 from .script import DONE, Outcome, does
 
 WORDS = ("appended", "replied", "wrote", "released")
-# At most so many blocks of a workload are live; one more releases the first.
+# At most this many blocks of a workload are live; one more releases the first.
 LIVE = 8
 
 
