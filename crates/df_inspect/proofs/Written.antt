@@ -1,5 +1,5 @@
 -- What a sink has taken goes on, piece by piece.
-use Rattle.std.proofs.{Common.{◌≡◌, ℕ, ◌+◌, List, [], ◌++◌, Option, Some, None, Result, Ok, Err, IsErr, OnOk, OnErr, append-nil, sym, subst}, lemmas.Bool.{false≢true}}
+use Rattle.std.proofs.{Common.{◌≡◌, ℕ, List, [], ◌++◌, Option, Some, None, Result, Ok, Err, IsErr, OnOk, OnErr, append-nil, sym, subst}, lemmas.Bool.{false≢true}}
 use Rattle.df_base.{specs.Streams.{Appends, AppendsPart}, proofs.Laws.{appends_more, appends_part, part_of_more}}
 use Rattle.df_inspect.specs.Prints.{Prints}
 

@@ -6,9 +6,8 @@ ghost use Rattle.df_script_model.specs.Texts.{scrubbed_text, verdict_text};
 ghost use Rattle.df_inspect.specs.Messages.{block_front, shown_block};
 ghost use Rattle.df_inspect.specs.Prints.{Prints};
 
-use crate::line::{Line, put, put_field, put_number, put_numbered, write_line};
+use crate::line::{Line, put, put_class, put_field, put_number, put_numbered, write_line};
 use crate::messages::print_body;
-use crate::names::put_class;
 use arrayvec::ArrayVec;
 use df_base::{Failed, Sink};
 use df_format::Header;

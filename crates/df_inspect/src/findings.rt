@@ -7,8 +7,7 @@ ghost use Rattle.df_inspect.specs.Prints.{Prints};
 ghost use Rattle.df_inspect.specs.Reports.{each_text, failing_text, finding_text};
 
 use crate::blocks::tour_line;
-use crate::line::{put, put_number, put_numbered, write_line};
-use crate::names::put_class;
+use crate::line::{put, put_class, put_number, put_numbered, write_line};
 use arrayvec::ArrayVec;
 use df_base::{Failed, Sink};
 use df_layout::Finding;

@@ -6,9 +6,10 @@ ghost use Rattle.df_inspect.specs.Prints.{Prints};
 ghost use Rattle.df_inspect.specs.Reports.{each_text, inspection_text, mend_text, row_text, session_text};
 
 use crate::counts::print_summary;
-use crate::line::{Line, number_line, put, put_field, put_numbered, text_line, write_line};
+use crate::line::{
+    Line, classed_line, number_line, put, put_field, put_numbered, text_line, write_line,
+};
 use crate::messages::print_body;
-use crate::names::classed_line;
 use arrayvec::ArrayVec;
 use df_base::{Failed, Sink};
 use df_layout::Mend;

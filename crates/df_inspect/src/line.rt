@@ -1,11 +1,12 @@
-// A line in the making, in a buffer of its own and without taking memory, and its one call of the sink.
+// A line in the making, in a buffer of its own and without taking memory, and its one call of the sink: words, numbers, places and what they show.
 ghost use Rattle.std.specs.Prelude.{◌≡◌, ◌≤◌, ◌+◌, ◌++◌, length, decimal};
 ghost use Rattle.df_base.specs.Causes.{HasCause};
-ghost use Rattle.df_script_model.specs.Texts.{line_of, numbered, spaced};
+ghost use Rattle.df_script_model.specs.Texts.{class_text, damaged_text, line_of, numbered, place_text, spaced};
 ghost use Rattle.df_inspect.specs.Prints.{Prints};
 
 use arrayvec::ArrayVec;
 use df_base::{Failed, Sink};
+use df_layout::{Class, Place, Zone};
 use itoa::Buffer;
 
 /// Bytes that each line fits whose body isn't shown, and each report of numbers: twelve numbers of at most 40 digits with
@@ -36,7 +37,7 @@ pub fn put_number(line: &mut Line, number: u128)
 }
 
 /// Puts a word, a space and a number at the end of the line.
-pub fn put_numbered(line: &mut Line, word: &str, number: u128)
+pub(crate) fn put_numbered(line: &mut Line, word: &str, number: u128)
     requires { length line.old.items + length word.now + 41 ≤ 640 }
     ensures put { line.new.items ≡ line.old.items ++ numbered word.now number }
     ensures room { length line.new.items ≤ length line.old.items + length word.now + 41 }
@@ -47,7 +48,7 @@ pub fn put_numbered(line: &mut Line, word: &str, number: u128)
 }
 
 /// Puts a space, a word, a space and a number at the end of the line.
-pub fn put_field(line: &mut Line, word: &str, number: u128)
+pub(crate) fn put_field(line: &mut Line, word: &str, number: u128)
     requires { length line.old.items + length word.now + 42 ≤ 640 }
     ensures put { line.new.items ≡ spaced line.old.items (numbered word.now number) }
     ensures room { length line.new.items ≤ length line.old.items + length word.now + 42 }
@@ -64,6 +65,39 @@ pub(crate) fn put_row(line: &mut Line, word: &str, number: u128)
 {
     put_numbered(line, word, number);
     put(line, "\n");
+}
+
+// Puts a place at the end of the line: the zone's name in the format, and its number in it.
+fn put_place(line: &mut Line, place: Place)
+    requires { length line.old.items + 54 ≤ 640 }
+    ensures put { line.new.items ≡ line.old.items ++ place_text place }
+    ensures room { length line.new.items ≤ length line.old.items + 54 }
+{
+    let index = u128::from(place.index);
+    match place.zone {
+        Zone::Superblock => put_numbered(line, "Superblock", index),
+        Zone::WalHeaders => put_numbered(line, "WalHeaders", index),
+        Zone::WalPrepares => put_numbered(line, "WalPrepares", index),
+        Zone::ClientReplies => put_numbered(line, "ClientReplies", index),
+        Zone::Grid => put_numbered(line, "Grid", index),
+    }
+}
+
+/// Puts a class at the end of the line.
+pub(crate) fn put_class(line: &mut Line, class: Class)
+    requires { length line.old.items + 64 ≤ 640 }
+    ensures put { line.new.items ≡ line.old.items ++ class_text class }
+    ensures room { length line.new.items ≤ length line.old.items + 64 }
+{
+    match class {
+        Class::Blank => put(line, "Blank"),
+        Class::Garbled => put(line, "Garbled"),
+        Class::Stale => put(line, "Stale"),
+        Class::Elsewhere(place) => {
+            put(line, "Elsewhere ");
+            put_place(line, place);
+        }
+    }
 }
 
 /// A line that is said already.
@@ -98,6 +132,41 @@ pub fn two_numbers_line(words: &str, number: u64, word: &str, other: u64) -> Lin
     put_field(&mut line, word, u128::from(other));
     put(&mut line, "\n");
     line
+}
+
+/// Words and a place.
+pub fn place_line(words: &str, place: Place) -> Line
+    requires { length words.now ≤ 60 }
+    ensures { result.items ≡ line_of (spaced words.now (place_text place)) }
+{
+    let mut line = ArrayVec::new();
+    put(&mut line, words);
+    put(&mut line, " ");
+    put_place(&mut line, place);
+    put(&mut line, "\n");
+    line
+}
+
+/// Words, a place, and the class of what it shows.
+pub fn classed_line(words: &str, place: Place, class: Class) -> Line
+    requires { length words.now ≤ 60 }
+    ensures { result.items ≡ line_of (spaced words.now (spaced (place_text place) (class_text class))) }
+{
+    let mut line = ArrayVec::new();
+    put(&mut line, words);
+    put(&mut line, " ");
+    put_place(&mut line, place);
+    put(&mut line, " ");
+    put_class(&mut line, class);
+    put(&mut line, "\n");
+    line
+}
+
+/// The line that refuses a call since a place doesn't show its unit.
+pub(crate) fn damaged_line(place: Place, class: Class) -> Line
+    ensures { result.items ≡ damaged_text place class }
+{
+    classed_line("refused Damaged", place, class)
 }
 
 /// Writes a line by one call of the sink.

@@ -1,13 +1,14 @@
 // The lines that say that a file was made or upgraded, why one isn't made or opened, and which line of a script is none. A failing disk has no line.
-ghost use Rattle.std.specs.Prelude.{◌≡◌, ◌≤◌, ◌+◌, ◌++◌, length, decimal};
+ghost use Rattle.std.specs.Prelude.{◌≡◌, ◌≤◌, ◌+◌, ◌++◌, length};
 ghost use Rattle.df_base.specs.Causes.{HasCause};
 ghost use Rattle.df_model.specs.declared.errors.OpenError.TheVariants as opens;
-ghost use Rattle.df_script_model.specs.Texts.{spaced};
-ghost use Rattle.df_inspect.specs.Opening.{format_refusal, formatted_text, layout_text, open_refusal, script_text, upgraded_text};
+ghost use Rattle.df_inspect.specs.Opening.{field_name, format_refusal, formatted_text, layout_text, open_refusal, script_text, upgraded_text};
 ghost use Rattle.df_inspect.specs.Prints.{Prints};
 
-use crate::line::{Line, number_line, put, put_number, put_numbered, text_line, write_line};
-use crate::names::{damaged_line, name_of_field, put_classes};
+use crate::line::{
+    Line, damaged_line, number_line, put, put_class, put_number, put_numbered, text_line,
+    write_line,
+};
 use arrayvec::ArrayVec;
 use df_base::{Failed, Sink};
 use df_layout::{Class, Field, Layout};
@@ -70,8 +71,22 @@ fn open_line(error: &OpenError) -> Line
         OpenError::NotFormatted => text_line("refused NotFormatted\n"),
         OpenError::NoQuorum { classes } => no_quorum_line(&classes),
         OpenError::Version { found } => number_line("refused Version found", u128::from(found)),
-        OpenError::BadField { field, value } => bad_field_line(field, value),
-        OpenError::LayoutDiffers { reserved, found } => layout_differs_line(&reserved, &found),
+        OpenError::BadField { field, value } => {
+            let mut line = ArrayVec::new();
+            put(&mut line, "refused BadField ");
+            put_numbered(&mut line, name_of_field(field), value);
+            put(&mut line, "\n");
+            line
+        }
+        OpenError::LayoutDiffers { reserved, found } => {
+            let mut line = ArrayVec::new();
+            put(&mut line, "refused LayoutDiffers ");
+            put_layout(&mut line, &reserved);
+            put(&mut line, " ");
+            put_layout(&mut line, &found);
+            put(&mut line, "\n");
+            line
+        }
         OpenError::Damaged { place, class } => damaged_line(place, class),
         OpenError::DiskFault => text_line(""),
         OpenError::BootSpent => text_line("refused BootSpent\n"),
@@ -84,31 +99,10 @@ fn no_quorum_line(classes: &[Class; 4]) -> Line
 {
     let mut line = ArrayVec::new();
     put(&mut line, "refused NoQuorum");
-    put_classes(&mut line, classes);
-    put(&mut line, "\n");
-    line
-}
-
-// The line on a number of the superblock that is out of its range.
-fn bad_field_line(field: Field, value: u128) -> Line
-    ensures { result.items ≡ open_refusal (opens.BadField field value) }
-{
-    let mut line = ArrayVec::new();
-    put(&mut line, "refused BadField ");
-    put_numbered(&mut line, name_of_field(field), value);
-    put(&mut line, "\n");
-    line
-}
-
-// The line on a file of another layout.
-fn layout_differs_line(reserved: &Layout, found: &Layout) -> Line
-    ensures { result.items ≡ open_refusal (opens.LayoutDiffers reserved.now found.now) }
-{
-    let mut line = ArrayVec::new();
-    put(&mut line, "refused LayoutDiffers ");
-    put_layout(&mut line, reserved);
-    put(&mut line, " ");
-    put_layout(&mut line, found);
+    for class in classes {
+        put(&mut line, " ");
+        put_class(&mut line, *class);
+    }
     put(&mut line, "\n");
     line
 }
@@ -120,18 +114,43 @@ pub(crate) fn put_layout(line: &mut Line, layout: &Layout)
     ensures room { length line.new.items ≤ length line.old.items + 204 }
 {
     put_number(line, u128::from(layout.slots));
-    put_spaced(line, layout.message_size);
-    put_spaced(line, layout.clients);
-    put_spaced(line, layout.block_size);
-    put_spaced(line, layout.blocks);
+    put(line, " ");
+    put_number(line, u128::from(layout.message_size));
+    put(line, " ");
+    put_number(line, u128::from(layout.clients));
+    put(line, " ");
+    put_number(line, u128::from(layout.block_size));
+    put(line, " ");
+    put_number(line, u128::from(layout.blocks));
 }
 
-// Puts a space and a number at the end of the line.
-fn put_spaced(line: &mut Line, number: u32)
-    requires { length line.old.items + 41 ≤ 640 }
-    ensures put { line.new.items ≡ spaced line.old.items (decimal number) }
-    ensures room { length line.new.items ≤ length line.old.items + 41 }
+// The name of a field in the format.
+fn name_of_field(field: Field) -> &'static str
+    ensures name { result.now ≡ field_name field }
+    ensures short { length result.now ≤ 15 }
 {
-    put(line, " ");
-    put_number(line, u128::from(number));
+    match field {
+        Field::Slots => "Slots",
+        Field::MessageSize => "MessageSize",
+        Field::Clients => "Clients",
+        Field::BlockSize => "BlockSize",
+        Field::Blocks => "Blocks",
+        Field::Cluster => "Cluster",
+        Field::Sequence => "Sequence",
+        Field::Op => "Op",
+        Field::OpChecksum => "OpChecksum",
+        Field::Head => "Head",
+        Field::Replies => "Replies",
+        Field::TrailerAddress => "TrailerAddress",
+        Field::TrailerChecksum => "TrailerChecksum",
+        Field::TrailerSize => "TrailerSize",
+        Field::Boot => "Boot",
+        Field::Zero => "Zero",
+        Field::TrailerChain => "TrailerChain",
+        Field::TrailerRoot => "TrailerRoot",
+        Field::TrailerSessions => "TrailerSessions",
+        Field::TrailerBits => "TrailerBits",
+        Field::TrailerEnd => "TrailerEnd",
+        Field::Pending => "Pending",
+    }
 }

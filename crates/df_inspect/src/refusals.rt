@@ -2,8 +2,7 @@
 ghost use Rattle.std.specs.Prelude.{◌≡◌};
 ghost use Rattle.df_script_model.specs.Texts.{append_refusal, begin_refusal_line, block_refusal, flush_refusal, lookup_refusal, prepare_refusal, read_refusal, reply_refusal, step_refusal};
 
-use crate::line::{Line, number_line, text_line, two_numbers_line};
-use crate::names::damaged_line;
+use crate::line::{Line, damaged_line, number_line, text_line, two_numbers_line};
 use df_model::{
     AppendError, BeginError, BlockError, FlushError, LookupError, PrepareError, ReadError,
     ReplyError, StepError,
