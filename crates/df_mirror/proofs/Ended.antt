@@ -1,14 +1,14 @@
 -- What the end of a mending says, and whom it blames.
-use Rattle.std.{proofs.Common.{◌≡◌, ◌⊎◌, ◌==◌, inl, inr, ℕ, Bool, true, false, List, Option, None, Some, refl, sym, ◌∙◌, ap, subst, eqb-true}, specs.Prelude.{Result, Ok, Err, if◌then◌else◌}}
+use Rattle.std.{proofs.Common.{◌≡◌, ◌⊎◌, ◌==◌, inl, inr, ℕ, Bool, true, false, List, Option, None, Some, refl, sym, ◌∙◌, ap, subst, arith, drop, eqb-true}, specs.Prelude.{Result, Ok, Err, OnOk, if◌then◌else◌}}
 use Rattle.df_base.specs.{Causes.{Blamed, Rose}, Image.{Image}, Log.{Sync}}
 use Rattle.df_disk.specs.Told.{Told, after, did}
 use Rattle.df_model.specs.{declared.errors.OpenError.{OpenError}, Faults.{is_open_fault}}
 use Rattle.df_model.specs.declared.errors.OpenError.TheVariants as opens
 use Rattle.df_damage.specs.{Surveys.{HasFile}, Found.{Syncs, TellsFoundAs}, Opening.{HasSuperAs}}
-use Rattle.df_format.specs.{SuperRules.{fault_of}, declared.superblock.SuperFields.{SuperFields}, declared.superblock.SuperFault.TheVariants.{Version as OtherVersion}}
+use Rattle.df_format.specs.{Super.{AreNone}, SuperRules.{IsSuper, fault_of}, declared.superblock.SuperFields.{SuperFields}, declared.superblock.SuperFault.TheVariants.{Version as OtherVersion}}
 use Rattle.df_opening.proofs.Laws.{superblock_refused}
 use Rattle.df_program.{specs.{Telling.{Blames, PrintsError}, Two.{Faults, HasCausesOfTwo, Outside, counts}}, proofs.Laws.{first_causes, its_blame, neither_causes, no_blame, open_fault, printed_causes, refusal_ends, second_causes, text_ends, unopened_causes}}
-use Rattle.df_mirror.specs.{declared.ending.Ending.{Ending}, declared.ending.Ending.TheVariants.{First, Neither, Second, Sink, Unopened}, declared.status.Status.{Status}, Outside.{ended}, declared.superblock.Superblock.{Superblock}, Mends.{AnswersMending, AreInOrder}, Run.{Mirrored, MirroredNothing, Mirrors, RefusesFirstSuperblock, TellsEnd}, Statuses.{AreBlamed, is_first}, Texts.{count_text, neither_text}, Walks.{content_of_superblock}}
+use Rattle.df_mirror.specs.{declared.ending.Ending.{Ending}, declared.ending.Ending.TheVariants.{First, Neither, Second, Sink, Unopened}, declared.status.Status.{Status}, Outside.{ended}, declared.superblock.Superblock.{Superblock}, Mends.{AnswersMending, AreInOrder}, Run.{Mirrored, MirroredNothing, Mirrors, RefusesFirstSuperblock, TellsEnd}, Statuses.{AreBlamed, is_first}, Texts.{count_text, neither_text}, Walks.{Mended, ShowsAll, content_of_superblock, superblock_units}}
 use Rattle.df_mirror.specs.declared.status.Status.TheVariants as ends
 
 -- no status is two of these
@@ -129,23 +129,42 @@ of_version false f test usable = absurd (let no : Some (OtherVersion f.version) 
 pub version_found : (image : Image) (f : SuperFields) → HasSuperAs 2 image f → f.version ≡ 2
 version_found image f super = of_version (f.version == 2) f refl super.usable
 
-pub has_file : (b : Superblock) (image : Image) (f : SuperFields) → HasSuperAs 2 image f → b.content ≡ f → HasFile image b.file b.content
+-- a superblock of version 2 has no checksum where its file can have no session
+pub second_spare : (f : SuperFields) → IsSuper f → f.version ≡ 2 → AreNone (drop f.clients f.reply_checksums)
+second_spare f is second = elim is.version [
+  | inl first ↦ absurd (omega (arith, first.version, second))
+  | inr its ↦ its.spare
+]
+
+has_file : (b : Superblock) (image : Image) (f : SuperFields) → HasSuperAs 2 image f → b.content ≡ f → HasFile image b.file b.content
 has_file b image f super same = record {
   super = subst (λ (n : ℕ). HasSuperAs n image b.content) (sym b.version) (subst (HasSuperAs 2 image) (sym same) super);
   layout = record { slots = sym b.fields.slots; message_size = sym b.fields.message_size; clients = sym b.fields.clients; block_size = sym b.fields.block_size; blocks = sym b.fields.blocks };
   cluster = b.fields.cluster_is;
 }
 
+-- all that is known was mended, and that is told
+pub mirrored_so : (b : Superblock) (t o : Told) (old mid : Outside) (written : Option (List ℕ)) (result : Result ℕ Ending) (status : Status) → Mended b AreInOrder t o old mid result (ShowsAll b) → TellsEnd result mid.written written status
+    → Mirrored b t o old (record { first = mid.first; second = mid.second; written = written }) status
+mirrored_so b t o old mid written result status mends tells = record {
+  text = mid.written;
+  result = result;
+  answers = mends.answers;
+  shown = λ count n is same. (subst (λ (r : Result ℕ Ending). OnOk r (ShowsAll b (superblock_units b n.shown))) is (mends.shown n same)).all;
+  trailer = λ count n is same. (subst (λ (r : Result ℕ Ending). OnOk r (ShowsAll b (superblock_units b n.shown))) is (mends.shown n same)).trailer;
+  tells = tells;
+}
+
 -- the mending of it began after the barrier
-pub mirrored_then : (b : Superblock) (t o : Told) (old mid new : Outside) (status : Status) → HasFile t.shown b.file b.content → mid.first ≡ Some (did Sync t) → mid.written ≡ old.written → (status ≡ ends.Memory → (new.first ≡ mid.first) × (new.written ≡ mid.written))
+pub mirrored_then : (b : Superblock) (t o : Told) (old mid new : Outside) (status : Status) (f : SuperFields) → HasSuperAs 2 t.shown f → b.content ≡ f → mid.first ≡ Some (did Sync t) → mid.written ≡ old.written → (status ≡ ends.Memory → (new.first ≡ mid.first) × (new.written ≡ mid.written))
     → ((status ≡ ends.Memory → ⊥) → Mirrored b (did Sync t) o mid new status) → old.first ≡ Some t → MirroredNothing old new status ⊎ RefusesFirstSuperblock t old new status ⊎ Mirrors t o old new status
-mirrored_then b t o old mid new status has barrier silent memory mirrors told = elim (memory_or status) [
+mirrored_then b t o old mid new status f super same barrier silent memory mirrors told = elim (memory_or status) [
   | inl is ↦ inl (record { undone = record { written = (memory is).1 ∙ silent; told = inr ((memory is).0 ∙ barrier ∙ ap (after Sync) (sym told)) }; why = inl is })
   | inr other ↦
       let m = mirrors other in
       inr (inr (record {
         base = b;
-        has = has;
+        has = has_file b t.shown f super same;
         mirrored = record {
           text = m.text;
           result = m.result;

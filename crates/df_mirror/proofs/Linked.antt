@@ -3,14 +3,14 @@ use Rattle.std.{proofs.{Common.{◌≡◌, ℕ, ◌+◌, ◌-◌, ◌<◌, ◌==
 use Rattle.df_disk.specs.Told.{Told}
 use Rattle.df_layout.specs.declared.fields.Field.TheVariants.{TrailerChain}
 use Rattle.df_format.specs.{declared.kind.Kind.TheVariants.{Trailer}, Message.{Message}, Spelling.{IsCheck}}
-use Rattle.df_checkpoint.specs.{declared.links.Link.{Link}, Chain.{is_among}}
+use Rattle.df_checkpoint.specs.{declared.links.Link.{Link}, Chain.{before_of, is_among}}
 use Rattle.df_buffers.specs.{declared.identity.Identity.{Identity}, Sounds.{Holding}}
 use Rattle.df_model.specs.declared.errors.OpenError.TheVariants.{BadField}
 use Rattle.df_theory.{specs.{Opens.{Arrives, IsLink, ReadsTo}, Trailer.{InChain, IsCount}, Units.{AnyUnit, Block, BlockPlace, BlockUnit, Units}}, proofs.Laws.{arrives_more, links_more}}
 use Rattle.df_units.specs.{Meaning.{block_of, number_of}, Wanted.{IsOfKind, checksum_of}}
 use Rattle.df_grid.specs.Reads.{at_address, shown_of}
 use Rattle.df_opening.specs.Below.{shape}
-use Rattle.df_mirror.{specs.{declared.chain.Walk.{Walk}, declared.ending.Ending.{Ending}, declared.superblock.Superblock.{Superblock}, Known.{IsDue}, Mends.{AreOfKind}, Outside.{Outside, Tell}, Refusals.{RefusesFirstTrailer}, Taking.{HoldsShown, MendsUnit, ShowsUnit}, Walks.{HasWalkedChain, Mended, WalkGoesOn, broken_at, content_of_superblock, superblock_units}}, proofs.{Chains.{among, arrives_there, asked_shown, chain_named, chain_spare, not_among, not_wanted, read_shown}, Frames.{other_place}, Joined.{came_with, kind_at, none_came}, Orders.{before_trailer}, Turns.{MendsDue, due_mended, lent_shown, of_one}}}
+use Rattle.df_mirror.{specs.{declared.trailer.Walk.{Walk}, declared.ending.Ending.{Ending}, declared.superblock.Superblock.{Superblock}, Known.{IsDue}, Mends.{AreOfKind}, Outside.{Outside, Tell}, Refusals.{RefusesFirstTrailer}, Taking.{HoldsShown, MendsUnit, ShowsUnit}, Walks.{HasWalkedChain, Mended, broken_at, content_of_superblock, superblock_units}}, proofs.{Chains.{among, arrives_there, asked_shown, chain_named, chain_spare, not_among, not_wanted, read_shown}, Frames.{other_place}, Joined.{came_with, kind_at, none_came}, Orders.{before_trailer}, Turns.{MendsDue, due_mended, lent_shown, of_one}}}
 
 -- the references have an address where their addresses do
 among_map : (a : ℕ) (refs : List Link) → is_among a refs ≡ list_any (λ other. other == a) (map (λ r. r.address) refs)
@@ -31,6 +31,10 @@ it_is_there b a check t u is =
       sum = sym (ap checksum_of same) ∙ is.sum_is;
       kind = subst (λ (x : AnyUnit). IsOfKind Trailer x) same is.of_kind;
     }
+
+-- the block is the link with this index, and the walk goes on to the block that it names
+abbrev pub GoesOn : Superblock → (walk : Walk) → ℕ → Message → (next : Walk) → Type 0
+GoesOn b walk index u next = IsLink (shape b.file) (content_of_superblock b) index (block_of u) × (next.at ≡ before_of u) × (next.read.items ≡ walk.read.items ++ walk.at ∷ [])
 
 module _ (b : Superblock) (n index : ℕ) (walk : Walk) (t o : Told) (counts : IsCount (b.file.layout.block_size - 256) b.content.trailer_size n) (size : n ≡ length walk.read.items + (index + 1)) (walked : HasWalkedChain b (superblock_units b t.shown) n walk) where
   pub counted : n ≡ length walked.chain + (index + 1)
@@ -113,7 +117,7 @@ module _ (b : Superblock) (n index : ℕ) (walk : Walk) (t o : Told) (counts : I
           there : IsThere (superblock_units b m.shown) walk.at.address (number_of walk.at.checksum) held.unit
           there = it_is_there b walk.at.address walk.at.checksum m held.unit (lent_shown b.file Trailer (BlockPlace walk.at.address) walk.at.checksum m.shown shelf held lent (it.shows m is))
 
-          walks_on : (next : Walk) → 0 < walk.at.address → WalkGoesOn b walk.at walk.read.items index held.unit (Ok next) → HasWalkedChain b (superblock_units b m.shown) n next
+          walks_on : (next : Walk) → 0 < walk.at.address → GoesOn b walk index held.unit next → HasWalkedChain b (superblock_units b m.shown) n next
           walks_on next above goes =
               let d : ℕ × Block = (walk.at.address, block_of held.unit) in
               let on = arrives_more (superblock_units b m.shown) walked.chain d (content_of_superblock b).trailer (content_of_superblock b).trailer_checksum walk.at.address (number_of walk.at.checksum) arrives above refl there.sum there.kind there.shown in
@@ -141,12 +145,13 @@ module _ (b : Superblock) (n index : ℕ) (walk : Walk) (t o : Told) (counts : I
             )),
           )
 
-        pub link_on : (next : Walk) → 0 < walk.at.address → WalkGoesOn b walk.at walk.read.items index held.unit (Ok next) → Mended b (AreOfKind Trailer) t o old new (Ok more) (λ image. HasWalkedChain b image n next)
+        pub link_on : (next : Walk) → 0 < walk.at.address → GoesOn b walk index held.unit next → Mended b (AreOfKind Trailer) t o old new (Ok more) (λ image. HasWalkedChain b image n next)
         link_on next above goes = of_one b Trailer (BlockPlace walk.at.address) t o old new (Ok more) (λ image. HasWalkedChain b image n next) it.answers (λ m is. walks_on m is next above goes)
 
-        pub link_broken : (e : Ending) (Shows : Units → Type 0) → 0 < walk.at.address → WalkGoesOn b walk.at walk.read.items index held.unit (Err e) → Mended b (AreOfKind Trailer) t o old new (Err e) Shows
-        link_broken e Shows above goes = subst (λ (x : Ending). Mended b (AreOfKind Trailer) t o old new (Err x) Shows) (sym goes.0) (record {
+        pub link_broken : (e : Ending) (Shows : Units → Type 0) → 0 < walk.at.address → e ≡ broken_at walk.at.address → (IsLink (shape b.file) (content_of_superblock b) index (block_of held.unit) → ⊥)
+            → Mended b (AreOfKind Trailer) t o old new (Err e) Shows
+        link_broken e Shows above is broken = subst (λ (x : Ending). Mended b (AreOfKind Trailer) t o old new (Err x) Shows) (sym is) (record {
           answers = came_with b.file (content_of_superblock b) _ (AreOfKind Trailer) t o new.first old.written new.written _ (λ ms m. AreOfKind Trailer ms × RefusesFirstTrailer b.file m.shown (content_of_superblock b) (BadField TrailerChain walk.at.address)) (kind_at Trailer (BlockPlace walk.at.address))
-              (λ ms m is of last. (kind_at Trailer (BlockPlace walk.at.address) ms of, breaks m is above goes.1)) it.answers;
-          shown = λ m is. tt;
+              (λ ms m at of last. (kind_at Trailer (BlockPlace walk.at.address) ms of, breaks m at above broken)) it.answers;
+          shown = λ m at. tt;
         })

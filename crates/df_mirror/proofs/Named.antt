@@ -1,10 +1,10 @@
 -- The prepares that the superblock names: each is due where those above it are shown, and the walk goes one prepare further down.
 use Rattle.std.{proofs.{Common.{◌≡◌, ℕ, ◌+◌, ◌-◌, ◌%◌, ◌==◌, ◌<◌, ◌≤◌, if◌then◌else◌, List, [], ◌∷◌, length, Option, Some, None, refl, sym, ◌∙◌, ap, subst, arith, inl, inr}, lemmas.Bool.{cases_lt}, lemmas.Option.{same_Some}}, specs.Prelude.{Result, Ok, Err, IfOk}}
 use Rattle.df_disk.specs.Told.{Told}
-use Rattle.df_format.specs.{declared.kind.Kind.{Kind}, declared.kind.Kind.TheVariants.{Block as AsBlock, Prepare, Reply, Trailer}, declared.header.Header.{Header}, SuperRules.{IsUsable}}
-use Rattle.df_buffers.specs.{declared.identity.Identity.{Identity}, Sounds.{Holding}}
+use Rattle.df_format.specs.{declared.kind.Kind.{Kind}, declared.kind.Kind.TheVariants.{Block as AsBlock, Prepare, Reply, Trailer}, declared.header.Header.{Header}, Spelling.{IsCheck}, SuperRules.{IsUsable}}
+use Rattle.df_buffers.specs.{declared.identity.Identity.{Identity}, declared.identity.Wanted.TheVariants.{Checksum}, Sounds.{Holding}}
 use Rattle.df_theory.{specs.{Opens.{AreKnown, named_by}, Units.{BlockPlace, Message, Place, PreparePlace, PrepareUnit, ReplyPlace, Units}}, proofs.Laws.{mod_apart, known_one}}
-use Rattle.df_units.specs.{Meaning.{message_of, number_of}, Wanted.{checksum_of}}
+use Rattle.df_units.specs.{Meaning.{message_of, number_of, place_of}, Wanted.{checksum_of}}
 use Rattle.df_opening.specs.Below.{shape}
 use Rattle.df_mirror.{specs.{declared.ending.Ending.{Ending}, declared.superblock.Superblock.{Superblock}, Known.{IsDue, IsKnownAt, IsShownAs, IsSparePlace}, Mends.{AreOfKind}, Outside.{Outside, Tell}, Taking.{HoldsShown, IsFor, MendsUnit}, Walks.{Mended, NamesPreparesFrom, ShowsGrid, ShowsNamed, content_of_superblock, superblock_units}}, proofs.{Frames.{other_place}, Orders.{before_prepare, grid_there}, Turns.{MendsDue, due_mended, lent_shown, of_one}}}
 
@@ -76,6 +76,11 @@ module _ (b : Superblock) where
 
     named_due : IsDue (shape b.file) (superblock_units b t.shown) (content_of_superblock b) Prepare (PreparePlace (op % b.file.layout.slots)) sum
     named_due = record { known = record { op = op; above = above; slot_is = refl; later = from.later; known = from.known; count = from.count; sum_is = from.sum_is }; first = before_prepare b (superblock_units b t.shown) (PreparePlace (op % b.file.layout.slots)) from.grid; trailer = from.grid.passes; spare = spare }
+
+  -- the slot of an op, and the checksum of its prepare
+  pub prepare_for : (op slot : ℕ) (check : List ℕ) (identity : Identity) → slot ≡ op % b.file.layout.slots
+      → identity ≡ record { layout = b.file.layout; cluster = b.file.cluster; place = place_of (PreparePlace slot); wanted = Checksum check } → IsCheck check → IsFor b.file Prepare (PreparePlace (op % b.file.layout.slots)) check identity
+  prepare_for op slot check identity at is fits = subst (λ (n : ℕ). IsFor b.file Prepare (PreparePlace n) check identity) at (record { is = is; stands = tt; fits = fits })
 
   -- the prepare that is named is mended, and names the one before it
   module _ (usable : IsUsable b.content) (op : ℕ) (check : List ℕ) (above : b.content.op < op) (identity : Identity) (for : IsFor b.file Prepare (PreparePlace (op % b.file.layout.slots)) check identity) (t o : Told) (old new : Outside) (tell : Tell t o old)

@@ -3,15 +3,29 @@ use Rattle.std.{proofs.{Common.{◌≡◌, ◌⊎◌, ℕ, ◌<◌, ◌==◌, if
 use Rattle.df_disk.specs.Told.{Told}
 use Rattle.df_format.specs.{declared.header.Header.{Header}, declared.kind.Kind.{Kind}, declared.kind.Kind.TheVariants.{Block as AsBlock, Prepare, Reply, Trailer}, Shown.{class_at, header_or_class, unit_at}, Spelling.{IsCheck}}
 use Rattle.df_format.specs.Message as format
-use Rattle.df_layout.specs.{declared.damage.Class.{Class}, declared.places.Place.{Place as FilePlace}}
+use Rattle.df_layout.specs.declared.damage.Class.{Class}
 use Rattle.df_buffers.specs.{declared.identity.Identity.{Identity}, declared.identity.Wanted.TheVariants.{Checksum}, Sounds.{Holding}}
 use Rattle.df_places.specs.Units.{IsSeen, header_at}
-use Rattle.df_theory.specs.Units.{BlockPlace, Message, Place, PreparePlace, ReplyPlace, ReplyUnit}
+use Rattle.df_theory.specs.Units.{BlockPlace, Message, Place, PreparePlace, ReplyPlace, ReplyUnit, Units}
 use Rattle.df_units.specs.{Bytes.{message_unit}, Meaning.{message_of, number_of, place_of}}
 use Rattle.df_opening.specs.Below.{shape}
-use Rattle.df_mirror.{specs.{declared.ending.Ending.{Ending}, declared.ending.Ending.TheVariants.{First}, declared.superblock.Superblock.{Superblock}, Known.{AreShownBefore, IsDue, IsKnownAt, IsRecordedReply, IsShownAs, PassesTrailer}, Mends.{AreAt}, Outside.{Outside, Tell, around}, Taking.{HoldsShown, IsFor, MendsUnit, ShowsHeld}, Walks.{HasNewer, IsNewer, MendsRecorded, content_of_superblock, superblock_units}}, proofs.{Joined.{none_came, none_failed}, Turns.{holds}}}
+use Rattle.df_mirror.{specs.{declared.ending.Ending.{Ending}, declared.ending.Ending.TheVariants.{First}, declared.superblock.Superblock.{Superblock}, Known.{AreShownBefore, IsDue, IsKnownAt, IsRecordedReply, IsShownAs, PassesTrailer}, Mends.{AnswersMending, AreAt}, Outside.{Outside, Tell, around}, Taking.{HoldsShown, IsFor, MendsUnit, ShowsHeld}, Walks.{content_of_superblock, superblock_units}}, proofs.{Joined.{none_came, none_failed}, Turns.{holds}}}
 
 -- ---- what is seen in a slot
+
+-- what is seen in a slot is a reply of the superblock's boot above those that it records
+abbrev pub IsNewer : Superblock → Result Header Class → Type 0
+IsNewer b (Ok h) = (h.boot ≡ b.content.boot) × (b.content.replies < h.op)
+IsNewer b (Err class) = ⊥
+
+-- the slot shows such a reply
+abbrev pub HasNewer : Superblock → Units → ℕ → Type 0
+HasNewer b image k = (r : Message) × (image (ReplyPlace k) ≡ Some (ReplyUnit r)) × (r.header.boot ≡ (content_of_superblock b).boot) × ((content_of_superblock b).replies < r.header.op)
+
+-- the reply with this checksum is mended, where it is known if its slot shows nothing newer, all that come before it are shown, and the trailer isn't refused: it is shown then, or something newer is
+pub record MendsRecorded (b : Superblock) (k : ℕ) (check : List ℕ) (t o : Told) (old new : Outside) (answer : Result ℕ Ending) : Type 0 where
+  pub answers : ((HasNewer b (superblock_units b t.shown) k → ⊥) → IsRecordedReply (shape b.file) (superblock_units b t.shown) (content_of_superblock b) k (number_of check)) → AreShownBefore (shape b.file) (superblock_units b t.shown) (content_of_superblock b) Reply (ReplyPlace k) → PassesTrailer (shape b.file) (superblock_units b t.shown) (content_of_superblock b) → AnswersMending b.file (content_of_superblock b) (AreAt Reply (ReplyPlace k)) t o new.first old.written new.written answer
+  pub shown : (u : Told) → new.first ≡ Some u → OnOk answer (HasNewer b (superblock_units b u.shown) k ⊎ IsShownAs (superblock_units b u.shown) Reply (ReplyPlace k) (number_of check))
 
 newer_in : (b : Superblock) (k : ℕ) (o : Option format.Message) (class : Class) → IsNewer b (header_or_class o class) → (r : Message) × (message_unit (ReplyPlace k) o ≡ Some (ReplyUnit r)) × (r.header.boot ≡ (content_of_superblock b).boot) × ((content_of_superblock b).replies < r.header.op)
 newer_in b k None class newer = absurd newer
@@ -65,12 +79,9 @@ module _ (b : Superblock) (k : ℕ) (check : List ℕ) (t o : Told) (old : Outsi
   pub recorded_unread : MendsRecorded b k check t o old mid (Err First)
   recorded_unread = record { answers = λ known first passes. none_failed b.file (content_of_superblock b) (AreAt Reply (ReplyPlace k)) tt t o told old.written old.written First (same ∙ tell.first, refl); shown = λ u is. tt }
 
-  module _ (identity : Identity) (is : identity ≡ record { layout = b.file.layout; cluster = b.file.cluster; place = place_of (ReplyPlace k); wanted = Checksum check }) (seen : Result Header Class)
-      (sees : IsSeen b.file.layout b.file.cluster old.first identity.place seen) where
+  module _ (seen : Result Header Class) (sees : IsSeen b.file.layout b.file.cluster old.first (place_of (ReplyPlace k)) seen) where
     seen_is : seen ≡ header_at b.file.layout b.file.cluster t.shown (place_of (ReplyPlace k))
-    seen_is =
-        let at : IsSeen b.file.layout b.file.cluster (Some t) identity.place seen = subst (λ (x : Option Told). IsSeen b.file.layout b.file.cluster x identity.place seen) tell.first sees in
-        subst (λ (p : FilePlace). seen ≡ header_at b.file.layout b.file.cluster t.shown p) (ap (λ (i : Identity). i.place) is) at
+    seen_is = subst (λ (x : Option Told). IsSeen b.file.layout b.file.cluster x (place_of (ReplyPlace k)) seen) tell.first sees
 
     -- something newer is shown
     pub recorded_newer : IsNewer b seen → MendsRecorded b k check t o old mid (Ok 0)
@@ -79,7 +90,7 @@ module _ (b : Superblock) (k : ℕ) (check : List ℕ) (t o : Told) (old : Outsi
       shown = λ u there. inl (subst (λ (x : Told). HasNewer b (superblock_units b x.shown) k) (same_Some _ _ (sym (same ∙ tell.first) ∙ there)) (newer_shown b t k seen seen_is newer));
     }
 
-    module _ (none : IsNewer b seen → ⊥) (fits : IsCheck check) (new : Outside) where
+    module _ (none : IsNewer b seen → ⊥) (identity : Identity) (is : identity ≡ record { layout = b.file.layout; cluster = b.file.cluster; place = place_of (ReplyPlace k); wanted = Checksum check }) (fits : IsCheck check) (new : Outside) where
       on : Tell t o mid
       on = record { first = same ∙ tell.first; second = tell.second; whole = tell.whole; other = tell.other }
 

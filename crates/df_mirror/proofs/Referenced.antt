@@ -9,24 +9,24 @@ use Rattle.df_sessions.specs.declared.session.Session.{Session}
 use Rattle.df_units.specs.Meaning.{number_of}
 use Rattle.df_grid.specs.{Grid.{GridState}, Reads.{at_address}}
 use Rattle.df_opening.specs.Below.{shape}
-use Rattle.df_mirror.{specs.{declared.ending.Ending.{Ending}, declared.superblock.Superblock.{Superblock}, Known.{ComesBefore, IsDue, IsKnownAt, IsShownAs, IsSparePlace}, Mends.{AreOfKind}, Outside.{Outside, Tell}, Taking.{HoldsShown, MendsUnit}, Walks.{HasTrailerText, HasWaiting, Mended, ShowsBlocks, content_of_superblock, superblock_units}}, proofs.{Chains.{all_of_it, shown_block}, Frames.{other_place}, Ones.{one_trailer, trailer_passes, trailer_there, wanted_block}, Turns.{MendsDue, due_mended, none_mended, of_one}}}
+use Rattle.df_mirror.{specs.{declared.ending.Ending.{Ending}, declared.superblock.Superblock.{Superblock}, Known.{ComesBefore, IsDue, IsKnownAt, IsShownAs, IsSparePlace}, Mends.{AreOfKind}, Outside.{Outside, Tell}, Taking.{HoldsShown, MendsUnit}, Walks.{HasTrailerText, HasWaiting, Mended, ShowsBlocks, content_of_superblock, superblock_units}}, proofs.{Chains.{all_of_it, shown_block}, Frames.{other_place}, Ones.{one_trailer, trailer_passes, trailer_there, wanted_block}, Turns.{MendsDue, due_mended, of_one}}}
 
 -- a place that is as it was shows what it did
 pub shown_there : (image other : Units) (kind : Kind) (place : Place) (sum : ℕ) → other place ≡ image place → IsShownAs image kind place sum → IsShownAs other kind place sum
 shown_there image other kind place sum same is = record { unit = is.unit; shown = same ∙ is.shown; of_kind = is.of_kind; sum_is = is.sum_is }
 
-module _ (b : Superblock) (grid : GridState) (ss : List Session) (before : ℕ) (t o : Told) (shows : ShowsBlocks b (superblock_units b t.shown) grid ss before) where
-  -- nothing is referenced there
-  pub block_none : (old new : Outside) → Tell t o old → sum_at (before + 1) grid.blocks.live ≡ None → new.first ≡ old.first → new.written ≡ old.written → Mended b (AreOfKind AsBlock) t o old new (Ok 0) (λ image. ShowsBlocks b image grid ss (before + 1))
-  block_none old new tell none same silent = none_mended b (AreOfKind AsBlock) tt t o old new tell same silent (λ image. ShowsBlocks b image grid ss (before + 1)) (record {
-    has = shows.has;
-    waiting = shows.waiting;
-    shown = λ a sum to known. elim (cases_eq a (before + 1)) [
-      | inl here ↦ absurd (let no : None ≡ Some sum = sym none ∙ ap (λ (n : ℕ). sum_at n grid.blocks.live) (sym here) ∙ known in cc)
-      | inr other ↦ shows.shown a sum (omega (arith, to, other)) known
-    ];
-  })
+-- nothing is referenced at the next address
+pub block_none : (b : Superblock) (grid : GridState) (ss : List Session) (before : ℕ) (image : Units) → ShowsBlocks b image grid ss before → sum_at (before + 1) grid.blocks.live ≡ None → ShowsBlocks b image grid ss (before + 1)
+block_none b grid ss before image shows none = record {
+  has = shows.has;
+  waiting = shows.waiting;
+  shown = λ a sum to known. elim (cases_eq a (before + 1)) [
+    | inl here ↦ absurd (let no : None ≡ Some sum = sym none ∙ ap (λ (n : ℕ). sum_at n grid.blocks.live) (sym here) ∙ known in cc)
+    | inr other ↦ shows.shown a sum (omega (arith, to, other)) known
+  ];
+}
 
+module _ (b : Superblock) (grid : GridState) (ss : List Session) (before : ℕ) (t o : Told) (shows : ShowsBlocks b (superblock_units b t.shown) grid ss before) where
   module _ (check : List ℕ) (live : sum_at (before + 1) grid.blocks.live ≡ Some (number_of check)) where
     referenced : shows.has.says.parts.references (before + 1) ≡ Some (number_of check)
     referenced = sym (shows.has.live (before + 1)) ∙ live

@@ -3,26 +3,49 @@ use Rattle.std.{proofs.{Common.{◌≡◌, ◌≢◌, ℕ, List, [], ◌∷◌, 
 use Rattle.df_base.specs.{Image.{IsImage}, Log.{Sync, Write}, Streams.{Appends}}
 use Rattle.df_inspect.proofs.Laws.{appends_none}
 use Rattle.df_disk.specs.Told.{Told, did}
-use Rattle.df_layout.specs.{declared.damage.Class.{Class}, declared.places.Place.{Place as FilePlace}, declared.places.Zone.TheVariants.{ClientReplies, Grid, WalHeaders, WalPrepares}}
-use Rattle.df_format.specs.{declared.kind.Kind.{Kind}, declared.kind.Kind.TheVariants.{Block, Prepare, Reply, Trailer}, Brings.{Brings}, Message.{sectors_end, sectors_of}}
+use Rattle.df_layout.specs.{declared.damage.Class.{Class}, declared.layout.Layout.{Layout}, declared.places.Place.{Place as FilePlace}, declared.places.Zone.TheVariants.{ClientReplies, Grid, WalHeaders, WalPrepares}}
+use Rattle.df_format.specs.{declared.kind.Kind.{Kind}, declared.kind.Kind.TheVariants.{Block, Prepare, Reply, Trailer}, Brings.{Brings}, Message.{Message, sectors_end, sectors_of}}
 use Rattle.df_buffers.specs.{declared.identity.Identity.{Identity}, declared.identity.Wanted.TheVariants.{Checksum}, Sounds.{Holding, IsTidy}}
-use Rattle.df_places.specs.Shelves.{IsFoundUnit, IsRead, shown_at}
+use Rattle.df_places.specs.Shelves.{HoldsBlanked, HoldsFound, IsBlanked, IsFoundUnit, IsRead, shown_at}
 use Rattle.df_theory.{specs.{Device.{IsPut}, UnitLog.{put_one}, Units.{AnyUnit, BlockPlace, Content, Place, PreparePlace, ReplyPlace, or_else}}, proofs.Laws.{put_one_law}}
 use Rattle.df_units.specs.{Bytes.{first_at}, Format.{format_of}, Meaning.{number_of, place_of}}
 use Rattle.df_opening.specs.Below.{DataFile, shape}
-use Rattle.df_mirror.{specs.{declared.ending.Ending.{Ending}, declared.ending.Ending.TheVariants.{First, Neither, Second, Sink, Unopened}, Known.{IsDue, IsKnownAt, IsShownAs}, Mends.{AnswersMending, AreAt, Came, Failed, IsMend, IsNeither, IsRefusal, Mend, units_shown}, Outside.{Outside}, Taking.{IsFor, PutsUnit, ShowsUnit, TakesUnit, WritesUnit}, Texts.{mended_text}}, proofs.{Frames.{IsPlaceOf, known_place}, Joined.{none_came, none_failed}, Loaded.{IsUnitOf, class_is, found_unit, lacks_unit, shows_unit}, Spelled.{exact_sectors}}}
+use Rattle.df_mirror.{specs.{declared.ending.Ending.{Ending}, declared.ending.Ending.TheVariants.{First, Neither, Second, Sink, Unopened}, Known.{IsDue, IsKnownAt, IsShownAs}, Mends.{AnswersMending, AreAt, Came, Failed, IsMend, IsNeither, IsRefusal, Mend, units_shown}, Outside.{Outside}, Taking.{IsFor, PutsUnit, ShowsUnit, TakesHeld, TakesUnit, WritesUnit}, Texts.{mended_text}}, proofs.{Frames.{IsPlaceOf, known_place}, Joined.{none_came, none_failed}, Loaded.{IsUnitOf, blanked_held, class_is, found_held, found_unit, lacks_unit, shown_still, shows_unit}, Spelled.{exact_sectors}}}
 
 -- ---- one
 
--- what was written of the second file's unit, which is held
-pub takes_all : (kind : Kind) (identity : Identity) (class : Class) (old new : Outside) (shelf : Option Holding) (held : Holding) (result : Result (Unit {0}) Ending) → shelf ≡ Some held → IsFoundUnit kind identity held.unit → IsRead kind identity old.second None (Some held)
-    → PutsUnit identity.layout identity.place held → IsTidy held → WritesUnit identity.layout identity.place held old.first new.first old.written new.written result → TakesUnit kind identity class old new shelf result
-takes_all kind identity class old new shelf held (Ok x) is found shown puts tidy writes = (held, is, record { found = found; shown = shown; puts = puts; tidy = tidy; writes = writes })
-takes_all kind identity class old new shelf held (Err First) is found shown puts tidy writes = (held, is, record { found = found; shown = shown; puts = puts; tidy = tidy; writes = writes })
-takes_all kind identity class old new shelf held (Err Sink) is found shown puts tidy writes = (held, is, record { found = found; shown = shown; puts = puts; tidy = tidy; writes = writes })
-takes_all kind identity class old new shelf held (Err Second) is found shown puts tidy writes = absurd writes
-takes_all kind identity class old new shelf held (Err (Unopened e)) is found shown puts tidy writes = absurd writes
-takes_all kind identity class old new shelf held (Err (Neither place other)) is found shown puts tidy writes = absurd writes
+-- what the shelf holds is the unit that is wanted, which the second file shows, with zeros after it
+pub record HoldsTaken (kind : Kind) (identity : Identity) (second : Option Told) (held : Holding) : Type 0 where
+  pub found : IsFoundUnit kind identity held.unit
+  pub shown : IsRead kind identity second None (Some held)
+  pub tidy : IsTidy held
+
+pub taken_held : (kind : Kind) (identity : Identity) (layout : Layout) (second : Option Told) (shelf new : Option Holding) (held : Holding) → HoldsFound kind identity None shelf → IsRead kind identity second None shelf → HoldsBlanked layout shelf new → new ≡ Some held → HoldsTaken kind identity second held
+taken_held kind identity layout second shelf new held found read blanks is =
+    let was = found_held kind identity shelf found in
+    let now = blanked_held layout shelf new was.0 was.1 blanks in
+    let blanked : IsBlanked layout was.0 held = subst (λ (h : Holding). IsBlanked layout was.0 h) (same_Some _ _ (sym now.1 ∙ is)) now.2 in
+    record {
+      found = subst (λ (u : Message). IsFoundUnit kind identity u) (sym blanked.unit_is) was.2;
+      shown = shown_still kind identity second was.0 held blanked.unit_is (subst (λ (s : Option Holding). IsRead kind identity second None s) was.1 read);
+      tidy = blanked.tidy;
+    }
+
+-- what was written of it
+pub takes_all : (kind : Kind) (identity : Identity) (class : Class) (old new : Outside) (shelf : Option Holding) (held : Holding) (result : Result (Unit {0}) Ending) → shelf ≡ Some held → HoldsTaken kind identity old.second held
+    → PutsUnit identity.layout identity.place held → WritesUnit identity.layout identity.place held old.first new.first old.written new.written result → TakesUnit kind identity class old new shelf result
+takes_all kind identity class old new shelf held result is taken puts writes = by result writes
+  where
+    takes : (r : Result (Unit {0}) Ending) → WritesUnit identity.layout identity.place held old.first new.first old.written new.written r → TakesHeld kind identity old new shelf r
+    takes r writes = (held, is, record { found = taken.found; shown = taken.shown; puts = puts; tidy = taken.tidy; writes = writes })
+
+    by : (r : Result (Unit {0}) Ending) → WritesUnit identity.layout identity.place held old.first new.first old.written new.written r → TakesUnit kind identity class old new shelf r
+    by (Ok x) writes = takes (Ok tt) writes
+    by (Err First) writes = takes (Err First) writes
+    by (Err Sink) writes = takes (Err Sink) writes
+    by (Err Second) writes = absurd writes
+    by (Err (Unopened e)) writes = absurd writes
+    by (Err (Neither place other)) writes = absurd writes
 
 -- a known unit stands in no header ring
 no_ring : (kind : Kind) (at : Place) → IsPlaceOf kind at → (place_of at).zone ≡ WalHeaders → ⊥

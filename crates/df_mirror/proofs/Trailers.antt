@@ -4,20 +4,22 @@ use Rattle.df_base.{specs.{Fields.{AreBytes}, Image.{Image, IsImage}}, proofs.La
 use Rattle.df_disk.specs.Told.{Told}
 use Rattle.df_layout.specs.{declared.fields.Field.TheVariants.{Pending}, declared.layout.Layout.{Layout}}
 use Rattle.df_format.specs.{declared.kind.Kind.TheVariants.{Trailer}, SuperRules.{IsSuper}}
-use Rattle.df_model.{specs.{Blocks.{Blocks, addresses, entries, sum_at}, declared.errors.OpenError.TheVariants.{BadField, BootSpent, Damaged, DiskFault, LayoutDiffers, NoQuorum, NotFormatted, Version}}, proofs.Laws.{entry_at, entry_in}}
+use Rattle.df_model.{specs.{Blocks.{Blocks, addresses, entries, sum_at}, declared.errors.OpenError.TheVariants.{BadField}}, proofs.Laws.{entry_at, entry_in}}
 use Rattle.df_theory.{specs.{Sessions.{Has}, Trailer.{no_parts, text_of}, Units.{BlockPlace, Parts, Units}}, proofs.Laws.{text_bytes}}
 use Rattle.df_theory.specs.Units as model
 use Rattle.df_units.{specs.Meaning.{layout_of}, proofs.Laws.{of_places}}
 use Rattle.df_sessions.specs.{declared.session.Session.{Session}, Requests.{sessions_of}}
-use Rattle.df_trailer.{specs.{Reading.{HasRead}, Rooms.{AreParts}, Text.{parse_of, parts_of}, declared.reader.Reader.{Reader}}, proofs.Laws.{text_read}}
+use Rattle.df_trailer.{specs.{Reading.{HasRead}, Rooms.{AreParts}, Sessions.{AreReadSessions}, Text.{parse_of, parts_of}, declared.reader.Reader.{Reader}}, proofs.Laws.{text_read}}
 use Rattle.df_trailer.specs.declared.parts.Parts as rooms
 use Rattle.df_grid.specs.{Grid.{GridState}, Reads.{shown_of}, Table.{no_blocks}}
-use Rattle.df_checkpoint.{specs.{Chain.{OfTold}, Reads.{ChainAnswer, IsAdopted}, Waiting.{IsPendingReply}, declared.fault.TrailerFault.{TrailerFault}}, proofs.Laws.{its_text, some_chain, sessions_back, has_is, has_not}}
+use Rattle.df_checkpoint.{specs.{Chain.{OfTold, error_of, is_trailer_fault}, Reads.{ChainAnswer, IsAdopted, IsCompleteReader}, Waiting.{IsPendingReply}, declared.fault.TrailerFault.{TrailerFault}}, proofs.Laws.{complete_gives, its_text, some_chain, sessions_back, has_is, has_not}}
 use Rattle.df_checkpoint.specs.declared.fault.TrailerFault.TheVariants as trailer
 use Rattle.df_opening.specs.Below.{shape}
-use Rattle.df_mirror.{specs.{declared.ending.Ending.{Ending}, declared.ending.Ending.TheVariants.{First, Neither, Second, Sink, Unopened}, declared.superblock.Superblock.{Superblock}, Known.{AreShown}, Refusals.{RefusesFirstTrailer}, Trailers.{ReadsNamed, empty_grid, ending_of}, Walks.{HasTrailerText, ReadsChainText, content_of_superblock, superblock_units}}, proofs.{Chains.{asked_shown, block_shown}, Counts.{reference}}}
+use Rattle.df_mirror.{specs.{declared.ending.Ending.TheVariants.{Unopened}, declared.superblock.Superblock.{Superblock}, Known.{AreShown}, Refusals.{RefusesFirstTrailer}, Statuses.{is_first}, Walks.{HasTrailerText, ReadsChainText, content_of_superblock, superblock_units}}, proofs.{Chains.{asked_shown, block_shown}, Counts.{reference}}}
 
--- ---- sessions
+-- a grid of the file in which no address is held
+abbrev pub empty_grid : Superblock → GridState
+empty_grid b = record { layout = b.file.layout; cluster = b.file.cluster; boot = 0; blocks = no_blocks }
 
 -- ---- what the reader gives
 
@@ -57,33 +59,34 @@ module _ (b : Superblock) (usable : IsSuper b.content) (t : Told) (whole : IsIma
     sessions_are = sym (ap sessions_of said.sessions ∙ sessions_back adopted.parts.sessions);
   }
 
+-- ---- the sessions
+
+pub sessions_read : (b : Superblock) (g : GridState) (reader : Reader) (ss : List Session) → g ≡ empty_grid b → IsCompleteReader g b.content.op reader
+    → ((l : Layout) (op : ℕ) (text : List ℕ) → HasRead l op reader text → AreReadSessions l.clients op ss) → AreReadSessions b.file.layout.clients b.content.op ss
+sessions_read b g reader ss same complete gives =
+    complete_gives (λ (l : Layout) (op : ℕ). AreReadSessions l.clients op ss) g b.content.op reader b.file.layout complete (ap (λ (x : GridState). x.layout) same) gives
+
 -- ---- why it isn't read
 
-pub named_refused : (b : Superblock) (image : Image) (g h : GridState) (reader : Reader) (e : TrailerFault) → b.content.trailer_address ≢ 0 → ChainAnswer (shape b.file) (shown_of b.file.layout b.file.cluster image) (content_of_superblock b) g reader (Err e) → ReadsNamed b image h (Err (ending_of e))
-named_refused b image g h reader (trailer.Damaged address class) named answer = (address, answer)
-named_refused b image g h reader (trailer.BadField field value) named (inl broken) = (some_number b.content.trailer_address named, inl (inl broken))
-named_refused b image g h reader (trailer.BadField field value) named (inr (inl text)) = (some_number b.content.trailer_address named, inl (inr (inl text)))
-named_refused b image g h reader (trailer.BadField field value) named (inr (inr referenced)) = (some_number b.content.trailer_address named, inl (inr (inr (inl referenced))))
-named_refused b image g h reader trailer.DiskFault named answer = tt
-
--- where each block that is wanted is shown, none is refused as damaged
-pub text_refused : (b : Superblock) (image : Image) (g : GridState) (e : Ending) → AreShown (shape b.file) (superblock_units b image) (content_of_superblock b) Trailer → ReadsNamed b image g (Err e) → ReadsChainText b image (Err e)
-text_refused b image g (Unopened (Damaged place class)) shown (a, lacking) =
-    let there = block_shown (superblock_units b image) a lacking.sum (shown (BlockPlace a) lacking.sum lacking.reads) in
-    let ok = asked_shown (shown_of b.file.layout b.file.cluster image) a lacking.sum there.0 there.1 there.2 there.3 in
+-- The chain or its text is refused, and no disk failed. Where each block that is wanted is shown, none is refused as damaged.
+pub chain_refused : (b : Superblock) (image : Image) (g : GridState) (reader : Reader) (fault : TrailerFault) → b.content.trailer_address ≢ 0
+    → AreShown (shape b.file) (superblock_units b image) (content_of_superblock b) Trailer → (fault ≡ trailer.DiskFault → ⊥)
+    → ChainAnswer (shape b.file) (shown_of b.file.layout b.file.cluster image) (content_of_superblock b) g reader (Err fault) → ReadsChainText b image (Err (Unopened (error_of fault)))
+chain_refused b image g reader (trailer.Damaged address class) named shown other lacking =
+    let there = block_shown (superblock_units b image) address lacking.sum (shown (BlockPlace address) lacking.sum lacking.reads) in
+    let ok = asked_shown (shown_of b.file.layout b.file.cluster image) address lacking.sum there.0 there.1 there.2 there.3 in
     let both : Ok there.0 ≡ Err class = sym ok ∙ lacking.is in
     absurd (cc)
-text_refused b image g (Unopened (BadField field value)) shown is = is
-text_refused b image g (Unopened NotFormatted) shown is = is
-text_refused b image g (Unopened (NoQuorum classes)) shown is = is
-text_refused b image g (Unopened (Version found)) shown is = is
-text_refused b image g (Unopened (LayoutDiffers reserved found)) shown is = is
-text_refused b image g (Unopened DiskFault) shown is = is
-text_refused b image g (Unopened BootSpent) shown is = is
-text_refused b image g First shown is = tt
-text_refused b image g Second shown is = is
-text_refused b image g Sink shown is = is
-text_refused b image g (Neither place class) shown is = is
+chain_refused b image g reader (trailer.BadField field value) named shown other (inl broken) = (some_number b.content.trailer_address named, inl (inl broken))
+chain_refused b image g reader (trailer.BadField field value) named shown other (inr (inl text)) = (some_number b.content.trailer_address named, inl (inr (inl text)))
+chain_refused b image g reader (trailer.BadField field value) named shown other (inr (inr referenced)) = (some_number b.content.trailer_address named, inl (inr (inr (inl referenced))))
+chain_refused b image g reader trailer.DiskFault named shown other answer = absurd (other refl)
+
+-- whom it blames
+pub blames_first : (fault : TrailerFault) → is_first (Unopened (error_of fault)) ≡ is_trailer_fault fault
+blames_first (trailer.Damaged address class) = refl
+blames_first (trailer.BadField field value) = refl
+blames_first trailer.DiskFault = refl
 
 -- what is answered of a disk that is told
 pub told_answer : (b : Superblock) (h g : GridState) (reader : Reader) (result : Result (Unit {0}) TrailerFault) (told : Option Told) → h ≡ empty_grid b

@@ -88,11 +88,6 @@ module _ (b : Superblock) (kind : Kind) (at : Place) (check : List ℕ) (identit
       → MendsDue b kind at check t o old new shelf result
   due_mended due result mends shown = record { answers = mends b.file (content_of_superblock b) at check t o for tell due; shows = holds result shown }
 
--- one at most was mended, in a shelf of the file
-pub mended_back : (layout old new : Layout) (Found : Type 0) (result : Result ℕ Ending) → IfOk result (λ n. (new ≡ old) × Found × (n ≤ 1)) → old ≡ layout → IfOk result (λ n. (new ≡ layout) × (n ≤ 1))
-mended_back layout old new Found (Ok n) is same = (is.0 ∙ same, is.2)
-mended_back layout old new Found (Err e) is same = tt
-
 -- one of its kind
 pub of_one : (b : Superblock) (kind : Kind) (at : Place) (t o : Told) (old new : Outside) (result : Result ℕ Ending) (Shows : Units → Type 0) → AnswersMending b.file (content_of_superblock b) (AreAt kind at) t o new.first old.written new.written result
     → ((u : Told) → new.first ≡ Some u → OnOk result (Shows (superblock_units b u.shown))) → Mended b (AreOfKind kind) t o old new result Shows
@@ -147,3 +142,7 @@ module _ {b : Superblock} {kind : Kind} {old : Outside} {before : Faults} {X : T
     -- or has come to its end, where what is shown says this
     pub comes_to : {Says : X → Units → Type 0} → ((x : X) (image : Units) → Shows x image → Says x image) → (x : X) (t o : Told) → Tell t o old → Begins x t → Mended b (AreOfKind kind) t o old mid (Ok a) (Says x)
     comes_to says x t o tell is = shows_more (says x) (walked.mends x t o tell is)
+
+    -- or nothing is mended in this turn, since what is shown says it already
+    pub passes : {later : ℕ} {Says : X → Units → Type 0} → a ≤ later → ((x : X) (image : Units) → Shows x image → Says x image) → Walked b kind old mid before between room a later Begins Says
+    passes few says = record { calm = walked.calm; room_is = walked.room_is; few = few; mends = comes_to says }

@@ -9,4 +9,3 @@ pub mod Laws
 pub mod Run
 pub mod Walks
 pub mod Outcome
-pub mod Trailers

@@ -1,35 +1,31 @@
 -- What each walk has come to: how far the chain is read, which blocks and prepares are shown, and the sessions at the superblock's head.
-use Rattle.std.specs.Prelude.{◌≡◌, ◌⊎◌, ◌+◌, ◌<◌, ◌≤◌, ℕ, List, ◌∷◌, [], ◌++◌, length, map, take, Some, Result, Ok, Err, IfOk, OnOk}
+use Rattle.std.specs.Prelude.{◌≡◌, ◌+◌, ◌<◌, ◌≤◌, ℕ, List, length, map, take, Some, Result, Ok, Err, IfOk, OnOk}
 use Rattle.df_base.specs.Image.{Image}
 use Rattle.df_disk.specs.Told.{Told}
 use Rattle.df_format.specs.declared.kind.Kind.TheVariants.{Block as AsBlock, Prepare, Reply, Trailer}
-use Rattle.df_format.specs.declared.header.Header.{Header}
-use Rattle.df_checkpoint.specs.declared.links.Link.{Link}
-use Rattle.df_format.specs.Message as format
-use Rattle.df_layout.specs.declared.damage.Class.{Class}
 use Rattle.df_layout.specs.declared.fields.Field.TheVariants.{TrailerChain}
 use Rattle.df_model.specs.Blocks.{sum_at}
 use Rattle.df_model.specs.declared.errors.OpenError.TheVariants.{BadField}
-use Rattle.df_theory.specs.Opens.{AreKnown, AreLinks, Arrives, IsLink, named_by}
+use Rattle.df_theory.specs.Opens.{AreKnown, AreLinks, Arrives, named_by}
 use Rattle.df_theory.specs.Sessions.{Has}
 use Rattle.df_theory.specs.Units
-use Rattle.df_theory.specs.Units.{Block, BlockPlace, Content, Message, PreparePlace, PrepareUnit, ReplyPlace, ReplyUnit, Units}
-use Rattle.df_units.specs.Meaning.{block_of, number_of}
+use Rattle.df_theory.specs.Units.{Block, BlockPlace, Content, Message, PreparePlace, PrepareUnit, ReplyPlace, Units}
+use Rattle.df_units.specs.Meaning.{number_of}
 use Rattle.df_sessions.specs.declared.session.Session.{Session}
 use Rattle.df_sessions.specs.Requests.{sessions_of}
 use Rattle.df_sessions.specs.Table.{Table}
 use Rattle.df_journal.specs.Scan.{Scan}
 use Rattle.df_journal.specs.Shows.{TellsRings}
 use Rattle.df_grid.specs.Grid.{GridState}
-use Rattle.df_checkpoint.specs.Chain.{before_of, content_in}
+use Rattle.df_checkpoint.specs.Chain.{content_in}
 use Rattle.df_opening.specs.Below.{shape}
-use Rattle.df_mirror.specs.declared.chain.Walk.{Walk}
+use Rattle.df_mirror.specs.declared.trailer.Walk.{Walk}
 use Rattle.df_mirror.specs.declared.ending.Ending.{Ending}
 use Rattle.df_mirror.specs.declared.ending.Ending.TheVariants.{First, Unopened}
 use Rattle.df_mirror.specs.declared.superblock.Superblock.{Superblock}
 use Rattle.df_mirror.specs.declared.trailer.Text.{Text}
-use Rattle.df_mirror.specs.Known.{AllShown, AreShown, AreShownBefore, HasSessions, IsRecordedReply, IsShownAs, PassesTrailer, ShowsTrailer}
-use Rattle.df_mirror.specs.Mends.{AnswersMending, AreAt, Mend, units_shown}
+use Rattle.df_mirror.specs.Known.{AllShown, AreShown, HasSessions, IsRecordedReply, IsShownAs, PassesTrailer, ShowsTrailer}
+use Rattle.df_mirror.specs.Mends.{AnswersMending, Mend, units_shown}
 use Rattle.df_mirror.specs.Outside.{Outside}
 use Rattle.df_mirror.specs.Refusals.{RefusesFirstTrailer}
 
@@ -60,11 +56,6 @@ pub record HasWalkedChain (b : Superblock) (image : Units) (n : ℕ) (walk : Wal
 -- a block of the trailer that isn't a link, or stands where another one does
 abbrev pub broken_at : ℕ → Ending
 broken_at address = Unopened (BadField TrailerChain address)
-
--- the block is the link with this index, and the walk goes on to the block that it names; or it isn't
-abbrev pub WalkGoesOn : Superblock → (at : Link) → (read : List Link) → ℕ → format.Message → Result Walk Ending → Type 0
-WalkGoesOn b at read index u (Ok walk) = IsLink (shape b.file) (content_of_superblock b) index (block_of u) × (walk.at ≡ before_of u) × (walk.read.items ≡ read ++ at ∷ [])
-WalkGoesOn b at read index u (Err e) = (e ≡ broken_at at.address) × (IsLink (shape b.file) (content_of_superblock b) index (block_of u) → ⊥)
 
 -- how many were mended, beside the walk
 abbrev pub counted_in : Result (Walk × ℕ) Ending → Result ℕ Ending
@@ -140,20 +131,6 @@ pub record HasHead (b : Superblock) (image : Units) (slots : Scan) (table : Tabl
 pub record ShowsKnownReplies (b : Superblock) (image : Units) (slots : Scan) (table : Table) (to : ℕ) : Type 0 where
   pub has : HasHead b image slots table
   pub shown : (k sum : ℕ) → k < to → IsRecordedReply (shape b.file) image (content_of_superblock b) k sum → IsShownAs image Reply (ReplyPlace k) sum
-
--- what is seen in a slot is a reply of the superblock's boot above those that it records
-abbrev pub IsNewer : Superblock → Result Header Class → Type 0
-IsNewer b (Ok h) = (h.boot ≡ b.content.boot) × (b.content.replies < h.op)
-IsNewer b (Err class) = ⊥
-
--- the slot shows such a reply
-abbrev pub HasNewer : Superblock → Units → ℕ → Type 0
-HasNewer b image k = (r : Message) × (image (ReplyPlace k) ≡ Some (ReplyUnit r)) × (r.header.boot ≡ (content_of_superblock b).boot) × ((content_of_superblock b).replies < r.header.op)
-
--- the reply with this checksum is mended, where it is known if its slot shows nothing newer, all that come before it are shown, and the trailer isn't refused: it is shown then, or something newer is
-pub record MendsRecorded (b : Superblock) (k : ℕ) (check : List ℕ) (t o : Told) (old new : Outside) (answer : Result ℕ Ending) : Type 0 where
-  pub answers : ((HasNewer b (superblock_units b t.shown) k → ⊥) → IsRecordedReply (shape b.file) (superblock_units b t.shown) (content_of_superblock b) k (number_of check)) → AreShownBefore (shape b.file) (superblock_units b t.shown) (content_of_superblock b) Reply (ReplyPlace k) → PassesTrailer (shape b.file) (superblock_units b t.shown) (content_of_superblock b) → AnswersMending b.file (content_of_superblock b) (AreAt Reply (ReplyPlace k)) t o new.first old.written new.written answer
-  pub shown : (u : Told) → new.first ≡ Some u → OnOk answer (HasNewer b (superblock_units b u.shown) k ⊎ IsShownAs (superblock_units b u.shown) Reply (ReplyPlace k) (number_of check))
 
 -- a prepare of the superblock's boot above its head, of this client
 pub record IsLater (b : Superblock) (client : ℕ) (p : Message) : Type 0 where

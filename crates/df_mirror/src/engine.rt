@@ -1,45 +1,25 @@
 // The program: it has no words, and takes its memory once the first file's layout is known.
-ghost use Rattle.std.specs.Prelude.{◌≡◌, ◌≢◌, [], map, string_bytes, Err, IfNone, IfOk, IfSome};
-ghost use Rattle.df_base.specs.declared.TheConstants.{VERSION};
-ghost use Rattle.df_disk.specs.Told.{Told};
-ghost use Rattle.df_mirror.specs.Outside.{Blames, HasCausesOfTwo, Tell, Writes, around, counts};
-ghost use Rattle.df_mirror.specs.Run.{IsUndone, Mirrored, RunsMirror, TellsEnd};
+ghost use Rattle.std.specs.Prelude.{◌≡◌, [], map, string_bytes, Err, IfOk};
+ghost use Rattle.df_mirror.specs.Outside.{Blames, HasCausesOfTwo, Writes, around, counts};
+ghost use Rattle.df_mirror.specs.Run.{IsUndone, RunsMirror, TellsEnd};
 ghost use Rattle.df_mirror.specs.Texts.{mirror_usage};
 
 use crate::ending::Ending;
 use crate::mending::{Reserved, mend_all};
 use crate::status::Status;
 use crate::superblock::Superblock;
-use crate::telling::{USAGE, tell_count, tell_neither};
 use df_base::{OutOfMemory, Sink, VERSION};
 use df_buffers::{ProbeRoom, Raw};
 use df_disk::Disk;
-use df_format::Super;
+use df_inspect::{classed_line, number_line};
 use df_layout::Layout;
-use df_opening::{DataFile, OpenError, Rooms, survey_superblock};
+use df_opening::{DataFile, Rooms, survey_superblock};
 use df_places::Shelf;
-use df_program::{end_with, refuse_file};
+use df_program::{end_line, end_with, refuse_file};
 use std::alloc::Global;
 
-// The file of a superblock, and no file where that isn't of version 2.
-fn superblock_of(content: Super) -> Option<Superblock>
-    ensures some { IfSome result (λ base. base.content ≡ content) }
-    ensures none { IfNone result (content.version ≢ VERSION) }
-{
-    let layout = content.layout();
-    let fields = content.fields();
-    if fields.version != VERSION {
-        return None;
-    }
-    Some(Superblock {
-        file: DataFile {
-            layout,
-            cluster: fields.cluster,
-            version: VERSION,
-        },
-        content,
-    })
-}
+/// The line that says which words have a meaning.
+pub const USAGE: &[u8] = b"usage: filemirror FIRST SECOND\n";
 
 // Takes all the memory of a mending over a layout.
 fn reserve(alloc: Global, layout: &Layout) -> Result<Reserved, OutOfMemory>
@@ -64,36 +44,22 @@ fn tell<W: Sink>(sink: &mut W, mended: Result<u64, Ending>) -> Status
     ensures failed { mended ≡ Err Ending.Sink → W.faults sink.new ≡ W.faults sink.old }
 {
     match mended {
-        Ok(count) => tell_count(sink, count),
-        Err(Ending::Neither { place, class }) => tell_neither(sink, place, class),
+        Ok(count) => {
+            let given = if count == 0 {
+                Status::Done
+            } else {
+                Status::Found
+            };
+            let line = number_line("mended", u128::from(count));
+            end_line(sink, &line, given)
+        }
+        Err(Ending::Neither { place, class }) => {
+            let line = classed_line("refused Neither", place, class);
+            end_line(sink, &line, Status::Refused)
+        }
         Err(Ending::Unopened { error }) => refuse_file(sink, &error),
         Err(Ending::First | Ending::Second) => Status::DiskFault,
         Err(Ending::Sink) => Status::WriteFault,
-    }
-}
-
-// Takes the memory for the first file, and mends what it lacks.
-fn mend_file<A: Disk, B: Disk, W: Sink>(
-    alloc: Global,
-    first: &mut A,
-    second: &mut B,
-    sink: &mut W,
-    base: &Superblock,
-) -> Status
-    ensures mirrors { (t o : Told) → Tell t o (around (A.told first.old) (B.told second.old) (W.written sink.old)) → result ≢ Status.Memory
-        → Mirrored base.now t o (around (A.told first.old) (B.told second.old) (W.written sink.old)) (around (A.told first.new) (B.told second.new) (W.written sink.new)) result }
-    ensures causes { HasCausesOfTwo Status.DiskFault Status.WriteFault (counts (A.faults first.old) (B.faults second.old) (W.faults sink.old))
-        (counts (A.faults first.new) (B.faults second.new) (W.faults sink.new)) result }
-    ensures memory { result ≡ Status.Memory → (A.told first.new ≡ A.told first.old) × (W.written sink.new ≡ W.written sink.old) }
-    ensures words { result ≡ Status.Words → ⊥ }
-    ensures same { B.told second.new ≡ B.told second.old }
-{
-    match reserve(alloc, &base.file.layout) {
-        Ok(reserved) => {
-            let mended = mend_all(first, second, sink, base, reserved);
-            tell(sink, mended)
-        }
-        Err(_) => Status::Memory,
     }
 }
 
@@ -114,14 +80,27 @@ fn mend_first<A: Disk, B: Disk, W: Sink>(
     let Ok(mut room) = ProbeRoom::reserve(alloc) else {
         return Status::Memory;
     };
-    match survey_superblock(first, &mut room, 2) {
-        Ok(found) => match superblock_of(found.content) {
-            Some(base) => mend_file(alloc, first, second, sink, &base),
-            // A survey for version 2 finds no other one.
-            None => Status::Refused,
-        },
-        Err(error) => refuse_file(sink, &error),
+    let content = match survey_superblock(first, &mut room, 2) {
+        Ok(found) => found.content,
+        Err(error) => return refuse_file(sink, &error),
+    };
+    let layout = content.layout();
+    let fields = content.fields();
+    // A survey for version 2 finds no other one.
+    if fields.version != VERSION {
+        return Status::Refused;
     }
+    let file = DataFile {
+        layout,
+        cluster: fields.cluster,
+        version: VERSION,
+    };
+    let base = Superblock { file, content };
+    let Ok(reserved) = reserve(alloc, &layout) else {
+        return Status::Memory;
+    };
+    let mended = mend_all(first, second, sink, &base, reserved);
+    tell(sink, mended)
 }
 
 /// Mends the first file from a second one. The first file's superblock, of version 2, fixes which units are known: the blocks of

@@ -2,26 +2,20 @@
 //! from place to place as units become shown, and each is proved, taken and written by one function.
 #![tactic(auto)]
 
-mod blocks;
-mod chain;
 mod ending;
 mod engine;
 mod laws;
 mod mending;
-mod prepares;
 mod replies;
-mod sessions;
 mod status;
 mod superblock;
-mod telling;
 mod trailer;
 mod unit;
 
 pub use ending::Ending;
-pub use engine::mirror;
+pub use engine::{USAGE, mirror};
 pub use laws::{
     a_mended_file_is_opened, a_mended_unit_was_written, known_units_stay, mends_go_on,
     the_outcome_is_one, units_come_in_order,
 };
 pub use status::Status;
-pub use telling::USAGE;

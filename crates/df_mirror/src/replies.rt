@@ -1,93 +1,76 @@
-// The replies that the superblock records, of the sessions at its head, in order of place.
-ghost use Rattle.std.specs.Prelude.{◌≡◌, ◌+◌, ◌<◌, ◌≤◌, length, slice_get, Some, IfOk, IsFalse, IsTrue};
+// The sessions at the superblock's head, what the ring of prepares shows above it, and the replies that the superblock records, in order of place.
+ghost use Rattle.std.specs.Prelude.{◌≡◌, ◌+◌, ◌<◌, ◌≤◌, List, length, take, IfOk, IsFalse, IsTrue};
 ghost use Rattle.df_disk.specs.Told.{Told};
 ghost use Rattle.df_format.specs.declared.kind.Kind.TheVariants.{Reply as AsReply};
-ghost use Rattle.df_format.specs.Spelling.{IsCheck};
-ghost use Rattle.df_buffers.specs.declared.identity.Wanted.TheVariants.{Checksum as WithChecksum};
+ghost use Rattle.df_journal.specs.Shows.{IsSeenTable, TellsRings};
 ghost use Rattle.df_opening.specs.Below.{shape};
-ghost use Rattle.df_theory.specs.Units.{ReplyPlace};
-ghost use Rattle.df_units.specs.Meaning.{place_of};
+ghost use Rattle.df_sessions.specs.Requests.{sessions_of};
+ghost use Rattle.df_theory.specs.Opens.{AreKnown};
+ghost use Rattle.df_theory.specs.Sessions.{sessions_after};
+ghost use Rattle.df_theory.specs.Units.{Message, Units};
 ghost use Rattle.df_mirror.specs.Known.{AreShown};
 ghost use Rattle.df_mirror.specs.Mends.{AreOfKind, IsRefusal};
 ghost use Rattle.df_mirror.specs.Outside.{Tell, around, counts};
 ghost use Rattle.df_mirror.specs.Statuses.{AreBlamed};
-ghost use Rattle.df_mirror.specs.Walks.{HasHead, IsNewer, Mended, MendsRecorded, ShowsKnownReplies, content_of_superblock, superblock_units};
+ghost use Rattle.df_mirror.specs.Walks.{HasHead, HasLater, Mended, ShowsKnownReplies, content_of_superblock, superblock_units};
 
 use crate::ending::Ending;
-use crate::sessions::has_later;
 use crate::superblock::Superblock;
 use crate::unit::mend_unit;
-use df_base::{Check, Sink};
+use df_base::Sink;
 use df_buffers::{Identity, Reply};
 use df_disk::Disk;
-use df_format::Header;
-use df_journal::SlotTable;
-use df_layout::{Class, Place, Zone};
+use df_journal::{SlotTable, slot_of};
+use df_layout::{Place, Zone};
 use df_places::Shelf;
 use df_sessions::SessionTable;
 
-// The reply in the slot of a session, by its checksum.
-fn reply_at(base: &Superblock, place: u64, checksum: Check) -> Identity
-    ensures identity { result ≡ record { layout = base.now.file.layout; cluster = base.now.file.cluster; place = place_of (ReplyPlace place); wanted = WithChecksum checksum } }
-    ensures check { IsCheck checksum }
+/// The sessions at the superblock's head, from those of the checkpoint on: the prepares that the superblock names are in the table of slots.
+pub(crate) fn sessions_at_head(
+    base: &Superblock,
+    slots: &SlotTable,
+    sessions: SessionTable,
+) -> SessionTable
+    requires table { IsSeenTable base.now.file.layout base.now.file.cluster slots.now.slots }
+    requires places { sessions.max ≡ base.now.file.layout.clients }
+    requires few { length sessions.sessions ≤ sessions.max }
+    ensures sessions { (image : Units) (named : List Message) → TellsRings base.now.file.layout image slots.now
+        → AreKnown base.now.file.layout.slots image (base.now.content.op + 1) (content_of_superblock base.now).pin_checksum named
+        → base.now.content.op + length named ≡ (content_of_superblock base.now).pin
+        → sessions_of result.sessions ≡ take base.now.file.layout.clients (sessions_after (sessions_of sessions.sessions) named) }
+    ensures places { result.max ≡ sessions.max }
 {
-    let place = Place {
-        zone: Zone::ClientReplies,
-        index: place,
-    };
-    Identity::known(&base.file.layout, base.file.cluster, place, checksum)
+    let mut sessions = sessions;
+    let fields = base.content.fields();
+    let places = u64::from(base.file.layout.clients);
+    let mut op = fields.op;
+    while op < fields.head {
+        op += 1;
+        if let Some(header) = slots.prepare(slot_of(&base.file.layout, op)) {
+            // A client that is new where no place is left gets none.
+            if sessions.place_of(header.client).is_some() || sessions.len() < places {
+                let _place = sessions.apply(header.client, header.request, header.op);
+            }
+        }
+    }
+    sessions
 }
 
-// Whether what is seen in a slot is a reply of the superblock's boot above those that it records.
-fn is_newer(base: &Superblock, seen: &Result<Header, Class>) -> bool
-    ensures yes { IsTrue result → IsNewer base.now seen.now }
-    ensures no { IsFalse result → IsNewer base.now seen.now → ⊥ }
+// Whether a slot of the ring shows a prepare of the superblock's boot above its head that is this client's.
+fn has_later(base: &Superblock, slots: &SlotTable, client: u128) -> bool
+    requires table { length slots.now.slots ≡ base.now.file.layout.slots }
+    ensures yes { (image : Units) → TellsRings base.now.file.layout image slots.now → IsTrue result → HasLater base.now image client }
+    ensures no { (image : Units) → TellsRings base.now.file.layout image slots.now → IsFalse result → HasLater base.now image client → ⊥ }
 {
     let fields = base.content.fields();
-    match seen {
-        Ok(header) => header.boot == fields.boot && fields.replies < header.op,
-        Err(_) => false,
-    }
-}
-
-// The checksum that the superblock recorded of the reply at a place, zeros where it recorded none.
-fn recorded_at(base: &Superblock, place: u64) -> Check
-    requires { place < base.now.file.layout.clients }
-    ensures sum { slice_get base.now.content.reply_checksums place ≡ Some result }
-    ensures check { IsCheck result }
-{
-    base.content.fields().reply_checksums[place as usize]
-}
-
-// Mends the reply of a session that the superblock recorded, where its slot shows nothing newer. Answers how many were written, 0 or 1.
-fn mend_recorded<A: Disk, B: Disk, W: Sink>(
-    first: &mut A,
-    second: &mut B,
-    sink: &mut W,
-    base: &Superblock,
-    shelf: &mut Shelf<Reply>,
-    place: u64,
-    checksum: Check,
-) -> Result<u64, Ending>
-    requires place { place < base.now.file.layout.clients }
-    requires layout { shelf.old.layout ≡ base.now.file.layout }
-    ensures mends { (t o : Told) → Tell t o (around (A.told first.old) (B.told second.old) (W.written sink.old))
-        → MendsRecorded base.now place checksum t o (around (A.told first.old) (B.told second.old) (W.written sink.old)) (around (A.told first.new) (B.told second.new) (W.written sink.new)) result }
-    ensures unrefused { IsRefusal result → ⊥ }
-    ensures back { IfOk result (λ more. (shelf.new.layout ≡ base.now.file.layout) × (more ≤ 1)) }
-    ensures same { B.told second.new ≡ B.told second.old }
-    ensures blamed { AreBlamed (counts (A.faults first.old) (B.faults second.old) (W.faults sink.old)) (counts (A.faults first.new) (B.faults second.new) (W.faults sink.new)) result }
-{
-    let wanted = reply_at(base, place, checksum);
-    match shelf.see(first, base.file.cluster, wanted.place) {
-        Ok(seen) => {
-            if is_newer(base, &seen) {
-                return Ok(0);
+    for slot in 0..base.file.layout.slots {
+        if let Some(header) = slots.prepare(slot) {
+            if header.boot == fields.boot && fields.head < header.op && header.client == client {
+                return true;
             }
-            mend_unit(first, second, sink, shelf, &wanted)
         }
-        Err(_) => Err(Ending::First),
     }
+    false
 }
 
 // Mends the reply of the session at a place, where it is known by the checksum that the superblock recorded: nothing newer of its boot is shown. Answers how many were written, 0 or 1.
@@ -113,20 +96,31 @@ fn mend_reply<A: Disk, B: Disk, W: Sink>(
     ensures same { B.told second.new ≡ B.told second.old }
     ensures blamed { AreBlamed (counts (A.faults first.old) (B.faults second.old) (W.faults sink.old)) (counts (A.faults first.new) (B.faults second.new) (W.faults sink.new)) result }
 {
-    let checksum = recorded_at(base, place);
+    let fields = base.content.fields();
+    let checksum = fields.reply_checksums[place as usize];
     if checksum == [0; 16] {
         return Ok(0);
     }
-    match sessions.get(place) {
-        Some(session) => {
-            if has_later(base, slots, session.client) {
-                Ok(0)
-            } else {
-                mend_recorded(first, second, sink, base, shelf, place, checksum)
-            }
-        }
-        None => Ok(0),
+    let Some(session) = sessions.get(place) else {
+        return Ok(0);
+    };
+    if has_later(base, slots, session.client) {
+        return Ok(0);
     }
+    let at = Place {
+        zone: Zone::ClientReplies,
+        index: place,
+    };
+    let wanted = Identity::known(&base.file.layout, base.file.cluster, at, checksum);
+    let Ok(seen) = shelf.see(first, base.file.cluster, at) else {
+        return Err(Ending::First);
+    };
+    if let Ok(header) = seen {
+        if header.boot == fields.boot && fields.replies < header.op {
+            return Ok(0);
+        }
+    }
+    mend_unit(first, second, sink, shelf, &wanted)
 }
 
 /// Mends the replies that are known, in order of place. Answers how many were written.

@@ -1,27 +1,136 @@
-// The trailer of the first file, once all of its blocks are shown: what it references, and the sessions of the checkpoint.
-ghost use Rattle.std.specs.Prelude.{◌≡◌, ◌≢◌, ◌≤◌, length, Some, IfErr, IfOk};
+// The trailer of the first file: the chain of its blocks is mended, from the last to the first, each before the one that it names is known; then it is read, for what it references and the sessions.
+ghost use Rattle.std.specs.Prelude.{◌≡◌, ◌+◌, ◌-◌, ◌<◌, ◌≤◌, ℕ, [], length, Some, IfErr, IfOk};
 ghost use Rattle.df_base.specs.Causes.{IsBlamed};
 ghost use Rattle.df_base.specs.Image.{IsImage};
+ghost use Rattle.df_base.specs.declared.TheConstants.{HEADER};
+ghost use Rattle.arrayvec.specs.ArrayVec.{array_vec_len};
 ghost use Rattle.df_disk.specs.Told.{Told};
 ghost use Rattle.df_format.specs.declared.kind.Kind.TheVariants.{Trailer as AsTrailer};
 ghost use Rattle.df_opening.specs.Below.{shape};
+ghost use Rattle.df_theory.specs.Trailer.{IsCount};
+ghost use Rattle.df_trailer.specs.Reading.{HasRead};
 ghost use Rattle.df_mirror.specs.Known.{AreShown};
-ghost use Rattle.df_mirror.specs.Statuses.{IsOfFirst, is_first};
-ghost use Rattle.df_mirror.specs.Trailers.{ReadsNamed, empty_grid, ending_of, pending_ending};
-ghost use Rattle.df_trailer.specs.Sessions.{AreReadSessions};
-ghost use Rattle.df_mirror.specs.Walks.{ReadsChainText, content_of_superblock, superblock_units};
+ghost use Rattle.df_mirror.specs.Mends.{AreOfKind};
+ghost use Rattle.df_mirror.specs.Outside.{Tell, around, counts};
+ghost use Rattle.df_mirror.specs.Statuses.{AreBlamed, IsOfFirst, is_first};
+ghost use Rattle.df_mirror.specs.Walks.{HasWalkedChain, IsInsideGrid, Mended, ReadsChainText, WalksTo, content_of_superblock, counted_in, superblock_units};
 
 use crate::ending::Ending;
 use crate::superblock::Superblock;
+use crate::unit::mend_unit;
 use arrayvec::ArrayVec;
-use df_checkpoint::{TrailerFault, pending, read_chain};
+use df_base::Sink;
+use df_buffers::Trailer;
+use df_checkpoint::{Link, TrailerFault, block_count, is_among, link_before, pending, read_chain};
 use df_disk::Disk;
-use df_grid::Grid;
-use df_layout::Field;
+use df_grid::{Grid, chains_have_room, known_at};
+use df_layout::{Field, LINKS};
 use df_model::OpenError;
+use df_places::Shelf;
 use df_rooms::{GridRooms, ReaderRoom, TrailerRooms};
-use df_sessions::{Session, SessionTable};
+use df_sessions::SessionTable;
 use df_trailer::{Parts, Reader};
+
+/// How far the chain was walked: the block that is wanted next, and those that were read before it.
+#[derive(Drop)]
+pub(crate) struct Walk {
+    pub(crate) at: Link,
+    pub(crate) read: ArrayVec<Link, LINKS>,
+}
+
+// Mends the block of the chain with this index, and goes on to the one that it names. Answers how many were written, 0 or 1.
+fn mend_link<A: Disk, B: Disk, W: Sink>(
+    first: &mut A,
+    second: &mut B,
+    sink: &mut W,
+    base: &Superblock,
+    shelf: &mut Shelf<Trailer>,
+    walk: Walk,
+    index: u64,
+) -> Result<(Walk, u64), Ending>
+    requires inside { IsInsideGrid base.now walk.at.address }
+    requires few { array_vec_len walk.read + index < 70 }
+    requires layout { shelf.old.layout ≡ base.now.file.layout }
+    ensures mends { (t o : Told) (n : ℕ) → Tell t o (around (A.told first.old) (B.told second.old) (W.written sink.old))
+        → IsCount (base.now.file.layout.block_size - HEADER) base.now.content.trailer_size n
+        → n ≡ length walk.read.items + (index + 1) → HasWalkedChain base.now (superblock_units base.now t.shown) n walk
+        → Mended base.now (AreOfKind AsTrailer) t o (around (A.told first.old) (B.told second.old) (W.written sink.old))
+        (around (A.told first.new) (B.told second.new) (W.written sink.new)) (counted_in result) (WalksTo base.now n result) }
+    ensures inside { IfOk result (λ done. 0 < index → IsInsideGrid base.now done.0.at.address) }
+    ensures more { IfOk result (λ done. (array_vec_len done.0.read ≡ array_vec_len walk.read + 1) × (shelf.new.layout ≡ base.now.file.layout) × (done.1 ≤ 1)) }
+    ensures same { B.told second.new ≡ B.told second.old }
+    ensures blamed { AreBlamed (counts (A.faults first.old) (B.faults second.old) (W.faults sink.old)) (counts (A.faults first.new) (B.faults second.new) (W.faults sink.new)) result }
+{
+    let Walk { at, mut read } = walk;
+    // A block that isn't the link that the chain asks for.
+    let broken = Ending::Unopened {
+        error: OpenError::BadField {
+            field: Field::TrailerChain,
+            value: u128::from(at.address),
+        },
+    };
+    if is_among(&read, at.address) {
+        return Err(broken);
+    }
+    let checksum = at.checksum;
+    let wanted = known_at(&base.file.layout, base.file.cluster, at.address, checksum);
+    match mend_unit(first, second, sink, shelf, &wanted) {
+        Ok(more) => match link_before(
+            &base.file.layout,
+            base.content.fields(),
+            index,
+            shelf.unit(),
+        ) {
+            Some(before) => {
+                read.push(at);
+                Ok((Walk { at: before, read }, more))
+            }
+            None => Err(broken),
+        },
+        Err(ending) => Err(ending),
+    }
+}
+
+/// Mends the blocks of the trailer that the superblock names, from the last to the first. Where one of them isn't the link that the chain asks for, or the chain comes to a block of its own again, the
+/// file is refused as by an open. Answers how many were written.
+pub(crate) fn mend_chain<A: Disk, B: Disk, W: Sink>(
+    first: &mut A,
+    second: &mut B,
+    sink: &mut W,
+    base: &Superblock,
+    shelf: &mut Shelf<Trailer>,
+) -> Result<u64, Ending>
+    requires layout { shelf.old.layout ≡ base.now.file.layout }
+    ensures mends { (t o : Told) → Tell t o (around (A.told first.old) (B.told second.old) (W.written sink.old))
+        → Mended base.now (AreOfKind AsTrailer) t o (around (A.told first.old) (B.told second.old) (W.written sink.old))
+        (around (A.told first.new) (B.told second.new) (W.written sink.new)) result (λ image. AreShown (shape base.now.file) image (content_of_superblock base.now) AsTrailer) }
+    ensures few { IfOk result (λ mended. mended ≤ 70) }
+    ensures same { B.told second.new ≡ B.told second.old }
+    ensures blamed { AreBlamed (counts (A.faults first.old) (B.faults second.old) (W.faults sink.old)) (counts (A.faults first.new) (B.faults second.new) (W.faults sink.new)) result }
+{
+    chains_have_room();
+    let fields = base.content.fields();
+    let checksum = fields.trailer_checksum;
+    let mut mended = 0;
+    let mut walk = Walk {
+        at: Link {
+            address: fields.trailer_address,
+            checksum,
+        },
+        read: ArrayVec::new(),
+    };
+    let count = block_count(&base.file.layout, fields);
+    for done in 0..count {
+        match mend_link(first, second, sink, base, shelf, walk, count - 1 - done) {
+            Ok((next, more)) => {
+                walk = next;
+                mended += more;
+            }
+            Err(ending) => return Err(ending),
+        }
+    }
+    Ok(mended)
+}
 
 /// What the trailer says: in the grid the blocks that it references, and the sessions.
 #[derive(Drop)]
@@ -30,45 +139,9 @@ pub(crate) struct Text {
     pub(crate) sessions: SessionTable,
 }
 
-// Why the mending ends, where the trailer is refused.
-fn ending_of(fault: TrailerFault) -> Ending
-    ensures { result ≡ ending_of fault }
-{
-    match fault {
-        TrailerFault::DiskFault => Ending::First,
-        _ => Ending::Unopened {
-            error: fault.refusal(),
-        },
-    }
-}
-
-// An op that waits for its reply, and is that of no session.
-fn is_pending(op: u64) -> Ending
-    ensures { result ≡ pending_ending op }
-{
-    Ending::Unopened {
-        error: OpenError::BadField {
-            field: Field::Pending,
-            value: u128::from(op),
-        },
-    }
-}
-
-// Reads the chain that the superblock names, and its text, into the grid; the sessions are lent.
-fn read_named<A: Disk>(
-    first: &mut A,
-    base: &Superblock,
-    grid: &mut Grid,
-    rooms: TrailerRooms,
-) -> Result<ArrayVec<Session, 64>, Ending>
-    requires named { base.now.content.trailer_address ≢ 0 }
-    requires grid { grid.old ≡ empty_grid base.now }
-    requires rooms { rooms.layout ≡ base.now.file.layout }
-    ensures reads { (t : Told) → A.told first.old ≡ Some t → IsImage t.shown → ReadsNamed base.now t.shown grid.new result }
-    ensures fits { IfOk result (λ sessions. (grid.new.layout ≡ base.now.file.layout) × AreReadSessions base.now.file.layout.clients base.now.content.op sessions.items) }
-    ensures same { A.told first.new ≡ A.told first.old }
-    ensures cause { IsBlamed is_first (A.faults first.old) (A.faults first.new) result }
-    ensures own { IfErr result IsOfFirst }
+// A reader of the text of a checkpoint of this op, over the room that is lent for one.
+fn reader_in(rooms: TrailerRooms, op: u64) -> Reader
+    ensures { HasRead rooms.layout op result [] }
 {
     let TrailerRooms {
         layout: _,
@@ -92,11 +165,7 @@ fn read_named<A: Disk>(
         bits,
         checks,
     };
-    let mut reader = Reader::new(layout, base.content.fields().op, parts);
-    match read_chain(first, &base.content, grid, &mut reader) {
-        Ok(()) => Ok(reader.into_parts().sessions),
-        Err(fault) => Err(ending_of(fault)),
-    }
+    Reader::new(layout, op, parts)
 }
 
 /// Reads the trailer, each of whose blocks is shown, or says why it is refused: the first part of its text that fails, an address
@@ -124,15 +193,27 @@ pub(crate) fn read_trailer<A: Disk>(
         let sessions = SessionTable::new(clients);
         return Ok(Text { grid, sessions });
     }
-    let sessions = match read_named(first, base, &mut grid, rooms) {
-        Ok(sessions) => sessions,
-        Err(ending) => return Err(ending),
-    };
+    let mut reader = reader_in(rooms, fields.op);
+    match read_chain(first, &base.content, &mut grid, &mut reader) {
+        Ok(()) => {}
+        Err(fault) => match fault {
+            TrailerFault::DiskFault => return Err(Ending::First),
+            _ => return Err(Ending::Unopened {
+                error: fault.refusal(),
+            }),
+        },
+    }
+    let sessions = reader.into_parts().sessions;
     match pending(&sessions, fields.replies, fields.op) {
         None => Ok(Text {
             grid,
             sessions: SessionTable::over(clients, sessions),
         }),
-        Some(op) => Err(is_pending(op)),
+        Some(op) => Err(Ending::Unopened {
+            error: OpenError::BadField {
+                field: Field::Pending,
+                value: u128::from(op),
+            },
+        }),
     }
 }

@@ -1,47 +1,21 @@
 // One known unit: the first file's place is proved for its checksum, and where it isn't shown the second file's is; what the second shows is written into the first.
 ghost use Rattle.std.specs.Prelude.{◌≡◌, ◌≤◌, None, IfOk};
-ghost use Rattle.df_base.specs.Causes.{IsBlamed};
-ghost use Rattle.df_format.specs.Valid.{IsUnit};
 ghost use Rattle.df_layout.specs.Spans.{HasPlace};
 ghost use Rattle.df_places.specs.Shelves.{HoldsFound};
 ghost use Rattle.df_mirror.specs.Mends.{IsRefusal};
 ghost use Rattle.df_mirror.specs.Outside.{around, counts};
-ghost use Rattle.df_mirror.specs.Statuses.{AreBlamed, is_first, is_sink};
-ghost use Rattle.df_mirror.specs.Taking.{HoldsShown, MendsUnit, PutsUnit, TakesUnit, WritesUnit};
+ghost use Rattle.df_mirror.specs.Statuses.{AreBlamed};
+ghost use Rattle.df_mirror.specs.Taking.{HoldsShown, MendsUnit, TakesUnit};
 
 use crate::ending::Ending;
-use crate::telling::print_mended;
 use df_base::Sink;
-use df_buffers::{Identity, Sound, UnitKind};
+use df_buffers::{Identity, UnitKind};
 use df_disk::Disk;
+use df_inspect::{place_line, write_line};
 use df_layout::Class;
 use df_places::{Shelf, write_unit};
 
-// Writes a unit into its place of the first file, makes it durable, and says so.
-fn write_mended<A: Disk, W: Sink, K: UnitKind>(
-    first: &mut A,
-    sink: &mut W,
-    identity: &Identity,
-    unit: &Sound<K>,
-) -> Result<(), Ending>
-    requires layout { unit.now.layout ≡ identity.now.layout }
-    requires zone { identity.now.place.zone ≡ K.ZONE }
-    requires own { IsUnit identity.now.layout unit.now.unit.header.cluster identity.now.place unit.now.unit }
-    ensures puts { PutsUnit identity.now.layout identity.now.place unit.now }
-    ensures writes { WritesUnit identity.now.layout identity.now.place unit.now (A.told first.old) (A.told first.new) (W.written sink.old) (W.written sink.new) result }
-    ensures disk { IsBlamed is_first (A.faults first.old) (A.faults first.new) result }
-    ensures sink { IsBlamed is_sink (W.faults sink.old) (W.faults sink.new) result }
-{
-    match write_unit(first, &identity.layout, identity.place, unit) {
-        Ok(()) => match print_mended(sink, identity.place) {
-            Ok(()) => Ok(()),
-            Err(_) => Err(Ending::Sink),
-        },
-        Err(_) => Err(Ending::First),
-    }
-}
-
-// Takes a unit that the first file doesn't show from the second one, where that shows it. The shelf holds it then, with zeros after it: no checksum covers what the second file shows there.
+// Takes a unit that the first file doesn't show from the second one, where that shows it: writes it into its place, makes it durable, and says so. The shelf holds it then, with zeros after it: no checksum covers what the second file shows there.
 fn take_unit<A: Disk, B: Disk, W: Sink, K: UnitKind>(
     first: &mut A,
     second: &mut B,
@@ -63,7 +37,13 @@ fn take_unit<A: Disk, B: Disk, W: Sink, K: UnitKind>(
     match shelf.load(second, identity) {
         Ok(None) => {
             shelf.blank_rest();
-            write_mended(first, sink, identity, shelf.unit())
+            match write_unit(first, &identity.layout, identity.place, shelf.unit()) {
+                Ok(()) => match write_line(sink, &place_line("mended", identity.place)) {
+                    Ok(()) => Ok(()),
+                    Err(_) => Err(Ending::Sink),
+                },
+                Err(_) => Err(Ending::First),
+            }
         }
         Ok(Some(_)) => Err(Ending::Neither {
             place: identity.place,

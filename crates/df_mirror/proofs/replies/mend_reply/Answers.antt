@@ -1,35 +1,96 @@
--- A reply that the superblock recorded is known, unless a later request of its client is shown.
-use Rattle.std.proofs.{Common.{◌≡◌, ◌∙◌, sym, refl, true, false}, lemmas.Slice.Eq.{bytes_eq-Decides}}
-use Rattle.df_format.specs.Spelling.{no_checksum}
-use Rattle.df_mirror.{specs.Walks.{superblock_units}, proofs.AtHead.{is_recorded, no_session, not_behind, not_named, reply_mended, reply_none}}
+-- A reply that the superblock recorded is known, unless something newer of its boot is shown.
+use Rattle.std.proofs.{Common.{◌≡◌, ◌<◌, ◌∙◌, Err, Ok, ap, arith, refl, subst, sym, true, false}, lemmas.Slice.Eq.{bytes_eq-Decides}}
+use Rattle.df_format.specs.{Spelling.{no_checksum}, declared.superblock.SuperFields.{SuperFields}}
+use Rattle.df_layout.specs.declared.layout.Layout.{Layout}
+use Rattle.df_places.specs.Units.{IsSeen}
+use Rattle.df_theory.specs.Units.{ReplyPlace}
+use Rattle.df_units.specs.Meaning.{place_of}
+use Rattle.df_mirror.specs.{declared.ending.Ending.TheVariants.{First}, Walks.{superblock_units}}
+use Rattle.df_mirror.proofs.AtHead.{check_there, is_recorded, no_session, not_behind, not_named, reply_mended, reply_none, sum_there}
+use Rattle.df_mirror.proofs.Recorded.{IsNewer, recorded_mended, recorded_newer, recorded_unread}
+use Rattle.df_mirror.proofs.replies.mend_reply.Goals.{in-Ok-seen+else-header-fields, else-header-fields-via-then-header-fields+else-fields-header, else-header-fields-via-else-header-fields, in_default-seen}
 use Rattle.df_mirror.proofs.replies.mend_reply.Goals as goal
 
-pub mend_recorded-requires-clause-place : goal.mend_recorded-requires-clause-place
-mend_recorded-requires-clause-place g c = c.requires.place.1
+pub bounds-fields-place : goal.bounds-fields-place
+bounds-fields-place g c = omega (arith, c.requires.place, c.args.base.now.file.layout.clients_within)
+
+pub offset_bounds-fields-place : goal.offset_bounds-fields-place
+offset_bounds-fields-place g c = omega (arith, c.requires.place, c.args.base.now.file.layout.clients_within)
 
 pub returns-then-eq-clause-mends : goal.returns-then-eq-clause-mends
 unfolding no_checksum
 returns-then-eq-clause-mends g c = λ t o tell shows.
     let b = c.args.base.now in
-    let zeros : c.recorded_at-checksum.result ≡ no_checksum = (bytes_eq-Decides c.recorded_at-checksum.result no_checksum).0 (sym c.eq.ensures ∙ c.if-eq.true) in
+    let below : c.args.place < 64 = omega (arith, c.requires.place, b.file.layout.clients_within) in
+    let at = sum_there c.fields-fields.result.now b.content c.args.place _ c.fields-fields.ensures.value below c.fields-fields.ensures.usable in
     reply_none b c.args.slots.now c.args.sessions.now c.args.place t o _ _ tell shows refl refl
-    (not_named b (superblock_units b t.shown) c.args.slots.now c.args.sessions.now c.args.place shows.has c.recorded_at-checksum.result c.recorded_at-checksum.ensures.sum zeros)
+    (not_named b (superblock_units b t.shown) c.args.slots.now c.args.sessions.now c.args.place shows.has _ at
+    ((bytes_eq-Decides _ no_checksum).0 (sym c.eq.ensures ∙ c.if-eq.true)))
+
+pub returns-in_default-clause-mends : goal.returns-in_default-clause-mends
+returns-in_default-clause-mends g c = λ t o tell shows. absurd (no_session c.args.sessions.now.sessions c.args.place c.requires.place.0 (sym c.get.ensures ∙ c.in_default.is))
 
 pub returns-then-has_later-clause-mends : goal.returns-then-has_later-clause-mends
 returns-then-has_later-clause-mends g c = λ t o tell shows.
     let b = c.args.base.now in
     reply_none b c.args.slots.now c.args.sessions.now c.args.place t o _ _ tell shows refl refl
-    (not_behind b (superblock_units b t.shown) c.args.slots.now c.args.sessions.now c.args.place shows.has c.in-Some.session (sym c.get.ensures ∙ c.in-Some.is) (c.has_later.ensures.yes (superblock_units b t.shown) shows.has.tells c.if-has_later.true))
+    (not_behind b (superblock_units b t.shown) c.args.slots.now c.args.sessions.now c.args.place shows.has c.in-Some.session
+    (sym c.get.ensures ∙ c.in-Some.is) (c.has_later.ensures.yes (superblock_units b t.shown) shows.has.tells c.if-has_later.true))
 
-pub returns-else-has_later-clause-mends : goal.returns-else-has_later-clause-mends
+-- the place can't be read
+
+pub returns-in_default-see-clause-mends : goal.returns-in_default-see-clause-mends
 unfolding no_checksum
-returns-else-has_later-clause-mends g c = λ t o tell shows.
+returns-in_default-see-clause-mends g c = λ t o tell shows.
     let b = c.args.base.now in
-    let check = c.recorded_at-checksum in
-    reply_mended b c.args.slots.now c.args.sessions.now c.args.place t o _ _ tell shows check.result check.ensures.sum
-    (is_recorded b (superblock_units b t.shown) c.args.slots.now c.args.sessions.now c.args.place shows.has c.in-Some.session (sym c.get.ensures ∙ c.in-Some.is) check.result check.ensures.sum check.ensures.check
-    (λ zeros. let clash : true ≡ false = sym (c.eq.ensures ∙ (bytes_eq-Decides check.result no_checksum).1 zeros) ∙ c.if-eq.false in cc)
-    (c.has_later.ensures.no (superblock_units b t.shown) shows.has.tells c.if-has_later.false)) c.mend_recorded.result (c.mend_recorded.ensures.mends t o tell)
+    let same = c.fields-fields.ensures.value in
+    let below : c.args.place < 64 = omega (arith, c.requires.place, b.file.layout.clients_within) in
+    let sum = sum_there c.fields-fields.result.now b.content c.args.place _ same below c.fields-fields.ensures.usable in
+    let check = check_there c.fields-fields.result.now b.content c.args.place _ same below c.fields-fields.ensures.usable in
+    let known = is_recorded b (superblock_units b t.shown) c.args.slots.now c.args.sessions.now c.args.place shows.has c.in-Some.session (sym c.get.ensures ∙ c.in-Some.is) _ sum check
+    (λ zeros. let clash : true ≡ false = sym (c.eq.ensures ∙ (bytes_eq-Decides _ no_checksum).1 zeros) ∙ c.if-eq.false in cc)
+    (c.has_later.ensures.no (superblock_units b t.shown) shows.has.tells c.if-has_later.false) in
+    reply_mended b c.args.slots.now c.args.sessions.now c.args.place t o _ _ tell shows _ sum known (Err First) (recorded_unread b c.args.place _ t o _ tell _ c.see.ensures.same)
 
-pub returns-in-None-clause-mends : goal.returns-in-None-clause-mends
-returns-in-None-clause-mends g c = λ t o tell shows. absurd (no_session c.args.sessions.now.sessions c.args.place c.requires.place.0 (sym c.get.ensures ∙ c.in-None.is))
+-- something newer is shown
+
+pub returns-then-fields-header-clause-mends : goal.returns-then-fields-header-clause-mends
+unfolding no_checksum
+returns-then-fields-header-clause-mends g c = λ t o tell shows.
+    let b = c.args.base.now in
+    let same = c.fields-fields.ensures.value in
+    let below : c.args.place < 64 = omega (arith, c.requires.place, b.file.layout.clients_within) in
+    let sum = sum_there c.fields-fields.result.now b.content c.args.place _ same below c.fields-fields.ensures.usable in
+    let check = check_there c.fields-fields.result.now b.content c.args.place _ same below c.fields-fields.ensures.usable in
+    let known = is_recorded b (superblock_units b t.shown) c.args.slots.now c.args.sessions.now c.args.place shows.has c.in-Some.session (sym c.get.ensures ∙ c.in-Some.is) _ sum check
+    (λ zeros. let clash : true ≡ false = sym (c.eq.ensures ∙ (bytes_eq-Decides _ no_checksum).1 zeros) ∙ c.if-eq.false in cc)
+    (c.has_later.ensures.no (superblock_units b t.shown) shows.has.tells c.if-has_later.false) in
+    let seen = subst (λ (l : Layout). IsSeen l b.file.cluster (g.A.Disk.told c.args.first.now) (place_of (ReplyPlace c.args.place)) c.in-Ok.seen) c.requires.layout c.in-Ok.ensures.seen in
+    let newer = subst (IsNewer b) (sym c.in-Ok-seen.is) (c.if-header-fields.true ∙ ap (λ (f : SuperFields). f.boot) same, subst (λ (f : SuperFields). f.replies < c.in-Ok-seen.header.op) same c.if-fields-header.true) in
+    reply_mended b c.args.slots.now c.args.sessions.now c.args.place t o _ _ tell shows _ sum known (Ok 0) (recorded_newer b c.args.place _ t o _ tell _ c.see.ensures.same c.in-Ok.seen seen newer)
+
+-- nothing newer is
+
+pub returns-clause-mends : goal.returns-clause-mends
+unfolding no_checksum
+returns-clause-mends g c = λ t o tell shows.
+    let b = c.args.base.now in
+    let same = c.fields-fields.ensures.value in
+    let below : c.args.place < 64 = omega (arith, c.requires.place, b.file.layout.clients_within) in
+    let sum = sum_there c.fields-fields.result.now b.content c.args.place _ same below c.fields-fields.ensures.usable in
+    let check = check_there c.fields-fields.result.now b.content c.args.place _ same below c.fields-fields.ensures.usable in
+    let known = is_recorded b (superblock_units b t.shown) c.args.slots.now c.args.sessions.now c.args.place shows.has c.in-Some.session (sym c.get.ensures ∙ c.in-Some.is) _ sum check
+    (λ zeros. let clash : true ≡ false = sym (c.eq.ensures ∙ (bytes_eq-Decides _ no_checksum).1 zeros) ∙ c.if-eq.false in cc)
+    (c.has_later.ensures.no (superblock_units b t.shown) shows.has.tells c.if-has_later.false) in
+    let seen = subst (λ (l : Layout). IsSeen l b.file.cluster (g.A.Disk.told c.args.first.now) (place_of (ReplyPlace c.args.place)) c.in-Ok.seen) c.requires.layout c.in-Ok.ensures.seen in
+    let none : IsNewer b c.in-Ok.seen → ⊥ = λ newer. elim c.match-seen.branch [
+      | in-Ok-seen+else-header-fields w ↦
+          let it : IsNewer b (Ok w.in-Ok-seen.header) = subst (IsNewer b) w.in-Ok-seen.is newer in
+          elim w.else-header-fields.branch [
+            | else-header-fields-via-then-header-fields+else-fields-header v ↦ omega (arith, v.if-fields-header.false, it.1, ap (λ (f : SuperFields). f.replies) same)
+            | else-header-fields-via-else-header-fields v ↦ v.if-header-fields.false (it.0 ∙ ap (λ (f : SuperFields). f.boot) (sym same))
+          ]
+      | in_default-seen w ↦ subst (IsNewer b) w.in_default-seen.is newer
+    ] in
+    reply_mended b c.args.slots.now c.args.sessions.now c.args.place t o _ _ tell shows _ sum known c.mend_unit.result
+    (recorded_mended b c.args.place _ t o _ tell _ c.see.ensures.same c.in-Ok.seen seen none c.known-wanted.result c.known-wanted.ensures.known check _ c.mend_unit.new.shelf.held c.mend_unit.result c.mend_unit.ensures.mends c.mend_unit.ensures.shown)

@@ -5,7 +5,7 @@ use Rattle.df_disk.specs.Told.{Told}
 use Rattle.df_format.specs.declared.kind.Kind.TheVariants.{Trailer}
 use Rattle.df_theory.specs.Trailer.{IsCount}
 use Rattle.df_mirror.{specs.{Outside.{around, counts}, Walks.{HasWalkedChain, IsInsideGrid}}, proofs.Turns.{Walked}}
-use Rattle.df_mirror.proofs.chain.mend_chain.Given as goal
+use Rattle.df_mirror.proofs.trailer.mend_chain.Given as goal
 
 abbrev pub invariant-loop-done : goal.invariant-loop-done
 invariant-loop-done g l = record {

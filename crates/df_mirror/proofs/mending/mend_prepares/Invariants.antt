@@ -4,7 +4,7 @@ use Rattle.df_disk.specs.Told.{Told}
 use Rattle.df_format.specs.declared.kind.Kind.TheVariants.{Prepare}
 use Rattle.df_units.specs.Meaning.{number_of}
 use Rattle.df_mirror.{specs.{Outside.{around, counts}, Walks.{NamesPreparesFrom, ShowsGrid, superblock_units}}, proofs.Turns.{Walked}}
-use Rattle.df_mirror.proofs.prepares.mend_prepares.Given as goal
+use Rattle.df_mirror.proofs.mending.mend_prepares.Given as goal
 
 abbrev pub invariant-loop-op : goal.invariant-loop-op
 invariant-loop-op g l = record {
