@@ -15,7 +15,7 @@ returns-in-Ok-write_line-clause-takes g c =
     let found = subst (λ (w : Option Class). HoldsFound kind i w shelf.held) c.in-Ok-None.field-0-is c.in-Ok-None.ensures.holds in
     let read = subst (λ (w : Option Class). IsRead kind i told w shelf.held) c.in-Ok-None.field-0-is c.in-Ok-None.ensures.read in
     takes_all kind i c.args.class _ _ _ c.unit.result.now (Ok tt) c.unit.ensures (taken_held kind i shelf.layout told shelf.held _ c.unit.result.now found read c.blank_rest.ensures.blanked c.unit.ensures)
-    (c.write_unit.ensures.steps, c.write_unit.ensures.brings)
+    (c.in-Ok.ensures.steps, c.in-Ok.ensures.brings)
     (c.in-Ok.ensures.events, subst (λ (l : List ℕ). Appends (g.W.Sink.written c.args.sink.now) (g.W.Sink.written c.write_line.new.sink) l) c.place_line.ensures c.in-Ok-write_line.ensures.prints.whole)
 
 pub returns-in-Err-write_line-clause-takes : goal.returns-in-Err-write_line-clause-takes
@@ -27,7 +27,7 @@ returns-in-Err-write_line-clause-takes g c =
     let found = subst (λ (w : Option Class). HoldsFound kind i w shelf.held) c.in-Ok-None.field-0-is c.in-Ok-None.ensures.holds in
     let read = subst (λ (w : Option Class). IsRead kind i told w shelf.held) c.in-Ok-None.field-0-is c.in-Ok-None.ensures.read in
     takes_all kind i c.args.class _ _ _ c.unit.result.now (Err Sink) c.unit.ensures (taken_held kind i shelf.layout told shelf.held _ c.unit.result.now found read c.blank_rest.ensures.blanked c.unit.ensures)
-    (c.write_unit.ensures.steps, c.write_unit.ensures.brings)
+    (c.in-Ok.ensures.steps, c.in-Ok.ensures.brings)
     (c.in-Ok.ensures.events, subst (λ (l : List ℕ). AppendsPart (g.W.Sink.written c.args.sink.now) (g.W.Sink.written c.write_line.new.sink) l) c.place_line.ensures c.in-Err-write_line.ensures.prints.part)
 
 pub returns-in-Err-write_unit-clause-takes : goal.returns-in-Err-write_unit-clause-takes
@@ -39,4 +39,4 @@ returns-in-Err-write_unit-clause-takes g c =
     let found = subst (λ (w : Option Class). HoldsFound kind i w shelf.held) c.in-Ok-None.field-0-is c.in-Ok-None.ensures.holds in
     let read = subst (λ (w : Option Class). IsRead kind i told w shelf.held) c.in-Ok-None.field-0-is c.in-Ok-None.ensures.read in
     takes_all kind i c.args.class _ _ _ c.unit.result.now (Err First) c.unit.ensures (taken_held kind i shelf.layout told shelf.held _ c.unit.result.now found read c.blank_rest.ensures.blanked c.unit.ensures)
-    (c.write_unit.ensures.steps, c.write_unit.ensures.brings) (c.in-Err-write_unit.ensures.events, refl)
+    (c.in-Err-write_unit.ensures.steps, c.in-Err-write_unit.ensures.brings) (c.in-Err-write_unit.ensures.events, refl)
