@@ -63,46 +63,6 @@ fn tell<W: Sink>(sink: &mut W, mended: Result<u64, Ending>) -> Status
     }
 }
 
-// Syncs the first file, finds its superblock, and mends what it lacks.
-fn mend_first<A: Disk, B: Disk, W: Sink>(
-    alloc: Global,
-    first: &mut A,
-    second: &mut B,
-    sink: &mut W,
-) -> Status
-    ensures runs { RunsMirror (around (A.told first.old) (B.told second.old) (W.written sink.old)) (around (A.told first.new) (B.told second.new) (W.written sink.new)) result }
-    ensures causes { HasCausesOfTwo Status.DiskFault Status.WriteFault (counts (A.faults first.old) (B.faults second.old) (W.faults sink.old))
-        (counts (A.faults first.new) (B.faults second.new) (W.faults sink.new)) result }
-    ensures memory { result ≡ Status.Memory → IsUndone (around (A.told first.old) (B.told second.old) (W.written sink.old)) (around (A.told first.new) (B.told second.new) (W.written sink.new)) }
-    ensures words { result ≡ Status.Words → ⊥ }
-    ensures same { B.told second.new ≡ B.told second.old }
-{
-    let Ok(mut room) = ProbeRoom::reserve(alloc) else {
-        return Status::Memory;
-    };
-    let content = match survey_superblock(first, &mut room, 2) {
-        Ok(found) => found.content,
-        Err(error) => return refuse_file(sink, &error),
-    };
-    let layout = content.layout();
-    let fields = content.fields();
-    // A survey for version 2 finds no other one.
-    if fields.version != VERSION {
-        return Status::Refused;
-    }
-    let file = DataFile {
-        layout,
-        cluster: fields.cluster,
-        version: VERSION,
-    };
-    let base = Superblock { file, content };
-    let Ok(reserved) = reserve(alloc, &layout) else {
-        return Status::Memory;
-    };
-    let mended = mend_all(first, second, sink, &base, reserved);
-    tell(sink, mended)
-}
-
 /// Mends the first file from a second one. The first file's superblock, of version 2, fixes which units are known: the blocks of
 /// its trailer, those that the trailer references, the prepares up to the head that it names, and the replies that it recorded.
 /// Each that the first file doesn't show is taken from the second one's place, where that shows it with the known checksum. The
@@ -133,8 +93,31 @@ pub fn mirror<A: Disk, B: Disk, W: Sink>(
         (counts (A.faults first.new) (B.faults second.new) (W.faults sink.new)) result }
     ensures memory { result ≡ Status.Memory → IsUndone (around (A.told first.old) (B.told second.old) (W.written sink.old)) (around (A.told first.new) (B.told second.new) (W.written sink.new)) }
 {
-    match words {
-        [] => mend_first(alloc, first, second, sink),
-        _ => end_with(sink, USAGE, Status::Words),
+    let [] = words else {
+        return end_with(sink, USAGE, Status::Words);
+    };
+    let Ok(mut room) = ProbeRoom::reserve(alloc) else {
+        return Status::Memory;
+    };
+    let content = match survey_superblock(first, &mut room, 2) {
+        Ok(found) => found.content,
+        Err(error) => return refuse_file(sink, &error),
+    };
+    let layout = content.layout();
+    let fields = content.fields();
+    // A survey for version 2 finds no other one.
+    if fields.version != VERSION {
+        return Status::Refused;
     }
+    let file = DataFile {
+        layout,
+        cluster: fields.cluster,
+        version: VERSION,
+    };
+    let base = Superblock { file, content };
+    let Ok(reserved) = reserve(alloc, &layout) else {
+        return Status::Memory;
+    };
+    let mended = mend_all(first, second, sink, &base, reserved);
+    tell(sink, mended)
 }

@@ -7,7 +7,7 @@ use Rattle.df_damage.specs.Found.{TellsFoundAs}
 use Rattle.df_program.{specs.Two.{HasCausesOfTwo, around, counts}}
 use Rattle.df_mirror.specs.declared.status.Status.TheVariants as ends
 use Rattle.df_mirror.proofs.Ended.{mended_causes, mirrored_so, mirrored_then, second_spare, tells_otherwise}
-use Rattle.df_mirror.proofs.engine.mend_first.Goals as goal
+use Rattle.df_mirror.proofs.engine.mirror.Goals as goal
 
 pub invariant_of-base-clause-second : goal.invariant_of-base-clause-second
 invariant_of-base-clause-second g c = subst (λ (f : SuperFields). f.version ≡ 2) c.fields-fields.ensures.value c.if-fields-ne-VERSION.false
@@ -18,7 +18,7 @@ invariant_of-base-clause-spare g c =
     second_spare c.in-Ok-survey_superblock.found.content c.fields-fields.ensures.usable.rules two
 
 pub returns-clause-runs : goal.returns-clause-runs
-returns-clause-runs g c = λ t o tell.
+returns-clause-runs g c = λ none t o tell.
     let old = around (g.A.Disk.told c.args.first.now) (g.B.Disk.told c.args.second.now) (g.W.Sink.written c.args.sink.now) in
     let mid = around (g.A.Disk.told c.survey_superblock.new.disk) (g.B.Disk.told c.args.second.now) (g.W.Sink.written c.args.sink.now) in
     let done = around (g.A.Disk.told c.mend_all-mended.new.first) (g.B.Disk.told c.mend_all-mended.new.second) (g.W.Sink.written c.mend_all-mended.new.sink) in
