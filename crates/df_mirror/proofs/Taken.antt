@@ -14,30 +14,24 @@ use Rattle.df_mirror.{specs.{declared.ending.Ending.{Ending}, declared.ending.En
 
 -- ---- one
 
--- what the shelf holds is the unit that is wanted, which the second file shows, with zeros after it
-pub record HoldsTaken (kind : Kind) (identity : Identity) (second : Option Told) (held : Holding) : Type 0 where
-  pub found : IsFoundUnit kind identity held.unit
-  pub shown : IsRead kind identity second None (Some held)
-  pub tidy : IsTidy held
-
-pub taken_held : (kind : Kind) (identity : Identity) (layout : Layout) (second : Option Told) (shelf new : Option Holding) (held : Holding) → HoldsFound kind identity None shelf → IsRead kind identity second None shelf → HoldsBlanked layout shelf new → new ≡ Some held → HoldsTaken kind identity second held
-taken_held kind identity layout second shelf new held found read blanks is =
-    let was = found_held kind identity shelf found in
-    let now = blanked_held layout shelf new was.0 was.1 blanks in
-    let blanked : IsBlanked layout was.0 held = subst (λ (h : Holding). IsBlanked layout was.0 h) (same_Some _ _ (sym now.1 ∙ is)) now.2 in
-    record {
-      found = subst (λ (u : Message). IsFoundUnit kind identity u) (sym blanked.unit_is) was.2;
-      shown = shown_still kind identity second was.0 held blanked.unit_is (subst (λ (s : Option Holding). IsRead kind identity second None s) was.1 read);
-      tidy = blanked.tidy;
-    }
-
--- what was written of it
-pub takes_all : (kind : Kind) (identity : Identity) (class : Class) (old new : Outside) (shelf : Option Holding) (held : Holding) (result : Result (Unit {0}) Ending) → shelf ≡ Some held → HoldsTaken kind identity old.second held
-    → PutsUnit identity.layout identity.place held → WritesUnit identity.layout identity.place held old.first new.first old.written new.written result → TakesUnit kind identity class old new shelf result
-takes_all kind identity class old new shelf held result is taken puts writes = by result writes
+-- What was written of the unit that the shelf holds: it was found in the second file, where nothing was wrong, and blanked after it.
+pub takes_all : (kind : Kind) (identity : Identity) (class : Class) (old new : Outside) (layout : Layout) (loaded shelf : Option Holding) (held : Holding) (wrong : Option Class) (result : Result (Unit {0}) Ending) → wrong ≡ None → HoldsFound kind identity wrong loaded → IsRead kind identity old.second wrong loaded
+    → HoldsBlanked layout loaded shelf → shelf ≡ Some held → PutsUnit identity.layout identity.place held → WritesUnit identity.layout identity.place held old.first new.first old.written new.written result → TakesUnit kind identity class old new shelf result
+takes_all kind identity class old new layout loaded shelf held wrong result none found read blanks is puts writes = by result writes
   where
+    was : (h : Holding) × (loaded ≡ Some h) × IsFoundUnit kind identity h.unit
+    was = found_held kind identity loaded (subst (λ (w : Option Class). HoldsFound kind identity w loaded) none found)
+
+    blanked : IsBlanked layout was.0 held
+    blanked = let now = blanked_held layout loaded shelf was.0 was.1 blanks in subst (λ (h : Holding). IsBlanked layout was.0 h) (same_Some _ _ (sym now.1 ∙ is)) now.2
+
+    shown : IsRead kind identity old.second None (Some held)
+    shown =
+        let right = subst (λ (w : Option Class). IsRead kind identity old.second w loaded) none read in
+        shown_still kind identity old.second was.0 held blanked.unit_is (subst (λ (s : Option Holding). IsRead kind identity old.second None s) was.1 right)
+
     takes : (r : Result (Unit {0}) Ending) → WritesUnit identity.layout identity.place held old.first new.first old.written new.written r → TakesHeld kind identity old new shelf r
-    takes r writes = (held, is, record { found = taken.found; shown = taken.shown; puts = puts; tidy = taken.tidy; writes = writes })
+    takes r writes = (held, is, record { found = subst (λ (u : Message). IsFoundUnit kind identity u) (sym blanked.unit_is) was.2; shown = shown; puts = puts; tidy = blanked.tidy; writes = writes })
 
     by : (r : Result (Unit {0}) Ending) → WritesUnit identity.layout identity.place held old.first new.first old.written new.written r → TakesUnit kind identity class old new shelf r
     by (Ok x) writes = takes (Ok tt) writes

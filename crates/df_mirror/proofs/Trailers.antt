@@ -3,9 +3,9 @@ use Rattle.std.{proofs.Common.{◌≡◌, ◌≢◌, inl, inr, ℕ, ◌-◌, ◌
 use Rattle.df_base.{specs.{Fields.{AreBytes}, Image.{Image, IsImage}}, proofs.Laws.{some_number}}
 use Rattle.df_disk.specs.Told.{Told}
 use Rattle.df_layout.specs.{declared.fields.Field.TheVariants.{Pending}, declared.layout.Layout.{Layout}}
-use Rattle.df_format.specs.{declared.kind.Kind.TheVariants.{Trailer}, SuperRules.{IsSuper}}
+use Rattle.df_format.specs.{declared.kind.Kind.TheVariants.{Trailer}, SuperRules.{IsSuper}, declared.superblock.SuperFields.{SuperFields}}
 use Rattle.df_model.{specs.{Blocks.{Blocks, addresses, entries, sum_at}, declared.errors.OpenError.TheVariants.{BadField}}, proofs.Laws.{entry_at, entry_in}}
-use Rattle.df_theory.{specs.{Sessions.{Has}, Trailer.{no_parts, text_of}, Units.{BlockPlace, Parts, Units}}, proofs.Laws.{text_bytes}}
+use Rattle.df_theory.{specs.{Sessions.{Has}, Shape.{Shape}, Trailer.{no_parts, text_of}, Units.{BlockPlace, Parts, Units}}, proofs.Laws.{text_bytes}}
 use Rattle.df_theory.specs.Units as model
 use Rattle.df_units.{specs.Meaning.{layout_of}, proofs.Laws.{of_places}}
 use Rattle.df_sessions.specs.{declared.session.Session.{Session}, Requests.{sessions_of}}
@@ -51,7 +51,7 @@ module _ (b : Superblock) (usable : IsSuper b.content) (t : Told) (whole : IsIma
       by None is (Some c) at = at ∙ sym (entry_in adopted.parts.references (addresses (layout_of b.file.layout)) a c at)
       by None is None at = at ∙ sym is
 
-  pub named_text : HasTrailerText b (superblock_units b t.shown) g parts.sessions.items
+  named_text : HasTrailerText b (superblock_units b t.shown) g parts.sessions.items
   named_text = record {
     says = record { chain = adopted.chain; parts = adopted.parts; trailer = adopted.trailer; shown = adopted.shows };
     inside = inside;
@@ -69,7 +69,7 @@ sessions_read b g reader ss same complete gives =
 -- ---- why it isn't read
 
 -- The chain or its text is refused, and no disk failed. Where each block that is wanted is shown, none is refused as damaged.
-pub chain_refused : (b : Superblock) (image : Image) (g : GridState) (reader : Reader) (fault : TrailerFault) → b.content.trailer_address ≢ 0
+chain_refused : (b : Superblock) (image : Image) (g : GridState) (reader : Reader) (fault : TrailerFault) → b.content.trailer_address ≢ 0
     → AreShown (shape b.file) (superblock_units b image) (content_of_superblock b) Trailer → (fault ≡ trailer.DiskFault → ⊥)
     → ChainAnswer (shape b.file) (shown_of b.file.layout b.file.cluster image) (content_of_superblock b) g reader (Err fault) → ReadsChainText b image (Err (Unopened (error_of fault)))
 chain_refused b image g reader (trailer.Damaged address class) named shown other lacking =
@@ -88,16 +88,36 @@ blames_first (trailer.Damaged address class) = refl
 blames_first (trailer.BadField field value) = refl
 blames_first trailer.DiskFault = refl
 
--- what is answered of a disk that is told
-pub told_answer : (b : Superblock) (h g : GridState) (reader : Reader) (result : Result (Unit {0}) TrailerFault) (told : Option Told) → h ≡ empty_grid b
-    → OfTold h told (λ shown. ChainAnswer (shape b.file) shown (content_of_superblock b) g reader result) → (t : Told) → told ≡ Some t → ChainAnswer (shape b.file) (shown_of b.file.layout b.file.cluster t.shown) (content_of_superblock b) g reader result
-told_answer b h g reader result told same answer t is =
-    subst (λ (x : GridState). ChainAnswer (shape b.file) (shown_of x.layout x.cluster t.shown) (content_of_superblock b) g reader result) same (subst (λ (o : Option Told). OfTold h o (λ shown. ChainAnswer (shape b.file) shown (content_of_superblock b) g reader result)) is answer)
+-- ---- what is answered of a disk that is told
+
+module _ (b : Superblock) (h g : GridState) (reader : Reader) (result : Result (Unit {0}) TrailerFault) (told : Option Told) (same : h ≡ empty_grid b)
+    (answers : (sh : Shape) → sh.layout ≡ layout_of h.layout → sh.parse ≡ parse_of sh.layout → OfTold h told (λ shown. ChainAnswer sh shown (content_of_superblock b) g reader result)) (t : Told) (is : told ≡ Some t) where
+  chain_answer : ChainAnswer (shape b.file) (shown_of b.file.layout b.file.cluster t.shown) (content_of_superblock b) g reader result
+  chain_answer =
+      let layout : (shape b.file).layout ≡ layout_of h.layout = ap (λ (x : GridState). layout_of x.layout) (sym same) in
+      subst (λ (x : GridState). ChainAnswer (shape b.file) (shown_of x.layout x.cluster t.shown) (content_of_superblock b) g reader result) same
+      (subst (λ (o : Option Told). OfTold h o (λ shown. ChainAnswer (shape b.file) shown (content_of_superblock b) g reader result)) is (answers (shape b.file) layout refl))
+
+  module _ (f : SuperFields) (lent : f ≡ b.content) (some : f.trailer_address ≢ 0) where
+    named : b.content.trailer_address ≢ 0
+    named = subst (λ (x : SuperFields). x.trailer_address ≢ 0) lent some
+
+    -- the trailer is read
+    pub text_read_there : result ≡ Ok tt → IsSuper b.content → IsImage t.shown → g.layout ≡ h.layout → (parts : rooms.Parts) → GivesParts reader parts → HasTrailerText b (superblock_units b t.shown) g parts.sessions.items
+    text_read_there ok usable whole layout parts gives =
+        let answer = subst (λ (r : Result (Unit {0}) TrailerFault). ChainAnswer (shape b.file) (shown_of b.file.layout b.file.cluster t.shown) (content_of_superblock b) g reader r) ok chain_answer in
+        named_text b usable t whole g reader parts named answer (layout ∙ ap (λ (x : GridState). x.layout) same) gives
+
+    -- or it is refused
+    pub text_refused_there : (fault : TrailerFault) → result ≡ Err fault → AreShown (shape b.file) (superblock_units b t.shown) (content_of_superblock b) Trailer → (fault ≡ trailer.DiskFault → ⊥) → ReadsChainText b t.shown (Err (Unopened (error_of fault)))
+    text_refused_there fault err shown other =
+        chain_refused b t.shown g reader fault named shown other
+        (subst (λ (r : Result (Unit {0}) TrailerFault). ChainAnswer (shape b.file) (shown_of b.file.layout b.file.cluster t.shown) (content_of_superblock b) g reader r) err chain_answer)
 
 -- ---- the ops that wait
 
-pub text_untracked : (b : Superblock) (image : Image) (g : GridState) (ss : List Session) (n : ℕ) → b.content.trailer_address ≢ 0 → HasTrailerText b (superblock_units b image) g ss → IsPendingReply ss b.content.replies b.content.op (Some n) → RefusesFirstTrailer b.file image (content_of_superblock b) (BadField Pending n)
-text_untracked b image g ss n named text lacking = (
+pub text_untracked : (b : Superblock) (image : Image) (g : GridState) (ss : List Session) (n : ℕ) (f : SuperFields) → f ≡ b.content → f.trailer_address ≢ 0 → HasTrailerText b (superblock_units b image) g ss → IsPendingReply ss b.content.replies b.content.op (Some n) → RefusesFirstTrailer b.file image (content_of_superblock b) (BadField Pending n)
+text_untracked b image g ss n f lent some text lacking = let named = subst (λ (x : SuperFields). x.trailer_address ≢ 0) lent some in (
   some_number b.content.trailer_address named,
   inl (inr (inr (inr (
     refl,

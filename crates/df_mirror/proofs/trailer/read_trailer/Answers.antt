@@ -1,14 +1,12 @@
 -- The trailer is read, or there is none.
-use Rattle.std.{proofs.Common.{◌≡◌, ◌≢◌, ◌∙◌, ◌≤◌, List, Some, None, ap, arith, length, refl, subst, sym}, specs.Prelude.{Ok, Err}}
+use Rattle.std.{proofs.Common.{◌≡◌, ◌∙◌, ◌≤◌, List, Some, None, ap, arith, length, refl, subst, sym}, specs.Prelude.{Ok, Err}}
 use Rattle.df_format.specs.declared.superblock.SuperFields.{SuperFields}
 use Rattle.df_model.specs.declared.errors.OpenError.{OpenError}
 use Rattle.df_grid.specs.Grid.{GridState}
 use Rattle.df_sessions.specs.{Table.{Table}, declared.session.Session.{Session}}
-use Rattle.df_units.specs.Meaning.{layout_of}
-use Rattle.df_opening.specs.Below.{shape}
 use Rattle.df_checkpoint.proofs.Laws.{has_is, pending_of}
 use Rattle.df_mirror.specs.{declared.ending.Ending.TheVariants.{Unopened}, Walks.{HasTrailerText, HasWaiting, ReadsChainText, superblock_units}}
-use Rattle.df_mirror.proofs.Trailers.{chain_refused, empty_grid, grid_is, named_text, no_text, sessions_read, text_untracked, told_answer}
+use Rattle.df_mirror.proofs.Trailers.{empty_grid, grid_is, no_text, sessions_read, text_read_there, text_refused_there, text_untracked}
 use Rattle.df_mirror.proofs.trailer.read_trailer.Goals as goal
 
 -- ---- no trailer is named
@@ -49,18 +47,14 @@ over-requires-clause-apart g c =
 pub returns-in-None-clause-reads : goal.returns-in-None-clause-reads
 returns-in-None-clause-reads g c = λ t told whole shown.
     let b = c.args.base.now in
-    let sessions = c.into_parts-sessions.result.sessions.items in
-    let grid = c.into_grid-grid.result in
-    let empty = grid_is b grid c.args.grid.layout c.into_grid-grid.ensures c.requires.grid in
-    let layout = ap (λ (x : GridState). x.layout) empty in
-    let named : b.content.trailer_address ≢ 0 = subst (λ (x : SuperFields). x.trailer_address ≢ 0) c.fields-fields.ensures.value c.if-fields-eq0.false in
-    let answer = told_answer b grid c.read_chain.new.grid c.read_chain.new.reader (Ok tt) (g.A.Disk.told c.args.first.now) empty
-    (c.in-Ok.ensures.answer (shape b.file) (ap layout_of (sym layout)) refl) t told in
-    let text = named_text b c.fields-fields.ensures.usable.rules t whole c.read_chain.new.grid c.read_chain.new.reader c.into_parts-sessions.result named answer
-    (c.in-Ok.ensures.grid.layout ∙ layout) c.into_parts-sessions.ensures.parts in
-    let pending = pending_of c.deref.result.now sessions c.fields-fields.result.now b.content None c.deref.ensures.0 c.fields-fields.ensures.value c.in-None.ensures in
+    let lent = c.fields-fields.ensures in
+    let parts = c.into_parts-sessions.result in
+    let text = text_read_there b c.into_grid-grid.result c.read_chain.new.grid c.read_chain.new.reader (Ok tt) (g.A.Disk.told c.args.first.now)
+    (grid_is b c.into_grid-grid.result c.args.grid.layout c.into_grid-grid.ensures c.requires.grid) c.in-Ok.ensures.answer t told c.fields-fields.result.now lent.value c.if-fields-eq0.false
+    refl lent.usable.rules whole c.in-Ok.ensures.grid.layout parts c.into_parts-sessions.ensures.parts in
+    let pending = pending_of c.deref.result.now parts.sessions.items c.fields-fields.result.now b.content None c.deref.ensures.0 lent.value c.in-None.ensures in
     subst (λ (x : Table). HasTrailerText b (superblock_units b t.shown) c.read_chain.new.grid x.sessions × HasWaiting b x.sessions) (sym c.over.ensures)
-    (text, λ n above within. has_is n sessions (pending n above within))
+    (text, λ n above within. has_is n parts.sessions.items (pending n above within))
 
 pub returns-in-None-clause-fits : goal.returns-in-None-clause-fits
 returns-in-None-clause-fits g c =
@@ -77,26 +71,19 @@ returns-in-None-clause-fits g c =
 pub returns-in-Some-clause-reads : goal.returns-in-Some-clause-reads
 returns-in-Some-clause-reads g c = λ t told whole shown.
     let b = c.args.base.now in
+    let fields = c.fields-fields.result.now in
+    let same = c.fields-fields.ensures.value in
     let sessions = c.into_parts-sessions.result.sessions.items in
-    let grid = c.into_grid-grid.result in
-    let empty = grid_is b grid c.args.grid.layout c.into_grid-grid.ensures c.requires.grid in
-    let layout = ap (λ (x : GridState). x.layout) empty in
-    let named : b.content.trailer_address ≢ 0 = subst (λ (x : SuperFields). x.trailer_address ≢ 0) c.fields-fields.ensures.value c.if-fields-eq0.false in
-    let answer = told_answer b grid c.read_chain.new.grid c.read_chain.new.reader (Ok tt) (g.A.Disk.told c.args.first.now) empty
-    (c.in-Ok.ensures.answer (shape b.file) (ap layout_of (sym layout)) refl) t told in
-    let text = named_text b c.fields-fields.ensures.usable.rules t whole c.read_chain.new.grid c.read_chain.new.reader c.into_parts-sessions.result named answer
-    (c.in-Ok.ensures.grid.layout ∙ layout) c.into_parts-sessions.ensures.parts in
-    let pending = pending_of c.deref.result.now sessions c.fields-fields.result.now b.content (Some c.in-Some.op) c.deref.ensures.0 c.fields-fields.ensures.value c.in-Some.ensures in
-    rw c.from.ensures (text_untracked b t.shown c.read_chain.new.grid sessions c.in-Some.op named text pending)
+    let empty = grid_is b c.into_grid-grid.result c.args.grid.layout c.into_grid-grid.ensures c.requires.grid in
+    let text = text_read_there b c.into_grid-grid.result c.read_chain.new.grid c.read_chain.new.reader (Ok tt) (g.A.Disk.told c.args.first.now) empty c.in-Ok.ensures.answer t told
+    fields same c.if-fields-eq0.false refl c.fields-fields.ensures.usable.rules whole c.in-Ok.ensures.grid.layout c.into_parts-sessions.result c.into_parts-sessions.ensures.parts in
+    let pending = pending_of c.deref.result.now sessions fields b.content (Some c.in-Some.op) c.deref.ensures.0 same c.in-Some.ensures in
+    rw c.from.ensures (text_untracked b t.shown c.read_chain.new.grid sessions c.in-Some.op fields same c.if-fields-eq0.false text pending)
 
 pub returns-in_default-clause-reads : goal.returns-in_default-clause-reads
 returns-in_default-clause-reads g c = λ t told whole shown.
     let b = c.args.base.now in
-    let grid = c.into_grid-grid.result in
-    let empty = grid_is b grid c.args.grid.layout c.into_grid-grid.ensures c.requires.grid in
-    let layout = ap (λ (x : GridState). x.layout) empty in
-    let named : b.content.trailer_address ≢ 0 = subst (λ (x : SuperFields). x.trailer_address ≢ 0) c.fields-fields.ensures.value c.if-fields-eq0.false in
-    let answer = told_answer b grid c.read_chain.new.grid c.read_chain.new.reader (Err c.in-Err.fault) (g.A.Disk.told c.args.first.now) empty
-    (c.in-Err.ensures.answer (shape b.file) (ap layout_of (sym layout)) refl) t told in
+    let empty = grid_is b c.into_grid-grid.result c.args.grid.layout c.into_grid-grid.ensures c.requires.grid in
     subst (λ (e : OpenError). ReadsChainText b t.shown (Err (Unopened e))) (sym c.refusal.ensures)
-    (chain_refused b t.shown c.read_chain.new.grid c.read_chain.new.reader c.in-Err.fault named shown c.in_default.not-DiskFault answer)
+    (text_refused_there b c.into_grid-grid.result c.read_chain.new.grid c.read_chain.new.reader (Err c.in-Err.fault) (g.A.Disk.told c.args.first.now) empty c.in-Err.ensures.answer t told
+    c.fields-fields.result.now c.fields-fields.ensures.value c.if-fields-eq0.false c.in-Err.fault refl shown c.in_default.not-DiskFault)
