@@ -10,7 +10,7 @@ use Rattle.df_theory.{specs.{Opens.{Arrives, IsLink, ReadsTo}, Trailer.{InChain,
 use Rattle.df_units.specs.{Meaning.{block_of, number_of}, Wanted.{IsOfKind, checksum_of}}
 use Rattle.df_grid.specs.Reads.{at_address, shown_of}
 use Rattle.df_opening.specs.Below.{shape}
-use Rattle.df_mirror.{specs.{declared.trailer.Walk.{Walk}, declared.ending.Ending.{Ending}, declared.superblock.Superblock.{Superblock}, Known.{IsDue}, Mends.{AreOfKind}, Outside.{Outside, Tell}, Refusals.{RefusesFirstTrailer}, Taking.{HoldsShown, MendsUnit, ShowsUnit}, Walks.{HasWalkedChain, Mended, broken_at, content_of_superblock, superblock_units}}, proofs.{Chains.{among, arrives_there, asked_shown, chain_named, chain_spare, not_among, not_wanted, read_shown}, Frames.{other_place}, Joined.{came_with, kind_at, none_came}, Orders.{before_trailer}, Turns.{MendsDue, due_mended, lent_shown, of_one}}}
+use Rattle.df_mirror.{specs.{declared.trailer.Walk.{Walk}, declared.ending.Ending.{Ending}, declared.ending.Ending.TheVariants.{First, Neither, Second, Sink, Unopened}, declared.superblock.Superblock.{Superblock}, Known.{IsDue}, Mends.{AreOfKind, IsRefusal}, Outside.{Outside, Tell}, Refusals.{RefusesFirstTrailer}, Taking.{HoldsShown, MendsUnit, ShowsUnit}, Walks.{HasWalkedChain, IsOfChain, Mended, broken_at, content_of_superblock, superblock_units}}, proofs.{Chains.{among, arrives_there, asked_shown, chain_named, chain_spare, not_among, not_wanted, read_shown}, Frames.{other_place}, Joined.{came_with, kind_at, none_came}, Orders.{before_trailer}, Turns.{MendsDue, due_mended, lent_shown, of_one}}}
 
 -- the references have an address where their addresses do
 among_map : (a : ℕ) (refs : List Link) → is_among a refs ≡ list_any (λ other. other == a) (map (λ r. r.address) refs)
@@ -31,6 +31,14 @@ it_is_there b a check t u is =
       sum = sym (ap checksum_of same) ∙ is.sum_is;
       kind = subst (λ (x : AnyUnit). IsOfKind Trailer x) same is.of_kind;
     }
+
+-- what isn't refused isn't broken
+pub unrefused_chain : (e : Ending) → (IsRefusal (Err e) → ⊥) → IsOfChain e
+unrefused_chain First other = tt
+unrefused_chain Second other = tt
+unrefused_chain Sink other = tt
+unrefused_chain (Neither place class) other = tt
+unrefused_chain (Unopened e) other = absurd (other tt)
 
 -- the block is the link with this index, and the walk goes on to the block that it names
 abbrev pub GoesOn : Superblock → (walk : Walk) → ℕ → Message → (next : Walk) → Type 0

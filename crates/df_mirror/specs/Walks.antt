@@ -57,6 +57,11 @@ pub record HasWalkedChain (b : Superblock) (image : Units) (n : ℕ) (walk : Wal
 abbrev pub broken_at : ℕ → Ending
 broken_at address = Unopened (BadField TrailerChain address)
 
+-- what refuses the trailer is such a block, and nothing else
+abbrev pub IsOfChain : Ending → Type 0
+IsOfChain (Unopened e) = (address : ℕ) × (e ≡ BadField TrailerChain address)
+IsOfChain e = Unit {0}
+
 -- how many were mended, beside the walk
 abbrev pub counted_in : Result (Walk × ℕ) Ending → Result ℕ Ending
 counted_in (Ok done) = Ok done.1

@@ -36,7 +36,7 @@ loop-done-preserved g c =
           (λ x m o on walked. did.mends m o c.block_count-count.result on i.counted (omega (arith, i.size, c.loop-done-test.true)) walked);
       few = i.few;
       size = omega (arith, i.size, did.more.0);
-      inside = λ more. did.inside (omega (arith, more));
+      inside = λ more. did.more.3 (omega (arith, more));
       counted = i.counted;
     }
 

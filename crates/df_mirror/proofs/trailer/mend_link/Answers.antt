@@ -3,7 +3,7 @@ use Rattle.std.proofs.Common.{◌∙◌, ap, refl, subst, sym}
 use Rattle.df_format.specs.declared.{kind.Kind.TheVariants.{Trailer}, superblock.SuperFields.{SuperFields}}
 use Rattle.df_checkpoint.specs.Chain.{IsLinkOf, IsNoLink}
 use Rattle.df_opening.specs.Below.{shape}
-use Rattle.df_mirror.{specs.Walks.{broken_at}, proofs.{Loaded.{held_some}, Linked.{link_again, link_broken, link_failed, link_on}}}
+use Rattle.df_mirror.{specs.Walks.{broken_at}, proofs.{Loaded.{held_some}, Linked.{link_again, link_broken, link_failed, link_on, unrefused_chain}}}
 use Rattle.df_mirror.proofs.trailer.mend_link.Goals as goal
 
 pub returns-then-is_among-clause-mends : goal.returns-then-is_among-clause-mends
@@ -39,3 +39,12 @@ returns-in-Err-clause-mends g c = λ t o n tell counts size walked.
 
 pub unit-requires : goal.unit-requires
 unit-requires g c = held_some Trailer c.known_at-wanted.result c.mend_unit.new.shelf.held c.in-Ok.ensures.unit.1
+
+pub returns-in-Err-clause-broken : goal.returns-in-Err-clause-broken
+returns-in-Err-clause-broken g c = unrefused_chain c.in-Err.ending c.in-Err.ensures.unrefused
+
+pub returns-then-is_among-clause-broken : goal.returns-then-is_among-clause-broken
+returns-then-is_among-clause-broken g c = (_, refl)
+
+pub returns-in-None-clause-broken : goal.returns-in-None-clause-broken
+returns-in-None-clause-broken g c = (_, refl)
