@@ -10,7 +10,7 @@ use Rattle.df_places.specs.Shelves.{HoldsBlanked, HoldsFound, IsBlanked, IsFound
 use Rattle.df_theory.{specs.{Device.{IsPut}, UnitLog.{put_one}, Units.{AnyUnit, BlockPlace, Content, Place, PreparePlace, ReplyPlace, or_else}}, proofs.Laws.{put_one_law}}
 use Rattle.df_units.specs.{Bytes.{first_at}, Format.{format_of}, Meaning.{number_of, place_of}}
 use Rattle.df_opening.specs.Below.{DataFile, shape}
-use Rattle.df_mirror.{specs.{declared.ending.Ending.{Ending}, declared.ending.Ending.TheVariants.{First, Neither, Second, Sink, Unopened}, Known.{IsDue, IsKnownAt, IsShownAs}, Mends.{AnswersMending, AreAt, Came, Failed, IsMend, IsNeither, IsRefusal, Mend, units_shown}, Outside.{Outside}, Taking.{IsFor, PutsUnit, ShowsUnit, TakesHeld, TakesUnit, WritesUnit}, Texts.{mended_text}}, proofs.{Frames.{IsPlaceOf, known_place}, Joined.{none_came, none_failed}, Loaded.{IsUnitOf, blanked_held, class_is, found_held, found_unit, lacks_unit, shown_still, shows_unit}, Spelled.{exact_sectors}}}
+use Rattle.df_mirror.{specs.{declared.ending.Ending.{Ending}, declared.ending.Ending.TheVariants.{First, Neither, Second, Sink, Unopened}, Known.{IsDue, IsKnownAt, IsShownAs}, Mends.{AnswersMending, AreAt, Came, Failed, IsMend, IsNeither, IsRefusal, Mend, WouldBe, units_shown}, Outside.{Outside}, Taking.{IsFor, PutsUnit, ShowsUnit, TakesHeld, TakesUnit, WritesUnit}, Texts.{mended_text}}, proofs.{Frames.{IsPlaceOf, known_place}, Joined.{none_came, none_failed}, Loaded.{IsUnitOf, blanked_held, class_is, found_held, found_unit, lacks_unit, shown_still, shows_unit}, Spelled.{exact_sectors}}}
 
 -- ---- one
 
@@ -161,14 +161,15 @@ module _ (file : DataFile) (c : Content) (kind : Kind) (at : Place) (check : Lis
 
   pub taken : (class : Class) (old : Option (List ℕ)) (new : Outside) (shelf : Option Holding) (result : Result (Unit {0}) Ending) → IsImage o.shown → IsRead kind identity (Some t) (Some class) None → TakesUnit kind identity class (From old) new shelf result
       → AnswersMending file c (AreAt kind at) t o new.first old new.written (one_in result)
+  unfolding neither
   taken class old new shelf (Ok x) whole first takes = let h = takes.0 in let by = takes.2 in one_mended file kind at check identity for h by.found by.puts by.tidy c t o by.shown.judges due lacks new.first old new.written by.writes
   taken class old new shelf (Err First) whole first takes = let h = takes.0 in let by = takes.2 in one_unwritten file kind at check identity for h by.found by.puts by.tidy c t o by.shown.judges due lacks new.first old new.written by.writes
   taken class old new shelf (Err Sink) whole first takes = let h = takes.0 in let by = takes.2 in one_unprinted file kind at check identity for h by.found by.puts by.tidy c t o by.shown.judges due lacks new.first old new.written by.writes
   taken class old new shelf (Err Second) whole first takes = none_failed file c (AreAt kind at) tt t o new.first old new.written Second (takes.0, takes.1)
   taken class old new shelf (Err (Unopened e)) whole first takes = absurd takes
   taken class old new shelf (Err (Neither place other)) whole first takes =
-      none_came file c (AreAt kind at) tt t o new.first old new.written takes.2.0 takes.2.1 (λ ms n. IsNeither file c n.shown o.shown place other)
-      (neither other takes.3.0 place whole takes.0 (subst (λ (k : Class). IsRead kind identity (Some t) (Some k) None) (sym takes.1) first) takes.3.1)
+      none_came file c (AreAt kind at) tt t o new.first old new.written takes.2.0 takes.2.1 (λ ms n. (is : IsNeither file c n.shown o.shown place other) × WouldBe (AreAt kind at) ms is.kind is.at)
+      (neither other takes.3.0 place whole takes.0 (subst (λ (k : Class). IsRead kind identity (Some t) (Some k) None) (sym takes.1) first) takes.3.1, λ m same there. (same, there, tt))
 
 -- it is no refusal of a trailer
 pub no_refusal : (kind : Kind) (identity : Identity) (class : Class) (old new : Outside) (shelf : Option Holding) (result : Result (Unit {0}) Ending) → TakesUnit kind identity class old new shelf result → IsRefusal (one_in result) → ⊥

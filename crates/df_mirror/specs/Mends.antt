@@ -140,10 +140,14 @@ pub record Failed (file : DataFile) (c : Content) (Of : List Mend → Type 0) (t
   pub printed : Appends old said (lines_of mends)
   pub fails : FailsAt file e one (told_after (mirrored_events file mends) t) new said text
 
--- units are mended, of such a kind or in such an order: so many, or up to the first that neither file shows, or to where the trailer fails a test, once blocks of its own alone were mended, or a call failed
+-- a unit of this kind at this place would be one more of them
+abbrev pub WouldBe : (List Mend → Type 0) → List Mend → Kind → Place → Type 0
+WouldBe Of ms kind at = (m : Mend) → m.kind ≡ kind → m.place ≡ at → Of (ms ++ m ∷ [])
+
+-- units are mended, of such a kind or in such an order: so many, or up to the first that neither file shows, which would be one more, or to where the trailer fails a test, once blocks of its own alone were mended, or a call failed
 abbrev pub AnswersMending : DataFile → Content → (List Mend → Type 0) → Told → Told → Option Told → (old text : Option (List ℕ)) → Result ℕ Ending → Type 0
 AnswersMending file c Of t o new old text (Ok count) = Came file c Of t o new old text (λ ms n. count ≡ length ms)
-AnswersMending file c Of t o new old text (Err (Neither place class)) = Came file c Of t o new old text (λ ms n. IsNeither file c n.shown o.shown place class)
+AnswersMending file c Of t o new old text (Err (Neither place class)) = Came file c Of t o new old text (λ ms n. (is : IsNeither file c n.shown o.shown place class) × WouldBe Of ms is.kind is.at)
 AnswersMending file c Of t o new old text (Err (Unopened e)) = Came file c Of t o new old text (λ ms n. AreOfKind Trailer ms × RefusesFirstTrailer file n.shown c e)
 AnswersMending file c Of t o new old text (Err First) = Failed file c Of t o new old text First
 AnswersMending file c Of t o new old text (Err Second) = Failed file c Of t o new old text Second
