@@ -12,12 +12,15 @@ behind old new last text rest one two = two ∙ ap (λ (l : List ℕ). l ++ rest
 pub number_last : (old last : List ℕ) (n m : ℕ) → last ≡ old ++ decimal n → n ≡ m → last ≡ old ++ decimal m
 number_last old last n m one same = one ∙ ap (λ (k : ℕ). old ++ decimal k) same
 
-pub number_behind : (old new space last rest : List ℕ) (n m : ℕ) → new ≡ old ++ decimal n → n ≡ m → space ≡ new ++ codes " " → last ≡ space ++ rest → last ≡ old ++ spaced (decimal m) rest
+pub number_behind : (old new space last rest : List ℕ) (n m : ℕ) → new ≡ old ++ decimal n → n ≡ m → space ≡ new ++ codes " "
+    → last ≡ space ++ rest → last ≡ old ++ spaced (decimal m) rest
 number_behind old new space last rest n m one same two three =
-    behind old new last (decimal m) (codes " " ++ rest) (number_last old new n m one same) (behind new space last (codes " ") rest two three)
+    behind old new last (decimal m) (codes " " ++ rest) (number_last old new n m one same)
+    (behind new space last (codes " ") rest two three)
 
 -- a place after a text
-pub zone_named : (old last : List ℕ) (place : Place) (zone : Zone) (n : ℕ) → place.zone ≡ zone → n ≡ place.index → last ≡ old ++ numbered (zone_name zone) n → last ≡ old ++ place_text place
+pub zone_named : (old last : List ℕ) (place : Place) (zone : Zone) (n : ℕ) → place.zone ≡ zone → n ≡ place.index
+    → last ≡ old ++ numbered (zone_name zone) n → last ≡ old ++ place_text place
 zone_named old last place zone n is same put =
     put ∙ ap (λ (z : Zone). old ++ numbered (zone_name z) n) (sym is) ∙ ap (λ (k : ℕ). old ++ numbered (zone_name place.zone) k) same
 

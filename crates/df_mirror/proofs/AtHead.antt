@@ -207,16 +207,21 @@ module _ (f g : SuperFields) (k : ℕ) (d : List ℕ) (same : f ≡ g) (below : 
   check_there = subst (λ (x : SuperFields). IsCheck (get_or x.reply_checksums k d)) (sym same) (All-get_or IsCheck g.reply_checksums k d within usable.fits.reply_checksums.each)
 
 -- where a checksum is recorded of a session, and no later request of its client is shown, its reply is mended so
-pub reply_recorded : (b : Superblock) (slots : Scan) (table : Table) (k : ℕ) (t o : Told) (old new : Outside) (tell : Tell t o old) (shows : ShowsKnownReplies b (superblock_units b t.shown) slots table k) (s : Session) → slice_get table.sessions k ≡ Some s
-    → (f : SuperFields) → f ≡ b.content → IsUsable b.content → k < b.file.layout.clients → (d : List ℕ) (none : Bool) → none ≡ bytes_eq (get_or f.reply_checksums k d) no_checksum → none ≡ false → (HasLater b (superblock_units b t.shown) s.client → ⊥)
-    → (answer : Result ℕ Ending) → MendsRecorded b k (get_or f.reply_checksums k d) t o old new answer → Mended b (AreOfKind Reply) t o old new answer (λ image. ShowsKnownReplies b image slots table (k + 1))
+pub reply_recorded : (b : Superblock) (slots : Scan) (table : Table) (k : ℕ) (t o : Told) (old new : Outside) (tell : Tell t o old)
+    (shows : ShowsKnownReplies b (superblock_units b t.shown) slots table k) (s : Session) → slice_get table.sessions k ≡ Some s
+    → (f : SuperFields) → f ≡ b.content → IsUsable b.content → k < b.file.layout.clients → (d : List ℕ) (none : Bool)
+    → none ≡ bytes_eq (get_or f.reply_checksums k d) no_checksum → none ≡ false → (HasLater b (superblock_units b t.shown) s.client → ⊥)
+    → (answer : Result ℕ Ending) → MendsRecorded b k (get_or f.reply_checksums k d) t o old new answer
+    → Mended b (AreOfKind Reply) t o old new answer (λ image. ShowsKnownReplies b image slots table (k + 1))
 reply_recorded b slots table k t o old new tell shows s at f same usable below d none test some no_later answer mends =
     let few : k < 64 = omega (arith, below, b.file.layout.clients_within) in
     let check = get_or f.reply_checksums k d in
     let sum = sum_there f b.content k d same few usable in
-    let not_none : check ≡ no_checksum → ⊥ = λ zeros. let clash : true ≡ false = sym (test ∙ (bytes_eq-Decides check no_checksum).1 zeros) ∙ some in cc in
+    let not_none : check ≡ no_checksum → ⊥ = λ zeros. let clash : true ≡ false = sym
+    (test ∙ (bytes_eq-Decides check no_checksum).1 zeros) ∙ some in cc in
     reply_mended b slots table k t o old new tell shows check sum
-    (is_recorded b (superblock_units b t.shown) slots table k shows.has s at check sum (check_there f b.content k d same few usable) not_none no_later) answer mends
+    (is_recorded b (superblock_units b t.shown) slots table k shows.has s at check sum (check_there f b.content k d same few usable)
+    not_none no_later) answer mends
 
 -- there is a session at each place
 pub no_session : (xs : List Session) (k : ℕ) → k < length xs → slice_get xs k ≡ None → ⊥

@@ -144,19 +144,25 @@ has_file b image f super same = record {
 }
 
 -- all that is known was mended, and that is told
-pub mirrored_so : (b : Superblock) (t o : Told) (old mid : Outside) (written : Option (List ℕ)) (result : Result ℕ Ending) (status : Status) → Mended b AreInOrder t o old mid result (ShowsAll b) → TellsEnd result mid.written written status
+pub mirrored_so : (b : Superblock) (t o : Told) (old mid : Outside) (written : Option (List ℕ)) (result : Result ℕ Ending)
+    (status : Status) → Mended b AreInOrder t o old mid result (ShowsAll b) → TellsEnd result mid.written written status
     → Mirrored b t o old (record { first = mid.first; second = mid.second; written = written }) status
 mirrored_so b t o old mid written result status mends tells = record {
   text = mid.written;
   result = result;
   answers = mends.answers;
-  shown = λ count n is same. (subst (λ (r : Result ℕ Ending). OnOk r (ShowsAll b (superblock_units b n.shown))) is (mends.shown n same)).all;
-  trailer = λ count n is same. (subst (λ (r : Result ℕ Ending). OnOk r (ShowsAll b (superblock_units b n.shown))) is (mends.shown n same)).trailer;
+  shown =
+      λ count n is same. (subst (λ (r : Result ℕ Ending). OnOk r (ShowsAll b (superblock_units b n.shown))) is (mends.shown n same)).all;
+  trailer =
+      λ count n is same. (subst (λ (r : Result ℕ Ending). OnOk r (ShowsAll b (superblock_units b n.shown))) is
+      (mends.shown n same)).trailer;
   tells = tells;
 }
 
 -- the mending of it began after the barrier
-pub mirrored_then : (b : Superblock) (t o : Told) (old mid new : Outside) (status : Status) (f : SuperFields) → HasSuperAs 2 t.shown f → b.content ≡ f → mid.first ≡ Some (did Sync t) → mid.written ≡ old.written → (status ≡ ends.Memory → (new.first ≡ mid.first) × (new.written ≡ mid.written))
+pub mirrored_then : (b : Superblock) (t o : Told) (old mid new : Outside) (status : Status) (f : SuperFields) → HasSuperAs 2 t.shown f
+    → b.content ≡ f → mid.first ≡ Some (did Sync t) → mid.written ≡ old.written
+    → (status ≡ ends.Memory → (new.first ≡ mid.first) × (new.written ≡ mid.written))
     → ((status ≡ ends.Memory → ⊥) → Mirrored b (did Sync t) o mid new status) → old.first ≡ Some t → MirroredNothing old new status ⊎ RefusesFirstSuperblock t old new status ⊎ Mirrors t o old new status
 mirrored_then b t o old mid new status f super same barrier silent memory mirrors told = elim (memory_or status) [
   | inl is ↦ inl (record { undone = record { written = (memory is).1 ∙ silent; told = inr ((memory is).0 ∙ barrier ∙ ap (after Sync) (sym told)) }; why = inl is })

@@ -88,7 +88,9 @@ failed_with file c Of Also t o new old text e of failed =
 pub answers_with : (file : DataFile) (c : Content) (Of Also : List Mend → Type 0) (t o : Told) (new : Option Told) (old text : Option (List ℕ)) (result : Result ℕ Ending) → ((ms : List Mend) → Of ms → Also ms) → AnswersMending file c Of t o new old text result
     → AnswersMending file c Also t o new old text result
 answers_with file c Of Also t o new old text (Ok n) of is = came_with file c Of Also t o new old text _ _ of (λ ms n same are last. last) is
-answers_with file c Of Also t o new old text (Err (Neither place class)) of is = came_with file c Of Also t o new old text _ _ of (λ ms n same are last. (last.0, λ m kind at. of (ms ++ m ∷ []) (last.1 m kind at))) is
+answers_with file c Of Also t o new old text (Err (Neither place class)) of is =
+    came_with file c Of Also t o new old text _ _ of (λ ms n same are last. (last.0, λ m kind at. of (ms ++ m ∷ []) (last.1 m kind at)))
+    is
 answers_with file c Of Also t o new old text (Err (Unopened e)) of is = came_with file c Of Also t o new old text _ _ of (λ ms n same are last. last) is
 answers_with file c Of Also t o new old text (Err First) of is = failed_with file c Of Also t o new old text First of is
 answers_with file c Of Also t o new old text (Err Second) of is = failed_with file c Of Also t o new old text Second of is
@@ -133,7 +135,12 @@ module _ (file : DataFile) (c : Content) (Of Then All : List Mend → Type 0) (c
 
   pub joined : (a : ℕ) → a ≡ length ms → (new : Option Told) (later : Option (List ℕ)) (result : Result ℕ Ending) → (IsRefusal result → AreOfKind Trailer ms) → AnswersMending file c Then Mid o new text later result → AnswersMending file c All t o new old later (more a result)
   joined a size new later (Ok b) only is = join new later (λ ls n. b ≡ length ls) (λ ls n. a + b ≡ length ls) (λ ls n count. omega (arith, size, count, length-append ms ls)) is
-  joined a size new later (Err (Neither place class)) only is = join new later _ _ (λ ls n last. (last.0, λ m kind at. subst All (sym (append_assoc ms ls (m ∷ []))) (closed ms (ls ++ m ∷ []) of (last.1 m kind at)))) is
+  joined a size new later (Err (Neither place class)) only is =
+      join new later _ _ (λ ls n last. (
+        last.0,
+        λ m kind at. subst All (sym (append_assoc ms ls (m ∷ [])))
+            (closed ms (ls ++ m ∷ []) of (last.1 m kind at)),
+      )) is
   joined a size new later (Err (Unopened e)) only is = join new later _ _ (λ ls n last. (kinds_append Trailer ms ls (only tt) last.0, last.1)) is
   joined a size new later (Err First) only is = join_failed new later First is
   joined a size new later (Err Second) only is = join_failed new later Second is

@@ -42,7 +42,9 @@ unrefused_chain (Unopened e) other = absurd (other tt)
 
 -- the block is the link with this index, and the walk goes on to the block that it names
 abbrev pub GoesOn : Superblock → (walk : Walk) → ℕ → Message → (next : Walk) → Type 0
-GoesOn b walk index u next = IsLink (shape b.file) (content_of_superblock b) index (block_of u) × (next.at ≡ before_of u) × (next.read.items ≡ walk.read.items ++ walk.at ∷ [])
+GoesOn b walk index u next =
+    IsLink (shape b.file) (content_of_superblock b) index (block_of u) × (next.at ≡ before_of u) ×
+    (next.read.items ≡ walk.read.items ++ walk.at ∷ [])
 
 module _ (b : Superblock) (n index : ℕ) (walk : Walk) (t o : Told) (counts : IsCount (b.file.layout.block_size - 256) b.content.trailer_size n) (size : n ≡ length walk.read.items + (index + 1)) (walked : HasWalkedChain b (superblock_units b t.shown) n walk) where
   pub counted : n ≡ length walked.chain + (index + 1)
@@ -125,7 +127,8 @@ module _ (b : Superblock) (n index : ℕ) (walk : Walk) (t o : Told) (counts : I
           there : IsThere (superblock_units b m.shown) walk.at.address (number_of walk.at.checksum) held.unit
           there = it_is_there b walk.at.address walk.at.checksum m held.unit (lent_shown b.file Trailer (BlockPlace walk.at.address) walk.at.checksum m.shown shelf held lent (it.shows m is))
 
-          walks_on : (next : Walk) → 0 < walk.at.address → GoesOn b walk index held.unit next → HasWalkedChain b (superblock_units b m.shown) n next
+          walks_on : (next : Walk) → 0 < walk.at.address → GoesOn b walk index held.unit next
+              → HasWalkedChain b (superblock_units b m.shown) n next
           walks_on next above goes =
               let d : ℕ × Block = (walk.at.address, block_of held.unit) in
               let on = arrives_more (superblock_units b m.shown) walked.chain d (content_of_superblock b).trailer (content_of_superblock b).trailer_checksum walk.at.address (number_of walk.at.checksum) arrives above refl there.sum there.kind there.shown in
@@ -153,13 +156,16 @@ module _ (b : Superblock) (n index : ℕ) (walk : Walk) (t o : Told) (counts : I
             )),
           )
 
-        pub link_on : (next : Walk) → 0 < walk.at.address → GoesOn b walk index held.unit next → Mended b (AreOfKind Trailer) t o old new (Ok more) (λ image. HasWalkedChain b image n next)
+        pub link_on : (next : Walk) → 0 < walk.at.address → GoesOn b walk index held.unit next
+            → Mended b (AreOfKind Trailer) t o old new (Ok more) (λ image. HasWalkedChain b image n next)
         link_on next above goes = of_one b Trailer (BlockPlace walk.at.address) t o old new (Ok more) (λ image. HasWalkedChain b image n next) it.answers (λ m is. walks_on m is next above goes)
 
-        pub link_broken : (e : Ending) (Shows : Units → Type 0) → 0 < walk.at.address → e ≡ broken_at walk.at.address → (IsLink (shape b.file) (content_of_superblock b) index (block_of held.unit) → ⊥)
+        pub link_broken : (e : Ending) (Shows : Units → Type 0) → 0 < walk.at.address → e ≡ broken_at walk.at.address
+            → (IsLink (shape b.file) (content_of_superblock b) index (block_of held.unit) → ⊥)
             → Mended b (AreOfKind Trailer) t o old new (Err e) Shows
-        link_broken e Shows above is broken = subst (λ (x : Ending). Mended b (AreOfKind Trailer) t o old new (Err x) Shows) (sym is) (record {
-          answers = came_with b.file (content_of_superblock b) _ (AreOfKind Trailer) t o new.first old.written new.written _ (λ ms m. AreOfKind Trailer ms × RefusesFirstTrailer b.file m.shown (content_of_superblock b) (BadField TrailerChain walk.at.address)) (kind_at Trailer (BlockPlace walk.at.address))
-              (λ ms m at of last. (kind_at Trailer (BlockPlace walk.at.address) ms of, breaks m at above broken)) it.answers;
-          shown = λ m at. tt;
-        })
+        link_broken e Shows above is broken =
+            subst (λ (x : Ending). Mended b (AreOfKind Trailer) t o old new (Err x) Shows) (sym is) (record {
+              answers = came_with b.file (content_of_superblock b) _ (AreOfKind Trailer) t o new.first old.written new.written _ (λ ms m. AreOfKind Trailer ms × RefusesFirstTrailer b.file m.shown (content_of_superblock b) (BadField TrailerChain walk.at.address)) (kind_at Trailer (BlockPlace walk.at.address))
+                  (λ ms m at of last. (kind_at Trailer (BlockPlace walk.at.address) ms of, breaks m at above broken)) it.answers;
+              shown = λ m at. tt;
+            })

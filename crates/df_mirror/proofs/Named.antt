@@ -80,7 +80,8 @@ module _ (b : Superblock) where
   -- the slot of an op, and the checksum of its prepare
   pub prepare_for : (op slot : ℕ) (check : List ℕ) (identity : Identity) → slot ≡ op % b.file.layout.slots
       → identity ≡ record { layout = b.file.layout; cluster = b.file.cluster; place = place_of (PreparePlace slot); wanted = Checksum check } → IsCheck check → IsFor b.file Prepare (PreparePlace (op % b.file.layout.slots)) check identity
-  prepare_for op slot check identity at is fits = subst (λ (n : ℕ). IsFor b.file Prepare (PreparePlace n) check identity) at (record { is = is; stands = tt; fits = fits })
+  prepare_for op slot check identity at is fits =
+      subst (λ (n : ℕ). IsFor b.file Prepare (PreparePlace n) check identity) at (record { is = is; stands = tt; fits = fits })
 
   -- the prepare that is named is mended, and names the one before it
   module _ (usable : IsUsable b.content) (op : ℕ) (check : List ℕ) (above : b.content.op < op) (identity : Identity) (for : IsFor b.file Prepare (PreparePlace (op % b.file.layout.slots)) check identity) (t o : Told) (old new : Outside) (tell : Tell t o old)

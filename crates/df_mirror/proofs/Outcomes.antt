@@ -165,7 +165,9 @@ module _ (b : Superblock) (t o : Told) (old new : Outside) (status : Status) (te
       let is = came.after_is ∙ ap (λ (n : Told). Some n) came.does.told in
       let n : Told = told_after (mirrored_events b.file came.mends) t in
       inl (reached (Ok count) _ came came.last (all count n refl is, passes count n refl is) tells)
-  reaches (Err (Neither place class)) came all passes tells = inl (reached (Err (Neither place class)) _ came tt (subst (λ (n : Told). IsNeither b.file c n.shown o.shown place class) came.does.told came.last.0) tells)
+  reaches (Err (Neither place class)) came all passes tells =
+      inl (reached (Err (Neither place class)) _ came tt
+      (subst (λ (n : Told). IsNeither b.file c n.shown o.shown place class) came.does.told came.last.0) tells)
   reaches (Err (Unopened e)) came all passes tells =
       inl (reached (Err (Unopened e)) _ came tt (subst (λ (n : Told). RefusesFirstTrailer b.file n.shown c e) came.does.told came.last.1) (tells.other (its_error b.file came.after.shown c e came.last.1)))
   reaches (Err First) failed all passes tells = inr (record { ending = First; text = text; failed = failed; tells = tells })

@@ -20,12 +20,21 @@ IsNewer b (Err class) = ⊥
 
 -- the slot shows such a reply
 abbrev pub HasNewer : Superblock → Units → ℕ → Type 0
-HasNewer b image k = (r : Message) × (image (ReplyPlace k) ≡ Some (ReplyUnit r)) × (r.header.boot ≡ (content_of_superblock b).boot) × ((content_of_superblock b).replies < r.header.op)
+HasNewer b image k =
+    (r : Message) × (image (ReplyPlace k) ≡ Some (ReplyUnit r)) × (r.header.boot ≡ (content_of_superblock b).boot) ×
+    ((content_of_superblock b).replies < r.header.op)
 
 -- the reply with this checksum is mended, where it is known if its slot shows nothing newer, all that come before it are shown, and the trailer isn't refused: it is shown then, or something newer is
-pub record MendsRecorded (b : Superblock) (k : ℕ) (check : List ℕ) (t o : Told) (old new : Outside) (answer : Result ℕ Ending) : Type 0 where
-  pub answers : ((HasNewer b (superblock_units b t.shown) k → ⊥) → IsRecordedReply (shape b.file) (superblock_units b t.shown) (content_of_superblock b) k (number_of check)) → AreShownBefore (shape b.file) (superblock_units b t.shown) (content_of_superblock b) Reply (ReplyPlace k) → PassesTrailer (shape b.file) (superblock_units b t.shown) (content_of_superblock b) → AnswersMending b.file (content_of_superblock b) (AreAt Reply (ReplyPlace k)) t o new.first old.written new.written answer
-  pub shown : (u : Told) → new.first ≡ Some u → OnOk answer (HasNewer b (superblock_units b u.shown) k ⊎ IsShownAs (superblock_units b u.shown) Reply (ReplyPlace k) (number_of check))
+pub record MendsRecorded (b : Superblock) (k : ℕ) (check : List ℕ) (t o : Told) (old new : Outside)
+    (answer : Result ℕ Ending) : Type 0 where
+  pub answers : ((HasNewer b (superblock_units b t.shown) k → ⊥)
+      → IsRecordedReply (shape b.file) (superblock_units b t.shown) (content_of_superblock b) k (number_of check))
+      → AreShownBefore (shape b.file) (superblock_units b t.shown) (content_of_superblock b) Reply (ReplyPlace k)
+      → PassesTrailer (shape b.file) (superblock_units b t.shown) (content_of_superblock b)
+      → AnswersMending b.file (content_of_superblock b) (AreAt Reply (ReplyPlace k)) t o new.first old.written new.written answer
+  pub shown : (u : Told) → new.first ≡ Some u
+      → OnOk answer
+      (HasNewer b (superblock_units b u.shown) k ⊎ IsShownAs (superblock_units b u.shown) Reply (ReplyPlace k) (number_of check))
 
 newer_in : (b : Superblock) (k : ℕ) (o : Option format.Message) (class : Class) → IsNewer b (header_or_class o class) → (r : Message) × (message_unit (ReplyPlace k) o ≡ Some (ReplyUnit r)) × (r.header.boot ≡ (content_of_superblock b).boot) × ((content_of_superblock b).replies < r.header.op)
 newer_in b k None class newer = absurd newer
@@ -90,7 +99,8 @@ module _ (b : Superblock) (k : ℕ) (check : List ℕ) (t o : Told) (old : Outsi
       shown = λ u there. inl (subst (λ (x : Told). HasNewer b (superblock_units b x.shown) k) (same_Some _ _ (sym (same ∙ tell.first) ∙ there)) (newer_shown b t k seen seen_is newer));
     }
 
-    module _ (none : IsNewer b seen → ⊥) (identity : Identity) (is : identity ≡ record { layout = b.file.layout; cluster = b.file.cluster; place = place_of (ReplyPlace k); wanted = Checksum check }) (fits : IsCheck check) (new : Outside) where
+    module _ (none : IsNewer b seen → ⊥) (identity : Identity)
+        (is : identity ≡ record { layout = b.file.layout; cluster = b.file.cluster; place = place_of (ReplyPlace k); wanted = Checksum check }) (fits : IsCheck check) (new : Outside) where
       on : Tell t o mid
       on = record { first = same ∙ tell.first; second = tell.second; whole = tell.whole; other = tell.other }
 

@@ -16,7 +16,8 @@ pub shown_there : (image other : Units) (kind : Kind) (place : Place) (sum : ℕ
 shown_there image other kind place sum same is = record { unit = is.unit; shown = same ∙ is.shown; of_kind = is.of_kind; sum_is = is.sum_is }
 
 -- nothing is referenced at the next address
-pub block_none : (b : Superblock) (grid : GridState) (ss : List Session) (before : ℕ) (image : Units) → ShowsBlocks b image grid ss before → sum_at (before + 1) grid.blocks.live ≡ None → ShowsBlocks b image grid ss (before + 1)
+pub block_none : (b : Superblock) (grid : GridState) (ss : List Session) (before : ℕ) (image : Units)
+    → ShowsBlocks b image grid ss before → sum_at (before + 1) grid.blocks.live ≡ None → ShowsBlocks b image grid ss (before + 1)
 block_none b grid ss before image shows none = record {
   has = shows.has;
   waiting = shows.waiting;
@@ -26,7 +27,8 @@ block_none b grid ss before image shows none = record {
   ];
 }
 
-module _ (b : Superblock) (grid : GridState) (ss : List Session) (before : ℕ) (t o : Told) (shows : ShowsBlocks b (superblock_units b t.shown) grid ss before) where
+module _ (b : Superblock) (grid : GridState) (ss : List Session) (before : ℕ) (t o : Told)
+    (shows : ShowsBlocks b (superblock_units b t.shown) grid ss before) where
   module _ (check : List ℕ) (live : sum_at (before + 1) grid.blocks.live ≡ Some (number_of check)) where
     referenced : shows.has.says.parts.references (before + 1) ≡ Some (number_of check)
     referenced = sym (shows.has.live (before + 1)) ∙ live

@@ -15,25 +15,44 @@ use Rattle.df_mirror.{specs.{declared.ending.Ending.{Ending}, declared.ending.En
 -- ---- one
 
 -- What was written of the unit that the shelf holds: it was found in the second file, where nothing was wrong, and blanked after it.
-pub takes_all : (kind : Kind) (identity : Identity) (class : Class) (old new : Outside) (layout : Layout) (loaded shelf : Option Holding) (held : Holding) (wrong : Option Class) (result : Result (Unit {0}) Ending) → wrong ≡ None → HoldsFound kind identity wrong loaded → IsRead kind identity old.second wrong loaded
-    → HoldsBlanked layout loaded shelf → shelf ≡ Some held → PutsUnit identity.layout identity.place held → WritesUnit identity.layout identity.place held old.first new.first old.written new.written result → TakesUnit kind identity class old new shelf result
+pub takes_all : (kind : Kind) (identity : Identity) (class : Class) (old new : Outside) (layout : Layout) (loaded shelf : Option Holding)
+    (held : Holding) (wrong : Option Class)
+    (result : Result (Unit {0}) Ending) → wrong ≡ None → HoldsFound kind identity wrong loaded → IsRead kind identity old.second wrong loaded
+    → HoldsBlanked layout loaded shelf → shelf ≡ Some held → PutsUnit identity.layout identity.place held
+    → WritesUnit identity.layout identity.place held old.first new.first old.written new.written result
+    → TakesUnit kind identity class old new shelf result
 takes_all kind identity class old new layout loaded shelf held wrong result none found read blanks is puts writes = by result writes
   where
     was : (h : Holding) × (loaded ≡ Some h) × IsFoundUnit kind identity h.unit
     was = found_held kind identity loaded (subst (λ (w : Option Class). HoldsFound kind identity w loaded) none found)
 
     blanked : IsBlanked layout was.0 held
-    blanked = let now = blanked_held layout loaded shelf was.0 was.1 blanks in subst (λ (h : Holding). IsBlanked layout was.0 h) (same_Some _ _ (sym now.1 ∙ is)) now.2
+    blanked =
+        let now = blanked_held layout loaded shelf was.0 was.1 blanks in subst (λ (h : Holding). IsBlanked layout was.0 h)
+        (same_Some _ _ (sym now.1 ∙ is)) now.2
 
     shown : IsRead kind identity old.second None (Some held)
     shown =
         let right = subst (λ (w : Option Class). IsRead kind identity old.second w loaded) none read in
-        shown_still kind identity old.second was.0 held blanked.unit_is (subst (λ (s : Option Holding). IsRead kind identity old.second None s) was.1 right)
+        shown_still kind identity old.second was.0 held blanked.unit_is
+        (subst (λ (s : Option Holding). IsRead kind identity old.second None s) was.1 right)
 
-    takes : (r : Result (Unit {0}) Ending) → WritesUnit identity.layout identity.place held old.first new.first old.written new.written r → TakesHeld kind identity old new shelf r
-    takes r writes = (held, is, record { found = subst (λ (u : Message). IsFoundUnit kind identity u) (sym blanked.unit_is) was.2; shown = shown; puts = puts; tidy = blanked.tidy; writes = writes })
+    takes : (r : Result (Unit {0}) Ending) → WritesUnit identity.layout identity.place held old.first new.first old.written new.written r
+        → TakesHeld kind identity old new shelf r
+    takes r writes = (
+      held,
+      is,
+      record {
+        found = subst (λ (u : Message). IsFoundUnit kind identity u) (sym blanked.unit_is) was.2;
+        shown = shown;
+        puts = puts;
+        tidy = blanked.tidy;
+        writes = writes;
+      },
+    )
 
-    by : (r : Result (Unit {0}) Ending) → WritesUnit identity.layout identity.place held old.first new.first old.written new.written r → TakesUnit kind identity class old new shelf r
+    by : (r : Result (Unit {0}) Ending) → WritesUnit identity.layout identity.place held old.first new.first old.written new.written r
+        → TakesUnit kind identity class old new shelf r
     by (Ok x) writes = takes (Ok tt) writes
     by (Err First) writes = takes (Err First) writes
     by (Err Sink) writes = takes (Err Sink) writes
@@ -168,8 +187,13 @@ module _ (file : DataFile) (c : Content) (kind : Kind) (at : Place) (check : Lis
   taken class old new shelf (Err Second) whole first takes = none_failed file c (AreAt kind at) tt t o new.first old new.written Second (takes.0, takes.1)
   taken class old new shelf (Err (Unopened e)) whole first takes = absurd takes
   taken class old new shelf (Err (Neither place other)) whole first takes =
-      none_came file c (AreAt kind at) tt t o new.first old new.written takes.2.0 takes.2.1 (λ ms n. (is : IsNeither file c n.shown o.shown place other) × WouldBe (AreAt kind at) ms is.kind is.at)
-      (neither other takes.3.0 place whole takes.0 (subst (λ (k : Class). IsRead kind identity (Some t) (Some k) None) (sym takes.1) first) takes.3.1, λ m same there. (same, there, tt))
+      none_came file c (AreAt kind at) tt t o new.first old new.written takes.2.0 takes.2.1
+      (λ ms n. (is : IsNeither file c n.shown o.shown place other) × WouldBe (AreAt kind at) ms is.kind is.at) (
+        neither other takes.3.0 place whole takes.0
+            (subst (λ (k : Class). IsRead kind identity (Some t) (Some k) None) (sym takes.1) first) takes.3.1,
+        λ m same there.
+            (same, there, tt),
+      )
 
 -- it is no refusal of a trailer
 pub no_refusal : (kind : Kind) (identity : Identity) (class : Class) (old new : Outside) (shelf : Option Holding) (result : Result (Unit {0}) Ending) → TakesUnit kind identity class old new shelf result → IsRefusal (one_in result) → ⊥

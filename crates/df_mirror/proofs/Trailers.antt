@@ -61,25 +61,32 @@ module _ (b : Superblock) (usable : IsSuper b.content) (t : Told) (whole : IsIma
 
 -- ---- the sessions
 
-pub sessions_read : (b : Superblock) (g : GridState) (reader : Reader) (ss : List Session) → g ≡ empty_grid b → IsCompleteReader g b.content.op reader
-    → ((l : Layout) (op : ℕ) (text : List ℕ) → HasRead l op reader text → AreReadSessions l.clients op ss) → AreReadSessions b.file.layout.clients b.content.op ss
+pub sessions_read : (b : Superblock) (g : GridState) (reader : Reader) (ss : List Session) → g ≡ empty_grid b
+    → IsCompleteReader g b.content.op reader
+    → ((l : Layout) (op : ℕ) (text : List ℕ) → HasRead l op reader text → AreReadSessions l.clients op ss)
+    → AreReadSessions b.file.layout.clients b.content.op ss
 sessions_read b g reader ss same complete gives =
-    complete_gives (λ (l : Layout) (op : ℕ). AreReadSessions l.clients op ss) g b.content.op reader b.file.layout complete (ap (λ (x : GridState). x.layout) same) gives
+    complete_gives (λ (l : Layout) (op : ℕ). AreReadSessions l.clients op ss) g b.content.op reader b.file.layout complete
+    (ap (λ (x : GridState). x.layout) same) gives
 
 -- ---- why it isn't read
 
 -- The chain or its text is refused, and no disk failed. Where each block that is wanted is shown, none is refused as damaged.
 chain_refused : (b : Superblock) (image : Image) (g : GridState) (reader : Reader) (fault : TrailerFault) → b.content.trailer_address ≢ 0
     → AreShown (shape b.file) (superblock_units b image) (content_of_superblock b) Trailer → (fault ≡ trailer.DiskFault → ⊥)
-    → ChainAnswer (shape b.file) (shown_of b.file.layout b.file.cluster image) (content_of_superblock b) g reader (Err fault) → ReadsChainText b image (Err (Unopened (error_of fault)))
+    → ChainAnswer (shape b.file) (shown_of b.file.layout b.file.cluster image) (content_of_superblock b) g reader (Err fault)
+    → ReadsChainText b image (Err (Unopened (error_of fault)))
 chain_refused b image g reader (trailer.Damaged address class) named shown other lacking =
     let there = block_shown (superblock_units b image) address lacking.sum (shown (BlockPlace address) lacking.sum lacking.reads) in
     let ok = asked_shown (shown_of b.file.layout b.file.cluster image) address lacking.sum there.0 there.1 there.2 there.3 in
     let both : Ok there.0 ≡ Err class = sym ok ∙ lacking.is in
     absurd (cc)
-chain_refused b image g reader (trailer.BadField field value) named shown other (inl broken) = (some_number b.content.trailer_address named, inl (inl broken))
-chain_refused b image g reader (trailer.BadField field value) named shown other (inr (inl text)) = (some_number b.content.trailer_address named, inl (inr (inl text)))
-chain_refused b image g reader (trailer.BadField field value) named shown other (inr (inr referenced)) = (some_number b.content.trailer_address named, inl (inr (inr (inl referenced))))
+chain_refused b image g reader (trailer.BadField field value) named shown other (inl broken) =
+    (some_number b.content.trailer_address named, inl (inl broken))
+chain_refused b image g reader (trailer.BadField field value) named shown other (inr (inl text)) =
+    (some_number b.content.trailer_address named, inl (inr (inl text)))
+chain_refused b image g reader (trailer.BadField field value) named shown other (inr (inr referenced)) =
+    (some_number b.content.trailer_address named, inl (inr (inr (inl referenced))))
 chain_refused b image g reader trailer.DiskFault named shown other answer = absurd (other refl)
 
 -- whom it blames
@@ -90,33 +97,45 @@ blames_first trailer.DiskFault = refl
 
 -- ---- what is answered of a disk that is told
 
-module _ (b : Superblock) (h g : GridState) (reader : Reader) (result : Result (Unit {0}) TrailerFault) (told : Option Told) (same : h ≡ empty_grid b)
-    (answers : (sh : Shape) → sh.layout ≡ layout_of h.layout → sh.parse ≡ parse_of sh.layout → OfTold h told (λ shown. ChainAnswer sh shown (content_of_superblock b) g reader result)) (t : Told) (is : told ≡ Some t) where
+module _ (b : Superblock) (h g : GridState) (reader : Reader) (result : Result (Unit {0}) TrailerFault) (told : Option Told)
+    (same : h ≡ empty_grid b)
+    (answers : (sh : Shape) → sh.layout ≡ layout_of h.layout → sh.parse ≡ parse_of sh.layout
+    → OfTold h told (λ shown. ChainAnswer sh shown (content_of_superblock b) g reader result)) (t : Told) (is : told ≡ Some t) where
   chain_answer : ChainAnswer (shape b.file) (shown_of b.file.layout b.file.cluster t.shown) (content_of_superblock b) g reader result
   chain_answer =
       let layout : (shape b.file).layout ≡ layout_of h.layout = ap (λ (x : GridState). layout_of x.layout) (sym same) in
-      subst (λ (x : GridState). ChainAnswer (shape b.file) (shown_of x.layout x.cluster t.shown) (content_of_superblock b) g reader result) same
-      (subst (λ (o : Option Told). OfTold h o (λ shown. ChainAnswer (shape b.file) shown (content_of_superblock b) g reader result)) is (answers (shape b.file) layout refl))
+      subst (λ (x : GridState). ChainAnswer (shape b.file) (shown_of x.layout x.cluster t.shown) (content_of_superblock b) g reader
+      result) same
+      (subst (λ (o : Option Told). OfTold h o (λ shown. ChainAnswer (shape b.file) shown (content_of_superblock b) g reader result)) is
+      (answers (shape b.file) layout refl))
 
   module _ (f : SuperFields) (lent : f ≡ b.content) (some : f.trailer_address ≢ 0) where
     named : b.content.trailer_address ≢ 0
     named = subst (λ (x : SuperFields). x.trailer_address ≢ 0) lent some
 
     -- the trailer is read
-    pub text_read_there : result ≡ Ok tt → IsSuper b.content → IsImage t.shown → g.layout ≡ h.layout → (parts : rooms.Parts) → GivesParts reader parts → HasTrailerText b (superblock_units b t.shown) g parts.sessions.items
+    pub text_read_there : result ≡ Ok tt → IsSuper b.content → IsImage t.shown → g.layout ≡ h.layout → (parts : rooms.Parts)
+        → GivesParts reader parts → HasTrailerText b (superblock_units b t.shown) g parts.sessions.items
     text_read_there ok usable whole layout parts gives =
-        let answer = subst (λ (r : Result (Unit {0}) TrailerFault). ChainAnswer (shape b.file) (shown_of b.file.layout b.file.cluster t.shown) (content_of_superblock b) g reader r) ok chain_answer in
+        let answer = subst (λ (r : Result (Unit {0}) TrailerFault). ChainAnswer (shape b.file)
+        (shown_of b.file.layout b.file.cluster t.shown) (content_of_superblock b) g reader r) ok chain_answer in
         named_text b usable t whole g reader parts named answer (layout ∙ ap (λ (x : GridState). x.layout) same) gives
 
     -- or it is refused
-    pub text_refused_there : (fault : TrailerFault) → result ≡ Err fault → AreShown (shape b.file) (superblock_units b t.shown) (content_of_superblock b) Trailer → (fault ≡ trailer.DiskFault → ⊥) → ReadsChainText b t.shown (Err (Unopened (error_of fault)))
+    pub text_refused_there : (fault : TrailerFault) → result ≡ Err fault
+        → AreShown (shape b.file) (superblock_units b t.shown) (content_of_superblock b) Trailer → (fault ≡ trailer.DiskFault → ⊥)
+        → ReadsChainText b t.shown (Err (Unopened (error_of fault)))
     text_refused_there fault err shown other =
         chain_refused b t.shown g reader fault named shown other
-        (subst (λ (r : Result (Unit {0}) TrailerFault). ChainAnswer (shape b.file) (shown_of b.file.layout b.file.cluster t.shown) (content_of_superblock b) g reader r) err chain_answer)
+        (subst (λ (r : Result (Unit {0}) TrailerFault). ChainAnswer (shape b.file) (shown_of b.file.layout b.file.cluster t.shown)
+        (content_of_superblock b) g reader r) err chain_answer)
 
 -- ---- the ops that wait
 
-pub text_untracked : (b : Superblock) (image : Image) (g : GridState) (ss : List Session) (n : ℕ) (f : SuperFields) → f ≡ b.content → f.trailer_address ≢ 0 → HasTrailerText b (superblock_units b image) g ss → IsPendingReply ss b.content.replies b.content.op (Some n) → RefusesFirstTrailer b.file image (content_of_superblock b) (BadField Pending n)
+pub text_untracked : (b : Superblock) (image : Image) (g : GridState) (ss : List Session) (n : ℕ) (f : SuperFields) → f ≡ b.content
+    → f.trailer_address ≢ 0 → HasTrailerText b (superblock_units b image) g ss
+    → IsPendingReply ss b.content.replies b.content.op (Some n)
+    → RefusesFirstTrailer b.file image (content_of_superblock b) (BadField Pending n)
 text_untracked b image g ss n f lent some text lacking = let named = subst (λ (x : SuperFields). x.trailer_address ≢ 0) lent some in (
   some_number b.content.trailer_address named,
   inl (inr (inr (inr (

@@ -144,5 +144,6 @@ module _ {b : Superblock} {kind : Kind} {old : Outside} {before : Faults} {X : T
     comes_to says x t o tell is = shows_more (says x) (walked.mends x t o tell is)
 
     -- or nothing is mended in this turn, since what is shown says it already
-    pub passes : {later : ℕ} {Says : X → Units → Type 0} → a ≤ later → ((x : X) (image : Units) → Shows x image → Says x image) → Walked b kind old mid before between room a later Begins Says
+    pub passes : {later : ℕ} {Says : X → Units → Type 0} → a ≤ later → ((x : X) (image : Units) → Shows x image → Says x image)
+        → Walked b kind old mid before between room a later Begins Says
     passes few says = record { calm = walked.calm; room_is = walked.room_is; few = few; mends = comes_to says }

@@ -56,7 +56,8 @@ fn mend_link<A: Disk, B: Disk, W: Sink>(
         → n ≡ length walk.read.items + (index + 1) → HasWalkedChain base.now (superblock_units base.now t.shown) n walk
         → Mended base.now (AreOfKind AsTrailer) t o (around (A.told first.old) (B.told second.old) (W.written sink.old))
         (around (A.told first.new) (B.told second.new) (W.written sink.new)) (counted_in result) (WalksTo base.now n result) }
-    ensures more { IfOk result (λ done. (array_vec_len done.0.read ≡ array_vec_len walk.read + 1) × (shelf.new.layout ≡ base.now.file.layout) × (done.1 ≤ 1) × (0 < index → IsInsideGrid base.now done.0.at.address)) }
+    ensures more { IfOk result (λ done. (array_vec_len done.0.read ≡ array_vec_len walk.read + 1) × (shelf.new.layout ≡ base.now.file.layout) × (done.1 ≤ 1)
+        × (0 < index → IsInsideGrid base.now done.0.at.address)) }
     ensures broken { IfErr result IsOfChain }
     ensures same { B.told second.new ≡ B.told second.old }
     ensures blamed { AreBlamed (counts (A.faults first.old) (B.faults second.old) (W.faults sink.old)) (counts (A.faults first.new) (B.faults second.new) (W.faults sink.new)) result }

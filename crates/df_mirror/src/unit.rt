@@ -15,7 +15,8 @@ use df_inspect::{place_line, write_line};
 use df_layout::Class;
 use df_places::{Shelf, write_unit};
 
-// Takes a unit that the first file doesn't show from the second one, where that shows it: writes it into its place, makes it durable, and says so. The shelf holds it then, with zeros after it: no checksum covers what the second file shows there.
+// Takes a unit that the first file doesn't show from the second one, where that shows it: writes it into its place, makes it durable, and says so. The shelf holds
+// it then, with zeros after it: no checksum covers what the second file shows there.
 fn take_unit<A: Disk, B: Disk, W: Sink, K: UnitKind>(
     first: &mut A,
     second: &mut B,

@@ -4,4 +4,5 @@ use Rattle.df_inspect.proofs.Rows.{zone_named}
 use Rattle.df_inspect.proofs.line.put_place.Goals as goal
 
 pub returns-in-WalPrepares-clause-put : goal.returns-in-WalPrepares-clause-put
-returns-in-WalPrepares-clause-put c = zone_named _ _ c.args.place WalPrepares _ c.in-WalPrepares.is c.from-index.ensures c.put_numbered-in-WalPrepares.ensures.put
+returns-in-WalPrepares-clause-put c =
+    zone_named _ _ c.args.place WalPrepares _ c.in-WalPrepares.is c.from-index.ensures c.put_numbered-in-WalPrepares.ensures.put

@@ -5,6 +5,8 @@ use Rattle.df_inspect.proofs.opening.no_quorum_line.Goals as goal
 
 pub loop-class-preserved : goal.loop-class-preserved
 loop-class-preserved c = record {
-  put = put_more (codes "refused NoQuorum") _ _ _ c.args.classes.now c.loop-class.class-index _ (omega arith) c.loop-class.invariant.put c.put-in-loop-class.ensures.put c.put_class.ensures.put;
+  put =
+      put_more (codes "refused NoQuorum") _ _ _ c.args.classes.now c.loop-class.class-index _ (omega arith) c.loop-class.invariant.put
+      c.put-in-loop-class.ensures.put c.put_class.ensures.put;
   room = omega (arith, c.put_class.ensures.room, c.loop-class.invariant.room, c.put-in-loop-class.ensures.room);
 }

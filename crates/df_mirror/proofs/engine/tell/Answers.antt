@@ -12,5 +12,6 @@ returns-in-Err-Neither-clause-tells g c =
     let old = g.W.Sink.written c.args.sink.now in
     let new = g.W.Sink.written c.end_line-in-Err-Neither.new.sink in
     let status = c.end_line-in-Err-Neither.result in
-    let line = subst (λ (l : List ℕ). Writes ends.WriteFault l ends.Refused old new status) c.classed_line-line.ensures c.end_line-in-Err-Neither.ensures.writes in
+    let line = subst (λ (l : List ℕ). Writes ends.WriteFault l ends.Refused old new status) c.classed_line-line.ensures
+    c.end_line-in-Err-Neither.ensures.writes in
     subst (λ (r : Result ℕ Ending). TellsEnd r old new status) (sym (is ∙ ap (λ (e : Ending). Err e) inner)) line

@@ -18,11 +18,13 @@ loop-op-init g c =
     }
 
 pub mend_unit-requires-clause-layout : goal.mend_unit-requires-clause-layout
-mend_unit-requires-clause-layout g c = ap (λ (i : Identity). i.layout) c.known-prepare.ensures.known ∙ sym c.loop-op.invariant.walked.room_is
+mend_unit-requires-clause-layout g c =
+    ap (λ (i : Identity). i.layout) c.known-prepare.ensures.known ∙ sym c.loop-op.invariant.walked.room_is
 
 pub mend_unit-requires-clause-place : goal.mend_unit-requires-clause-place
 mend_unit-requires-clause-place g c =
-    subst (λ (i : Identity). HasPlace i.layout i.place × (i.place.zone ≡ WalPrepares)) (sym c.known-prepare.ensures.known) (omega (arith, c.from.ensures, c.slot_of.ensures.below), refl)
+    subst (λ (i : Identity). HasPlace i.layout i.place × (i.place.zone ≡ WalPrepares)) (sym c.known-prepare.ensures.known)
+    (omega (arith, c.from.ensures, c.slot_of.ensures.below), refl)
 
 pub overflow_add-mended : goal.overflow_add-mended
 overflow_add-mended g c = omega (arith, c.loop-op.invariant.walked.few, c.in-Ok.ensures.unit.2, ap (λ (f : SuperFields). f.head) c.fields-fields.ensures.value, c.fields-fields.ensures.usable.rules.head)
@@ -32,7 +34,9 @@ returns-in-Err-clause-mends g c = λ t o tell grid.
     let now = c.loop-op in
     let above : c.args.base.now.content.op < now.op = omega (arith, ap (λ (f : SuperFields). f.op) c.fields-fields.ensures.value) in
     stops now.invariant.walked c.in-Err.ending (λ refusal. absurd (c.in-Err.ensures.unrefused refusal))
-    (λ x m also on from. prepare_failed c.args.base.now c.fields-fields.ensures.usable now.op now.named above c.known-prepare.result (prepare_for c.args.base.now now.op c.from.result now.named c.known-prepare.result (c.from.ensures ∙ c.slot_of.ensures.value) c.known-prepare.ensures.known c.known-prepare.ensures.check) m also _ _ on from
+    (λ x m also on from. prepare_failed c.args.base.now c.fields-fields.ensures.usable now.op now.named above c.known-prepare.result
+    (prepare_for c.args.base.now now.op c.from.result now.named c.known-prepare.result (c.from.ensures ∙ c.slot_of.ensures.value)
+    c.known-prepare.ensures.known c.known-prepare.ensures.check) m also _ _ on from
     c.in-Err.ending c.in-Err.ensures.mends) tt t o tell grid _
 
 pub loop-op-preserved : goal.loop-op-preserved
@@ -45,7 +49,9 @@ loop-op-preserved g c =
       high = omega (arith, now.invariant.high);
       walked = goes_on now.invariant.walked did.same did.blamed
           (did.unit.0 ∙ now.invariant.walked.room_is) (omega (arith, now.invariant.walked.few, now.invariant.high, did.unit.2))
-          (λ x m o on from. prepare_mended c.args.base.now c.fields-fields.ensures.usable now.op now.named above c.known-prepare.result (prepare_for c.args.base.now now.op c.from.result now.named c.known-prepare.result (c.from.ensures ∙ c.slot_of.ensures.value) c.known-prepare.ensures.known c.known-prepare.ensures.check) m o _ _ on from
+          (λ x m o on from. prepare_mended c.args.base.now c.fields-fields.ensures.usable now.op now.named above c.known-prepare.result
+          (prepare_for c.args.base.now now.op c.from.result now.named c.known-prepare.result (c.from.ensures ∙ c.slot_of.ensures.value)
+          c.known-prepare.ensures.known c.known-prepare.ensures.check) m o _ _ on from
           c.unit.result.now c.mend_unit.new.shelf.held c.unit.ensures c.in-Ok.more did.mends did.shown c.header.result.now c.header.ensures.header);
     }
 

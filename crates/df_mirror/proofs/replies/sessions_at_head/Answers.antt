@@ -15,7 +15,9 @@ loop-op-init c =
       low = omega arith;
       high = subst (λ (f : SuperFields). f.op ≤ f.head) (sym c.fields-fields.ensures.value) c.fields-fields.ensures.usable.rules.head.0;
       places = refl;
-      noted = subst (λ (n : ℕ). HasNoted b c.args.slots.now start start n) none (noted_none b c.args.slots.now start (omega (arith, c.requires.few, c.requires.places)));
+      noted =
+          subst (λ (n : ℕ). HasNoted b c.args.slots.now start start n) none
+          (noted_none b c.args.slots.now start (omega (arith, c.requires.few, c.requires.places)));
     }
 
 pub loop-op-preserved : goal.loop-op-preserved
@@ -25,7 +27,9 @@ loop-op-preserved c =
       low = omega (arith, now.invariant.low);
       high = omega arith;
       places = now.invariant.places;
-      noted = none_next c.args.base.now c.args.slots.now c.args.sessions.sessions now.sessions.sessions c.fields-fields.result.now c.fields-fields.ensures.value now.op now.invariant.low (omega arith) now.invariant.noted
+      noted =
+          none_next c.args.base.now c.args.slots.now c.args.sessions.sessions now.sessions.sessions c.fields-fields.result.now
+          c.fields-fields.ensures.value now.op now.invariant.low (omega arith) now.invariant.noted
           c.slot_of.result c.slot_of.ensures.value (sym c.prepare.ensures ∙ c.in_default.is);
     }
 
@@ -33,15 +37,18 @@ pub returns-clause-sessions : goal.returns-clause-sessions
 returns-clause-sessions c = λ image named tells known count.
     let b = c.args.base.now in
     let i = c.loop-op.invariant in
+    let op = ap (λ (f : SuperFields). f.op) c.fields-fields.ensures.value in
+    let head = ap (λ (f : SuperFields). f.head) c.fields-fields.ensures.value in
     noted_all b c.args.slots.now c.args.sessions.sessions c.loop-op.sessions.sessions (c.loop-op.op - c.fields-fields.result.now.op)
-    (omega (arith, i.low, i.high, pin_is b, ap (λ (f : SuperFields). f.op) c.fields-fields.ensures.value, ap (λ (f : SuperFields). f.head) c.fields-fields.ensures.value)) i.noted image named tells known count
+    (omega (arith, i.low, i.high, pin_is b, op, head)) i.noted image named tells known count
 
 pub returns-clause-places : goal.returns-clause-places
 returns-clause-places c = c.loop-op.invariant.places
 
 pub apply-place-requires-clause-named : goal.apply-place-requires-clause-named
 apply-place-requires-clause-named c =
-    seen_client c.args.base.now.file.layout c.args.base.now.file.cluster c.args.slots.now c.slot_of.result c.in-Some.header c.requires.table (omega (arith, c.slot_of.ensures.below, c.requires.table.size)) (sym c.prepare.ensures ∙ c.in-Some.is)
+    seen_client c.args.base.now.file.layout c.args.base.now.file.cluster c.args.slots.now c.slot_of.result c.in-Some.header
+    c.requires.table (omega (arith, c.slot_of.ensures.below, c.requires.table.size)) (sym c.prepare.ensures ∙ c.in-Some.is)
 
 pub loop-op-preserved-in-Some : goal.loop-op-preserved-in-Some
 loop-op-preserved-in-Some c =
@@ -55,11 +62,16 @@ loop-op-preserved-in-Some c =
       low = omega (arith, now.invariant.low);
       high = omega arith;
       places = c.apply-place.ensures.places ∙ now.invariant.places;
-      noted = noted_next c.args.base.now c.args.slots.now c.args.sessions.sessions table.sessions c.fields-fields.result.now c.fields-fields.ensures.value now.op now.invariant.low (omega arith) now.invariant.noted
+      noted =
+          noted_next c.args.base.now c.args.slots.now c.args.sessions.sessions table.sessions c.fields-fields.result.now
+          c.fields-fields.ensures.value now.op now.invariant.low (omega arith) now.invariant.noted
           c.slot_of.result c.slot_of.ensures.value new c.in-Some.header (sym c.prepare.ensures ∙ c.in-Some.is) places c.from-places.ensures
           (λ ss is. elim c.then-is_some.branch [
-            | then-is_some-via-then-is_some w ↦ noted_known h table.sessions places ss is new (subst (λ (o : Option ℕ). IsSome o) c.place_of.ensures (sym c.is_some.ensures ∙ w.if-is_some.true)) same
-            | then-is_some-via-else-is_some+then-len-places w ↦ noted_last h table.sessions places ss is new (omega (arith, w.len.ensures.value, w.if-len-places.true)) same
+            | then-is_some-via-then-is_some w ↦
+                noted_known h table.sessions places ss is new
+                (subst (λ (o : Option ℕ). IsSome o) c.place_of.ensures (sym c.is_some.ensures ∙ w.if-is_some.true)) same
+            | then-is_some-via-else-is_some+then-len-places w ↦
+                noted_last h table.sessions places ss is new (omega (arith, w.len.ensures.value, w.if-len-places.true)) same
           ]);
     }
 
@@ -72,8 +84,12 @@ loop-op-preserved-in-Some-2 c =
       low = omega (arith, now.invariant.low);
       high = omega arith;
       places = now.invariant.places;
-      noted = noted_next c.args.base.now c.args.slots.now c.args.sessions.sessions table.sessions c.fields-fields.result.now c.fields-fields.ensures.value now.op now.invariant.low (omega arith) now.invariant.noted
-          c.slot_of.result c.slot_of.ensures.value table.sessions c.in-Some.header (sym c.prepare.ensures ∙ c.in-Some.is) places c.from-places.ensures
-          (λ ss is. noted_no (header_of c.in-Some.header) table.sessions places ss is (omega (arith, c.len.ensures.value, c.if-len-places.false))
+      noted =
+          noted_next c.args.base.now c.args.slots.now c.args.sessions.sessions table.sessions c.fields-fields.result.now
+          c.fields-fields.ensures.value now.op now.invariant.low (omega arith) now.invariant.noted
+          c.slot_of.result c.slot_of.ensures.value table.sessions c.in-Some.header (sym c.prepare.ensures ∙ c.in-Some.is) places
+          c.from-places.ensures
+          (λ ss is. noted_no (header_of c.in-Some.header) table.sessions places ss is
+          (omega (arith, c.len.ensures.value, c.if-len-places.false))
           (sym c.place_of.ensures ∙ none_if c.place_of.result (sym c.is_some.ensures ∙ c.if-is_some.false)));
     }

@@ -13,7 +13,8 @@ loop-done-init g c =
     let named = c.fields-fields.ensures.value in
     let usable = c.fields-fields.ensures.usable.rules in
     let count = c.block_count-count.result in
-    let counted = subst (λ (f : SuperFields). IsCount (b.file.layout.block_size - 256) f.trailer_size count) named c.block_count-count.ensures in
+    let counted = subst (λ (f : SuperFields). IsCount (b.file.layout.block_size - 256) f.trailer_size count) named
+    c.block_count-count.ensures in
     record {
       walked = begins c.requires.layout (λ x t is. record { chain = []; addresses = ap (map (λ r. r.address)) c.new.ensures; arrives = (ap (λ (f : SuperFields). f.trailer_address) named, ap (λ (f : SuperFields). number_of f.trailer_checksum) named); links = tt });
       few = count_few b usable count counted c.chains_have_room.ensures;
@@ -25,7 +26,9 @@ loop-done-init g c =
 pub returns-in-Err-clause-mends : goal.returns-in-Err-clause-mends
 returns-in-Err-clause-mends g c = λ t o tell.
     let i = c.loop-done.invariant in
-    stops i.walked c.in-Err.ending (λ refusal ms are. are) (λ x m also on walked. c.in-Err.ensures.mends m also c.block_count-count.result on i.counted (omega (arith, i.size, c.loop-done-test.true)) walked) tt t o tell tt _
+    stops i.walked c.in-Err.ending (λ refusal ms are. are)
+    (λ x m also on walked. c.in-Err.ensures.mends m also c.block_count-count.result on i.counted
+    (omega (arith, i.size, c.loop-done-test.true)) walked) tt t o tell tt _
 
 pub loop-done-preserved : goal.loop-done-preserved
 loop-done-preserved g c =
@@ -45,5 +48,6 @@ returns-clause-mends g c = λ t o tell.
     let b = c.args.base.now in
     let i = c.loop-done.invariant in
     let walk = c.loop-done.walk in
-    comes_to i.walked (λ x image walked. walk_ends (shape b.file) image (content_of_superblock b) c.block_count-count.result walked.chain walk.at.address (number_of walk.at.checksum) i.counted walked.arrives walked.links
+    comes_to i.walked (λ x image walked. walk_ends (shape b.file) image (content_of_superblock b) c.block_count-count.result
+    walked.chain walk.at.address (number_of walk.at.checksum) i.counted walked.arrives walked.links
     (sym (length-map walked.chain (λ x. x.0)) ∙ sym (ap length walked.addresses) ∙ length-map walk.read.items (λ r. r.address) ∙ omega (arith, i.size, c.loop-done-test.false, i.few, c.loop-done.auto))) tt t o tell tt

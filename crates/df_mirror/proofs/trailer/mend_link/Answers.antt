@@ -16,8 +16,10 @@ returns-in-Some-clause-mends g c = λ t o n tell counts size walked.
     let b = c.args.base.now in
     let u = c.unit.result.now.unit in
     let is = subst (λ (f : SuperFields). IsLinkOf b.file.layout f c.args.index u) c.fields.ensures.value c.in-Some.ensures.link.0 in
-    link_on b n c.args.index c.args.walk t o counts size walked c.deref.result.now c.deref.ensures.0 (sym c.is_among.ensures ∙ c.if-is_among.false)
-    c.known_at-wanted.result c.known_at-wanted.ensures.identity c.known_at-wanted.ensures.check _ _ tell c.unit.result.now c.mend_unit.new.shelf.held
+    link_on b n c.args.index c.args.walk t o counts size walked c.deref.result.now c.deref.ensures.0
+    (sym c.is_among.ensures ∙ c.if-is_among.false)
+    c.known_at-wanted.result c.known_at-wanted.ensures.identity c.known_at-wanted.ensures.check _ _ tell c.unit.result.now
+    c.mend_unit.new.shelf.held
     c.unit.ensures c.in-Ok.more c.in-Ok.ensures.mends c.in-Ok.ensures.shown (record { at = c.in-Some.before; read = c.push.new.self })
     c.requires.inside.0 (is (shape b.file) refl, c.in-Some.ensures.link.1, c.push.ensures.items)
 
@@ -26,15 +28,18 @@ returns-in-None-clause-mends g c = λ t o n tell counts size walked.
     let b = c.args.base.now in
     let u = c.unit.result.now.unit in
     let none = subst (λ (f : SuperFields). IsNoLink b.file.layout f c.args.index u) c.fields.ensures.value c.in-None.ensures.none in
-    link_broken b n c.args.index c.args.walk t o counts size walked c.deref.result.now c.deref.ensures.0 (sym c.is_among.ensures ∙ c.if-is_among.false)
-    c.known_at-wanted.result c.known_at-wanted.ensures.identity c.known_at-wanted.ensures.check _ _ tell c.unit.result.now c.mend_unit.new.shelf.held
+    link_broken b n c.args.index c.args.walk t o counts size walked c.deref.result.now c.deref.ensures.0
+    (sym c.is_among.ensures ∙ c.if-is_among.false)
+    c.known_at-wanted.result c.known_at-wanted.ensures.identity c.known_at-wanted.ensures.check _ _ tell c.unit.result.now
+    c.mend_unit.new.shelf.held
     c.unit.ensures c.in-Ok.more c.in-Ok.ensures.mends c.in-Ok.ensures.shown _ _ c.requires.inside.0
     (ap broken_at c.from.ensures) (none (shape b.file) refl)
 
 pub returns-in-Err-clause-mends : goal.returns-in-Err-clause-mends
 returns-in-Err-clause-mends g c = λ t o n tell counts size walked.
     link_failed c.args.base.now n c.args.index c.args.walk t o counts size walked c.deref.result.now c.deref.ensures.0
-    (sym c.is_among.ensures ∙ c.if-is_among.false) c.known_at-wanted.result c.known_at-wanted.ensures.identity c.known_at-wanted.ensures.check _ _ tell
+    (sym c.is_among.ensures ∙ c.if-is_among.false) c.known_at-wanted.result c.known_at-wanted.ensures.identity
+    c.known_at-wanted.ensures.check _ _ tell
     c.in-Err.ending _ c.in-Err.ensures.mends
 
 pub unit-requires : goal.unit-requires
