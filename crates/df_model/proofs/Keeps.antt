@@ -73,7 +73,7 @@ pub newest_few : (fs : List Finding) → length (newest fs) ≤ 64
 newest_few fs = omega (arith, length-drop (length fs - 64) fs)
 
 -- what holds of tours and findings alone is no matter of the state's sense
-tour_keeps : (sh : Shape) (spell : Parts → List ℕ) (w : Work) (tour : Tour) (findings : List Finding) → length findings ≤ 64 → IsWork sh spell w → IsWork sh spell (record w { tour = tour; findings = findings })
+pub tour_keeps : (sh : Shape) (spell : Parts → List ℕ) (w : Work) (tour : Tour) (findings : List Finding) → length findings ≤ 64 → IsWork sh spell w → IsWork sh spell (record w { tour = tour; findings = findings })
 tour_keeps sh spell w tour findings few work = record {
   codec = work.codec;
   version = work.version;

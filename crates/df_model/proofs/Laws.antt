@@ -1,6 +1,6 @@
 -- What the crates above cite of these proofs: the laws, as lemmas, and a few facts.
 -- ---- the state, and what may be done
-pub use Rattle.df_model.proofs.Keeps.{next_law, opened_law, sense_law, newest_few, some_of, some_known, parts_lawful}
+pub use Rattle.df_model.proofs.Keeps.{next_law, opened_law, sense_law, newest_few, tour_keeps, some_of, some_known, parts_lawful}
 pub use Rattle.df_model.proofs.OneThing.{one_thing_law}
 pub use Rattle.df_model.proofs.Appends.{IsAllowed, allowed, allowed_asks, append_may_law, both_pass, some_request}
 pub use Rattle.df_model.proofs.Replies.{reply_may_law}

@@ -30,22 +30,22 @@ no_blocks_both [] ts one two = two
 no_blocks_both ((Puts put) ∷ ss) ts one two = (one.0, no_blocks_both ss ts one.1 two)
 no_blocks_both (Syncs ∷ ss) ts one two = no_blocks_both ss ts one two
 
-copy_no_block : (put : Units) (n : ℕ) (c : Content) → PutsOne put (CopyPlace n) (CopyUnit c) → PutsNoBlock put
-copy_no_block put n c one a = go (put (BlockPlace a)) refl
+-- of whatever stands at no block's place
+put_no_block : (put : Units) → ((a : ℕ) (y : AnyUnit) → put (BlockPlace a) ≡ Some y → ⊥) → PutsNoBlock put
+put_no_block put never a = go (put (BlockPlace a)) refl
   where
     go : (o : Option AnyUnit) → put (BlockPlace a) ≡ o → put (BlockPlace a) ≡ None
     go None none = none
-    go (Some y) some = absurd (let at : BlockPlace a ≡ CopyPlace n = (one.only (BlockPlace a) y some).0 in cc)
+    go (Some y) some = absurd (never a y some)
+
+copy_no_block : (put : Units) (n : ℕ) (c : Content) → PutsOne put (CopyPlace n) (CopyUnit c) → PutsNoBlock put
+copy_no_block put n c one = put_no_block put (λ a y some. let at : BlockPlace a ≡ CopyPlace n = (one.only (BlockPlace a) y some).0 in cc)
 
 pub update_no_blocks : (c : Content) (puts : PutsCopies c) → NoBlocks (update_steps puts)
 update_no_blocks c puts = (copy_no_block puts.put0 0 c puts.one0, (copy_no_block puts.put1 1 c puts.one1, (copy_no_block puts.put2 2 c puts.one2, (copy_no_block puts.put3 3 c puts.one3, tt))))
 
 prepare_no_block : (put : Units) (slot : ℕ) (p : Message) → PutsOne put (PreparePlace slot) (PrepareUnit p) → PutsNoBlock put
-prepare_no_block put slot p one a = go (put (BlockPlace a)) refl
-  where
-    go : (o : Option AnyUnit) → put (BlockPlace a) ≡ o → put (BlockPlace a) ≡ None
-    go None none = none
-    go (Some y) some = absurd (let at : BlockPlace a ≡ PreparePlace slot = (one.only (BlockPlace a) y some).0 in cc)
+prepare_no_block put slot p one = put_no_block put (λ a y some. let at : BlockPlace a ≡ PreparePlace slot = (one.only (BlockPlace a) y some).0 in cc)
 
 prepares_no_blocks : (sh : Shape) (ps : List Message) (puts : List Units) → AllPutPrepare sh ps puts → NoBlocks (all_puts puts)
 prepares_no_blocks sh [] [] all = tt
@@ -54,11 +54,7 @@ prepares_no_blocks sh (p ∷ ps) [] all = absurd all
 prepares_no_blocks sh (p ∷ ps) (put ∷ puts) all = (prepare_no_block put (p.header.op % slots sh) p all.0, prepares_no_blocks sh ps puts all.1)
 
 sector_no_block : (table : ℕ → Header) (put : Units) → PutsTable table put → PutsNoBlock put
-sector_no_block table put all a = go (put (BlockPlace a)) refl
-  where
-    go : (o : Option AnyUnit) → put (BlockPlace a) ≡ o → put (BlockPlace a) ≡ None
-    go None none = none
-    go (Some y) some = absurd (let at = (all (BlockPlace a) y some).1 in cc)
+sector_no_block table put all = put_no_block put (λ a y some. let at = (all (BlockPlace a) y some).1 in cc)
 
 puts_no_blocks : (table : ℕ → Header) (puts : List Units) → AllPutTable table puts → NoBlocks (all_puts puts)
 puts_no_blocks table [] all = tt
