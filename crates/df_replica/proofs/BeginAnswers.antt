@@ -1,12 +1,11 @@
 -- Each begin is the machine's: its answer, and the state after it. It does nothing to the disk.
-use Rattle.std.{proofs.{Common.{◌≡◌, ◌∙◌, ℕ, true, List, [], take, Option, Some, None, refl, sym, ap, subst}, lemmas.Option.{same_Some}}, specs.Prelude.{Ok, Err}}
-use Rattle.df_base.specs.{Fields.{AreBytes}, Log.{now}}
+use Rattle.std.{proofs.{Common.{◌≡◌, ◌∙◌, ℕ, true, List, [], take, Option, Some, None, refl, sym, ap, subst}}, specs.Prelude.{Ok, Err}}
+use Rattle.df_base.specs.{Fields.{AreBytes}}
 use Rattle.df_disk.specs.Told.{Told}
-use Rattle.df_journal.specs.Append.{ShowsRing}
 use Rattle.df_theory.specs.Units.{Parts}
 use Rattle.df_model.{specs.{After.{begun as begun_by, outcome, with_running}, Blocks.{blocks_captured}, Changing.{begun_in, unless_refused}, Commands.{Answer, Begin, Command, ForBegin, Given, IsInput, ToBegin, as_answer}, Making.{needed_of}, Memory.{Memory, free_of, memory_of}, Refusals.{begin_refusals, first_refusal}, Sense.{IsWork}, Work.{Work}, declared.errors.BeginError.{BeginError}}, proofs.Laws.{change_law}}
 use Rattle.df_opening.specs.Below.{Represents, State, shape, spelling}
-use Rattle.df_replica.{specs.{Answering.{Serves, begin_answer}, Beginning.{begin_refusal, needed, with_checkpoint_begun}, Serving.{IsCall, next}, Supply.{IsSupplied}}, proofs.{Calls.{AreCalls, Answered, answered_call, answered_still}, Leaves.{Makes, makes_nothing}, ReadCalls.{no_sums}}}
+use Rattle.df_replica.{specs.{Answering.{Serves, begin_answer}, Beginning.{begin_refusal, needed, with_checkpoint_begun}, Serving.{IsCall, next}, Supply.{IsSupplied}}, proofs.{Calls.{AreCalls, Answered, answered_call, answered_quiet, answered_still}, Leaves.{Makes, makes_nothing}, ReadCalls.{no_sums}}}
 
 -- what a begin makes of the memory
 abbrev begun_memory : (Parts → List ℕ) → Memory → List ℕ → Memory
@@ -75,13 +74,9 @@ module _ (s : State) (root : List ℕ) (given : Given) (bytes : AreBytes root) (
           (ap (λ (x : Memory). ToBegin (Ok (needed_of (spelling s.file) x root))) rep, stands)
 
     begun_as : Answered given command s (with_checkpoint_begun s root) [] (ToBegin (Ok (needed s root)))
-    begun_as = record {
-      file = refl;
-      live = live;
-      stands = λ w work rep. allowed_at w work rep;
-      made = λ w work rep. tt;
-      ring = λ g w a b k all. subst (λ (x : Told). ShowsRing s.file.layout s.file.cluster (now x.log) s.headers) (sym (same_Some _ _ all)) k.ring;
-    }
+    begun_as =
+        answered_quiet s (with_checkpoint_begun s root) given command (ToBegin (Ok (needed s root))) refl refl live
+        (λ w work rep. allowed_at w work rep) (λ w work rep. tt)
 
     pub begun_call : (told : Option Told) → IsSupplied s told command given → IsCall given command s (with_checkpoint_begun s root) told told (Some (ToBegin (Ok (needed s root))))
     begun_call told supplied = answered_call given command s [] input does does_nothing (with_checkpoint_begun s root) (ToBegin (Ok (needed s root))) begun_as told told supplied refl

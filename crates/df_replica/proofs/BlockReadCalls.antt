@@ -1,6 +1,5 @@
 -- Each read of a block is the machine's: it does nothing to the disk, and what it found is what it was supplied with.
-use Rattle.std.{proofs.{Common.{◌≡◌, ℕ, Bool, true, false, cond, not, List, [], Option, Some, None, refl, sym, ◌∙◌, ap, subst}, lemmas.Option.{same_Some}}, specs.Prelude.{Result, Ok, Err, is_some}}
-use Rattle.df_base.specs.Log.{now}
+use Rattle.std.{proofs.{Common.{◌≡◌, ℕ, Bool, true, false, cond, not, List, [], Option, Some, None, refl, sym, ◌∙◌, ap, subst}}, specs.Prelude.{Result, Ok, Err, is_some}}
 use Rattle.df_disk.specs.Told.{Told}
 use Rattle.df_layout.specs.{declared.damage.Class.{Class}, declared.places.Place.{Place}, declared.places.Zone.TheVariants.{Grid}}
 use Rattle.df_format.specs.{declared.kind.Kind.TheVariants.{Block}, Message.{Message}, Own.{place_in}}
@@ -8,13 +7,12 @@ use Rattle.df_buffers.specs.Sounds.{Holding}
 use Rattle.df_trailer.specs.Rooms.{number_in}
 use Rattle.df_grid.specs.{Grid.{IsKnownBlock}, Reads.{HoldsKnown, Loads, ReadsBlock}}
 use Rattle.df_units.specs.Meaning.{block_of}
-use Rattle.df_journal.specs.Append.{ShowsRing}
 use Rattle.df_theory.specs.Units
 use Rattle.df_model.specs.After as after
 use Rattle.df_model.specs.{After.{shown_or}, Blocks.{sum_at}, Commands.{ForReadBlock, Given, IsInput, ReadBlock, ToReadBlock, supplied_block}, Memory.{Memory}, Refusals.{first_refusal, read_refusals}, Work.{is_known}, declared.reading.ReadError.{ReadError}}
 use Rattle.df_model.specs.declared.reading.ReadError.TheVariants as read
 use Rattle.df_opening.specs.Below.{State, memory}
-use Rattle.df_replica.{specs.{Answering.{GivesBlock, ServesBlockRead}, BlockReads.{IsBlockFound, IsReadBlock}, Supply.{IsSupplied}}, proofs.{Calls.{AreCalls, Answered, answered_call, stopped_call}, Leaves.{makes_nothing}, ReadCalls.{no_sums}}}
+use Rattle.df_replica.{specs.{Answering.{GivesBlock, ServesBlockRead}, BlockReads.{IsBlockFound, IsReadBlock}, Supply.{IsSupplied}}, proofs.{Calls.{AreCalls, Answered, answered_call, answered_quiet, stopped_call}, Leaves.{makes_nothing}, ReadCalls.{no_sums}}}
 
 module _ (s : State) (address : ℕ) (live : s.live ≡ true) where
   abbrev damaged : Class → ReadError
@@ -27,13 +25,9 @@ module _ (s : State) (address : ℕ) (live : s.live ≡ true) where
   input told given supplied = record { checksums = no_sums given (ForReadBlock (supplied_block given)) supplied.0 refl; fields = tt }
 
   answered : (given : Given) (answer : Result Units.Block ReadError) → after.read_answer (memory s) (supplied_block given) address ≡ answer → Answered given (ReadBlock address) s s [] (ToReadBlock answer)
-  answered given answer same = record {
-    file = refl;
-    live = live;
-    stands = λ w work rep. (ap ToReadBlock (sym same) ∙ ap (λ (m : Memory). ToReadBlock (after.read_answer m (supplied_block given) address)) rep, rep);
-    made = λ w work rep. tt;
-    ring = λ g w a b k all. subst (λ (x : Told). ShowsRing s.file.layout s.file.cluster (now x.log) s.headers) (sym (same_Some _ _ all)) k.ring;
-  }
+  answered given answer same =
+      answered_quiet s s given (ReadBlock address) (ToReadBlock answer) refl refl live
+      (λ w work rep. (ap ToReadBlock (sym same) ∙ ap (λ (m : Memory). ToReadBlock (after.read_answer m (supplied_block given) address)) rep, rep)) (λ w work rep. tt)
 
   answers : (told : Option Told) (found : Option (Result Units.Block Class)) (answer : Result Units.Block ReadError)
       → ((given : Given) → IsSupplied s told (ReadBlock address) given → GivesBlock told found given → after.read_answer (memory s) (supplied_block given) address ≡ answer)

@@ -3,6 +3,7 @@ use Rattle.std.proofs.{Common.{◌≡◌, inl, inr, true, false, List, [], ◌�
 use Rattle.df_base.{specs.{Log.{Event, IsLog, Log, now}, Moments.{EachMoment, Extends, adds}}, proofs.Laws.{extends_self, extends_on}}
 use Rattle.df_disk.{specs.{Told.{Told, did}, Adds.{AddsPart, after_all}}, proofs.Laws.{all_is_part, tells_on}}
 use Rattle.df_opening.{specs.Below.{IsWritten, DataFile, Represents, State, shape, spelling}, proofs.Laws.{front_of, all_front, good_safe, firmly}}
+use Rattle.df_format.specs.declared.header.Header.{Header}
 use Rattle.df_journal.specs.Append.{ShowsRing}
 use Rattle.df_theory.specs.{Device.{Format, units_log}, Shape.{Shape}, Units.{AnyUnit, BlockPlace, BlockUnit, Place}}
 use Rattle.df_units.proofs.Laws.{all_added, is_format, part_moments, steps_within}
@@ -39,17 +40,29 @@ pub record Answered (given : Given) (command : Command) (s t : State) (events : 
   pub made : (w : Work) → IsWork (shape s.file) (spelling s.file) w → Represents s w → OfMade (shape s.file) (spelling s.file) (StandsIn (format s.file) events) w given command
   pub ring : (g : Grade) (w : Work) (a b : Told) → IsKept g s w a.log → Some b ≡ after_all events (Some a) → ShowsRing s.file.layout s.file.cluster (now b.log) t.headers
 
--- a call that does nothing answers so, where the machine's state and its answer are these
+-- a call that asks nothing of the device answers so, where it keeps the file and the table of the header ring
+pub answered_quiet : (s t : State) (given : Given) (command : Command) (answer : Answer) → t.file ≡ s.file → t.headers ≡ s.headers → t.live ≡ true
+    → ((w : Work) → IsWork (shape s.file) (spelling s.file) w → Represents s w → (answer ≡ (next s.file w given command).1) × Represents t (next s.file w given command).0)
+    → ((w : Work) → IsWork (shape s.file) (spelling s.file) w → Represents s w → OfMade (shape s.file) (spelling s.file) (StandsIn (format s.file) []) w given command)
+    → Answered given command s t [] answer
+answered_quiet s t given command answer file headers live stands made = record {
+  file = file;
+  live = live;
+  stands = stands;
+  made = made;
+  ring = λ g w a b k all.
+      subst (λ (hs : List Header). ShowsRing s.file.layout s.file.cluster (now b.log) hs) (sym headers)
+      (subst (λ (x : Told). ShowsRing s.file.layout s.file.cluster (now x.log) s.headers) (sym (same_Some _ _ all)) k.ring);
+}
+
+-- and one that keeps all, where the machine's state and its answer are these
 pub answered_still :
     (s : State) (given : Given) (command : Command) (answer : Answer) → s.live ≡ true → ((w : Work) → Represents s w → next s.file w given command ≡ (w, answer))
     → ((w : Work) → Represents s w → OfMade (shape s.file) (spelling s.file) (StandsIn (format s.file) []) w given command) → Answered given command s s [] answer
-answered_still s given command answer live same made = record {
-  file = refl;
-  live = live;
-  stands = λ w work rep. (ap (λ (x : Work × Answer). x.1) (sym (same w rep)), subst (λ (x : Work × Answer). Represents s x.0) (sym (same w rep)) rep);
-  made = λ w work rep. made w rep;
-  ring = λ g w a b k all. subst (λ (x : Told). ShowsRing s.file.layout s.file.cluster (now x.log) s.headers) (sym (same_Some _ _ all)) k.ring;
-}
+answered_still s given command answer live same made =
+    answered_quiet s s given command answer refl refl live
+    (λ w work rep. (ap (λ (x : Work × Answer). x.1) (sym (same w rep)), subst (λ (x : Work × Answer). Represents s x.0) (sym (same w rep)) rep))
+    (λ w work rep. made w rep)
 
 module _ (given : Given) (command : Command) (s : State) (events : List Event) (input : IsInput given command) (does : AreCalls given command s events) where
   module _ (g : Grade) (w : Work) (t : Told) (k : IsKept g s w t.log) where

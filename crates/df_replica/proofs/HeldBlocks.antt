@@ -1,5 +1,5 @@
 -- A block stays where it is as long as its address is held: no command puts another one there.
-use Rattle.std.{proofs.{Common.{◌≡◌, ◌⊎◌, inl, inr, ℕ, ◌<◌, ◌==◌, Bool, true, false, if◌then◌else◌, List, [], ◌∷◌, length, ◌+◌, Option, Some, None, refl, sym, ap, subst, ◌∙◌, arith, eqb-true, eq-eqb}, lemmas.Bool.{or_left, or_right}, lemmas.Option.{same_Some}}, specs.Prelude.{Ok}}
+use Rattle.std.{proofs.{Common.{◌≡◌, ◌⊎◌, inl, inr, ℕ, ◌<◌, ◌==◌, Bool, true, false, if◌then◌else◌, List, [], ◌∷◌, Option, Some, None, refl, sym, ap, subst, ◌∙◌, arith, eqb-true, eq-eqb}, lemmas.Bool.{or_left, or_right}, lemmas.Option.{same_Some}}, specs.Prelude.{Ok}}
 use Rattle.df_base.proofs.Laws.{not_zero}
 use Rattle.df_disk.specs.{Told.{Told}, Adds.{after_all}}
 use Rattle.df_layout.specs.{declared.damage.Class.{Class}, declared.damage.Class.TheVariants.{Stale}}

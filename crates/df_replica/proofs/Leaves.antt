@@ -1,10 +1,10 @@
 -- What a command puts, which blocks its device calls spare, and which are durable after it.
-use Rattle.std.{proofs.{Common.{◌≡◌, ◌⊎◌, inl, inr, ℕ, zero, suc, ◌+◌, ◌<◌, ◌%◌, ◌==◌, ◌||◌, if◌then◌else◌, Bool, true, false, List, [], ◌∷◌, length, Option, Some, None, refl, sym, ◌∙◌, ap, subst, arith}, lemmas.Bool.{eqb-true, or_cases, or_left, or_right}, lemmas.Bool.Decides.{nat_tests}, lemmas.Option.{same_Some}}, specs.Prelude.{nat_lt}}
+use Rattle.std.{proofs.{Common.{◌≡◌, ◌⊎◌, inl, inr, ℕ, zero, suc, ◌+◌, ◌<◌, ◌%◌, ◌==◌, ◌||◌, if◌then◌else◌, Bool, true, false, List, [], ◌∷◌, Option, Some, None, refl, sym, ◌∙◌, ap, subst, arith}, lemmas.Bool.{eqb-true, or_cases, or_left, or_right}, lemmas.Bool.Decides.{nat_tests}, lemmas.Option.{same_Some}}, specs.Prelude.{nat_lt}}
 use Rattle.df_base.specs.{Image.{Image, IsImage}, Log.{Event, Log, loose}, Moments.{adds}}
 use Rattle.df_layout.specs.declared.layout.Layout.{Layout}
 use Rattle.df_theory.specs.{Units.{AnyUnit, BlockPlace, BlockUnit, Content, CopyPlace, CopyUnit, HeaderPlace, Message, Place, PreparePlace, PrepareUnit, ReplyPlace, ReplyUnit, Units, or_else}, Device.{AreSteps}, Runs.{Step}, UnitLog.{put_one}}
 use Rattle.df_units.specs.Bytes.{has, unit_at}
-use Rattle.df_model.{specs.{After.{with_verdict}, Change.{Appends, Begins, Change, Checks, Ends, LetsGo, Lives, Replies, Stages, Stays, TourEnds, Writes}, Commands.{Advance, Append, Begin, Command, Flush, Given, ReadBlock, ReadPrepare, ReadReply, Recent, Release, Reply, Scrub, Stage, WriteBlock, supplied_sum, supplied_sums, supplied_verdict}, Making.{block_of, first_of, group_of, next_address, place_of_reply, prepare_of, reply_of, trailer_block}, Memory.{Course, Memory, course, course_of, memory_of}, Refusals.{append_refusals, block_refusals, first_refusal, flush_refusals, reply_refusals}, Sense.{AtEachOf, IsClearAddress, IsWork}, Supply.{copies_of, group_puts, puts_of, step_puts, trailer_puts, unless}, Work.{Running, Work, is_captured, is_held, is_known, is_of}, declared.answers.Verdict.{Verdict}, declared.answers.Verdict.TheVariants.{Sound, Failing}}, proofs.Laws.{block_may_law, one_thing_law, some_of}}
+use Rattle.df_model.{specs.{After.{with_verdict}, Change.{Change, Checks, Ends}, Commands.{Advance, Append, Command, Flush, Given, Reply, WriteBlock, supplied_sums, supplied_verdict}, Making.{block_of, first_of, group_of, next_address, place_of_reply, prepare_of, reply_of, trailer_block}, Memory.{Course, Memory, course, course_of, memory_of}, Refusals.{append_refusals, block_refusals, first_refusal, flush_refusals, reply_refusals}, Sense.{AtEachOf, IsClearAddress, IsWork}, Supply.{copies_of, group_puts, puts_of, step_puts, trailer_puts, unless}, Work.{Running, Work, is_captured, is_held, is_known, is_of}, declared.answers.Verdict.{Verdict}, declared.answers.Verdict.TheVariants.{Sound, Failing}}, proofs.Laws.{block_may_law, one_thing_law, some_of}}
 use Rattle.df_opening.{specs.Below.{DataFile, Represents, State, memory, shape, spelling}, proofs.Laws.{FrontSteps, StartSynced, same_class, same_sector, shown_by, stays_firm, stays_whole, synced_first, unit_after, unwritten}}
 use Rattle.df_replica.specs.{Leaving.{AreSettled, IsReadPlace, LeavesCopies, LeavesShown, SparesHeld, WritesNext, image_after, is_durable, SparesOthers}, Serving.{Firm, Keeps, format, next}}
 

@@ -3,7 +3,7 @@ use Rattle.std.proofs.Common.{◌≡◌, ℕ, [], ◌∷◌, Option, Some, None,
 use Rattle.df_base.specs.Log.{Log}
 use Rattle.df_disk.specs.Told.{Told}
 use Rattle.df_layout.specs.declared.damage.Class.{Class}
-use Rattle.df_model.specs.{After.{lookup_answer, prepare_answer, read_answer, shown_or}, Commands.{Advance, Answer, Append, Begin, Flush, Given, ReadBlock, ReadPrepare, ReadReply, Recent, Release, Reply, Scrub, Stage, ToReadBlock, ToReadPrepare, ToReadReply, WriteBlock, supplied_block, supplied_message}, Memory.{Memory, memory_of}, Refusals.{first_refusal, lookup_refusals, prepare_refusals, read_refusals}, Work.{Work}}
+use Rattle.df_model.specs.{After.{lookup_answer, prepare_answer, read_answer, shown_or}, Commands.{Answer, Given, ReadBlock, ReadPrepare, ReadReply, ToReadBlock, ToReadPrepare, ToReadReply, supplied_block, supplied_message}, Memory.{Memory, memory_of}, Refusals.{first_refusal, lookup_refusals, prepare_refusals, read_refusals}, Work.{Work}}
 use Rattle.df_theory.specs.{Device.{NoChanceOf}, Units.{Block, Message}}
 use Rattle.df_replica.{specs.{BlockReads.{IsBlockFound, IsReadBlock}, Reading.{IsFoundBy, IsReadPrepare}, Serving.{Firm, IsCall, Keeps, format, next}, Lending.{AnswersOwn, CallIsOwn, CallIsTheOne}, Lookups.{IsReadReply}, Striking.{StruckReadsAreOwn}, WrittenFor.{IsWrittenFor}}, proofs.Lent.{block_is_lent, block_is_the_one, prepare_is_lent, prepare_is_the_one, reply_is_lent, reply_is_the_one}}
 use Rattle.df_opening.specs.Below.{DataFile, State, shape, spelling}

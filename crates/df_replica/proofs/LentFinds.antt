@@ -1,7 +1,7 @@
 -- What is found where the checksum is known: the unit that is shown, with that checksum; and what memory knows is what the view has.
 use Rattle.std.{proofs.Common.{◌≡◌, inl, inr, ℕ, zero, suc, ◌+◌, ◌==◌, Bool, true, false, not, if◌then◌else◌, List, [], ◌∷◌, map, Option, Some, None, Result, Ok, Err, refl, sym, ◌∙◌, ap, arith, eqb-true}, specs.List.{range_with_len, slice_get}}
 use Rattle.df_layout.specs.{declared.damage.Class.{Class}, declared.damage.Class.TheVariants.{Stale}}
-use Rattle.df_theory.specs.{Units.{AnyUnit, Block, BlockUnit, CopyUnit, HeaderUnit, Message, PrepareUnit, ReplyUnit, Session}, Sessions.{noted}, Tails.{Chain, In}}
+use Rattle.df_theory.specs.{Units.{AnyUnit, Block, BlockUnit, Message, PrepareUnit, ReplyUnit, Session}, Sessions.{noted}, Tails.{Chain, In}}
 use Rattle.df_model.{specs.{After.{place_of_client}, Memory.{joined, stored_sum}, Supply.{block_given, given_if, is_sum, no_trailer, prepare_given, reply_given}}, proofs.Laws.{known_is}}
 
 -- ---- what is given

@@ -2,7 +2,7 @@
 use Rattle.std.proofs.Common.{◌≡◌, Some, None, sym, subst}
 use Rattle.df_base.specs.Log.{Sync, add}
 use Rattle.df_opening.{specs.Below.{DataFile, IsWritten, WasWritten, shape, spelling}, proofs.Laws.{had_is_written, firm_of}}
-use Rattle.df_theory.{specs.{Device.{units_log}, Next.{booted}, Shape.{Shape}, Shows.{Needs}, UnitLog.{now}, Units.{AnyUnit, BlockPlace, BlockUnit, Content, CopyPlace, HeaderPlace, Place, PreparePlace, ReplyPlace}, View.{View}}, proofs.Laws.{pool_pools}}
+use Rattle.df_theory.{specs.{Device.{units_log}, Next.{booted}, Shape.{Shape}, Shows.{Needs}, UnitLog.{now}, Units.{AnyUnit, BlockPlace, BlockUnit, Content, CopyPlace, Place}, View.{View}}, proofs.Laws.{pool_pools}}
 use Rattle.df_replica.specs.{Lending.{KeptIsWritten, OpenedIsWrittenFor}, Serving.{format}}
 
 pub kept_is_written : KeptIsWritten

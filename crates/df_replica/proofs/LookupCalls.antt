@@ -1,19 +1,17 @@
 -- Each read of a reply is the machine's: it does nothing to the disk, and what it found is what it was supplied with.
 use Rattle.std.{proofs.{Common.{◌≡◌, ℕ, Bool, true, false, cond, nat_lt, [], Option, Some, None, refl, sym, ◌∙◌, ap, subst}, lemmas.Option.{same_Some}}, specs.Prelude.{Result, Ok, Err}}
-use Rattle.df_base.specs.Log.{now}
 use Rattle.df_disk.specs.Told.{Told}
 use Rattle.df_layout.specs.{declared.damage.Class.{Class}, declared.places.Place.{Place}, declared.places.Zone.TheVariants.{ClientReplies}}
 use Rattle.df_format.specs.{declared.kind.Kind.TheVariants.{Reply}, Message.{Message}, Own.{place_in}}
 use Rattle.df_buffers.specs.Sounds.{Holding}
 use Rattle.df_units.specs.Meaning.{message_of}
-use Rattle.df_journal.specs.Append.{ShowsRing}
 use Rattle.df_theory.specs.Units
 use Rattle.df_model.specs.After as after
 use Rattle.df_model.specs.{After.{shown_or}, Commands.{ForReadReply, Given, IsInput, ReadReply, ToReadReply, supplied_message}, Faults.{is_lookup_fault}, Memory.{Memory}, Refusals.{first_refusal, is_new, last_op, lookup_refusals, session_of_client}, declared.reading.LookupError.{LookupError}}
 use Rattle.df_model.specs.Memory as memory
 use Rattle.df_model.specs.declared.reading.LookupError.TheVariants as lookup
 use Rattle.df_opening.specs.Below.{State, memory, reply_sum as known_sum}
-use Rattle.df_replica.{specs.{Answering.{GivesFound, ServesRead, answer_of}, declared.lookup.Stored.{Stored}, Lookups.{HoldsKnown, IsReadReply, IsStoredFor, TellsShown, place_for, reply_found, reply_shown}, Reading.{IsFoundBy, IsKnownUnit}, Supply.{IsSupplied}, Stopping.{left_by}}, proofs.{LookupFinds.{reply_found_by, reply_known, reply_lacks_by}, Calls.{AreCalls, Answered, answered_call, stopped_call}, Leaves.{makes_nothing}, ReadCalls.{no_sums}}}
+use Rattle.df_replica.{specs.{Answering.{GivesFound, ServesRead, answer_of}, declared.lookup.Stored.{Stored}, Lookups.{HoldsKnown, IsReadReply, IsStoredFor, TellsShown, place_for, reply_found, reply_shown}, Reading.{IsFoundBy, IsKnownUnit}, Supply.{IsSupplied}, Stopping.{left_by}}, proofs.{LookupFinds.{reply_found_by, reply_known, reply_lacks_by}, Calls.{AreCalls, Answered, answered_call, answered_quiet, stopped_call}, Leaves.{makes_nothing}, ReadCalls.{no_sums}}}
 
 module _ (s : State) (client : ℕ) (live : s.live ≡ true) where
   calls : (given : Given) → AreCalls given (ReadReply client) s []
@@ -23,13 +21,9 @@ module _ (s : State) (client : ℕ) (live : s.live ≡ true) where
   input told given supplied = record { checksums = no_sums given (ForReadReply (supplied_message given)) supplied.0 refl; fields = tt }
 
   answered : (given : Given) (answer : Result Units.Message LookupError) → after.lookup_answer (memory s) (supplied_message given) client ≡ answer → Answered given (ReadReply client) s s [] (ToReadReply answer)
-  answered given answer same = record {
-    file = refl;
-    live = live;
-    stands = λ w work rep. (ap ToReadReply (sym same) ∙ ap (λ (m : Memory). ToReadReply (after.lookup_answer m (supplied_message given) client)) rep, rep);
-    made = λ w work rep. tt;
-    ring = λ g w a b k all. subst (λ (x : Told). ShowsRing s.file.layout s.file.cluster (now x.log) s.headers) (sym (same_Some _ _ all)) k.ring;
-  }
+  answered given answer same =
+      answered_quiet s s given (ReadReply client) (ToReadReply answer) refl refl live
+      (λ w work rep. (ap ToReadReply (sym same) ∙ ap (λ (m : Memory). ToReadReply (after.lookup_answer m (supplied_message given) client)) rep, rep)) (λ w work rep. tt)
 
   answers : (told : Option Told) (found : Option (Result Units.Message Class)) (answer : Result Units.Message LookupError)
       → ((given : Given) → IsSupplied s told (ReadReply client) given → GivesFound told found given → after.lookup_answer (memory s) (supplied_message given) client ≡ answer)

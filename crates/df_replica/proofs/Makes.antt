@@ -1,7 +1,7 @@
 -- The units that a command makes, and that whatever the state after it needs was needed before it or is one of them.
-use Rattle.std.proofs.{Common.{◌≡◌, ℕ, ◌==◌, ◌%◌, ◌+◌, inl, inr, Bool, true, false, if◌then◌else◌, List, [], ◌∷◌, length, Option, Some, None, refl, sym, ◌∙◌, ap, subst}, lemmas.Bool.{eqb-true}, lemmas.Option.{same_Some}}
+use Rattle.std.proofs.{Common.{◌≡◌, ℕ, ◌==◌, ◌%◌, inl, inr, Bool, true, false, if◌then◌else◌, List, [], ◌∷◌, Option, Some, None, refl, sym, ◌∙◌, ap, subst}, lemmas.Bool.{eqb-true}, lemmas.Option.{same_Some}}
 use Rattle.df_theory.{specs.{Next.{appended, replied}, Shape.{Shape, slots}, Shows.{Needs}, Tails.{In}, Trailer.{InChain}, Units.{AnyUnit, Block, BlockPlace, BlockUnit, CopyPlace, HeaderPlace, Message, Parts, Place, PreparePlace, PrepareUnit, ReplyPlace, ReplyUnit}, View.{head}}, proofs.Laws.{in_dropped, in_either, kept_some}}
-use Rattle.df_model.{specs.{After.{begun, finished, next_trailer, with_group, with_reply, with_running, with_trailer_block, with_verdict}, Change.{Appends, Begins, Change, Checks, Ends, LetsGo, Lives, One, Replies, Staged, Stages, Stays, TourEnds, Writes}, Commands.{Advance, Append, Command, Flush, Given, Reply, after, supplied_sum, supplied_sums, supplied_verdict}, Making.{group_of, place_of_reply, prepare_of, reply_of}, Memory.{memory_of}, Refusals.{append_refusals, first_refusal, flush_refusals, reply_refusals}, Work.{Running, Work, kept}, declared.answers.Verdict.{Verdict}, declared.answers.Verdict.TheVariants.{Sound, Failing}}, proofs.Laws.{one_thing_law}}
+use Rattle.df_model.{specs.{After.{begun, finished, next_trailer, with_group, with_reply, with_running, with_trailer_block, with_verdict}, Change.{Appends, Begins, Change, Checks, Ends, One, Replies, Staged, Stays, Writes}, Commands.{Advance, Append, Command, Flush, Given, Reply, after, supplied_sum, supplied_sums, supplied_verdict}, Making.{group_of, place_of_reply, prepare_of, reply_of}, Memory.{memory_of}, Refusals.{append_refusals, first_refusal, flush_refusals, reply_refusals}, Work.{Running, Work, kept}, declared.answers.Verdict.{Verdict}, declared.answers.Verdict.TheVariants.{Sound, Failing}}, proofs.Laws.{one_thing_law}}
 
 -- ---- what a command makes
 

@@ -1,19 +1,17 @@
 -- Each read is the machine's: it does nothing to the disk, and what it found is what it was supplied with.
 use Rattle.std.{proofs.{Common.{◌≡◌, ℕ, ◌+◌, ◌%◌, Bool, true, false, cond, not, ◌&&◌, nat_lt, [], Option, Some, None, refl, sym, ◌∙◌, ap, subst}, lemmas.Option.{same_Some}}, specs.Prelude.{Result, Ok, Err, nat_le, slice_get}}
-use Rattle.df_base.specs.Log.{now}
 use Rattle.df_disk.specs.Told.{Told}
 use Rattle.df_layout.specs.{declared.damage.Class.{Class}, declared.places.Place.{Place}, declared.places.Zone.TheVariants.{WalPrepares}}
 use Rattle.df_format.specs.{declared.kind.Kind.TheVariants.{Prepare}, Message.{Message}, Own.{place_in}, Spelling.{IsCheck}}
 use Rattle.df_buffers.specs.Sounds.{Holding}
 use Rattle.df_places.specs.Shelves.{HoldsFound, IsFoundUnit, IsRead}
 use Rattle.df_units.specs.Meaning.{message_of}
-use Rattle.df_journal.specs.Append.{ShowsRing}
 use Rattle.df_theory.specs.Units
 use Rattle.df_model.specs.After as after
 use Rattle.df_model.specs.{After.{shown_or}, Codec.{AreChecksums}, Commands.{ForReadPrepare, Given, IsInput, ReadPrepare, ToReadPrepare, supplied_message, supplied_sums}, Faults.{is_prepare_fault}, Memory.{Memory, prepare_sum}, Refusals.{first_refusal, prepare_refusals}, declared.reading.PrepareError.{PrepareError}}
 use Rattle.df_model.specs.declared.reading.PrepareError.TheVariants as prepare
 use Rattle.df_opening.specs.Below.{State, memory}
-use Rattle.df_replica.{specs.{Answering.{GivesFound, ServesRead, answer_of}, Reading.{IsFoundBy, IsKnownUnit, IsReadPrepare, check_in, prepare_found, prepare_wanted}, Supply.{IsSupplied}, Stopping.{left_by}}, proofs.{ReadFinds.{prepare_found_by, prepare_known, prepare_lacks_by}, Calls.{AreCalls, Answered, answered_call, stopped_call}, Leaves.{makes_nothing}}}
+use Rattle.df_replica.{specs.{Answering.{GivesFound, ServesRead, answer_of}, Reading.{IsFoundBy, IsKnownUnit, IsReadPrepare, check_in, prepare_found, prepare_wanted}, Supply.{IsSupplied}, Stopping.{left_by}}, proofs.{ReadFinds.{prepare_found_by, prepare_known, prepare_lacks_by}, Calls.{AreCalls, Answered, answered_call, answered_quiet, stopped_call}, Leaves.{makes_nothing}}}
 
 -- what makes no unit is supplied with no checksum
 pub no_sums : (given other : Given) → given ≡ other → supplied_sums other ≡ [] → AreChecksums (supplied_sums given)
@@ -27,13 +25,9 @@ module _ (s : State) (op : ℕ) (live : s.live ≡ true) where
   input told given supplied = record { checksums = no_sums given (ForReadPrepare (supplied_message given)) supplied.0 refl; fields = tt }
 
   answered : (given : Given) (answer : Result Units.Message PrepareError) → after.prepare_answer (memory s) (supplied_message given) op ≡ answer → Answered given (ReadPrepare op) s s [] (ToReadPrepare answer)
-  answered given answer same = record {
-    file = refl;
-    live = live;
-    stands = λ w work rep. (ap ToReadPrepare (sym same) ∙ ap (λ (m : Memory). ToReadPrepare (after.prepare_answer m (supplied_message given) op)) rep, rep);
-    made = λ w work rep. tt;
-    ring = λ g w a b k all. subst (λ (x : Told). ShowsRing s.file.layout s.file.cluster (now x.log) s.headers) (sym (same_Some _ _ all)) k.ring;
-  }
+  answered given answer same =
+      answered_quiet s s given (ReadPrepare op) (ToReadPrepare answer) refl refl live
+      (λ w work rep. (ap ToReadPrepare (sym same) ∙ ap (λ (m : Memory). ToReadPrepare (after.prepare_answer m (supplied_message given) op)) rep, rep)) (λ w work rep. tt)
 
   answers : (told : Option Told) (found : Option (Result Units.Message Class)) (answer : Result Units.Message PrepareError)
       → ((given : Given) → IsSupplied s told (ReadPrepare op) given → GivesFound told found given → after.prepare_answer (memory s) (supplied_message given) op ≡ answer)

@@ -1,11 +1,9 @@
 -- Each release is the machine's: its answer, and the state after it. It does nothing to the disk.
-use Rattle.std.{proofs.{Common.{◌≡◌, ◌∙◌, ℕ, true, false, Bool, not, cond, [], Option, Some, None, refl, sym, ap, subst}, lemmas.Option.{same_Some}}, specs.Prelude.{Ok, Err}}
-use Rattle.df_base.specs.Log.{now}
+use Rattle.std.{proofs.{Common.{◌≡◌, ◌∙◌, ℕ, true, false, Bool, not, cond, [], Option, Some, None, refl, sym, ap, subst}}, specs.Prelude.{Ok, Err}}
 use Rattle.df_disk.specs.Told.{Told}
-use Rattle.df_journal.specs.Append.{ShowsRing}
 use Rattle.df_model.{specs.{After.{outcome, with_live}, Blocks.{block_released, sum_at, without_entry}, Changing.{unless_refused}, Commands.{Answer, ForRelease, Given, IsInput, Release, ToRelease, as_answer}, Memory.{Memory, memory_of}, Refusals.{first_refusal, release_refusals}, Sense.{IsWork}, Work.{Work, is_known}, declared.errors.NotLive.{NotLive}}, proofs.Laws.{change_law}}
 use Rattle.df_opening.specs.Below.{Represents, State, memory, shape, spelling}
-use Rattle.df_replica.{specs.{Answering.{Serves}, Blocks.{released}, Serving.{IsCall, next}, Supply.{IsSupplied}}, proofs.{BlockStates.{blocks_memory}, Calls.{AreCalls, Answered, answered_call}, Leaves.{makes_nothing}, ReadCalls.{no_sums}}}
+use Rattle.df_replica.{specs.{Answering.{Serves}, Blocks.{released}, Serving.{IsCall, next}, Supply.{IsSupplied}}, proofs.{BlockStates.{blocks_memory}, Calls.{AreCalls, Answered, answered_call, answered_quiet, answered_still}, Leaves.{makes_nothing}, ReadCalls.{no_sums}}}
 
 module _ (s : State) (address : ℕ) (live : s.live ≡ true) where
   calls : (given : Given) → AreCalls given (Release address) s []
@@ -24,13 +22,8 @@ module _ (s : State) (address : ℕ) (live : s.live ≡ true) where
 
   -- a refusal
   pub refused_release : (e : NotLive) → first_refusal (release_refusals (memory s) address) ≡ Some e → (told : Option Told) → Serves (Release address) s s told told (Some (ToRelease (Err e)))
-  refused_release e some told given supplied = served given s (ToRelease (Err e)) (record {
-    file = refl;
-    live = live;
-    stands = λ w work rep. (ap (λ (x : Work × Answer). x.1) (sym (next_is w rep given (Some e) some)), subst (λ (x : Work × Answer). Represents s x.0) (sym (next_is w rep given (Some e) some)) rep);
-    made = λ w work rep. tt;
-    ring = λ g w a b k all. subst (λ (x : Told). ShowsRing s.file.layout s.file.cluster (now x.log) s.headers) (sym (same_Some _ _ all)) k.ring;
-  }) told supplied
+  refused_release e some told given supplied =
+      served given s (ToRelease (Err e)) (answered_still s given (Release address) (ToRelease (Err e)) live (λ w rep. next_is w rep given (Some e) some) (λ w rep. tt)) told supplied
 
   -- a block that is let go
   module _ (none : first_refusal (release_refusals (memory s) address) ≡ None) where
@@ -50,13 +43,9 @@ module _ (s : State) (address : ℕ) (live : s.live ≡ true) where
       stands = blocks_memory s (without_entry address s.blocks.live) ∙ (λ i. record (rep i) { blocks = block_released (rep i).blocks address }) ∙ sym memory_is
 
     released_as : (given : Given) → Answered given (Release address) s (released s address) [] (ToRelease (Ok tt))
-    released_as given = record {
-      file = refl;
-      live = live;
-      stands = λ w work rep. subst (λ (x : Work × Answer). (ToRelease (Ok tt) ≡ x.1) × Represents (released s address) x.0) (sym (next_is w rep given None none)) (refl, stands given w work rep);
-      made = λ w work rep. tt;
-      ring = λ g w a b k all. subst (λ (x : Told). ShowsRing s.file.layout s.file.cluster (now x.log) s.headers) (sym (same_Some _ _ all)) k.ring;
-    }
+    released_as given =
+        answered_quiet s (released s address) given (Release address) (ToRelease (Ok tt)) refl refl live
+        (λ w work rep. subst (λ (x : Work × Answer). (ToRelease (Ok tt) ≡ x.1) × Represents (released s address) x.0) (sym (next_is w rep given None none)) (refl, stands given w work rep)) (λ w work rep. tt)
 
     pub released_serves : (t : State) → t ≡ released s address → (told : Option Told) → Serves (Release address) s t told told (Some (ToRelease (Ok tt)))
     released_serves t is told given supplied =

@@ -1,11 +1,10 @@
 -- Each step of the scrubber is the machine's: it does nothing to the disk, and what it found is what it was supplied with.
-use Rattle.std.{proofs.{Common.{◌≡◌, ◌∙◌, ℕ, true, false, List, [], ◌∷◌, Option, Some, None, refl, sym, ap, subst}, lemmas.Option.{same_Some}}, specs.Prelude.{Ok, Err}}
-use Rattle.df_base.specs.{Log.{now}, declared.Failed.{Failed}}
+use Rattle.std.{proofs.{Common.{◌≡◌, ◌∙◌, ℕ, true, false, List, [], ◌∷◌, Option, Some, None, refl, sym, ap}}, specs.Prelude.{Ok, Err}}
+use Rattle.df_base.specs.{declared.Failed.{Failed}}
 use Rattle.df_disk.specs.Told.{Told}
-use Rattle.df_journal.specs.Append.{ShowsRing}
 use Rattle.df_model.{specs.{After.{after_check, to_check}, Changing.{checked_in}, Commands.{ForRecent, ForScrub, Given, IsInput, Recent, Scrub, ToRecent, ToScrub, supplied_verdict}, Memory.{Memory, memory_of}, Sense.{IsWork}, Work.{Work}, declared.answers.Scrubbed.{Scrubbed}, declared.answers.Verdict.{Verdict}, declared.answers.Verdict.TheVariants.{Sound, Failing}}, proofs.Laws.{change_law}}
 use Rattle.df_opening.specs.Below.{IsMachineStep, IsMachines, ScrubState, verdict_in, Represents, State, grid_with, memory, shape, spelling}
-use Rattle.df_replica.{specs.{Answering.{GivesVerdict, Serves, ServesScrub}, Scrubbing.{scrub_of, with_scrub}, Serving.{next}, Supply.{IsSupplied}}, proofs.{Calls.{AreCalls, Answered, answered_call, stopped_call}, Leaves.{makes_nothing}, ReadCalls.{no_sums}}}
+use Rattle.df_replica.{specs.{Answering.{GivesVerdict, Serves, ServesScrub}, Scrubbing.{scrub_of, with_scrub}, Serving.{next}, Supply.{IsSupplied}}, proofs.{Calls.{AreCalls, Answered, answered_call, answered_quiet, stopped_call}, Leaves.{makes_nothing}, ReadCalls.{no_sums}}}
 
 -- a check leaves the blocks as they are
 blocks_kept : (m : Memory) (v : Verdict) (xs : List (ℕ × ℕ)) → record (checked_in m v xs) { blocks = m.blocks } ≡ checked_in m v xs
@@ -44,13 +43,9 @@ module _ (s : State) (live : s.live ≡ true) where
           ∙ sym (change_law (shape s.file) (spelling s.file) w given Scrub work)
 
     answered : Answered given Scrub s (with_scrub s scrub) [] (ToScrub answer)
-    answered = record {
-      file = refl;
-      live = live;
-      stands = λ w work rep. (answers w work rep, stands w work rep);
-      made = λ w work rep. tt;
-      ring = λ g w a b k all. subst (λ (x : Told). ShowsRing s.file.layout s.file.cluster (now x.log) s.headers) (sym (same_Some _ _ all)) k.ring;
-    }
+    answered =
+        answered_quiet s (with_scrub s scrub) given Scrub (ToScrub answer) refl refl live
+        (λ w work rep. (answers w work rep, stands w work rep)) (λ w work rep. tt)
 
   -- a step
   pub scrub_serves : (told : Option Told) (answer : Scrubbed) (scrub : ScrubState) → IsMachines (grid_with s.file s.boot s.blocks) (scrub_of s) scrub told answer → ServesScrub s (with_scrub s scrub) told (Ok answer)
@@ -69,13 +64,9 @@ module _ (s : State) (live : s.live ≡ true) where
   recent_calls given g w t k = record { steps = []; are = tt; does = refl }
 
   recent_answered : (given : Given) → Answered given Recent s s [] (ToRecent s.findings)
-  recent_answered given = record {
-    file = refl;
-    live = live;
-    stands = λ w work rep. (ap (λ (m : Memory). ToRecent m.findings) rep, rep);
-    made = λ w work rep. tt;
-    ring = λ g w a b k all. subst (λ (x : Told). ShowsRing s.file.layout s.file.cluster (now x.log) s.headers) (sym (same_Some _ _ all)) k.ring;
-  }
+  recent_answered given =
+      answered_quiet s s given Recent (ToRecent s.findings) refl refl live
+      (λ w work rep. (ap (λ (m : Memory). ToRecent m.findings) rep, rep)) (λ w work rep. tt)
 
   pub recent_serves : (told : Option Told) → Serves Recent s s told told (Some (ToRecent s.findings))
   recent_serves told given supplied =

@@ -3,7 +3,7 @@ use Rattle.std.proofs.Common.{◌≡◌, ◌∙◌, ℕ, ◌++◌, List, length,
 use Rattle.df_disk.specs.Told.{Told}
 use Rattle.df_layout.specs.declared.damage.Finding.{Finding}
 use Rattle.df_theory.specs.{Device.{units_log}, Shape.{Shape}, UnitLog.{UnitLog}, Units.{Parts}}
-use Rattle.df_model.{specs.{After.{newest}, Laws.{IsKeptBy}, Memory.{referenced_of}, Reading.{IsTour}, Sense.{IsBacked, IsKnown, IsWork}, Sense.IsKnown.{Captured, Chained, Durable, Live, Written}, Work.{Work, first_tour}}, proofs.Laws.{tour_law, newest_few}}
+use Rattle.df_model.{specs.{After.{newest}, Laws.{IsKeptBy}, Memory.{referenced_of}, Reading.{IsTour}, Sense.{IsBacked, IsWork}, Work.{Work, first_tour}}, proofs.Laws.{tour_keeps, tour_law, newest_few}}
 use Rattle.df_grid.specs.Grid as grid
 use Rattle.df_grid.specs.Grid.{GridState}
 use Rattle.df_opening.specs.Below.{Represents, State, memory, shape, spelling}
@@ -15,28 +15,8 @@ module _ (w : Work) (list : List Finding) where
   abbrev u : Work
   u = work_toured w list
 
-  known_before : (a c : ℕ) → IsKnown u a c → IsKnown w a c
-  known_before a c (Live is) = Live is
-  known_before a c (Captured r runs is) = Captured r runs is
-  known_before a c (Written r b runs there is) = Written r b runs there is
-  known_before a c (Durable is) = Durable is
-  known_before a c (Chained b there is) = Chained b there is
-
   sense_behind : (sh : Shape) (spell : Parts → List ℕ) → IsWork sh spell w → IsWork sh spell u
-  sense_behind sh spell work = record {
-    codec = work.codec;
-    version = work.version;
-    view = work.view;
-    sessions = work.sessions;
-    grid = work.grid;
-    waiting = work.waiting;
-    staged = work.staged;
-    running = work.running;
-    one = λ a c d first second. work.one a c d (known_before a c first) (known_before a d second);
-    sums = work.sums;
-    few = newest_few (w.findings ++ list);
-    clear = work.clear;
-  }
+  sense_behind sh spell = tour_keeps sh spell w first_tour (newest (w.findings ++ list)) (newest_few (w.findings ++ list))
 
   kept_behind : (sh : Shape) (spell : Parts → List ℕ) (log : UnitLog) → IsKeptBy sh spell log w → IsKeptBy sh spell log u
   kept_behind sh spell log by = record { sense = sense_behind sh spell by.sense; tidy = by.tidy; written = by.written }

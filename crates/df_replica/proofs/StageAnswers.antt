@@ -1,12 +1,10 @@
 -- Each stage is the machine's: its answer, and the state after it. It asks nothing of the disk.
-use Rattle.std.{proofs.{Common.{◌≡◌, ℕ, ◌+◌, ◌^◌, ◌<◌, true, List, [], length, Option, Some, None, refl, sym, ◌∙◌, ap, subst}, lemmas.Option.{same_Some}}, specs.Prelude.{Ok, Err}}
-use Rattle.df_base.specs.Log.{now}
+use Rattle.std.{proofs.{Common.{◌≡◌, ℕ, ◌+◌, ◌^◌, ◌<◌, true, List, [], length, Option, Some, None, refl, sym, ◌∙◌, ap, subst}}, specs.Prelude.{Ok, Err}}
 use Rattle.df_disk.specs.Told.{Told}
-use Rattle.df_journal.specs.Append.{ShowsRing}
 use Rattle.df_theory.specs.Shape.{Shape}
 use Rattle.df_model.{specs.{After.{outcome, with_staged}, Changing.{staged_in, unless_refused}, Codec.{AreChecksums}, Commands.{Answer, Command, ForStage, Given, IsInput, Stage, ToStage, as_answer, supplied_sums}, Memory.{Memory, memory_of}, Refusals.{first_refusal, stage_refusals}, Sense.{IsWork}, Work.{Request, Work}, declared.errors.AppendError.{AppendError}}, proofs.Laws.{change_law}}
 use Rattle.df_opening.specs.Below.{Represents, State, memory, shape, spelling}
-use Rattle.df_replica.{specs.{Answering.{Serves, stage_answer}, Flushing.{request_made, staged_with}, Serving.{IsCall, next}, Supply.{IsSupplied}}, proofs.{Calls.{AreCalls, Answered, answered_call, answered_still}, Leaves.{Makes, makes_nothing}}}
+use Rattle.df_replica.{specs.{Answering.{Serves, stage_answer}, Flushing.{request_made, staged_with}, Serving.{IsCall, next}, Supply.{IsSupplied}}, proofs.{Calls.{AreCalls, Answered, answered_call, answered_quiet, answered_still}, Leaves.{Makes, makes_nothing}}}
 
 module _ (s : State) (client request : ℕ) (body : List ℕ) (given : Given) (live : s.live ≡ true) (fits : client < 2 ^ 128) (none_given : given ≡ ForStage) where
   abbrev command : Command
@@ -71,13 +69,9 @@ module _ (s : State) (client request : ℕ) (body : List ℕ) (given : Given) (l
           ((λ i. ToStage (Ok ((rep i).head + length (rep i).staged + 1))), stands)
 
     allowed_as : Answered given command s (staged_with s r) [] answer
-    allowed_as = record {
-      file = refl;
-      live = live;
-      stands = λ w work rep. allowed_at w work rep;
-      made = λ w work rep. tt;
-      ring = λ g w a b k all. subst (λ (x : Told). ShowsRing s.file.layout s.file.cluster (now x.log) s.headers) (sym (same_Some _ _ all)) k.ring;
-    }
+    allowed_as =
+        answered_quiet s (staged_with s r) given command answer refl refl live
+        (λ w work rep. allowed_at w work rep) (λ w work rep. tt)
 
     allowed_call : (told : Option Told) → IsSupplied s told command given → IsCall given command s (staged_with s r) told told (Some answer)
     allowed_call told supplied = answered_call given command s [] input does puts (staged_with s r) answer allowed_as told told supplied refl

@@ -2,7 +2,6 @@
 use Rattle.std.{proofs.Common.{◌≡◌, ◌+◌, ◌==◌, false, Some, refl, sym, ap, ◌∙◌, arith, ne_eqb}, specs.{Prelude.{option_map}, List.{position}}}
 use Rattle.df_model.specs.Refusals.{session_of_client}
 use Rattle.df_opening.specs.Below.{asker_of}
-use Rattle.df_sessions.specs.declared.session.Session as told
 use Rattle.df_sessions.specs.{Requests.{session_of}, Table.{has_client}}
 use Rattle.df_replica.{specs.Flushing.{sessions_staged}, proofs.{AppendTests.{session_found, small_session, each_small}, StageTests.{other_session, own_session, request_at, staged_more}}}
 use Rattle.df_replica.proofs.flush.session_staged.Goals as goal
