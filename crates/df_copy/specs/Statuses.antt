@@ -1,6 +1,6 @@
 -- How a copy ends: the numbers of the statuses, and what each ending blames and prints.
 use Rattle.std.specs.Prelude.{◌≡◌, ℕ, Bool, true, false, ◌||◌, refl}
-use Rattle.df_program.specs.Ends.{AreNumbered}
+use Rattle.df_program.specs.Ends.{Statuses}
 use Rattle.df_model.specs.declared.errors.FormatError.{FormatError}
 use Rattle.df_model.specs.declared.errors.FormatError.TheVariants as formats
 use Rattle.df_model.specs.declared.reading.LookupError.{LookupError}
@@ -21,8 +21,8 @@ copy_exit_number ends.DiskFault = 5
 copy_exit_number ends.WriteFault = 7
 copy_exit_number ends.Memory = 8
 
-pub are_numbered : AreNumbered copy_exit_number ends.Refused ends.DiskFault ends.WriteFault
-are_numbered = record { refused_is = refl; disk_is = refl; sink_is = refl }
+abbrev pub statuses : Statuses Status
+statuses = record { number = copy_exit_number; refused = ends.Refused; disk_fault = ends.DiskFault; write_fault = ends.WriteFault; refused_is = refl; disk_is = refl; sink_is = refl }
 
 -- the source's disk failed
 abbrev pub is_source : Ending → Bool

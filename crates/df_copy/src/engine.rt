@@ -19,7 +19,7 @@ use df_base::{OutOfMemory, Sink};
 use df_buffers::ProbeRoom;
 use df_disk::Disk;
 use df_layout::Layout;
-use df_program::{a_name_is_of_one_layout, end_with, layout_named, refuse_file};
+use df_program::{a_name_is_of_one_layout, layout_named, print_usage, refuse_file};
 use df_replica::{Replica, Rooms, probe};
 use std::alloc::Global;
 
@@ -153,6 +153,6 @@ pub fn copy<A: Disk, B: Disk, W: Sink>(
     a_name_is_of_one_layout();
     match layout_in(words) {
         Some(layout) => copy_file(alloc, &layout, from, to, sink),
-        None => end_with(sink, USAGE, Status::Words),
+        None => print_usage(sink, USAGE, Status::Words),
     }
 }

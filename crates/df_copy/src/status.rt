@@ -1,5 +1,5 @@
 // How a copy ends.
-use df_program::Ends;
+use df_program::{Ends, Shared};
 
 /// How a copy ended. `number` is the status of the program's exit, as of `datafile`.
 #[derive(Clone, Copy, Debug, PartialEq, Eq)]
@@ -19,26 +19,19 @@ pub enum Status {
 }
 
 impl Ends for Status {
-    ghost use Rattle.df_copy.specs.Statuses.{are_numbered, copy_exit_number};
-    ghost use Rattle.df_copy.specs.declared.status.Status.TheVariants as ends;
+    ghost use Rattle.df_copy.specs.Statuses.{statuses};
 
-    ghost number = { copy_exit_number };
+    ghost statuses = { statuses };
 
-    ghost REFUSED = { ends.Refused };
-
-    ghost DISK_FAULT = { ends.DiskFault };
-
-    ghost WRITE_FAULT = { ends.WriteFault };
-
-    const REFUSED: Status = Status::Refused;
-
-    const DISK_FAULT: Status = Status::DiskFault;
-
-    const WRITE_FAULT: Status = Status::WriteFault;
+    fn shared() -> Shared<Status> {
+        Shared {
+            refused: Status::Refused,
+            disk_fault: Status::DiskFault,
+            write_fault: Status::WriteFault,
+        }
+    }
 
     fn number(self) -> u8 {
         self as u8
     }
-
-    ghost are_numbered = { are_numbered };
 }

@@ -1,6 +1,6 @@
 -- How a run ends: the numbers of the statuses, and what each ending blames.
 use Rattle.std.specs.Prelude.{◌≡◌, ℕ, Bool, true, false, Result, refl}
-use Rattle.df_program.specs.Ends.{AreNumbered}
+use Rattle.df_program.specs.Ends.{Statuses}
 use Rattle.df_base.specs.Causes.{IsBlamed}
 use Rattle.df_program.specs.Two.{Faults}
 use Rattle.df_model.specs.declared.errors.OpenError.TheVariants.{DiskFault}
@@ -19,8 +19,8 @@ mirror_exit_number ends.DiskFault = 5
 mirror_exit_number ends.WriteFault = 7
 mirror_exit_number ends.Memory = 8
 
-pub are_numbered : AreNumbered mirror_exit_number ends.Refused ends.DiskFault ends.WriteFault
-are_numbered = record { refused_is = refl; disk_is = refl; sink_is = refl }
+abbrev pub statuses : Statuses Status
+statuses = record { number = mirror_exit_number; refused = ends.Refused; disk_fault = ends.DiskFault; write_fault = ends.WriteFault; refused_is = refl; disk_is = refl; sink_is = refl }
 
 -- the first file's disk failed
 abbrev pub is_first : Ending → Bool

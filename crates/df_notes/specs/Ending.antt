@@ -1,6 +1,6 @@
 -- Why the program ends, and which object is to blame.
 use Rattle.std.specs.Prelude.{ℕ, Bool, true, false, refl}
-use Rattle.df_program.specs.Ends.{AreNumbered}
+use Rattle.df_program.specs.Ends.{Statuses}
 use Rattle.df_session.specs.declared.hearing.Fault.{Fault}
 use Rattle.df_session.specs.declared.hearing.Fault.TheVariants as faults
 use Rattle.df_notes.specs.declared.ended.Ended.{Ended}
@@ -14,8 +14,8 @@ notes_exit_number ReadFault = 6
 notes_exit_number WriteFault = 7
 notes_exit_number Memory = 8
 
-pub are_numbered : AreNumbered notes_exit_number Refused DiskFault WriteFault
-are_numbered = record { refused_is = refl; disk_is = refl; sink_is = refl }
+abbrev pub statuses : Statuses Ended
+statuses = record { number = notes_exit_number; refused = Refused; disk_fault = DiskFault; write_fault = WriteFault; refused_is = refl; disk_is = refl; sink_is = refl }
 
 -- by a call that answered an error: the disk failed in it, or it is refused
 abbrev pub ended_by : Bool → Ended

@@ -3,7 +3,7 @@ ghost use Rattle.std.specs.Prelude.{◌≡◌};
 ghost use Rattle.df_notes.specs.Ending.{ended_at, ended_by};
 
 use df_base::BlamesDisk;
-use df_program::Ends;
+use df_program::{Ends, Shared};
 use df_session::Fault;
 
 /// Why the program ended before its end. `number` is the status of its exit, as of `datafile`.
@@ -22,28 +22,21 @@ pub enum Ended {
 }
 
 impl Ends for Ended {
-    ghost use Rattle.df_notes.specs.Ending.{are_numbered, notes_exit_number};
-    ghost use Rattle.df_notes.specs.declared.ended.Ended.TheVariants as ends;
+    ghost use Rattle.df_notes.specs.Ending.{statuses};
 
-    ghost number = { notes_exit_number };
+    ghost statuses = { statuses };
 
-    ghost REFUSED = { ends.Refused };
-
-    ghost DISK_FAULT = { ends.DiskFault };
-
-    ghost WRITE_FAULT = { ends.WriteFault };
-
-    const REFUSED: Ended = Ended::Refused;
-
-    const DISK_FAULT: Ended = Ended::DiskFault;
-
-    const WRITE_FAULT: Ended = Ended::WriteFault;
+    fn shared() -> Shared<Ended> {
+        Shared {
+            refused: Ended::Refused,
+            disk_fault: Ended::DiskFault,
+            write_fault: Ended::WriteFault,
+        }
+    }
 
     fn number(self) -> u8 {
         self as u8
     }
-
-    ghost are_numbered = { are_numbered };
 }
 
 /// By an error of the replica: the disk is to blame, or the call is refused.

@@ -1,3 +1,4 @@
+mod Apart
 mod Blame
 mod Commas
 mod Disks

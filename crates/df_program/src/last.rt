@@ -8,58 +8,58 @@ ghost use Rattle.df_program.specs.Telling.{Blames, PrintsError, Writes, status_o
 
 use crate::ends::Ends;
 use df_base::{Failed, Sink};
-use df_inspect::{Line, print_answer, print_open_refusal, print_script};
+use df_inspect::{Line, print_answer, print_open_refusal, print_script, write_line};
 use df_layout::{Class, Place};
 use df_model::{Answer, Command, OpenError, StepError};
 
 /// Ends with the status that is given where the last text was printed.
 pub fn ended<S: Ends>(done: Result<(), Failed>, given: S) -> S
-    requires { given ≡ S.WRITE_FAULT → ⊥ }
-    ensures is { result ≡ status_or S.WRITE_FAULT given done }
-    ensures writes { (text : List ℕ) (old new : Option (List ℕ)) → Prints text old new done → Writes S.WRITE_FAULT text given old new result }
-    ensures sink { (before now : ℕ) → HasCause before now done → Blames S.WRITE_FAULT before now result }
+    requires { given ≡ S.statuses.write_fault → ⊥ }
+    ensures is { result ≡ status_or S.statuses.write_fault given done }
+    ensures writes { (text : List ℕ) (old new : Option (List ℕ)) → Prints text old new done → Writes S.statuses.write_fault text given old new result }
+    ensures sink { (before now : ℕ) → HasCause before now done → Blames S.statuses.write_fault before now result }
 {
     match done {
         Ok(()) => given,
-        Err(_) => S::WRITE_FAULT,
+        Err(_) => S::shared().write_fault,
     }
 }
 
-/// Prints a text, and ends with the status that is given, or with that of a failing sink.
-pub fn end_with<W: Sink, S: Ends>(sink: &mut W, text: &[u8], given: S) -> S
-    requires { given ≡ S.WRITE_FAULT → ⊥ }
-    ensures writes { Writes S.WRITE_FAULT text.now given (W.written sink.old) (W.written sink.new) result }
-    ensures sink { Blames S.WRITE_FAULT (W.faults sink.old) (W.faults sink.new) result }
+/// Prints the line that says which words have a meaning, and ends with the status of words that have none, which is given, or with that of a failing sink.
+pub fn print_usage<W: Sink, S: Ends>(sink: &mut W, usage: &[u8], words: S) -> S
+    requires { words ≡ S.statuses.write_fault → ⊥ }
+    ensures writes { Writes S.statuses.write_fault usage.now words (W.written sink.old) (W.written sink.new) result }
+    ensures sink { Blames S.statuses.write_fault (W.faults sink.old) (W.faults sink.new) result }
 {
-    ended(sink.write(text), given)
+    ended(sink.write(usage), words)
 }
 
 /// Prints a line, and ends with the status that is given, or with that of a failing sink.
 pub fn end_line<W: Sink, S: Ends>(sink: &mut W, line: &Line, given: S) -> S
-    requires { given ≡ S.WRITE_FAULT → ⊥ }
-    ensures writes { Writes S.WRITE_FAULT line.now.items given (W.written sink.old) (W.written sink.new) result }
-    ensures sink { Blames S.WRITE_FAULT (W.faults sink.old) (W.faults sink.new) result }
+    requires { given ≡ S.statuses.write_fault → ⊥ }
+    ensures writes { Writes S.statuses.write_fault line.now.items given (W.written sink.old) (W.written sink.new) result }
+    ensures sink { Blames S.statuses.write_fault (W.faults sink.old) (W.faults sink.new) result }
 {
-    end_with(sink, line.as_slice(), given)
+    ended(write_line(sink, line), given)
 }
 
 /// Prints why a file isn't opened, and ends with the status of a refusal; a failing disk has no line, and a status of its own.
 pub fn refuse_file<W: Sink, S: Ends>(sink: &mut W, error: &OpenError) -> S
-    ensures prints { PrintsError S.REFUSED S.DISK_FAULT S.WRITE_FAULT error.now (W.written sink.old) (W.written sink.new) result }
-    ensures sink { Blames S.WRITE_FAULT (W.faults sink.old) (W.faults sink.new) result }
+    ensures prints { PrintsError S.statuses.refused S.statuses.disk_fault S.statuses.write_fault error.now (W.written sink.old) (W.written sink.new) result }
+    ensures sink { Blames S.statuses.write_fault (W.faults sink.old) (W.faults sink.new) result }
 {
     if *error == OpenError::DiskFault {
-        return S::DISK_FAULT;
+        return S::shared().disk_fault;
     }
-    ended(print_open_refusal(sink, error), S::REFUSED)
+    ended(print_open_refusal(sink, error), S::shared().refused)
 }
 
 /// Prints the line that refuses the next line of a script, of which `lines` were executed, and ends with the status that is given.
 pub fn refuse_line<W: Sink, S: Ends>(sink: &mut W, lines: u64, given: S) -> S
     requires room { lines < 2 ^ 63 }
-    requires given { given ≡ S.WRITE_FAULT → ⊥ }
-    ensures writes { Writes S.WRITE_FAULT (script_text (lines + 1)) given (W.written sink.old) (W.written sink.new) result }
-    ensures sink { Blames S.WRITE_FAULT (W.faults sink.old) (W.faults sink.new) result }
+    requires given { given ≡ S.statuses.write_fault → ⊥ }
+    ensures writes { Writes S.statuses.write_fault (script_text (lines + 1)) given (W.written sink.old) (W.written sink.new) result }
+    ensures sink { Blames S.statuses.write_fault (W.faults sink.old) (W.faults sink.new) result }
 {
     ended(print_script(sink, lines + 1), given)
 }
@@ -75,8 +75,8 @@ pub fn print_damaged<W: Sink>(sink: &mut W, place: Place, class: Class) -> Resul
 
 /// Prints that what stands at a place isn't what is known of it, and ends with the status of a refusal.
 pub fn refuse_damaged<W: Sink, S: Ends>(sink: &mut W, place: Place, class: Class) -> S
-    ensures writes { Writes S.WRITE_FAULT (damaged_text place class) S.REFUSED (W.written sink.old) (W.written sink.new) result }
-    ensures sink { Blames S.WRITE_FAULT (W.faults sink.old) (W.faults sink.new) result }
+    ensures writes { Writes S.statuses.write_fault (damaged_text place class) S.statuses.refused (W.written sink.old) (W.written sink.new) result }
+    ensures sink { Blames S.statuses.write_fault (W.faults sink.old) (W.faults sink.new) result }
 {
-    ended(print_damaged(sink, place, class), S::REFUSED)
+    ended(print_damaged(sink, place, class), S::shared().refused)
 }

@@ -6,12 +6,14 @@ mod command_line;
 mod ends;
 mod last;
 mod layout;
+mod shared;
 mod turn;
 
 pub use command_line::Words;
 pub use ends::Ends;
 pub use last::{
-    end_line, end_with, ended, print_damaged, refuse_damaged, refuse_file, refuse_line,
+    end_line, ended, print_damaged, print_usage, refuse_damaged, refuse_file, refuse_line,
 };
 pub use layout::{a_name_is_of_one_layout, layout_named};
+pub use shared::Shared;
 pub use turn::{Turn, printed};

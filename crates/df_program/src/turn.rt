@@ -16,13 +16,13 @@ pub enum Turn<S> {
 
 /// Goes on where the answer was printed.
 pub fn printed<S: Ends>(done: Result<(), Failed>) -> Turn<S>
-    ensures is { result ≡ printed_turn S.WRITE_FAULT done }
-    ensures prints { (text : List ℕ) (old new : Option (List ℕ)) → Prints text old new done → IsPrinted S.WRITE_FAULT text old new result }
-    ensures sink { (before now : ℕ) → HasCause before now done → BlamesIfEnds S.WRITE_FAULT before now result }
-    ensures others { (fault : S) (before now : ℕ) → (S.WRITE_FAULT ≡ fault → ⊥) → now ≡ before → BlamesIfEnds fault before now result }
+    ensures is { result ≡ printed_turn S.statuses.write_fault done }
+    ensures prints { (text : List ℕ) (old new : Option (List ℕ)) → Prints text old new done → IsPrinted S.statuses.write_fault text old new result }
+    ensures sink { (before now : ℕ) → HasCause before now done → BlamesIfEnds S.statuses.write_fault before now result }
+    ensures others { (fault : S) (before now : ℕ) → (S.statuses.write_fault ≡ fault → ⊥) → now ≡ before → BlamesIfEnds fault before now result }
 {
     match done {
         Ok(()) => Turn::GoesOn,
-        Err(_) => Turn::Ends(S::WRITE_FAULT),
+        Err(_) => Turn::Ends(S::shared().write_fault),
     }
 }

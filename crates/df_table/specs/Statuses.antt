@@ -1,6 +1,6 @@
 -- How a run ends: the numbers of the statuses, and why a session ends before its script does.
 use Rattle.std.specs.Prelude.{ℕ, Bool, true, false, List, [], codes, refl}
-use Rattle.df_program.specs.Ends.{AreNumbered}
+use Rattle.df_program.specs.Ends.{Statuses}
 use Rattle.df_script_model.specs.Texts.{damaged_text}
 use Rattle.df_rows.specs.Answers.{not_table_text}
 use Rattle.df_session.specs.declared.hearing.Fault.{Fault}
@@ -21,8 +21,8 @@ table_exit_number ends.ReadFault = 6
 table_exit_number ends.WriteFault = 7
 table_exit_number ends.Memory = 8
 
-pub are_numbered : AreNumbered table_exit_number ends.Refused ends.DiskFault ends.WriteFault
-are_numbered = record { refused_is = refl; disk_is = refl; sink_is = refl }
+abbrev pub statuses : Statuses Status
+statuses = record { number = table_exit_number; refused = ends.Refused; disk_fault = ends.DiskFault; write_fault = ends.WriteFault; refused_is = refl; disk_is = refl; sink_is = refl }
 
 -- the disk failed
 abbrev pub is_disk : Ending → Bool

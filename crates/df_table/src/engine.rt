@@ -13,7 +13,7 @@ use df_buffers::ProbeRoom;
 use df_disk::Disk;
 use df_layout::Layout;
 use df_lines::LineRoom;
-use df_program::{end_with, refuse_file};
+use df_program::{print_usage, refuse_file};
 use df_rows::{ObjectTable, ROW, rows_in_block};
 use df_session::{Rooms, probe};
 use std::alloc::Global;
@@ -116,6 +116,6 @@ pub fn run_table<D: Disk, S: Source, W: Sink>(
     if is_table(words) {
         run_file(alloc, source, sink, disk)
     } else {
-        end_with(sink, USAGE, Status::Words)
+        print_usage(sink, USAGE, Status::Words)
     }
 }

@@ -1,6 +1,6 @@
 -- The numbers of the statuses, as the program's exit gives them.
 use Rattle.std.specs.Prelude.{ℕ, refl}
-use Rattle.df_program.specs.Ends.{AreNumbered}
+use Rattle.df_program.specs.Ends.{Statuses}
 use Rattle.df_top.specs.declared.status.Status.{Status}
 use Rattle.df_top.specs.declared.status.Status.TheVariants.{Done, Found, Words, Script, Refused, DiskFault, ReadFault, WriteFault, Memory}
 
@@ -15,5 +15,5 @@ exit_number ReadFault = 6
 exit_number WriteFault = 7
 exit_number Memory = 8
 
-pub are_numbered : AreNumbered exit_number Refused DiskFault WriteFault
-are_numbered = record { refused_is = refl; disk_is = refl; sink_is = refl }
+abbrev pub statuses : Statuses Status
+statuses = record { number = exit_number; refused = Refused; disk_fault = DiskFault; write_fault = WriteFault; refused_is = refl; disk_is = refl; sink_is = refl }

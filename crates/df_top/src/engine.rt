@@ -25,7 +25,7 @@ use df_buffers::ProbeRoom;
 use df_disk::Disk;
 use df_layout::Layout;
 use df_lines::LineRoom;
-use df_program::{end_with, refuse_file};
+use df_program::{print_usage, refuse_file};
 use df_session::{Rooms, probe};
 use std::alloc::Global;
 
@@ -142,6 +142,6 @@ pub fn run<D: Disk, S: Source, W: Sink>(
             Task::Upgrade => upgrade_old(alloc, sink, disk),
             Task::Open => run_file(alloc, mode, source, sink, disk),
         },
-        None => end_with(sink, USAGE, Status::Words),
+        None => print_usage(sink, USAGE, Status::Words),
     }
 }

@@ -22,7 +22,7 @@ returns-then-is_table-clause-runs g c = λ word. c.run_file.ensures.runs
 -- ---- other words
 
 pub returns-else-is_table-clause-usage : goal.returns-else-is_table-clause-usage
-returns-else-is_table-clause-usage g c = λ other. c.end_with.ensures.writes
+returns-else-is_table-clause-usage g c = λ other. c.print_usage.ensures.writes
 
 pub returns-else-is_table-clause-words : goal.returns-else-is_table-clause-words
 returns-else-is_table-clause-words g c = λ is word. false≢true (sym c.if-is_table.false ∙ c.is_table.ensures.1 word)

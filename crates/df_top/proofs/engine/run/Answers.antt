@@ -132,7 +132,7 @@ returns-in-Make-clause-upgraded_hurt g c = λ asks. absurd (no_upgrade_asked (ma
 
 pub returns-in-None-clause-usage : goal.returns-in-None-clause-usage
 unfolding usage
-returns-in-None-clause-usage g c = λ nothing. c.end_with.ensures.writes
+returns-in-None-clause-usage g c = λ nothing. c.print_usage.ensures.writes
 
 pub returns-in-None-clause-formats : goal.returns-in-None-clause-formats
 returns-in-None-clause-formats g c = λ layout cluster asks. absurd (c.in-None.ensures.none (Format layout cluster) asks)
