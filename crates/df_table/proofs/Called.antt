@@ -11,7 +11,7 @@ use Rattle.df_model.specs.declared.errors.BeginError.TheVariants as begin
 use Rattle.df_model.specs.declared.errors.BlockError.TheVariants as block
 use Rattle.df_model.specs.declared.errors.ReplyError.TheVariants as reply
 use Rattle.df_model.specs.declared.errors.StepError.TheVariants as step
-use Rattle.df_session.{specs.{Answering.{Serves, as_append, as_reply, as_write_block}, Appending.{IsAppendCall, next_unit, with_prepare_appended}, Beginning.{IsBegin, begin_refusal, with_checkpoint_begun}, Below.{State as Replica, RunningState, memory}, Blocks.{IsRelease, IsWriteBlock, next_block, released, written}, Calls.{machine_answer}, Links.{Makes}, Own.{AddsOwn}, Replying.{IsReplyCall, next_reply, with_stored_reply}, Stepping.{IsStepCall, OfRunning}}, proofs.Laws.{heard_made, on_running, step_called}}
+use Rattle.df_session.{specs.{Answering.{Serves, as_append, as_reply, as_write_block}, Appending.{IsAppendCall, next_unit, with_prepare_appended}, Beginning.{IsBegin, begin_refusal, with_checkpoint_begun}, Below.{State as Replica, RunningState, memory}, Blocks.{IsRelease, IsWriteBlock, next_block, released, written}, Calls.{machine_answer}, Links.{Makes}, Own.{AddsOwn}, Replying.{IsReplyCall, next_reply, with_stored_reply}, Stepping.{IsStepCall, OfRunning}}, proofs.Laws.{append_called, heard_made, on_running, reply_called, step_called, write_called}}
 use Rattle.df_session.specs.declared.hearing.Fault.TheVariants as faults
 use Rattle.df_table.{specs.{Calls.{CheckpointStepped, Comes, IsCheckpointing, MayAppendCommand, MayBegin, stepped, taken}, declared.ending.Ending.{Ending}, declared.ending.Ending.TheVariants.{Disk, OpsSpent, SequenceSpent}, Policy.{the_client}, Statuses.{is_disk}, Turns.{EndsFor, IsAccepted, IsOfCall, MakeAll}}, proofs.Joined.{one_failed, one_made, one_spent}}
 
@@ -60,13 +60,22 @@ module _ (s t : Replica) (old new : Option Told) where
 
   module _ (before now : ℕ) where
     module _ (op : ℕ) where
-      pub reply_takes : (r : Result (List ℕ) ReplyError) → IsReplyCall op [] s t old new r → Makes (Reply op []) s t old new (machine_answer (answers.Reply r)) → IsBlamed is_reply_fault before now r
-          → Takes before now (first_refusal (reply_refusals (memory s) op []) ≡ None) (Reply op []) (with_stored_reply s (next_reply s []).header) (taken {U = Unit {0}} (λ (x : List ℕ). tt) is_reply_fault OpsSpent r)
+      abbrev pub Replied : Result (Unit {0}) Ending → Type 0
+      Replied y = Takes before now (first_refusal (reply_refusals (memory s) op []) ≡ None) (Reply op []) (with_stored_reply s (next_reply s []).header) y
+
+      reply_takes : (r : Result (List ℕ) ReplyError) → IsReplyCall op [] s t old new r → Makes (Reply op []) s t old new (machine_answer (answers.Reply r))
+          → IsBlamed is_reply_fault before now r → Replied (taken {U = Unit {0}} (λ (x : List ℕ). tt) is_reply_fault OpsSpent r)
       reply_takes (Ok check) is makes blamed = took before now _ (Reply op []) _ (as_reply (Ok check)) makes tt is.2 blamed tt
       reply_takes (Err reply.DiskFault) is makes blamed = no_answer before now _ (Reply op []) _ makes blamed
       reply_takes (Err (reply.NothingPending a)) is makes blamed = never_refused before now _ (Reply op []) _ (λ may. none-some (reply.NothingPending a) (sym may ∙ is.0)) blamed OpsSpent tt refl
       reply_takes (Err (reply.ReplyOrder a)) is makes blamed = never_refused before now _ (Reply op []) _ (λ may. none-some (reply.ReplyOrder a) (sym may ∙ is.0)) blamed OpsSpent tt refl
       reply_takes (Err (reply.BodyTooLong a)) is makes blamed = never_refused before now _ (Reply op []) _ (λ may. none-some (reply.BodyTooLong a) (sym may ∙ is.0)) blamed OpsSpent tt refl
+
+      -- by the clauses of the call
+      pub reply_comes : (r : Result (List ℕ) ReplyError) (y : Result (Unit {0}) Ending) → y ≡ taken {U = Unit {0}} (λ (x : List ℕ). tt) is_reply_fault OpsSpent r
+          → IsReplyCall op [] s t old new r → Serves (Reply op []) s t old new (machine_answer (answers.Reply r))
+          → AddsOwn (Reply op []) s old new (machine_answer (answers.Reply r)) → IsBlamed is_reply_fault before now r → Replied y
+      reply_comes r y same is serves own blamed = subst Replied (sym same) (reply_takes r is (reply_called s t old new before now op [] r is serves own blamed).makes blamed)
 
       -- it fails with the disk alone
       pub reply_fails : (r : Result (List ℕ) ReplyError) → IsReplyCall op [] s t old new r → first_refusal (reply_refusals (memory s) op []) ≡ None → IfErr (taken {U = Unit {0}} (λ (x : List ℕ). tt) is_reply_fault OpsSpent r) (λ e. e ≡ Disk)
@@ -77,13 +86,21 @@ module _ (s t : Replica) (old new : Option Told) where
       reply_fails (Err (reply.BodyTooLong a)) is may = absurd (none-some (reply.BodyTooLong a) (sym may ∙ is.0))
 
     module _ (body : List ℕ) where
-      pub write_takes : (r : Result Reference BlockError) → IsWriteBlock 1 body s t old new r → Makes (WriteBlock 1 body) s t old new (machine_answer (answers.WriteBlock r)) → IsBlamed is_block_fault before now r
-          → Takes before now (first_refusal (block_refusals (memory s) 1 body) ≡ None) (WriteBlock 1 body) (written s (next_block s 1 body).header) (taken {U = Unit {0}} (λ (x : Reference). tt) is_block_fault SequenceSpent r)
+      abbrev pub BlockWritten : Result (Unit {0}) Ending → Type 0
+      BlockWritten y = Takes before now (first_refusal (block_refusals (memory s) 1 body) ≡ None) (WriteBlock 1 body) (written s (next_block s 1 body).header) y
+
+      write_takes : (r : Result Reference BlockError) → IsWriteBlock 1 body s t old new r → Makes (WriteBlock 1 body) s t old new (machine_answer (answers.WriteBlock r))
+          → IsBlamed is_block_fault before now r → BlockWritten (taken {U = Unit {0}} (λ (x : Reference). tt) is_block_fault SequenceSpent r)
       write_takes (Ok reference) is makes blamed = took before now _ (WriteBlock 1 body) _ (as_write_block (Ok reference)) makes tt is.2 blamed tt
       write_takes (Err block.DiskFault) is makes blamed = no_answer before now _ (WriteBlock 1 body) _ makes blamed
       write_takes (Err block.KindZero) is makes blamed = never_refused before now _ (WriteBlock 1 body) _ (λ may. none-some block.KindZero (sym may ∙ is.0)) blamed SequenceSpent tt refl
       write_takes (Err (block.BodyTooLong a)) is makes blamed = never_refused before now _ (WriteBlock 1 body) _ (λ may. none-some (block.BodyTooLong a) (sym may ∙ is.0)) blamed SequenceSpent tt refl
       write_takes (Err (block.GridFull a)) is makes blamed = never_refused before now _ (WriteBlock 1 body) _ (λ may. none-some (block.GridFull a) (sym may ∙ is.0)) blamed SequenceSpent tt refl
+
+      pub write_comes : (r : Result Reference BlockError) (y : Result (Unit {0}) Ending) → y ≡ taken {U = Unit {0}} (λ (x : Reference). tt) is_block_fault SequenceSpent r
+          → IsWriteBlock 1 body s t old new r → Serves (WriteBlock 1 body) s t old new (machine_answer (answers.WriteBlock r))
+          → AddsOwn (WriteBlock 1 body) s old new (machine_answer (answers.WriteBlock r)) → IsBlamed is_block_fault before now r → BlockWritten y
+      write_comes r y same is serves own blamed = subst BlockWritten (sym same) (write_takes r is (write_called s t old new before now 1 body r is serves own blamed).makes blamed)
 
     -- nothing but want of what is spent refuses it
     other_refusal : {E : Type 0} (o : Option E) (e spent_so : E) → (e ≡ spent_so → ⊥) → o ≡ Some e → (o ≡ None) ⊎ (o ≡ Some spent_so) → ⊥
@@ -91,14 +108,14 @@ module _ (s t : Replica) (old new : Option Told) where
     other_refusal o e spent_so other is (inr so) = other (let same : Some e ≡ Some spent_so = sym is ∙ so in cc)
 
     module _ (request : ℕ) (body : List ℕ) where
-      abbrev Appended : AppendError → Type 0
-      Appended e = Takes {T = ℕ} before now (MayAppendCommand s request body) (Append the_client request body) (with_prepare_appended s (next_unit s the_client request body)) (Err OpsSpent)
+      abbrev pub Appended : Result ℕ Ending → Type 0
+      Appended y = Takes before now (MayAppendCommand s request body) (Append the_client request body) (with_prepare_appended s (next_unit s the_client request body)) y
 
-      append_refused : (e : AppendError) → (e ≡ append.OpsSpent → ⊥) → first_refusal (append_refusals (memory s) the_client request body) ≡ Some e → now ≡ before → Appended e
+      append_refused : (e : AppendError) → (e ≡ append.OpsSpent → ⊥) → first_refusal (append_refusals (memory s) the_client request body) ≡ Some e → now ≡ before → Appended (Err OpsSpent)
       append_refused e other is same = never_refused before now _ (Append the_client request body) _ (other_refusal (first_refusal (append_refusals (memory s) the_client request body)) e append.OpsSpent other is) same OpsSpent tt refl
 
-      pub append_takes : (r : Result Receipt AppendError) → IsAppendCall the_client request body s t old new r → Makes (Append the_client request body) s t old new (machine_answer (answers.Append r)) → IsBlamed is_append_fault before now r
-          → Takes before now (MayAppendCommand s request body) (Append the_client request body) (with_prepare_appended s (next_unit s the_client request body)) (taken (λ (x : Receipt). x.op) is_append_fault OpsSpent r)
+      append_takes : (r : Result Receipt AppendError) → IsAppendCall the_client request body s t old new r → Makes (Append the_client request body) s t old new (machine_answer (answers.Append r))
+          → IsBlamed is_append_fault before now r → Appended (taken (λ (x : Receipt). x.op) is_append_fault OpsSpent r)
       append_takes (Ok receipt) is makes blamed = took before now _ (Append the_client request body) _ (as_append (Ok receipt)) makes tt is.2 blamed receipt.op
       append_takes (Err append.DiskFault) is makes blamed = no_answer before now _ (Append the_client request body) _ makes blamed
       append_takes (Err append.OpsSpent) is makes blamed = spent before now _ (Append the_client request body) _ (ToAppend (Err append.OpsSpent)) makes OpsSpent (refl, ([], refl)) blamed tt refl
@@ -112,6 +129,12 @@ module _ (s t : Replica) (old new : Option Told) where
       append_takes (Err (append.Staged a)) is makes blamed = append_refused (append.Staged a) (λ no. cc) is.0 blamed
       append_takes (Err (append.WalFull a b)) is makes blamed = append_refused (append.WalFull a b) (λ no. cc) is.0 blamed
 
+      pub append_comes : (r : Result Receipt AppendError) (y : Result ℕ Ending) → y ≡ taken (λ (x : Receipt). x.op) is_append_fault OpsSpent r
+          → IsAppendCall the_client request body s t old new r → Serves (Append the_client request body) s t old new (machine_answer (answers.Append r))
+          → AddsOwn (Append the_client request body) s old new (machine_answer (answers.Append r)) → IsBlamed is_append_fault before now r → Appended y
+      append_comes r y same is serves own blamed =
+          subst Appended (sym same) (append_takes r is (append_called s t old new before now the_client request body r is serves own blamed).makes blamed)
+
     begin_refused : (e : BeginError) → (e ≡ begin.SequenceSpent → ⊥) → begin_refusal s [] ≡ Some e → now ≡ before → Takes {T = Unit {0}} before now (MayBegin s) (Begin []) (with_checkpoint_begun s []) (Err SequenceSpent)
     begin_refused e other is same = never_refused before now _ (Begin []) _ (other_refusal (begin_refusal s []) e begin.SequenceSpent other is) same SequenceSpent tt refl
 
@@ -124,14 +147,14 @@ module _ (s t : Replica) (old new : Option Told) where
     begin_takes (Err (begin.GridFull a b)) is makes same = begin_refused (begin.GridFull a b) (λ no. cc) is.0 same
 
     -- a step
-    pub record Stepped (r : Result Progress StepError) : Type 0 where
-      pub comes : Comes (Advance ∷ []) s t old new (stepped r)
-      pub state : IfOk (stepped r) (λ done. CheckpointStepped done s t)
-      pub live : OnOk (stepped r) (t.live ≡ true)
-      pub ends : IfErr (stepped r) (IsOfCall new)
-      pub disk : IsBlamed is_disk before now (stepped r)
+    pub record Stepped (y : Result Bool Ending) : Type 0 where
+      pub comes : Comes (Advance ∷ []) s t old new y
+      pub state : IfOk y (λ done. CheckpointStepped done s t)
+      pub live : OnOk y (t.live ≡ true)
+      pub ends : IfErr y (IsOfCall new)
+      pub disk : IsBlamed is_disk before now y
 
-    pub step_takes : IsCheckpointing s → (r : Result Progress StepError) → IsStepCall s t old new r → Serves Advance s t old new (machine_answer (answers.Advance r)) → AddsOwn Advance s old new (machine_answer (answers.Advance r)) → IsBlamed is_step_fault before now r → Stepped r
+    pub step_takes : IsCheckpointing s → (r : Result Progress StepError) → IsStepCall s t old new r → Serves Advance s t old new (machine_answer (answers.Advance r)) → AddsOwn Advance s old new (machine_answer (answers.Advance r)) → IsBlamed is_step_fault before now r → Stepped (stepped r)
     step_takes runs (Ok (progress.Working left)) is serves own blamed =
         let makes = (step_called s t old new before now (Ok (progress.Working left)) is serves own blamed).makes in
         record { comes = one_made Advance s t old new (ToAdvance (Ok (progress.Working left))) makes tt; state = on_running s.running (λ r i. (i.0, i.2)) is; live = makes.calls.call.live; ends = tt; disk = blamed }

@@ -11,7 +11,7 @@ ghost use Rattle.df_session.specs.Beginning.{with_checkpoint_begun};
 ghost use Rattle.df_session.specs.Below.{memory};
 ghost use Rattle.df_session.specs.Blocks.{next_block, released, written};
 ghost use Rattle.df_session.specs.Replying.{next_reply, with_stored_reply};
-ghost use Rattle.df_table.specs.Calls.{CheckpointStepped, Comes, IsCheckpointing, MayAppendCommand, MayBegin, ended_or, stepped};
+ghost use Rattle.df_table.specs.Calls.{CheckpointStepped, Comes, IsCheckpointing, MayAppendCommand, MayBegin, ended_or, stepped, taken};
 ghost use Rattle.df_table.specs.Policy.{the_client};
 ghost use Rattle.df_table.specs.Statuses.{is_disk};
 ghost use Rattle.df_table.specs.Turns.{IsOfCall, MakeAll};
@@ -33,6 +33,16 @@ fn ended_or<E: BlamesDisk>(error: &E, otherwise: Ending) -> Ending
         return Ending::Disk;
     }
     otherwise
+}
+
+// That a call was answered, or why the session ends by its error.
+fn done_or<T, E: BlamesDisk>(answer: &Result<T, E>, otherwise: Ending) -> Result<(), Ending>
+    ensures { result ≡ taken (λ (x : T). tt) E.is_fault otherwise answer.now }
+{
+    match answer {
+        Ok(_) => Ok(()),
+        Err(error) => Err(ended_or(error, otherwise)),
+    }
 }
 
 /// Appends a body as the client's next request, and answers its op.
@@ -66,10 +76,8 @@ pub(crate) fn reply<D: Disk>(disk: &mut D, replica: &mut Replica, op: u64) -> Re
     ensures ends { IfErr result (IsOfCall (D.told disk.new)) }
     ensures disk { IsBlamed is_disk (D.faults disk.old) (D.faults disk.new) result }
 {
-    match replica.reply(disk, op, &[]) {
-        Ok(_) => Ok(()),
-        Err(error) => Err(ended_or(&error, Ending::OpsSpent)),
-    }
+    let answer = replica.reply(disk, op, &[]);
+    done_or(&answer, Ending::OpsSpent)
 }
 
 /// Lets a live block go. That touches no disk, and isn't refused.
@@ -93,10 +101,8 @@ pub(crate) fn write<D: Disk>(disk: &mut D, replica: &mut Replica, body: &[u8]) -
     ensures ends { IfErr result (IsOfCall (D.told disk.new)) }
     ensures disk { IsBlamed is_disk (D.faults disk.old) (D.faults disk.new) result }
 {
-    match replica.write_block(disk, 1, body) {
-        Ok(_) => Ok(()),
-        Err(error) => Err(ended_or(&error, Ending::SequenceSpent)),
-    }
+    let answer = replica.write_block(disk, 1, body);
+    done_or(&answer, Ending::SequenceSpent)
 }
 
 /// Begins a checkpoint without a root. Of a session that is ready it is refused only where no sequence is left.
