@@ -112,21 +112,22 @@ told_after sh t c = t
 
 -- ---- and what it prints
 
+-- the refusal's line, or what was done
+abbrev said_or : {E : Type 0} → (E → List ℕ) → List ℕ → Option E → List ℕ
+said_or refusal done (Some e) = refusal e
+said_or refusal done None = done
+
 abbrev append_text : Option AppendError → (op : ℕ) → List ℕ
-append_text (Some e) op = append_refusal e
-append_text None op = line_of (numbered (codes "appended") op)
+append_text o op = said_or append_refusal (line_of (numbered (codes "appended") op)) o
 
 abbrev stage_text : Option AppendError → (op : ℕ) → List ℕ
-stage_text (Some e) op = append_refusal e
-stage_text None op = line_of (numbered (codes "staged") op)
+stage_text o op = said_or append_refusal (line_of (numbered (codes "staged") op)) o
 
 abbrev flush_text : Option FlushError → (count : ℕ) → List ℕ
-flush_text (Some e) count = flush_refusal e
-flush_text None count = line_of (numbered (codes "flushed") count)
+flush_text o count = said_or flush_refusal (line_of (numbered (codes "flushed") count)) o
 
 abbrev reply_text : Option ReplyError → (op : ℕ) → List ℕ
-reply_text (Some e) op = reply_refusal e
-reply_text None op = line_of (numbered (codes "replied") op)
+reply_text o op = said_or reply_refusal (line_of (numbered (codes "replied") op)) o
 
 abbrev lookup_text : Option LookupError → (place : ℕ) → Result Message Class → List ℕ
 lookup_text o place read = text_or lookup_refusal (message_text (codes "reply")) (shown_or o (lookup.Damaged (record { zone = ClientReplies; index = place })) read)

@@ -109,13 +109,16 @@ module _ (file : DataFile) (log : Log) (logs : List Log) (t : Told) (may : MayRe
     own : (mode : Mode) → ServesOwn mode t old new status → ServesSince file log logs t mode old new status
     own mode serves = serves_since mode (subst (λ (l : Layout). Does mode l t old new status) (lived_layout file log logs t.shown may serves.layout serves.shown) serves.serves)
 
+-- of three outcomes the last one says more
+on_last : {A B C D : Type 0} → (C → D) → A ⊎ B ⊎ C → A ⊎ B ⊎ D
+on_last more (inl a) = inl a
+on_last more (inr (inl b)) = inr (inl b)
+on_last more (inr (inr c)) = inr (inr (more c))
+
 pub serves_over_history : (mode : Mode) (layout : Layout) (old new : Outside) (status : Status) → ServesIn mode layout old new status → ServesOverHistory mode layout old new status
 serves_over_history mode layout old new status serves = λ file t log logs same told may.
     serves_since file log logs t may old new status mode (subst (λ (l : Layout). Does mode l t old new status) same (serves t told may.whole))
 
 pub runs_over_history : (mode : Mode) (old new : Outside) (status : Status) → Runs mode old new status → RunsOverHistory mode old new status
-runs_over_history mode old new status runs = λ file t log logs told may. elim (runs t told may.whole) [
-  | inl nothing ↦ inl nothing
-  | inr (inl refuses) ↦ inr (inl refuses)
-  | inr (inr serves) ↦ inr (inr (own file log logs t may old new status mode serves))
-]
+runs_over_history mode old new status runs = λ file t log logs told may.
+    on_last (own file log logs t may old new status mode) (runs t told may.whole)
