@@ -4,8 +4,7 @@ ghost use Rattle.df_base.specs.Causes.{HasCause};
 ghost use Rattle.df_inspect.specs.Prints.{Prints};
 ghost use Rattle.df_layout.specs.Zones.{file_sectors};
 ghost use Rattle.df_program.specs.Telling.{Blames, Writes};
-ghost use Rattle.df_copy.specs.Statuses.{is_fault};
-ghost use Rattle.df_copy.specs.Texts.{copied_text, ending_text};
+ghost use Rattle.df_copy.specs.{Statuses.{is_fault}, Texts.{copied_text, ending_text}};
 
 use crate::ending::Ending;
 use crate::status::Status;

@@ -1,13 +1,10 @@
 // A run, from the memory that it takes to its last line.
 ghost use Rattle.std.specs.Prelude.{◌≡◌, ℕ, true, map, string_bytes, Some, Err, IfErr};
-ghost use Rattle.df_base.specs.Causes.{Blamed, IsBlamed};
-ghost use Rattle.df_base.specs.Image.{IsImage};
+ghost use Rattle.df_base.specs.{Causes.{Blamed, IsBlamed}, Image.{IsImage}};
 ghost use Rattle.df_disk.specs.Told.{Told};
 ghost use Rattle.df_model.specs.Faults.{is_open_fault};
 ghost use Rattle.df_session.specs.Below.{IsUnformatted};
-ghost use Rattle.df_notes.specs.Ending.{IsOfRun, ended_by, is_disk_at_fault, is_sink};
-ghost use Rattle.df_notes.specs.Run.{MakesFirst, OpensNotes, RunsNotes};
-ghost use Rattle.df_notes.specs.Serving.{ServesNotes, around};
+ghost use Rattle.df_notes.specs.{Ending.{IsOfRun, ended_by, is_disk_at_fault, is_sink}, Run.{MakesFirst, OpensNotes, RunsNotes}, Serving.{ServesNotes, around}};
 
 use crate::ended::{Ended, why_ended};
 use crate::keeping::{catch_up, keep};

@@ -3,9 +3,7 @@ ghost use Rattle.std.specs.Prelude.{◌≡◌};
 ghost use Rattle.df_layout.specs.Zones.{file_sectors};
 ghost use Rattle.df_inspect.specs.Opening.{formatted_text};
 ghost use Rattle.df_units.specs.Within.{AddsWithin};
-ghost use Rattle.df_top.specs.Formats.{Formats, MakesFile};
-ghost use Rattle.df_top.specs.Outside.{Blames, PrintsLine};
-ghost use Rattle.df_top.specs.Refusing.{PrintsFormatError};
+ghost use Rattle.df_top.specs.{Formats.{Formats, MakesFile}, Outside.{Blames, PrintsLine}, Refusing.{PrintsFormatError}};
 
 use crate::status::Status;
 use df_base::Sink;

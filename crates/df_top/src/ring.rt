@@ -3,9 +3,7 @@ ghost use Rattle.std.specs.Prelude.{◌≡◌, ◌<◌, ◌≤◌, ◌+◌, ◌+
 ghost use Rattle.df_disk.specs.Told.{Told};
 ghost use Rattle.df_model.specs.Commands.{Recent, ToRecent};
 ghost use Rattle.df_session.specs.Answering.{Serves};
-ghost use Rattle.df_top.specs.Findings.{items_of};
-ghost use Rattle.df_top.specs.Step.{AnswersCommand};
-ghost use Rattle.df_top.specs.Turning.{BlamesIfEnds};
+ghost use Rattle.df_top.specs.{Findings.{items_of}, Step.{AnswersCommand}, Turning.{BlamesIfEnds}};
 
 use crate::status::Status;
 use df_base::Sink;

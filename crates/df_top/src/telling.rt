@@ -2,10 +2,7 @@
 ghost use Rattle.std.specs.Prelude.{◌≡◌, true};
 ghost use Rattle.df_inspect.specs.Answers.{command_of};
 ghost use Rattle.df_session.specs.Calls.{HasAnswer};
-ghost use Rattle.df_top.specs.Outside.{Blames};
-ghost use Rattle.df_top.specs.Refusing.{PrintsFault};
-ghost use Rattle.df_top.specs.Step.{AnswersCommand};
-ghost use Rattle.df_top.specs.Turning.{BlamesIfEnds, TellsAnswer};
+ghost use Rattle.df_top.specs.{Outside.{Blames}, Refusing.{PrintsFault}, Step.{AnswersCommand}, Turning.{BlamesIfEnds, TellsAnswer}};
 
 use crate::status::Status;
 use df_base::Sink;
