@@ -1,4 +1,4 @@
--- A field whose bytes stand in a longer text, or elsewhere in another one, and the bits of so many bytes.
+-- A field whose bytes stand in a longer text, or elsewhere in another one, and the bits of this many bytes.
 use Rattle.std.{proofs.{Common.{◌≡◌, ℕ, zero, suc, ◌+◌, ◌*◌, ◌^◌, ◌<◌, ◌≤◌, List, ◌++◌, length, take, drop, refl, sym, ap, ◌∙◌, arith, length-drop}, lemmas.List.{drop-append-le, get_or-drop, take-append-le}, lemmas.Nat.{pow-add}}, specs.Prelude.{slice_index}}
 use Rattle.byteorder.specs.{Endian.{little_from, little_number}, Numbers.{little_from-take}}
 use Rattle.df_base.specs.Fields.{field_at}

@@ -20,7 +20,7 @@ number_behind at n x old new front fits is before =
     ∙ take_at (take at old ++ spelled n x) (drop (at + n) old) (at + n) size
     ∙ ap (λ (l : List ℕ). l ++ spelled n x) before
 
--- ---- so many bytes
+-- ---- this many bytes
 
 pub so_none : AreSo 0 []
 so_none = record { size = refl; each = AreBytes-nil }

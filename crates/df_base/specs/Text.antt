@@ -2,7 +2,7 @@
 use Rattle.std.specs.Prelude.{◌≡◌, ◌<◌, ◌≤◌, ◌+◌, ◌^◌, ℕ, List, [], ◌∷◌, ◌++◌, length, take, drop, replicate, slice_index}
 use Rattle.df_base.specs.Fields.{AreBytes, field_at, spelled, put_at}
 
--- a byte, a number of so many bytes, or as many bytes
+-- a byte, a number of this many bytes, or as many bytes
 pub data Piece (R : Type 0) : Type 0 where
   Byte : (R → ℕ) → Piece R
   Number : ℕ → (R → ℕ) → Piece R
@@ -32,7 +32,7 @@ abbrev pub text : {R : Type 0} → List (Piece R) → R → List ℕ → List �
 text [] r rest = rest
 text (p ∷ ps) r rest = spell p r ++ text ps r rest
 
--- so many bytes
+-- this many bytes
 pub record AreSo (n : ℕ) (bytes : List ℕ) : Type 0 where
   pub size : length bytes ≡ n
   pub each : AreBytes bytes

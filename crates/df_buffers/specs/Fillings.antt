@@ -11,7 +11,7 @@ pub record Filling : Type 0 where
   pub layout : Layout
   pub body : List ℕ
 
--- the body of so many bytes that follows the place of a header
+-- the body of this many bytes that follows the place of a header
 abbrev pub filling_of : Layout → ℕ → List ℕ → Filling
 filling_of layout count bytes = record { layout = layout; body = take count (drop HEADER bytes) }
 

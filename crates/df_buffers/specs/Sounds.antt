@@ -48,7 +48,7 @@ pub record BringsOwn (zone : Zone) (holding : Holding) (bytes : List ℕ) : Type
   pub is : IsUnit holding.layout holding.unit.header.cluster place holding.unit
   pub brings : Brings holding.layout holding.unit.header.cluster place holding.unit bytes
 
--- after so many bytes there are zeros
+-- after this many bytes there are zeros
 abbrev pub EndsInZeros : ℕ → List ℕ → Type 0
 EndsInZeros size bytes = drop size bytes ≡ replicate (length bytes - size) 0
 

@@ -30,7 +30,7 @@ impl<K: UnitKind> Model for Sound<K> {
     ghost invariant = { λ s. IsSound K.ZONE K.KIND (holding_of s.layout s.header s.bytes.items) };
 }
 
-// The whole sectors that so many bytes cover.
+// The whole sectors that this many bytes cover.
 fn sectors_in(bytes: &[u8], size: u32) -> &[u8]
     requires { sectors_end size ≤ length bytes.now }
     ensures value { result.now ≡ take (sectors_end size) bytes.now }

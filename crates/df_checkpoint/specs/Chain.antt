@@ -140,7 +140,7 @@ StepAnswer sh shown c n index refs (Err (Damaged address class)) = IsLacking sh 
 StepAnswer sh shown c n index refs (Err (BadField field value)) = (field ≡ TrailerChain) × IsBroken sh shown c value
 StepAnswer sh shown c n index refs (Err DiskFault) = Unit {0}
 
--- all blocks of the chain were read: so many as are wanted, and the first one ends it
+-- all blocks of the chain were read: as many as are wanted, and the first one ends it
 pub record HasChain (sh : Shape) (shown : Shown) (c : Content) (n : ℕ) (refs : List Link) : Type 0 where
   pub next : Link
   pub walked : HasWalked sh shown c n refs next

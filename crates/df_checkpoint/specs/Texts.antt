@@ -45,7 +45,7 @@ FeedAnswer g told at old new (Err DiskFault) = Unit {0}
 
 -- ---- the whole text
 
--- the reader has read the text of so many blocks from the first one on; the references are from the last to the first
+-- the reader has read the text of this many blocks from the first one on; the references are from the last to the first
 pub record HasReadTo (g : GridState) (told : Option Told) (refs : List Link) (op done : ℕ) (reader : Reader) : Type 0 where
   pub text : List ℕ
   pub has : HasRead g.layout op reader text

@@ -107,7 +107,7 @@ fn read_link<D: Disk>(
     }
 }
 
-/// The link that is so many after the first block of the chain: the links are from the last block to the first.
+/// The link that is this many after the first block of the chain: the links are from the last block to the first.
 pub(crate) fn link_after(blocks: &[Link], done: usize) -> Link
     requires { done < length blocks.now }
     ensures { result ≡ get_or blocks.now (length blocks.now - 1 - done) result }

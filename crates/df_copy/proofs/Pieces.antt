@@ -169,7 +169,7 @@ module _ (sequence : ℕ) (text : List ℕ) (bytes : AreBytes text) (c : Content
 
   -- ---- all of them
 
-  -- so many blocks, one after the other
+  -- this many blocks, one after the other
   pub record ArePieces (g : GridState) (n next : ℕ) (chain : List (ℕ × Block)) : Type 0 where
     pub row : AreInRow g.layout g.cluster next (pieces_from g sequence text n)
     pub pieced : IsPieced (next + n) (grid_behind g sequence text n) (chain_with (pieces_from g sequence text n) chain)

@@ -114,7 +114,7 @@ module _ (layout : Layout) (s : State) where
   pub size_some : (s.fields.trailer_address ≡ 0 → ⊥) → trailer_size layout (memory s) ≡ text
   size_some is = sized false (ne_eqb s.fields.trailer_address 0 is)
 
-  -- that of a root of so many bytes, so many sessions and so many references
+  -- that of a root of this many bytes, this many sessions and this many references
   pub text_as : (root count references_count : ℕ) → root ≡ length s.root → count ≡ length s.table.sessions → references_count ≡ length (references (memory s)) → (s.fields.trailer_address ≡ 0 → ⊥)
       → text_size (layout_of layout) root count references_count ≡ trailer_size layout (memory s)
   text_as root count references_count root_is count_is references_is is =

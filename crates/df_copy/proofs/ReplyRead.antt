@@ -122,7 +122,7 @@ module _ (s : State) (from : Option Told) (client place : ℕ) where
 
 -- ---- what is written
 
--- it has its place in any layout with so many clients
+-- it has its place in any layout with this many clients
 pub has_place : (s : State) (layout : Layout) (client : ℕ) (sum : Option ℕ) (u : Message) → IsKnownUnit Reply s.file (place_in ClientReplies (place_for s client)) sum u → place_for s client < length s.table.sessions → length s.table.sessions ≤ layout.clients → HasReplyPlace layout u
 has_place s layout client sum u known less fits =
     let slot = (valid_belongs s.file.layout s.file.cluster (place_in ClientReplies (place_for s client)) u known.is).belongs.slot in

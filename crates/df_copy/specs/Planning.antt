@@ -7,7 +7,7 @@ use Rattle.df_copy.specs.declared.ending.Ending.{Ending}
 use Rattle.df_copy.specs.declared.plan.Plan.{Plan}
 use Rattle.df_copy.specs.Tests.{rest_tests, trailer_blocks, trailer_size}
 
--- so many blocks, with a text of so many bytes
+-- this many blocks, with a text of this many bytes
 pub record IsCopyPlan (layout : Layout) (s : State) (plan : Plan) : Type 0 where
   pub blocks : plan.blocks ≡ trailer_blocks layout (memory s)
   pub size : plan.size ≡ trailer_size layout (memory s)

@@ -109,7 +109,7 @@ next_piece g sequence text = next_unit g sequence (piece_of (g.layout.block_size
 abbrev pub grid_after_piece : GridState → (sequence : ℕ) → List ℕ → GridState
 grid_after_piece g sequence text = with_blocks g (next_written g.blocks (number_of (next_piece g sequence text).header.checksum))
 
--- so many blocks, one after the other
+-- this many blocks, one after the other
 abbrev pub pieces_from : GridState → (sequence : ℕ) → List ℕ → ℕ → List Message
 pieces_from g sequence text zero = []
 pieces_from g sequence text (suc n) = next_piece g sequence text ∷ pieces_from (grid_after_piece g sequence text) sequence text n

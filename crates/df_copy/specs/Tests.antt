@@ -43,7 +43,7 @@ has_trailer m = not (m.content.trailer == 0)
 abbrev pub trailer_size : Layout → Memory → ℕ
 trailer_size layout m = if has_trailer m then text_size (layout_of layout) (length m.root) (length m.sessions) (length (references m)) else 0
 
--- how many pieces a text of so many bytes is cut into, where a block has room for so many
+-- how many pieces a text of this many bytes is cut into, where a block has room for this many
 abbrev pub pieces : ℕ → ℕ → ℕ
 pieces room size = div_ceil size room
 

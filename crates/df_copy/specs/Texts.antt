@@ -7,7 +7,7 @@ use Rattle.df_copy.specs.declared.ending.Ending.TheVariants.{BlockTooLong, Damag
 abbrev pub copy_usage : List ℕ
 copy_usage = codes "usage: filecopy FROM TO LAYOUT\n"
 
--- the target has so many sectors
+-- the target has this many sectors
 abbrev pub copied_text : ℕ → List ℕ
 copied_text sectors = line_of (numbered (codes "copied") sectors)
 

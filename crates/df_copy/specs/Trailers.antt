@@ -18,7 +18,7 @@ use Rattle.df_copy.specs.Acts.{IsTrailerWritten}
 use Rattle.df_copy.specs.Targets.{named_with, trailer_of}
 use Rattle.df_copy.specs.Units.{all_events, moved_from}
 
--- so many blocks of a trailer are to come, and none is written
+-- this many blocks of a trailer are to come, and none is written
 pub record IsBegunGrid (blocks : ℕ) (g : GridState) : Type 0 where
   pub left : length g.blocks.left ≡ blocks
   pub written : g.blocks.written ≡ []

@@ -14,12 +14,12 @@ pub enum Ending {
         head: u64,
         replies: u64,
     },
-    /// The layout has no room for so many sessions.
+    /// The layout has no room for that many sessions.
     TooFewClients {
         sessions: u64,
         clients: u64,
     },
-    /// The layout has no room for so many blocks: those that are referenced, and those of the copy's trailer.
+    /// The layout has no room for that many blocks: those that are referenced, and those of the copy's trailer.
     TooFewBlocks {
         needed: u64,
         blocks: u64,

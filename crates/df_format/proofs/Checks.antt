@@ -68,7 +68,7 @@ check_in (suc n) at bytes zero past inside = ap (λ (m : ℕ). take 16 (drop m b
 check_in (suc n) at bytes (suc k) past inside =
     check_in n (at + 16) bytes k past (omega arith) ∙ ap (λ (m : ℕ). take 16 (drop m bytes)) (let there : at + 16 + 16 * k ≡ at + 16 * suc k = omega arith in there)
 
--- a list of so many checksums, each as it stands at its offset
+-- a list of this many checksums, each as it stands at its offset
 pub checks_are : (checks : List (List ℕ)) (n at : ℕ) (bytes : List ℕ) → length checks ≡ n → ((k : ℕ) → k < n → get_or checks k [] ≡ take 16 (drop (at + 16 * k) bytes)) → checks ≡ checks_at n at bytes
 checks_are checks n at bytes size each =
     ext_get_or [] checks (checks_at n at bytes) (size ∙ sym (length-checks_at n at bytes)) (λ k inside. each k (omega (arith, size)) ∙ sym (check_in n at bytes k [] (omega (arith, size))))

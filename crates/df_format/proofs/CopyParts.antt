@@ -67,7 +67,7 @@ unplaced n m is = elim (cases_Bool (nat_lt n m)) [
   | inr more ↦ ltb-false n m more
 ]
 
--- so many bytes among which there is none that isn't zero
+-- this many bytes among which there is none that isn't zero
 pub all_zeros : (at n : ℕ) (bytes : List ℕ) → length bytes ≡ n → option_map (λ i. at + i) (position (λ b. not (b == 0)) bytes) ≡ None → bytes ≡ replicate n 0
 all_zeros at n bytes size none = zeros_by n bytes size (unplaced _ _ (no_place _ at none))
 

@@ -22,7 +22,7 @@ nonzero_between at end bytes = option_map (λ i. at + i) (position (λ b. not (b
 abbrev pub first_nonzero_of : ℕ → List ℕ → Option ℕ
 first_nonzero_of version bytes = if version == VERSION then option_or (nonzero_between 176 192 bytes) (nonzero_between 1216 SECTOR bytes) else nonzero_between 160 SECTOR bytes
 
--- so many checksums, one after the other from an offset on
+-- this many checksums, one after the other from an offset on
 unfoldable pub checks_at : ℕ → ℕ → List ℕ → List (List ℕ)
 checks_at zero at bytes = []
 checks_at (suc n) at bytes = take 16 (drop at bytes) ∷ checks_at n (at + 16) bytes

@@ -20,7 +20,7 @@ pub struct Made {
     pub length: usize,
 }
 
-// How many bytes of whole sectors so many bytes cover.
+// How many bytes of whole sectors this many bytes cover.
 fn sectors_end(size: usize) -> usize
     requires { size ≤ 1048576 }
     ensures { result ≡ sectors_end size }

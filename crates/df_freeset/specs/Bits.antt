@@ -43,7 +43,7 @@ pub record IsLowestZero (words : List ℕ) (k : ℕ) : Type 0 where
   pub zero_there : bit_in words k ≡ false
   pub set_below : (i : ℕ) → i < k → bit_in words i ≡ true
 
--- so many words as n bits need, with no bit set beyond these
+-- as many words as n bits need, with no bit set beyond these
 pub record IsRoom (words : List ℕ) (n : ℕ) : Type 0 where
   pub size : length words ≡ (n + 63) / 64
   pub small : n < 2 ^ 32

@@ -79,7 +79,7 @@ pub(crate) fn finish_all(entries: &mut Entries, free: &mut FreeSet)
     }
 }
 
-/// Takes so many of the least free addresses, and answers them.
+/// Takes this many of the least free addresses, and answers them.
 pub(crate) fn take_least(free: &mut FreeSet, blocks: u64) -> ArrayVec<u64, LINKS>
     requires enough { blocks ≤ count_free free.old }
     requires few { blocks ≤ 70 }

@@ -142,7 +142,7 @@ impl Grid {
         self.table.references()
     }
 
-    /// How many blocks are live: so many a checkpoint that is begun now references.
+    /// How many blocks are live: a checkpoint that is begun now references this many.
     pub fn live_blocks(&self) -> u64
         ensures count { result ≡ length self.now.blocks.live }
         ensures captured { result ≡ ones (map is_referenced (captured_blocks (λ a. sum_at a self.now.blocks.live) self.now.layout.blocks)) }
@@ -166,8 +166,8 @@ impl Grid {
         self.table.release(address)
     }
 
-    /// Begins a checkpoint: the live blocks are captured, and the least addresses that aren't held are its trailer's, so many as there
-    /// are to be blocks, at least 1. No checkpoint runs, and so many addresses are free.
+    /// Begins a checkpoint: the live blocks are captured, and the least addresses that aren't held are its trailer's, as many as there
+    /// are to be blocks, at least 1. No checkpoint runs, and that many addresses are free.
     pub fn capture(&mut self, blocks: u64)
         requires idle { IsIdle self.old.blocks }
         requires some { 1 ≤ blocks }
@@ -220,7 +220,7 @@ impl Grid {
         self.table.next_referenced(above)
     }
 
-    /// How many blocks are referenced: so many a tour of the scrubber checks.
+    /// How many blocks are referenced: a tour of the scrubber checks this many.
     pub fn referenced(&self) -> u64
         ensures { result ≡ length (referenced_of self.now) }
     {

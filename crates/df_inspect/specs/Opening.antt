@@ -63,7 +63,7 @@ format_refusal formats.ClusterZero = codes "refused ClusterZero\n"
 format_refusal (formats.NotBlank copy) = line_of (numbered (codes "refused NotBlank copy") copy)
 format_refusal formats.DiskFault = []
 
--- a file of so many sectors was made
+-- a file of this many sectors was made
 abbrev pub formatted_text : ℕ → List ℕ
 formatted_text sectors = line_of (numbered (codes "formatted") sectors)
 

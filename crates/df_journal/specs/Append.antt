@@ -62,7 +62,7 @@ pub record MayAppendOn (layout : Layout) (u : Message) (table : List Header) (t 
   pub may : MayAppend (shape_of layout u.header.cluster named parse) view (message_of u ∷ [])
   pub ring : ShowsRing layout u.header.cluster (Log.now t.log) table
 
--- every slot but those of the next ops, so many, stays taken, by what the superblock names or by the view's boot, or stays empty, once the head is known; what is to be mended may change
+-- every slot but those of the next ops, this many, stays taken, by what the superblock names or by the view's boot, or stays empty, once the head is known; what is to be mended may change
 pub record OthersStay (sh : Shape) (image : Units.Units) (v : View) (count : ℕ) : Type 0 where
   pub taken : (p : Units.Message) → In p v.tail → Takes (slots sh) image v.checkpoint.content p
   pub empty : (o : ℕ) → head v + count < o → o ≤ v.checkpoint.content.op + slots sh → IsEmpty (decided (slots sh) (boot_of v) (head v) image o)

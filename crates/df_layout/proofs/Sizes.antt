@@ -10,7 +10,7 @@ message_sectors_within layout = (omega arith, omega arith)
 pub block_sectors_within : (layout : Layout) → (1 ≤ block_sectors layout) × (block_sectors layout ≤ 128)
 block_sectors_within layout = (omega arith, omega arith)
 
--- so many prepare slots or reply slots have at most so many sectors
+-- this many prepare slots or reply slots have at most this many sectors
 pub message_slots_within : (layout : Layout) (n most : ℕ) → n ≤ most → n * message_sectors layout ≤ most * 256
 message_slots_within layout n most h = mul-le n (message_sectors layout) most 256 h (message_sectors_within layout).1
 

@@ -15,7 +15,7 @@ grid_follows layout =
     let rounded = div_ceil_times (unpadded layout) (block_sectors layout) (omega arith) in
     record { after = rounded.0; padding = rounded.1; whole = mul-mod_left _ _ }
 
--- the greatest layout has so many sectors before the padding
+-- the greatest layout has this many sectors before the padding
 unpadded_within : (layout : Layout) → end_sector layout ClientReplies ≤ 278596
 unfolding first_sector zone_sectors
 unpadded_within layout =

@@ -67,7 +67,7 @@ others_noted : (ps : List Message) (ss : List Session) (k : ℕ) (s : Session) �
 others_noted [] ss k s at others = at
 others_noted (p ∷ ps) ss k s at others = others_noted ps (noted p.header ss) k s (other_noted p.header ss k s at (others p (inl refl))) (λ q there. others q (inr there))
 
--- sessions after so many prepares are of ops up to theirs
+-- sessions after this many prepares are of ops up to theirs
 noted_low : (n clients op parent mark : ℕ) (ss : List Session) (ps : List Message) → Chain clients (op + 1) parent mark ss ps → ((j : ℕ) (x : Session) → slice_get ss j ≡ Some x → x.op ≤ op) → (k : ℕ) (s : Session) → slice_get (sessions_after ss (take n ps)) k ≡ Some s → s.op ≤ op + n
 noted_low zero clients op parent mark ss ps chain low k s at = omega (arith, low k s at)
 noted_low (suc n) clients op parent mark ss [] chain low k s at = omega (arith, low k s at)
@@ -125,7 +125,7 @@ module _ (sh : Shape) (image : Units) (v : View) (second : sh.version ≡ 2) (fo
 
   -- ---- replies
 
-  -- so many prepares of the tail are named
+  -- this many prepares of the tail are named
   abbrev count : ℕ
   count = c.pin - c.op
 

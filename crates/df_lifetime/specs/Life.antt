@@ -150,7 +150,7 @@ pub data Life : DataFile → (first : View) → Told → List Chapter → Type 0
       → AreMade extent (begun_after found.mending.events t) c m → Life file first m (chapter_of extent t.shown c ∷ [])
   -- then a program was run to its end, whatever its status; what was shown as it began did not come about by chance
   Ran : (file : DataFile) (first : View) (b m t n : Told) (chapters : List Chapter) (run : FileRun t n) → Life file first b chapters → NoChanceOf (format file) b.log (now b.log) → GoesAlong t n b m → Life file first m (sessions_in ToItsEnd run ++ chapters)
-  -- or it was ended at a moment, before or within any call of the disk, when so many of its calls were answered, and the disk goes on telling
+  -- or it was ended at a moment, before or within any call of the disk, when this many of its calls were answered, and the disk goes on telling
   -- what was done up to there
   Ended : (file : DataFile) (first : View) (b m t p n : Told) (chapters : List Chapter) (run : FileRun t n) (answered : ℕ) → Life file first b chapters → NoChanceOf (format file) b.log (now b.log) → Extends n.log p.log → GoesAlong t p b m → IsHonest m
       → HaveAnswers answered p.log (calls_in_run run) → Life file first m (sessions_in (ToAMoment answered) run ++ chapters)

@@ -84,7 +84,7 @@ WorkloadHasOneText = (seed count : ℕ) (layout : Layout) (runs : Twice layout (
 
 -- ---- what a generated run prints
 
--- a run of so many rounds over an image in which an open finds this view: it asks, the machine answers over what is shown, and at the end nothing more is asked for
+-- a run of this many rounds over an image in which an open finds this view: it asks, the machine answers over what is shown, and at the end nothing more is asked for
 pub record IsRun (seed count : ℕ) (file : DataFile) (image : Image) (view : View) (run : Run) : Type 0 where
   pub commands : List Command
   pub follows : Follows (start seed count file.layout.clients) commands (result (shape file) (codec file) (shown_of file image) (begun_work file image view) commands) run

@@ -19,7 +19,7 @@ pub record ReaderParts : Type 0 where
 abbrev pub line_bound : Layout → ℕ
 line_bound layout = 2 * max layout.message_size layout.block_size + 64
 
--- a reader for lines of at most so many bytes that has read nothing
+-- a reader for lines of at most this many bytes that has read nothing
 pub record IsFresh (bound : ℕ) (room : ReaderParts) : Type 0 where
   pub reading : room.reading ≡ record { held = []; bound = bound; budget = 2 ^ 32 }
   pub ended : room.ended ≡ false

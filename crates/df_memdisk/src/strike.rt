@@ -24,7 +24,7 @@ pub enum Strike {
     Like { sector: u64 },
 }
 
-// The events of the log up to the first so many of them.
+// The first events of the log, this many.
 fn first_of(past: &[Happened], events: u64) -> &[Happened]
     ensures { events_of result.now ≡ first_events events (events_of past.now) }
 {

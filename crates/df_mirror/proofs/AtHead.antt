@@ -10,7 +10,7 @@ use Rattle.df_units.{specs.Meaning.{number_of}, proofs.Laws.{no_number, one_numb
 use Rattle.df_opening.specs.Below.{shape}
 use Rattle.df_mirror.{specs.{declared.ending.Ending.{Ending}, declared.superblock.Superblock.{Superblock}, Known.{AreShown, ComesBefore, HasSessions, IsKnownAt, IsRecordedReply, IsShownAs}, Mends.{AreOfKind}, Outside.{Outside, Tell}, Walks.{HasHead, HasLater, Mended, ShowsKnownReplies, content_of_superblock, superblock_units}}, proofs.{Frames.{other_place}, Logs.{prepares_shown}, Named.{ring_there}, Ones.{one_trailer, trailer_there}, Orders.{grid_there}, Recorded.{HasNewer, MendsRecorded, recorded_sum}, Referenced.{shown_there}, Turns.{none_mended, of_one}}}
 
--- what stands among the first so many stands there
+-- what stands among the first ones, this many, stands there
 front_get : (n : ℕ) (ss : List units.Session) (k : ℕ) (s : units.Session) → slice_get (take n ss) k ≡ Some s → slice_get ss k ≡ Some s
 front_get zero ss k s at = absurd (let none : None ≡ Some s = at in cc)
 front_get (suc n) [] k s at = absurd (let none : None ≡ Some s = at in cc)

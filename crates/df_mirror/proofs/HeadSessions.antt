@@ -38,7 +38,7 @@ noted_few h xs max fits known = by (position (has_client h.client) xs) refl know
         let first = first_place (has_client h.client) xs k d is in
         omega (arith, known_length h xs k d first.within first.passes, fits)
 
--- what is noted among the first so many is among the first so many that are noted, where there is room
+-- what is noted among the first ones, this many, is among the first ones that are noted, this many, where there is room
 noted_front : (n : ℕ) (h : Header) (ss : List units.Session) → length (noted h (take n ss)) ≤ n → noted h (take n ss) ≡ take n (noted h ss)
 noted_front zero h ss fits = absurd (omega (arith, fits))
 noted_front (suc n) h [] fits = front_one n (theory.session_of_header h)
@@ -109,7 +109,7 @@ take_one (x ∷ ps) (suc i) p at = ap (λ (l : List Message). x ∷ l) (take_one
 after_one : (ss : List units.Session) (ps : List Message) (i : ℕ) (p : Message) → slice_get ps i ≡ Some p → noted p.header (theory.sessions_after ss (take i ps)) ≡ theory.sessions_after ss (take (suc i) ps)
 after_one ss ps i p at = sym (ap (theory.sessions_after ss) (take_one ps i p at) ∙ sessions-append ss (take i ps) (p ∷ []))
 
--- so many of the prepares that are named were noted in the table
+-- this many of the prepares that are named were noted in the table
 abbrev pub HasNoted : Superblock → Scan → (start now : List Session) → ℕ → Type 0
 HasNoted b slots start now i =
     (image : Units) (named : List Message) → TellsRings b.file.layout image slots → AreKnown b.file.layout.slots image (b.content.op + 1) (content_of_superblock b).pin_checksum named → b.content.op + length named ≡ (content_of_superblock b).pin

@@ -96,7 +96,7 @@ answers_with file c Of Also t o new old text (Err First) of is = failed_with fil
 answers_with file c Of Also t o new old text (Err Second) of is = failed_with file c Of Also t o new old text Second of is
 answers_with file c Of Also t o new old text (Err Sink) of is = failed_with file c Of Also t o new old text Sink of is
 
--- so many more were mended
+-- this many more were mended
 abbrev pub more : ℕ → Result ℕ Ending → Result ℕ Ending
 more a (Ok b) = Ok (a + b)
 more a (Err e) = Err e

@@ -28,7 +28,7 @@ then_from rank kind [] ls less are from = from_lower rank (rank_of_kind kind) ls
 then_from rank kind (m ∷ ms) ls less are from =
     (subst (λ (k : Kind). rank ≤ rank_of_kind k) (sym are.0) less, subst (λ (k : Kind). AreFrom (rank_of_kind k) (ms ++ ls)) (sym are.0) (then_from (rank_of_kind kind) kind ms ls (omega arith) are.1 from))
 
--- so many of one kind were mended, a read comes after them, and then those that follow in the order
+-- this many of one kind were mended, a read comes after them, and then those that follow in the order
 pub walk_then : {b : Superblock} {t o : Told} {old mid new : Outside} {told : Option Told} {a : ℕ} {Before After : Units → Type 0} (low high : ℕ) (kind : Kind) → low ≤ rank_of_kind kind → rank_of_kind kind ≤ high → Tell t o old → Mended b (AreOfKind kind) t o old mid (Ok a) Before → mid.second ≡ old.second
     → told ≡ mid.first → (result : Result ℕ Ending) → (IsRefusal result → (ms : List Mend) → AreOfKind kind ms → AreOfKind Trailer ms) → ((m : Told) → Tell m o (around told mid.second mid.written) → Before (superblock_units b m.shown) → Mended b (AreFrom high) m o (around told mid.second mid.written) new result After)
     → Mended b (AreFrom low) t o old new (more a result) After
@@ -91,7 +91,7 @@ head_is b image now grid slots table ss says same blocks named tells places give
   table_is = given named.named named.known named.count ∙ ap (λ (l : List model.Session). take b.file.layout.clients (sessions_after l named.named)) (sym same);
 }
 
--- The prepares were mended, so many of them, and then the rings are read, and the sessions brought to the head.
+-- The prepares were mended, this many of them, and then the rings are read, and the sessions brought to the head.
 module _ (b : Superblock) (t o : Told) (old mid : Outside) (a : ℕ) (tell : Tell t o old) (came : Mended b (AreOfKind Prepare) t o old mid (Ok a) (ShowsNamed b)) (same : mid.second ≡ old.second) (told : Option Told) (read : told ≡ mid.first) where
   -- the rings can't be read
   pub log_unread : (Shows : Units → Type 0) → Mended b AreLate t o old (around told mid.second mid.written) (Err First) Shows
@@ -154,7 +154,7 @@ all_shown b grid ss image now blocks log = record { all = by; trailer = there.pa
 
 -- ---- the walks one after the other
 
--- so many blocks of the trailer were mended, and it was read, and of those that it references so many; and then the log is
+-- this many blocks of the trailer were mended, and it was read, and of those that it references this many; and then the log is
 pub all_mended : {b : Superblock} {t o : Told} {old mid late new : Outside} {told : Option Told} {a k : ℕ} (grid : GridState) (ss : List Session) → Tell t o old
     → Mended b (AreOfKind Trailer) t o old mid (Ok a) (λ image. AreShown (shape b.file) image (content_of_superblock b) Trailer) → mid.second ≡ old.second
     → told ≡ mid.first → ((m : Told) → mid.first ≡ Some m → IsImage m.shown → AreShown (shape b.file) (superblock_units b m.shown) (content_of_superblock b) Trailer → HasTrailerText b (superblock_units b m.shown) grid ss × HasWaiting b ss)

@@ -19,7 +19,7 @@ neither : (status : Status) → EndsWell status → (status ≡ ends.Done → �
 neither status (inl done) one two = one done
 neither status (inr found) one two = two found
 
--- only of so many units
+-- only of this many units
 pub ends_well : (result : Result ℕ Ending) (old new : Option (List ℕ)) (status : Status) → TellsEnd result old new status → EndsWell status → (count : ℕ) × (result ≡ Ok count)
 ends_well (Ok count) old new status tells well = (count, refl)
 ends_well (Err (Neither place class)) old new status tells well = absurd (neither status well (text_ends ends.WriteFault (neither_text place class) ends.Refused ends.Done old new status tells (λ no. cc) (λ no. cc))

@@ -31,7 +31,7 @@ on_more : (a : ℕ) (result : Result ℕ Ending) (P : Type 0) → OnOk result P 
 on_more a (Ok n) P is = is
 on_more a (Err e) P is = tt
 
--- so many were mended, and then as many more as are answered; or the trailer is refused, where blocks of it alone were
+-- this many were mended, and then as many more as are answered; or the trailer is refused, where blocks of it alone were
 pub then_mended : {b : Superblock} {Of Then All : List Mend → Type 0} {t o : Told} {old mid new : Outside} {a : ℕ} {Before After : Units → Type 0} → ((ms ls : List Mend) → Of ms → Then ls → All (ms ++ ls)) → Tell t o old → mid.second ≡ old.second
     → Mended b Of t o old mid (Ok a) Before → (result : Result ℕ Ending) → (IsRefusal result → (ms : List Mend) → Of ms → AreOfKind Trailer ms) → ((m : Told) → Tell m o mid → Before (superblock_units b m.shown) → Mended b Then m o mid new result After) → Mended b All t o old new (more a result) After
 then_mended {b = b} {Of = Of} {Then = Then} {All = All} {t = t} {o = o} {old = old} {mid = mid} {new = new} {a = a} {After = After} closed tell same has result only next =
@@ -102,7 +102,7 @@ pub record IsCalm (old now : Outside) (before after : Faults) : Type 0 where
   pub second : after.second ≡ before.second
   pub sink : after.sink ≡ before.sink
 
--- How far a walk over units of one kind has come: its room is one of the file, and where it began with what it needs, so many units were mended, not too many, and this is shown.
+-- How far a walk over units of one kind has come: its room is one of the file, and where it began with what it needs, this many units were mended, not too many, and this is shown.
 pub record Walked (b : Superblock) (kind : Kind) (old now : Outside) (before after : Faults) (room : Layout) (mended most : ℕ) {X : Type 0} (Begins : X → Told → Type 0) (Shows : X → Units → Type 0) : Type 0 where
   pub calm : IsCalm old now before after
   pub room_is : room ≡ b.file.layout

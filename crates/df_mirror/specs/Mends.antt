@@ -144,7 +144,7 @@ pub record Failed (file : DataFile) (c : Content) (Of : List Mend → Type 0) (t
 abbrev pub WouldBe : (List Mend → Type 0) → List Mend → Kind → Place → Type 0
 WouldBe Of ms kind at = (m : Mend) → m.kind ≡ kind → m.place ≡ at → Of (ms ++ m ∷ [])
 
--- units are mended, of such a kind or in such an order: so many, or up to the first that neither file shows, which would be one more, or to where the trailer fails a test, once blocks of its own alone were mended, or a call failed
+-- units are mended, of such a kind or in such an order: this many, or up to the first that neither file shows, which would be one more, or to where the trailer fails a test, once blocks of its own alone were mended, or a call failed
 abbrev pub AnswersMending : DataFile → Content → (List Mend → Type 0) → Told → Told → Option Told → (old text : Option (List ℕ)) → Result ℕ Ending → Type 0
 AnswersMending file c Of t o new old text (Ok count) = Came file c Of t o new old text (λ ms n. count ≡ length ms)
 AnswersMending file c Of t o new old text (Err (Neither place class)) = Came file c Of t o new old text (λ ms n. (is : IsNeither file c n.shown o.shown place class) × WouldBe Of ms is.kind is.at)

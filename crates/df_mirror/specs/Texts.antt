@@ -11,7 +11,7 @@ mirror_usage = codes "usage: filemirror FIRST SECOND\n"
 abbrev pub mended_text : Place → List ℕ
 mended_text place = line_of (spaced (codes "mended") (place_text place))
 
--- so many were
+-- this many were
 abbrev pub count_text : ℕ → List ℕ
 count_text count = line_of (numbered (codes "mended") count)
 

@@ -114,7 +114,7 @@ abbrev pub steps_left : Option Course → ℕ
 steps_left None = 0
 steps_left (Some r) = length r.left + 1
 
--- where the trailer needs so many blocks
+-- where the trailer needs this many blocks
 abbrev pub begin_refusals : Memory → (needed : ℕ) → (root : List ℕ) → List (Bool × BeginError)
 begin_refusals m needed root =
     (is_running m.running, begin.Running (steps_left m.running))

@@ -32,7 +32,7 @@ pub struct Receipt {
 /// How far the running checkpoint came.
 #[derive(Clone, Copy, Debug, PartialEq, Eq)]
 pub enum Progress {
-    /// So many steps are still to come, the last one included.
+    /// This many steps are still to come, the last one included.
     Working { left: u64 },
     /// The checkpoint is durable; the superblock has this sequence.
     Done { sequence: u64 },

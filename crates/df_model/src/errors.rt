@@ -57,7 +57,7 @@ pub enum AppendError {
     ReplyPending { op: u64 },
     /// The client's next request has this number.
     RequestOrder { expected: u64 },
-    /// So many prepares wait for their replies, and no more may.
+    /// This many prepares wait for their replies, and no more may.
     PipelineFull { waiting: u64 },
     /// The ring has no slot for this op until a checkpoint above `checkpoint_op` is done.
     WalFull { op: u64, checkpoint_op: u64 },
@@ -65,7 +65,7 @@ pub enum AppendError {
     OpsSpent,
     /// The disk failed; the prepare may be kept or not.
     DiskFault,
-    /// So many requests are staged: they are to be flushed first. It comes after all others but for the disk's, and never of a
+    /// This many requests are staged: they are to be flushed first. It comes after all others but for the disk's, and never of a
     /// request that is staged itself.
     Staged { count: u64 },
 }
@@ -112,7 +112,7 @@ pub struct NotLive;
 /// Why a checkpoint isn't begun; the first of these that applies.
 #[derive(Clone, Copy, Debug, PartialEq, Eq)]
 pub enum BeginError {
-    /// One runs already, with so many steps to come.
+    /// One runs already, with this many steps to come.
     Running { left: u64 },
     /// The root is longer than `max` bytes.
     RootTooLong { max: u64 },

@@ -33,7 +33,7 @@ abbrev pub ShowsNote : (op : ℕ) → (s t : Replica) → Option Told → (old n
 ShowsNote op s t told old new (Ok done) = IsNoteShown op s told old new × (t ≡ s)
 ShowsNote op s t told old new (Err ended) = NoteHides op s t told old new ended
 
--- so many were printed, in order of op, from the first one after the checkpoint on
+-- this many were printed, in order of op, from the first one after the checkpoint on
 pub data AreNotesShown (s : Replica) (told : Option Told) (old : Option (List ℕ)) : (count : ℕ) → Option (List ℕ) → Type 0 where
   Begun : AreNotesShown s told old 0 old
   Shown : (count op : ℕ) (mid new : Option (List ℕ)) → AreNotesShown s told old count mid → op ≡ s.fields.op + count + 1 → IsNoteShown op s told mid new → AreNotesShown s told old (count + 1) new

@@ -10,7 +10,7 @@ use Rattle.df_pace.specs.declared.beat.Piece.TheVariants as piece
 pub whole_due : WholeDue
 whole_due sh codec pace x = refl
 
--- the work that is left where no begin is, with so many steps still to come of the running checkpoint
+-- the work that is left where no begin is, with this many steps still to come of the running checkpoint
 abbrev work_left : (steps left scrub : ℕ) → List Command
 work_left steps left scrub = replicate (min steps left) Advance ++ replicate scrub Scrub
 

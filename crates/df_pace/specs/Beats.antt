@@ -38,7 +38,7 @@ command_of_piece piece.Scrub root = Scrub
 abbrev pub idle : Pace
 idle = record { scrub = 0; every = 0; steps = 0 }
 
--- so many pieces are left at most
+-- this many pieces are left at most
 abbrev pub pieces_left : Due → ℕ
 pieces_left d = (if d.begin then 1 else 0) + d.steps + d.scrub
 

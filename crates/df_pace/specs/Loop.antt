@@ -9,7 +9,7 @@ use Rattle.df_model.specs.Supply.{Codec, Shown, next, shown_after}
 use Rattle.df_script_model.specs.Script.{answer_text}
 use Rattle.df_pace.specs.declared.pace.Pace.{Pace}
 
--- a begin is due where no checkpoint runs, and so many prepares were accepted since the loop's last begin as the pace asks for, which isn't 0
+-- a begin is due where no checkpoint runs, and as many prepares were accepted since the loop's last begin as the pace asks for, which isn't 0
 abbrev pub is_begin_due : Pace → (appended : ℕ) → (running : Bool) → Bool
 is_begin_due pace appended running = not running && (not (pace.every == 0) && nat_le pace.every appended)
 

@@ -5,12 +5,12 @@ ghost use Rattle.df_pace.specs.Beats.{idle};
 /// How much work is done after each line of a script.
 #[derive(Clone, Copy, Debug, PartialEq, Eq)]
 pub struct Pace {
-    /// So many steps of the scrubber.
+    /// This many steps of the scrubber.
     pub scrub: u64,
-    /// A checkpoint is begun once so many prepares were accepted since the loop last began one, a flush counting as many as it appends;
+    /// A checkpoint is begun once this many prepares were accepted since the loop last began one, a flush counting as many as it appends;
     /// with 0 none ever is.
     pub every: u64,
-    /// At most so many steps of the running checkpoint.
+    /// At most this many steps of the running checkpoint.
     pub steps: u64,
 }
 
@@ -32,8 +32,8 @@ impl Pace {
 pub struct Due {
     /// A checkpoint is to be begun, with the durable root. One that is refused is due again after the next line.
     pub begin: bool,
-    /// At most so many steps, as long as a checkpoint runs.
+    /// At most this many steps, as long as a checkpoint runs.
     pub steps: u64,
-    /// So many steps of the scrubber.
+    /// This many steps of the scrubber.
     pub scrub: u64,
 }

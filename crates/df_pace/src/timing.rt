@@ -4,7 +4,7 @@ ghost use Rattle.df_pace.specs.Loop.{is_begin_due};
 
 use crate::{Due, Pace};
 
-/// What is due after a line, where so many prepares were accepted since the loop's last begin and a checkpoint runs or
+/// What is due after a line, where this many prepares were accepted since the loop's last begin and a checkpoint runs or
 /// not.
 pub fn due(pace: &Pace, appended: u64, running: bool) -> Due
     ensures begin { result.begin ≡ is_begin_due pace.now appended running }

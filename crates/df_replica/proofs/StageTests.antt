@@ -16,7 +16,7 @@ request_at (r ∷ rs) (suc i) inside = request_at rs i (omega (arith, inside))
 
 -- ---- sessions after requests
 
--- so the machine's group leads to the same sessions as what it asks, where so many replies are stored
+-- so the machine's group leads to the same sessions as what it asks, where this many replies are stored
 pub group_sessions : (m : Memory) (f l op p replies : ℕ) (rs : List Request) (sums : List ℕ) (ss : List Session) → sessions_after ss (prepares_in m f l op p rs sums) ≡ sessions_after ss (asks_of replies op rs)
 group_sessions m f l op p replies [] sums ss = refl
 group_sessions m f l op p replies (r ∷ rs) sums ss =

@@ -115,7 +115,7 @@ request_made client request body = record { client = client; request = request; 
 abbrev pub staged_with : State → Request → State
 staged_with s r = record s { staged = s.staged ++ r ∷ [] }
 
--- the sessions as if the first so many of these requests were appended after this head
+-- the sessions as if this many of these requests, from the first on, were appended after this head
 abbrev pub sessions_staged : List Session → List Request → (head count : ℕ) → List Units.Session
 sessions_staged ss rs head count = sessions_after (sessions_of ss) (asks_of 0 (head + 1) (take count rs))
 

@@ -105,7 +105,7 @@ impl Replica {
     }
 
     /// Begins a checkpoint of the state as it is now, with a root of at most 1,024 bytes, which the replica keeps as it is. The
-    /// answer is how many blocks its trailer needs; so many steps and one more end it. The first reason of the order refuses
+    /// answer is how many blocks its trailer needs; that many steps and one more end it. The first reason of the order refuses
     /// it: one runs already, the root is too long, fewer addresses are free, no sequence is left; a refusal changes nothing.
     pub fn checkpoint_begin(&mut self, root: &[u8]) -> Result<u64, BeginError>
         requires live { self.old.live ≡ true }

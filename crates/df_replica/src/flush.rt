@@ -137,7 +137,7 @@ fn note_all(
     }
 }
 
-// The session of a client, as if the first so many of what is staged were appended after this head.
+// The session of a client, as if this many of what is staged, from the first on, were appended after this head.
 fn session_staged(
     table: &SessionTable,
     staging: &Staging,

@@ -70,7 +70,7 @@ impl Replica {
         self.parts.scrub.scrubber.recent(place)
     }
 
-    /// How many blocks are referenced: so many a whole tour checks.
+    /// How many blocks are referenced: a whole tour checks this many.
     pub fn referenced(&self) -> u64
         ensures { result ≡ length (referenced_of (memory self.now)) }
     {

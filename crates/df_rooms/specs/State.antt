@@ -153,14 +153,14 @@ pub record IsContents (clients op : ℕ) (checksum kept : List ℕ) (taken : Lis
   pub root : length kept ≤ 1024
   pub sessions : length taken ≤ clients
 
--- its trailer's text is as long as it says, and fills so many blocks
+-- its trailer's text is as long as it says, and fills this many blocks
 pub record IsMeasured (file : DataFile) (text bytes blocks : ℕ) : Type 0 where
   pub size : bytes ≡ text
   pub fits : (0 < bytes) × (bytes ≤ greatest_trailer (layout_of file.layout))
   pub count : IsCount (file.layout.block_size - HEADER) bytes blocks
   pub few : blocks ≤ 70
 
--- of which so many are written, and the grid lists the others
+-- of which this many are written, and the grid lists the others
 pub record IsHalfway (b : Blocks) (blocks done : ℕ) : Type 0 where
   pub all : length b.written + length b.left ≡ blocks
   pub written : done ≡ length b.written

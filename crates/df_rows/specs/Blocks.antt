@@ -6,7 +6,7 @@ use Rattle.df_rows.specs.Rows.{Entry, IsEntry, rows_of}
 use Rattle.df_rows.specs.Limits.{block_count}
 use Rattle.df_rows.specs.Tables.{Table, AreNew, with_rows}
 
--- rows in chunks of so many; the last may have fewer
+-- rows in chunks of this many; the last may have fewer
 abbrev pub chunks_of : (per : ℕ) → List Entry → List (List Entry)
 chunks_of per entries = map (λ k. slice_chunk entries per k) (range_with_len 0 (block_count per (length entries)))
 

@@ -17,11 +17,11 @@ blocks_of_table layout = (layout.blocks - 4) / 3
 abbrev pub most_rows : Layout → ℕ
 most_rows layout = min 65536 (rows_in_block layout * blocks_of_table layout)
 
--- how many blocks of so many rows these rows take; the last may have fewer
+-- how many blocks of this many rows these rows take; the last may have fewer
 abbrev pub block_count : (per rows : ℕ) → ℕ
 block_count per rows = div_ceil rows per
 
--- a table takes so many blocks at most, each of which has its rows, and three tables leave four blocks
+-- a table takes this many blocks at most, each of which has its rows, and three tables leave four blocks
 pub record FitsLayout (layout : Layout) (rows : ℕ) : Type 0 where
   pub blocks : block_count (rows_in_block layout) rows ≤ blocks_of_table layout
   pub bodies : 64 * rows_in_block layout ≤ layout.block_size - HEADER

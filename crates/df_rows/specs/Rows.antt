@@ -17,7 +17,7 @@ pub record IsEntry (e : Entry) : Type 0 where
   pub key : e.0 < 2 ^ 128
   pub value : length e.1 ≤ longest_value
 
--- what stands in front of a row's zeros, with a value of so many bytes: its key, how many bytes its value has, and the value
+-- what stands in front of a row's zeros, with a value of this many bytes: its key, how many bytes its value has, and the value
 abbrev pub row_pieces : ℕ → List (Piece Entry)
 row_pieces size = Number 16 (λ e. e.0) ∷ Byte (λ e. length e.1) ∷ Bytes size (λ e. e.1) ∷ []
 

@@ -46,7 +46,7 @@ pub fn lines_fill_the_grid()
     ensures { FillLaw }
 {}
 
-/// After so many lines one reference more makes a trailer of two blocks.
+/// After this many lines one reference more makes a trailer of two blocks.
 pub fn a_long_trailer()
     ensures { LongTrailer }
 {}

@@ -17,7 +17,7 @@ pub struct Counters {
 }
 
 /// Whether something was written after a later checkpoint than the one found, which has this sequence and op, or in a later
-/// boot than this one: a unit carries a later sequence, a ring of so many slots holds an op that this checkpoint leaves no
+/// boot than this one: a unit carries a later sequence, a ring of this many slots holds an op that this checkpoint leaves no
 /// room for, or a unit carries a later boot.
 pub fn behind(seen: &Counters, sequence: u64, op: u64, slots: u32, boot: u64) -> bool
     ensures found { IsTrue result ↔ IsBehind seen.now sequence op slots boot }

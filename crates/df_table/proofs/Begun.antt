@@ -35,7 +35,7 @@ may_catch t b replies less =
       (ap not (eq-eqb (b + 1) (t.replies + 1) (omega (arith, replies))), (le-ltb _ _ (omega arith), tt)),
     )
 
--- so many ops have their replies
+-- this many ops have their replies
 pub record HasReplied (b : ℕ) (s t : Replica) : Type 0 where
   pub head : t.head ≡ s.head
   pub replies : t.replies ≡ b

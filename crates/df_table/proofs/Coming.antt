@@ -90,7 +90,7 @@ view_has file P image first view table same held stands own is had = record {
 
 -- ---- calls that keep the table
 
--- They were made after an open, by this base: what is left at a moment after its barrier, at the end, and where so many were answered by then.
+-- They were made after an open, by this base: what is left at a moment after its barrier, at the end, and where this many were answered by then.
 pub record KeptOn (file : DataFile) (table : Table) (base : Told) (mending : List Event) (c : CallsMade) (changes pending : List Change) : Type 0 where
   pub seen : EachMoment (did Sync base).log (told_after (events_made c) (told_after mending (did Sync base))).log (EachSeen file)
   pub barrier : Extends (told_after (events_made c) (told_after mending (did Sync base))).log (did Sync base).log

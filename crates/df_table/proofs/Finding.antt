@@ -37,7 +37,7 @@ module _ (shown : Shown) (m : Memory) where
 
   -- ---- prepares
 
-  -- of a tail these are the last ones, after so many
+  -- of a tail these are the last ones, after this many
   prepares_read : (before op : ℕ) (ps : List Message) (clients parent mark : ℕ) (ss : List Session) → op ≡ m.content.op + 1 + before → ((k : ℕ) → slice_get m.prepares (before + k) ≡ slice_get (map sum_of_message ps) k) → Chain clients op parent mark ss ps
       → ((p : Message) → In p ps → shown.units (PreparePlace (p.header.op % m.layout.slots)) ≡ Some (PrepareUnit p)) → ArePrepares shown m op ps
   prepares_read before op [] clients parent mark ss is sums chain there = tt

@@ -13,7 +13,7 @@ use Rattle.df_table.proofs.Free.{count, known_few, one_if}
 
 -- ---- pieces
 
--- pieces of at least so many bytes: a text of so many is in few of them
+-- pieces of at least this many bytes: a text of this many is in few of them
 few_pieces : (room size q t : ℕ) → 3840 ≤ room → room * q < size + room → size ≤ 49 * t + 3400 → 2 * q ≤ t + 4
 few_pieces room size zero t big fits short = omega arith
 few_pieces room size (suc p) t big fits short =

@@ -29,7 +29,7 @@ no_ok e x r one two = cc
 
 -- ---- the blocks up to an address
 
--- Of n addresses those up to b were gone through, and so many of them were live: their blocks are a table.
+-- Of n addresses those up to b were gone through, and this many of them were live: their blocks are a table.
 pub record IsTaking (layout : Layout) (shown : Shown) (m : Memory) (f : ℕ → Option ℕ) (n b : ℕ) (t : Table) (taken : ℕ) : Type 0 where
   pub are : AreTakenBlocks layout shown m (entries f (range_with_len (b + 1) (n - b))) t
   pub count : taken ≡ length are.before

@@ -69,7 +69,7 @@ all_puts layout rows =
     ap (λ (n : ℕ). puts_from layout rows 0 (block_count (rows_in_block layout) n)) (len-entries rows)
     ∙ sym (same_writes (rows_in_block layout) (maps.entries rows) (range_with_len 0 (block_count (rows_in_block layout) (length (maps.entries rows)))))
 
--- so many of n blocks were written
+-- this many of n blocks were written
 pub record IsWriting (layout : Layout) (rows : Map) (n b : ℕ) (s t : Replica) (old now : Option Told) : Type 0 where
   pub making : IsMaking (puts_from layout rows 0 n) (puts_from layout rows b (n - b)) s t old now
   pub wrote : WroteBlocks b s t

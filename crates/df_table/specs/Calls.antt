@@ -76,11 +76,11 @@ CheckpointStepped true s t = OfRunning s.running (λ r. (s.blocks.left ≡ []) �
 
 -- ---- a checkpoint of the table, and a line
 
--- so many steps
+-- this many steps
 abbrev pub Advances : {T : Type 0} → (s t : Replica) → (old new : Option Told) → Result T Ending → Type 0
 Advances s t old new result = (n : ℕ) × Comes (replicate n Advance) s t old new result
 
--- a checkpoint without a root is begun, with so many steps after it
+-- a checkpoint without a root is begun, with this many steps after it
 abbrev pub Concludes : {T : Type 0} → (s t : Replica) → (old new : Option Told) → Result T Ending → Type 0
 Concludes s t old new result = (steps : ℕ) × Comes (Begin [] ∷ replicate steps Advance) s t old new result
 
@@ -88,7 +88,7 @@ Concludes s t old new result = (steps : ℕ) × Comes (Begin [] ∷ replicate st
 abbrev pub Fills : {T : Type 0} → Layout → Map → (s t : Replica) → (old new : Option Told) → Result T Ending → Type 0
 Fills layout rows s t old new result = (steps : ℕ) × Comes (writes layout rows ++ (Begin [] ∷ replicate steps Advance)) s t old new result
 
--- its commands, with so many steps
+-- its commands, with this many steps
 abbrev pub Checkpoints : {T : Type 0} → Layout → Map → (s t : Replica) → (old new : Option Told) → Result T Ending → Type 0
 Checkpoints layout rows s t old new result = (steps : ℕ) × Comes (checkpoint layout (memory s) rows steps) s t old new result
 

@@ -122,7 +122,7 @@ TakesBody taken other (Ok x) = taken x
 TakesBody taken other (Err (NotTable place)) = other place
 TakesBody taken other (Err ending) = ⊥
 
--- the body of a block, after so many: its rows are taken; or it has no rows of the table, or is one too many
+-- the body of a block, after this many: its rows are taken; or it has no rows of the table, or is one too many
 abbrev pub GivesRows : (before most : ℕ) → Table → List ℕ → Table → Type 0
 GivesRows before most t body new = (before < most) × ((entries : List Entry) × TableTakes t body entries × (new ≡ with_rows entries t))
 
@@ -132,7 +132,7 @@ LacksRows address before most t body place = (place ≡ place_at Grid address) �
 abbrev pub TakesRows : (address before most : ℕ) → Table → List ℕ → Result Table Ending → Type 0
 TakesRows address before most t body result = TakesBody (GivesRows before most t body) (LacksRows address before most t body) result
 
--- a block that is read, after so many: it is taken; or it isn't shown, has no rows of the table, or is one too many; or the disk fails
+-- a block that is read, after this many: it is taken; or it isn't shown, has no rows of the table, or is one too many; or the disk fails
 abbrev pub ReadsTableBlock : Shown → Memory → (address before most : ℕ) → Table → Result Table Ending → Type 0
 ReadsTableBlock shown m address before most t (Ok new) = (b : Block) × (block_read shown m (ReadBlock address) ≡ Ok b) × TakesRows address before most t b.body (Ok new)
 ReadsTableBlock shown m address before most t (Err (Damaged place class)) = (place ≡ place_at Grid address) × (block_read shown m (ReadBlock address) ≡ Err class)

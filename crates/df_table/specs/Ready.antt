@@ -69,14 +69,14 @@ pub record HasCaughtUp (s t : Replica) : Type 0 where
   pub running : t.running ≡ s.running
   pub sessions : sessions_of t.table.sessions ≡ sessions_of s.table.sessions
 
--- no checkpoint runs, and so many blocks more may be written
+-- no checkpoint runs, and this many blocks more may be written
 pub record HasFree (layout : Layout) (b : Blocks) (more : ℕ) : Type 0 where
   pub captured : b.captured ≡ []
   pub written : b.written ≡ []
   pub left : b.left ≡ []
   pub free : more + (length b.live + (length b.durable + length b.chain)) ≤ layout.blocks
 
--- so many blocks were written, and nothing else has changed
+-- this many blocks were written, and nothing else has changed
 pub record WroteBlocks (count : ℕ) (s t : Replica) : Type 0 where
   pub same : t ≡ record s { blocks = record s.blocks { live = t.blocks.live } }
   pub few : length t.blocks.live ≤ length s.blocks.live + count

@@ -97,7 +97,7 @@ pub record TableTurn : Type 0 where
   pub said : Said
   pub exchanges : List Exchange
 
--- the commands of a line over this table, where a checkpoint takes so many steps
+-- the commands of a line over this table, where a checkpoint takes this many steps
 abbrev pub commands_of : Layout → Replica → Table → (steps : ℕ) → Said → List Command
 commands_of layout s t steps said = line_commands layout (memory s) t.rows steps (accepted t said)
 

@@ -197,7 +197,7 @@ fn assert_over(
     assert_eq!(rt; found(rt, alloc, file, &written), answer);
 }
 
-// The slot after so many ops of the group, where nothing was ever written.
+// The slot after this many ops of the group, where nothing was ever written.
 fn blamed(file: &File, ops: u64) -> Answer {
     let op = file.tail.min(32) + 1;
     damaged(Zone::WalPrepares, (op + ops.min(3)) % 32, Class::Blank)

@@ -28,7 +28,7 @@ failing_blocks s image = failing_in (grid_with s.file s.boot s.blocks) image
 abbrev pub tour_report : Replica → Image → List ℕ
 tour_report s image = failing_texts (failing_blocks s image) ++ scrubbed_text (TourEnd (length (referenced_of (memory s))) (length (failing_blocks s image)))
 
--- whether a tour that listed so many blocks found something
+-- whether a tour that listed this many blocks found something
 abbrev pub tour_status : ℕ → Status
 tour_status zero = Done
 tour_status (suc more) = Found

@@ -34,7 +34,7 @@ TellsStep x old new turn = ((turn ≡ step_turn x) × Appends old new (step_text
 abbrev pub TakesStep : (s t : Replica) → Option Told → (old new : Option (List ℕ)) → Turn → Type 0
 TakesStep s t told old new turn = ((x : Scrubbed) × IsScrub s t told (Ok x) × TellsStep x old new turn) ⊎ ((turn ≡ Ends DiskFault) × (new ≡ old) × (t.tour ≡ s.tour))
 
--- a tour has found so many failing blocks, and each of them has its line
+-- a tour has found this many failing blocks, and each of them has its line
 abbrev pub TellsTourFound : ℕ → (old new : Option (List ℕ)) → Type 0
 TellsTourFound found old new = (listed : List Finding) × (length listed ≡ found) × Appends old new (failing_texts listed)
 

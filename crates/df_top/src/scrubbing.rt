@@ -21,7 +21,7 @@ use df_model::{Answer, Command};
 use df_program::{Turn, ended, printed, refuse_file};
 use df_session::{Replica, Rooms, Scrubbed, Verdict, make};
 
-// How a tour ends that listed so many blocks.
+// How a tour ends that listed this many blocks.
 fn listed(failing: u64) -> Status
     ensures is { result ≡ tour_status failing }
     ensures told { result ≡ Status.WriteFault → ⊥ }

@@ -5,7 +5,7 @@ use Rattle.df_units.specs.Meaning.{layout_of}
 use Rattle.df_model.specs.Refusals.{first_refusal}
 use Rattle.df_trailer.{specs.{declared.fault.Failing.{Failing}, declared.reader.Reader.{Reader}, Reading.{AreChecksKept, HasRead, IsRestTaken, bits_room, checks_room, failing_in, failing_of}, Rooms.{byte_in_checks, byte_in_words}, Spelling.{bits_size}, Text.{head_end, is_whole, tests}}, proofs.{Kept.{IsAdded, added_is_kept, checks_added, fails_as_kept}, Blocks.{length_listed}, Words.{at_listed}}}
 
--- a reader took a piece, of which so many bytes went to the head
+-- a reader took a piece, of which this many bytes went to the head
 pub record IsFed (old new : Reader) (piece : List ℕ) (n : ℕ) : Type 0 where
   pub within : n ≤ length piece
   pub head : new.front.head.items ≡ old.front.head.items ++ take n piece

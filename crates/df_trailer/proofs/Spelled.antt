@@ -20,7 +20,7 @@ pub length_map : (bs : List (Option ℕ)) → length (map is_referenced bs) ≡ 
 length_map [] = refl
 length_map (b ∷ bs) = ap suc (length_map bs)
 
--- as many bytes as so many bits need
+-- as many bytes as this many bits need
 pub bits_fit : (n : ℕ) → 2 ^ n ≤ 256 ^ ((n + 7) / 8)
 bits_fit n =
     let enough : n ≤ 8 * ((n + 7) / 8) = omega arith in

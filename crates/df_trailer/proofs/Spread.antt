@@ -2,7 +2,7 @@
 use Rattle.std.{proofs.{Common.{◌≡◌, ℕ, suc, ◌+◌, ◌<◌, ◌≤◌, ◌==◌, Bool, true, false, List, [], length, get_or, set, refl, sym, ap, ◌∙◌, arith, inl, inr}, lemmas.Bool.{cases_eq, eqb-true}, lemmas.List.{get_or-set_same, get_or-set_other, length-set}}, specs.{Prelude.{replicate}, Int.{bit_at}}}
 use Rattle.df_trailer.{specs.Text.{bits_of, ones}, proofs.{OneBit.{bit_is_none, ones_more}, References.{few_ones}}}
 
--- the checksums from a place on are where they belong, and those before it where they were; so many blocks before it are referenced
+-- the checksums from a place on are where they belong, and those before it where they were; this many blocks before it are referenced
 pub record IsSpread (x blocks : ℕ) (old now : List (List ℕ)) (rank place : ℕ) : Type 0 where
   pub size : length now ≡ blocks
   pub ranked : rank ≡ ones (bits_of place x)

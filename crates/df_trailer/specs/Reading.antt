@@ -14,7 +14,7 @@ use Rattle.df_trailer.specs.declared.fault.Failing.{Failing}
 use Rattle.df_trailer.specs.declared.fault.Cause.TheVariants.{Ends, Says}
 use Rattle.df_trailer.specs.declared.reader.Reader.{Reader}
 
--- a text whose head is this, with these bits after it as far as so many bytes go
+-- a text whose head is this, with these bits after it as far as this many bytes go
 pub record IsTextFront (l : Layout) (text head bits : List ℕ) (behind : ℕ) : Type 0 where
   pub rest : List ℕ
   pub is : text ≡ head ++ rest
@@ -28,14 +28,14 @@ pub record IsTextFront (l : Layout) (text head bits : List ℕ) (behind : ℕ) :
 abbrev pub AreChecksKept : List ℕ → ℕ → List ℕ → Type 0
 AreChecksKept text at checks = (i : ℕ) → i < length checks → at + i < length text → slice_index checks i ≡ slice_index text (at + i)
 
--- the tests of the bits after a head of so many bytes: as many bytes as they need, which are this number
+-- the tests of the bits after a head of this many bytes: as many bytes as they need, which are this number
 abbrev pub bits_tests : (blocks head size bits behind : ℕ) → List (Bool × Failing)
 bits_tests blocks head size bits behind =
     (nat_lt behind size, fails Ends TrailerBits (head + behind))
     ∷ (nat_le (2 ^ blocks) bits, fails Says TrailerBits (head + size - 1))
     ∷ []
 
--- the test of the end: so many bytes in all
+-- the test of the end: this many bytes in all
 abbrev pub end_tests : (blocks head size bits behind : ℕ) → List (Bool × Failing)
 end_tests blocks head size bits behind = (not (behind == size + 16 * ones (bits_of blocks bits)), fails Ends TrailerEnd (head + behind)) ∷ []
 

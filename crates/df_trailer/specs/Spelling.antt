@@ -40,7 +40,7 @@ spell_checks [] = []
 spell_checks (None ∷ bs) = spell_checks bs
 spell_checks (Some checksum ∷ bs) = spelled 16 checksum ++ spell_checks bs
 
--- what stands before the checksums, with a root of so many bytes and so many sessions: both, each after its count, and the bits of all
+-- what stands before the checksums, with a root of this many bytes and this many sessions: both, each after its count, and the bits of all
 -- blocks, as one number
 abbrev pub trailer_pieces : Layout → (root sessions : ℕ) → List (Piece Parts)
 trailer_pieces l root sessions =
@@ -55,6 +55,6 @@ trailer_pieces l root sessions =
 abbrev pub spell : Layout → Parts → List ℕ
 spell l parts = text (trailer_pieces l (length parts.root) (length parts.sessions)) parts (spell_checks (block_checksums l parts))
 
--- how long the text is, of a root of so many bytes, so many sessions and so many referenced blocks
+-- how long the text is, of a root of this many bytes, this many sessions and this many referenced blocks
 abbrev pub text_size : Layout → (root sessions references : ℕ) → ℕ
 text_size l root sessions references = 4 + root + 4 + 32 * sessions + bits_size l + 16 * references

@@ -29,6 +29,6 @@ captured_bits captured blocks = number_of_bits (map is_referenced (captured_bloc
 abbrev pub captured_parts : List ℕ → List table.Session → (ℕ → Option ℕ) → model.Parts
 captured_parts root ss captured = record { root = root; sessions = sessions_of ss; references = captured }
 
--- the piece of a text with an index, where a block has room for so many bytes
+-- the piece of a text with an index, where a block has room for this many bytes
 abbrev pub piece_of : ℕ → ℕ → List ℕ → List ℕ
 piece_of room index text = take room (drop (room * index) text)

@@ -62,7 +62,7 @@ pub(crate) fn count_set(words: &[u64], blocks: u32) -> u64
     count
 }
 
-/// The first part of the bits that fails, where so many bytes came after a head of so many.
+/// The first part of the bits that fails, where this many bytes came after a head of this many.
 pub(crate) fn failing_bits(blocks: u32, head: u64, words: &[u64], behind: u64) -> Option<Failing>
     requires room { blocks ≤ 64 * length words.now }
     requires some { 0 < blocks }
@@ -79,7 +79,7 @@ pub(crate) fn failing_bits(blocks: u32, head: u64, words: &[u64], behind: u64) -
     None
 }
 
-/// What fails where a text ends, so many bytes after a head of so many, with these bits.
+/// What fails where a text ends, this many bytes after a head of this many, with these bits.
 pub(crate) fn failing_end(blocks: u32, head: u64, words: &[u64], behind: u64) -> Option<Failing>
     requires room { blocks ≤ 64 * length words.now }
     requires small { head + behind < GREATEST }

@@ -17,7 +17,7 @@ pub(crate) struct Begin {
     pub(crate) at: u64,
 }
 
-/// The begin after so many groups, None where that isn't kept or is past the window's begin.
+/// The begin after this many groups, None where that isn't kept or is past the window's begin.
 fn behind_groups<G: CapturedBlocks>(grid: &G, start: u64, from: u64, groups: u64) -> Option<Begin>
     requires groups { groups < 2 ^ 24 }
     requires small { start < 2 ^ 60 }

@@ -103,7 +103,7 @@ fn stands_before(head: &[u8], from: usize, before: usize, client: u128, number: 
     false
 }
 
-/// The place of the first of so many sessions that breaks a rule, their number where none does.
+/// The place of the first of this many sessions that breaks a rule, their number where none does.
 fn first_wrong_of(head: &[u8], op: u64, from: usize, whole: usize) -> usize
     requires inside { from + 32 * whole ≤ length head.now }
     requires small { length head.now < GREATEST }

@@ -8,7 +8,7 @@ ghost use Rattle.df_trailer.specs.Spelling.{text_size};
 use df_base::HEADER;
 use df_layout::Layout;
 
-/// Bytes of the text of a trailer of the layout, with a root of so many bytes, so many sessions and so many referenced blocks, also
+/// Bytes of the text of a trailer of the layout, with a root of this many bytes, this many sessions and this many referenced blocks, also
 /// where the layout has fewer of these.
 pub fn trailer_size(layout: &Layout, root: u64, sessions: u64, references: u64) -> u64
     requires root { root ≤ 1024 }

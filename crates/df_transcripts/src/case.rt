@@ -126,7 +126,7 @@ fn names(words: &[String], sector: u64) -> Result<bool, Trouble> {
     Ok(false)
 }
 
-// Whether a disk's loose sectors, of the first so many, are exactly these.
+// Whether a disk's loose sectors, of the first ones, this many, are exactly these.
 fn are_loose(named: &Named, words: &[String]) -> Result<bool, Trouble> {
     for sector in 0..MOST_SECTORS {
         if named.disk.is_loose(sector) != names(words, sector)? {

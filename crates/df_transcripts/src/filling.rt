@@ -38,7 +38,7 @@ impl Given {
     }
 }
 
-// Adds a text so many times.
+// Adds a text this many times.
 fn repeat(line: &mut String, text: &str, count: u64) -> Result<(), Trouble> {
     for _ in 0..count {
         line.push_str(text)?;

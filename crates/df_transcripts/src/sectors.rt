@@ -206,7 +206,7 @@ pub(crate) fn part(
     Ok(Vec::from_slice(alloc, &bytes[from..from + size as usize])?)
 }
 
-// Copies so many sectors of one disk to a new one.
+// Copies this many sectors of one disk to a new one.
 fn transfer(from: &mut MemoryDisk, to: &mut MemoryDisk, count: u64) -> Result<(), Trouble> {
     for sector in 0..count {
         let bytes = shown(from, sector)?;

@@ -17,7 +17,7 @@ use Rattle.df_units.specs.Meaning.{header_of}
 use Rattle.df_units.specs.Bytes.{first_at, unit_at}
 use Rattle.df_units.specs.Puts.{AreHeaders}
 
--- so many headers of a table, from a slot on
+-- this many headers of a table, from a slot on
 abbrev pub headers_of : (ℕ → Header) → ℕ → ℕ → List Header
 headers_of table slot zero = []
 headers_of table slot (suc n) = table slot ∷ headers_of table (slot + 1) n

@@ -49,7 +49,7 @@ to_replies s = if is_replied_to s then at (Replying (first_op s)) s else to_step
 abbrev pub after_reply : (op : ℕ) → State → State
 after_reply op s = if nat_lt op s.round then at (Replying (op + 1)) s else to_step s
 
--- ---- the start: round 1 of so many, for the lesser of 4 and so many clients, with nothing held and no checkpoint
+-- ---- the start: round 1 of this many, for the lesser of 4 and this many clients, with nothing held and no checkpoint
 
 abbrev pub no_counts : Counts
 no_counts = record { appended = 0; replied = 0; wrote = 0; released = 0; checkpoints = 0; refused = 0; bytes = 0 }

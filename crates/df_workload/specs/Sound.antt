@@ -33,7 +33,7 @@ counted_commands c = c.appended + c.replied + c.wrote + c.released + c.checkpoin
 abbrev pub flag : Bool → ℕ
 flag running = cond running 1 0
 
--- what holds where at most so many commands of a round are to come
+-- what holds where at most this many commands of a round are to come
 pub record IsWithinRound (to_come : ℕ) (s : State) : Type 0 where
   pub number : s.number < 2 ^ 31
   pub some : 1 ≤ s.clients

@@ -5,7 +5,7 @@ ghost use Rattle.df_workload.specs.Draw.{body_length, drawn_body, first_number, 
 
 use df_base::put_u64;
 
-/// No drawn body has so many bytes.
+/// No drawn body has this many bytes.
 pub(crate) const ROOM: usize = 2048;
 
 /// The number before the first draw.

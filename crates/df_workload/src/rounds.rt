@@ -5,7 +5,7 @@ ghost use Rattle.df_workload.specs.Rounds.{after_reply, is_replied_to, start, to
 use crate::draw::{first_number, next_number};
 use crate::{Counts, Held, Point, State};
 
-/// The start of a run of so many rounds, over a file with places for so many clients.
+/// The start of a run of this many rounds, over a file with places for this many clients.
 pub(crate) fn start(seed: u64, count: u64, clients: u32) -> State
     ensures { result ≡ start seed count clients }
 {

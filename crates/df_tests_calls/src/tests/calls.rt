@@ -6,7 +6,7 @@ use df_replica::{AppendError, Replica, ReplyError};
 use std::alloc::Global;
 use std::test::Fail;
 
-/// A call with a body of so many bytes, each of them the request's or the op's number.
+/// A call with a body of this many bytes, each of them the request's or the op's number.
 #[derive(Clone, Copy, Debug, PartialEq, Eq)]
 pub(crate) enum Call {
     /// By its client, its request, and the bytes of its body.

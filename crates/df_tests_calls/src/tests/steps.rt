@@ -175,7 +175,7 @@ pub(crate) fn is_answered(disk: &mut MemoryDisk, replica: &mut Replica, step: &S
     }
 }
 
-// The first row that isn't answered so by so many device calls and events.
+// The first row that isn't answered so by this many device calls and events.
 pub(crate) fn first_other(
     disk: &mut MemoryDisk,
     replica: &mut Replica,

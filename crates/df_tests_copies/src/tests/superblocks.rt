@@ -3,7 +3,7 @@ use crate::tests::super_examples::{FIRST, LATER, fields_in, judged, sealed, used
 use df_format::{SuperFault, SuperFields};
 use df_layout::{Field, Layout};
 
-// A number of so many bytes, at an offset of the sector.
+// A number of this many bytes, at an offset of the sector.
 type Put = (usize, usize, u64);
 
 fn put(bytes: &mut [u8; 4096], number: &Put) {

@@ -92,7 +92,7 @@ pub(crate) fn super_of(layout: &Layout, last: Reference, size: u64, op: u64) -> 
     }
 }
 
-// Begins a checkpoint whose trailer has so many blocks; fails where not so many addresses are free.
+// Begins a checkpoint whose trailer has this many blocks; fails where fewer addresses are free.
 pub(crate) fn begin(grid: &mut Grid, blocks: u64) -> Result<(), Failed>
     requires idle { IsIdle grid.old.blocks }
     requires some { (1 ≤ blocks) × (blocks ≤ 70) }

@@ -54,7 +54,7 @@ impl CapturedBlocks for Counted {
     }
 }
 
-/// A layout of so many blocks of 4,096 bytes.
+/// A layout of this many blocks of 4,096 bytes.
 pub(crate) fn layout_of(blocks: u32) -> Layout
     requires some { 8 ≤ blocks }
     requires most { blocks ≤ 16384 }
@@ -82,7 +82,7 @@ fn answer_of(mut reader: Reader, front: &[u8], back: &[u8]) -> Result<(), Fault>
     reader.end()
 }
 
-/// How many bytes a piece has of the text of 1,024 blocks, of which so many are referenced.
+/// How many bytes a piece has of the text of 1,024 blocks, of which this many are referenced.
 fn size_of_piece(count: u64, index: u32) -> u64 {
     let mut room = [0u8; 3840];
     let lowest = Lowest { count };
@@ -113,7 +113,7 @@ fn a_trailer_is_cut_into_blocks(rt: HostRuntime) {
     }
 }
 
-/// The byte at an offset of the text of 1,024 blocks, of which so many are referenced, a multiple of eight: lengths, bits and checksums.
+/// The byte at an offset of the text of 1,024 blocks, of which this many are referenced, a multiple of eight: lengths, bits and checksums.
 fn byte_of_text(count: u64, at: u64) -> u8 {
     match at {
         0..=7 => 0,

@@ -184,7 +184,7 @@ impl Source for Drip {
     }
 }
 
-// A line with a body of so many bytes.
+// A line with a body of this many bytes.
 fn reply_of(alloc: Global, size: u64) -> Result<Vec<u8>, AllocError> {
     let mut line = b"reply 1 ".to_vec(alloc)?;
     for _ in 0..size {

@@ -79,7 +79,7 @@ impl Disk for Board {
     }
 }
 
-// A reply by its numbers; client, request, op, boot and checkpoint are 1 at the least. Its mark is so many ops ahead of its own, and
+// A reply by its numbers; client, request, op, boot and checkpoint are 1 at the least. Its mark is this many ops ahead of its own, and
 // where it names no boot, it is of version 1.
 #[derive(Clone, Copy)]
 pub(crate) struct Stored {
