@@ -32,6 +32,15 @@ given_view words n now address room view has =
     let inside : address - 1 < n = bit_below words n now address view has in
     taken_written words (clearing words (address - 1)) n (address - 1) false inside (clear_writes words n (address - 1) room inside) ∙ ap (λ (all : List Bool). set all (address - 1) false) view
 
+-- and so the words that are written back have it
+pub now_taken : (room : Vec ℕ) (new : List ℕ) (n : ℕ) (now : List Bool) (address : ℕ) → new ≡ setting room.items (address - 1) → IsRoom room.items n → taken_in room.items n ≡ now → SetHasAddress now address
+    → taken_in (with_items room new).items n ≡ set now (address - 1) true
+now_taken room new n now address words fits view has = rw (written_back room _ _ _ words, words) (taken_view room.items n now address fits view has)
+
+pub now_given : (room : Vec ℕ) (new : List ℕ) (n : ℕ) (now : List Bool) (address : ℕ) → new ≡ clearing room.items (address - 1) → IsRoom room.items n → taken_in room.items n ≡ now → SetHasAddress now address
+    → taken_in (with_items room new).items n ≡ set now (address - 1) false
+now_given room new n now address words fits view has = rw (written_back room _ _ _ words, words) (given_view room.items n now address fits view has)
+
 -- the free ones are those that aren't counted
 pub free_left : (words : List ℕ) (n : ℕ) (now : List Bool) → IsRoom words n → taken_in words n ≡ now → count_free now + sum_by count_ones words ≡ n
 free_left words n now room view = subst (λ (all : List Bool). count_free all + sum_by count_ones words ≡ n) view (free_and_ones words n room)

@@ -1,7 +1,14 @@
 -- The summary is full, or its lowest zero is beyond the words, or is the first word with a zero.
-use Rattle.std.{proofs.{Common.{◌≡◌, ◌≤◌, ◌<◌, IsNone, ◌*◌, ◌+◌, length, arith, rules, refl, sym, subst, ◌∙◌}, lemmas.Bool.{ltb-true, ltb-false}, lemmas.List.{get_or_read}}, specs.Prelude.{slice_index}}
-use Rattle.df_freeset.{specs.{Addresses.{AreAllTaken, IsLeastFree}, Bits.{IsLowestZero, AreFull}}, proofs.{Least.{zero_is_least, zero_is_beyond, not_both}, Summary.{summary_full, summary_beyond, summary_lowest}}}
+use Rattle.std.{proofs.{Common.{◌≡◌, ◌≤◌, ◌<◌, IsNone, ℕ, ◌*◌, ◌+◌, true, List, length, get_or, arith, rules, refl, sym, subst, ◌∙◌}, lemmas.Bool.{ltb-true, ltb-false}, lemmas.List.{get_or_read}}, specs.{Prelude.{ltb}, Int.{trailing_ones, w64}}}
+use Rattle.df_freeset.{specs.{Addresses.{AreAllTaken, IsLeastFree}, Bits.{IsFreeSet, IsLowestZero, AreFull}}, proofs.{Least.{zero_is_least, zero_is_beyond, not_both}, Summary.{summary_full, summary_beyond, summary_lowest}}}
 use Rattle.df_freeset.proofs.set.FreeSet.least_free.Goals as goal
+
+-- the lowest zero of the word that the summary names
+first_zero : (words summary : List ℕ) (n w word t : ℕ) → IsFreeSet words summary n → IsLowestZero summary w → true ≡ ltb w (length words) → word ≡ get_or words w word → t ≡ trailing_ones w64 word
+    → IsLowestZero words (w * 64 + t)
+first_zero words summary n w word t old lowest found read counted =
+    let inside : w < length words = ltb-true w (length words) (sym found) in
+    summary_lowest words summary n w word t old lowest inside (get_or_read words w word inside read 0) counted
 
 pub returns-in_err-word-clause-none : goal.returns-in_err-word-clause-none
 returns-in_err-word-clause-none c =
@@ -24,12 +31,9 @@ returns-in_err-get-clause-none c =
 pub returns-then-address-from : goal.returns-then-address-from
 returns-then-address-from c =
     let s = c.self.inside in
-    let w = c.in_ok-word.word in
-    let bit = w * 64 + c.from.result in
-    let lowest : IsLowestZero s.summary.items w = subst (λ words. IsLowestZero words w) c.deref.ensures.value c.in_ok-word.ensures.lowest in
-    let inside : w < length s.words.items = (rw c.deref-2.ensures.value at (ltb-true w (length c.deref-2.result.now) (sym c.in_ok-get.ensures.lookup.0))) in
-    let read : c.in_ok-get.field-0.now ≡ slice_index s.words.items w = get_or_read s.words.items w c.in_ok-get.field-0.now inside (rw c.deref-2.ensures.value at c.in_ok-get.ensures.lookup.1) 0 in
-    let first : IsLowestZero s.words.items bit = summary_lowest s.words.items s.summary.items s.blocks w _ c.from.result c.self.invariant lowest inside read (c.from.ensures ∙ c.trailing_ones-ones.ensures) in
+    let bit = c.in_ok-word.word * 64 + c.from.result in
+    let first : IsLowestZero s.words.items bit = first_zero s.words.items s.summary.items s.blocks _ _ _ c.self.invariant (rw c.deref.ensures.value at c.in_ok-word.ensures.lowest)
+    (rw c.deref-2.ensures.value at c.in_ok-get.ensures.lookup.0) (rw c.deref-2.ensures.value at c.in_ok-get.ensures.lookup.1) (c.from.ensures ∙ c.trailing_ones-ones.ensures) in
     let within : bit + 1 ≤ s.blocks = omega (arith, c.from-2.ensures, c.if-address-from.true) in
     let least : IsLeastFree c.args.self.now (bit + 1) =
     subst (λ taken. IsLeastFree taken (bit + 1)) c.self.view_is (zero_is_least s.words.items s.blocks bit (bit + 1) first refl within) in
@@ -38,11 +42,8 @@ returns-then-address-from c =
 pub returns-else-address-from-clause-none : goal.returns-else-address-from-clause-none
 returns-else-address-from-clause-none c =
     let s = c.self.inside in
-    let w = c.in_ok-word.word in
-    let bit = w * 64 + c.from.result in
-    let lowest : IsLowestZero s.summary.items w = subst (λ words. IsLowestZero words w) c.deref.ensures.value c.in_ok-word.ensures.lowest in
-    let inside : w < length s.words.items = (rw c.deref-2.ensures.value at (ltb-true w (length c.deref-2.result.now) (sym c.in_ok-get.ensures.lookup.0))) in
-    let read : c.in_ok-get.field-0.now ≡ slice_index s.words.items w = get_or_read s.words.items w c.in_ok-get.field-0.now inside (rw c.deref-2.ensures.value at c.in_ok-get.ensures.lookup.1) 0 in
-    let first : IsLowestZero s.words.items bit = summary_lowest s.words.items s.summary.items s.blocks w _ c.from.result c.self.invariant lowest inside read (c.from.ensures ∙ c.trailing_ones-ones.ensures) in
+    let bit = c.in_ok-word.word * 64 + c.from.result in
+    let first : IsLowestZero s.words.items bit = first_zero s.words.items s.summary.items s.blocks _ _ _ c.self.invariant (rw c.deref.ensures.value at c.in_ok-word.ensures.lowest)
+    (rw c.deref-2.ensures.value at c.in_ok-get.ensures.lookup.0) (rw c.deref-2.ensures.value at c.in_ok-get.ensures.lookup.1) (c.from.ensures ∙ c.trailing_ones-ones.ensures) in
     let all : AreAllTaken c.args.self.now = subst AreAllTaken c.self.view_is (zero_is_beyond s.words.items s.blocks bit first (omega (arith, c.from-2.ensures, c.if-address-from.false))) in
     (λ _. all, λ _. refl)

@@ -1,6 +1,6 @@
 -- The address's bit is set, and the bit of its word where this fills it.
 use Rattle.std.{proofs.Common.{◌≡◌, ◌-◌, ◌/◌, refl, sym, ◌∙◌, arith}, specs.Prelude.{slice_index}}
-use Rattle.df_freeset.{specs.Bits.{setting}, proofs.{Counts.{one_fewer}, Views.{bit_below, taken_view, word_there, written_back, read_back}, Summary.{fills, leaves_open, summary_inside}}}
+use Rattle.df_freeset.{specs.Bits.{setting}, proofs.{Counts.{one_fewer}, Views.{bit_below, now_taken, word_there, written_back, read_back}, Summary.{fills, leaves_open, summary_inside}}}
 use Rattle.df_freeset.proofs.set.FreeSet.take.Goals as goal
 
 pub set_bit-requires : goal.set_bit-requires
@@ -44,15 +44,11 @@ invariant_of-self-else-index c =
 pub returns-then-index : goal.returns-then-index
 returns-then-index c =
     let s = c.self.inside in
-    let now = c.args.self.now in
-    let words : c.set_bit.new.words ≡ setting s.words.items (c.args.address - 1) = rw c.deref_mut.ensures.value at c.set_bit.ensures in
-    let view = taken_view s.words.items s.blocks now c.args.address c.self.invariant.room c.self.view_is c.requires in
-    rw (written_back s.words _ _ _ words, words, view) record { taken = refl; fewer = one_fewer now (c.args.address - 1) }
+    rw (now_taken s.words c.set_bit.new.words s.blocks c.args.self.now c.args.address (rw c.deref_mut.ensures.value at c.set_bit.ensures) c.self.invariant.room c.self.view_is c.requires)
+    record { taken = refl; fewer = one_fewer c.args.self.now (c.args.address - 1) }
 
 pub returns-else-index : goal.returns-else-index
 returns-else-index c =
     let s = c.self.inside in
-    let now = c.args.self.now in
-    let words : c.set_bit.new.words ≡ setting s.words.items (c.args.address - 1) = rw c.deref_mut.ensures.value at c.set_bit.ensures in
-    let view = taken_view s.words.items s.blocks now c.args.address c.self.invariant.room c.self.view_is c.requires in
-    rw (written_back s.words _ _ _ words, words, view) record { taken = refl; fewer = one_fewer now (c.args.address - 1) }
+    rw (now_taken s.words c.set_bit.new.words s.blocks c.args.self.now c.args.address (rw c.deref_mut.ensures.value at c.set_bit.ensures) c.self.invariant.room c.self.view_is c.requires)
+    record { taken = refl; fewer = one_fewer c.args.self.now (c.args.address - 1) }
