@@ -38,21 +38,17 @@ module _ (sh : Shape) (spell : Parts → List ℕ) (log : UnitLog) (w : Work) (s
       let rise : RiseFrom (k + 1) (a ∷ more) = subst (RiseFrom (k + 1)) left ((keeps.sense.running r at).written k x there).1 in
       block_else image does.put a b does.one k (apart_of a k more rise) ∙ keeps.written r at k x there
 
+  still_shown : ShowsWritten later u
+  still_shown q now_is k x is =
+      let one : t ≡ q = (let both : Some t ≡ Some q = now_is in cc) in
+      shown k x (subst (λ (y : Running). InChain k x y.written) (sym one) is)
+
   trailer_on : Both sh spell log w u steps
   trailer_on =
       let on = tidy_block_law sh log w.view does.put a b keeps.tidy clear.no_trailer does.one in
       let free : (c : ℕ) → w.view.checkpoint.parts.references a ≡ Some c → ⊥ = λ c is. cc (is, clear.unreferenced) in
       subst (λ (ss : List Step). Both sh spell log w u ss) (sym does.are) (
-        record {
-          leads = on.0;
-          keeps = record {
-            sense = trailer_keeps sh spell w sum r a more keeps.sense at left;
-            tidy = on.0.tidy;
-            written = λ q now_is k x is.
-                let one : t ≡ q = (let both : Some t ≡ Some q = now_is in cc) in
-                shown k x (subst (λ (y : Running). InChain k x y.written) (sym one) is);
-          };
-        },
+        record { leads = on.0; keeps = record { sense = trailer_keeps sh spell w sum r a more keeps.sense at left; tidy = on.0.tidy; written = still_shown } },
         λ backed. record {
           stands = on.1 backed.standing free;
           backed = record {

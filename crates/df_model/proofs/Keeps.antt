@@ -2,7 +2,7 @@
 use Rattle.std.{proofs.{Common.{◌≡◌, ◌⊎◌, inl, inr, ℕ, ◌+◌, ◌-◌, ◌<◌, ◌≤◌, ◌==◌, ◌||◌, Bool, true, false, if◌then◌else◌, List, [], ◌∷◌, ◌++◌, length, Option, Some, None, refl, sym, ◌∙◌, ap, subst, zero, suc, nat_lt, arith, length-drop, eqb-true}, lemmas.Bool.Decides.{nat_tests}, lemmas.List.FromFn.{length-map-range_with_len}, lemmas.Bool.{or_right, or_cases}}, specs.List.{slice_get}}
 use Rattle.df_layout.specs.declared.damage.Finding.{Finding}
 use Rattle.df_theory.{specs.{Units.{Block, BlockUnit, Content, Message, Session, Parts}, Sessions.{noted}, Tails.{Chain, In}, Trailer.{InChain, Links, Says, text_of}, Shape.{Shape}, View.{View, head, sessions}, Holds.{Sound}, Next.{Append, Finish, Next, Reply, Same}}, proofs.Laws.{chain_ops}}
-use Rattle.df_model.{specs.{Blocks.{addresses, entries, sum_at}, Work.{Running, Tour, Work, first_tour, prepare_checksum, is_captured, is_in, is_known, is_of, opened, waiting_checksum}, Codec.{AreBytes, AreLawful, IsCodec, IsLawful}, Refusals.{begin_refusals, first_refusal}, After.{newest, with_running, next_trailer, begun, checkpoint_of, with_trailer_block, with_verdict}, Change.{Appends, Begins, Change, Checks, Ends, LetsGo, Lives, One, Replies, Staged, Stages, Stays, TourEnds, Writes}, Sense.{AtEachOf, IsCapture, IsClearAddress, IsWork}, declared.answers.Verdict.{Verdict}, declared.answers.Verdict.TheVariants.{Sound as IsFine, Failing}, Laws.{HasFields, NextLaw, OpenedLaw, SenseLaw}, Memory.{free_of, memory_of}, Making.{needed_of, next_address, place_of_reply, reply_of}, Commands.{Command, Given, IsInput, after, supplied_sum, supplied_sums, supplied_verdict}}, proofs.{Entries.{entry_known}, Sessions.{chain_lawful}, Grid.{IsFree, are_free, each_take, each_weaker, in_each, nowhere}, Knows.{begin_knows, one_fewer, one_more, opened_one, scrub_one, trailer_knows, trailer_new}, Appends.{append_keeps, may_append}, Groups.{nothing_staged}, Staging.{stage_keeps}, Flushing.{flush_keeps, may_flush}, Replies.{may_reply, reply_keeps}, Blocks.{first_small, live_keeps, next_free, release_keeps}, Steps.{begin_capture, step_capture}, Finishes.{finish_keeps, is_finish}, Recording.{get_range}, OneThing.{one_thing_law}}}
+use Rattle.df_model.{specs.{Blocks.{addresses, entries, sum_at}, Work.{Running, Tour, Work, first_tour, prepare_checksum, is_captured, is_in, is_known, is_of, opened, waiting_checksum}, Codec.{AreBytes, AreLawful, IsCodec, IsLawful}, Refusals.{begin_refusals, first_refusal}, After.{newest, with_running, next_trailer, begun, checkpoint_of, with_trailer_block, with_verdict}, Change.{Appends, Begins, Change, Checks, Ends, LetsGo, Lives, One, Replies, Staged, Stages, Stays, TourEnds, Writes}, Sense.{AtEachOf, IsCapture, IsClearAddress, IsWork}, declared.answers.Verdict.{Verdict}, declared.answers.Verdict.TheVariants.{Sound as IsFine, Failing}, Laws.{HasFields, NextLaw, OpenedLaw, SenseLaw}, Memory.{free_of, memory_of}, Making.{needed_of, next_address, place_of_reply, reply_of}, Commands.{Command, Given, IsInput, after, supplied_sum, supplied_sums, supplied_verdict}}, proofs.{Entries.{entry_known}, Sessions.{chain_lawful}, Grid.{IsFree, are_free, each_take, each_weaker, in_each, nowhere}, Knows.{begin_knows, one_fewer, one_more, opened_one, trailer_knows, trailer_new}, Appends.{append_keeps, may_append}, Groups.{nothing_staged}, Staging.{aside_keeps, stage_keeps}, Flushing.{flush_keeps, may_flush}, Replies.{may_reply, reply_keeps}, Blocks.{first_small, live_keeps, next_free, release_keeps}, Steps.{begin_capture, step_capture}, Finishes.{finish_keeps, is_finish}, Recording.{get_range}, OneThing.{one_thing_law}}}
 
 -- ---- a begin
 
@@ -74,20 +74,7 @@ newest_few fs = omega (arith, length-drop (length fs - 64) fs)
 
 -- what holds of tours and findings alone is no matter of the state's sense
 pub tour_keeps : (sh : Shape) (spell : Parts → List ℕ) (w : Work) (tour : Tour) (findings : List Finding) → length findings ≤ 64 → IsWork sh spell w → IsWork sh spell (record w { tour = tour; findings = findings })
-tour_keeps sh spell w tour findings few work = record {
-  codec = work.codec;
-  version = work.version;
-  view = work.view;
-  sessions = work.sessions;
-  grid = work.grid;
-  waiting = work.waiting;
-  staged = work.staged;
-  running = work.running;
-  one = scrub_one w (record w { tour = tour; findings = findings }) refl refl refl work.one;
-  sums = work.sums;
-  few = few;
-  clear = work.clear;
-}
+tour_keeps sh spell w tour findings few work = aside_keeps sh spell w w.staged tour findings work.staged few work
 
 -- a check changes the tour and the findings alone
 pub record IsTour (sh : Shape) (spell : Parts → List ℕ) (w u : Work) : Type 0 where

@@ -1,7 +1,7 @@
 -- One block an address.
 use Rattle.std.proofs.Common.{◌≡◌, ◌⊎◌, inl, inr, ℕ, ◌+◌, ◌==◌, Bool, true, false, if◌then◌else◌, List, ◌∷◌, Option, Some, None, refl, sym, ◌∙◌, ap, subst, arith, eqb-true}
 use Rattle.df_theory.specs.{Units.{Block, Message, Parts}, Trailer.{InChain}, Shape.{Shape}, View.{View}, Holds.{Sound}}
-use Rattle.df_model.{specs.{Work.{Request, Running, Work}, After.{with_running, begun, finished, with_group, with_live, with_reply, with_staged, with_trailer_block}, Sense.{AreOne, AtEachOf, Captured, Chained, Durable, IsCapture, IsClearAddress, IsKnown, IsSpare, Live, RiseFrom, Written}, Blocks.{addresses, entries, sum_at}}, proofs.{Grid.{IsNowhere}, Entries.{entry_in}}}
+use Rattle.df_model.{specs.{Work.{Running, Work}, After.{with_running, begun, finished, with_group, with_live, with_reply, with_trailer_block}, Sense.{AreOne, AtEachOf, Captured, Chained, Durable, IsCapture, IsClearAddress, IsKnown, IsSpare, Live, RiseFrom, Written}, Blocks.{addresses, entries, sum_at}}, proofs.{Grid.{IsNowhere}, Entries.{entry_in}}}
 
 -- what was known is known
 abbrev pub KnowsNoMore : Work → Work → Type 0
@@ -32,13 +32,6 @@ nowhere_new w a none c (Durable is) = cc (is, none.durable)
 nowhere_new w a none c (Chained b is sum) = none.chain b is
 
 -- ---- the calls
-
-pub stage_knows : (w : Work) (r : Request) → KnowsNoMore w (with_staged w r)
-stage_knows w q a c (Live is) = Live is
-stage_knows w q a c (Captured r at is) = Captured r at is
-stage_knows w q a c (Written r b at is sum) = Written r b at is sum
-stage_knows w q a c (Durable is) = Durable is
-stage_knows w q a c (Chained b is sum) = Chained b is sum
 
 pub group_knows : (w : Work) (ps : List Message) → KnowsNoMore w (with_group w ps)
 group_knows w ps a c (Live is) = Live is
@@ -140,8 +133,8 @@ known_as w u a c view live running (Written r b at is sum) = Written r b (sym ru
 known_as w u a c view live running (Durable is) = Durable (ap (λ (v : View). v.checkpoint.parts.references a) (sym view) ∙ is)
 known_as w u a c view live running (Chained b is sum) = Chained b (subst (λ (v : View). InChain a b v.checkpoint.chain) view is) sum
 
-pub scrub_one : (w u : Work) → u.view ≡ w.view → u.live ≡ w.live → u.running ≡ w.running → AreOne w → AreOne u
-scrub_one w u view live running one = one_fewer w u (λ a c is. known_as w u a c view live running is) one
+pub aside_one : (w u : Work) → u.view ≡ w.view → u.live ≡ w.live → u.running ≡ w.running → AreOne w → AreOne u
+aside_one w u view live running one = one_fewer w u (λ a c is. known_as w u a c view live running is) one
 
 -- ---- the start
 

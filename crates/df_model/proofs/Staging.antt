@@ -1,7 +1,29 @@
 -- A request that is staged.
-use Rattle.std.{proofs.Common.{◌≡◌, ℕ, ◌+◌, ◌<◌, List, [], ◌∷◌, ◌++◌, length, None, refl, sym, subst, arith, length-append}, specs.Prelude.{◌^◌}}
+use Rattle.std.{proofs.Common.{◌≡◌, ℕ, ◌+◌, ◌<◌, ◌≤◌, List, [], ◌∷◌, ◌++◌, length, None, refl, sym, subst, arith, length-append}, specs.Prelude.{◌^◌}}
+use Rattle.df_layout.specs.declared.damage.Finding.{Finding}
 use Rattle.df_theory.specs.{Units.{Message, Parts, Session}, Sessions.{MayAsk, noted, sessions_after}, Shape.{Shape}, View.{View, head, sessions}}
-use Rattle.df_model.{specs.{Work.{Request, Work}, Codec.{AreLawful}, Memory.{Memory, memory_of}, Making.{group_of, prepare_in, prepares_in}, Refusals.{counted_staged, first_refusal, session_of_client, stage_refusals}, After.{with_staged}, Sense.{AreStaged, IsWork}}, proofs.{Appends.{IsAllowed, allowed, allowed_asks, some_request}, Groups.{alike_sessions, ask_on, asks_more, length_in, sessions_more, staged_on}, Knows.{one_fewer, stage_knows}, Sessions.{noted_lawful}}}
+use Rattle.df_model.{specs.{Work.{Request, Tour, Work}, Codec.{AreLawful}, Memory.{Memory, memory_of}, Making.{group_of, prepare_in, prepares_in}, Refusals.{counted_staged, first_refusal, session_of_client, stage_refusals}, After.{with_staged}, Sense.{AreStaged, IsWork}}, proofs.{Appends.{IsAllowed, allowed, allowed_asks, some_request}, Groups.{alike_sessions, ask_on, asks_more, length_in, sessions_more, staged_on}, Knows.{aside_one}, Sessions.{noted_lawful}}}
+
+-- ---- what is beside the view and the grid
+
+-- no staged request, no tour and no finding knows a block
+pub aside_keeps : (sh : Shape) (spell : Parts → List ℕ) (w : Work) (staged : List Request) (tour : Tour) (findings : List Finding)
+    → AreStaged sh w.view (group_of (memory_of sh spell (record w { staged = staged; tour = tour; findings = findings })) []) → length findings ≤ 64
+    → IsWork sh spell w → IsWork sh spell (record w { staged = staged; tour = tour; findings = findings })
+aside_keeps sh spell w staged tour findings fits few work = record {
+  codec = work.codec;
+  version = work.version;
+  view = work.view;
+  sessions = work.sessions;
+  grid = work.grid;
+  waiting = work.waiting;
+  staged = fits;
+  running = work.running;
+  one = aside_one w (record w { staged = staged; tour = tour; findings = findings }) refl refl refl work.one;
+  sums = work.sums;
+  few = few;
+  clear = work.clear;
+}
 
 -- ---- a request is staged
 
@@ -70,17 +92,4 @@ module _ (sh : Shape) (spell : Parts → List ℕ) (w : Work) (client request : 
       }
 
   pub stage_keeps : client < 2 ^ 128 → IsWork sh spell u
-  stage_keeps fits = record {
-    codec = work.codec;
-    version = work.version;
-    view = work.view;
-    sessions = work.sessions;
-    grid = work.grid;
-    waiting = work.waiting;
-    staged = staged fits;
-    running = work.running;
-    one = one_fewer w u (stage_knows w r) work.one;
-    sums = work.sums;
-    few = work.few;
-    clear = work.clear;
-  }
+  stage_keeps fits = aside_keeps sh spell w u.staged w.tour w.findings (staged fits) work.few work

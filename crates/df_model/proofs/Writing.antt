@@ -1,6 +1,6 @@
 -- Writes that lead on, whatever stands at the referenced blocks; and where they are shown, they stay so.
 use Rattle.std.proofs.{Common.{◌≡◌, ℕ, ◌^◌, ◌<◌, ◌==◌, ◌%◌, Bool, true, false, if◌then◌else◌, List, [], ◌∷◌, Option, Some, None, refl, sym, ◌∙◌, ap, subst, eqb-true}, lemmas.Bool.{eqb-false}}
-use Rattle.df_theory.{specs.{Units.{AnyUnit, Block, BlockPlace, BlockUnit, Message, Parts, Place, PreparePlace, PrepareUnit, ReplyPlace, ReplyUnit, Units, or_else, overlay}, Trailer.{InChain}, Shape.{Shape}, View.{View}, UnitLog.{PutsOne, UnitLog, now}, Runs.{Step, after_steps}, WriterLaws.{IsHeaderSector, flush_steps}, TidyLaws.{IsTidy, KeepsStanding, LeadsTidily}}, proofs.Laws.{put_else, tidy_append_law, tidy_block_law, tidy_flush_law, tidy_idle_law, tidy_reply_law}}
+use Rattle.df_theory.{specs.{Units.{AnyUnit, Block, BlockPlace, BlockUnit, Message, Parts, Place, PreparePlace, PrepareUnit, ReplyPlace, ReplyUnit, Units, or_else, overlay}, Trailer.{InChain}, Shape.{Shape}, View.{View}, UnitLog.{PutsOne, UnitLog, now}, Runs.{Step, after_steps}, WriterLaws.{IsHeaderSector, flush_steps}, TidyLaws.{IsTidy, KeepsStanding, LeadsTidily}, WholeLaws.{IsStanding}}, proofs.Laws.{put_else, tidy_append_law, tidy_block_law, tidy_flush_law, tidy_idle_law, tidy_reply_law}}
 use Rattle.df_model.{specs.{Work.{Work}, Codec.{IsChecksum}, Memory.{memory_of}, Making.{group_of, place_of_reply, prepare_of, reply_of}, Refusals.{append_refusals, first_refusal, flush_refusals, reply_refusals}, After.{with_group, with_live, with_reply}, Sense.{IsBacked, IsWork, ShowsOwnBlock, ShowsWritten}, Laws.{BacksOn, DoesAppend, DoesBlock, DoesFlush, DoesReply, IsKeptBy, LeadsOn}}, proofs.{Grid.{IsFree, nowhere}, Appends.{append_keeps, may_append}, NoBlocks.{blocks_stay, flush_no_blocks}, Replies.{may_reply, reply_keeps}, Flushing.{flush_keeps, may_flush}, Blocks.{live_keeps}}}
 
 -- a command leads on, and where the blocks are shown, keeps them so
@@ -39,6 +39,14 @@ own_same image later a c same shows = (shows.0, same ∙ shows.1, shows.2, shows
 same_written : (image later : Units) (w u : Work) → SameBlocks image later → u.running ≡ w.running → ShowsWritten image w → ShowsWritten later u
 same_written image later w u same running written r at a b is = same a ∙ written r (sym running ∙ at) a b is
 
+backed_same : (log later : UnitLog) (w u : Work) → IsStanding later u.view → SameBlocks (now log) (now later) → u.live ≡ w.live → u.running ≡ w.running
+    → IsBacked log w → IsBacked later u
+backed_same log later w u standing same live running backed = record {
+  standing = standing;
+  live = λ a c is. own_same (now log) (now later) a c (same a) (backed.live a c (ap (λ (l : ℕ → Option ℕ). l a) (sym live) ∙ is));
+  captured = λ r at a c is. own_same (now log) (now later) a c (same a) (backed.captured r (sym running ∙ at) a c is);
+}
+
 -- a write that puts no block
 pub same_headers : (image put : Units) (p : Message) (sh : Shape) (shown : Units) → IsHeaderSector sh shown p put → SameBlocks image (overlay put image)
 same_headers image put p sh shown sector a = go (put (BlockPlace a)) refl
@@ -66,14 +74,7 @@ append_on sh spell log w sum client request body steps fits keeps none does =
     let same : SameBlocks (now log) later = λ a. same_headers (overlay does.prepare (now log)) does.headers p sh (now log) does.sector a ∙ put_else does.prepare (now log) (PreparePlace (p.header.op % sh.layout.slots)) (BlockPlace a) (PrepareUnit p) does.one (λ same. cc (same)) in
     subst (λ (ss : List Step). Both sh spell log w u ss) (sym does.are) (
       record { leads = on.0; keeps = record { sense = append_keeps sh spell w sum client request body keeps.sense none fits; tidy = on.0.tidy; written = same_written (now log) later w u same refl keeps.written } },
-      λ backed. record {
-        stands = on.1 backed.standing;
-        backed = record {
-          standing = (on.1 backed.standing).standing;
-          live = λ a c is. own_same (now log) later a c (same a) (backed.live a c is);
-          captured = λ r at a c is. own_same (now log) later a c (same a) (backed.captured r at a c is);
-        };
-      },
+      λ backed. let stands = on.1 backed.standing in record { stands = stands; backed = backed_same log _ w u stands.standing same refl refl backed },
     )
 
 pub flush_on : (sh : Shape) (spell : Parts → List ℕ) (log : UnitLog) (w : Work) (sums : List ℕ) (steps : List Step) → IsKeptBy sh spell log w → first_refusal (flush_refusals (memory_of sh spell w)) ≡ None
@@ -86,14 +87,7 @@ flush_on sh spell log w sums steps keeps none does =
     let same : SameBlocks (now log) (now (after_steps own log)) = blocks_stay own log (flush_no_blocks sh ps does.prepares does.table does.headers does.puts does.sectors) in
     subst (λ (ss : List Step). Both sh spell log w u ss) (sym does.are) (
       record { leads = on.0; keeps = record { sense = flush_keeps sh spell w sums keeps.sense none; tidy = on.0.tidy; written = same_written (now log) (now (after_steps own log)) w u same refl keeps.written } },
-      λ backed. record {
-        stands = on.1 backed.standing;
-        backed = record {
-          standing = (on.1 backed.standing).standing;
-          live = λ a c is. own_same (now log) (now (after_steps own log)) a c (same a) (backed.live a c is);
-          captured = λ r at a c is. own_same (now log) (now (after_steps own log)) a c (same a) (backed.captured r at a c is);
-        };
-      },
+      λ backed. let stands = on.1 backed.standing in record { stands = stands; backed = backed_same log _ w u stands.standing same refl refl backed },
     )
 
 pub reply_on : (sh : Shape) (spell : Parts → List ℕ) (log : UnitLog) (w : Work) (sum op : ℕ) (body : List ℕ) (steps : List Step) → IsKeptBy sh spell log w → first_refusal (reply_refusals (memory_of sh spell w) op body) ≡ None
@@ -107,14 +101,7 @@ reply_on sh spell log w sum op body steps keeps none does =
     let same : SameBlocks (now log) later = λ a. put_else does.put (now log) (ReplyPlace place) (BlockPlace a) (ReplyUnit r) does.one (λ same. cc (same)) in
     subst (λ (ss : List Step). Both sh spell log w u ss) (sym does.are) (
       record { leads = on.0; keeps = record { sense = reply_keeps sh spell w sum op body keeps.sense none; tidy = on.0.tidy; written = same_written (now log) later w u same refl keeps.written } },
-      λ backed. record {
-        stands = on.1 backed.standing;
-        backed = record {
-          standing = (on.1 backed.standing).standing;
-          live = λ a c is. own_same (now log) later a c (same a) (backed.live a c is);
-          captured = λ q at a c is. own_same (now log) later a c (same a) (backed.captured q at a c is);
-        };
-      },
+      λ backed. let stands = on.1 backed.standing in record { stands = stands; backed = backed_same log _ w u stands.standing same refl refl backed },
     )
 
 pub block_on : (sh : Shape) (spell : Parts → List ℕ) (log : UnitLog) (w : Work) (a : ℕ) (b : Block) (steps : List Step) → IsChecksum b.checksum → 0 < b.kind → IsKeptBy sh spell log w → IsFree sh w a → DoesBlock w.view a b steps → Both sh spell log w (with_live w a (Some b.checksum)) steps
