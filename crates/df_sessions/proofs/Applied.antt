@@ -1,71 +1,79 @@
 -- What a request makes of a table, where the client is known and where it is new.
 use Rattle.std.{proofs.Common.{IsSome, Option, ◌≡◌, ◌≢◌, ℕ, ◌<◌, ◌⊎◌, inl, inr, Some, None, List, [], ◌∷◌, ◌++◌, length, get_or, set, arith, sym, subst, ◌∙◌, ap}, specs.List.{position, slice_get}}
-use Rattle.df_sessions.{specs.{declared.session.Session.{Session}, Table.{Table, IsSessionTable, IsKnownClient, has_client, requested, with_request, with_reply_stored}, Changes.{Change, changed, sessions_after}, Changes.Change.{Request, Reply}}, proofs.{Kept.{request_keeps, reply_keeps}, Noted.{one_more}, Places.{IsFirst, first_place, request_known, request_new, place_known, place_new, reply_at, get_set_same, get_set_other, get_push_last, get_push_other}}}
+use Rattle.df_theory.specs.{Units.{Header}, Sessions.{noted, session_of_header}}
+use Rattle.df_sessions.{specs.{declared.session.Session.{Session}, Table.{Table, IsSessionTable, IsKnownClient, has_client, requested, with_request, with_reply_stored}, Changes.{Change, changed, sessions_after}, Changes.Change.{Request, Reply}, Requests.{sessions_of}}, proofs.{Kept.{request_keeps, reply_keeps}, Noted.{one_more, request_noted}, Places.{IsFirst, first_place, request_known, request_new, place_known, place_new, reply_at, get_set_same, get_set_other, get_push_last, get_push_other}}}
 
--- the request of a client is at this place, and nothing else has changed
-pub record HasRequest (client request op : ℕ) (old new : List Session) (place : ℕ) : Type 0 where
-  pub sessions : new ≡ with_request client request op old
-  pub place_is : position (has_client client) new ≡ Some place
-  pub there : slice_get new place ≡ Some (requested client request op)
-  pub others : (k : ℕ) → k ≢ place → slice_get new k ≡ slice_get old k
-  pub history : (changes : List Change) → old ≡ sessions_after changes → new ≡ sessions_after (changes ++ Request client request op ∷ [])
+-- the request of a client is at this place, and nothing else has changed: what `apply` ensures
+abbrev pub HasRequest : ℕ → ℕ → ℕ → ℕ → Table → List Session → ℕ → Type 0
+HasRequest max client request op old new k = record {
+  sessions : new ≡ with_request client request op old.sessions;
+  places : max ≡ old.max;
+  place : position (has_client client) new ≡ Some k;
+  there : slice_get new k ≡ Some (requested client request op);
+  others : (i : ℕ) → i ≢ k → slice_get new i ≡ slice_get old.sessions i;
+  history : (changes : List Change) → old.sessions ≡ sessions_after changes → new ≡ sessions_after (changes ++ Request client request op ∷ []);
+  noted : (h : Header) → session_of_header h ≡ record { client = client; request = request; op = op } → sessions_of new ≡ noted h (sessions_of old.sessions);
+}
 
 -- what was so after changes is so after one more
 pub history_on : (change : Change) (old new : List Session) → new ≡ changed change old
     → (changes : List Change) → old ≡ sessions_after changes → new ≡ sessions_after (changes ++ change ∷ [])
 history_on change old new step changes before = step ∙ ap (λ (all : List Session). changed change all) before ∙ sym (one_more changes change [])
 
-known_list : (client request op : ℕ) (old new : List Session) (place : ℕ) → Some place ≡ position (has_client client) old
-    → new ≡ set old place (requested client request op) → HasRequest client request op old new place
-known_list client request op old new place found put =
+known_list : (max client request op : ℕ) (old : Table) (new : List Session) (k : ℕ) → max ≡ old.max → Some k ≡ position (has_client client) old.sessions
+    → new ≡ set old.sessions k (requested client request op) → HasRequest max client request op old new k
+known_list max client request op old new k most found put =
     let d : Session = requested client request op in
-    let first : IsFirst (has_client client) old place d = first_place (has_client client) old place d (sym found) in
-    let step : with_request client request op old ≡ set old place d = request_known client request op old place d first in
+    let first : IsFirst (has_client client) old.sessions k d = first_place (has_client client) old.sessions k d (sym found) in
+    let step : with_request client request op old.sessions ≡ set old.sessions k d = request_known client request op old.sessions k d first in
     record {
       sessions = put ∙ sym step;
-      place_is = rw put (rw (← step) (place_known client request op old place d first));
-      there = rw put (get_set_same old place d first.within);
-      others = λ k other. rw put (get_set_other old place k d other);
-      history = history_on (Request client request op) old new (put ∙ sym step);
+      places = most;
+      place = rw put (rw (← step) (place_known client request op old.sessions k d first));
+      there = rw put (get_set_same old.sessions k d first.within);
+      others = λ i other. rw put (get_set_other old.sessions k i d other);
+      history = history_on (Request client request op) old.sessions new (put ∙ sym step);
+      noted = λ h is. ap sessions_of (put ∙ sym step) ∙ request_noted (record { client = client; request = request; op = op }) h old.sessions is;
     }
 
-new_list : (client request op : ℕ) (old new : List Session) → None ≡ position (has_client client) old
-    → new ≡ old ++ requested client request op ∷ [] → HasRequest client request op old new (length old)
-new_list client request op old new none push =
+new_list : (max client request op : ℕ) (old : Table) (new : List Session) → max ≡ old.max → None ≡ position (has_client client) old.sessions
+    → new ≡ old.sessions ++ requested client request op ∷ [] → HasRequest max client request op old new (length old.sessions)
+new_list max client request op old new most none push =
     let d : Session = requested client request op in
-    let step : with_request client request op old ≡ old ++ d ∷ [] = request_new client request op old d (sym none) in
+    let step : with_request client request op old.sessions ≡ old.sessions ++ d ∷ [] = request_new client request op old.sessions d (sym none) in
     record {
       sessions = push ∙ sym step;
-      place_is = rw push (rw (← step) (place_new client request op old d (sym none)));
-      there = rw push (get_push_last old d);
-      others = λ k other. rw push (get_push_other old k d other);
-      history = history_on (Request client request op) old new (push ∙ sym step);
+      places = most;
+      place = rw push (rw (← step) (place_new client request op old.sessions d (sym none)));
+      there = rw push (get_push_last old.sessions d);
+      others = λ i other. rw push (get_push_other old.sessions i d other);
+      history = history_on (Request client request op) old.sessions new (push ∙ sym step);
+      noted = λ h is. ap sessions_of (push ∙ sym step) ∙ request_noted (record { client = client; request = request; op = op }) h old.sessions is;
     }
 
 -- for a table that is seen as its fields
-pub known_client : (max client request op : ℕ) (items new : List Session) (place : ℕ) (now : Table) → record { max = max; sessions = items } ≡ now
-    → Some place ≡ position (has_client client) now.sessions → new ≡ set items place (requested client request op) → HasRequest client request op now.sessions new place
-known_client max client request op items new place now view found put =
+pub known_client : (max client request op : ℕ) (items new : List Session) (k : ℕ) (now : Table) → record { max = max; sessions = items } ≡ now
+    → Some k ≡ position (has_client client) now.sessions → new ≡ set items k (requested client request op) → HasRequest max client request op now new k
+known_client max client request op items new k now view found put =
     let same : items ≡ now.sessions = ap (λ (t : Table). t.sessions) view in
-    known_list client request op now.sessions new place found (put ∙ ap (λ (all : List Session). set all place (requested client request op)) same)
+    known_list max client request op now new k (ap (λ (t : Table). t.max) view) found (put ∙ ap (λ (all : List Session). set all k (requested client request op)) same)
 
-pub new_client : (max client request op : ℕ) (items new : List Session) (place : ℕ) (now : Table) → record { max = max; sessions = items } ≡ now
-    → None ≡ position (has_client client) now.sessions → new ≡ items ++ requested client request op ∷ [] → place ≡ length items → HasRequest client request op now.sessions new place
-new_client max client request op items new place now view none push last =
+pub new_client : (max client request op : ℕ) (items new : List Session) (k : ℕ) (now : Table) → record { max = max; sessions = items } ≡ now
+    → None ≡ position (has_client client) now.sessions → new ≡ items ++ requested client request op ∷ [] → k ≡ length items → HasRequest max client request op now new k
+new_client max client request op items new k now view none push last =
     let same : items ≡ now.sessions = ap (λ (t : Table). t.sessions) view in
-    let is : HasRequest client request op now.sessions new (length now.sessions) =
-    new_list client request op now.sessions new none (push ∙ ap (λ (all : List Session). all ++ requested client request op ∷ []) same) in
-    subst (λ (n : ℕ). HasRequest client request op now.sessions new n) (sym (last ∙ ap length same)) is
+    let is : HasRequest max client request op now new (length now.sessions) =
+    new_list max client request op now new (ap (λ (t : Table). t.max) view) none (push ∙ ap (λ (all : List Session). all ++ requested client request op ∷ []) same) in
+    subst (λ (n : ℕ). HasRequest max client request op now new n) (sym (last ∙ ap length same)) is
 
 -- the table stays one
 pub stays_table : (max client request op : ℕ) (items new : List Session) (place : ℕ) (now : Table) → record { max = max; sessions = items } ≡ now
     → IsSessionTable (record { max = max; sessions = items }) → client ≢ 0 → IsKnownClient client now.sessions ⊎ (length now.sessions < now.max)
-    → HasRequest client request op now.sessions new place → IsSessionTable (record { max = max; sessions = new })
+    → HasRequest max client request op now new place → IsSessionTable (record { max = max; sessions = new })
 stays_table max client request op items new place now view is named room has =
     let old : IsSessionTable now = subst IsSessionTable view is in
-    let most : max ≡ now.max = ap (λ (t : Table). t.max) view in
     let kept : IsSessionTable (record { max = now.max; sessions = with_request client request op now.sessions }) = request_keeps now.max client request op now.sessions old named room in
-    rw (most, has.sessions) kept
+    rw (has.places, has.sessions) kept
 
 -- there is room for a new client
 pub has_room : (max client : ℕ) (items : List Session) (now : Table) → record { max = max; sessions = items } ≡ now

@@ -1,6 +1,6 @@
 -- Where the client is known its session is put at its place, and else it is pushed.
-use Rattle.std.proofs.Common.{ap, lit<, ◌∙◌}
-use Rattle.df_sessions.{specs.{Table.{Table}, Requests.{sessions_of}}, proofs.{Noted.{request_noted}, Applied.{known_client, new_client, stays_table, has_room}}}
+use Rattle.std.proofs.Common.{lit<}
+use Rattle.df_sessions.{proofs.Applied.{known_client, new_client, stays_table, has_room}}
 use Rattle.df_sessions.proofs.table.SessionTable.apply.Goals as goal
 
 pub invariant_of-self : goal.invariant_of-self
@@ -14,16 +14,7 @@ pub returns-in-Some : goal.returns-in-Some
 returns-in-Some c =
     let a = c.args in
     let t = c.self.inside in
-    let has = known_client t.max a.client a.request a.op t.sessions.items c.put.new.sessions.items c.in-Some.place a.self.now c.self.view_is c.in-Some.ensures c.put.ensures.items in
-    record {
-      sessions = has.sessions;
-      places = ap (λ (table : Table). table.max) c.self.view_is;
-      place = has.place_is;
-      there = has.there;
-      others = has.others;
-      history = has.history;
-      noted = λ h is. ap sessions_of has.sessions ∙ request_noted (record { client = a.client; request = a.request; op = a.op }) h a.self.now.sessions is;
-    }
+    known_client t.max a.client a.request a.op t.sessions.items c.put.new.sessions.items c.in-Some.place a.self.now c.self.view_is c.in-Some.ensures c.put.ensures.items
 
 pub push-requires : goal.push-requires
 push-requires c =
@@ -41,13 +32,4 @@ pub returns-in-None : goal.returns-in-None
 returns-in-None c =
     let a = c.args in
     let t = c.self.inside in
-    let has = new_client t.max a.client a.request a.op t.sessions.items c.push.new.self.items c.len-place.result a.self.now c.self.view_is c.in-None.ensures c.push.ensures.items c.len-place.ensures.value in
-    record {
-      sessions = has.sessions;
-      places = ap (λ (table : Table). table.max) c.self.view_is;
-      place = has.place_is;
-      there = has.there;
-      others = has.others;
-      history = has.history;
-      noted = λ h is. ap sessions_of has.sessions ∙ request_noted (record { client = a.client; request = a.request; op = a.op }) h a.self.now.sessions is;
-    }
+    new_client t.max a.client a.request a.op t.sessions.items c.push.new.self.items c.len-place.result a.self.now c.self.view_is c.in-None.ensures c.push.ensures.items c.len-place.ensures.value
