@@ -1,10 +1,10 @@
 -- What a reader gives of a text in which nothing fails: its parts.
-use Rattle.std.{proofs.{Common.{◌≡◌, ℕ, ◌+◌, ◌-◌, ◌*◌, ◌/◌, ◌%◌, ◌<◌, ◌≤◌, ◌==◌, Bool, true, false, Option, Some, None, List, [], ◌++◌, length, take, drop, map, get_or, replicate, refl, sym, ap, ◌∙◌, subst, arith, length-drop}, lemmas.List.{drop-append-le, take-append-le}}, specs.{Prelude.{if◌then◌else◌, slice_index}, Int.{bit_at}}}
+use Rattle.std.{proofs.{Common.{◌≡◌, ℕ, ◌+◌, ◌-◌, ◌*◌, ◌/◌, ◌%◌, ◌<◌, ◌≤◌, ◌==◌, Bool, true, false, Option, Some, None, List, [], ◌++◌, length, take, drop, map, get_or, replicate, refl, sym, ap, ◌∙◌, subst, arith, length-drop}, lemmas.List.{drop-append-le, take-append-le}}, specs.{Prelude.{if◌then◌else◌, IfNone, IfSome, slice_index}, Int.{bit_at}}}
 use Rattle.df_base.{specs.Fields.{field_at}, proofs.Laws.{field_moved}}
 use Rattle.df_layout.specs.declared.layout.Layout as file
 use Rattle.df_units.specs.Meaning.{layout_of}
 use Rattle.df_model.specs.Refusals.{first_refusal}
-use Rattle.df_trailer.{specs.{declared.fault.Failing.{Failing}, declared.parts.Parts.{Parts}, declared.reader.Reader.{Reader}, Reading.{AreChecksKept, HasBit, HasRead, bits_room, checks_room, failing_in, kept_at, referenced_below, rest_tests}, Rooms.{AreParts, bits_in_words, byte_in_checks, reference_in, without_reply}, Spelling.{bits_size, listed}, Text.{bits_in, bits_of, count, fault, fault_in, head_tests, ones, parts_of, read_sessions, root_size, sessions_at}}, proofs.{Fed.{fails_as_read, room_size}, Kept.{IsEnd, append_first, head_ends, first_none}, Longer.{count_front, root_front}, Sessions.{sessions_front}, OneBit.{count_next, count_same}, References.{few_ones, reference_at}, Blocks.{length_listed}, Words.{at_listed}}}
+use Rattle.df_trailer.{specs.{declared.fault.Failing.{Failing}, declared.parts.Parts.{Parts}, declared.reader.Reader.{Reader}, Reading.{AreChecksKept, HasBit, HasRead, bits_room, checks_room, failing_in, kept_at, referenced_below, rest_tests}, Rooms.{AreParts, bits_in_words, byte_in_checks, number_in, reference_in, without_reply}, Spelling.{bits_size, listed}, Text.{bits_in, bits_of, count, fault, fault_in, head_tests, ones, parts_of, read_sessions, root_size, sessions_at}}, proofs.{Fed.{fails_as_read, room_size}, Kept.{IsEnd, append_first, head_ends, first_none}, Longer.{count_front, root_front}, Sessions.{sessions_front}, OneBit.{count_next, count_same}, References.{few_ones, reference_at}, Blocks.{length_listed}, Words.{at_listed}}}
 
 root_said : (h rest : List ℕ) → IsEnd h → take (root_size h) (drop 4 h) ≡ take (root_size (h ++ rest)) (drop 4 (h ++ rest))
 root_said h rest e =
@@ -95,11 +95,28 @@ below_next r address before words set inside same_words_are before_is is =
     go true e = sym (count_next (address - 1) (bits_in (bits_room r)) before (before + 1) true e refl before_is refl)
     go false e = sym (count_same (address - 1) (bits_in (bits_room r)) before before false e refl before_is refl)
 
-pub inside_of : (layout : file.Layout) (op : ℕ) (text : List ℕ) (r : Reader) → HasRead layout op r text → (address : ℕ) → HasBit r address → address ≤ layout.blocks
-inside_of layout op text r read address inside = subst (λ (l : file.Layout). address ≤ l.blocks) read.of_layout inside.1
-
 pub below_few : (r : Reader) (address before : ℕ) → HasBit r address → before ≡ referenced_below r address → before < address
 below_few r address before inside before_is = let few = few_ones (address - 1) (bits_in (bits_room r)) in omega (arith, inside.0)
+
+-- what `reference` ensures
+abbrev pub HasReference : Reader → ℕ → ℕ → Option (List ℕ) → Type 0
+HasReference r address before result = record {
+  value : number_in result ≡ kept_at r address;
+  said : (layout : file.Layout) (op : ℕ) (text : List ℕ) → failing_in r ≡ None → HasRead layout op r text → number_in result ≡ (parts_of (layout_of layout) text).references address;
+  more : IfSome result (λ check. referenced_below r (address + 1) ≡ before + 1);
+  same : IfNone result (referenced_below r (address + 1) ≡ before);
+  few : before < address;
+}
+
+pub has_reference : (r : Reader) (address before : ℕ) (result : Option (List ℕ)) → HasBit r address → before ≡ referenced_below r address → number_in result ≡ kept_at r address
+    → IfSome result (λ check. referenced_below r (address + 1) ≡ before + 1) → IfNone result (referenced_below r (address + 1) ≡ before) → HasReference r address before result
+has_reference r address before result inside before_is value more same = record {
+  value = value;
+  said = λ layout op text none read. value ∙ kept_said layout op text r address none read inside.0 (subst (λ (l : file.Layout). address ≤ l.blocks) read.of_layout inside.1);
+  more = more;
+  same = same;
+  few = below_few r address before inside before_is;
+}
 
 -- what was made of a reader's rooms
 pub record IsMade (r : Reader) (parts : Parts) : Type 0 where
