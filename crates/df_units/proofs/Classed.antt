@@ -64,29 +64,39 @@ reply_kind : (u : Message) (kind : Kind) → u.header.kind ≡ Reply → (u.head
 reply_kind u Reply is = own_kind u Reply is
 reply_kind u kind is = other_kind u Reply kind is (λ same. cc)
 
+-- of two kinds, the one whose number is 0 and the one that has another number
+abbrev IsEither : Kind → Kind → Kind → ℕ → Type 0
+IsEither none some kind n = ((kind ≡ none) × (n ≡ 0)) ⊎ ((kind ≡ some) × (0 < n))
+
+none_kind : (none some kind : Kind) (n : ℕ) → (some ≡ none → ⊥) → IsEither none some kind n → (kind ≡ none) ↔ (n ≡ 0)
+none_kind none some kind n apart (inl is) = (λ _. is.1, λ _. is.0)
+none_kind none some kind n apart (inr is) = (λ same. absurd (apart (sym is.0 ∙ same)), λ zero. absurd (omega (arith, is.1, zero)))
+
+some_kind : (none some kind : Kind) (n : ℕ) → (none ≡ some → ⊥) → IsEither none some kind n → (kind ≡ some) ↔ (0 < n)
+some_kind none some kind n apart (inl is) = (λ same. absurd (apart (sym is.0 ∙ same)), λ more. absurd (omega (arith, is.1, more)))
+some_kind none some kind n apart (inr is) = (λ _. is.1, λ _. is.0)
+
+neither_kind : (none some kind other : Kind) (n : ℕ) → (none ≡ other → ⊥) → (some ≡ other → ⊥) → IsEither none some kind n → (kind ≡ other) ↔ ⊥
+neither_kind none some kind other n first second (inl is) = (λ same. first (sym is.0 ∙ same), λ no. absurd no)
+neither_kind none some kind other n first second (inr is) = (λ same. second (sym is.0 ∙ same), λ no. absurd no)
+
 -- in the header ring a reserved header has op 0, and that of a prepare another one
 abbrev IsInRing : Message → Type 0
-IsInRing u = ((u.header.kind ≡ Reserved) × (u.header.op ≡ 0)) ⊎ ((u.header.kind ≡ Prepare) × (0 < u.header.op))
+IsInRing u = IsEither Reserved Prepare u.header.kind u.header.op
 
 header_kind : (u : Message) (kind : Kind) → IsInRing u → (u.header.kind ≡ kind) ↔ IsOfKind kind (HeaderUnit (header_of u.header))
-header_kind u Reserved (inl is) = (λ _. is.1, λ _. is.0)
-header_kind u Reserved (inr is) = (λ same. absurd (let both : Prepare ≡ Reserved = sym is.0 ∙ same in cc), λ none. absurd (omega (arith, is.1, none)))
-header_kind u Prepare (inl is) = (λ same. absurd (let both : Reserved ≡ Prepare = sym is.0 ∙ same in cc), λ some. absurd (omega (arith, is.1, some)))
-header_kind u Prepare (inr is) = (λ _. is.1, λ _. is.0)
-header_kind u kind (inl is) = other_kind u Reserved kind is.0 (λ same. cc)
-header_kind u kind (inr is) = other_kind u Prepare kind is.0 (λ same. cc)
+header_kind u Reserved is = none_kind Reserved Prepare u.header.kind u.header.op (λ same. cc) is
+header_kind u Prepare is = some_kind Reserved Prepare u.header.kind u.header.op (λ same. cc) is
+header_kind u kind is = neither_kind Reserved Prepare u.header.kind kind u.header.op (λ same. cc) (λ same. cc) is
 
 -- in the grid a trailer block has kind 0, and a block another one
 abbrev IsInGrid : Message → Type 0
-IsInGrid u = ((u.header.kind ≡ Block) × (0 < u.header.block_kind)) ⊎ ((u.header.kind ≡ Trailer) × (u.header.block_kind ≡ 0))
+IsInGrid u = IsEither Trailer Block u.header.kind u.header.block_kind
 
 block_kind : (u : Message) (kind : Kind) → IsInGrid u → (u.header.kind ≡ kind) ↔ IsOfKind kind (BlockUnit (block_of u))
-block_kind u Block (inl is) = (λ _. is.1, λ _. is.0)
-block_kind u Block (inr is) = (λ same. absurd (let both : Trailer ≡ Block = sym is.0 ∙ same in cc), λ some. absurd (omega (arith, is.1, some)))
-block_kind u Trailer (inl is) = (λ same. absurd (let both : Block ≡ Trailer = sym is.0 ∙ same in cc), λ none. absurd (omega (arith, is.1, none)))
-block_kind u Trailer (inr is) = (λ _. is.1, λ _. is.0)
-block_kind u kind (inl is) = other_kind u Block kind is.0 (λ same. cc)
-block_kind u kind (inr is) = other_kind u Trailer kind is.0 (λ same. cc)
+block_kind u Trailer is = none_kind Trailer Block u.header.kind u.header.block_kind (λ same. cc) is
+block_kind u Block is = some_kind Trailer Block u.header.kind u.header.block_kind (λ same. cc) is
+block_kind u kind is = neither_kind Trailer Block u.header.kind kind u.header.block_kind (λ same. cc) (λ same. cc) is
 
 -- ---- what is wanted
 
@@ -124,11 +134,11 @@ header_wanted u (Answer client request op) fits is (inr prepare) = no_answer u c
 
 block_wanted : (u : Message) (wanted : Wanted.Wanted) → HasWantedCheck wanted → IsSealed u.header → IsInGrid u → Wanted.IsWanted wanted u ↔ IsWantedUnit wanted (BlockUnit (block_of u))
 block_wanted u Any fits is grid = (λ _. tt, λ _. tt)
-block_wanted u (Op op) fits is (inl block) = no_op u op Block block.0 (λ same. cc)
-block_wanted u (Op op) fits is (inr trailer) = no_op u op Trailer trailer.0 (λ same. cc)
+block_wanted u (Op op) fits is (inr block) = no_op u op Block block.0 (λ same. cc)
+block_wanted u (Op op) fits is (inl trailer) = no_op u op Trailer trailer.0 (λ same. cc)
 block_wanted u (Checksum checksum) fits is grid = check_told u checksum is fits
-block_wanted u (Answer client request op) fits is (inl block) = no_answer u client request op Block block.0 (λ same. cc)
-block_wanted u (Answer client request op) fits is (inr trailer) = no_answer u client request op Trailer trailer.0 (λ same. cc)
+block_wanted u (Answer client request op) fits is (inr block) = no_answer u client request op Block block.0 (λ same. cc)
+block_wanted u (Answer client request op) fits is (inl trailer) = no_answer u client request op Trailer trailer.0 (λ same. cc)
 
 -- ---- by place
 
@@ -140,8 +150,8 @@ in_ring layout cluster slot u is = elim (valid_belongs layout cluster (place_in 
 
 in_grid : (layout : Layout) (cluster address : ℕ) (u : Message) → IsUnit layout cluster (place_in Grid address) u → IsInGrid u
 in_grid layout cluster address u is = elim (valid_belongs layout cluster (place_in Grid address) u is).belongs.kind [
-  | inl block ↦ inl (block, (block_rules u is.sealed.rules.kind block).block_kind)
-  | inr trailer ↦ inr (trailer, (trailer_rules u is.sealed.rules.kind trailer).block_kind)
+  | inl block ↦ inr (block, (block_rules u is.sealed.rules.kind block).block_kind)
+  | inr trailer ↦ inl (trailer, (trailer_rules u is.sealed.rules.kind trailer).block_kind)
 ]
 
 pub units_told : UnitsAreTold
