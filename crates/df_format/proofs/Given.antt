@@ -140,46 +140,34 @@ module _ (cluster : ℕ) (named : (0 < cluster) × (cluster < 2 ^ 128)) (h : Hea
 ungrouped : (kind : Kind) (h : Header) → (HasGroup kind h.op h.group h.group_last → IsUngrouped h.group h.group_last) → ObeysVersion kind h → IsUngrouped h.group h.group_last
 ungrouped kind h alone is = elim is [ inl first ↦ record { none_first = first.group; none_last = first.group_last } | inr second ↦ alone second.group ]
 
-ungroup : (kind : Kind) (h : Header) → (HasGroup kind h.op h.group h.group_last → IsUngrouped h.group h.group_last) → ObeysVersion kind h → h ≡ record h { group = 0; group_last = 0 }
-ungroup kind h alone is i = let none = ungrouped kind h alone is in record h { group = none.none_first i; group_last = none.none_last i }
+-- its sizes are those of its body
+bodied : (kind : Kind) (h : Header) (body : List ℕ) → h.kind ≡ kind → IsBodyOf h body → record h { checksum = no_checksum } ≡ for_body (record h { checksum = no_checksum; kind = kind }) body
+bodied kind h body same has i = record h { checksum = no_checksum; checksum_body = has.checksum i; size = has.size i; kind = same i }
+
+ungroup : (kind : Kind) (h : Header) (body : List ℕ) → h.kind ≡ kind → IsBodyOf h body → (HasGroup kind h.op h.group h.group_last → IsUngrouped h.group h.group_last) → ObeysVersion kind h
+    → record h { checksum = no_checksum } ≡ for_body (record h { checksum = no_checksum; kind = kind; group = 0; group_last = 0 }) body
+ungroup kind h body same has alone is i =
+    let none = ungrouped kind h alone is in
+    record (bodied kind h body same has i) { group = none.none_first i; group_last = none.none_last i }
 
 -- nor a message's fields, where its kind has none
-bare : (kind : Kind) (h : Header) → (HasGroup kind h.op h.group h.group_last → IsUngrouped h.group h.group_last) → ObeysVersion kind h → h.parent ≡ no_checksum → h.client ≡ 0 → h.request ≡ 0 → h.mark ≡ 0 → h.checkpoint ≡ 0
-    → h ≡ record h { parent = no_checksum; client = 0; request = 0; mark = 0; checkpoint = 0; group = 0; group_last = 0 }
-bare kind h alone is parent client request mark checkpoint i = record (ungroup kind h alone is i) { parent = parent i; client = client i; request = request i; mark = mark i; checkpoint = checkpoint i }
+bare : (kind : Kind) (h : Header) (body : List ℕ) → h.kind ≡ kind → IsBodyOf h body → (HasGroup kind h.op h.group h.group_last → IsUngrouped h.group h.group_last) → ObeysVersion kind h
+    → h.parent ≡ no_checksum → h.client ≡ 0 → h.request ≡ 0 → h.mark ≡ 0 → h.checkpoint ≡ 0
+    → record h { checksum = no_checksum } ≡ for_body (record h { checksum = no_checksum; kind = kind; parent = no_checksum; client = 0; request = 0; mark = 0; checkpoint = 0; group = 0; group_last = 0 }) body
+bare kind h body same has alone is parent client request mark checkpoint i =
+    record (ungroup kind h body same has alone is i) { parent = parent i; client = client i; request = request i; mark = mark i; checkpoint = checkpoint i }
 
 -- a reserved header no boot
 pub unbooted : (h : Header) → ObeysVersion Reserved h → h.boot ≡ 0
 unbooted h is = elim is [ inl first ↦ first.boot | inr second ↦ second.boot ]
 
 again : (kind : Kind) (h : Header) (body : List ℕ) → h.kind ≡ kind → ObeysKind kind h → ObeysVersion kind h → IsBodyOf h body → record h { checksum = no_checksum } ≡ for_body (of_kind kind h.cluster h) body
-again Reserved h body same is version has i = record (bare Reserved h (λ group. group) version is.parent is.client is.request is.mark is.checkpoint i) {
-  checksum = no_checksum;
-  checksum_body = has.checksum i;
-  op = is.op i;
-  size = has.size i;
-  kind = same i;
-  block_kind = is.block_kind i;
-  boot = unbooted h version i;
-}
-again AsPrepare h body same is version has i = record h { checksum = no_checksum; checksum_body = has.checksum i; size = has.size i; kind = same i; block_kind = is.block_kind i }
-again Reply h body same is version has i = record (ungroup Reply h (λ group. group) version i) { checksum = no_checksum; checksum_body = has.checksum i; size = has.size i; kind = same i; block_kind = is.block_kind i }
-again Block h body same is version has i = record (bare Block h (λ group. group) version is.parent is.client is.request is.mark is.checkpoint i) {
-  checksum = no_checksum;
-  checksum_body = has.checksum i;
-  size = has.size i;
-  slot = is.slot i;
-  kind = same i;
-}
-again Trailer h body same is version has i = record (ungroup Trailer h (λ group. group) version i) {
-  checksum = no_checksum;
-  checksum_body = has.checksum i;
-  client = is.client i;
-  size = has.size i;
-  slot = is.slot i;
-  kind = same i;
-  block_kind = is.block_kind i;
-}
+again Reserved h body same is version has i =
+    record (bare Reserved h body same has (λ group. group) version is.parent is.client is.request is.mark is.checkpoint i) { op = is.op i; block_kind = is.block_kind i; boot = unbooted h version i }
+again AsPrepare h body same is version has i = record (bodied AsPrepare h body same has i) { block_kind = is.block_kind i }
+again Reply h body same is version has i = record (ungroup Reply h body same has (λ group. group) version i) { block_kind = is.block_kind i }
+again Block h body same is version has i = record (bare Block h body same has (λ group. group) version is.parent is.client is.request is.mark is.checkpoint i) { slot = is.slot i }
+again Trailer h body same is version has i = record (ungroup Trailer h body same has (λ group. group) version i) { client = is.client i; slot = is.slot i; block_kind = is.block_kind i }
 
 resealed : (h : Header) → IsSealed h → sealed (record h { checksum = no_checksum }) ≡ h
 unfolding spelling_rest tail_of
