@@ -29,33 +29,25 @@ blank_header kind cluster = record {
   group_last = 0;
 }
 
+-- what a prepare and its reply say of their request
+abbrev pub of_request : Kind → ℕ → Header → Header
+of_request kind cluster h = record (blank_header kind cluster) {
+  parent = h.parent;
+  client = h.client;
+  op = h.op;
+  request = h.request;
+  mark = h.mark;
+  checkpoint = h.checkpoint;
+  slot = h.slot;
+  version = h.version;
+  boot = h.boot;
+}
+
 -- the fields that each kind names, as a header has them; size and checksums follow from these and the body, and all others are zero
 abbrev pub of_kind : Kind → ℕ → Header → Header
 of_kind Reserved cluster h = record (blank_header Reserved cluster) { slot = h.slot; version = h.version }
-of_kind Prepare cluster h = record (blank_header Prepare cluster) {
-  parent = h.parent;
-  client = h.client;
-  op = h.op;
-  request = h.request;
-  mark = h.mark;
-  checkpoint = h.checkpoint;
-  slot = h.slot;
-  version = h.version;
-  boot = h.boot;
-  group = h.group;
-  group_last = h.group_last;
-}
-of_kind Reply cluster h = record (blank_header Reply cluster) {
-  parent = h.parent;
-  client = h.client;
-  op = h.op;
-  request = h.request;
-  mark = h.mark;
-  checkpoint = h.checkpoint;
-  slot = h.slot;
-  version = h.version;
-  boot = h.boot;
-}
+of_kind Prepare cluster h = record (of_request Prepare cluster h) { group = h.group; group_last = h.group_last }
+of_kind Reply cluster h = of_request Reply cluster h
 of_kind Block cluster h = record (blank_header Block cluster) { op = h.op; block_kind = h.block_kind; version = h.version; boot = h.boot }
 of_kind Trailer cluster h = record (blank_header Trailer cluster) {
   parent = h.parent;

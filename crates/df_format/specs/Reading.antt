@@ -116,18 +116,12 @@ is_first h = (h.version == FIRST_VERSION) && (h.boot == 0) && is_ungrouped h
 -- the boot of version 2
 abbrev pub has_boot : Kind → Header → Bool
 has_boot Reserved h = h.boot == 0
-has_boot Prepare h = is_counter h.boot
-has_boot Reply h = is_counter h.boot
-has_boot Block h = is_counter h.boot
-has_boot Trailer h = is_counter h.boot
+has_boot kind h = is_counter h.boot
 
 -- and its group
 abbrev pub has_group : Kind → Header → Bool
-has_group Reserved h = is_ungrouped h
 has_group Prepare h = is_grouped h
-has_group Reply h = is_ungrouped h
-has_group Block h = is_ungrouped h
-has_group Trailer h = is_ungrouped h
+has_group kind h = is_ungrouped h
 
 -- what a header says as one of version 2
 unfoldable pub is_second : Kind → Header → Bool
