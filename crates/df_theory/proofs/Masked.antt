@@ -1,14 +1,34 @@
 -- An image with four equal copies over it: what is found depends on the copies by their choice alone.
-use Rattle.std.proofs.Common.{◌≡◌, ◌⊎◌, inl, inr, ℕ, List, Some, refl, sym, ap, arith}
+use Rattle.std.proofs.Common.{◌≡◌, ◌⊎◌, inl, inr, ℕ, List, Option, Some, refl, sym, ap, subst, arith}
 use Rattle.df_theory.{specs.{Units.{AnyUnit, BlockPlace, Content, CopyPlace, CopyUnit, HeaderPlace, Message, Place, PreparePlace, ReplyPlace, Units}, Shape.{Shape, slots}, Copies.{IsChosen}, View.{Checkpoint, View}, Shows.{Agrees}, Holds.{Holds}, Groups.{AreMore}, Cases.{Takes}, Found.{AreOfPlaces, IsClean, IsFound, IsOfPlace}}, proofs.{Choices.{chosen_above}, Images.{IsOpen, bears_open, short_same}, Founds.{found_holds, holds_found}}}
+
+-- an image with these copies
+abbrev pub with_copies : (ℕ → Option AnyUnit) → Units → Units
+with_copies copies image (CopyPlace n) = copies n
+with_copies copies image (HeaderPlace s) = image (HeaderPlace s)
+with_copies copies image (PreparePlace s) = image (PreparePlace s)
+with_copies copies image (ReplyPlace k) = image (ReplyPlace k)
+with_copies copies image (BlockPlace a) = image (BlockPlace a)
+
+-- images that show the same at each place of each kind are one
+pub same_images : (image other : Units) → ((n : ℕ) → image (CopyPlace n) ≡ other (CopyPlace n)) → ((s : ℕ) → image (HeaderPlace s) ≡ other (HeaderPlace s))
+    → ((s : ℕ) → image (PreparePlace s) ≡ other (PreparePlace s)) → ((k : ℕ) → image (ReplyPlace k) ≡ other (ReplyPlace k)) → ((a : ℕ) → image (BlockPlace a) ≡ other (BlockPlace a)) → image ≡ other
+same_images image other copies headers prepares replies blocks i place = go place i
+  where
+    go : (p : Place) → image p ≡ other p
+    go (CopyPlace n) = copies n
+    go (HeaderPlace s) = headers s
+    go (PreparePlace s) = prepares s
+    go (ReplyPlace k) = replies k
+    go (BlockPlace a) = blocks a
+
+-- an image is one with its own copies
+own_copies : (image : Units) → image ≡ with_copies (λ n. image (CopyPlace n)) image
+own_copies image = same_images image (with_copies (λ n. image (CopyPlace n)) image) (λ n. refl) (λ s. refl) (λ s. refl) (λ k. refl) (λ a. refl)
 
 -- each copy shows this content
 abbrev pub masked : Content → Units → Units
-masked c image (CopyPlace n) = Some (CopyUnit c)
-masked c image (HeaderPlace s) = image (HeaderPlace s)
-masked c image (PreparePlace s) = image (PreparePlace s)
-masked c image (ReplyPlace k) = image (ReplyPlace k)
-masked c image (BlockPlace a) = image (BlockPlace a)
+masked c image = with_copies (λ n. Some (CopyUnit c)) image
 
 masked_only : (c : Content) (image : Units) (n : ℕ) (d : Content) → masked c image (CopyPlace n) ≡ Some (CopyUnit d) → d ≡ c
 masked_only c image n d is = let both : Some (CopyUnit c) ≡ Some (CopyUnit d) = is in let one : c ≡ d = cc in sym one
@@ -16,44 +36,18 @@ masked_only c image n d is = let both : Some (CopyUnit c) ≡ Some (CopyUnit d) 
 pub masked_chosen : (c : Content) (image : Units) → IsChosen (masked c image) c
 masked_chosen c image = chosen_above (masked c image) c (record { first = 0; second = 1; apart = omega arith; inside = omega arith; at_first = refl; at_second = refl }) (λ d a. inl (masked_only c image a.first d a.at_first))
 
-more_masked : (sh : Shape) (c e : Content) (image : Units) (b : Checkpoint) (tail ps : List Message) → AreMore sh (Takes (slots sh) (masked c image) e) b tail ps → AreMore sh (Takes (slots sh) image e) b tail ps
-more_masked sh c e image b tail ps more = record {
+more_recopied : (sh : Shape) (e : Content) (old new : ℕ → Option AnyUnit) (image : Units) (b : Checkpoint) (tail ps : List Message)
+    → AreMore sh (Takes (slots sh) (with_copies new image) e) b tail ps → AreMore sh (Takes (slots sh) (with_copies old image) e) b tail ps
+more_recopied sh e old new image b tail ps more = record {
   behind = record { room = more.behind.room; shown = λ p at. let t = more.behind.shown p at in record { shown = t.shown; take = t.take }; chain = more.behind.chain; grouped = more.behind.grouped };
   some = more.some;
   ends = more.ends;
 }
 
-more_unmasked : (sh : Shape) (c e : Content) (image : Units) (b : Checkpoint) (tail ps : List Message) → AreMore sh (Takes (slots sh) image e) b tail ps → AreMore sh (Takes (slots sh) (masked c image) e) b tail ps
-more_unmasked sh c e image b tail ps more = record {
-  behind = record { room = more.behind.room; shown = λ p at. let t = more.behind.shown p at in record { shown = t.shown; take = t.take }; chain = more.behind.chain; grouped = more.behind.grouped };
-  some = more.some;
-  ends = more.ends;
-}
-
-pub found_masked : (sh : Shape) (image : Units) (v : View) → IsFound sh image v → IsFound sh (masked v.checkpoint.content image) v
-found_masked sh image v f = record {
-  chosen = masked_chosen v.checkpoint.content image;
-  checkpoint = f.checkpoint;
-  chain_shown = f.chain_shown;
-  not_behind = record { header = f.not_behind.header; prepare = f.not_behind.prepare; reply = f.not_behind.reply };
-  tail = record {
-    chain = f.tail.chain;
-    takes = λ p at. let t = f.tail.takes p at in record { shown = t.shown; take = t.take };
-    room = f.tail.room;
-    grouped = f.tail.grouped;
-    groups = f.tail.groups;
-    pin_ends = f.tail.pin_ends;
-    reaches = f.tail.reaches;
-    pinned = f.tail.pinned;
-    longest = λ ps more. f.tail.longest ps (more_masked sh v.checkpoint.content v.checkpoint.content image v.checkpoint v.tail ps more);
-  };
-  not_lost = record { header = f.not_lost.header; prepare = f.not_lost.prepare; superblock = f.not_lost.superblock; reply = f.not_lost.reply };
-  replies = record { superblock = f.replies.superblock; mark = f.replies.mark; reply = f.replies.reply; reached = f.replies.reached };
-  stored = record { shown = f.stored.shown; no_more = f.stored.no_more };
-}
-
-found_unmasked : (sh : Shape) (c : Content) (image : Units) (v : View) → IsChosen image v.checkpoint.content → IsFound sh (masked c image) v → IsFound sh image v
-found_unmasked sh c image v chosen f = record {
+-- other copies show the same view, where they choose its content
+found_recopied : (sh : Shape) (old new : ℕ → Option AnyUnit) (image : Units) (v : View) → IsChosen (with_copies new image) v.checkpoint.content
+    → IsFound sh (with_copies old image) v → IsFound sh (with_copies new image) v
+found_recopied sh old new image v chosen f = record {
   chosen = chosen;
   checkpoint = f.checkpoint;
   chain_shown = f.chain_shown;
@@ -67,12 +61,22 @@ found_unmasked sh c image v chosen f = record {
     pin_ends = f.tail.pin_ends;
     reaches = f.tail.reaches;
     pinned = f.tail.pinned;
-    longest = λ ps more. f.tail.longest ps (more_unmasked sh c v.checkpoint.content image v.checkpoint v.tail ps more);
+    longest = λ ps more. f.tail.longest ps (more_recopied sh v.checkpoint.content old new image v.checkpoint v.tail ps more);
   };
   not_lost = record { header = f.not_lost.header; prepare = f.not_lost.prepare; superblock = f.not_lost.superblock; reply = f.not_lost.reply };
   replies = record { superblock = f.replies.superblock; mark = f.replies.mark; reply = f.replies.reply; reached = f.replies.reached };
   stored = record { shown = f.stored.shown; no_more = f.stored.no_more };
 }
+
+pub found_masked : (sh : Shape) (image : Units) (v : View) → IsFound sh image v → IsFound sh (masked v.checkpoint.content image) v
+found_masked sh image v f =
+    found_recopied sh (λ n. image (CopyPlace n)) (λ n. Some (CopyUnit v.checkpoint.content)) image v (masked_chosen v.checkpoint.content image)
+    (subst (λ (j : Units). IsFound sh j v) (own_copies image) f)
+
+found_unmasked : (sh : Shape) (c : Content) (image : Units) (v : View) → IsChosen image v.checkpoint.content → IsFound sh (masked c image) v → IsFound sh image v
+found_unmasked sh c image v chosen f =
+    subst (λ (j : Units). IsFound sh j v) (sym (own_copies image))
+    (found_recopied sh (λ n. Some (CopyUnit c)) (λ n. image (CopyPlace n)) image v (subst (λ (j : Units). IsChosen j v.checkpoint.content) (own_copies image) chosen) f)
 
 -- an image holds its view, whatever its copies show, once they are made equal
 pub masked_holds : (sh : Shape) (image : Units) (v : View) → AreOfPlaces sh image → IsFound sh image v → Holds sh (masked v.checkpoint.content image) v

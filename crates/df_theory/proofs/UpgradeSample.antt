@@ -1,6 +1,6 @@
 -- A file of version 1 whose copy 2 shows a content above the choice is upgraded, and stopped.
 use Rattle.std.{proofs.{Common.{◌≡◌, ◌⊎◌, inl, inr, ℕ, zero, suc, ◌<◌, ◌≤◌, ◌==◌, ◌||◌, ◌^◌, nat_lt, Bool, true, false, if◌then◌else◌, List, [], ◌∷◌, Option, Some, None, refl, sym, ◌∙◌, ap, subst, arith}, lemmas.Bool.{cases_eq}, lemmas.Bool.Decides.{nat_tests}}, specs.{Prelude.{slice_index, ◌++◌}, List.{slice_get}}}
-use Rattle.df_theory.{specs.{Sessions.{sessions_after}, Units.{AnyUnit, BlockPlace, BlockUnit, Content, CopyPlace, CopyUnit, Header, HeaderPlace, HeaderUnit, Message, Place, PreparePlace, PrepareUnit, ReplyPlace, ReplyUnit, Session, Units, is_some, or_else}, Copies.{IsChosen, rank_of}, View.{head}, Holds.{Holds}, Next.{MayBoot, booted, kept}, UnitLog.{IsLeftBy, Synced, UnitLog, add, now, put_one, same_place, wrote}, Chance.{Distinct, EachLeft, InPool, NoChance}, Found.{AreOfPlaces, IsClean, IsFound, IsInRange, IsOfPlace}, Upgrades.{HasBare, MayRaise, as_version, of_version, restarted_at}, Sample.{UpgradeSampleLaw}}, proofs.{Choices.{chosen_above, same_copy}, CopyVotes.{agree_at}, PutOne.{put_one_law}, Keeps.{four}, AllOf.{All, now_all, pools_all}, Founds.{holds_found}, Ours.{IsOurs, content_with, distinct, header_with, log4_all, prepare_with}, SampleFiles.{copies_of, layout, reserved}, SampleSlots.{header_shown, slot, table}, SampleSteps.{may_raise}, SampleUnits.{put_all}, Samples.{block, content1, first, leads4, log4, prepare1, reply1, shape, trailer, view1, view2}, SampleEnds.{content2}, Masked.{masked, masked_holds, unmasked_found}, Upgrades.{raise_law}}}
+use Rattle.df_theory.{specs.{Sessions.{sessions_after}, Units.{AnyUnit, BlockPlace, BlockUnit, Content, CopyPlace, CopyUnit, Header, HeaderPlace, HeaderUnit, Message, Place, PreparePlace, PrepareUnit, ReplyPlace, ReplyUnit, Session, Units, is_some, or_else}, Copies.{IsChosen, rank_of}, View.{head}, Holds.{Holds}, Next.{MayBoot, booted, kept}, UnitLog.{IsLeftBy, Synced, UnitLog, add, now, put_one, same_place, wrote}, Chance.{Distinct, EachLeft, InPool, NoChance}, Found.{AreOfPlaces, IsClean, IsFound, IsInRange, IsOfPlace}, Upgrades.{HasBare, MayRaise, as_version, of_version, restarted_at}, Sample.{UpgradeSampleLaw}}, proofs.{Choices.{chosen_above, same_copy}, CopyVotes.{agree_at}, PutOne.{put_one_law}, Keeps.{four}, AllOf.{All, now_all, pools_all}, Founds.{holds_found}, Ours.{IsOurs, content_with, distinct, header_with, log4_all, prepare_with}, SampleFiles.{copies_of, layout, reserved}, SampleSlots.{header_shown, slot, table}, SampleSteps.{may_raise}, SampleUnits.{put_all}, Samples.{block, content1, first, leads4, log4, prepare1, reply1, shape, trailer, view1, view2}, SampleEnds.{content2}, Masked.{masked, masked_holds, same_images, unmasked_found}, Upgrades.{raise_law}}}
 
 -- copy 2 shows a later content, which has no second vote
 abbrev image : Units
@@ -83,14 +83,7 @@ places (BlockPlace a) x is = places4 (BlockPlace a) x is
 -- ---- the view is found
 
 same_masked : masked content1 (now log4) ≡ masked content1 image
-same_masked i place = go place i
-  where
-    go : (p : Place) → masked content1 (now log4) p ≡ masked content1 image p
-    go (CopyPlace n) = refl
-    go (HeaderPlace s) = refl
-    go (PreparePlace s) = refl
-    go (ReplyPlace k) = refl
-    go (BlockPlace a) = refl
+same_masked = same_images (masked content1 (now log4)) (masked content1 image) (λ n. refl) (λ s. refl) (λ s. refl) (λ k. refl) (λ a. refl)
 
 other_copy : (n : ℕ) → n < 4 → (n ≡ 2 → ⊥) → image (CopyPlace n) ≡ Some (CopyUnit content1)
 other_copy n below away = elim (four n below) [
