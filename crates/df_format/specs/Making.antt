@@ -49,15 +49,8 @@ of_kind Reserved cluster h = record (blank_header Reserved cluster) { slot = h.s
 of_kind Prepare cluster h = record (of_request Prepare cluster h) { group = h.group; group_last = h.group_last }
 of_kind Reply cluster h = of_request Reply cluster h
 of_kind Block cluster h = record (blank_header Block cluster) { op = h.op; block_kind = h.block_kind; version = h.version; boot = h.boot }
-of_kind Trailer cluster h = record (blank_header Trailer cluster) {
-  parent = h.parent;
-  op = h.op;
-  request = h.request;
-  mark = h.mark;
-  checkpoint = h.checkpoint;
-  version = h.version;
-  boot = h.boot;
-}
+of_kind Trailer cluster h =
+    record (blank_header Trailer cluster) { parent = h.parent; op = h.op; request = h.request; mark = h.mark; checkpoint = h.checkpoint; version = h.version; boot = h.boot }
 
 -- a header with the fields that follow from the body
 abbrev pub for_body : Header → List ℕ → Header

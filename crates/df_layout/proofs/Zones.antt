@@ -53,15 +53,15 @@ zones_follow layout = record {
 -- two zones are one, or one ends before the other begins
 pub zones_apart : (layout : Layout) (z w : Zone) → (z ≡ w) ⊎ ((end_sector layout z ≤ first_sector layout w) ⊎ (end_sector layout w ≤ first_sector layout z))
 zones_apart layout Superblock Superblock = inl refl
+zones_apart layout WalHeaders WalHeaders = inl refl
+zones_apart layout WalPrepares WalPrepares = inl refl
+zones_apart layout ClientReplies ClientReplies = inl refl
+zones_apart layout Grid Grid = inl refl
 zones_apart layout Superblock _ = let order = zones_follow layout in inr (inl (omega arith))
 zones_apart layout _ Superblock = let order = zones_follow layout in inr (inr (omega arith))
-zones_apart layout WalHeaders WalHeaders = inl refl
 zones_apart layout WalHeaders _ = let order = zones_follow layout in inr (inl (omega arith))
 zones_apart layout _ WalHeaders = let order = zones_follow layout in inr (inr (omega arith))
-zones_apart layout Grid Grid = inl refl
 zones_apart layout _ Grid = let order = zones_follow layout in inr (inl (omega arith))
 zones_apart layout Grid _ = let order = zones_follow layout in inr (inr (omega arith))
-zones_apart layout WalPrepares WalPrepares = inl refl
-zones_apart layout WalPrepares ClientReplies = let order = zones_follow layout in inr (inl (omega arith))
-zones_apart layout ClientReplies WalPrepares = let order = zones_follow layout in inr (inr (omega arith))
-zones_apart layout ClientReplies ClientReplies = inl refl
+zones_apart layout WalPrepares _ = let order = zones_follow layout in inr (inl (omega arith))
+zones_apart layout _ WalPrepares = let order = zones_follow layout in inr (inr (omega arith))
