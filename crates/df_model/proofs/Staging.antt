@@ -14,10 +14,10 @@ aside_keeps sh spell w staged tour findings fits few work = record {
   codec = work.codec;
   version = work.version;
   view = work.view;
+  staged = fits;
   sessions = work.sessions;
   grid = work.grid;
   waiting = work.waiting;
-  staged = fits;
   running = work.running;
   one = aside_one w (record w { staged = staged; tour = tour; findings = findings }) refl refl refl work.one;
   sums = work.sums;
