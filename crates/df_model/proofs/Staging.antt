@@ -14,15 +14,16 @@ aside_keeps sh spell w staged tour findings fits few work = record {
   codec = work.codec;
   version = work.version;
   view = work.view;
-  staged = fits;
   sessions = work.sessions;
   grid = work.grid;
+  one = aside_one w (record w { staged = staged; tour = tour; findings = findings }) refl refl refl work.one;
   waiting = work.waiting;
   running = work.running;
-  one = aside_one w (record w { staged = staged; tour = tour; findings = findings }) refl refl refl work.one;
   sums = work.sums;
-  few = few;
   clear = work.clear;
+  -- what is given anew
+  staged = fits;
+  few = few;
 }
 
 -- ---- a request is staged
