@@ -1,7 +1,7 @@
 -- A copy of the superblock is read from its spelling, and a sector that is read as a copy is its spelling.
 use Rattle.std.{proofs.{Common.{inl, inr, ◌≡◌, ◌≢◌, ◌≤◌, ℕ, ◌<◌, ◌+◌, ◌^◌, ◌==◌, true, List, [], ◌++◌, take, drop, replicate, Option, Some, None, refl, sym, ◌∙◌, ap, subst, arith}, lemmas.Bool.{cond-true, cond-false, cases_eq, eq-eqb, ne_eqb, and_parts, and_from, ltb-true, lt-ltb}, lemmas.List.{take_all, drop_all, length-drop, length-replicate}, lemmas.Slice.Eq.{bytes_eq-Decides}, lemmas.Option.{cond_some}}, specs.{Prelude.{nat_lt}, Option.{option_or}}}
 use Rattle.df_base.{specs.{Fields.{field_at, check_of}, Image.{IsSector}, Text.{AreSo, Fit, AreRead}}, proofs.Laws.{so_none, so_many_zeros, so_check, so_text, behind, read_back, spelled_back, fit_back}}
-use Rattle.df_format.{specs.{declared.superblock.SuperFields.{SuperFields}, declared.superblock.SuperCopy.{SuperCopy}, Spelling.{no_checksum}, Super.{AreChecks, FitsSuper, NamesNone, checks_bytes, fields, named, named_bytes, covered_bytes, front, copy_with, copy_bytes}, Copies.{nonzero_between, first_nonzero_of, checks_at, super_fields_of, has_checksum, has_zeros, is_copy, copy_in}, CopyLaws.{IsWrittenCopy, CopiesHaveOneSpelling, NamelessEndsInZeros}}, proofs.{Checks.{so_many_checks, checks_zero, length-checks_at, are_checks, checks_read, read_checks, none_at}, CopyParts.{zeros_within, neither, nothing_between}}}
+use Rattle.df_format.{specs.{declared.superblock.SuperFields.{SuperFields}, declared.superblock.SuperCopy.{SuperCopy}, Spelling.{no_checksum}, Super.{AreChecks, FitsSuper, NamesNone, checks_bytes, fields, named, named_bytes, covered_bytes, front, copy_with, copy_bytes}, Copies.{nonzero_between, first_nonzero_of, checks_at, super_fields_of, has_checksum, has_zeros, is_copy, copy_in}, CopyLaws.{IsWrittenCopy, CopiesHaveOneSpelling, NamelessEndsInZeros}}, proofs.{Checks.{so_many_checks, checks_zero, length-checks_at, are_checks, checks_read, read_checks, none_at}, CopyParts.{zeros_within, neither, nothing_between}, Parts.{AreBothRead, read_both}}}
 
 -- ---- what fits
 
@@ -58,28 +58,21 @@ module _ (number : ℕ) (f : SuperFields) (small : number < 4) (fits : FitsSuper
   unfolding sector copy_bytes
   f32 = behind front 0 sector (covered_bytes f) (copy_with number f) front_fits refl
 
-  fields_read : AreRead fields 32 sector f
-  unfolding covered_bytes
-  fields_read = read_back fields 32 sector (named_bytes f) f (fields_fit f fits) f32
-
-  f160 : drop 160 sector ≡ named_bytes f
-  unfolding covered_bytes
-  f160 = behind fields 32 sector (named_bytes f) f (fields_fit f fits) f32
-
-  named_read : AreRead named 160 sector f
-  unfolding named_bytes
-  named_read = read_back named 160 sector [] f (named_fit f fits) f160
+  read : AreBothRead fields named 32 sector [] f
+  unfolding covered_bytes named_bytes
+  read = read_both fields named 32 sector [] f (fields_fit f fits) (named_fit f fits) f32
 
   -- what names nothing has zeros all over
   zero_all : f.version ≢ 2 → nonzero_between 160 4096 sector ≡ None
-  zero_all other = nothing_between 160 4096 3936 sector (ap (λ (l : List ℕ). take 3936 l) (f160 ∙ named_zeros f fits (names other)) ∙ take_all 3936 (replicate 3936 0) (omega (arith, length-replicate {A = ℕ} 3936 0)))
+  unfolding named_bytes
+  zero_all other = nothing_between 160 4096 3936 sector (ap (λ (l : List ℕ). take 3936 l) (read.after ∙ named_zeros f fits (names other)) ∙ take_all 3936 (replicate 3936 0) (omega (arith, length-replicate {A = ℕ} 3936 0)))
 
   -- and version 2 between and after what it names
   nothing : first_nonzero_of f.version sector ≡ None
   nothing = elim (cases_eq f.version 2) [
     | inl second ↦
         cond-true (f.version == 2) (option_or (nonzero_between 176 192 sector) (nonzero_between 1216 4096 sector)) (nonzero_between 160 4096 sector) (eq-eqb f.version 2 second)
-        ∙ (λ i. option_or (nothing_between 176 192 16 sector named_read.1.0 i) (nothing_between 1216 4096 2880 sector named_read.1.1.1.0 i))
+        ∙ (λ i. option_or (nothing_between 176 192 16 sector read.second.1.0 i) (nothing_between 1216 4096 2880 sector read.second.1.1.1.0 i))
     | inr other ↦
         cond-false (f.version == 2) (option_or (nonzero_between 176 192 sector) (nonzero_between 1216 4096 sector)) (nonzero_between 160 4096 sector) (ne_eqb f.version 2 other)
         ∙ zero_all other
@@ -87,8 +80,8 @@ module _ (number : ℕ) (f : SuperFields) (small : number < 4) (fits : FitsSuper
 
   is_fields : super_fields_of sector ≡ f
   is_fields =
-      same_fields sector f fields_read named_read.0 (read_checks 64 f.reply_checksums 192 sector fits.reply_checksums.size fits.reply_checksums.each named_read.1.1.0)
-      (ap (λ (n : ℕ). first_nonzero_of n sector) fields_read.0 ∙ nothing ∙ sym none)
+      same_fields sector f read.first read.second.0 (read_checks 64 f.reply_checksums 192 sector fits.reply_checksums.size fits.reply_checksums.each read.second.1.1.0)
+      (ap (λ (n : ℕ). first_nonzero_of n sector) read.first.0 ∙ nothing ∙ sym none)
 
   passes : is_copy sector ≡ true
   unfolding is_copy

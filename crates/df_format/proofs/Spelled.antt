@@ -1,7 +1,7 @@
 -- A header is read from its spelling, and what is read as a header is its spelling.
 use Rattle.std.{proofs.{Common.{◌≡◌, ℕ, ◌<◌, ◌&&◌, true, List, [], ◌++◌, length, take, drop, replicate, Option, Some, None, refl, sym, ◌∙◌, ap, subst, arith}, lemmas.Bool.{cond-true, and_parts, and_from}, lemmas.List.{take_at, take_all, drop_at, drop_all, length-drop}, lemmas.Slice.Eq.{bytes_eq-Decides}, lemmas.Option.{cond_some}}, specs.Prelude.{slice_index}}
-use Rattle.df_base.{specs.{Fields.{AreBytes, spelled, check_of}, Text.{AreSo, Fit, AreRead}}, proofs.Laws.{so_none, so_many_zeros, so_check, so_both, so_text, behind, read_back, spelled_back, fit_back, piece}}
-use Rattle.df_format.{specs.{declared.header.Header.{Header}, declared.kind.Kind.{Kind}, declared.kind.Kind.TheVariants.{Reserved}, Spelling.{code_of, tail, tail_of, fields, spelling, spelling_rest}, Rules.{FitsFields, IsSealed}, Reading.{kind_of, fields_of, has_numbers, is_spelled, header_of_kind, header_in}, UnitLaws.{FirstVersionEndsInZeros, HeadersHaveOneSpelling}}, proofs.{Codes.{kind_of-code, code_of-kind}, Ranges.{AreInRange, in_range, passes, same_bytes}}}
+use Rattle.df_base.{specs.{Fields.{AreBytes, spelled, check_of}, Text.{AreSo, Fit, AreRead}}, proofs.Laws.{so_none, so_many_zeros, so_check, so_both, so_text, spelled_back, fit_back, piece}}
+use Rattle.df_format.{specs.{declared.header.Header.{Header}, declared.kind.Kind.{Kind}, declared.kind.Kind.TheVariants.{Reserved}, Spelling.{code_of, tail, tail_of, fields, spelling, spelling_rest}, Rules.{FitsFields, IsSealed}, Reading.{kind_of, fields_of, has_numbers, is_spelled, header_of_kind, header_in}, UnitLaws.{FirstVersionEndsInZeros, HeadersHaveOneSpelling}}, proofs.{Codes.{kind_of-code, code_of-kind}, Parts.{AreBothRead, read_both}, Ranges.{AreInRange, in_range, passes, same_bytes}}}
 
 -- eight bytes of the number 0 are zeros
 no_number : spelled 8 0 ≡ replicate 8 0
@@ -61,26 +61,18 @@ module _ (h : Header) (sealed : IsSealed h) where
   e16 : drop 16 bytes ≡ spelling_rest h
   e16 = drop_at h.checksum (spelling_rest h) 16 (checksum_size h sealed).size
 
-  fields_read : AreRead fields 16 bytes h
-  unfolding spelling_rest
-  fields_read = read_back fields 16 bytes (tail_of h) h (fields_fit h fits) e16
-
-  e122 : drop 122 bytes ≡ tail_of h
-  unfolding spelling_rest
-  e122 = behind fields 16 bytes (tail_of h) h (fields_fit h fits) e16
-
-  tail_read : AreRead tail 122 bytes h
-  unfolding tail_of
-  tail_read = read_back tail 122 bytes [] h (tail_fit h fits) e122
+  read : AreBothRead fields tail 16 bytes [] h
+  unfolding spelling_rest tail_of
+  read = read_both fields tail 16 bytes [] h (fields_fit h fits) (tail_fit h fits) e16
 
   is_fields : fields_of h.kind bytes ≡ h
-  is_fields = same_fields bytes h f_checksum fields_read tail_read
+  is_fields = same_fields bytes h f_checksum read.first read.second
 
   fixed_ok : is_spelled bytes ≡ true
   unfolding is_spelled
   fixed_ok =
       let rest : take 240 (drop 16 bytes) ≡ spelling_rest h = ap (λ (l : List ℕ). take 240 l) e16 ∙ take_all 240 (spelling_rest h) (omega (arith, (rest_size h fits).size)) in
-      and_from _ _ (same_bytes _ _ (f_checksum ∙ sealed.checksum ∙ ap check_of (sym rest))) (same_bytes _ _ tail_read.1.1.1.1.0)
+      and_from _ _ (same_bytes _ _ (f_checksum ∙ sealed.checksum ∙ ap check_of (sym rest))) (same_bytes _ _ read.second.1.1.1.1.0)
 
   header_ok : (is_spelled bytes && has_numbers (fields_of h.kind bytes)) ≡ true
   header_ok = and_from _ _ fixed_ok (ap has_numbers is_fields ∙ passes h (assumption))
@@ -88,7 +80,7 @@ module _ (h : Header) (sealed : IsSealed h) where
   pub reads : header_in bytes ≡ Some h
   unfolding header_in
   reads =
-      ap (λ (o : Option Kind). header_of_kind bytes o) (ap kind_of fields_read.1.1.1.1.1.1.1.1.1.1.0 ∙ kind_of-code h.kind)
+      ap (λ (o : Option Kind). header_of_kind bytes o) (ap kind_of read.first.1.1.1.1.1.1.1.1.1.1.0 ∙ kind_of-code h.kind)
       ∙ cond-true (is_spelled bytes && has_numbers (fields_of h.kind bytes)) (Some (fields_of h.kind bytes)) None header_ok
       ∙ ap Some is_fields
 
