@@ -8,7 +8,6 @@ pub fn scripts_print_answers()
     ensures { PrintedLaw }
 {}
 
-#[tactic(auto, unfolding(std::specs::Fmt::digits, hex::specs::Hex::encode_with))]
 /// One client's first requests, with each refusal that it can meet.
 pub fn a_first_session()
     ensures { FirstSession }
