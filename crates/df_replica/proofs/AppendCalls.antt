@@ -70,13 +70,10 @@ module _ (s : State) (client request : ℕ) (body : List ℕ) (given : Given) (i
   pub refused_does : (e : AppendError) → first_refusal (append_refusals (memory s) client request body) ≡ Some e → AreCalls given command s []
   refused_does e some g w t k =
       let m = memory_of (shape s.file) (spelling s.file) w in
-      record {
-        steps = [];
-        are = tt;
-        does =
-            subst (λ (o : Option AppendError). UnlessRefused o [] (DoesAppend (shape s.file) (unit_at s.file.layout s.file.cluster (now t.log)) w.view (prepare_of m (supplied_sum given) client request body) []))
-            (sym (test_is w k.stands (Some e) some)) refl;
-      }
+      let does =
+      subst (λ (o : Option AppendError). UnlessRefused o [] (DoesAppend (shape s.file) (unit_at s.file.layout s.file.cluster (now t.log)) w.view (prepare_of m (supplied_sum given) client request body) []))
+      (sym (test_is w k.stands (Some e) some)) refl in
+      record { steps = []; are = tt; does = does }
 
   -- and makes nothing
   pub refused_makes : (e : AppendError) → first_refusal (append_refusals (memory s) client request body) ≡ Some e → (P : Place → AnyUnit → Type 0) (w : Work) → Represents s w

@@ -1,18 +1,17 @@
 -- Each write of a block is the machine's: its answer, the state after it, and what it does to the disk.
-use Rattle.std.{proofs.{Common.{◌≡◌, ◌∙◌, ℕ, true, false, List, [], ◌∷◌, Option, Some, None, refl, sym, ap, subst}, lemmas.Option.{same_Some}}, specs.Prelude.{Ok, Err}}
-use Rattle.df_base.{proofs.Laws.{AreBytes-check_of, field_at-lt, now_is_image}, specs.{Image.{IsImage}, Log.{now}}}
+use Rattle.std.{proofs.{Common.{◌≡◌, ◌∙◌, ℕ, true, false, List, [], ◌∷◌, Option, Some, None, refl, sym, ap, subst}}, specs.Prelude.{Ok, Err}}
+use Rattle.df_base.{proofs.Laws.{AreBytes-check_of, field_at-lt}}
 use Rattle.df_disk.specs.{Told.{Told}, Adds.{AddsPart, after_all}}
 use Rattle.df_layout.specs.declared.places.Zone.TheVariants.{Grid}
 use Rattle.df_format.{proofs.Laws.{made_brings}, specs.{Making.{for_body}, Message.{Message, sectors_of}, Own.{place_in}, Spelling.{spelling_rest}, Valid.{IsUnit}, declared.reference.Reference.{Reference}}}
 use Rattle.df_grid.specs.Writes.{block_steps}
-use Rattle.df_journal.specs.Append.{ShowsRing}
 use Rattle.df_theory.{specs.{Device.{AreSteps}, Units.{AnyUnit, BlockPlace, BlockUnit, CopyPlace, HeaderPlace, Place, PreparePlace, ReplyPlace, or_else}, UnitLog.{put_one}}, proofs.Laws.{put_one_law}}
 use Rattle.df_theory.specs.Units as theory
 use Rattle.df_units.{specs.{Format.{format_of}, Meaning.{number_of}}, proofs.Laws.{block_put, no_number}}
 use Rattle.df_units.specs.Meaning as meaning
 use Rattle.df_model.{specs.{After.{outcome, with_live}, Blocks.{block_written, with_entry}, Changing.{unless_refused}, Codec.{AreChecksums}, Commands.{Answer, Command, ForWriteBlock, Given, IsInput, ToWriteBlock, WriteBlock, as_answer, supplied_sum, supplied_sums}, Faults.{is_block_fault}, Laws.{DoesBlock, UnlessRefused}, Making.{block_of, next_address}, Memory.{Memory, memory_of}, OnDisk.{DoesOnDisk}, Refusals.{block_refusals, first_refusal}, Sense.{IsWork}, Supply.{puts_of, unless}, Work.{Work}, declared.errors.BlockError.{BlockError}}, proofs.Laws.{change_law}}
 use Rattle.df_opening.specs.Below.{IsState, Represents, State, memory, shape, spelling}
-use Rattle.df_replica.{specs.{Answering.{Serves, answer_of, as_write_block}, Blocks.{block_events, block_header_given, next_block, reference_of, written}, Serving.{Grade, IsCall, IsKept, format, next}, Supply.{IsSupplied}}, proofs.{Calls.{AreCalls, Answered, answered_call, answered_still, stopped_call}, Leaves.{Makes, makes_nothing}, BlockStates.{blocks_memory}, Unblamed.{block_unblamed, refused_answer}}}
+use Rattle.df_replica.{specs.{Answering.{Serves, answer_of, as_write_block}, Blocks.{block_events, block_header_given, next_block, reference_of, written}, Serving.{Grade, IsCall, IsKept, format, next}, Supply.{IsSupplied}}, proofs.{Calls.{AreCalls, Answered, answered_call, answered_still, stopped_call}, Leaves.{Makes, makes_nothing, makes_put}, BlockStates.{blocks_memory}, RingSpared.{ring_spared}, Unblamed.{block_unblamed, refused_answer}}}
 
 module _ (s : State) (kind : ℕ) (body : List ℕ) (given : Given) (is : IsState s) (live : s.live ≡ true) (sum : given ≡ ForWriteBlock (number_of (next_block s kind body).header.checksum ∷ [])) where
   abbrev u : Message
@@ -40,11 +39,9 @@ module _ (s : State) (kind : ℕ) (body : List ℕ) (given : Given) (is : IsStat
     refused_does : AreCalls given command s []
     refused_does g w t k =
         let m = memory_of (shape s.file) (spelling s.file) w in
-        record {
-          steps = [];
-          are = tt;
-          does = subst (λ (o : Option BlockError). UnlessRefused o [] (DoesBlock w.view (next_address m) (block_of m.content.boot (supplied_sum given) kind body) [])) (sym (test_is w k.stands (Some e) some)) refl;
-        }
+        let does = subst (λ (o : Option BlockError). UnlessRefused o [] (DoesBlock w.view (next_address m) (block_of m.content.boot (supplied_sum given) kind body) []))
+        (sym (test_is w k.stands (Some e) some)) refl in
+        record { steps = []; are = tt; does = does }
 
     refused_puts : Makes given command s []
     refused_puts =
@@ -102,15 +99,7 @@ module _ (s : State) (kind : ℕ) (body : List ℕ) (given : Given) (is : IsStat
         ∙ ap (λ (o : Option BlockError). unless o (put_one (BlockPlace (next_address m)) (BlockUnit b)) place) (sym none)
 
     block_puts : Makes given command s (block_events s u)
-    block_puts = record {
-      steps = block_steps u;
-      are = wrote;
-      prepare = λ k o. ap (λ (p : Option AnyUnit). or_else p o) (put_is (PreparePlace k));
-      reply = λ k o. ap (λ (p : Option AnyUnit). or_else p o) (put_is (ReplyPlace k));
-      block = λ k o. ap (λ (p : Option AnyUnit). or_else p o) (put_is (BlockPlace k));
-      copy = λ w work rep k o. ap (λ (p : Option AnyUnit). or_else p o) (put_is (CopyPlace k));
-      last = λ no. absurd no;
-    }
+    block_puts = makes_put given command s (block_events s u) (block_steps u) (put_one (BlockPlace u.header.op) (BlockUnit (meaning.block_of u))) wrote (λ place o. refl) put_is (λ no. no)
 
     abbrev answer : Answer
     answer = ToWriteBlock (Ok (u.header.op, number_of u.header.checksum))
@@ -144,14 +133,14 @@ module _ (s : State) (kind : ℕ) (body : List ℕ) (given : Given) (is : IsStat
           subst (λ (x : Work × Answer). (answer ≡ x.1) × Represents (written s u.header) x.0) (sym next_is)
           ((λ i. ToWriteBlock (Ok (sym (address_is w rep) i, supplied_sum (sym sum i)))), stands)
 
-    -- the header ring shows what it did
-    ring_kept : (g : Grade) (w : Work) (a b : Told) → IsKept g s w a.log → Some b ≡ after_all (block_events s u) (Some a) → ShowsRing s.file.layout s.file.cluster (now b.log) s.headers
-    ring_kept g w a b k all =
-        let whole : IsImage (now a.log) = now_is_image a.log.start a.log.events k.log_is.start k.log_is.events in
-        subst (λ (x : Told). ShowsRing s.file.layout s.file.cluster (now x.log) s.headers) (sym (same_Some _ _ all)) (λ slot h at. wrote.0.shows (now a.log) (HeaderPlace slot) whole ∙ k.ring slot h at)
-
     allowed_as : Answered given command s (written s u.header) (block_events s u) answer
-    allowed_as = record { file = refl; live = live; stands = λ w work rep. allowed_at w work rep; made = λ w work rep. tt; ring = λ g w a b k all. ring_kept g w a b k all }
+    allowed_as = record {
+      file = refl;
+      live = live;
+      stands = λ w work rep. allowed_at w work rep;
+      made = λ w work rep. tt;
+      ring = λ g w a b k all. ring_spared s.file.layout s.file.cluster s.headers (block_events s u) (block_steps u) a b k.log_is wrote (λ slot. refl, tt) k.ring all;
+    }
 
     written_call : (old new : Option Told) → IsSupplied s old command given → new ≡ after_all (block_events s u) old → IsCall given command s (written s u.header) old new (Some answer)
     written_call old new supplied all = answered_call given command s (block_events s u) input does_block block_puts (written s u.header) answer allowed_as old new supplied all

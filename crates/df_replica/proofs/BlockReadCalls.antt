@@ -69,23 +69,26 @@ pub record TellsBlock (s : State) (address : ℕ) (told : Option Told) (place : 
   pub exact : IsReadBlock address s told (Err (read.Damaged place class))
   pub call : ServesBlockRead (ReadBlock address) s s told (Some (Err class)) (Some (ToReadBlock (Err (read.Damaged place class))))
 
-module _ (s : State) (address : ℕ) (live : s.live ≡ true) (told : Option Told) (none : first_refusal (read_refusals (memory s) address) ≡ None) where
-  abbrev known : Option ℕ
-  known = sum_at address s.blocks.live
+-- what a load of a block that isn't refused came to
+pub record LoadsBlock (s : State) (address : ℕ) (told : Option Told) (wrong : Option Class) (held : Option Holding) : Type 0 where
+  pub none : first_refusal (read_refusals (memory s) address) ≡ None
+  pub loads : Loads s.file.layout s.file.cluster told address (sum_at address s.blocks.live) wrong held
+  pub valid : HoldsKnown s.file.layout s.file.cluster address (sum_at address s.blocks.live) wrong held
 
-  pub lends_block : (wrong : Option Class) (held : Option Holding) → Loads s.file.layout s.file.cluster told address known wrong held → HoldsKnown s.file.layout s.file.cluster address known wrong held
-      → (h : Holding) → wrong ≡ None → held ≡ Some h → LendsBlock s address told h.unit
-  lends_block wrong held loads valid h is has =
-      let reads = subst (λ (o : Option Holding). Loads s.file.layout s.file.cluster told address known None o) has (subst (λ (o : Option Class). Loads s.file.layout s.file.cluster told address known o held) is loads) in
-      let known_is = subst (λ (o : Option Holding). HoldsKnown s.file.layout s.file.cluster address known None o) has (subst (λ (o : Option Class). HoldsKnown s.file.layout s.file.cluster address known o held) is valid) in
-      let by = found_by s address told (Ok (block_of h.unit)) reads in
-      record { exact = (none, by); known = known_is; call = block_serves s address live told (Ok (block_of h.unit)) none by }
+module _ (s : State) (address : ℕ) (live : s.live ≡ true) (told : Option Told) (wrong : Option Class) (held : Option Holding)
+    (load : LoadsBlock s address told wrong held) where
+  pub lends_block : (h : Holding) → wrong ≡ None → held ≡ Some h → LendsBlock s address told h.unit
+  lends_block h is has =
+      let at : LoadsBlock s address told None (Some h) = subst (λ (o : Option Holding). LoadsBlock s address told None o) has
+      (subst (λ (o : Option Class). LoadsBlock s address told o held) is load) in
+      let by = found_by s address told (Ok (block_of h.unit)) at.loads in
+      record { exact = (load.none, by); known = at.valid; call = block_serves s address live told (Ok (block_of h.unit)) load.none by }
 
-  pub tells_block : (wrong : Option Class) (held : Option Holding) → Loads s.file.layout s.file.cluster told address known wrong held → (class : Class) (place : Place) → wrong ≡ Some class → place ≡ place_in Grid address
-      → TellsBlock s address told place class
-  tells_block wrong held loads class place is there =
-      let by = found_by s address told (Err class) (subst (λ (o : Option Class). Loads s.file.layout s.file.cluster told address known o held) is loads) in
-      subst (λ (p : Place). TellsBlock s address told p class) (sym there) (record { exact = (none, refl, by); call = block_serves s address live told (Err class) none by })
+  pub tells_block : (class : Class) (place : Place) → wrong ≡ Some class → place ≡ place_in Grid address → TellsBlock s address told place class
+  tells_block class place is there =
+      let by = found_by s address told (Err class) (subst (λ (o : Option Class). LoadsBlock s address told o held) is load).loads in
+      subst (λ (p : Place). TellsBlock s address told p class) (sym there)
+      (record { exact = (load.none, refl, by); call = block_serves s address live told (Err class) load.none by })
 
 -- ---- whether it is refused
 

@@ -9,7 +9,7 @@ use Rattle.df_units.specs.{Format.{format_of}, Meaning.{block_of}}
 use Rattle.df_grid.specs.Writes.{block_steps}
 use Rattle.df_model.specs.{After.{next_trailer}, Commands.{Advance, Answer, ForAdvance, Given, ToAdvance, supplied_sum, supplied_sums}, Laws.{DoesBlock}, Making.{first_of, piece_of, trailer_block}, Memory.{Course, block_room}, Supply.{puts_of}, Work.{Work}, declared.answers.Progress.TheVariants.{Working}}
 use Rattle.df_opening.specs.Below.{RunningState, IsCourse, IsRunningCheckpoint, IsState, Represents, State, course_in, course_of, memory, shape, spelling}
-use Rattle.df_replica.{specs.{Answering.{Serves}, Serving.{Grade, IsCall, IsKept, format, next}, Stepping.{OfRunning, advanced, block_events, block_sum, block_to_write, made_by, made_for, trailer_unit}}, proofs.{Calls.{AreCalls}, Leaves.{IsWhole, Makes}, RingSpared.{ring_spared}, Makes.{OfStep}, StepAnswers.{does_step, fault_call, makes_step, next_is, runs, step_puts_are, stepped_call, sum_is}, StepMemory.{block_memory, step_memory}, WritesOn.{StandsIn, steps_stand}}}
+use Rattle.df_replica.{specs.{Answering.{Serves}, Serving.{Grade, IsCall, IsKept, format, next}, Stepping.{OfRunning, advanced, block_events, block_sum, block_to_write, made_by, made_for, trailer_unit}}, proofs.{Calls.{AreCalls}, Leaves.{IsWhole, Makes, makes_put}, RingSpared.{ring_spared}, Makes.{OfStep}, StepAnswers.{does_step, fault_call, makes_step, next_is, runs, step_puts_are, stepped_call, sum_is}, StepMemory.{block_memory, step_memory}, WritesOn.{StandsIn, steps_stand}}}
 
 module _ (s : State) (r : RunningState) (a : ℕ) (more : List ℕ) (given : Given) (is : IsRunningCheckpoint s.file s.fields s.head s.blocks r) (booted : s.boot ≡ s.fields.boot) (running : s.running ≡ Some r) (left : s.blocks.left ≡ a ∷ more)
     (unit : block_of (trailer_unit s r) ≡ block_to_write s r (block_sum s r)) (steps : AreSteps (format_of s.file.layout s.file.cluster) (block_events s r) (block_steps (trailer_unit s r)))
@@ -72,18 +72,10 @@ module _ (s : State) (r : RunningState) (a : ℕ) (more : List ℕ) (given : Giv
       ∙ sym (step_puts_are s r given running sum (a ∷ more) left place)
 
   puts : Makes given Advance s (block_events s r)
-  puts = record {
-    steps = given_steps;
-    are = steps;
-    prepare = λ k o. ap (λ (p : Option theory.AnyUnit). or_else p o) (put_is (PreparePlace k));
-    reply = λ k o. ap (λ (p : Option theory.AnyUnit). or_else p o) (put_is (ReplyPlace k));
-    block = λ k o. ap (λ (p : Option theory.AnyUnit). or_else p o) (put_is (BlockPlace k));
-    copy = λ w work rep k o. ap (λ (p : Option theory.AnyUnit). or_else p o) (put_is (CopyPlace k));
-    last = λ whole.
-        let none : s.blocks.left ≡ [] = subst IsWhole (ap (course_in s.file s.blocks) running) whole in
-        let no : a ∷ more ≡ [] = sym left ∙ none in
-        absurd (cc);
-  }
+  puts = makes_put given Advance s (block_events s r) given_steps (put_one (BlockPlace (trailer_unit s r).header.op) (BlockUnit (block_of (trailer_unit s r)))) steps (λ place o. refl) put_is (λ whole.
+      let none : s.blocks.left ≡ [] = subst IsWhole (ap (course_in s.file s.blocks) running) whole in
+      let no : a ∷ more ≡ [] = sym left ∙ none in
+      cc)
 
   ring : (g : Grade) (w : Work) (x y : Told) → IsKept g s w x.log → Some y ≡ after_all (block_events s r) (Some x) → ShowsRing s.file.layout s.file.cluster (now y.log) s.headers
   ring g w x y k all = ring_spared s.file.layout s.file.cluster s.headers (block_events s r) given_steps x y k.log_is steps (λ slot. refl, tt) k.ring all

@@ -93,13 +93,9 @@ module _ (s : State) (given : Given) (is : IsState s) (sum : given ≡ ForFlush 
   pub refused_does : (e : FlushError) → first_refusal (flush_refusals (memory s)) ≡ Some e → AreCalls given Flush s []
   refused_does e some g w t k =
       let m = memory_of (shape s.file) (spelling s.file) w in
-      record {
-        steps = [];
-        are = tt;
-        does =
-            subst (λ (o : Option FlushError). UnlessRefused o [] (DoesFlush (shape s.file) (unit_at s.file.layout s.file.cluster (now t.log)) w.view (group_of m (supplied_sums given)) []))
-            (sym (test_is w k.stands (Some e) some)) refl;
-      }
+      let does = subst (λ (o : Option FlushError). UnlessRefused o [] (DoesFlush (shape s.file) (unit_at s.file.layout s.file.cluster (now t.log)) w.view (group_of m (supplied_sums given)) []))
+      (sym (test_is w k.stands (Some e) some)) refl in
+      record { steps = []; are = tt; does = does }
 
   -- and makes nothing
   pub refused_makes : (e : FlushError) → first_refusal (flush_refusals (memory s)) ≡ Some e → (P : Place → AnyUnit → Type 0) (w : Work) → Represents s w → OfMade (shape s.file) (spelling s.file) P w given Flush

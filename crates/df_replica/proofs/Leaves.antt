@@ -139,17 +139,26 @@ pub record Makes (given : Given) (command : Command) (s : State) (events : List 
   pub copy : (w : Work) → IsWork (shape s.file) (spelling s.file) w → Represents s w → (n : ℕ) (o : Option AnyUnit) → unit_after steps (CopyPlace n) o ≡ or_else (puts_of (memory s) (supplied_sums given) command (CopyPlace n)) o
   pub last : IsLast command (memory s) → StartSynced steps
 
--- a command that makes nothing
+-- a command that makes what its steps put
+pub makes_put : (given : Given) (command : Command) (s : State) (events : List Event) (steps : List Step) (put : Units) → AreSteps (format s.file) events steps
+    → ((place : Place) (o : Option AnyUnit) → unit_after steps place o ≡ or_else (put place) o) → ((place : Place) → put place ≡ puts_of (memory s) (supplied_sums given) command place)
+    → (IsLast command (memory s) → ⊥) → Makes given command s events
+makes_put given command s events steps put are after is other =
+    let made : (place : Place) (o : Option AnyUnit) → unit_after steps place o ≡ or_else (puts_of (memory s) (supplied_sums given) command place) o = λ place o.
+    after place o ∙ ap (λ (p : Option AnyUnit). or_else p o) (is place) in
+    record {
+      steps = steps;
+      are = are;
+      prepare = λ k o. made (PreparePlace k) o;
+      reply = λ k o. made (ReplyPlace k) o;
+      block = λ k o. made (BlockPlace k) o;
+      copy = λ w work rep n o. made (CopyPlace n) o;
+      last = λ last. absurd (other last);
+    }
+
+-- and one that makes nothing
 pub makes_nothing : (given : Given) (command : Command) (s : State) → ((place : Place) → puts_of (memory s) (supplied_sums given) command place ≡ None) → (IsLast command (memory s) → ⊥) → Makes given command s []
-makes_nothing given command s none other = record {
-  steps = [];
-  are = tt;
-  prepare = λ k o. sym (ap (λ (p : Option AnyUnit). or_else p o) (none (PreparePlace k)));
-  reply = λ k o. sym (ap (λ (p : Option AnyUnit). or_else p o) (none (ReplyPlace k)));
-  block = λ k o. sym (ap (λ (p : Option AnyUnit). or_else p o) (none (BlockPlace k)));
-  copy = λ w work rep n o. sym (ap (λ (p : Option AnyUnit). or_else p o) (none (CopyPlace n)));
-  last = λ is. absurd (other is);
-}
+makes_nothing given command s none other = makes_put given command s [] [] (λ place. None) tt (λ place o. refl) (λ place. sym (none place)) other
 
 -- the four copies, one after the other
 copy_passed : (n k : ℕ) (x : AnyUnit) (o : Option AnyUnit) → n < k → or_else (put_one (CopyPlace n) x (CopyPlace k)) o ≡ o

@@ -3,10 +3,10 @@ use Rattle.std.proofs.Common.{◌≡◌, ℕ, [], ◌∷◌, Option, Some, None,
 use Rattle.df_base.specs.Log.{Log}
 use Rattle.df_disk.specs.Told.{Told}
 use Rattle.df_layout.specs.declared.damage.Class.{Class}
-use Rattle.df_model.specs.{After.{lookup_answer, prepare_answer, read_answer, shown_or}, Commands.{Answer, Given, ReadBlock, ReadPrepare, ReadReply, ToReadBlock, ToReadPrepare, ToReadReply, supplied_block, supplied_message}, Memory.{Memory, memory_of}, Refusals.{first_refusal, lookup_refusals, prepare_refusals, read_refusals}, Work.{Work}}
+use Rattle.df_model.specs.{After.{shown_or}, Commands.{Answer, Given, ReadBlock, ReadPrepare, ReadReply, ToReadBlock, ToReadPrepare, ToReadReply, supplied_block, supplied_message}, Memory.{Memory, memory_of}, Refusals.{first_refusal, lookup_refusals, prepare_refusals, read_refusals}, Work.{Work}}
 use Rattle.df_theory.specs.{Device.{NoChanceOf}, Units.{Block, Message}}
 use Rattle.df_replica.{specs.{BlockReads.{IsBlockFound, IsReadBlock}, Reading.{IsFoundBy, IsReadPrepare}, Serving.{Firm, IsCall, Keeps, format, next}, Lending.{AnswersOwn, CallIsOwn, CallIsTheOne}, Lookups.{IsReadReply}, Striking.{StruckReadsAreOwn}, WrittenFor.{IsWrittenFor}}, proofs.Lent.{block_is_lent, block_is_the_one, prepare_is_lent, prepare_is_the_one, reply_is_lent, reply_is_the_one}}
-use Rattle.df_opening.specs.Below.{DataFile, State, shape, spelling}
+use Rattle.df_opening.specs.Below.{DataFile, State, memory, shape, spelling}
 
 -- an answer that is Ok is what was found, and nothing refused
 ok_in : {X E : Type 0} (o : Option E) (damaged : Class → E) (found : Result X Class) (x : X) → Ok x ≡ shown_or o damaged found → (o ≡ None) × (found ≡ Ok x)
@@ -19,26 +19,21 @@ module _ (given : Given) (s u : State) (w : Work) (t : Told) (new : Option Told)
   abbrev known : Memory
   known = memory_of (shape s.file) (spelling s.file) w
 
+  -- a read whose answer is Ok showed what was found, and nothing refused it
+  shown : {X E : Type 0} (to : Result X E → Answer) (one : (a b : Result X E) → to a ≡ to b → a ≡ b) (refusal : Memory → Option E) (damaged : Class → E) (found : Result X Class)
+      (IsFound : Result X Class → Type 0) → IsFound found → answer ≡ to (shown_or (refusal known) damaged found) → (x : X) → answer ≡ to (Ok x) → (refusal (memory s) ≡ None) × IsFound (Ok x)
+  shown to one refusal damaged found IsFound is said x given_as =
+      let parts = ok_in (refusal known) damaged found x (one (Ok x) (shown_or (refusal known) damaged found) (sym given_as ∙ said)) in
+      (ap refusal keeps.1 ∙ parts.0, subst IsFound parts.1 is)
+
   prepare_read : (op : ℕ) → IsCall given (ReadPrepare op) s u (Some t) new (Some answer) → (p : Message) → answer ≡ ToReadPrepare (Ok p) → IsReadPrepare op s (Some t) (Ok p)
-  prepare_read op call p is =
-      let said : answer ≡ ToReadPrepare (prepare_answer known (supplied_message given) op) = (call.answers Firm w keeps).0 in
-      let same : Ok p ≡ prepare_answer known (supplied_message given) op = (let both : ToReadPrepare (Ok p) ≡ ToReadPrepare (prepare_answer known (supplied_message given) op) = sym is ∙ said in cc) in
-      let parts = ok_in (first_refusal (prepare_refusals known op)) _ (supplied_message given) p same in
-      (ap (λ (m : Memory). first_refusal (prepare_refusals m op)) keeps.1 ∙ parts.0, subst (λ (r : Result Message Class). IsFoundBy s (ReadPrepare op) (Some t) r) parts.1 call.supplied.1)
+  prepare_read op call = shown ToReadPrepare (λ a b same. cc) (λ m. first_refusal (prepare_refusals m op)) _ (supplied_message given) (IsFoundBy s (ReadPrepare op) (Some t)) call.supplied.1 (call.answers Firm w keeps).0
 
   reply_read : (client : ℕ) → IsCall given (ReadReply client) s u (Some t) new (Some answer) → (r : Message) → answer ≡ ToReadReply (Ok r) → IsReadReply client s (Some t) (Ok r)
-  reply_read client call r is =
-      let said : answer ≡ ToReadReply (lookup_answer known (supplied_message given) client) = (call.answers Firm w keeps).0 in
-      let same : Ok r ≡ lookup_answer known (supplied_message given) client = (let both : ToReadReply (Ok r) ≡ ToReadReply (lookup_answer known (supplied_message given) client) = sym is ∙ said in cc) in
-      let parts = ok_in (first_refusal (lookup_refusals known client)) _ (supplied_message given) r same in
-      (ap (λ (m : Memory). first_refusal (lookup_refusals m client)) keeps.1 ∙ parts.0, subst (λ (x : Result Message Class). IsFoundBy s (ReadReply client) (Some t) x) parts.1 call.supplied.1)
+  reply_read client call = shown ToReadReply (λ a b same. cc) (λ m. first_refusal (lookup_refusals m client)) _ (supplied_message given) (IsFoundBy s (ReadReply client) (Some t)) call.supplied.1 (call.answers Firm w keeps).0
 
   block_read : (address : ℕ) → IsCall given (ReadBlock address) s u (Some t) new (Some answer) → (b : Block) → answer ≡ ToReadBlock (Ok b) → IsReadBlock address s (Some t) (Ok b)
-  block_read address call b is =
-      let said : answer ≡ ToReadBlock (read_answer known (supplied_block given) address) = (call.answers Firm w keeps).0 in
-      let same : Ok b ≡ read_answer known (supplied_block given) address = (let both : ToReadBlock (Ok b) ≡ ToReadBlock (read_answer known (supplied_block given) address) = sym is ∙ said in cc) in
-      let parts = ok_in (first_refusal (read_refusals known address)) _ (supplied_block given) b same in
-      (ap (λ (m : Memory). first_refusal (read_refusals m address)) keeps.1 ∙ parts.0, subst (λ (x : Result Block Class). IsBlockFound s address (Some t) x) parts.1 call.supplied.1)
+  block_read address call = shown ToReadBlock (λ a b same. cc) (λ m. first_refusal (read_refusals m address)) _ (supplied_block given) (IsBlockFound s address (Some t)) call.supplied.1 (call.answers Firm w keeps).0
 
   -- what is found is shown by an image without chance, so it is the state's own
 

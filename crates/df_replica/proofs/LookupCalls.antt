@@ -94,16 +94,28 @@ pub record TellsOf (s : State) (client : ℕ) (told : Option Told) (place : Plac
   pub exact : IsReadReply client s told (Err (lookup.Damaged place class))
   pub call : ServesRead (ReadReply client) s s told (Some (Err class)) (Some (ToReadReply (Err (lookup.Damaged place class))))
 
-module _ (s : State) (client : ℕ) (live : s.live ≡ true) (told : Option Told) (stored : Stored) (for : IsStoredFor s client stored) (wrong : Option Class) (held : Option Holding)
-    (known : HoldsKnown Reply s.file (place_in ClientReplies stored.place) (known_sum stored.reply) wrong held) (tells : TellsShown told (reply_shown s.file stored.place stored.reply) wrong held) where
+-- what a load of a reply that is stored came to
+pub record LoadsReply (s : State) (client : ℕ) (told : Option Told) (stored : Stored) (wrong : Option Class) (held : Option Holding) : Type 0 where
+  pub for : IsStoredFor s client stored
+  pub known : HoldsKnown Reply s.file (place_in ClientReplies stored.place) (known_sum stored.reply) wrong held
+  pub tells : TellsShown told (reply_shown s.file stored.place stored.reply) wrong held
+
+module _ (s : State) (client : ℕ) (live : s.live ≡ true) (told : Option Told) (stored : Stored) (wrong : Option Class) (held : Option Holding)
+    (load : LoadsReply s client told stored wrong held) where
   pub lends_as : (h : Holding) → wrong ≡ None → held ≡ Some h → LendsAs s client told h.unit
   lends_as h is has =
-      let unit = subst (λ (o : Option Holding). HoldsKnown Reply s.file (place_in ClientReplies stored.place) (known_sum stored.reply) None o) has (subst (λ (o : Option Class). HoldsKnown Reply s.file (place_in ClientReplies stored.place) (known_sum stored.reply) o held) is known) in
-      let shown = subst (λ (o : Option Holding). TellsShown told (reply_shown s.file stored.place stored.reply) None o) has (subst (λ (o : Option Class). TellsShown told (reply_shown s.file stored.place stored.reply) o held) is tells) in
-      let by = reply_found_by s client stored for told h shown in
-      record { exact = (for.served, by); known = reply_known s client stored for h.unit unit; call = lookup_serves s client live told (Ok (message_of h.unit)) for.served by }
+      let at : LoadsReply s client told stored None (Some h) = subst (λ (o : Option Holding). LoadsReply s client told stored None o) has
+      (subst (λ (o : Option Class). LoadsReply s client told stored o held) is load) in
+      let by = reply_found_by s client stored load.for told h at.tells in
+      record {
+        exact = (load.for.served, by);
+        known = reply_known s client stored load.for h.unit at.known;
+        call = lookup_serves s client live told (Ok (message_of h.unit)) load.for.served by;
+      }
 
   pub tells_of : (class : Class) (place : Place) → wrong ≡ Some class → place ≡ place_in ClientReplies stored.place → TellsOf s client told place class
   tells_of class place is there =
-      let by = reply_lacks_by s client stored for told class held (subst (λ (o : Option Class). TellsShown told (reply_shown s.file stored.place stored.reply) o held) is tells) in
-      subst (λ (p : Place). TellsOf s client told p class) (sym (there ∙ ap (place_in ClientReplies) for.place)) (record { exact = (for.served, refl, by); call = lookup_serves s client live told (Err class) for.served by })
+      let lacks : LoadsReply s client told stored (Some class) held = subst (λ (o : Option Class). LoadsReply s client told stored o held) is load in
+      let by = reply_lacks_by s client stored load.for told class held lacks.tells in
+      subst (λ (p : Place). TellsOf s client told p class) (sym (there ∙ ap (place_in ClientReplies) load.for.place))
+      (record { exact = (load.for.served, refl, by); call = lookup_serves s client live told (Err class) load.for.served by })

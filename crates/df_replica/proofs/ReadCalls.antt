@@ -4,7 +4,7 @@ use Rattle.df_disk.specs.Told.{Told}
 use Rattle.df_layout.specs.{declared.damage.Class.{Class}, declared.places.Place.{Place}, declared.places.Zone.TheVariants.{WalPrepares}}
 use Rattle.df_format.specs.{declared.kind.Kind.TheVariants.{Prepare}, Message.{Message}, Own.{place_in}, Spelling.{IsCheck}}
 use Rattle.df_buffers.specs.Sounds.{Holding}
-use Rattle.df_places.specs.Shelves.{HoldsFound, IsFoundUnit, IsRead}
+use Rattle.df_places.specs.Shelves.{HoldsFound, IsRead}
 use Rattle.df_units.specs.Meaning.{message_of}
 use Rattle.df_theory.specs.Units
 use Rattle.df_model.specs.After as after
@@ -95,21 +95,29 @@ pub record TellsOf (s : State) (op : ℕ) (told : Option Told) (place : Place) (
   pub exact : IsReadPrepare op s told (Err (prepare.Damaged place class))
   pub call : ServesRead (ReadPrepare op) s s told (Some (Err class)) (Some (ToReadPrepare (Err (prepare.Damaged place class))))
 
-module _ (s : State) (op : ℕ) (live : s.live ≡ true) (told : Option Told) (none : first_refusal (prepare_refusals (memory s) op) ≡ None) (fits : IsCheck (check_in (slice_get s.headers (op % s.file.layout.slots)))) where
-  lends : (h : Holding) → IsFoundUnit Prepare (prepare_wanted s.file s.headers op) h.unit → IsRead Prepare (prepare_wanted s.file s.headers op) told None (Some h) → LendsAs s op told h.unit
-  lends h found read =
-      let by = prepare_found_by s op none fits told h found read in
-      record { exact = (none, by); known = prepare_known s op none fits h found; call = prepare_serves s op live told (Ok (message_of h.unit)) none by }
+-- what a load of a prepare that isn't refused came to
+pub record LoadsPrepare (s : State) (op : ℕ) (told : Option Told) (wrong : Option Class) (held : Option Holding) : Type 0 where
+  pub none : first_refusal (prepare_refusals (memory s) op) ≡ None
+  pub fits : IsCheck (check_in (slice_get s.headers (op % s.file.layout.slots)))
+  pub holds : HoldsFound Prepare (prepare_wanted s.file s.headers op) wrong held
+  pub read : IsRead Prepare (prepare_wanted s.file s.headers op) told wrong held
 
-  module _ (wrong : Option Class) (held : Option Holding) (holds : HoldsFound Prepare (prepare_wanted s.file s.headers op) wrong held) (read : IsRead Prepare (prepare_wanted s.file s.headers op) told wrong held) where
-    pub lends_as : (h : Holding) → wrong ≡ None → held ≡ Some h → LendsAs s op told h.unit
-    lends_as h is has =
-        let w = prepare_wanted s.file s.headers op in
-        lends h (subst (λ (o : Option Holding). HoldsFound Prepare w None o) has (subst (λ (o : Option Class). HoldsFound Prepare w o held) is holds))
-        (subst (λ (o : Option Holding). IsRead Prepare w told None o) has (subst (λ (o : Option Class). IsRead Prepare w told o held) is read))
+module _ (s : State) (op : ℕ) (live : s.live ≡ true) (told : Option Told) (wrong : Option Class) (held : Option Holding)
+    (load : LoadsPrepare s op told wrong held) where
+  pub lends_as : (h : Holding) → wrong ≡ None → held ≡ Some h → LendsAs s op told h.unit
+  lends_as h is has =
+      let at : LoadsPrepare s op told None (Some h) = subst (λ (o : Option Holding). LoadsPrepare s op told None o) has
+      (subst (λ (o : Option Class). LoadsPrepare s op told o held) is load) in
+      let by = prepare_found_by s op load.none load.fits told h at.holds at.read in
+      record {
+        exact = (load.none, by);
+        known = prepare_known s op load.none load.fits h at.holds;
+        call = prepare_serves s op live told (Ok (message_of h.unit)) load.none by;
+      }
 
-    pub tells_of : (class : Class) (place : Place) → wrong ≡ Some class → place ≡ place_for s op → TellsOf s op told place class
-    tells_of class place is there =
-        let w = prepare_wanted s.file s.headers op in
-        let by = prepare_lacks_by s op none fits told class held (subst (λ (o : Option Class). IsRead Prepare w told o held) is read) in
-        subst (λ (p : Place). TellsOf s op told p class) (sym there) (record { exact = (none, refl, by); call = prepare_serves s op live told (Err class) none by })
+  pub tells_of : (class : Class) (place : Place) → wrong ≡ Some class → place ≡ place_for s op → TellsOf s op told place class
+  tells_of class place is there =
+      let lacks : LoadsPrepare s op told (Some class) held = subst (λ (o : Option Class). LoadsPrepare s op told o held) is load in
+      let by = prepare_lacks_by s op load.none load.fits told class held lacks.read in
+      subst (λ (p : Place). TellsOf s op told p class) (sym there)
+      (record { exact = (load.none, refl, by); call = prepare_serves s op live told (Err class) load.none by })

@@ -1,17 +1,16 @@
 -- Each reply is the machine's: its answer, the state after it, and what it does to the disk.
-use Rattle.std.{proofs.{Common.{◌≡◌, ◌∙◌, inl, ℕ, ◌<◌, true, false, List, [], ◌∷◌, length, map, Option, Some, None, refl, sym, ap, subst, arith}, lemmas.Option.{same_Some}}, specs.Prelude.{Ok, Err}}
-use Rattle.df_base.{proofs.Laws.{AreBytes-check_of, field_at-lt, now_is_image}, specs.{Image.{IsImage}, Log.{now}}}
+use Rattle.std.{proofs.{Common.{◌≡◌, ◌∙◌, inl, ℕ, ◌<◌, true, false, List, [], ◌∷◌, length, map, Option, Some, None, refl, sym, ap, subst, arith}}, specs.Prelude.{Ok, Err}}
+use Rattle.df_base.{proofs.Laws.{AreBytes-check_of, field_at-lt}}
 use Rattle.df_disk.specs.{Told.{Told}, Adds.{AddsPart, after_all}}
 use Rattle.df_layout.specs.declared.places.Zone.TheVariants.{ClientReplies}
 use Rattle.df_format.{proofs.Laws.{made_brings}, specs.{Making.{for_body}, Message.{Message, sectors_of}, Own.{place_in}, Spelling.{spelling_rest}}}
-use Rattle.df_journal.specs.Append.{ShowsRing}
 use Rattle.df_replies.specs.Slots.{IsInReplySlot, reply_write_steps}
 use Rattle.df_theory.{specs.{Device.{IsPut}, Units.{AnyUnit, BlockPlace, CopyPlace, HeaderPlace, Place, PreparePlace, ReplyPlace, ReplyUnit, or_else}, UnitLog.{put_one}}, proofs.Laws.{put_one_law}}
 use Rattle.df_theory.specs.Units as theory
 use Rattle.df_units.{specs.{Bytes.{first_at}, Format.{format_of}, Meaning.{message_of, number_of}}, proofs.Laws.{reply_put}}
 use Rattle.df_model.{specs.{After.{outcome, with_reply}, Changing.{blocks_after, replied_in, unless_refused}, Codec.{AreChecksums}, Commands.{Answer, Command, ForReply, Given, IsInput, Reply, ToReply, as_answer, supplied_sum, supplied_sums}, Faults.{is_reply_fault}, Laws.{DoesReply, UnlessRefused}, Making.{first_of, place_of_reply, reply_of}, Memory.{Memory, memory_of}, OnDisk.{DoesOnDisk}, Refusals.{first_refusal, reply_refusals}, Sense.{IsWork}, Supply.{puts_of, unless}, Work.{Work}, declared.errors.ReplyError.{ReplyError}}, proofs.Laws.{change_law}}
 use Rattle.df_opening.specs.Below.{IsState, Represents, State, memory, shape, spelling}
-use Rattle.df_replica.{specs.{Answering.{Serves, answer_of, as_reply}, Replying.{first_check, next_reply, reply_events, reply_given, with_stored_reply}, Serving.{Grade, IsCall, IsKept, format, next}, Supply.{IsSupplied}}, proofs.{Calls.{AreCalls, Answered, answered_call, answered_still, stopped_call}, Leaves.{Makes, makes_nothing}, Makes.{OfMade, Unless}, WritesOn.{StandsIn, steps_stand}, ReplyMemory.{replied_memory}, ReplyTests.{reply_waits}, Unblamed.{refused_answer, reply_unblamed}}}
+use Rattle.df_replica.{specs.{Answering.{Serves, answer_of, as_reply}, Replying.{first_check, next_reply, reply_events, reply_given, with_stored_reply}, Serving.{Grade, IsCall, IsKept, format, next}, Supply.{IsSupplied}}, proofs.{Calls.{AreCalls, Answered, answered_call, answered_still, stopped_call}, Leaves.{Makes, makes_nothing, makes_put}, Makes.{OfMade, Unless}, WritesOn.{StandsIn, steps_stand}, ReplyMemory.{replied_memory}, ReplyTests.{reply_waits}, RingSpared.{ring_spared}, Unblamed.{refused_answer, reply_unblamed}}}
 
 -- the checksum that waits the longest, as a number
 first_number : (ws : List (List ℕ)) → 0 < length ws → first_of (map number_of ws) ≡ number_of (first_check ws)
@@ -43,11 +42,9 @@ module _ (s : State) (op : ℕ) (body : List ℕ) (given : Given) (is : IsState 
     refused_does : AreCalls given command s []
     refused_does g w t k =
         let m = memory_of (shape s.file) (spelling s.file) w in
-        record {
-          steps = [];
-          are = tt;
-          does = subst (λ (o : Option ReplyError). UnlessRefused o [] (DoesReply w.view (place_of_reply m) (reply_of m (supplied_sum given) body) [])) (sym (test_is w k.stands (Some e) some)) refl;
-        }
+        let does = subst (λ (o : Option ReplyError). UnlessRefused o [] (DoesReply w.view (place_of_reply m) (reply_of m (supplied_sum given) body) []))
+        (sym (test_is w k.stands (Some e) some)) refl in
+        record { steps = []; are = tt; does = does }
 
     refused_puts : Makes given command s []
     refused_puts =
@@ -113,15 +110,7 @@ module _ (s : State) (op : ℕ) (body : List ℕ) (given : Given) (is : IsState 
         ∙ ap (λ (o : Option ReplyError). unless o (put_one (ReplyPlace (place_of_reply m)) (ReplyUnit r)) place) (sym none)
 
     reply_puts : Makes given command s (reply_events s u)
-    reply_puts = record {
-      steps = reply_write_steps u;
-      are = (put, tt);
-      prepare = λ k o. ap (λ (p : Option AnyUnit). or_else p o) (put_is (PreparePlace k));
-      reply = λ k o. ap (λ (p : Option AnyUnit). or_else p o) (put_is (ReplyPlace k));
-      block = λ k o. ap (λ (p : Option AnyUnit). or_else p o) (put_is (BlockPlace k));
-      copy = λ w work rep k o. ap (λ (p : Option AnyUnit). or_else p o) (put_is (CopyPlace k));
-      last = λ no. absurd no;
-    }
+    reply_puts = makes_put given command s (reply_events s u) (reply_write_steps u) (put_one (ReplyPlace u.header.slot) (ReplyUnit (message_of u))) (put, tt) (λ place o. refl) put_is (λ no. no)
 
     -- the reply that it makes is the one that it writes
     makes : (w : Work) → Represents s w → OfMade (shape s.file) (spelling s.file) (StandsIn (format s.file) (reply_events s u)) w given command
@@ -159,14 +148,14 @@ module _ (s : State) (op : ℕ) (body : List ℕ) (given : Given) (is : IsState 
       allowed_at =
           subst (λ (x : Work × Answer). (answer ≡ x.1) × Represents (with_stored_reply s u.header) x.0) (sym next_is) (ap (λ (g : Given). ToReply (Ok (supplied_sum g))) (sym sum), stands)
 
-    -- the header ring shows what it did
-    ring_kept : (g : Grade) (w : Work) (a b : Told) → IsKept g s w a.log → Some b ≡ after_all (reply_events s u) (Some a) → ShowsRing s.file.layout s.file.cluster (now b.log) s.headers
-    ring_kept g w a b k all =
-        let whole : IsImage (now a.log) = now_is_image a.log.start a.log.events k.log_is.start k.log_is.events in
-        subst (λ (x : Told). ShowsRing s.file.layout s.file.cluster (now x.log) s.headers) (sym (same_Some _ _ all)) (λ slot h at. put.shows (now a.log) (HeaderPlace slot) whole ∙ k.ring slot h at)
-
     allowed_as : Answered given command s (with_stored_reply s u.header) (reply_events s u) answer
-    allowed_as = record { file = refl; live = live; stands = λ w work rep. allowed_at w work rep; made = λ w work rep. makes w rep; ring = λ g w a b k all. ring_kept g w a b k all }
+    allowed_as = record {
+      file = refl;
+      live = live;
+      stands = λ w work rep. allowed_at w work rep;
+      made = λ w work rep. makes w rep;
+      ring = λ g w a b k all. ring_spared s.file.layout s.file.cluster s.headers (reply_events s u) (reply_write_steps u) a b k.log_is (put, tt) (λ slot. refl, tt) k.ring all;
+    }
 
     stored_call : (old new : Option Told) → IsSupplied s old command given → new ≡ after_all (reply_events s u) old → IsCall given command s (with_stored_reply s u.header) old new (Some answer)
     stored_call old new supplied all = answered_call given command s (reply_events s u) input does_reply reply_puts (with_stored_reply s u.header) answer allowed_as old new supplied all

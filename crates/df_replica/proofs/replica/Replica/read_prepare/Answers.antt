@@ -1,11 +1,11 @@
 -- What the room holds is what the machine reads.
-use Rattle.std.proofs.Common.{◌≡◌, Bool, List, Some, None, true, refl, sym, ap, subst, ◌∙◌}
+use Rattle.std.proofs.Common.{◌≡◌, Bool, List, Some, None, refl, sym, ap, subst, ◌∙◌}
 use Rattle.df_format.specs.declared.header.Header.{Header}
 use Rattle.df_buffers.specs.Sounds.{Holding}
 use denote.Ref.{Bor}
 use Rattle.df_model.specs.{Faults.{is_prepare_fault}, Refusals.{first_refusal, prepare_refusals}}
 use Rattle.df_opening.specs.Below.{State, memory, state_in}
-use Rattle.df_replica.{specs.Stopping.{stopped}, proofs.{Lent.{lends_written_prepare}, ReadCalls.{LendsAs, TellsOf, lends_as, prepare_stopped, refused_reads, refused_serves, tells_of}, Unblamed.{prepare_unblamed, refused_blames, refused_leaves}}}
+use Rattle.df_replica.{specs.Stopping.{stopped}, proofs.{Lent.{lends_written_prepare}, ReadCalls.{LoadsPrepare, lends_as, place_for, prepare_stopped, refused_reads, refused_serves, tells_of}, Unblamed.{prepare_unblamed, refused_blames, refused_leaves}}}
 use Rattle.df_replica.proofs.replica.Replica.read_prepare.Goals as goal
 
 pub returns-in-Some : goal.returns-in-Some
@@ -47,29 +47,23 @@ returns-in-Err g c =
 pub returns-in-Some-wrong : goal.returns-in-Some-wrong
 returns-in-Some-wrong g c =
     let told = g.D.Disk.told c.args.disk.now in
-    let op = c.args.op in
-    let v : State = state_in c.self.inside.parts in
-    let none : first_refusal (prepare_refusals (memory v) op) ≡ None = sym c.prepare_refusal.ensures.why ∙ c.in_default.is in
-    let live = subst (λ (s : State). s.live ≡ true) (sym c.self.view_is) c.requires.live in
-    let rooms = c.load_prepare.ensures.rooms in
-    let held = c.load_prepare.new.rooms.prepare.held in
-    let found = c.in-Ok.ensures.loaded in
-    let tells = subst (λ (s : State). TellsOf s op told c.prepare_place.result c.in-Some-wrong.class) c.self.view_is (tells_of v op live told none c.load_prepare.ensures.check c.in-Ok.wrong held found.holds found.read c.in-Some-wrong.class c.prepare_place.result c.in-Some-wrong.is c.prepare_place.ensures) in (
-      (refl, (λ _. tt), ap (λ (hs : List Header). record v { headers = hs }) rooms.headers ∙ c.self.view_is),
+    let load = subst (λ (s : State). LoadsPrepare s c.args.op told c.in-Ok.wrong c.load_prepare.new.rooms.prepare.held) c.self.view_is
+    (record { none = sym c.prepare_refusal.ensures.why ∙ c.in_default.is; fits = c.load_prepare.ensures.check; holds = c.in-Ok.ensures.loaded.holds; read = c.in-Ok.ensures.loaded.read }) in
+    let there = c.prepare_place.ensures ∙ ap (λ (s : State). place_for s c.args.op) c.self.view_is in
+    let tells = tells_of c.args.self.now c.args.op c.requires.live told _ _ load c.in-Some-wrong.class c.prepare_place.result c.in-Some-wrong.is there in (
+      (refl, (λ _. tt), ap (λ (hs : List Header). record (state_in c.self.inside.parts) { headers = hs }) c.load_prepare.ensures.rooms.headers ∙ c.self.view_is),
       record { after = tt; exact = tells.exact; lent = tt; written = tt; call = tells.call; same = c.load_prepare.ensures.same; cause = c.in-Ok.ensures.cause.same },
     )
 
 pub returns-in-None : goal.returns-in-None
 returns-in-None g c =
-    let told = g.D.Disk.told c.args.disk.now in
     let op = c.args.op in
-    let v : State = state_in c.self.inside.parts in
-    let none : first_refusal (prepare_refusals (memory v) op) ≡ None = sym c.prepare_refusal.ensures.why ∙ c.in_default.is in
-    let live = subst (λ (s : State). s.live ≡ true) (sym c.self.view_is) c.requires.live in
-    let rooms = c.load_prepare.ensures.rooms in
-    let held = c.load_prepare.new.rooms.prepare.held in
-    let found = c.in-Ok.ensures.loaded in
-    let lends = subst (λ (s : State). LendsAs s op told c.unit.result.now.unit) c.self.view_is (lends_as v op live told none c.load_prepare.ensures.check c.in-Ok.wrong held found.holds found.read c.unit.result.now c.in-None.is c.unit.ensures) in (
-      (refl, (λ _. tt), ap (λ (hs : List Header). record v { headers = hs }) rooms.headers ∙ c.self.view_is),
-      record { after = tt; exact = lends.exact; lent = lends.known; written = lends_written_prepare op c.args.self.now _ told lends.exact; call = lends.call; same = c.load_prepare.ensures.same; cause = c.in-Ok.ensures.cause.same },
+    let v = c.args.self.now in
+    let told = g.D.Disk.told c.args.disk.now in
+    let load = subst (λ (s : State). LoadsPrepare s op told c.in-Ok.wrong c.load_prepare.new.rooms.prepare.held) c.self.view_is
+    (record { none = sym c.prepare_refusal.ensures.why ∙ c.in_default.is; fits = c.load_prepare.ensures.check; holds = c.in-Ok.ensures.loaded.holds; read = c.in-Ok.ensures.loaded.read }) in
+    let lends = lends_as v op c.requires.live told _ _ load c.unit.result.now c.in-None.is c.unit.ensures in
+    let written = lends_written_prepare op v _ told lends.exact in (
+      (refl, (λ _. tt), ap (λ (hs : List Header). record (state_in c.self.inside.parts) { headers = hs }) c.load_prepare.ensures.rooms.headers ∙ c.self.view_is),
+      record { after = tt; exact = lends.exact; lent = lends.known; written = written; call = lends.call; same = c.load_prepare.ensures.same; cause = c.in-Ok.ensures.cause.same },
     )

@@ -1,9 +1,9 @@
 -- What the room holds is what the machine reads.
-use Rattle.std.proofs.Common.{◌≡◌, Bool, Some, true, refl, sym, ap, subst, ◌∙◌}
+use Rattle.std.proofs.Common.{◌≡◌, Bool, Some, refl, ap, subst, ◌∙◌}
 use Rattle.df_buffers.specs.Sounds.{Holding}
 use Rattle.df_model.specs.{Faults.{is_lookup_fault}, Refusals.{first_refusal, lookup_refusals}}
 use Rattle.df_opening.specs.Below.{State, memory, state_in}
-use Rattle.df_replica.{specs.{Lookups.{IsStoredFor}, Stopping.{stopped}}, proofs.{Lent.{lends_written_reply}, LookupCalls.{LendsAs, TellsOf, lends_as, lookup_stopped, refused_reads, refused_serves, tells_of}, Unblamed.{lookup_unblamed, refused_blames, refused_leaves}}}
+use Rattle.df_replica.{specs.{Lookups.{IsStoredFor}, Stopping.{stopped}}, proofs.{Lent.{lends_written_reply}, LookupCalls.{LoadsReply, lends_as, lookup_stopped, refused_reads, refused_serves, tells_of}, Unblamed.{lookup_unblamed, refused_blames, refused_leaves}}}
 use Rattle.df_replica.proofs.replica.Replica.read_reply.Goals as goal
 use denote.Ref.{Bor}
 
@@ -45,27 +45,24 @@ returns-in-Err-load_reply g c =
 pub returns-in-Some : goal.returns-in-Some
 returns-in-Some g c =
     let told = g.D.Disk.told c.args.disk.now in
-    let client = c.args.client in
-    let stored = c.in-Ok.stored in
-    let v : State = state_in c.self.inside.parts in
-    let live = subst (λ (s : State). s.live ≡ true) (sym c.self.view_is) c.requires.live in
-    let held = c.load_reply.new.room.held in
     let loaded = c.in-Ok-load_reply.ensures in
-    let answer = subst (λ (s : State). TellsOf s client told c.reply_place.result c.in-Some.class) c.self.view_is (tells_of v client live told stored c.in-Ok.ensures.stored c.in-Ok-load_reply.wrong held loaded.known loaded.tells c.in-Some.class c.reply_place.result c.in-Some.is c.reply_place.ensures) in (
+    let load = subst (λ (s : State). LoadsReply s c.args.client told c.in-Ok.stored c.in-Ok-load_reply.wrong c.load_reply.new.room.held) c.self.view_is
+    (record { for = c.in-Ok.ensures.stored; known = loaded.known; tells = loaded.tells }) in
+    let tells = tells_of c.args.self.now c.args.client c.requires.live told _ _ _ load c.in-Some.class c.reply_place.result c.in-Some.is c.reply_place.ensures in (
       (refl, (λ _. tt), c.self.view_is),
-      record { after = tt; exact = answer.exact; lent = tt; written = tt; call = answer.call; same = c.load_reply.ensures.same; cause = loaded.cause.same },
+      record { after = tt; exact = tells.exact; lent = tt; written = tt; call = tells.call; same = c.load_reply.ensures.same; cause = loaded.cause.same },
     )
 
 pub returns-in-None : goal.returns-in-None
 returns-in-None g c =
-    let told = g.D.Disk.told c.args.disk.now in
     let client = c.args.client in
-    let stored = c.in-Ok.stored in
-    let v : State = state_in c.self.inside.parts in
-    let live = subst (λ (s : State). s.live ≡ true) (sym c.self.view_is) c.requires.live in
-    let held = c.load_reply.new.room.held in
+    let v = c.args.self.now in
+    let told = g.D.Disk.told c.args.disk.now in
     let loaded = c.in-Ok-load_reply.ensures in
-    let answer = subst (λ (s : State). LendsAs s client told c.unit.result.now.unit) c.self.view_is (lends_as v client live told stored c.in-Ok.ensures.stored c.in-Ok-load_reply.wrong held loaded.known loaded.tells c.unit.result.now c.in-None.is c.unit.ensures) in (
+    let load = subst (λ (s : State). LoadsReply s client told c.in-Ok.stored c.in-Ok-load_reply.wrong c.load_reply.new.room.held) c.self.view_is
+    (record { for = c.in-Ok.ensures.stored; known = loaded.known; tells = loaded.tells }) in
+    let lends = lends_as v client c.requires.live told _ _ _ load c.unit.result.now c.in-None.is c.unit.ensures in
+    let written = lends_written_reply client v _ told lends.exact in (
       (refl, (λ _. tt), c.self.view_is),
-      record { after = tt; exact = answer.exact; lent = answer.known; written = lends_written_reply client c.args.self.now _ told answer.exact; call = answer.call; same = c.load_reply.ensures.same; cause = loaded.cause.same },
+      record { after = tt; exact = lends.exact; lent = lends.known; written = written; call = lends.call; same = c.load_reply.ensures.same; cause = loaded.cause.same },
     )
