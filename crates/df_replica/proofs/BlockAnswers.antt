@@ -99,7 +99,8 @@ module _ (s : State) (kind : ℕ) (body : List ℕ) (given : Given) (is : IsStat
         ∙ ap (λ (o : Option BlockError). unless o (put_one (BlockPlace (next_address m)) (BlockUnit b)) place) (sym none)
 
     block_puts : Makes given command s (block_events s u)
-    block_puts = makes_put given command s (block_events s u) (block_steps u) (put_one (BlockPlace u.header.op) (BlockUnit (meaning.block_of u))) wrote (λ place o. refl) put_is (λ no. no)
+    block_puts =
+        makes_put given command s (block_events s u) (block_steps u) (put_one (BlockPlace u.header.op) (BlockUnit (meaning.block_of u))) wrote (λ place o. refl) put_is (λ no. no)
 
     abbrev answer : Answer
     answer = ToWriteBlock (Ok (u.header.op, number_of u.header.checksum))

@@ -72,7 +72,8 @@ module _ (s : State) (r : RunningState) (a : ℕ) (more : List ℕ) (given : Giv
       ∙ sym (step_puts_are s r given running sum (a ∷ more) left place)
 
   puts : Makes given Advance s (block_events s r)
-  puts = makes_put given Advance s (block_events s r) given_steps (put_one (BlockPlace (trailer_unit s r).header.op) (BlockUnit (block_of (trailer_unit s r)))) steps (λ place o. refl) put_is (λ whole.
+  puts = makes_put given Advance s (block_events s r) given_steps
+      (put_one (BlockPlace (trailer_unit s r).header.op) (BlockUnit (block_of (trailer_unit s r)))) steps (λ place o. refl) put_is (λ whole.
       let none : s.blocks.left ≡ [] = subst IsWhole (ap (course_in s.file s.blocks) running) whole in
       let no : a ∷ more ≡ [] = sym left ∙ none in
       cc)

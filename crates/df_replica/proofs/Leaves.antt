@@ -140,8 +140,10 @@ pub record Makes (given : Given) (command : Command) (s : State) (events : List 
   pub last : IsLast command (memory s) → StartSynced steps
 
 -- a command that makes what its steps put
-pub makes_put : (given : Given) (command : Command) (s : State) (events : List Event) (steps : List Step) (put : Units) → AreSteps (format s.file) events steps
-    → ((place : Place) (o : Option AnyUnit) → unit_after steps place o ≡ or_else (put place) o) → ((place : Place) → put place ≡ puts_of (memory s) (supplied_sums given) command place)
+pub makes_put : (given : Given) (command : Command) (s : State) (events : List Event) (steps : List Step) (put : Units)
+    → AreSteps (format s.file) events steps
+    → ((place : Place) (o : Option AnyUnit) → unit_after steps place o ≡ or_else (put place) o)
+    → ((place : Place) → put place ≡ puts_of (memory s) (supplied_sums given) command place)
     → (IsLast command (memory s) → ⊥) → Makes given command s events
 makes_put given command s events steps put are after is other =
     let made : (place : Place) (o : Option AnyUnit) → unit_after steps place o ≡ or_else (puts_of (memory s) (supplied_sums given) command place) o = λ place o.

@@ -20,20 +20,28 @@ module _ (given : Given) (s u : State) (w : Work) (t : Told) (new : Option Told)
   known = memory_of (shape s.file) (spelling s.file) w
 
   -- a read whose answer is Ok showed what was found, and nothing refused it
-  shown : {X E : Type 0} (to : Result X E → Answer) (one : (a b : Result X E) → to a ≡ to b → a ≡ b) (refusal : Memory → Option E) (damaged : Class → E) (found : Result X Class)
-      (IsFound : Result X Class → Type 0) → IsFound found → answer ≡ to (shown_or (refusal known) damaged found) → (x : X) → answer ≡ to (Ok x) → (refusal (memory s) ≡ None) × IsFound (Ok x)
+  shown : {X E : Type 0} (to : Result X E → Answer) (one : (a b : Result X E) → to a ≡ to b → a ≡ b)
+      (refusal : Memory → Option E) (damaged : Class → E) (found : Result X Class)
+      (IsFound : Result X Class → Type 0) → IsFound found
+      → answer ≡ to (shown_or (refusal known) damaged found) → (x : X) → answer ≡ to (Ok x) → (refusal (memory s) ≡ None) × IsFound (Ok x)
   shown to one refusal damaged found IsFound is said x given_as =
       let parts = ok_in (refusal known) damaged found x (one (Ok x) (shown_or (refusal known) damaged found) (sym given_as ∙ said)) in
       (ap refusal keeps.1 ∙ parts.0, subst IsFound parts.1 is)
 
   prepare_read : (op : ℕ) → IsCall given (ReadPrepare op) s u (Some t) new (Some answer) → (p : Message) → answer ≡ ToReadPrepare (Ok p) → IsReadPrepare op s (Some t) (Ok p)
-  prepare_read op call = shown ToReadPrepare (λ a b same. cc) (λ m. first_refusal (prepare_refusals m op)) _ (supplied_message given) (IsFoundBy s (ReadPrepare op) (Some t)) call.supplied.1 (call.answers Firm w keeps).0
+  prepare_read op call =
+      shown ToReadPrepare (λ a b same. cc) (λ m. first_refusal (prepare_refusals m op)) _ (supplied_message given) (IsFoundBy s (ReadPrepare op) (Some t))
+      call.supplied.1 (call.answers Firm w keeps).0
 
   reply_read : (client : ℕ) → IsCall given (ReadReply client) s u (Some t) new (Some answer) → (r : Message) → answer ≡ ToReadReply (Ok r) → IsReadReply client s (Some t) (Ok r)
-  reply_read client call = shown ToReadReply (λ a b same. cc) (λ m. first_refusal (lookup_refusals m client)) _ (supplied_message given) (IsFoundBy s (ReadReply client) (Some t)) call.supplied.1 (call.answers Firm w keeps).0
+  reply_read client call =
+      shown ToReadReply (λ a b same. cc) (λ m. first_refusal (lookup_refusals m client)) _ (supplied_message given) (IsFoundBy s (ReadReply client) (Some t))
+      call.supplied.1 (call.answers Firm w keeps).0
 
   block_read : (address : ℕ) → IsCall given (ReadBlock address) s u (Some t) new (Some answer) → (b : Block) → answer ≡ ToReadBlock (Ok b) → IsReadBlock address s (Some t) (Ok b)
-  block_read address call = shown ToReadBlock (λ a b same. cc) (λ m. first_refusal (read_refusals m address)) _ (supplied_block given) (IsBlockFound s address (Some t)) call.supplied.1 (call.answers Firm w keeps).0
+  block_read address call =
+      shown ToReadBlock (λ a b same. cc) (λ m. first_refusal (read_refusals m address)) _ (supplied_block given) (IsBlockFound s address (Some t))
+      call.supplied.1 (call.answers Firm w keeps).0
 
   -- what is found is shown by an image without chance, so it is the state's own
 

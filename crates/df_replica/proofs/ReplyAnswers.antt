@@ -110,7 +110,8 @@ module _ (s : State) (op : ℕ) (body : List ℕ) (given : Given) (is : IsState 
         ∙ ap (λ (o : Option ReplyError). unless o (put_one (ReplyPlace (place_of_reply m)) (ReplyUnit r)) place) (sym none)
 
     reply_puts : Makes given command s (reply_events s u)
-    reply_puts = makes_put given command s (reply_events s u) (reply_write_steps u) (put_one (ReplyPlace u.header.slot) (ReplyUnit (message_of u))) (put, tt) (λ place o. refl) put_is (λ no. no)
+    reply_puts =
+        makes_put given command s (reply_events s u) (reply_write_steps u) (put_one (ReplyPlace u.header.slot) (ReplyUnit (message_of u))) (put, tt) (λ place o. refl) put_is (λ no. no)
 
     -- the reply that it makes is the one that it writes
     makes : (w : Work) → Represents s w → OfMade (shape s.file) (spelling s.file) (StandsIn (format s.file) (reply_events s u)) w given command
