@@ -105,12 +105,12 @@ pub chain_next : (g h : GridState) (refs : List Link) (done : ℕ) (at : Link) �
 chain_next g h refs done at apart less here is none free inside =
     let n = next_at g refs (length refs - 1 - done) at apart (omega arith) here in
     let same : suc (length refs - 1 - done) ≡ length refs - done = omega arith in
-    chain_free h g.blocks (drop (length refs - done) refs) at.address (ap (λ (x : GridState). x.blocks) is) none (subst (λ (x : GridState). HasAddress x at.address) (sym is) inside) (free at.address n.there) (ap (λ (k : ℕ). is_among at.address (drop k refs)) (sym same) ∙ n.apart)
+    chain_free h g.blocks (drop (length refs - done) refs) at.address (ap (λ (x : GridState). x.blocks) is) none (rw is inside) (free at.address n.there) (ap (λ (k : ℕ). is_among at.address (drop k refs)) (sym same) ∙ n.apart)
 
 -- addresses are apart in each grid of the layout
 pub apart_same : (g h : GridState) (refs : List Link) → h.layout ≡ g.layout → AreDistinctLinks g refs → AreDistinctLinks h refs
 apart_same g h [] same apart = tt
-apart_same g h (r ∷ rs) same apart = (subst (λ (l : Layout). (1 ≤ r.address) × (r.address ≤ l.blocks)) (sym same) apart.0, apart.1, apart_same g h rs same apart.2)
+apart_same g h (r ∷ rs) same apart = (rw (sym same) at apart.0, apart.1, apart_same g h rs same apart.2)
 
 -- no checkpoint runs in a grid that adopted one
 pub adopted_idle : (old new : GridState) (reader : Reader) (refs : List Link) (result : Result (Unit {0}) TrailerFault) → AdoptAnswer old new reader refs result → OnOk result (IsIdle new.blocks)

@@ -1,5 +1,5 @@
 -- A chain that was walked is whole: its blocks are links from the last to the first, and their bodies are a text of the superblock's size.
-use Rattle.std.{proofs.{Common.{◌≡◌, ℕ, suc, ◌+◌, ◌-◌, ◌*◌, ◌≤◌, ◌==◌, ◌||◌, Bool, true, false, Option, Some, None, List, [], ◌∷◌, length, min, refl, sym, ap, ◌∙◌, subst, arith, inl, inr, length-append}, lemmas.Bool.{eq-eqb}}, specs.Prelude.{Result, Ok, Err, IfOk}}
+use Rattle.std.{proofs.{Common.{◌≡◌, ℕ, suc, ◌+◌, ◌-◌, ◌*◌, ◌≤◌, ◌==◌, ◌||◌, Bool, true, false, Option, Some, None, List, [], ◌∷◌, length, min, refl, sym, ap, ◌∙◌, arith, inl, inr, length-append}, lemmas.Bool.{eq-eqb}}, specs.Prelude.{Result, Ok, Err, IfOk}}
 use Rattle.arrayvec.specs.ArrayVec.{ArrayVec}
 use Rattle.df_disk.specs.Told.{Told}
 use Rattle.df_format.specs.declared.superblock.SuperFields.{SuperFields}
@@ -37,7 +37,7 @@ chain_listed g shown (r ∷ rs) [] a b names apart at = absurd names
 chain_listed g shown (r ∷ rs) (x ∷ xs) a b names apart (inl here) =
     let same : a ≡ r.address = here.0 ∙ names.0 in
     record {
-      inside = subst (λ (n : ℕ). HasAddress g n) (sym same) apart.0;
+      inside = rw (sym same) at apart.0;
       among = ap (λ (t : Bool). t || is_among a rs) (eq-eqb r.address a (sym same));
       shows = ap (λ (n : ℕ). shown.units (BlockPlace n)) same ∙ (asked_is shown r.address (number_of r.checksum) x.1 names.1).shows ∙ ap (λ (y : Block). Some (BlockUnit y)) (sym here.1);
     }
@@ -70,10 +70,10 @@ whole_is sh g shown c n refs same counts apart has =
       names = w.names;
       whole = record {
         links = links;
-        count = subst (λ (k : ℕ). IsCount (sh.layout.block_size - 256) c.trailer_size k) (sym all) counts;
-        inside = λ a b at. subst (λ (l : model.Layout). a ≤ l.blocks) (sym same) (chain_listed g shown refs w.chain a b w.names apart at).inside.1;
+        count = rw (sym all) at counts;
+        inside = λ a b at. rw same (chain_listed g shown refs w.chain a b w.names apart at).inside.1;
         size = text_sized (sh.layout.block_size - 256) c w.chain c.trailer c.trailer_checksum links
-            ∙ full (sh.layout.block_size - 256) c.trailer_size (length w.chain) (subst (λ (k : ℕ). c.trailer_size ≤ (sh.layout.block_size - 256) * k) (sym all) counts.holds);
+            ∙ full (sh.layout.block_size - 256) c.trailer_size (length w.chain) (rw (sym all) at counts.holds);
         shows = λ a b at. (chain_listed g shown refs w.chain a b w.names apart at).shows;
       };
     }
@@ -85,7 +85,7 @@ pub found_answer : (g : GridState) (told : Option Told) (f : SuperFields) (count
     → (sh : Shape) → sh.layout ≡ layout_of g.layout → OfTold g told (λ shown. FoundAnswer sh shown (content_in f) result)
 found_answer g None f count result counts apart walked sh same = tt
 found_answer g (Some t) f count (Ok blocks) counts apart walked sh same =
-    whole_is sh g (shown_of g.layout g.cluster t.shown) (content_in f) count blocks.items same (subst (λ (l : model.Layout). IsCount (l.block_size - 256) f.trailer_size count) (sym same) counts) apart (walked sh same)
+    whole_is sh g (shown_of g.layout g.cluster t.shown) (content_in f) count blocks.items same (rw same counts) apart (walked sh same)
 found_answer g (Some t) f count (Err (Damaged address class)) counts apart walked sh same = walked sh same
 found_answer g (Some t) f count (Err (BadField field value)) counts apart walked sh same = walked sh same
 found_answer g (Some t) f count (Err DiskFault) counts apart walked sh same = tt

@@ -23,7 +23,7 @@ pub fed_answer : (g : GridState) (told : Option Told) (at : Link) (r : Reference
 fed_answer g told at r old new u result refers reads feeds = go result feeds
   where
     body : IsPieceBody g told at u.body
-    body = body_of g told at u (subst (λ (x : Reference). ReadsTrailer g.layout g.cluster told x.address (number_of x.checksum) (Ok (block_of u))) refers reads)
+    body = body_of g told at u (rw refers at reads)
 
     no_damage : (a : ℕ) (class : _) (given : Result (Unit {0}) Fault) → Err (Damaged a class) ≡ bad_of given → ⊥
     no_damage a class (Ok x) is = cc
@@ -37,7 +37,7 @@ fed_answer g told at r old new u result refers reads feeds = go result feeds
 
 -- a reader doesn't blame the disk
 pub fed_blames : (before now : ℕ) (result : Result (Unit {0}) TrailerFault) (given : Result (Unit {0}) Fault) → now ≡ before → result ≡ bad_of given → IsBlamed is_trailer_fault before now result
-fed_blames before now result given same is = subst (λ (r : Result (Unit {0}) TrailerFault). IsBlamed is_trailer_fault before now r) (sym is) (go given)
+fed_blames before now result given same is = rw (sym is) at (go given)
   where
     go : (given : Result (Unit {0}) Fault) → IsBlamed is_trailer_fault before now (bad_of given)
     go (Ok x) = same
@@ -126,7 +126,7 @@ read_refused g (Some t) refs op done k at old new last (BadField field value) si
     ap (λ (l : List ℕ). l ++ fed.piece) (read.is chain names) ∙ ap (λ (l : List ℕ). text_of (drop (length refs - done) chain) ++ l) fed.body.2
     ∙ text_more (shown_of g.layout g.cluster t.shown) refs chain done k at fed.body.0 names size here fed.body.1 in
     refused_whole g.layout op (read.text ++ fed.piece) (text_of chain) field value
-    (subst (λ (l : List ℕ). IsFront l (text_of chain)) (sym said) (text_front (length refs - (done + 1)) chain)) (fed.feeds.refuses g.layout op read.text read.has)
+    (rw (sym said) at (text_front (length refs - (done + 1)) chain)) (fed.feeds.refuses g.layout op read.text read.has)
 
 -- ---- all blocks
 
@@ -138,7 +138,7 @@ apart_inside g (r ∷ rs) (suc k) at apart less here = apart_inside g rs k at ap
 
 -- the same with a copy of the grid
 pub feed_same : (g h : GridState) (told tell : Option Told) (at : Link) (old new : Reader) (result : Result (Unit {0}) TrailerFault) → g ≡ h → told ≡ tell → FeedAnswer g told at old new result → FeedAnswer h tell at old new result
-feed_same g h told tell at old new result e d fed = subst (λ (t : Option Told). FeedAnswer h t at old new result) d (subst (λ (x : GridState). FeedAnswer x told at old new result) e fed)
+feed_same g h told tell at old new result e d fed = subst (λ (t : Option Told). FeedAnswer h t at old new result) d (rw e at fed)
 
 pub read_first : (g : GridState) (told : Option Told) (refs : List Link) (op : ℕ) (reader : Reader) → HasRead g.layout op reader [] → HasReadTo g told refs op 0 reader
 read_first g told refs op reader has = record { text = []; has = has; is = go told }
@@ -159,7 +159,7 @@ read_first g told refs op reader has = record { text = []; has = has; is = go to
 -- the end of the text
 pub text_ends : (g : GridState) (told : Option Told) (refs : List Link) (op done : ℕ) (reader : Reader) (given : Result (Unit {0}) Fault) (result : Result (Unit {0}) TrailerFault) → done ≡ length refs → HasReadTo g told refs op done reader
     → ((layout : Layout) (op : ℕ) (text : List ℕ) → HasRead layout op reader text → given ≡ answer (fault (layout_of layout) op text)) → (IsOk given ↔ (failing_in reader ≡ None)) → result ≡ bad_of given → TextAnswer g told refs op reader result
-text_ends g told refs op done reader given result all read ends whole is = subst (λ (r : Result (Unit {0}) TrailerFault). TextAnswer g told refs op reader r) (sym is) (go given ends whole)
+text_ends g told refs op done reader given result all read ends whole is = rw (sym is) at (go given ends whole)
   where
     zeros : (n : ℕ) → n ≡ length refs → length refs - n ≡ 0
     zeros n e = omega arith

@@ -1,5 +1,5 @@
 -- No block of a trailer is missed where a link breaks its chain, or where the chain is whole.
-use Rattle.std.{proofs.Common.{◌≡◌, ℕ, ◌+◌, ◌-◌, ◌<◌, Some, List, [], ◌∷◌, length, refl, sym, ap, ◌∙◌, subst, arith, inl, inr}, specs.Prelude.{Ok}}
+use Rattle.std.{proofs.Common.{◌≡◌, ℕ, ◌+◌, ◌-◌, ◌<◌, Some, List, [], ◌∷◌, length, refl, sym, ap, ◌∙◌, arith, inl, inr}, specs.Prelude.{Ok}}
 use Rattle.df_theory.specs.{Units.{Block, BlockPlace, BlockUnit, Content, Units}, Shape.{Shape}, Trailer.{InChain, Links}, Opens.{AreLinks, Arrives, IsLink, IsShown}}
 use Rattle.df_model.{specs.Supply.{Shown}, proofs.Laws.{count_le}}
 use Rattle.df_checkpoint.{specs.{Chain.{asked}, Laws.{BrokenIsShown, WholeIsShown}}, proofs.OneLink.{asked_is}}
@@ -18,7 +18,7 @@ not_passed sh shown c n index y ys address sum a k e d block place other count l
     let there = asked_is shown a k block is in
     let same : y.1 ≡ block = one_block shown.units address a y.1 block (sym place) other.3 there.shows in
     let here : links.0 ≡ index = omega (arith, links.1, count) in
-    broken (subst (λ (b : Block). IsLink sh c index b) same (subst (λ (i : ℕ). IsLink sh c i y.1) here links.2))
+    broken (rw same at (rw here at links.2))
 
 -- a walk down the chain ends no later than another one that a block breaks off
 ends_before : (sh : Shape) (shown : Shown) (c : Content) (n index : ℕ) (xs ys : List (ℕ × Block)) (address sum a k e d : ℕ) (block : Block) → Arrives shown.units xs address sum a k → Arrives shown.units ys address sum e d → n ≡ length xs + (index + 1)
@@ -30,7 +30,7 @@ ends_before sh shown c n index [] (y ∷ ys) address sum a k e d block arrives o
 ends_before sh shown c n index (x ∷ xs) [] address sum a k e d block arrives other count links is broken = is_shown shown.units x.1 address sum e d other.0 other.1 arrives.3 arrives.2 arrives.4
 ends_before sh shown c n index (x ∷ xs) (y ∷ ys) address sum a k e d block arrives other count links is broken =
     let same : y.1 ≡ x.1 = one_block shown.units address address y.1 x.1 refl other.3 arrives.3 in
-    ends_before sh shown c links.0 index xs ys x.1.before x.1.before_checksum a k e d block arrives.5 (subst (λ (b : Block). Arrives shown.units ys b.before b.before_checksum e d) same other.5) (omega (arith, count, links.1)) links.3 is broken
+    ends_before sh shown c links.0 index xs ys x.1.before x.1.before_checksum a k e d block arrives.5 (rw same at other.5) (omega (arith, count, links.1)) links.3 is broken
 
 pub broken_shown : BrokenIsShown
 broken_shown sh shown c at bad e d reads =
@@ -48,7 +48,7 @@ within_chain room image c (x ∷ xs) [] address sum a k links shows arrives less
     is_shown image x.1 address sum a k arrives.0 arrives.1 (ap (λ (n : ℕ). image (BlockPlace n)) (sym links.1) ∙ shows x.0 x.1 (inl (refl, refl))) links.2 links.6
 within_chain room image c (x ∷ xs) (y ∷ ys) address sum a k links shows arrives less =
     let same : y.1 ≡ x.1 = one_block image address x.0 y.1 x.1 (sym links.1) arrives.3 (shows x.0 x.1 (inl (refl, refl))) in
-    within_chain room image c xs ys x.1.before x.1.before_checksum a k links.7 (λ e b at. shows e b (inr at)) (subst (λ (b : Block). Arrives image ys b.before b.before_checksum a k) same arrives.5) (omega (arith, less))
+    within_chain room image c xs ys x.1.before x.1.before_checksum a k links.7 (λ e b at. shows e b (inr at)) (rw same at arrives.5) (omega (arith, less))
 
 pub whole_shown : WholeIsShown
 whole_shown sh shown c chain whole e d reads =

@@ -30,7 +30,7 @@ link_is layout f index u sh same is =
       size = eqb-true (length u.body) (piece_size (layout.block_size - 256) f.trailer_size index) three.0 ∙ ap (λ (l : model.Layout). piece_size (l.block_size - 256) f.trailer_size index) (sym same);
       before = λ above.
           let four = and_parts _ _ (either (index == 0) (nat_le 1 u.header.request && nat_le u.header.request layout.blocks) three.1 (ne_eqb index 0 (λ zeros. omega (arith, zeros, above)))) in
-          (leb-true 1 u.header.request four.0, subst (λ (l : model.Layout). u.header.request ≤ l.blocks) (sym same) (leb-true u.header.request layout.blocks four.1));
+          (leb-true 1 u.header.request four.0, rw same (leb-true u.header.request layout.blocks four.1));
     }
 
 -- and one that is the link passes them
@@ -47,7 +47,7 @@ link_passes layout f index u sh same link =
         go false is =
             let above : 0 < i = grind (arith, nat_tests) in
             let h = before above in
-            and_from _ _ (le-leb 1 u.header.request (omega (arith, h.0))) (le-leb u.header.request layout.blocks (subst (λ (l : model.Layout). u.header.request ≤ l.blocks) same h.1))
+            and_from _ _ (le-leb 1 u.header.request (omega (arith, h.0))) (le-leb u.header.request layout.blocks (rw same at h.1))
 
 -- ---- what is shown
 

@@ -1,5 +1,5 @@
 -- What is shown of a trailer fails one test first: it has one chain and one text, and a test is made once those before it passed.
-use Rattle.std.{proofs.{Common.{◌≡◌, ℕ, ◌+◌, ◌-◌, ◌^◌, ◌<◌, ◌≤◌, false, Some, None, List, [], ◌∷◌, length, refl, sym, ap, ◌∙◌, subst, arith, inl, inr}, lemmas.Bool.{cases_order}, lemmas.Option.{same_Some}}, specs.Prelude.{Ok}}
+use Rattle.std.{proofs.{Common.{◌≡◌, ℕ, ◌+◌, ◌-◌, ◌^◌, ◌<◌, ◌≤◌, false, Some, None, List, [], ◌∷◌, length, refl, sym, ap, ◌∙◌, arith, inl, inr}, lemmas.Bool.{cases_order}, lemmas.Option.{same_Some}}, specs.Prelude.{Ok}}
 use Rattle.df_layout.specs.declared.fields.Field.{Field}
 use Rattle.df_theory.specs.{Units.{Block, Content, Parts}, Sessions.{Has}, Shape.{Shape}, Trailer.{InChain, text_of}, Opens.{AreLinks, Arrives, IsLink}}
 use Rattle.df_model.{specs.{Supply.{Shown}, Work.{is_known}}, proofs.Laws.{count_le}}
@@ -21,8 +21,8 @@ one_break sh shown c n i j (v ∷ vs) [] address sum a k e d x y one two first s
 one_break sh shown c n i j (v ∷ vs) (w ∷ ws) address sum a k e d x y one two first second left right is there broken unlinked =
     let same : w.1 ≡ v.1 = one_block shown.units address address w.1 v.1 refl two.3 one.3 in
     let count : right.0 ≡ left.0 = omega (arith, left.1, right.1) in
-    one_break sh shown c left.0 i j vs ws v.1.before v.1.before_checksum a k e d x y one.5 (subst (λ (b : Block). Arrives shown.units ws b.before b.before_checksum e d) same two.5) (omega (arith, first, left.1)) (omega (arith, second, left.1))
-    left.3 (subst (λ (m : ℕ). AreLinks sh c m ws) count right.3) is there broken unlinked
+    one_break sh shown c left.0 i j vs ws v.1.before v.1.before_checksum a k e d x y one.5 (rw same at two.5) (omega (arith, first, left.1)) (omega (arith, second, left.1))
+    left.3 (rw count at right.3) is there broken unlinked
 
 module _ (sh : Shape) (shown : Shown) (c : Content) where
   breaks_once : (a e : ℕ) → IsBroken sh shown c a → IsBroken sh shown c e → a ≡ e
@@ -32,7 +32,7 @@ module _ (sh : Shape) (shown : Shown) (c : Content) where
       let least = count_le room c.trailer_size two.reads.count one.reads.count two.reads.counts one.reads.counts in
       let same : two.reads.count ≡ one.reads.count = omega (arith, most, least) in
       one_break sh shown c one.reads.count one.index two.index one.reads.read two.reads.read c.trailer c.trailer_checksum a one.sum e two.sum one.block two.block one.reads.arrives two.reads.arrives one.at (sym same ∙ two.at)
-      one.reads.links (subst (λ (m : ℕ). AreLinks sh c m two.reads.read) same two.reads.links) one.is two.is one.broken two.broken
+      one.reads.links (rw same at two.reads.links) one.is two.is one.broken two.broken
 
   -- no block breaks a whole chain
   unbroken : (a : ℕ) (chain : List (ℕ × Block)) → IsWholeChain sh shown c chain → IsBroken sh shown c a → ⊥
@@ -69,7 +69,7 @@ module _ (sh : Shape) (shown : Shown) (c : Content) where
   referenced_lower : (a e : ℕ) → a < e → IsReferenced sh shown c a → IsReferenced sh shown c e → ⊥
   referenced_lower a e less one two =
       let same = one_text one.chain two.chain one.parts two.parts one.whole two.whole one.says two.says in
-      let none : two.parts.references a ≡ None = two.least a one.block (subst (λ (l : List (ℕ × Block)). InChain a one.block l) same.0 one.chained) less in
+      let none : two.parts.references a ≡ None = two.least a one.block (rw same.0 at one.chained) less in
       let known = one.known in
       let no : is_known (one.parts.references a) ≡ false = ap (λ (p : Parts). is_known (p.references a)) same.1 ∙ ap is_known none in
       cc
@@ -77,13 +77,13 @@ module _ (sh : Shape) (shown : Shown) (c : Content) where
   untracked_lower : (n m : ℕ) → n < m → IsUntracked sh shown c n → IsUntracked sh shown c m → ⊥
   untracked_lower n m less one two =
       let same = one_text one.chain two.chain one.parts two.parts one.whole two.whole one.says two.says in
-      one.lacks (subst (λ (p : Parts). Has p.sessions n) (sym same.1) (two.least n one.above less))
+      one.lacks (rw (sym same.1) at (two.least n one.above less))
 
   -- the addresses are tested before the ops
   spared : (a n : ℕ) → IsReferenced sh shown c a → IsUntracked sh shown c n → ⊥
   spared a n one two =
       let same = one_text one.chain two.chain one.parts two.parts one.whole two.whole one.says two.says in
-      let none : two.parts.references a ≡ None = two.spare a one.block (subst (λ (l : List (ℕ × Block)). InChain a one.block l) same.0 one.chained) in
+      let none : two.parts.references a ≡ None = two.spare a one.block (rw same.0 at one.chained) in
       let known = one.known in
       let no : is_known (one.parts.references a) ≡ false = ap (λ (p : Parts). is_known (p.references a)) same.1 ∙ ap is_known none in
       cc

@@ -52,7 +52,7 @@ module _ (sh : Shape) (g : GridState) (shown : Shown) (f : SuperFields) (refs : 
 
   reference : IsReference sh.layout (content_in f)
   reference = subst (λ (l : model.Layout). IsReference l (content_in f)) (sym same)
-      (usable_passes g.layout g.cluster (subst (λ (n : ℕ). 0 < n) fields.cluster_is super.cluster) (λ op t. None) (content_with f) fields super).1
+      (usable_passes g.layout g.cluster (rw fields.cluster_is at super.cluster) (λ op t. None) (content_with f) fields super).1
 
   adopted_blocks : (h : GridState) → h.blocks ≡ adopting.chained (adopting.blocks_to (kept_at reader) (g.layout.blocks + 1)) refs → h.blocks ≡ blocks_read sh.layout (parts_of sh.layout (text_of has.chain)) has.chain
   adopted_blocks h is =
@@ -81,7 +81,7 @@ module _ (sh : Shape) (g : GridState) (shown : Shown) (f : SuperFields) (refs : 
         };
         shows = has.whole.shows;
         parts_are = refl;
-        has = subst (λ (l : Layout). HasRead l f.op reader (text_of has.chain)) (sym (ap (λ (y : GridState). y.layout) answer.0)) read;
+        has = rw (sym (ap (λ (y : GridState). y.layout) answer.0)) at read;
         blocks = adopted_blocks h (ap (λ (y : GridState). y.blocks) answer.0);
       }
 
@@ -128,7 +128,7 @@ pub chain_adopted : (g h : GridState) (told : Option Told) (f : SuperFields) (re
 chain_adopted g h None f refs reader result sh same parse fields super named apart has text answer = tt
 chain_adopted g h (Some t) f refs reader result sh same parse fields super named apart has text answer =
     let is : text.text ≡ text_of has.chain = text.is has.chain has.names in
-    adopt_answered sh g (shown_of g.layout g.cluster t.shown) f refs reader same parse fields super named apart has (subst (λ (l : List ℕ). HasRead g.layout f.op reader l) is text.has) text.whole (subst (λ (l : List ℕ). fault (layout_of g.layout) f.op l ≡ None) is text.fine) h result answer
+    adopt_answered sh g (shown_of g.layout g.cluster t.shown) f refs reader same parse fields super named apart has (rw is at text.has) text.whole (rw is at text.fine) h result answer
 
 -- ---- the same, of copies of the grid, of the disk and of the references
 
@@ -143,11 +143,11 @@ fresh_size layout op reader has =
 pub text_same : (g h : GridState) (told tell : Option Told) (refs rs : List Link) (op : ℕ) (old new : Reader) (result : Result (Unit {0}) TrailerFault) → h ≡ g → tell ≡ told → rs ≡ refs
     → ((op : ℕ) → HasRead h.layout op old [] → TextAnswer h tell rs op new result) → HasRead g.layout op old [] → TextAnswer g told refs op new result
 text_same g h told tell refs rs op old new result one two three text fresh =
-    subst (λ (t : Option Told). TextAnswer g t refs op new result) two (subst (λ (l : List Link). TextAnswer g tell l op new result) three
-    (subst (λ (x : GridState). TextAnswer x tell rs op new result) one (text op (subst (λ (x : GridState). HasRead x.layout op old []) (sym one) fresh))))
+    subst (λ (t : Option Told). TextAnswer g t refs op new result) two (rw three at
+    (rw one at (text op (rw (sym one) at fresh))))
 
 pub adopt_same : (g h new : GridState) (refs rs : List Link) (reader : Reader) (result : Result (Unit {0}) TrailerFault) → h ≡ g → rs ≡ refs → AdoptAnswer h new reader rs result → AdoptAnswer g new reader refs result
-adopt_same g h new refs rs reader result one two answer = subst (λ (l : List Link). AdoptAnswer g new reader l result) two (subst (λ (x : GridState). AdoptAnswer x new reader rs result) one answer)
+adopt_same g h new refs rs reader result one two answer = subst (λ (l : List Link). AdoptAnswer g new reader l result) two (rw one at answer)
 
 pub found_same : (g : GridState) (told : Option Told) (f e : SuperFields) (result : Result (ArrayVec Link) TrailerFault) (sh : Shape) → e ≡ f → OfTold g told (λ shown. FoundAnswer sh shown (content_in e) result) → OfTold g told (λ shown. FoundAnswer sh shown (content_in f) result)
-found_same g told f e result sh same answer = subst (λ (x : SuperFields). OfTold g told (λ shown. FoundAnswer sh shown (content_in x) result)) same answer
+found_same g told f e result sh same answer = rw same at answer

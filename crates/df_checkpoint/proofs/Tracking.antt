@@ -39,4 +39,4 @@ complete_gives P g op reader layout complete same gives = subst (λ (l : Layout)
 
 -- the ops that wait, of copies of the sessions and of the superblock
 pub pending_of : (lent ss : List Session) (fields f : SuperFields) (o : Option ℕ) → lent ≡ ss → fields ≡ f → IsPendingReply lent fields.replies fields.op o → IsPendingReply ss f.replies f.op o
-pending_of lent ss fields f o same one pending = subst (λ (l : List Session). IsPendingReply l f.replies f.op o) same (subst (λ (x : SuperFields). IsPendingReply lent x.replies x.op o) one pending)
+pending_of lent ss fields f o same one pending = rw same at (rw one at pending)

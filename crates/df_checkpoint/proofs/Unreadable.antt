@@ -1,5 +1,5 @@
 -- A trailer that is refused is that of no checkpoint that can be read: what is shown has one chain, and it has one text.
-use Rattle.std.{proofs.Common.{◌≡◌, ℕ, ◌+◌, ◌-◌, ◌^◌, ◌<◌, ◌≤◌, Bool, false, Option, Some, None, List, [], ◌∷◌, length, min, refl, sym, ap, ◌∙◌, subst, arith, inl, inr, eq-eqb}, specs.Prelude.{Ok}}
+use Rattle.std.{proofs.Common.{◌≡◌, ℕ, ◌+◌, ◌-◌, ◌^◌, ◌<◌, ◌≤◌, Bool, false, Option, Some, None, List, [], ◌∷◌, length, min, refl, sym, ap, ◌∙◌, arith, inl, inr, eq-eqb}, specs.Prelude.{Ok}}
 use Rattle.df_layout.specs.declared.damage.Class.TheVariants.{Stale}
 use Rattle.df_theory.specs.{Units.{AnyUnit, Block, BlockPlace, BlockUnit, Content, Parts, Units}, Sessions.{Has}, Shape.{Shape}, Trailer.{InChain, IsCount, Links, Says, text_of}, Opens.{Arrives, IsLink, IsReadable, IsShown}, View.{Checkpoint}}
 use Rattle.df_model.{specs.{Supply.{Shown, block_given, class_at, given_if}, Work.{is_known}}, proofs.Laws.{count_le}}
@@ -27,13 +27,13 @@ same_chain room image c (x ∷ xs) (y ∷ ys) address sum one two first second =
     let place : x.0 ≡ y.0 = one.1 ∙ sym two.1 in
     let both : Some (BlockUnit x.1) ≡ Some (BlockUnit y.1) = sym (first x.0 x.1 (inl (refl, refl))) ∙ ap (λ (n : ℕ). image (BlockPlace n)) place ∙ second y.0 y.1 (inl (refl, refl)) in
     let block : x.1 ≡ y.1 = cc in
-    let rest : xs ≡ ys = same_chain room image c xs ys x.1.before x.1.before_checksum one.7 (subst (λ (b : Block). Links room c ys b.before b.before_checksum) (sym block) two.7) (λ a b at. first a b (inr at)) (λ a b at. second a b (inr at)) in
+    let rest : xs ≡ ys = same_chain room image c xs ys x.1.before x.1.before_checksum one.7 (rw (sym block) at two.7) (λ a b at. first a b (inr at)) (λ a b at. second a b (inr at)) in
     ap (λ (n : ℕ). (n, x.1) ∷ xs) place ∙ ap (λ (b : Block). (y.0, b) ∷ xs) block ∙ ap (λ (l : List (ℕ × Block)). (y.0, y.1) ∷ l) rest
 
 -- of a checkpoint that can be read the chain is the whole one
 its_chain : (sh : Shape) (shown : Shown) (c : Content) (chain : List (ℕ × Block)) → IsWholeChain sh shown c chain → (b : Checkpoint) → b.content ≡ c → IsReadable sh shown.units b → chain ≡ b.chain
 its_chain sh shown c chain whole b same readable =
-    same_chain (sh.layout.block_size - 256) shown.units c chain b.chain c.trailer c.trailer_checksum whole.links (subst (λ (d : Content). Links (sh.layout.block_size - 256) d b.chain d.trailer d.trailer_checksum) same readable.sound.trailer.links) whole.shows readable.shown
+    same_chain (sh.layout.block_size - 256) shown.units c chain b.chain c.trailer c.trailer_checksum whole.links (rw same at readable.sound.trailer.links) whole.shows readable.shown
 
 -- a whole chain has a block, so its text is parsed
 pub its_text : (sh : Shape) (op : ℕ) (chain : List (ℕ × Block)) (parts : Parts) → (chain ≡ [] → ⊥) → Says sh op chain parts → sh.parse op (text_of chain) ≡ Some parts
@@ -48,7 +48,7 @@ its_parts : (sh : Shape) (shown : Shown) (c : Content) (chain : List (ℕ × Blo
 its_parts sh shown c chain some whole b same readable =
     let chains = its_chain sh shown c chain whole b same readable in
     its_text sh c.op chain b.parts (some_chain (sh.layout.block_size - 256) c chain some whole.links)
-    (subst (λ (l : List (ℕ × Block)). Says sh c.op l b.parts) (sym chains) (subst (λ (d : Content). Says sh d.op b.chain b.parts) same readable.sound.trailer.says))
+    (rw (sym chains) at (rw same at readable.sound.trailer.says))
 
 -- a text of which a part fails isn't parsed
 pub unparsed : (sh : Shape) (op : ℕ) (text : List ℕ) (f : Fault) → sh.parse ≡ parse_of sh.layout → op ≤ 2 ^ 62 → fault sh.layout op text ≡ Some f → sh.parse op text ≡ None
@@ -67,7 +67,7 @@ referenced_unreadable sh shown c at some bad b same readable =
     let said = its_parts sh shown c bad.chain some bad.whole b same readable in
     let says = bad.says in
     let parts : b.parts ≡ bad.parts = cc in
-    let none : b.parts.references at ≡ None = readable.sound.trailer.spare at bad.block (subst (λ (l : List (ℕ × Block)). InChain at bad.block l) chains bad.chained) in
+    let none : b.parts.references at ≡ None = readable.sound.trailer.spare at bad.block (rw chains at bad.chained) in
     let known = bad.known in
     let no : is_known (bad.parts.references at) ≡ false = ap (λ (p : Parts). is_known (p.references at)) (sym parts) ∙ ap is_known none in cc
 
@@ -79,7 +79,7 @@ untracked_unreadable sh shown c n some bad b same readable =
     let parts : b.parts ≡ bad.parts = cc in
     let above : b.content.replies < n = omega (arith, bad.above, ap (λ (d : Content). d.replies) same) in
     let reached : n ≤ b.content.op = omega (arith, bad.reached, ap (λ (d : Content). d.op) same) in
-    bad.lacks (subst (λ (p : Parts). Has p.sessions n) parts (readable.sound.tracks.pending n above reached))
+    bad.lacks (rw parts at (readable.sound.tracks.pending n above reached))
 
 -- ---- a link
 
@@ -93,7 +93,7 @@ link_there sh image c n index [] (x ∷ xs) address sum a k block arrives count 
     let both : Some (BlockUnit block) ≡ Some (BlockUnit x.1) = sym at ∙ ap (λ (e : ℕ). image (BlockPlace e)) place ∙ shows x.0 x.1 (inl (refl, refl)) in
     let same : x.1 ≡ block = cc in
     let here : length xs ≡ index = omega (arith, count, size) in
-    subst (λ (b : Block). IsLink sh c index b) same (subst (λ (i : ℕ). IsLink sh c i x.1) here (first xs links inside))
+    rw same at (rw here at (first xs links inside))
   where
     first : (xs : List (ℕ × Block)) → Links (sh.layout.block_size - 256) c (x ∷ xs) address sum → ((e : ℕ) (b : Block) → InChain e b (x ∷ xs) → e ≤ sh.layout.blocks) → IsLink sh c (length xs) x.1
     first [] links inside = record { sequence = links.3; place = links.4; size = links.5; before = λ above. absurd (omega arith) }
@@ -102,15 +102,15 @@ link_there sh image c n index (r ∷ rs) (x ∷ xs) address sum a k block arrive
     let place : r.0 ≡ x.0 = arrives.1 ∙ sym links.1 in
     let both : Some (BlockUnit r.1) ≡ Some (BlockUnit x.1) = sym arrives.3 ∙ ap (λ (e : ℕ). image (BlockPlace e)) (sym links.1) ∙ shows x.0 x.1 (inl (refl, refl)) in
     let same : r.1 ≡ x.1 = cc in
-    link_there sh image c (n - 1) index rs xs x.1.before x.1.before_checksum a k block (subst (λ (b : Block). Arrives image rs b.before b.before_checksum a k) same arrives.5) (omega (arith, count)) (omega (arith, size)) links.7
+    link_there sh image c (n - 1) index rs xs x.1.before x.1.before_checksum a k block (rw same at arrives.5) (omega (arith, count)) (omega (arith, size)) links.7
     (λ e b there. inside e b (inr there)) (λ e b there. shows e b (inr there)) at
 
 pub broken_unreadable : BrokenIsUnreadable
 broken_unreadable sh shown c at bad b same readable =
     let room : ℕ = sh.layout.block_size - 256 in
     let trailer = readable.sound.trailer in
-    let counts : IsCount room c.trailer_size (length b.chain) = subst (λ (d : Content). IsCount room d.trailer_size (length b.chain)) same trailer.count in
+    let counts : IsCount room c.trailer_size (length b.chain) = rw same at trailer.count in
     let one = count_le room c.trailer_size bad.reads.count (length b.chain) bad.reads.counts counts in
     let two = count_le room c.trailer_size (length b.chain) bad.reads.count counts bad.reads.counts in
-    let links : Links room c b.chain c.trailer c.trailer_checksum = subst (λ (d : Content). Links room d b.chain d.trailer d.trailer_checksum) same trailer.links in
+    let links : Links room c b.chain c.trailer c.trailer_checksum = rw same at trailer.links in
     bad.broken (link_there sh shown.units c bad.reads.count bad.index bad.reads.read b.chain c.trailer c.trailer_checksum at bad.sum bad.block bad.reads.arrives bad.at (omega (arith, one, two)) links trailer.inside readable.shown (asked_is shown at bad.sum bad.block bad.is).shows)

@@ -68,7 +68,7 @@ module _ (sh : Shape) (shown : Shown) (c : Content) (n index : ℕ) (refs : List
       record {
         chain = walked.chain ++ (at.address, taken.block) ∷ [];
         names = names_more shown refs walked.chain at taken.block walked.names taken.is;
-        arrives = subst (λ (k : ℕ). P before.address k) (sym taken.checksum) (subst (λ (a : ℕ). P a taken.block.before_checksum) (sym taken.address)
+        arrives = rw taken.checksum (rw taken.address
             (arrives_more shown.units walked.chain (at.address, taken.block) c.trailer c.trailer_checksum at.address (number_of at.checksum) walked.arrives above refl is.sum is.kind is.shows));
         links = links_more sh c n index walked.chain (at.address, taken.block) walked.links counted taken.link;
       }
@@ -112,7 +112,7 @@ step_refused g (Some t) f index refs at new (Damaged address class) answer sh sa
     subst (λ (x : ℕ). IsLacking sh (shown_of g.layout g.cluster t.shown) (content_in f) x class) (sym a.0) (step_lacking sh (shown_of g.layout g.cluster t.shown) (content_in f) n index refs at walked count class (wide sh g f n same counts) a.1)
 step_refused g (Some t) f index refs at new (BadField field value) answer sh same = λ n counts count walked.
     let a = answer sh same in
-    (a.0, subst (λ (x : ℕ). IsBroken sh (shown_of g.layout g.cluster t.shown) (content_in f) x) (sym a.1) (step_broken sh (shown_of g.layout g.cluster t.shown) (content_in f) n index refs at walked count a.2.block (wide sh g f n same counts) a.2.is a.2.broken))
+    (a.0, rw (sym a.1) at (step_broken sh (shown_of g.layout g.cluster t.shown) (content_in f) n index refs at walked count a.2.block (wide sh g f n same counts) a.2.is a.2.broken))
 step_refused g (Some t) f index refs at new DiskFault answer sh same = λ n counts count walked. tt
 
 -- a link isn't read twice
@@ -126,7 +126,7 @@ pub step_more : (g : GridState) (told : Option Told) (f : SuperFields) (index : 
 step_more g None f index refs at new before answer inside more sh same = tt
 step_more g (Some t) f index refs at new before answer inside more sh same = λ n counts count walked.
     let a = answer sh same in
-    (subst (λ (rs : List Link). HasWalked sh (shown_of g.layout g.cluster t.shown) (content_in f) n rs before) (sym more) (step_taken sh (shown_of g.layout g.cluster t.shown) (content_in f) n index refs at walked count before (omega (arith, inside.0)) a), a.first)
+    (rw (sym more) at (step_taken sh (shown_of g.layout g.cluster t.shown) (content_in f) n index refs at walked count before (omega (arith, inside.0)) a), a.first)
 
 among_last : (a : ℕ) (refs : List Link) (r : Link) → is_among a refs ≡ false → (r.address ≡ a → ⊥) → is_among a (refs ++ r ∷ []) ≡ false
 among_last a [] r none apart = ap (λ (t : Bool). t || false) (ne_eqb r.address a apart)
@@ -156,7 +156,7 @@ abbrev pub Whole : GridState → Option Told → SuperFields → ℕ → Result 
 Whole g told f count result = (sh : Shape) → sh.layout ≡ layout_of g.layout → OfTold g told (λ shown. WalkAnswer sh shown (content_in f) count result)
 
 same_step : (g h : GridState) (told tell : Option Told) (f : SuperFields) (index : ℕ) (refs : List Link) (at : Link) (new : List Link) (result : Result Link TrailerFault) → g ≡ h → told ≡ tell → Step g told f index refs at new result → Step h tell f index refs at new result
-same_step g h told tell f index refs at new result e d step = subst (λ (t : Option Told). Step h t f index refs at new result) d (subst (λ (x : GridState). Step x told f index refs at new result) e step)
+same_step g h told tell f index refs at new result e d step = subst (λ (t : Option Told). Step h t f index refs at new result) d (rw e at step)
 
 -- the walk ends where a step does
 pub walk_refused : (g h : GridState) (told tell : Option Told) (f : SuperFields) (count done index : ℕ) (refs : List Link) (at : Link) (new : List Link) (e : TrailerFault) → g ≡ h → told ≡ tell → Step g told f index refs at new (Err e)

@@ -1,5 +1,5 @@
 -- The view of a copy beside that of its source: the same state in another layout, with the k-th referenced block at address k.
-use Rattle.std.{proofs.{Common.{◌≡◌, ◌↔◌, inl, inr, ℕ, zero, suc, ◌+◌, ◌<◌, ◌≤◌, List, [], ◌∷◌, length, map, Option, Some, None, refl, sym, ◌∙◌, ap, subst, arith}, lemmas.Bool.{cases_eq}, lemmas.List.{length-map}, lemmas.Option.{same_Some, slice_get_within}}, specs.{Prelude.{slice_get}, List.{range_with_len}}}
+use Rattle.std.{proofs.{Common.{◌≡◌, ◌↔◌, inl, inr, ℕ, zero, suc, ◌+◌, ◌<◌, ◌≤◌, List, [], ◌∷◌, length, map, Option, Some, None, refl, sym, ◌∙◌, ap, arith}, lemmas.Bool.{cases_eq}, lemmas.List.{length-map}, lemmas.Option.{same_Some, slice_get_within}}, specs.{Prelude.{slice_get}, List.{range_with_len}}}
 use Rattle.df_layout.specs.declared.layout.Layout.{Layout}
 use Rattle.df_format.specs.{declared.superblock.SuperFields.{SuperFields}, Copies.{content_with}, Message.{Message}}
 use Rattle.df_sessions.specs.Requests.{session_of, sessions_of}
@@ -92,7 +92,7 @@ entry_first a c (Some d) rest is = let same : d ≡ c = cc in (0, ap (λ (k : �
 listed : (f : ℕ → Option ℕ) (a n k c : ℕ) → a ≤ k → k < a + n → f k ≡ Some c → (i : ℕ) × (slice_get (entries f (range_with_len a n)) i ≡ Some (k, c))
 listed f a zero k c from inside known = absurd (omega (arith, from, inside))
 listed f a (suc n) k c from inside known = elim (cases_eq a k) [
-  | inl here ↦ subst (λ (j : ℕ). (i : ℕ) × (slice_get (entry a (f a) (entries f (range_with_len (a + 1) n))) i ≡ Some (j, c))) here (entry_first a c (f a) (entries f (range_with_len (a + 1) n)) (ap f here ∙ known))
+  | inl here ↦ rw (← here) (entry_first a c (f a) (entries f (range_with_len (a + 1) n)) (ap f here ∙ known))
   | inr other ↦ entry_later a (f a) (entries f (range_with_len (a + 1) n)) (k, c) (listed f (a + 1) n k c (omega (arith, from, other)) (omega (arith, inside)) known)
 ]
 
@@ -231,8 +231,8 @@ module _ (layout : Layout) (s : State) (rs bs : List Message) (image : Units) (v
         let same : found.0 ≡ one.from = same_Some found.0 one.from (sym found.1 ∙ one.at) in
         let here : found.0.0 ≡ a = ap first same ∙ sym one.address in
         let block : block_of one.unit ≡ b = sym one.block in (
-          subst (λ (k : ℕ). from (BlockPlace k) ≡ Some (BlockUnit b)) here (found.2 ∙ ap (λ (x : Block). Some (BlockUnit x)) block),
-          subst (λ (k : ℕ). v.checkpoint.parts.references k ≡ Some b.checksum) here (source.back found.0.0 (number_of one.unit.header.checksum) found.3 ∙ ap (λ (x : Block). Some x.checksum) block),
+          rw here at (found.2 ∙ ap (λ (x : Block). Some (BlockUnit x)) block),
+          rw here at (source.back found.0.0 (number_of one.unit.header.checksum) found.3 ∙ ap (λ (x : Block). Some x.checksum) block),
         )
 
     referenced_all : (a sum : ℕ) → v.checkpoint.parts.references a ≡ Some sum → (b : Block) × InChain a b blocks
@@ -261,7 +261,7 @@ module _ (layout : Layout) (s : State) (rs bs : List Message) (image : Units) (v
 
     pub copy_alike : IsCopyOf (layout_of layout) from v target u
     copy_alike = record {
-      content = subst (λ (d : Content). SameButLayout (layout_of layout) d u.checkpoint.content) (sym source.content) same_content;
+      content = rw (sym source.content) at same_content;
       root = sym source.root;
       sessions = sym source.sessions;
       rest = (source.tail, refl);

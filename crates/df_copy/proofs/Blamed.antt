@@ -1,5 +1,5 @@
 -- What is said of endings: which disk each blames, and what is left where a call is Ok.
-use Rattle.std.{proofs.Common.{◌≡◌, ◌∙◌, ℕ, Result, Ok, Err, refl, subst}, specs.Prelude.{OnOk}}
+use Rattle.std.{proofs.Common.{◌≡◌, ◌∙◌, ℕ, Result, Ok, Err, refl}, specs.Prelude.{OnOk}}
 use Rattle.df_base.specs.Causes.{Blamed, IsBlamed}
 use Rattle.df_model.specs.{Faults.{is_lookup_fault, is_read_fault}, declared.reading.LookupError.{LookupError}, declared.reading.ReadError.{ReadError}}
 use Rattle.df_model.specs.declared.reading.LookupError.TheVariants as lookup
@@ -64,6 +64,6 @@ leaves_then {r = Ok y} first behind = record { kept = behind.kept ∙ first.kept
 leaves_then {c = c} {r = Err e} first behind = record {
   kept = tt;
   same = behind.same ∙ first.same;
-  blames_source = subst (λ (n : ℕ). Blamed (is_source e) n c.faults) first.blames_source behind.blames_source;
-  blames_target = subst (λ (n : ℕ). Blamed (is_target e) n c.target_faults) first.blames_target behind.blames_target;
+  blames_source = rw first.blames_source at behind.blames_source;
+  blames_target = rw first.blames_target at behind.blames_target;
 }

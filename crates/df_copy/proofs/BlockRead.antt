@@ -20,7 +20,7 @@ known_by some number = ap is_known (sym number ∙ ap number_in some)
 -- a block of a live address isn't refused
 pub live_there : (s : State) (from : Option Told) (address : ℕ) (e : ReadError) → is_known (sum_at address (memory s).blocks.live) ≡ true → IsReadBlock address s from (Err e) → e ≡ read.NotLive → ⊥
 live_there s from address e known exact is =
-    none-some read.NotLive (sym (ap (λ (b : Bool). first_refusal {E = ReadError} ((not b, read.NotLive) ∷ [])) known) ∙ subst (λ (x : ReadError). IsReadBlock address s from (Err x)) is exact)
+    none-some read.NotLive (sym (ap (λ (b : Bool). first_refusal {E = ReadError} ((not b, read.NotLive) ∷ [])) known) ∙ rw is at exact)
 
 module _ (s : State) (from : Option Told) (address : ℕ) where
   pub block_is : (u : Message) → grid.IsKnownBlock Block s.file.layout s.file.cluster address (sum_at address s.blocks.live) u → IsReadBlock address s from (Ok (block_of u)) → IsBlockAt s from address u

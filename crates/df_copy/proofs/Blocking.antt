@@ -83,7 +83,7 @@ module _ (layout : Layout) (s : State) (rs : List Message) (from old : Option To
       before = is.before;
       count = is.count;
       of = of_next None found;
-      is = subst (λ (v : Target). IsTarget layout s.file.cluster rs is.bs v) (sym same) is.is;
+      is = rw (sym same) at is.is;
       written = turn_skips s.file from Fit (events_of layout) all_tests old (left_from layout s b) new is.bs is.written (left_from layout s (b + 1)) newer (left_is None found) unwritten;
     }
 
@@ -101,13 +101,13 @@ module _ (layout : Layout) (s : State) (rs : List Message) (from old : Option To
             | inr last ↦ (
               (b + 1, sum),
               ap (slice_get (references (memory s))) (last.0 ∙ sym is.count) ∙ ap (λ (l : List (ℕ × ℕ)). slice_get l (length is.before)) (of_next (Some sum) found) ∙ split_at is.before (behind_of s (b + 1)) (b + 1, sum),
-              subst (λ (v : Message). IsBlockAt s from (b + 1) v) last.1 one.is,
+              rw last.1 at one.is,
             )
           ];
         };
         fit = λ i u at. elim (push_cases is.bs x i u at) [
           | inl there ↦ is.written.fit.fit i u there
-          | inr last ↦ subst (λ (v : Message). 256 + length v.body ≤ layout.block_size) last.1 one.fits
+          | inr last ↦ rw last.1 at one.fits
         ];
       }
 

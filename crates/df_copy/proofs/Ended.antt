@@ -1,5 +1,5 @@
 -- What the status of a copy blames, and what becomes of a source that isn't opened.
-use Rattle.std.{proofs.Common.{◌≡◌, inl, inr, ℕ, ◌<◌, ◌≤◌, Bool, true, false, List, [], ◌∷◌, length, map, Option, Some, None, Err, refl, sym, ◌∙◌, ap, subst, arith}, specs.Prelude.{IfNone, get_or}}
+use Rattle.std.{proofs.Common.{◌≡◌, inl, inr, ℕ, ◌<◌, ◌≤◌, Bool, true, false, List, [], ◌∷◌, length, map, Option, Some, None, Err, refl, sym, ◌∙◌, ap, arith}, specs.Prelude.{IfNone, get_or}}
 use Rattle.df_base.specs.{Causes.{Blamed}, Image.{IsImage}, Log.{Sync}}
 use Rattle.df_disk.specs.Told.{Told, after}
 use Rattle.df_layout.specs.declared.layout.Layout.{Layout}
@@ -73,7 +73,7 @@ not_opened layout own t old new status e whole told answer silent barrier stops 
   | inl fault ↦ inr (inl (record { fault = (prints.failing fault).0; silent = record { second = silent; written = (prints.failing fault).1 }; disk = stops whole fault }))
   | inr other ↦ inl (record {
     error = e;
-    why = (subst (λ (o : Option Told). TellsSurvey own o (Err e)) told answer) whole;
+    why = (rw told at answer) whole;
     other = other.0;
     prints = prints.other other.0;
     second = silent;
@@ -87,7 +87,7 @@ not_probed layout t old new status e told answer same silent prints = elim (open
   | inl fault ↦ inl ((λ i. record { first = same i; second = silent i; written = (prints.failing fault).1 i }), inr (prints.failing fault).0)
   | inr other ↦ inr (inl (record {
     error = e;
-    why = superblock_refused t e other.0 (subst (λ (o : Option Told). TellsLayout o (Err e)) told answer);
+    why = superblock_refused t e other.0 (rw told at answer);
     other = other.0;
     prints = prints.other other.0;
     second = silent;
@@ -100,7 +100,7 @@ not_probed layout t old new status e told answer same silent prints = elim (open
 pub one_meaning : (words : List (List ℕ)) (layout other : Layout) → OneLayout → MeansLayout words layout → MeansLayout words other → layout ≡ other
 one_meaning words layout other one m n =
     let same : m.0 ≡ n.0 = ap (λ (ws : List (List ℕ)). get_or ws 0 []) (sym m.1 ∙ n.1) in
-    one n.0 layout other (subst (λ (name : List ℕ). NamesLayout name layout) same m.2) n.2
+    one n.0 layout other (rw same at m.2) n.2
 
 -- one word is the name
 pub one_name : {X : Type 0} (bytes : X → List ℕ) (words : List X) (word : X) (name : List ℕ) (r : Option Layout) → word ≡ get_or words 0 word → 1 ≤ length words → length words < 2 → name ≡ bytes word
@@ -110,4 +110,4 @@ one_name bytes [] word name None at least below is none = absurd (omega (arith, 
 one_name bytes (w ∷ v ∷ words) word name None at least below is none = absurd (omega (arith, below))
 one_name bytes (w ∷ []) word name None at least below is none = λ layout means.
     let same : means.0 ≡ name = ap (λ (ws : List (List ℕ)). get_or ws 0 []) (sym means.1) ∙ ap bytes (sym at) ∙ sym is in
-    none layout (subst (λ (n : List ℕ). NamesLayout n layout) same means.2)
+    none layout (rw same at means.2)

@@ -69,9 +69,9 @@ pub units_join : {T U : Type 0} (s kept : State) (t mid n : Target) (from same o
 units_join {T = T} s kept t mid n from same old written new x r state told keeps begun first blocks =
     let rs : List Message = first.0 in
     let onward : (rs : List Message) → IsTarget t.layout s.file.cluster rs [] mid → CopiesBlocks t.layout s rs n from written new r =
-    subst (λ (l : Layout). (rs : List Message) → IsTarget l s.file.cluster rs [] mid → CopiesBlocks l s rs n from written new r) keeps.layout_is
-    (subst (λ (q : State). (rs : List Message) → IsTarget mid.layout q.file.cluster rs [] mid → CopiesBlocks mid.layout q rs n from written new r) state
-    (subst (λ (f : Option Told). (rs : List Message) → IsTarget mid.layout kept.file.cluster rs [] mid → CopiesBlocks mid.layout kept rs n f written new r) told blocks)) in
+    rw (← keeps.layout_is)
+    (rw state at
+    (rw told at blocks)) in
     let is : IsTarget t.layout s.file.cluster rs [] mid = record { layout_is = keeps.layout_is; grid = keeps.grid ∙ begun.grid; checks = first.4; copied = keeps.copied ∙ begun.copied } in
     units_go T s t n from old written rs first.1 first.2 first.3 first.5 new r (onward rs is)
 
@@ -144,7 +144,7 @@ module _ (T : Type 0) (layout : Layout) (s : State) (from old : Option Told) whe
     units_end new (Damaged a b) stops = let both = units_refused (Damaged a b) new stops in record { writes = both.0; judged = both.1 }
 
     pub planned_units : (t n : Target) (new : Option Told) (e : Ending) → t.layout ≡ layout → CopiesUnits {T = T} s t n from begun new (Err e) → CopiesPlanned {T = T} layout s from old new (Err e)
-    planned_units t n new e same units = units_end new e (subst (λ (l : Layout). Stops new l e) same units)
+    planned_units t n new e same units = units_end new e (rw same at units)
 
     -- all units are written, and the trailer and the superblock follow
     module _ (c : Copied layout s from) (all : IsAll c) (mid : Option Told) (units : mid ≡ after_all (units_written layout c.replies c.blocks) begun) (none : OverShown s.file from (λ shown. first_refusal (unit_tests layout shown (memory s)) ≡ None)) where
@@ -174,7 +174,7 @@ module _ (T : Type 0) (layout : Layout) (s : State) (from old : Option Told) whe
 
       pub planned_fails : (new : Option Told) → Finishes {T = T} layout s c.replies c.blocks mid new (Err TargetFails) → CopiesPlanned {T = T} layout s from old new (Err TargetFails)
       planned_fails new finishes = record {
-        writes = (c, inr (all, subst (λ (l : List Event). AddsPart l old new) (sym in_one) (all_then front (trailer ++ ends) old mid new (behind_ring c.replies c.blocks mid units) finishes)));
+        writes = (c, inr (all, rw (sym in_one) at (all_then front (trailer ++ ends) old mid new (behind_ring c.replies c.blocks mid units) finishes)));
         judged = silent;
       }
 
@@ -190,10 +190,10 @@ module _ (T : Type 0) (layout : Layout) (s : State) (from old : Option Told) whe
     pub planned_join : {U : Type 0} (kept : State) (t n : Target) (mid new : Option Told) (x : U) (r : Result T Ending) → kept ≡ s → t.layout ≡ layout → n.layout ≡ layout → CopiesUnits {T = U} s t n from begun mid (Ok x)
         → ((rs bs : List Message) → IsTarget n.layout kept.file.cluster rs bs n → length bs ≡ length (references (memory kept)) → Finishes {T = T} n.layout kept rs bs mid new r) → IfErr r (λ e. e ≡ TargetFails) → CopiesPlanned {T = T} layout s from old new r
     planned_join kept t n mid new x r state same last units finishes only =
-        let all : AllCopied layout mid n = subst (λ (l : Layout). AllCopied l mid n) same units in
+        let all : AllCopied layout mid n = rw same at units in
         let onward : (rs bs : List Message) → IsTarget layout s.file.cluster rs bs n → length bs ≡ length (references (memory s)) → Finishes {T = T} layout s rs bs mid new r =
-        subst (λ (l : Layout). (rs bs : List Message) → IsTarget l s.file.cluster rs bs n → length bs ≡ length (references (memory s)) → Finishes {T = T} l s rs bs mid new r) last
-        (subst (λ (q : State). (rs bs : List Message) → IsTarget n.layout q.file.cluster rs bs n → length bs ≡ length (references (memory q)) → Finishes {T = T} n.layout q rs bs mid new r) state finishes) in
+        rw (← last)
+        (rw state at finishes) in
         planned_ends all.0 all.1 mid all.2 all.4 new r only (onward all.0.replies all.0.blocks all.3 all.1.blocks)
 
   -- ---- the tests that read nothing

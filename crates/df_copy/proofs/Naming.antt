@@ -1,5 +1,5 @@
 -- The superblock of a copy names the last block of its trailer, as the grid does.
-use Rattle.std.proofs.Common.{◌≡◌, ℕ, zero, suc, List, Option, Some, None, ap, subst}
+use Rattle.std.proofs.Common.{◌≡◌, ℕ, zero, suc, List, Option, Some, None, ap}
 use Rattle.df_base.proofs.Laws.{AreBytes-check_of, length-check_of}
 use Rattle.df_layout.specs.declared.layout.Layout.{Layout}
 use Rattle.df_format.{specs.{declared.reference.Reference.{Reference}, Message.{Message}, Spelling.{IsCheck, no_checksum}}, proofs.Laws.{no_check}}
@@ -25,9 +25,9 @@ pub named_super : (layout : Layout) (s : State) (rs bs : List Message) (t : Targ
     → with_trailer r size (fields_in t.layout s.fields t.checks) ≡ superblock_of layout s rs bs
 named_super layout s rs bs t r size is names given long =
     let last : Option Message = last_message (trailer_of layout s (moved_from 1 bs)) in
-    let named = named_is last r (subst (λ (x : Option (ℕ × ℕ)). NamesLast x r) is.last names) given (last_check (begun_grid (grid_with layout s.file.cluster (moved_from 1 bs)) s.fields.boot (trailer_blocks layout (memory s))) (sequence_of s) (text_with layout s (moved_from 1 bs)) (trailer_blocks layout (memory s))) in
+    let named = named_is last r (rw is.last at names) given (last_check (begun_grid (grid_with layout s.file.cluster (moved_from 1 bs)) s.fields.boot (trailer_blocks layout (memory s))) (sequence_of s) (text_with layout s (moved_from 1 bs)) (trailer_blocks layout (memory s))) in
     λ i. record (fields_in (is.layout_is i) s.fields (is.checks i)) { trailer_address = named.0 i; trailer_checksum = named.1 i; trailer_size = long i }
 
 -- zeros name none
 pub none_is_named : (o : Option (ℕ × ℕ)) (r : Reference) → None ≡ o → (r.address ≡ 0) × (r.checksum ≡ no_checksum) → NamesLast o r
-none_is_named o r none zeros = subst (λ (x : Option (ℕ × ℕ)). NamesLast x r) none zeros
+none_is_named o r none zeros = rw (← none) zeros

@@ -262,13 +262,13 @@ file_copied layout t s r first second later written wrote status whole state usa
   result = r;
   copies = copies;
   prints = prints;
-  spares = λ o is. copy_spares layout s first o later r (subst (λ (x : Option Told). WritesCopy layout s first x later r) is copies.writes);
+  spares = λ o is. copy_spares layout s first o later r (rw is at copies.writes);
   holds = λ m o n done one two three empty view found.
       let copied : CopiesInto layout s (Some m) (Some o) (Some n) (Ok tt) =
       subst (CopiesInto layout s (Some m) (Some o) (Some n)) done
-      (subst (λ (x : Option Told). CopiesInto layout s (Some m) (Some o) x r) three (subst (λ (x : Option Told). CopiesInto layout s (Some m) x later r) two (subst (λ (x : Option Told). CopiesInto layout s x second later r) one copies))) in
+      (rw three at (rw two at (rw one at copies))) in
       all_holds layout t m whole s state usable live (subst (MendsAll t s) one mends) view found o n empty copied;
   stops = λ m o one two empty view found.
       each_stops layout t m whole s state usable live (subst (MendsAll t s) one mends) view found o later empty r
-      (subst (λ (x : Option Told). CopiesInto layout s (Some m) x later r) two (subst (λ (x : Option Told). CopiesInto layout s x second later r) one copies));
+      (rw two at (rw one at copies));
 }

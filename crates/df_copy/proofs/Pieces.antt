@@ -116,7 +116,7 @@ module _ (sequence : ℕ) (text : List ℕ) (bytes : AreBytes text) (c : Content
       owner = refl;
       fits = omega (arith, size, g.layout.block_size_within);
       body = record { size = refl; checksum = refl; each = AreBytes-take (room g) (drop (room g * length g.blocks.written) text) (AreBytes-drop (room g * length g.blocks.written) text bytes) };
-      own = subst (λ (k : ℕ). own_place g.layout Grid u.header ≡ Some (place_in Grid k)) address
+      own = rw (← address)
           (is_own g.layout Grid u.header (place_in Grid u.header.op) (record { op = refl; named = refl; has = (omega (arith, address, is.count, some), omega (arith, address, inside)) }));
     }
 
@@ -152,7 +152,7 @@ module _ (sequence : ℕ) (text : List ℕ) (bytes : AreBytes text) (c : Content
         how_many,
         body_size,
         refl,
-        subst (λ (a : ℕ). Links (room g) c chain a (number_of (spelled 16 (first_sum g.blocks.written)))) (sym before)
+        rw (sym before) at
             (subst (Links (room g) c chain (last_address chain)) (sym (is.back ∙ ap first_sum is.pairs ∙ listed_sum chain)) is.links),
       );
       text_is = body_text;
@@ -177,7 +177,7 @@ module _ (sequence : ℕ) (text : List ℕ) (bytes : AreBytes text) (c : Content
   pub pieces_are : (g : GridState) → IsWriting sequence g → (n next : ℕ) (chain : List (ℕ × Block)) → IsPieced next g chain → g.blocks.left ≡ range_with_len next n → next + n ≤ g.layout.blocks + 1 → ArePieces g n next chain
   pieces_are g writing zero next chain is left inside =
       let plain : next ≡ next + 0 = omega arith in
-      record { row = tt; pieced = subst (λ (k : ℕ). IsPieced k g chain) plain is }
+      record { row = tt; pieced = rw plain at is }
   pieces_are g writing (suc n) next chain is left inside =
       let low : next ≤ g.layout.blocks = omega (arith, inside) in
       let u = next_piece g sequence text in
@@ -186,5 +186,5 @@ module _ (sequence : ℕ) (text : List ℕ) (bytes : AreBytes text) (c : Content
       (behind_left g writing next chain is (range_with_len (next + 1) n) left low) (omega (arith, inside)) in
       record {
         row = (ap first_of left, piece_unit g writing next chain is (range_with_len (next + 1) n) left low, rest.row);
-        pieced = subst (λ (k : ℕ). IsPieced k (grid_behind (grid_after_piece g sequence text) sequence text n) (chain_with (pieces_from (grid_after_piece g sequence text) sequence text n) ((u.header.op, block_of u) ∷ chain))) on rest.pieced;
+        pieced = rw on at rest.pieced;
       }

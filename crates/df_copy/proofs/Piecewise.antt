@@ -1,5 +1,5 @@
 -- A trailer is written block by block: what stands after each of them.
-use Rattle.std.{proofs.Common.{◌≡◌, ℕ, zero, suc, ◌+◌, ◌-◌, ◌<◌, ◌≤◌, List, [], ◌∷◌, ◌++◌, length, Option, Some, refl, sym, ◌∙◌, ap, subst, arith, append_assoc}, specs.{Prelude.{slice_get}, List.{range_with_len}}}
+use Rattle.std.{proofs.Common.{◌≡◌, ℕ, zero, suc, ◌+◌, ◌-◌, ◌<◌, ◌≤◌, List, [], ◌∷◌, ◌++◌, length, Option, Some, refl, sym, ◌∙◌, ap, arith, append_assoc}, specs.{Prelude.{slice_get}, List.{range_with_len}}}
 use Rattle.df_base.{specs.Log.{Event}, proofs.Laws.{minus_zero, plus_zero}}
 use Rattle.df_disk.{specs.{Told.{Told}, Adds.{AddsPart, after_all}}, proofs.Laws.{after_append, all_then, part_then}}
 use Rattle.df_layout.specs.declared.layout.Layout.{Layout}
@@ -127,7 +127,7 @@ module _ (sequence : ℕ) (text : List ℕ) where
 
     pub piece_fails : (m : ℕ) → n < m → mid ≡ after_all (events n) old → AddsPart (made_events layout (next (grid g n))) mid new → AddsPart (events m) old new
     piece_fails m less before now =
-        subst (λ (l : List Event). AddsPart l old new) (sym (ap (all_events (made_events layout)) (written_split g n (m - suc n) m (omega (arith, less))) ∙ events_join (made_events layout) (written g n) (next (grid g n) ∷ rest)))
+        rw (sym (ap (all_events (made_events layout)) (written_split g n (m - suc n) m (omega (arith, less))) ∙ events_join (made_events layout) (written g n) (next (grid g n) ∷ rest))) at
         (all_then (events n) (all_events (made_events layout) (next (grid g n) ∷ rest)) old mid new before (part_then (made_events layout (next (grid g n))) (all_events (made_events layout) rest) mid new now))
       where
         rest : List Message

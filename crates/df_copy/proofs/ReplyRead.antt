@@ -39,10 +39,10 @@ place_in_list [] k x at = absurd (none-some x at)
 place_in_list (y ∷ ys) zero x at =
     subst (λ (n : ℕ). n < suc (length ys)) (sym (ap (λ (b : Bool). if b then 0 else suc (place_of_client x.client (sessions_of ys))) (eq-eqb y.client x.client (ap (λ (z : told.Session). z.client) (same_Some y x at))))) (omega arith)
 place_in_list (y ∷ ys) (suc k) x at = elim (cases_eq y.client x.client) [
-  | inl same ↦ subst (λ (n : ℕ). n < suc (length ys)) (sym (ap (λ (b : Bool). if b then 0 else suc (place_of_client x.client (sessions_of ys))) (eq-eqb y.client x.client same))) (omega arith)
+  | inl same ↦ rw ((ap (λ (b : Bool). if b then 0 else suc (place_of_client x.client (sessions_of ys))) (eq-eqb y.client x.client same))) (omega arith)
   | inr other ↦
       let later = place_in_list ys k x at in
-      subst (λ (n : ℕ). n < suc (length ys)) (sym (ap (λ (b : Bool). if b then 0 else suc (place_of_client x.client (sessions_of ys))) (ne_eqb y.client x.client other))) (omega (arith, later))
+      rw ((ap (λ (b : Bool). if b then 0 else suc (place_of_client x.client (sessions_of ys))) (ne_eqb y.client x.client other))) (omega (arith, later))
 ]
 
 pub place_within : (s : State) (k : ℕ) (x : told.Session) → slice_get s.table.sessions k ≡ Some x → place_for s x.client < length s.table.sessions
@@ -92,16 +92,16 @@ served s k x is rest at =
 
 -- so no read of it is refused
 pub not_no_client : (s : State) (told : Option Told) (client : ℕ) (e : LookupError) → first_refusal (lookup_refusals (memory s) client) ≡ None → IsReadReply client s told (Err e) → e ≡ lookup.NoClient → ⊥
-not_no_client s told client e none exact is = none-some lookup.NoClient (sym none ∙ subst (λ (x : LookupError). IsReadReply client s told (Err x)) is exact)
+not_no_client s told client e none exact is = none-some lookup.NoClient (sym none ∙ rw is at exact)
 
 pub not_pending : (s : State) (told : Option Told) (client : ℕ) (e : LookupError) → first_refusal (lookup_refusals (memory s) client) ≡ None → IsReadReply client s told (Err e) → (op : ℕ) → e ≡ lookup.ReplyPending op → ⊥
-not_pending s told client e none exact op is = none-some (lookup.ReplyPending op) (sym none ∙ subst (λ (x : LookupError). IsReadReply client s told (Err x)) is exact)
+not_pending s told client e none exact op is = none-some (lookup.ReplyPending op) (sym none ∙ rw is at exact)
 
 -- ---- what is read
 
 module _ (s : State) (from : Option Told) (client place : ℕ) where
   pub reply_is : (u : Message) → place_for s client ≡ place → IsKnownUnit Reply s.file (place_in ClientReplies (place_for s client)) (reply_sum (memory s) (place_for s client)) u → IsReadReply client s from (Ok (message_of u)) → IsReplyAt s from place u
-  reply_is u is known exact = record { known = subst (λ (k : ℕ). IsKnownUnit Reply s.file (place_in ClientReplies k) (reply_sum (memory s) k) u) is known; shown = there from exact }
+  reply_is u is known exact = record { known = rw is at known; shown = there from exact }
     where
       there : (o : Option Told) → IsReadReply client s o (Ok (message_of u)) → OverShown s.file o (λ shown. reply_at shown (reply_sum (memory s) place) place ≡ Ok (message_of u))
       there None read = tt
@@ -117,7 +117,7 @@ module _ (s : State) (from : Option Told) (client place : ℕ) where
       there : (o : Option Told) → IsReadReply client s o (Err (lookup.Damaged at class)) → OverShown s.file o (λ shown. reply_test layout place (reply_at shown (reply_sum (memory s) place) place) ≡ (true, Damaged at class))
       there None read = tt
       there (Some t) read =
-          ap (λ (r : Result units.Message Class). reply_test layout place r) (subst (λ (k : ℕ). reply_at (shown_of s.file t.shown) (reply_sum (memory s) k) k ≡ Err class) is (sym read.2))
+          ap (λ (r : Result units.Message Class). reply_test layout place r) (rw is at (sym read.2))
           ∙ ap (λ (p : Place). (true, Damaged p class)) (ap (place_in ClientReplies) (sym is) ∙ sym read.1)
 
 -- ---- what is written
@@ -128,7 +128,7 @@ has_place s layout client sum u known less fits =
     let slot = (valid_belongs s.file.layout s.file.cluster (place_in ClientReplies (place_for s client)) u known.is).belongs.slot in
     record {
       own = s.file.layout;
-      is = subst (λ (c : ℕ). IsUnit s.file.layout c (place_in ClientReplies u.header.slot) u) (sym known.is.owner) (subst (λ (k : ℕ). IsUnit s.file.layout s.file.cluster (place_in ClientReplies k) u) (sym slot) known.is);
+      is = rw (sym known.is.owner) at (rw (sym slot) at known.is);
       kind = known.of_kind;
       inside = omega (arith, slot, less, fits);
     }

@@ -1,5 +1,5 @@
 -- The replies are copied one after the other, in order of place: what stands after each.
-use Rattle.std.{proofs.Common.{◌≡◌, inl, inr, ℕ, suc, ◌+◌, ◌-◌, ◌<◌, ◌≤◌, Bool, List, [], ◌∷◌, ◌++◌, length, Option, Result, Ok, Err, refl, sym, ◌∙◌, ap, subst, arith}, specs.Prelude.{nat_lt, slice_set}}
+use Rattle.std.{proofs.Common.{◌≡◌, inl, inr, ℕ, suc, ◌+◌, ◌-◌, ◌<◌, ◌≤◌, Bool, List, [], ◌∷◌, ◌++◌, length, Option, Result, Ok, Err, refl, sym, ◌∙◌, ap, arith}, specs.Prelude.{nat_lt, slice_set}}
 use Rattle.df_disk.specs.Told.{Told}
 use Rattle.df_base.{specs.Log.{Event}, proofs.Laws.{minus_zero}}
 use Rattle.df_layout.specs.{declared.damage.Class.{Class}, declared.layout.Layout.{Layout}}
@@ -16,12 +16,12 @@ fit_push layout s from rs n count are r one = record {
   are = record {
     each = λ k u at. elim (push_cases rs r k u at) [
       | inl there ↦ are.are.each k u there
-      | inr last ↦ subst (λ (j : ℕ). IsReplyAt s from j u) (sym (last.0 ∙ count)) (subst (λ (v : Message). IsReplyAt s from n v) last.1 one.is)
+      | inr last ↦ rw (sym (last.0 ∙ count)) at (rw last.1 at one.is)
     ];
   };
   fit = λ k u at. elim (push_cases rs r k u at) [
     | inl there ↦ are.fit k u there
-    | inr last ↦ subst (λ (v : Message). 256 + length v.body ≤ layout.message_size) last.1 one.fits
+    | inr last ↦ rw last.1 at one.fits
   ];
 }
 
@@ -80,7 +80,7 @@ module _ (layout : Layout) (s : State) (from old : Option Told) where
           count = push_length is.rs r n is.count;
           checks =
               copies.3 ∙ ap (λ (l : List (List ℕ)). slice_set l n r.header.checksum) is.checks ∙ ap (λ (k : ℕ). slice_set (checks_of is.rs) k r.header.checksum) (sym is.count)
-              ∙ sym (checks_push is.rs r (subst (λ (k : ℕ). k < named_places) (sym is.count) inside));
+              ∙ sym (checks_push is.rs r (rw (sym is.count) at inside));
           written = turn_on s.file from Fit events all_tests old (left_from layout s n) new is.rs is.written test (left_from layout s (n + 1)) next (FitsReply layout s from n) (reply_events layout) push (events_push (reply_events layout) is.rs)
               r newer layout.message_size (256 + length r.body) (ReplyTooLong n (256 + length r.body)) copies.1 copies.2 copies.1.fits (tested r copies.1);
         }

@@ -35,24 +35,24 @@ module _ {layout : Layout} {cluster : ℕ} (row : Row layout cluster) where
   row_at from i k [] u are at is = absurd (cc)
   row_at from zero k (v ∷ us) u are at is =
       let here : from ≡ k = omega (arith, is) in
-      subst (λ (w : Message). (row.named w ≡ k) × IsUnit layout cluster (place_in row.zone k) w) (same_Some v u at) (are.0 ∙ here, subst (λ (j : ℕ). IsUnit layout cluster (place_in row.zone j) v) here are.1)
+      subst (λ (w : Message). (row.named w ≡ k) × IsUnit layout cluster (place_in row.zone k) w) (same_Some v u at) (are.0 ∙ here, rw here at are.1)
   row_at from (suc i) k (v ∷ us) u are at is = row_at (from + 1) i k us u are.2 at (omega (arith, is))
 
   -- the last of them
   pub row_last : (from : ℕ) (u : Message) (us : List Message) → Are from (u ∷ us) → (v : Message) × (last_message (u ∷ us) ≡ Some v) × (row.named v ≡ from + length us) × IsUnit layout cluster (place_in row.zone (from + length us)) v
   row_last from u [] are =
       let plain : from ≡ from + 0 = omega arith in
-      (u, refl, are.0 ∙ plain, subst (λ (k : ℕ). IsUnit layout cluster (place_in row.zone k) u) plain are.1)
+      (u, refl, are.0 ∙ plain, rw plain at are.1)
   row_last from u (v ∷ us) are =
       let rest = row_last (from + 1) v us are.2 in
       let on : from + 1 + length us ≡ from + suc (length us) = omega arith in
-      (rest.0, rest.1, rest.2 ∙ on, subst (λ (k : ℕ). IsUnit layout cluster (place_in row.zone k) rest.0) on rest.3)
+      (rest.0, rest.1, rest.2 ∙ on, rw on at rest.3)
 
   -- they are written by steps
   pub row_steps : (from : ℕ) (us : List Message) → Are from us → AreSteps (format_of layout cluster) (all_events row.events us) (all_steps row.steps us)
   row_steps from [] are = tt
   row_steps from (u ∷ us) are =
-      let own : IsUnit layout cluster (place_in row.zone (row.named u)) u = subst (λ (k : ℕ). IsUnit layout cluster (place_in row.zone k) u) (sym are.0) are.1 in
+      let own : IsUnit layout cluster (place_in row.zone (row.named u)) u = rw (sym are.0) at are.1 in
       steps_join_law (format_of layout cluster) (row.events u) (all_events row.events us) (row.steps u) (all_steps row.steps us) (row.are_steps u own) (row_steps (from + 1) us are.2)
 
   -- which put them to places that are counted

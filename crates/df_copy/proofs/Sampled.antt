@@ -193,7 +193,7 @@ own_reply zero r at = let both : Some (ReplyUnit reply) ≡ Some (ReplyUnit r) =
 own_reply (suc k) r at = absurd (let both : None ≡ Some (ReplyUnit r) = at in cc)
 
 shown : (k : ℕ) (s : Session) → slice_get (session ∷ []) k ≡ Some s → (r : Message) × (stored k ≡ Some r) × (target (ReplyPlace k) ≡ Some (ReplyUnit r)) × Answers s r × (slice_index (6 ∷ []) k ≡ r.header.checksum)
-shown zero s at = (reply, refl, refl, subst (λ (x : Session). Answers x reply) (one_session 0 s at).1 (record { client = refl; request = refl; op = refl }), refl)
+shown zero s at = (reply, refl, refl, rw (← (one_session 0 s at).1) (record { client = refl; request = refl; op = refl }), refl)
 shown (suc k) s at = absurd (let both : None ≡ Some s = at in cc)
 
 no_more : (k : ℕ) (r : Message) → stored k ≡ Some r → (s : Session) × (slice_get (session ∷ []) k ≡ Some s)

@@ -127,7 +127,7 @@ module _ (found : State) (t : Told) (view : View) (whole : IsImage t.shown) (ope
   named_none : found.fields.trailer_address ≡ 0 → parts ≡ no_parts
   named_none none =
       let zeroth : c.trailer ≡ 0 = sym (ap (λ (d : Content). d.trailer) own) ∙ none in
-      none_linked sh (sh.layout.block_size - 256) c.op c.trailer_checksum c view.checkpoint.chain parts (subst (λ (a : ℕ). Links (sh.layout.block_size - 256) c view.checkpoint.chain a c.trailer_checksum) zeroth is.checkpoint.trailer.links) is.checkpoint.trailer.says
+      none_linked sh (sh.layout.block_size - 256) c.op c.trailer_checksum c view.checkpoint.chain parts (rw zeroth at is.checkpoint.trailer.links) is.checkpoint.trailer.says
 
   named_second : found.fields.trailer_address ≢ 0 → 2 ≤ found.fields.sequence
   named_second some =

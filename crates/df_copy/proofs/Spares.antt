@@ -162,4 +162,4 @@ spares_copy layout s rs bs o new part =
     let f = superblock_of layout s rs bs in
     let later : List Event = Sync ∷ copy_written 1 f ∷ Sync ∷ copy_written 2 f ∷ Sync ∷ copy_written 3 f ∷ Sync ∷ [] in
     spares_then o new (before_copies layout s rs bs) (copy_bytes 0 f) later (spare_before layout s rs bs)
-    (subst (λ (l : List Event). AddsPart l (Some o) new) (sym (append_assoc (front_events layout s rs bs) (Sync ∷ []) (Write 0 (copy_bytes 0 f) ∷ later))) part)
+    (rw (sym (append_assoc (front_events layout s rs bs) (Sync ∷ []) (Write 0 (copy_bytes 0 f) ∷ later))) at part)

@@ -165,7 +165,7 @@ module _ (f : SuperFields) (usable : IsUsable f) where
       left_by stage =
           let both = two stage.0 stage.1 stage.2 in
           subst (λ (w : Progress). IsLeftAt layout file source v w (progress log 1) image) (sym (progress_is log 0 stage.0 both.0))
-          (subst (λ (w : Progress). IsLeftAt layout file source v stage.0 w image) (sym (progress_is log 1 stage.1 both.1)) (left_at stage.0 stage.1 stage.2))
+          (rw (sym (progress_is log 1 stage.1 both.1)) at (left_at stage.0 stage.1 stage.2))
 
 -- ---- what is left is refused, or shows the copy
 

@@ -151,10 +151,10 @@ module _ (layout : Layout) (s : State) (rs bs : List Message) (image : Units) (v
     all_moments : Passed start exit Left
     all_moments =
         untouched_then Left (untouched_leaves layout s.file from w) (before_copies layout s rs bs) start exit (spare_before layout s rs bs) (untouched_begun o empty)
-        (subst (λ (l : Log). Passed l exit Left) (sym before_is) behind_sync)
+        (rw (sym before_is) at behind_sync)
 
     exit_is : exit ≡ adds (copy_events layout s rs bs) start
     exit_is = sym (adds_on (front_events layout s rs bs) (Sync ∷ update_events f) start)
 
     pub part_stops : (new : Option Told) → AddsPart (copy_events layout s rs bs) (Some o) new → StopsCopy layout s.file from w o new
-    part_stops new part = stops_part layout s.file from w o new (copy_events layout s rs bs) part (subst (λ (l : Log). EachMoment start l Left) exit_is all_moments.moments)
+    part_stops new part = stops_part layout s.file from w o new (copy_events layout s rs bs) part (rw exit_is at all_moments.moments)

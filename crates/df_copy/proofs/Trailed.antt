@@ -166,7 +166,7 @@ module _ (layout : Layout) (s : State) (rs bs : List Message) (image : Units) (v
     nothing_linked [] empty = record {
       reference = reference;
       links = (named_none layout s rs bs fit none_needed).0;
-      count = subst (λ (k : ℕ). IsCount room (trailer_size layout (memory s)) k) none_needed (count layout s rs bs fit);
+      count = rw none_needed at (count layout s rs bs fit);
       inside = λ a b at. absurd at;
       size = sym (no_trailer_there layout s rs bs fit none).1;
       says = same_parts;
@@ -212,13 +212,13 @@ module _ (layout : Layout) (s : State) (rs bs : List Message) (image : Units) (v
     whole_text : text_of copy_chain ≡ text_with layout s us
     whole_text =
         pieces.text_is ∙ ap (λ (k : ℕ). take (k * length copy_chain) (text_with layout s us)) same_room
-        ∙ take_all (room * length copy_chain) (text_with layout s us) (subst (λ (k : ℕ). length (text_with layout s us) ≤ room * k) (sym chain_is) (subst (λ (k : ℕ). k ≤ room * n) size_is (count layout s rs bs fit).holds))
+        ∙ take_all (room * length copy_chain) (text_with layout s us) (rw chain_is (rw (← size_is) (count layout s rs bs fit).holds))
 
     links : Links room copy_content copy_chain f.trailer_address (number_of f.trailer_checksum)
     links =
         subst (λ (a : ℕ). Links room copy_content copy_chain a (number_of f.trailer_checksum)) last_named.0
         (subst (Links room copy_content copy_chain (last_address copy_chain)) last_named.1
-        (subst (λ (k : ℕ). Links k copy_content copy_chain (last_address copy_chain) (last_sum copy_chain)) same_room pieces.links))
+        (rw same_room at pieces.links))
 
     says_of : (chain : List (ℕ × Block)) → 0 < length chain → text_of chain ≡ text_with layout s us → Says sh s.fields.op chain copy_parts
     says_of [] some text = absurd (omega (arith, some))

@@ -17,7 +17,7 @@ leaves_self = record { kept = refl; same = refl; blames_source = refl; blames_ta
 -- what is said of a turn is said of them too
 pub at_entry : {at kept : Beside} {x : Unit {0}} (P : Layout → State → Option Told → Type 0) (layout l : Layout) → l ≡ layout → LeavesSource at kept (Ok x) → P l kept.source kept.told → P layout at.source at.told
 at_entry {at = at} {kept = kept} P layout l same leaves is =
-    subst (λ (k : Layout). P k at.source at.told) same (subst (λ (s : State). P l s at.told) leaves.kept (subst (λ (o : Option Told). P l kept.source o) leaves.same is))
+    subst (λ (k : Layout). P k at.source at.told) same (rw leaves.kept at (rw leaves.same at is))
 
 -- ---- a turn
 
@@ -61,7 +61,7 @@ module _ (file : DataFile) (from : Option Told) (Fit : List Message → Type 0) 
       Written = (vs : List Message) × Fit vs
 
       fails : (newer : Option Told) → ((u : Message) × Fits u × AddsPart (one u) new newer) → ((x : Written) × AddsPart (events x.0) old newer)
-      fails newer stops = ((us ++ stops.0 ∷ [], push stops.0 stops.1), subst (λ (l : List Event). AddsPart l old newer) (sym (joins stops.0)) (all_then (events us) (one stops.0) old new newer is.added stops.2))
+      fails newer stops = ((us ++ stops.0 ∷ [], push stops.0 stops.1), rw (sym (joins stops.0)) at (all_then (events us) (one stops.0) old new newer is.added stops.2))
 
       unread : (newer : Option Told) → newer ≡ new → ((x : Written) × (newer ≡ after_all (events x.0) old))
       unread newer same = ((us, is.fit), same ∙ is.added)

@@ -128,7 +128,7 @@ module _ (c : Content) (then : Units) where
 
       there_now : (n : ℕ) → n < k + 1 → n < 4 → now behind (CopyPlace n) ≡ Some (CopyUnit c)
       there_now n below within = elim (cases_eq n k) [
-        | inl here ↦ subst (λ (m : ℕ). now behind (CopyPlace m) ≡ Some (CopyUnit c)) (sym here) own_now
+        | inl here ↦ rw (sym here) at own_now
         | inr away ↦ else_now (CopyPlace n) (no_copy_else n away) ∙ is.first n (omega (arith, below, away)) within
       ]
 

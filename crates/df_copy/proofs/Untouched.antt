@@ -82,8 +82,8 @@ module _ (layout : Layout) (file : DataFile) (source : Image) (v : View) where
   untouched_leaves log is image left chance =
       let zeros : Refuses image NotFormatted = λ n inside. ap is_blank_copy (left.kept n (is.firm n inside) ∙ is.shown n inside) ∙ blank_is_blank n in
       record {
-        is = subst (λ (w : Progress). IsLeftAt layout file source v w (progress log 1) image) (sym (not_begun log 0 (is.shown 0 (omega arith))))
-            (subst (λ (w : Progress). IsLeftAt layout file source v NotBegun w image) (sym (not_begun log 1 (is.shown 1 (omega arith)))) zeros);
+        is = rw ((not_begun log 0 (is.shown 0 (omega arith))))
+            (rw ((not_begun log 1 (is.shown 1 (omega arith)))) zeros);
         early = λ split. subst AreSplit (sym (settled_law (format_of layout file.cluster) log)) (all_split layout file.cluster (settled log) is.durable);
         distinct = units_distinct layout file.cluster log image chance;
       }
@@ -102,7 +102,7 @@ module _ (layout : Layout) (file : DataFile) (source : Image) (v : View) where
       record {
         events = front.part;
         told = front.is;
-        moments = subst (λ (l : Log). EachMoment log l (LeavesCopy layout file source v)) (sym (told_log front.part (restarted o)))
+        moments = rw ((told_log front.part (restarted o)))
             (λ l moment. subst (λ (exit : Log). EachMoment log exit (LeavesCopy layout file source v)) whole each l
             (record { since = moment.since; until = extends_on (adds front.rest (adds front.part log)) (adds front.part log) l (adds_extends front.rest (adds front.part log)) moment.until }));
       }

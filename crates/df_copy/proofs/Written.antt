@@ -1,5 +1,5 @@
 -- What is written of a target, in the words of the theory: the header ring, replies and blocks that were read, and the trailer after them.
-use Rattle.std.{proofs.{Common.{◌≡◌, ℕ, suc, ◌+◌, ◌-◌, ◌*◌, ◌<◌, ◌≤◌, take, true, List, [], ◌∷◌, ◌++◌, length, Option, Some, refl, ◌∙◌, ap, subst, arith}, lemmas.Option.{slice_get_within}}, specs.{Prelude.{slice_get}, List.{range_with_len}}}
+use Rattle.std.{proofs.{Common.{◌≡◌, ℕ, suc, ◌+◌, ◌-◌, ◌*◌, ◌<◌, ◌≤◌, take, true, List, [], ◌∷◌, ◌++◌, length, Option, Some, refl, ◌∙◌, ap, arith}, lemmas.Option.{slice_get_within}}, specs.{Prelude.{slice_get}, List.{range_with_len}}}
 use Rattle.df_base.specs.Fields.{AreBytes}
 use Rattle.df_disk.specs.Told.{Told}
 use Rattle.df_layout.specs.{declared.layout.Layout.{Layout}, declared.places.Zone.TheVariants.{ClientReplies, Grid}}
@@ -42,11 +42,11 @@ module _ (layout : Layout) (s : State) (told : Option Told) where
       let here = each 0 u refl in
       let plain : from + 0 ≡ from = omega arith in (
         here.0 ∙ plain,
-        subst (λ (k : ℕ). IsUnit layout cluster (place_in ClientReplies k) u) plain here.1,
+        rw plain at here.1,
         reply_row (from + 1) us (λ i v at.
             let later = each (suc i) v at in
             let next : from + suc i ≡ from + 1 + i = omega arith in
-            (later.0 ∙ next, subst (λ (k : ℕ). IsUnit layout cluster (place_in ClientReplies k) v) next later.1)),
+            (later.0 ∙ next, rw next at later.1)),
       )
 
   -- the replies that were read, each at its place
@@ -55,7 +55,7 @@ module _ (layout : Layout) (s : State) (told : Option Told) where
       let plain : i ≡ 0 + i = omega arith in
       let inside = slice_get_within us i u at in
       let there = reply_there i u (fit.are.each i u at) (omega (arith, inside, few)) (fit.fit i u at) in
-      (there.0 ∙ plain, subst (λ (k : ℕ). IsUnit layout cluster (place_in ClientReplies k) u) plain there.1))
+      (there.0 ∙ plain, rw plain at there.1))
 
   block_there : (to address : ℕ) (u : Message) → IsBlockAt s told address u → 0 < to → to ≤ layout.blocks → 256 + length u.body ≤ layout.block_size → IsUnit layout cluster (place_in Grid to) (moved to u)
   block_there to address u at some inside fits =
@@ -73,8 +73,8 @@ module _ (layout : Layout) (s : State) (told : Option Told) where
   block_row from (u ∷ us) each =
       let plain : from + 0 ≡ from = omega arith in (
         refl,
-        subst (λ (k : ℕ). IsUnit layout cluster (place_in Grid k) (moved k u)) plain (each 0 u refl),
-        block_row (from + 1) us (λ i v at. let next : from + suc i ≡ from + 1 + i = omega arith in subst (λ (k : ℕ). IsUnit layout cluster (place_in Grid k) (moved k v)) next (each (suc i) v at)),
+        rw plain at (each 0 u refl),
+        block_row (from + 1) us (λ i v at. let next : from + suc i ≡ from + 1 + i = omega arith in rw next at (each (suc i) v at)),
       )
 
   -- the blocks that were read, each at its new address

@@ -48,7 +48,7 @@ module _ {version : ℕ} (file : DataFile) (view : View) (t : Told) (may : MayBe
   had w found =
       let held = was_held (shape file) (settled log) view rests.grows w (was w found) in
       let there = among_images (format_of file.layout file.cluster) (logs.settled (logs.add Sync t.log)) held.0 (subst (λ (us : List Units). AreAmong us held.0) (settled_law (format_of file.layout file.cluster) (logs.add Sync t.log)) held.1) in
-      record { image = there.0; durable = there.1; holds = subst (λ (u : Units). Holds (shape file) u w) there.2 held.2 }
+      record { image = there.0; durable = there.1; holds = rw there.2 at held.2 }
 
   -- ---- what isn't hurt
 

@@ -20,7 +20,7 @@ module _ (file : DataFile) (log : Log) (older : List Log) (image : Image) (may :
   starts = record {
     settled_is = synced_settled (unit_log_in file log);
     chance = may.chance;
-    copies = subst (λ (was : Units). MayHurtCopies was (unit_at file.layout file.cluster image)) (sym (now_units (format_of file.layout file.cluster) log.start (Sync ∷ log.events))) may.copies;
+    copies = rw ((now_units (format_of file.layout file.cluster) log.start (Sync ∷ log.events))) may.copies;
   }
 
   -- a log is restarted there
@@ -61,7 +61,7 @@ module _ (file : DataFile) (log : Log) (older : List Log) (image : Image) (may :
   pub found_since : (s : State) → IsOpenedAs 2 file.layout image s → FindsSince file log older image s
   found_since s is =
       let same = opened_file s is in
-      let found : IsFound (shape file) (unit_at file.layout file.cluster image) is.view = subst (λ (x : DataFile). IsFound (shape x) (unit_at file.layout x.cluster image) is.view) same is.found in
+      let found : IsFound (shape file) (unit_at file.layout file.cluster image) is.view = rw same at is.found in
       let from = choice_stays_law (shape file) (unit_log_in file (logs.add Sync log)) (units_logs file older) (unit_at file.layout file.cluster image) is.view.checkpoint.content may.lived starts found.chosen in
       record {
         of = same;

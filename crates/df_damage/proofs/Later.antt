@@ -37,11 +37,11 @@ was_later sh (image ∷ images) v (holds, inr (history, (u, next, grows))) w (in
 -- of two views one is the later
 pub one_later : (sh : Shape) (images : List Units) (v : View) (grows : Grows sh images v) (u w : View) → Was sh images v grows u → Was sh images v grows w → IsLater u w ⊎ IsLater w u
 one_later sh [] v grows u w one two = absurd one
-one_later sh (image ∷ images) v (holds, inl begins) u w one two = inl (subst (λ (x : View). IsLater u x) (sym two) (was_later sh (image ∷ images) v (holds, inl begins) u one))
+one_later sh (image ∷ images) v (holds, inl begins) u w one two = inl (rw (sym two) at (was_later sh (image ∷ images) v (holds, inl begins) u one))
 one_later sh (image ∷ images) v (holds, inr (history, (before, next, grows))) u w (inl one) two =
-    inr (subst (λ (x : View). IsLater w x) (sym one) (was_later sh (image ∷ images) v (holds, inr (history, (before, next, grows))) w two))
+    inr (rw (sym one) at (was_later sh (image ∷ images) v (holds, inr (history, (before, next, grows))) w two))
 one_later sh (image ∷ images) v (holds, inr (history, (before, next, grows))) u w (inr one) (inl two) =
-    inl (subst (λ (x : View). IsLater u x) (sym two) (was_later sh (image ∷ images) v (holds, inr (history, (before, next, grows))) u (inr one)))
+    inl (rw (sym two) at (was_later sh (image ∷ images) v (holds, inr (history, (before, next, grows))) u (inr one)))
 one_later sh (image ∷ images) v (holds, inr (history, (before, next, grows))) u w (inr one) (inr two) = one_later sh images before grows u w one two
 
 -- ---- headers

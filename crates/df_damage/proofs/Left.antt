@@ -12,13 +12,13 @@ tidy_may_be_hurt version file view t known of is_log empty tidy image chance =
     let fmt = format_of file.layout file.cluster in
     let sh = shape file in
     let units = now_units fmt t.log.start t.log.events in
-    let whole : IsWhole sh (fmt.unit_at (logs.now t.log)) view = subst (λ (u : Units). IsWhole sh u view) units tidy.whole in (
+    let whole : IsWhole sh (fmt.unit_at (logs.now t.log)) view = rw units at tidy.whole in (
       record {
         known = known;
         version_is = of;
         safe = safe_disk_law fmt sh t.log (is_format file.layout file.cluster) is_log (rests_safe sh (units_log fmt t.log) view tidy.rests);
         empty = empty;
-        found = (found_law sh (fmt.unit_at (logs.now t.log)) view).0 (subst (λ (u : Units). Holds sh u view) units tidy.rests.holds);
+        found = (found_law sh (fmt.unit_at (logs.now t.log)) view).0 (rw units at tidy.rests.holds);
         whole = image;
         no_chance = chance;
       },

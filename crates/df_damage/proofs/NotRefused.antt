@@ -50,7 +50,7 @@ module _ (version : ℕ) (file : DataFile) (image : Image) (view : View) (known 
     unrefused other f r has of opens =
         let cluster : other.cluster ≡ file.cluster = sym has.cluster ∙ ap (λ (g : SuperFields). g.cluster) (one_super_as other.version version image f fields has.super super) ∙ rules.0.cluster_is in
         let here : Opens (shape file) (unit_at file.layout file.cluster image) (Refused r) =
-        subst (λ (x : DataFile). Opens (shape x) (unit_at file.layout x.cluster image) (Refused r)) (same_file other file of.layout_is cluster (of.version_is ∙ sym is_version)) opens in
+        rw (same_file other file of.layout_is cluster (of.version_is ∙ sym is_version)) at opens in
         let both : Refused r ≡ Found view = one_answer_law (shape file) (unit_at file.layout file.cluster image) (Refused r) (Found view) here (Opened view found (below_spent version file view known is_version unspent found.checkpoint.tests)) in
         cc
 

@@ -1,5 +1,5 @@
 -- A view that a history had is held by one of its settled images, and a history whose start shows nothing began with the empty image.
-use Rattle.std.proofs.Common.{◌≡◌, ◌⊎◌, inl, inr, List, [], ◌∷◌, None, refl, sym, subst}
+use Rattle.std.proofs.Common.{◌≡◌, ◌⊎◌, inl, inr, List, [], ◌∷◌, None, refl, sym}
 use Rattle.df_base.specs.Image.{Image}
 use Rattle.df_theory.{specs.{Units.{Place, Units}, Shape.{Shape}, View.{View}, Holds.{Holds}, UnitLog.{Stopped, Synced, UnitEvent, Wrote, now_of, settled_of}, Grown.{Grows}, Past.{FromEmpty, Was}, Device.{Format, all_units}}, proofs.Laws.{unheld}}
 use Rattle.df_damage.specs.Past.{IsOneOf}
@@ -12,8 +12,8 @@ AreAmong (u ∷ us) units = (units ≡ u) ⊎ AreAmong us units
 
 pub was_held : (sh : Shape) (images : List Units) (v : View) (grows : Grows sh images v) (w : View) → Was sh images v grows w → (units : Units) × AreAmong images units × Holds sh units w
 was_held sh [] v grows w was = absurd was
-was_held sh (u ∷ us) v (holds, inl begins) w was = (u, inl refl, subst (λ (x : View). Holds sh u x) (sym was) holds)
-was_held sh (u ∷ us) v (holds, inr (history, (before, next, grows))) w (inl same) = (u, inl refl, subst (λ (x : View). Holds sh u x) (sym same) holds)
+was_held sh (u ∷ us) v (holds, inl begins) w was = (u, inl refl, rw (sym was) at holds)
+was_held sh (u ∷ us) v (holds, inr (history, (before, next, grows))) w (inl same) = (u, inl refl, rw (sym same) at holds)
 was_held sh (u ∷ us) v (holds, inr (history, (before, next, grows))) w (inr was) =
     let older = was_held sh us before grows w was in
     (older.0, inr older.1, older.2)

@@ -102,7 +102,7 @@ module _ {version : ℕ} (file : DataFile) (view : View) (t : Told) (may : MayBe
     | inl found ↦ inl (record { prepare = found.prepare; there = inr found.there; own = found.own; hurt = found.hurt })
     | inr rest ↦ elim (hurt_or (PreparePlace (p.header.op % file.layout.slots))) [
       | inr same ↦ inr (λ q at own. elim at [
-        | inl here ↦ subst (λ (x : Units.Message). unit_at file.layout file.cluster t.shown (PreparePlace (x.header.op % file.layout.slots)) ≡ now (log file view t may) (PreparePlace (x.header.op % file.layout.slots))) (sym here) same
+        | inl here ↦ rw (sym here) at same
         | inr later ↦ rest q later own
       ])
       | inl hurt ↦ elim (cases_eq p.header.group group) [

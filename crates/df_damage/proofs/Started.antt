@@ -29,7 +29,7 @@ hurt_may_begin version file view found t may finds same =
     record {
       whole = may.whole;
       found = finds;
-      clean = λ n c there. subst (λ (b : Checkpoint). AgreesCopy (record view { checkpoint = b }) n c) (sym same) (clean n c there);
+      clean = λ n c there. rw (sym same) at (clean n c there);
       distinct = λ place other x y one two.
           may.no_chance.distinct place other x y (pool_pools log.start log.events place x (may.no_chance.pooled place x one)) (pool_pools log.start log.events other y (may.no_chance.pooled other y two));
     }

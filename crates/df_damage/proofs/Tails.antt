@@ -1,5 +1,5 @@
 -- Where the header ring is whole and unhurt, what an open finds has every prepare of the file's tail.
-use Rattle.std.proofs.{Common.{◌≡◌, ◌%◌, refl, sym, ◌∙◌, ap, subst, arith}, lemmas.Nat.{mod_below}}
+use Rattle.std.proofs.{Common.{◌≡◌, ◌%◌, refl, sym, ◌∙◌, ap, arith}, lemmas.Nat.{mod_below}}
 use Rattle.df_theory.{specs.{Tails.{In}, Units.{Header, Message, PreparePlace, PrepareUnit}, View.{Checkpoint}}, proofs.Laws.{chain_ops, read_law, pool_pools}}
 use Rattle.df_recovery.specs.Below.{shape}
 use Rattle.df_damage.{specs.Openings.{WholeTailIsFound}, proofs.{Barriers.{log, rests, shown}, Files.{opened_found}, Opened.{headers_tell}}}
@@ -19,4 +19,4 @@ whole_tail_is_found version file view t s may whole headers copies is p there =
     let same : p ≡ q = read_law (log file view t may) (shown file view t may) (PreparePlace slot) (PreparePlace (q.header.op % file.layout.slots)) (PrepareUnit p) (PrepareUnit q) may.no_chance
     (pool_pools (log file view t may).start (log file view t may).events (PreparePlace slot) (PrepareUnit p) wrote)
     ((opened_found file view t may s is).tail.takes q each.1).shown (ap (λ (h : Header). h.checksum) own ∙ sym each.3) in
-    subst (λ (x : Message). In x is.view.tail) (sym same) each.1
+    rw (sym same) at each.1

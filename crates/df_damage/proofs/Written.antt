@@ -24,18 +24,18 @@ goes_on f start ((Stop changes) ∷ new) old place x is = inr (goes_on f start n
 later_pools : (f : Format) (log : Log) (start : Image) (events new : List Event) (place : Place) (x : AnyUnit) → start ≡ log.start → events ≡ new ++ log.events → InPools (f.unit_at log.start) (units_of f log.start log.events) place x → InPools (f.unit_at start) (units_of f start events) place x
 later_pools f log start events new place x same grew is =
     subst (λ (i : Image). InPools (f.unit_at i) (units_of f i events) place x) (sym same)
-    (subst (λ (es : List Event). InPools (f.unit_at log.start) (units_of f log.start es) place x) (sym grew) (goes_on f log.start new log.events place x is))
+    (rw (sym grew) at (goes_on f log.start new log.events place x is))
 
 pub had_is_written : HadIsWritten
 had_is_written file log later view had (new, grew, same) = record {
   sound = had.holds.bears.sound;
   needs = λ place x need.
       let old : InImages (settled (units_log (format_of file.layout file.cluster) log)) place x =
-      subst (λ (us : List Units). InImages us place x) (sym (settled_law (format_of file.layout file.cluster) log)) (among (format_of file.layout file.cluster) (logs.settled log) had.image place x had.durable (had.holds.bears.needs place x need)) in
+      rw (sym (settled_law (format_of file.layout file.cluster) log)) at (among (format_of file.layout file.cluster) (logs.settled log) had.image place x had.durable (had.holds.bears.needs place x need)) in
       later_pools (format_of file.layout file.cluster) log later.start later.events new place x same grew (pool_pools (units_log (format_of file.layout file.cluster) log).start (units_log (format_of file.layout file.cluster) log).events place x (inl old));
 }
 
 pub opened_is_written : OpenedIsWritten
 opened_is_written version file view t s later may is grew =
     let had = found_was_had version file view t s may is in
-    subst (λ (x : DataFile). WasWritten x later is.view) (sym had.0) (had_is_written file (logs.add Sync t.log) later is.view had.1 grew)
+    rw (sym had.0) at (had_is_written file (logs.add Sync t.log) later is.view had.1 grew)

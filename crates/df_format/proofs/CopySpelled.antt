@@ -87,7 +87,7 @@ module _ (number : ℕ) (f : SuperFields) (small : number < 4) (fits : FitsSuper
   unfolding is_copy
   passes =
       let sum : has_checksum sector ≡ true = (bytes_eq-Decides _ _).1 (front_read.0 ∙ ap check_of (sym f32)) in
-      let four : nat_lt (field_at 4 16 sector) 4 ≡ true = lt-ltb _ 4 (subst (λ (n : ℕ). n < 4) (sym front_read.1.0) small) in
+      let four : nat_lt (field_at 4 16 sector) 4 ≡ true = lt-ltb _ 4 (rw (sym front_read.1.0) at small) in
       let rest : has_zeros sector ≡ true = (bytes_eq-Decides _ _).1 front_read.1.1.0 in
       and_from _ _ (and_from _ _ sum four) rest
 

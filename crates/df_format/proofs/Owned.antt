@@ -1,5 +1,5 @@
 -- The own place of a unit: the layout has it, and the unit's header says what belongs there.
-use Rattle.std.{proofs.{Common.{◌≡◌, ◌⊎◌, inl, inr, ℕ, true, Option, Some, None, refl, sym, ◌∙◌, ap, subst}, lemmas.Bool.{cond-true, and_parts, and_from, ltb-true, lt-ltb, leb-true, le-leb, eqb-true, eq-eqb}, lemmas.Option.{cond_some, same_Some}}, specs.Prelude.{option_map}}
+use Rattle.std.{proofs.{Common.{◌≡◌, ◌⊎◌, inl, inr, ℕ, true, Option, Some, None, refl, sym, ◌∙◌, ap}, lemmas.Bool.{cond-true, and_parts, and_from, ltb-true, lt-ltb, leb-true, le-leb, eqb-true, eq-eqb}, lemmas.Option.{cond_some, same_Some}}, specs.Prelude.{option_map}}
 use Rattle.df_base.proofs.Laws.{cond_there}
 use Rattle.df_layout.specs.{declared.layout.Layout.{Layout}, declared.places.Place.{Place}, declared.places.Zone.{Zone}, declared.places.Zone.TheVariants.{Superblock, WalHeaders, WalPrepares, ClientReplies, Grid}, Spans.{HasIndex, HasPlace}}
 use Rattle.df_format.specs.{declared.header.Header.{Header}, declared.kind.Kind.{Kind}, declared.kind.Kind.TheVariants.{Reserved, Prepare, Reply, Block, Trailer}, Own.{place_in, named_in_ring, named_elsewhere, named_place, has_op_of_slot, has_index, inside, own_place}, Shown.{same_zone, same_place}, Valid.{IsInSlot, IsForSlot, IsOfSession, IsAtAddress, Belongs}}
@@ -44,7 +44,7 @@ inside_is : (layout : Layout) (o : Option Place) (place : Place) → inside layo
 inside_is layout None place is = absurd (cc)
 inside_is layout (Some named) place is =
     let parts = cond_some _ _ place is in
-    (ap Some parts.1, subst (λ (p : Place). HasPlace layout p) parts.1 (has-true layout named.zone named.index parts.0))
+    (ap Some parts.1, rw parts.1 at (has-true layout named.zone named.index parts.0))
 
 pub own_is : (layout : Layout) (zone : Zone) (h : Header) (place : Place) → own_place layout zone h ≡ Some place → IsOwn layout zone h place
 unfolding own_place

@@ -111,7 +111,7 @@ read_of_kind bytes h (Some kind) is from =
       zeros = (bytes_eq-Decides _ _).0 fixed.1;
       code = code_of-kind _ _ from ∙ ap code_of same;
       fields = ap (λ (k : Kind). fields_of k bytes) (sym same) ∙ parts.1;
-      ranges = subst (λ (x : Header). AreInRange x) parts.1 (in_range _ tests.1);
+      ranges = rw (← parts.1) (in_range _ tests.1);
     }
 
 pub read_as : (bytes : List ℕ) (h : Header) → header_in bytes ≡ Some h → IsRead bytes h
@@ -153,7 +153,7 @@ module _ (bytes : List ℕ) (size : length bytes ≡ 256) (are : AreBytes bytes)
 
 pub was_spelled : (bytes : List ℕ) (h : Header) → length bytes ≡ 256 → AreBytes bytes → IsRead bytes h → IsSealed h × (bytes ≡ spelling h)
 was_spelled bytes h size are is =
-    let here = all_spelled bytes size are h.kind is.code is.zeros is.sum (subst (λ (x : Header). AreInRange x) (sym is.fields) is.ranges) in
+    let here = all_spelled bytes size are h.kind is.code is.zeros is.sum (rw (sym is.fields) at is.ranges) in
     subst (λ (x : Header). IsSealed x × (bytes ≡ spelling x)) is.fields here
 
 -- 256 bytes are read as a header exactly where they are its spelling

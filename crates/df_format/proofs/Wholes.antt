@@ -31,8 +31,8 @@ unit_parts layout cluster zone bytes (Some h) w is from =
     record {
       header = sym from ∙ ap Some own.1;
       owner = ap (λ (x : Header). x.cluster) (sym own.1) ∙ eqb-true _ _ fixed.0;
-      fits = subst (λ (x : Header). x.size ≤ greatest_size layout zone) own.1 (leb-true _ _ fixed.1);
-      tested = subst (λ (x : Header). has_body zone x bytes ≡ true) own.1 tests.1;
+      fits = rw own.1 at (leb-true _ _ fixed.1);
+      tested = rw own.1 at tests.1;
       body = ap (λ (x : Header). body_in zone x.size bytes) (sym own.1) ∙ own.2;
       belongs = ap (λ (x : Header). own_place layout zone x) (sym own.1) ∙ own.0;
     }
@@ -175,7 +175,7 @@ zero_is_no_code _ is = omega (arith, is)
 
 -- zeros are no header
 pub zeros_are_none : (bytes : List ℕ) (h : Header) → take 256 bytes ≡ replicate 256 0 → header_in (take 256 bytes) ≡ Some h → ⊥
-zeros_are_none bytes h zeros is = zero_is_no_code h.kind (subst (λ (l : List ℕ). slice_index l 120 ≡ code_of h.kind) zeros (read_as _ _ is).code)
+zeros_are_none bytes h zeros is = zero_is_no_code h.kind (rw zeros at (read_as _ _ is).code)
 
 pub blank-true : (bytes : List ℕ) → is_blank bytes ≡ true → take 256 bytes ≡ replicate 256 0
 unfolding is_blank
@@ -230,7 +230,7 @@ whole_elsewhere layout cluster place other bytes None is from = absurd (cc)
 whole_elsewhere layout cluster place other bytes (Some w) is from =
     let parts = elsewhere_by (same_place w.own place) w.own other is in
     let found = whole_found layout cluster place.zone bytes w from in (
-      subst (λ (p : Place). HasPlace layout p) parts.1 (own_is layout place.zone w.unit.header w.own found.belongs).has,
+      rw parts.1 at (own_is layout place.zone w.unit.header w.own found.belongs).has,
       λ same. let both : same_place w.own place ≡ true = ap (λ (p : Place). same_place p place) (parts.1 ∙ same) ∙ same_place-self place in absurd (cc (both, parts.0)),
     )
 

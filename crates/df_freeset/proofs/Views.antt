@@ -1,5 +1,5 @@
 -- What taking and giving back make of the set as its callers see it.
-use Rattle.std.{proofs.{Common.{◌≡◌, ℕ, ◌+◌, ◌-◌, ◌/◌, ◌<◌, Bool, true, false, List, length, get_or, set, ap, subst, ◌∙◌, arith}, lemmas.List.{with_items_is, length-set, get_or_read}}, specs.{Prelude.{slice_index, sum_by, count_ones}, Global.{Vec}, Vec.{with_items}}}
+use Rattle.std.{proofs.{Common.{◌≡◌, ℕ, ◌+◌, ◌-◌, ◌/◌, ◌<◌, Bool, true, false, List, length, get_or, set, ap, ◌∙◌, arith}, lemmas.List.{with_items_is, length-set, get_or_read}}, specs.{Prelude.{slice_index, sum_by, count_ones}, Global.{Vec}, Vec.{with_items}}}
 use Rattle.df_freeset.{specs.{Addresses.{SetHasAddress, count_free}, Bits.{IsRoom, taken_in, setting, clearing}}, proofs.{Counts.{free_and_ones}, Words.{length_taken, taken_written, set_writes, clear_writes, word_inside}}}
 
 -- the bit of an address of the set is one of the room's
@@ -43,4 +43,4 @@ now_given room new n now address words fits view has = rw (written_back room _ _
 
 -- the free ones are those that aren't counted
 pub free_left : (words : List ℕ) (n : ℕ) (now : List Bool) → IsRoom words n → taken_in words n ≡ now → count_free now + sum_by count_ones words ≡ n
-free_left words n now room view = subst (λ (all : List Bool). count_free all + sum_by count_ones words ≡ n) view (free_and_ones words n room)
+free_left words n now room view = rw view at (free_and_ones words n room)

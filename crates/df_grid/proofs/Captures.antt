@@ -1,5 +1,5 @@
 -- What a capture and its end are for the machine, and that what holds of a table still does.
-use Rattle.std.{proofs.{Common.{◌≡◌, ℕ, zero, suc, ◌+◌, ◌≤◌, ◌==◌, ◌||◌, Bool, true, false, cond, Some, None, List, [], ◌∷◌, length, map, take, refl, sym, ap, subst, ◌∙◌, arith, eqb-true}, lemmas.List.{length-map, length-take}, lemmas.Option.{slice_get_within}, Math.Bool.{or-false}}, specs.Prelude.{slice_get}}
+use Rattle.std.{proofs.{Common.{◌≡◌, ℕ, zero, suc, ◌+◌, ◌≤◌, ◌==◌, ◌||◌, Bool, true, false, cond, Some, None, List, [], ◌∷◌, length, map, take, refl, sym, ap, ◌∙◌, arith, eqb-true}, lemmas.List.{length-map, length-take}, lemmas.Option.{slice_get_within}, Math.Bool.{or-false}}, specs.Prelude.{slice_get}}
 use Rattle.df_model.{specs.{Work.{is_in}, Blocks.{blocks_captured, capture_finished, sum_at}, Sense.{RiseFrom}}, proofs.Laws.{rise_take}}
 use Rattle.df_units.specs.Meaning.{number_of}
 use Rattle.df_grid.{specs.{declared.entry.Entry.{Entry}, Entries.{is_marked}, Table.{AreTaken, IsGridTable, blocks_in, capturing, finishing, is_captured, is_durable, is_live, open_from, paired, picked}}, proofs.{Picks.{pick_at, pick_map, pick_none}, Chains.{pair_same, sum_map}, Free.{open_rise}}}
@@ -58,7 +58,7 @@ module _ (es : List Entry) (taken : List Bool) (chain : List ℕ) (is : IsGridTa
   was_taken a i e there at = is.holds a i e there at ∙ ap Some (or-false (is_marked e))
 
   left_free : (a : ℕ) → is_in a left ≡ true → (i : ℕ) × (a ≡ 1 + i) × (slice_get taken i ≡ Some false)
-  left_free a has = open_free a 1 taken (in_take a n (open_from 1 taken) (subst (λ (l : List ℕ). is_in a l ≡ true) so.least has))
+  left_free a has = open_free a 1 taken (in_take a n (open_from 1 taken) (rw so.least at has))
 
   pub captured_blocks : blocks_in (map capturing es) [] left chain ≡ blocks_captured (blocks_in es [] [] chain) (take n (open_from 1 taken))
   captured_blocks = rw (
@@ -83,7 +83,7 @@ module _ (es : List Entry) (taken : List Bool) (chain : List ℕ) (is : IsGridTa
         let clear : is_marked was.0 ≡ false = cc in
         ap (λ (y : Entry). is_marked y) was.2 ∙ same_marks j was.0 was.1 ∙ clear);
     inside = λ a has. (let free = left_free a has in (omega (arith, free.1), omega (arith, free.1, slice_get_within taken free.0 false free.2, is.size, length-map es capturing)));
-    once = subst (λ (l : List ℕ). RiseFrom 1 l) (sym so.least) (rise_take n 1 (open_from 1 taken) (open_rise 1 taken));
+    once = rw (sym so.least) at (rise_take n 1 (open_from 1 taken) (open_rise 1 taken));
     room = omega (arith, few, ap length so.least, length-take n (open_from 1 taken));
   }
 

@@ -1,5 +1,5 @@
 -- What holds of a table does after one entry is changed, with its address taken where the entry is marked.
-use Rattle.std.{proofs.{Common.{◌≡◌, ◌≢◌, ℕ, suc, ◌+◌, ◌≤◌, ◌==◌, ◌||◌, Bool, true, false, Some, List, length, set, refl, sym, ap, subst, ◌∙◌, arith, eqb-true}, lemmas.List.{length-set}, lemmas.Bool.Decides.{nat_tests}, lemmas.Bool.{or_parts}, Math.Bool.{or-false}}, specs.Prelude.{slice_get}}
+use Rattle.std.{proofs.{Common.{◌≡◌, ◌≢◌, ℕ, suc, ◌+◌, ◌≤◌, ◌==◌, ◌||◌, Bool, true, false, Some, List, length, set, refl, sym, ap, ◌∙◌, arith, eqb-true}, lemmas.List.{length-set}, lemmas.Bool.Decides.{nat_tests}, lemmas.Bool.{or_parts}, Math.Bool.{or-false}}, specs.Prelude.{slice_get}}
 use Rattle.df_base.proofs.Laws.{get_set_other}
 use Rattle.df_model.specs.{Work.{is_in}, Sense.{RiseFrom}, Blocks.{is_held_in}}
 use Rattle.df_grid.{specs.{declared.entry.Entry.{Entry}, Entries.{HasEntry, is_marked}, Table.{IsGridTable, blocks_in}}, proofs.{Single.{get_set_same, not_both, one_there}, Held.{held_at}}}
@@ -22,7 +22,7 @@ module _ (es : List Entry) (taken : List Bool) (written left chain : List ℕ) (
       go true equal =
           let one : k ≡ a = eqb-true k a equal in
           let index : j ≡ i = omega (arith, one, here, there) in
-          same one index (one_there (set es i e) i x e (subst (λ (n : ℕ). slice_get (set es i e) n ≡ Some x) index found) (get_set_same es i old e at))
+          same one index (one_there (set es i e) i x e (rw index at found) (get_set_same es i old e at))
       go false differs =
           let one : k ≢ a = λ eq. not_both (k == a) (grind (arith, nat_tests, eq)) differs in
           let index : j ≢ i = λ eq. one (omega (arith, eq, here, there)) in

@@ -1,5 +1,5 @@
 -- What a change at one address is for the machine, and that what holds of a table still does.
-use Rattle.std.{proofs.{Common.{◌≡◌, ℕ, suc, ◌+◌, ◌==◌, ◌||◌, Bool, true, false, Some, List, [], ◌∷◌, set, refl, sym, ap, subst, ◌∙◌, arith, eq-eqb, ne_eqb}, lemmas.Bool.{or_left, false_from_ne_true, or_right}}, specs.Prelude.{slice_get}}
+use Rattle.std.{proofs.{Common.{◌≡◌, ℕ, suc, ◌+◌, ◌==◌, ◌||◌, Bool, true, false, Some, List, [], ◌∷◌, set, refl, sym, ap, ◌∙◌, arith, eq-eqb, ne_eqb}, lemmas.Bool.{or_left, false_from_ne_true, or_right}}, specs.Prelude.{slice_get}}
 use Rattle.df_model.specs.{Work.{is_in}, Blocks.{block_released, block_written, trailer_written}, Sense.{RiseFrom}}
 use Rattle.df_units.specs.Meaning.{number_of}
 use Rattle.df_grid.{specs.{declared.entry.Entry.{Entry}, Entries.{HasEntry, is_marked}, Table.{IsGridTable, adopted, blocks_in, is_captured, is_durable, is_live, paired, sum_at_address}}, proofs.{Single.{get_set_same, not_both}, Picks.{pick_keep, pick_set, pick_unset}, Chains.{pair_same, rise_out, sum_keep, sum_other, sum_there}, Keeping.{Agrees, HasNone, has_none, kept}}}
@@ -17,7 +17,7 @@ module _ (es : List Entry) (taken : List Bool) (written left chain : List ℕ) (
 
   -- a list that doesn't have the address keeps its checksums
   pairs_keep : (e : Entry) (xs : List ℕ) → is_in a xs ≡ false → paired (set es i e) xs ≡ paired es xs
-  pairs_keep e xs none = pair_same es (set es i e) xs (λ k has. sum_other a k i es e there (λ same. not_both (is_in a xs) (subst (λ (n : ℕ). is_in n xs ≡ true) same has) none))
+  pairs_keep e xs none = pair_same es (set es i e) xs (λ k has. sum_other a k i es e there (λ same. not_both (is_in a xs) (rw same at has) none))
 
   -- so does every list where the checksum stays
   pairs_same : (e : Entry) (xs : List ℕ) → e.checksum ≡ old.checksum → paired (set es i e) xs ≡ paired es xs

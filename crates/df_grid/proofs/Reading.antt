@@ -138,11 +138,11 @@ module _ (layout : Layout) (cluster a : ℕ) (check : List ℕ) (fits : IsCheck 
   -- what is known of one kind of unit
   read_there : (kind : Kind) → IsRead kind identity told wrong held → (o : Option Class) → wrong ≡ o → (p : Option Holding) → held ≡ p → IsRead kind (at_address layout cluster a check) told o p
   read_there kind read o is p has = subst (λ (r : Option Holding). IsRead kind (at_address layout cluster a check) told o r) has
-      (subst (λ (r : Option Class). IsRead kind (at_address layout cluster a check) told r held) is (subst (λ (i : Identity). IsRead kind i told wrong held) there read))
+      (rw is at (rw there at read))
 
   found_there : (kind : Kind) (h : Holding) → HoldsFound kind identity wrong held → wrong ≡ None → held ≡ Some h → IsFoundUnit kind (at_address layout cluster a check) h.unit
   found_there kind h holds is has = subst (λ (r : Option Holding). HoldsFound kind (at_address layout cluster a check) None r) has
-      (subst (λ (r : Option Class). HoldsFound kind (at_address layout cluster a check) r held) is (subst (λ (i : Identity). HoldsFound kind i wrong held) there holds))
+      (rw is at (rw there at holds))
 
   pub shows_other_block : (known : Option ℕ) (class : Class) → wrong ≡ Some class → IsRead Block identity told wrong held → known ≡ Some (number_of check) → ReadsBlock layout cluster told a known (Err class)
   shows_other_block known class is read same = subst (λ (k : Option ℕ). ReadsBlock layout cluster told a k (Err class)) (sym same) (block_lacks layout cluster a check fits told class held (read_there Block read (Some class) is held refl))
@@ -186,5 +186,5 @@ test_case check (Some u) class answer is = found_case check u class answer is
 pub tests : (layout : Layout) (cluster a : ℕ) (told : Option Told) (check : List ℕ) (seen : Result Header Class) (answer : Option Class) → IsFaultOf seen check answer → IsSeen layout cluster told (place_in Grid a) seen → Tests layout cluster told a (number_of check) answer
 tests layout cluster a None check seen answer fault is = tt
 tests layout cluster a (Some t) check seen answer fault is =
-    test_case check (Shown.unit_at layout cluster t.shown (place_in Grid a)) (Shown.class_at layout cluster t.shown (place_in Grid a)) answer (subst (λ (r : Result Header Class). IsFaultOf r check answer) is fault)
+    test_case check (Shown.unit_at layout cluster t.shown (place_in Grid a)) (Shown.class_at layout cluster t.shown (place_in Grid a)) answer (rw is at fault)
     ∙ ap class_in (sym (block_image layout cluster a t.shown (Some (number_of check))))

@@ -15,9 +15,9 @@ pub own_block : (layout : Layout) (kind : Kind) (held : Holding) → IsSound Gri
 own_block layout kind held sound same =
     let u = held.unit in
     let there = valid_belongs held.layout u.header.cluster sound.place u sound.is in
-    let of : IsAtAddress sound.place.index u.header = subst (λ (z : Zone). Belongs held.layout z sound.place.index u.header) sound.in_zone there.belongs in
+    let of : IsAtAddress sound.place.index u.header = rw sound.in_zone at there.belongs in
     let here : sound.place ≡ place_in Grid u.header.op = λ i. record { zone = sound.in_zone i; index = sym of.op i } in
-    subst (λ (l : Layout). IsUnit l u.header.cluster (place_in Grid u.header.op) u) same (subst (λ (p : Place). IsUnit held.layout u.header.cluster p u) here sound.is)
+    subst (λ (l : Layout). IsUnit l u.header.cluster (place_in Grid u.header.op) u) same (rw here at sound.is)
 
 -- the address is one of the grid
 pub own_address : (layout : Layout) (kind : Kind) (held : Holding) → IsSound Grid kind held → held.layout ≡ layout → (1 ≤ held.unit.header.op) × (held.unit.header.op ≤ layout.blocks)
@@ -37,7 +37,7 @@ pub own_steps : (w v : GridState) (here : Place) (header : Header) (held : Holdi
 own_steps w v here header held cluster same place is named steps =
     let at = block_put w.layout here held (place ∙ ap (λ (h : Header). place_in Grid h.op) is) steps in
     subst (λ (n : ℕ). AreSteps (format_of v.layout n) (block_events v held) (block_steps held.unit)) named
-    (subst (λ (g : GridState). AreSteps (format_of g.layout held.unit.header.cluster) (block_events g held) (block_steps held.unit)) same at)
+    (rw same at at)
 
 pub made_put : (layout : Layout) (place : Place) (held : Holding) (header : Header) (piece : List ℕ) → held.unit ≡ made header piece → take (sectors_end (256 + length piece)) held.bytes ≡ sectors_of held.unit → place ≡ place_in Grid held.unit.header.op
     → StepsAt layout place held → AreSteps (format_of layout header.cluster) (made_events layout (made header piece)) (block_steps (made header piece))
@@ -46,7 +46,7 @@ made_put layout place held header piece is sectors here steps =
     let size : held.unit.header.size ≡ 256 + length piece = ap (λ (u : Message). u.header.size) is in
     let bytes : take (sectors_end held.unit.header.size) held.bytes ≡ sectors_of held.unit = ap (λ (n : ℕ). take (sectors_end n) held.bytes) size ∙ sectors in
     let wrote : AreSteps (format_of layout held.unit.header.cluster) (made_events layout held.unit) (block_steps held.unit) = (
-    subst (λ (b : List ℕ). AreSteps (format_of layout held.unit.header.cluster) (Write (span_of layout (place_in Grid held.unit.header.op)).first b ∷ []) (block_steps held.unit)) bytes at) in
+    rw bytes at at) in
     subst (λ (u : Message). AreSteps (format_of layout u.header.cluster) (made_events layout u) (block_steps u)) is wrote
 
 -- ---- the header of a trailer block
@@ -91,7 +91,7 @@ pub next_steps : (w v : GridState) (sequence : ℕ) (piece : List ℕ) (header :
     → AreSteps (format_of v.layout v.cluster) (made_events v.layout (next_unit v sequence piece)) (block_steps (next_unit v sequence piece))
 next_steps w v sequence piece header same is steps =
     subst (λ (g : GridState). AreSteps (format_of g.layout g.cluster) (made_events g.layout (next_unit g sequence piece)) (block_steps (next_unit g sequence piece))) same
-    (subst (λ (h : Header). AreSteps (format_of w.layout h.cluster) (made_events w.layout (made h piece)) (block_steps (made h piece))) is steps)
+    (rw is at steps)
 
 sum_back : (before : Option Reference) (written : List (ℕ × ℕ)) → pair_in before ≡ slice_get written 0 → IsCheck (checksum_in before) → number_of (spelled 16 (first_sum written)) ≡ first_sum written
 sum_back None [] same fits = ap number_of zeros_are ∙ no_number

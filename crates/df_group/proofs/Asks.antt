@@ -73,4 +73,4 @@ asks_room room h ss asks = by (position (has_client h.client) ss) refl
 
 -- the same by another word for the room
 pub asks_within : (room places : ℕ) (h : Header) (ss : List Session) → room ≡ places → MayAsk room (header_of h) (sessions_of ss) → IsKnownClient h.client ss ⊎ (length ss < places)
-asks_within room places h ss same asks = subst (λ (n : ℕ). IsKnownClient h.client ss ⊎ (length ss < n)) same (asks_room room h ss asks)
+asks_within room places h ss same asks = rw same at (asks_room room h ss asks)

@@ -6,10 +6,10 @@ use Rattle.df_theory.{specs.{Units.{Header, Message, Session}, Sessions.{noted, 
 pub groups_join : (f l op low : ℕ) (ps qs : List Message) → l < op + length ps → ((p : Message) → In p ps → p.header.group_last < op + length ps) → low < op + length ps → AreGroups f l op ps → AreGroups 0 low (op + length ps) qs → AreGroups f l op (ps ++ qs)
 groups_join f l op low [] qs ends each below groups more =
     let same : op + 0 ≡ op = omega arith in
-    groups_closed 0 f low l op qs (omega arith) (omega arith) (subst (λ (n : ℕ). AreGroups 0 low n qs) same more)
+    groups_closed 0 f low l op qs (omega arith) (omega arith) (rw same at more)
 groups_join f l op low (p ∷ ps) qs ends each below groups more =
     let same : op + suc (length ps) ≡ op + 1 + length ps = omega arith in
-    (groups.0, groups_join p.header.group p.header.group_last (op + 1) low ps qs (omega (arith, each p (inl refl))) (λ q at. omega (arith, each q (inr at))) (omega arith) groups.1 (subst (λ (n : ℕ). AreGroups 0 low n qs) same more))
+    (groups.0, groups_join p.header.group p.header.group_last (op + 1) low ps qs (omega (arith, each p (inl refl))) (λ q at. omega (arith, each q (inr at))) (omega arith) groups.1 (rw same at more))
 
 -- and what stands after these
 pub groups_split : (f l op low : ℕ) (ps qs : List Message) → l < op + length ps → ((p : Message) → In p ps → p.header.group_last < op + length ps) → low < op + length ps → AreGroups f l op (ps ++ qs) → AreGroups 0 low (op + length ps) qs
@@ -24,14 +24,14 @@ groups_split f l op low (p ∷ ps) qs ends each below groups =
 pub groups_next : (f l op : ℕ) (xs : List Message) (p q : Message) → AreGroups f l op (xs ++ p ∷ []) → FitsGroup p.header.group p.header.group_last (op + length xs + 1) q.header ↔ AreGroups f l op ((xs ++ p ∷ []) ++ q ∷ [])
 groups_next f l op [] p q groups =
     let same : op + 0 + 1 ≡ op + 1 = omega arith in (
-      λ fits. (groups.0, (subst (λ (n : ℕ). FitsGroup p.header.group p.header.group_last n q.header) same fits, tt)),
-      λ all. subst (λ (n : ℕ). FitsGroup p.header.group p.header.group_last n q.header) (sym same) all.1.0,
+      λ fits. (groups.0, (rw same at fits, tt)),
+      λ all. rw (sym same) at all.1.0,
     )
 groups_next f l op (x ∷ xs) p q groups =
     let same : op + suc (length xs) + 1 ≡ op + 1 + length xs + 1 = omega arith in
     let rest = groups_next x.header.group x.header.group_last (op + 1) xs p q groups.1 in (
-      λ fits. (groups.0, rest.0 (subst (λ (n : ℕ). FitsGroup p.header.group p.header.group_last n q.header) same fits)),
-      λ all. subst (λ (n : ℕ). FitsGroup p.header.group p.header.group_last n q.header) (sym same) (rest.1 all.1),
+      λ fits. (groups.0, rest.0 (rw same at fits)),
+      λ all. rw (sym same) at (rest.1 all.1),
     )
 
 -- the last of a chain fits what precedes it
@@ -46,7 +46,7 @@ chain_end clients op parent mark ss (x ∷ xs) q chain =
 -- what fits fits by other words for the same
 pub fits_same : (clients o i c d m k : ℕ) (ss ts : List Session) (h : Header) → o ≡ i → c ≡ d → m ≡ k → ss ≡ ts → Fits clients o c m ss h → Fits clients i d k ts h
 fits_same clients o i c d m k ss ts h op checksum mark sessions fits =
-    subst (λ (n : ℕ). Fits clients n d k ts h) op (subst (λ (n : ℕ). Fits clients o n k ts h) checksum (subst (λ (n : ℕ). Fits clients o c n ts h) mark (subst (λ (l : List Session). Fits clients o c m l h) sessions fits)))
+    subst (λ (n : ℕ). Fits clients n d k ts h) op (rw checksum at (rw mark at (rw sessions at fits)))
 
 -- the first of a chain
 pub first_in : (clients op parent mark : ℕ) (ss : List Session) (ps : List Message) → Chain clients op parent mark ss ps → 0 < length ps → (p : Message) × In p ps × (p.header.op ≡ op)

@@ -70,7 +70,7 @@ reached sh image b tail more top q have walks at op from by =
           elim by [
             | inl cut ↦
                 let same : top ≡ end = omega (arith, cut.1, group) in
-                at_same image b.content top end reach (Some q) same (by_cases image b.content end reach more (Some q) have (λ torn. omega (arith, torn.1, some)) (λ more_too. subst (λ (g : ℕ). ShowsGroup image b.content g → ⊥) group cut.0.untold))
+                at_same image b.content top end reach (Some q) same (by_cases image b.content end reach more (Some q) have (λ torn. omega (arith, torn.1, some)) (λ more_too. rw group at cut.0.untold))
             | inr stays ↦ (λ none. absurd (none.torn (goes, stays.1)), λ both. absurd (omega (arith, both.1, stays.1, some)))
           ]
     ]
@@ -80,7 +80,7 @@ some_reached : (sh : Shape) (image : Units) (b : Checkpoint) (tail more : List M
     → NoneLostBy image b.content (b.content.op + length tail + length more) top (last_prepare None (tail ++ more)) ↔ (NotLost image b.content (b.content.op + length tail) × (top ≡ b.content.op + length tail))
 some_reached sh image b tail more top p rest are have walks by =
     let all = chain_append (clients sh) (b.content.op + 1) b.content.op_checksum 0 b.parts.sessions tail more walks.chain walks.reach.behind.chain in
-    let last = last_chain (clients sh) (b.content.op + 1) b.content.op_checksum 0 b.parts.sessions p rest (subst (λ (l : List Message). Chain (clients sh) (b.content.op + 1) b.content.op_checksum 0 b.parts.sessions l) are all) in
+    let last = last_chain (clients sh) (b.content.op + 1) b.content.op_checksum 0 b.parts.sessions p rest (rw are at all) in
     let is : last_prepare None (tail ++ more) ≡ Some last.0 = ap (λ (l : List Message). last_prepare None l) are ∙ last.1 in
     let size : length (p ∷ rest) ≡ length tail + length more = sym (ap (λ (l : List Message). length l) are) ∙ length-append tail more in
     let told = reached sh image b tail more top last.0 have walks (subst (λ (l : List Message). In last.0 l) (sym are) last.2) (omega (arith, last.3, size)) last.4 (subst (λ (x : Option Message). IsHeadBy image b.content (b.content.op + length tail + length more) x top) is by) in

@@ -78,8 +78,8 @@ walk_none places Taken b op checksum sessions begins = record {
     one h =
         let last : op ≡ b.content.op + 0 = omega (arith, begins.op_is) in
         let next : op + 1 ≡ b.content.op + 1 + 0 = omega (arith, begins.op_is) in (
-          λ fits. (subst (λ (l : ℕ). FitsGroup 0 l (b.content.op + 1 + 0) h) last (subst (λ (o : ℕ). FitsGroup 0 op o h) next fits), tt),
-          λ fits. subst (λ (l : ℕ). FitsGroup 0 l (op + 1) h) (sym last) (subst (λ (o : ℕ). FitsGroup 0 (b.content.op + 0) o h) (sym next) fits.0),
+          λ fits. (rw last at (rw next at fits), tt),
+          λ fits. rw (sym last) at (rw (sym next) at fits.0),
         )
 
 -- the same by what a loop begins with
@@ -91,8 +91,8 @@ walk_begins places Taken b op checksum sessions begins tail at ahead tail_is at_
     let there : at ≡ begin = at_is ∙ ap behind tail_is in
     let here : IsWalk places Taken b end sessions begin sessions [] = walk_none places Taken b op checksum sessions begins in
     subst (λ (t : Tail). IsWalk places Taken b t sessions at ahead []) (sym tail_is)
-    (subst (λ (p : Position). IsWalk places Taken b end sessions p ahead []) (sym there)
-    (subst (λ (ss : List Session). IsWalk places Taken b end sessions begin ss []) (sym ahead_is) here))
+    (rw there
+    (rw ahead_is here))
 
 -- what fits by the words of the end fits after the prepares
 pub fits_behind : (places : ℕ) (b : Checkpoint) (ps more : List Units.Message) (last : Tail) (sessions : List Session) (k : Units.Header) → ReachesTo b ps more last sessions
@@ -238,8 +238,8 @@ walk_over places Taken b tail kept at ahead passed w over = record {
     following : (h : Units.Header) → FitsGroup at.group at.group_last (at.last.op + 1) h ↔ (FitsGroup 0 (b.content.op + length all) (b.content.op + 1 + length all) h × Unit {0})
     following h =
         let next : at.last.op + 1 ≡ b.content.op + 1 + length all = omega (arith, end) in (
-          λ fits. (fits_closed at.group 0 at.group_last (b.content.op + length all) (b.content.op + 1 + length all) h (omega (arith, over, end)) (omega arith) (subst (λ (o : ℕ). FitsGroup at.group at.group_last o h) next fits), tt),
-          λ fits. subst (λ (o : ℕ). FitsGroup at.group at.group_last o h) (sym next) (fits_closed 0 at.group (b.content.op + length all) at.group_last (b.content.op + 1 + length all) h (omega arith) (omega (arith, over, end)) fits.0),
+          λ fits. (fits_closed at.group 0 at.group_last (b.content.op + length all) (b.content.op + 1 + length all) h (omega (arith, over, end)) (omega arith) (rw next at fits), tt),
+          λ fits. rw (sym next) at (fits_closed 0 at.group (b.content.op + length all) at.group_last (b.content.op + 1 + length all) h (omega arith) (omega (arith, over, end)) fits.0),
         )
 
 -- ---- a turn of a loop
@@ -257,16 +257,16 @@ walk_on places Taken b tail end kept new at ahead passed head h p walk pin taken
       | inl goes ↦
           let stays = opened goes in
           let here : IsWalk places Taken b tail kept (position_of h) sessions longer = walk_open places Taken b tail kept (position_of h) sessions longer more.0 more.1 goes in
-          subst (λ (t : Tail). IsWalk places Taken b t new (position_of h) sessions longer) (sym stays.0) (subst (λ (s : List Session). IsWalk places Taken b tail s (position_of h) sessions longer) (sym stays.1) here)
+          rw (sym stays.0) at (rw (sym stays.1) at here)
       | inr ends ↦
           let moves = over ends in
           let here : IsWalk places Taken b (tail_to h) sessions (position_of h) sessions longer = walk_over places Taken b tail kept (position_of h) sessions longer more.0 ends in
-          subst (λ (t : Tail). IsWalk places Taken b t new (position_of h) sessions longer) (sym moves.0) (subst (λ (s : List Session). IsWalk places Taken b (tail_to h) s (position_of h) sessions longer) (sym moves.1) here)
+          rw moves.0 (rw moves.1 here)
     ]
 
 -- what holds of both ends holds of the one that is kept
 pub either_kept : (Q : Tail → Table → Type 0) (tail end : Tail) (kept new ahead : Table) (at : Position) → Q tail kept → Q at.last ahead → (at.group_last ≤ at.last.op → (end ≡ at.last) × (new ≡ ahead)) → (at.last.op < at.group_last → (end ≡ tail) × (new ≡ kept)) → Q end new
 either_kept Q tail end kept new ahead at old next over opened = elim (cases_lt at.last.op at.group_last) [
-  | inl goes ↦ let stays = opened goes in subst (λ (t : Tail). Q t new) (sym stays.0) (subst (λ (s : Table). Q tail s) (sym stays.1) old)
-  | inr ends ↦ let moves = over ends in subst (λ (t : Tail). Q t new) (sym moves.0) (subst (λ (s : Table). Q at.last s) (sym moves.1) next)
+  | inl goes ↦ let stays = opened goes in rw (sym stays.0) at (rw (sym stays.1) at old)
+  | inr ends ↦ let moves = over ends in rw (sym moves.0) at (rw (sym moves.1) at next)
 ]

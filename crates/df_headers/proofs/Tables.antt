@@ -1,5 +1,5 @@
 -- Tables of headers, and their sectors.
-use Rattle.std.{proofs.{Common.{◌≡◌, ◌⊎◌, inl, inr, ℕ, zero, suc, ◌+◌, ◌*◌, ◌<◌, List, [], ◌∷◌, length, take, drop, set, Some, refl, sym, ◌∙◌, ap, subst, arith, length-take, length-drop}, lemmas.Bool.{cases_eq}, lemmas.List.{length-set}, lemmas.Option.{slice_get_within, same_Some}}, specs.List.{slice_get}}
+use Rattle.std.{proofs.{Common.{◌≡◌, ◌⊎◌, inl, inr, ℕ, zero, suc, ◌+◌, ◌*◌, ◌<◌, List, [], ◌∷◌, length, take, drop, set, Some, refl, sym, ◌∙◌, ap, arith, length-take, length-drop}, lemmas.Bool.{cases_eq}, lemmas.List.{length-set}, lemmas.Option.{slice_get_within, same_Some}}, specs.List.{slice_get}}
 use Rattle.df_format.specs.declared.header.Header.{Header}
 use Rattle.df_base.proofs.Laws.{get_set, get_set_other}
 use Rattle.df_units.{specs.Sample.{reserved_header}, proofs.Laws.{reserved_unit}}
@@ -20,7 +20,7 @@ pub table_kept : TableIsKept
 table_kept layout cluster slot table h is valid = record {
   count = omega (arith, is.count, length-set table slot h);
   each = λ i x at. elim (set_cases table slot i h x at) [
-    | inl here ↦ subst (λ (n : ℕ). IsHeader layout cluster n x) (sym here.0) (subst (λ (y : Header). IsHeader layout cluster slot y) (sym here.1) valid)
+    | inl here ↦ rw (sym here.0) at (rw (sym here.1) at valid)
     | inr there ↦ is.each i x there.1
   ];
 }
@@ -77,5 +77,5 @@ reserved_table layout cluster table named small count are = record {
   each = λ slot h at.
       let inside : slot < length table = slice_get_within table slot h at in
       let same : reserved_header cluster slot ≡ h = same_Some _ _ (sym (are slot inside) ∙ at) in
-      subst (λ (x : Header). IsHeader layout cluster slot x) same (reserved_unit layout cluster slot named small (omega (arith, inside, count)));
+      rw same at (reserved_unit layout cluster slot named small (omega (arith, inside, count)));
 }

@@ -60,7 +60,7 @@ grown_same sh log before logs awake lived new grown =
 pub grown_lived_law : GrownLivedLaw
 grown_lived_law sh log later before logs awake lived (new, grew, same) grown =
     let is : record { start = log.start; events = new ++ log.events } ≡ later = λ i. record { start = sym same i; events = sym grew i } in
-    subst (λ (l : UnitLog). IsAwakened sh l before logs) is (grown_same sh log before logs awake lived new (subst (λ (l : UnitLog). Grown sh l) (sym is) grown))
+    subst (λ (l : UnitLog). IsAwakened sh l before logs) is (grown_same sh log before logs awake lived new (rw (sym is) at grown))
 
 pub safe_lived_law : SafeLivedLaw
 safe_lived_law sh log later before logs awake lived (new, grew, same) safe = record {
@@ -103,7 +103,7 @@ raise_lived_law sh log before logs w table headers copies d puts lived may dry b
     let starts : done.start ≡ log.start = start_same (update_steps puts) mended ∙ start_same (mend_steps headers copies) log in
     let awake : IsAwakened sh done before logs = record { begun = lived_done.0; raised = above done lived_done.0 boots.1 starts } in (
       each_append (IsLivedMoment sh (before ∷ logs)) (mend_steps headers copies) (update_steps puts) log moments boots.0,
-      subst (λ (l : UnitLog). IsAwakened sh l before logs) (sym same) awake,
+      rw (sym same) at awake,
     )
   where
     -- the boot of the start isn't above that of the view
@@ -112,7 +112,7 @@ raise_lived_law sh log before logs w table headers copies d puts lived may dry b
 
     above : (l : UnitLog) (begun : IsBegunAnew sh l before logs) → RestsOn sh l (booted w d) → l.start ≡ log.start → boot_of begun.view < boot_of begun.newest
     above l begun rests is =
-        let old : begun.view ≡ lived.0.view = one_view sh log.start begun.view lived.0.view (subst (λ (i : Units). Holds sh i begun.view) is begun.holds) lived.0.holds in
+        let old : begun.view ≡ lived.0.view = one_view sh log.start begun.view lived.0.view (rw is at begun.holds) lived.0.holds in
         omega (arith, low, boot.is.boot, ap boot_of old, ap boot_of (last_is sh (all_settled (before ∷ logs)) (settled l) begun.newest (booted w d) begun.grows rests.grows))
 
 -- ---- an open, and what follows it
@@ -128,7 +128,7 @@ open_lived_law sh log logs shown w lived may places f table headers copies d put
     let boots = boot_lived_law sh mended log logs w d puts lived_mended mends.1 (dry_mend headers copies new (λ place. refl)) opening.may_boot (mends_whole_law sh new w table headers copies opening.may_mend).copies in
     let same : after_steps (raise_steps headers copies puts) new ≡ after_steps (update_steps puts) mended = after_append (mend_steps headers copies) (update_steps puts) new in (
       raised.0,
-      subst (λ (l : UnitLog). RestsOn sh l (booted w d)) (sym same) boots.1,
+      rw (sym same) at boots.1,
       boots.2,
       λ ss at. awake_steps sh log logs lived ss (after_steps (raise_steps headers copies puts) new) raised.1 at,
     )

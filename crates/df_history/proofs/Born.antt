@@ -1,5 +1,5 @@
 -- Each settled prepare and reply of a boot of the history was made by a step of an awake log, and was of its view then; or it is a prepare that survived, of whose group one was never settled.
-use Rattle.std.proofs.Common.{◌≡◌, ◌⊎◌, inl, inr, ℕ, ◌%◌, ◌<◌, ◌≤◌, List, [], ◌∷◌, Some, refl, sym, ◌∙◌, ap, subst, arith}
+use Rattle.std.proofs.Common.{◌≡◌, ◌⊎◌, inl, inr, ℕ, ◌%◌, ◌<◌, ◌≤◌, List, [], ◌∷◌, Some, refl, sym, ◌∙◌, ap, arith}
 use Rattle.df_theory.{specs.{Units.{Content, CopyPlace, CopyUnit, Message, PreparePlace, PrepareUnit, ReplyPlace, ReplyUnit, Units}, Tails.{In}, Shape.{Shape}, Copies.{rank_of}, View.{Checkpoint, View, boot_of, head, sequence}, Chance.{InImages}, Grown.{IsClear, IsLeftGroup}}, proofs.Laws.{gap_left, HasGap, IsNew, appended_clear, next_in, same_slot, append_here, reply_here, base_here}}
 use Rattle.df_history.{specs.Lives.{Asleep, Awake, Lived, Lives, Steps, Turn, TurnFollows, first_view_of}, proofs.Steps.{lived_self}}
 
@@ -32,8 +32,8 @@ follow_tail images u Awake v Awake goes p at = elim (next_in u v p goes.next at)
   ]
 ]
 follow_tail images u Awake v Asleep none p at = absurd none
-follow_tail images u Asleep v Asleep same p at = inl (subst (λ (x : View). In p x.tail) same at)
-follow_tail images u Asleep v Awake (d, is, same) p at = inl (subst (λ (x : View). In p x.tail) same at)
+follow_tail images u Asleep v Asleep same p at = inl (rw same at at)
+follow_tail images u Asleep v Awake (d, is, same) p at = inl (rw same at at)
 
 -- where a prepare that an image shows comes from: it was settled before, it was appended in this step, or it survived
 abbrev ComesFrom : List Units → Units → View → View → Turn → Message → Type 0
@@ -45,14 +45,14 @@ comes sh images image u s v t (inl goes) lives k p here = elim (goes.0 (PrepareP
   | inl (inl old) ↦ inl (k, old)
   | inl (inr of) ↦
       let same : of.0 ≡ p = (let e = of.1 in cc) in
-      let inside : In p v.tail = subst (λ (q : Message). In q v.tail) same of.2 in
+      let inside : In p v.tail = rw same at of.2 in
       elim (follow_tail images u s v t goes.1 p inside) [
         | inl old ↦ inl (p.header.op % sh.layout.slots, tail_shown sh images u s lives p old)
         | inr new ↦ inr (inl (inside, new))
       ]
   | inr survivor ↦
       let same : survivor.0 ≡ p = (let e = survivor.1 in cc) in
-      inr (inr (subst (λ (q : Message). IsLeftGroup images image v q) same survivor.2))
+      inr (inr (rw same at survivor.2))
 ]
 
 -- ---- one prepare an op and a boot
@@ -217,7 +217,7 @@ after_base sh (image ∷ images) v Asleep (holds, inr (u, s, step, lives)) w (in
 after_base sh (image ∷ images) v Awake (holds, inr (u, s, inr anew, lives)) w (inl is) = absurd (let both : Awake ≡ Asleep = anew.1 in cc)
 after_base sh (image ∷ images) v Awake (holds, inr (u, s, inl goes, lives)) w (inl is) = elim (follow_base images u s v goes.1) [
   | inl old ↦
-      let a = after_base sh images u s lives u (subst (λ (x : Turn). Lived sh images u s lives u x) old.0 (lived_self sh images u s lives)) in
+      let a = after_base sh images u s lives u (rw (← old.0) (lived_self sh images u s lives)) in
       (a.0, inr a.1, a.2 ∙ old.1 ∙ ap (λ (x : View). x.checkpoint.content) (sym is.0), a.3, a.4)
   | inr new ↦ (v, inl (refl, refl), ap (λ (x : View). x.checkpoint.content) (sym is.0), new.0, new.1)
 ]

@@ -48,9 +48,9 @@ module _ (sh : Shape) (images : List Units) (v : View) (t : Turn) (lives : Lives
       let sound = lived_sound sh images v t lives z Awake was in
       let from : w.checkpoint.content.op ≤ w.checkpoint.content.pin = f.checkpoint.tests.pin.0 in
       let chain_z : Chain sh.layout.clients (w.checkpoint.content.op + 1) w.checkpoint.content.op_checksum 0 z.checkpoint.parts.sessions z.tail =
-      subst (λ (c : Content). Chain sh.layout.clients (c.op + 1) c.op_checksum 0 z.checkpoint.parts.sessions z.tail) same sound.chain in
+      rw same at sound.chain in
       let ends_z : last_checksum w.checkpoint.content.op_checksum (take (w.checkpoint.content.pin - w.checkpoint.content.op) z.tail) ≡ w.checkpoint.content.pin_checksum =
-      subst (λ (c : Content). last_checksum c.op_checksum (take (c.pin - c.op) z.tail) ≡ c.pin_checksum) same sound.records.checksum in
+      rw same at sound.records.checksum in
       same_named sh.layout.clients (w.checkpoint.content.op + 1) w.checkpoint.content.op_checksum 0 0 z.checkpoint.parts.sessions w.checkpoint.parts.sessions z.tail w.tail (w.checkpoint.content.pin - w.checkpoint.content.op) chain_z f.tail.chain
       (omega (arith, sound.records.pin_to, ap (λ (c : Content). c.pin) same, ap (λ (c : Content). c.op) same)) (omega (arith, f.tail.reaches)) (ends_z ∙ sym f.tail.pinned)
       (λ x y in_x in_y sums. distinct (PreparePlace (x.header.op % sh.layout.slots)) (PreparePlace (y.header.op % sh.layout.slots)) (PrepareUnit x) (PrepareUnit y)
@@ -140,7 +140,7 @@ module _ (sh : Shape) (images : List Units) (v : View) (t : Turn) (lives : Lives
     same_reply k x q is at named ops = elim (cases_lt q.header.op w.checkpoint.content.answered) [
       | inl old ↦
           let first : slice_index w.checkpoint.content.reply_checksums k ≡ x.header.checksum =
-          subst (λ (c : Content). slice_index c.reply_checksums k ≡ x.header.checksum) same_content ((sound.records.stored k x is).old (omega (arith, ap (λ (c : Content). c.answered) same_content))) in
+          rw same_content at ((sound.records.stored k x is).old (omega (arith, ap (λ (c : Content). c.answered) same_content))) in
           distinct (ReplyPlace k) (ReplyPlace k) (ReplyUnit x) (ReplyUnit q) (lived_needs sh images v t lives z Awake was (ReplyPlace k) (ReplyUnit x) (x, is, refl)) (of (ReplyPlace k) (ReplyUnit q) at) (sym first ∙ named.old old)
       | inr not ↦
           let own = named.new (omega arith) in

@@ -1,5 +1,5 @@
 -- The settled images of a history of logs, as one list.
-use Rattle.std.proofs.Common.{◌≡◌, ◌⊎◌, inl, inr, ℕ, ◌<◌, ◌≤◌, List, [], ◌∷◌, ◌++◌, length, None, refl, sym, ◌∙◌, ap, subst, arith, length-append}
+use Rattle.std.proofs.Common.{◌≡◌, ◌⊎◌, inl, inr, ℕ, ◌<◌, ◌≤◌, List, [], ◌∷◌, ◌++◌, length, None, refl, sym, ◌∙◌, ap, arith, length-append}
 use Rattle.df_theory.{specs.{Units.{AnyUnit, Content, CopyPlace, CopyUnit, Place, PreparePlace, PrepareUnit, ReplyPlace, ReplyUnit, Units}, Shape.{Shape}, Copies.{rank_of}, View.{View, boot_of}, Holds.{Holds}, Next.{Append, Boot, Finish, IsBoot, IsSameBare, Next, Reply, Same, booted}, UnitLog.{Stopped, Synced, UnitEvent, Wrote, now_of, settled_of}, Chance.{InImages}, First.{AreMade}, Grown.{AllInHistory, GoesOn, Grows}, Past.{FromEmpty, Was}, HistoryLaws.{ShowsSettled}}, proofs.Laws.{one_view, no_made, made_content, made_reply, next_grew, unheld}}
 use Rattle.df_history.specs.{Lives.{Asleep, Awake, Lived, Lives, Starts, Turn, first_view_of}, Histories.{Among, GrowsOn, StaysBare}}
 
@@ -90,7 +90,7 @@ from_blank sh (u ∷ older ∷ us) v (holds, inr (history, (before, next, grows)
 pub started_lives : (sh : Shape) (images : List Units) (v : View) → Grows sh images v → (start : Units) (w : View) → EndsWith images start → Holds sh start w → Starts start [] w → Lives sh images v Awake
 started_lives sh [] v grows start w ends holds starts = absurd grows
 started_lives sh (image ∷ []) v (here, inl begins) start w ends holds starts =
-    (here, inl (refl, subst (λ (i : Units). Starts i [] v) (sym ends) (subst (λ (x : View). Starts start [] x) (one_view sh start w v holds (subst (λ (i : Units). Holds sh i v) ends here)) starts)))
+    (here, inl (refl, rw (sym ends) at (rw (one_view sh start w v holds (rw ends at here)) at starts)))
 started_lives sh (image ∷ []) v (here, inr (history, (u, next, grows))) start w ends holds starts = absurd grows
 started_lives sh (image ∷ before ∷ images) v (here, inl begins) start w ends holds starts = absurd (unheld sh start w (made_ends v.checkpoint.content (before ∷ images) start begins.2 ends) holds)
 started_lives sh (image ∷ before ∷ images) v (here, inr (history, (u, next, grows))) start w ends holds starts = (here, inr (u, Awake, inl (history, next), started_lives sh (before ∷ images) u grows start w ends holds starts))
@@ -126,16 +126,16 @@ module _ (sh : Shape) (rest : List Units) (u0 : View) (s0 : Turn) (lives : Lives
   join_start : (image : Units) (v : View) → Holds sh image v → image ≡ start → Joined sh (image ∷ []) rest v u0 s0 lives (boot_of w)
   join_start image v holds is = record {
     turn = Asleep;
-    both = (holds, inr (u0, s0, inr (subst (λ (i : Units). ShowsSettled rest i) (sym is) shows, refl, ap (λ (x : View). x.checkpoint.content) one ∙ same), lives));
+    both = (holds, inr (u0, s0, inr (rw (sym is) at shows, refl, ap (λ (x : View). x.checkpoint.content) one ∙ same), lives));
     says = ap boot_of one;
     split = λ x a lived. elim lived [
-      | inl here ↦ inl (image, inl refl, subst (λ (y : View). Holds sh image y) (sym here.0) holds)
+      | inl here ↦ inl (image, inl refl, rw (sym here.0) at holds)
       | inr there ↦ inr there
     ];
   }
     where
       one : v ≡ w
-      one = one_view sh start v w (subst (λ (i : Units). Holds sh i v) is holds) at_start
+      one = one_view sh start v w (rw is at holds) at_start
 
   join_awake : (image before : Units) (images : List Units) (v u : View) → Holds sh image v → AllInHistory ((before ∷ images) ++ rest) image v → GoesOn ((before ∷ images) ++ rest) u v → boot_of w < boot_of v → (both : Lives sh ((before ∷ images) ++ rest) u Awake)
       → ((x : View) (a : Turn) → Lived sh ((before ∷ images) ++ rest) u Awake both x a → ((i : Units) × Among (before ∷ images) i × Holds sh i x) ⊎ Lived sh rest u0 s0 lives x a)
@@ -145,7 +145,7 @@ module _ (sh : Shape) (rest : List Units) (u0 : View) (s0 : Turn) (lives : Lives
     both = (holds, inr (u, Awake, inl (history, next), both));
     says = above;
     split = λ x a lived. elim lived [
-      | inl here ↦ inl (image, inl refl, subst (λ (y : View). Holds sh image y) (sym here.0) holds)
+      | inl here ↦ inl (image, inl refl, rw (sym here.0) at holds)
       | inr there ↦ elim (split x a there) [ inl front ↦ inl (front.0, inr front.1, front.2) | inr back ↦ inr back ]
     ];
   }
@@ -158,7 +158,7 @@ module _ (sh : Shape) (rest : List Units) (u0 : View) (s0 : Turn) (lives : Lives
     both = (holds, inr (u, Asleep, inl (history, stays), both));
     says = ap boot_of stays ∙ boot;
     split = λ x a lived. elim lived [
-      | inl here ↦ inl (image, inl refl, subst (λ (y : View). Holds sh image y) (sym here.0) holds)
+      | inl here ↦ inl (image, inl refl, rw (sym here.0) at holds)
       | inr there ↦ elim (split x a there) [ inl front ↦ inl (front.0, inr front.1, front.2) | inr back ↦ inr back ]
     ];
   }
@@ -167,7 +167,7 @@ module _ (sh : Shape) (rest : List Units) (u0 : View) (s0 : Turn) (lives : Lives
     both = (holds, inr (u, Asleep, inl (history, wakes), both));
     says = omega (arith, wakes.1.boot, ap boot_of wakes.2, boot);
     split = λ x a lived. elim lived [
-      | inl here ↦ inl (image, inl refl, subst (λ (y : View). Holds sh image y) (sym here.0) holds)
+      | inl here ↦ inl (image, inl refl, rw (sym here.0) at holds)
       | inr there ↦ elim (split x a there) [ inl front ↦ inl (front.0, inr front.1, front.2) | inr back ↦ inr back ]
     ];
   }

@@ -24,7 +24,7 @@ start_among log = ends_among (settled log) log.start (settled_ends log.start log
 
 pub made_choice : (c : Content) (images : List Units) → AreMade c images → (i : Units) → Among images i → (sh : Shape) (v : View) → Holds sh i v → ⊥
 made_choice c [] made i among sh v holds = made
-made_choice c (image ∷ images) made i (inl is) sh v holds = no_choice c image images made v.checkpoint.content (subst (λ (j : Units). Holds sh j v) is holds).chosen.agreed
+made_choice c (image ∷ images) made i (inl is) sh v holds = no_choice c image images made v.checkpoint.content (rw is at holds).chosen.agreed
 made_choice c (image ∷ []) made i (inr none) sh v holds = none
 made_choice c (image ∷ before ∷ images) made i (inr there) sh v holds = made_choice c (before ∷ images) made.2 i there sh v holds
 
@@ -143,13 +143,13 @@ module _ (sh : Shape) (before : UnitLog) (logs : List UnitLog) (lived : IsLived 
     (λ u v at_i at_j boot.
         let u_is = one_view sh i newest.0 u newest.2 at_i in
         let v_is = one_view sh j has.0 v has.2 at_j in
-        subst (λ (y : View). IsSameBare u y) v_is (subst (λ (x : View). IsSameBare x has.0) u_is (bare newest.0 has.0 newest.1 has.1 (ap boot_of u_is ∙ boot)))),
+        rw v_is at (rw u_is at (bare newest.0 has.0 newest.1 has.1 (ap boot_of u_is ∙ boot)))),
     stays,
   )
 
   asleep_lived : (log : UnitLog) → IsAsleep log → Grown sh log → IsLived sh (log ∷ before ∷ logs)
   asleep_lived log is grown =
-      (record { start = is.start; view = is.view; holds = is.holds; newest = is.last; fair = (grown_one sh log is.view is.holds grown).fair; grows = is.grows; stays = subst (λ (k : ℕ). StaysBare sh k (settled log)) (sym is.boot) is.stays }, lived)
+      (record { start = is.start; view = is.view; holds = is.holds; newest = is.last; fair = (grown_one sh log is.view is.holds grown).fair; grows = is.grows; stays = rw (sym is.boot) at is.stays }, lived)
 
   -- while the boot is that of the start, the next image has the same bare view
   bare_or_above : (images : List Units) (u : View) → GrowsOn sh (all_settled (before ∷ logs)) images u → HeadHas sh P images → (j : Units) → Has j → (v : View) → Holds sh j v → b ≤ boot_of u → (b < boot_of u) ⊎ IsSameBare u v
@@ -159,7 +159,7 @@ module _ (sh : Shape) (before : UnitLog) (logs : List UnitLog) (lived : IsLived 
     | inr not ↦
         let u_is = one_view sh i newest.0 u newest.2 (on_holds sh (all_settled (before ∷ logs)) i images u grows) in
         let v_is = one_view sh j has.0 v has.2 holds in
-        inr (subst (λ (y : View). IsSameBare u y) v_is (subst (λ (x : View). IsSameBare x has.0) u_is (bare newest.0 has.0 newest.1 has.1 (omega (arith, ap boot_of u_is)))))
+        inr (rw v_is at (rw u_is at (bare newest.0 has.0 newest.1 has.1 (omega (arith, ap boot_of u_is)))))
   ]
 
   asleep_more : (log : UnitLog) → IsAsleep log → (j : Units) → Has j → AreShown (settled log) j → (v : View) → Grows sh (j ∷ settled log) v → GrowsOn sh (all_settled (before ∷ logs)) (j ∷ settled log) v
@@ -221,7 +221,7 @@ module _ (sh : Shape) (before : UnitLog) (logs : List UnitLog) (lived : IsLived 
 -- ---- the start
 
 pub one_bare : (w x y : View) → x ≡ w → y ≡ w → IsSameBare x y
-one_bare w x y is_x is_y = subst (λ (z : View). IsSameBare z y) (sym is_x) (subst (λ (z : View). IsSameBare w z) (sym is_y) (same_bare w))
+one_bare w x y is_x is_y = subst (λ (z : View). IsSameBare z y) (sym is_x) (rw is_y (same_bare w))
 
 pub begins_law : BeginsLaw
 begins_law sh log logs shown w lived may places f =
@@ -292,7 +292,7 @@ boot_lived_law sh log before logs w d puts lived rests dry may copies =
   where
     two_bare : IsSameBare w (booted w d) → boot_of lived.0.view ≤ boot_of w → (x y : View) → (x ≡ w) ⊎ (x ≡ booted w d) → (y ≡ w) ⊎ (y ≡ booted w d) → boot_of x ≡ boot_of lived.0.view → IsSameBare x y
     two_bare same low x y (inl is_x) (inl is_y) boot = one_bare w x y is_x is_y
-    two_bare same low x y (inl is_x) (inr is_y) boot = subst (λ (z : View). IsSameBare z y) (sym is_x) (subst (λ (z : View). IsSameBare w z) (sym is_y) same)
+    two_bare same low x y (inl is_x) (inr is_y) boot = subst (λ (z : View). IsSameBare z y) (sym is_x) (rw (sym is_y) at same)
     two_bare same low x y (inr is_x) other boot = absurd (omega (arith, ap boot_of is_x, may.is.boot))
 
 -- ---- a log that rests on a view
@@ -306,8 +306,8 @@ rest_lived_law sh log before logs v lived rests =
 
 first_of_grown : (sh : Shape) (log : UnitLog) (start : Units) → log.start ≡ start → Grown sh log → ((place : Place) → start place ≡ None) ⊎ ((w : View) × Holds sh start w × Starts start [] w) → IsFirstLog sh log
 first_of_grown sh log start is grown (inl blank) = inl (grown, λ place. ap (λ (i : Units). i place) is ∙ blank place)
-first_of_grown sh log start is (inl grown) (inr (w, holds, starts)) = inr (w, grown.0, subst (λ (i : Units). Holds sh i w) (sym is) holds, subst (λ (i : Units). Starts i [] w) (sym is) starts, grown.1)
-first_of_grown sh log start is (inr (c, made)) (inr (w, holds, starts)) = absurd (made_choice c (settled log) made.made log.start (start_among log) sh w (subst (λ (i : Units). Holds sh i w) (sym is) holds))
+first_of_grown sh log start is (inl grown) (inr (w, holds, starts)) = inr (w, grown.0, rw (sym is) at holds, rw (sym is) at starts, grown.1)
+first_of_grown sh log start is (inr (c, made)) (inr (w, holds, starts)) = absurd (made_choice c (settled log) made.made log.start (start_among log) sh w (rw (sym is) at holds))
 
 pub first_grown_law : FirstGrownLaw
 first_grown_law sh log grown start = first_of_grown sh log log.start refl grown start

@@ -1,5 +1,5 @@
 -- One image more in a log that was restarted: what its own log says of it, said of the history.
-use Rattle.std.proofs.Common.{◌≡◌, ◌⊎◌, inl, inr, ℕ, ◌<◌, ◌≤◌, List, [], ◌∷◌, ◌++◌, Some, ap, subst, arith}
+use Rattle.std.proofs.Common.{◌≡◌, ◌⊎◌, inl, inr, ℕ, ◌<◌, ◌≤◌, List, [], ◌∷◌, ◌++◌, Some, ap, arith}
 use Rattle.df_theory.{specs.{Units.{AnyUnit, BlockPlace, CopyPlace, HeaderPlace, Message, Place, PreparePlace, PrepareUnit, ReplyPlace, Units}, Shape.{Shape}, View.{View, boot_of}, Next.{IsSameBare}, Chance.{InImages}, Grown.{AllInHistory, GoesOn, Grows, IsClear, IsSurvivor}}, proofs.Laws.{one_view, no_choice, next_grew}}
 use Rattle.df_history.{specs.Histories.{GrowsOn}, proofs.Joins.{images_either, images_front, next_bare, on_holds}}
 
@@ -69,4 +69,4 @@ grows_more sh rest [] b j u v one two old bare shown = absurd one
 grows_more sh rest (i ∷ images) b j u v one (holds, inl begins) old bare shown = absurd (no_choice v.checkpoint.content i images begins.2 u.checkpoint.content (on_holds sh rest i images u one).chosen.agreed)
 grows_more sh rest (i ∷ images) b j u v one (holds, inr (history, (w, goes, grows))) old bare shown =
     let same = one_view sh i w u grows.0 (on_holds sh rest i images u one) in
-    (holds, history_all (i ∷ images) rest b j v old shown history, (u, goes_all (i ∷ images) rest b u v old bare (subst (λ (x : View). GoesOn (i ∷ images) x v) same goes), one))
+    (holds, history_all (i ∷ images) rest b j v old shown history, (u, goes_all (i ∷ images) rest b u v old bare (rw same at goes), one))

@@ -120,7 +120,7 @@ of_places image v holds ours headers replies blocks (HeaderPlace s) x is =
 of_places image v holds ours headers replies blocks (PreparePlace s) x is =
     let a = holds.bears.agrees (PreparePlace s) x is in
     let own : IsOurs (PrepareUnit a.0) = subst IsOurs a.1 (ours (PreparePlace s) x is) in
-    (a.0, a.1, a.2.slot, subst (λ (p : Message). IsInRange p.header) (sym own.0) (in_range a.0.header.checksum))
+    (a.0, a.1, a.2.slot, rw (sym own.0) at (in_range a.0.header.checksum))
 of_places image v holds ours headers replies blocks (ReplyPlace k) x is = absurd (let both : None ≡ Some x = sym (replies k) ∙ is in cc)
 of_places image v holds ours headers replies blocks (BlockPlace a) x is = absurd (let both : None ≡ Some x = sym (blocks a) ∙ is in cc)
 

@@ -40,7 +40,7 @@ pub start_distinct : (log : UnitLog) (logs : List UnitLog) (image : Units) → M
 start_distinct log logs image may place other x y one two = may.chance.distinct place other x y (settled_pools (log ∷ logs) place x one) (settled_pools (log ∷ logs) other y two)
 
 newest_holds : (sh : Shape) (log : UnitLog) (rest : List Units) (v : View) (t : Turn) → IsSettled log → Lives sh (settled log ++ rest) v t → Holds sh (now log) v
-newest_holds sh log rest v t sync lives = (subst (λ (l : List Units). Lives sh (l ++ rest) v t) sync.newest lives).0
+newest_holds sh log rest v t sync lives = (rw sync.newest at lives).0
 
 -- ---- the superblock stays
 
@@ -62,7 +62,7 @@ chosen_was was image c (inl all) chosen = (c, agree_kept image was c (λ n below
 chosen_was was image c (inr two) chosen = (two.content, record { first = 0; second = 1; apart = omega arith; inside = omega arith; at_first = two.four 0 (omega arith); at_second = two.four 1 (omega arith) })
 
 made_split : (sh : Shape) (log : UnitLog) (c : Content) → HasMade sh log c → IsSettled log → (d : Content) → Agree (now log) d → ⊥
-made_split sh log c made sync = no_choice c (now log) sync.older (subst (λ (l : List Units). AreMade c l) sync.newest made.made)
+made_split sh log c made sync = no_choice c (now log) sync.older (rw sync.newest at made.made)
 
 module _ (sh : Shape) (images : List Units) (v : View) (t : Turn) (lives : Lives sh images v t) (was : Units) (holds : Holds sh was v) (image : Units) (hurt : MayHurtCopies was image) (shows : ShowsSettled images image) where
   -- a copy beside copy 0 shows the newest superblock, or a lower one
@@ -100,7 +100,7 @@ module _ (sh : Shape) (images : List Units) (v : View) (t : Turn) (lives : Lives
 
 pub among_low : (sh : Shape) (rest images : List Units) (v : View) → GrowsOn sh rest images v → (i : Units) → Among images i → (x : View) → Holds sh i x → boot_of x ≤ boot_of v
 among_low sh rest [] v grows i among x holds = absurd among
-among_low sh rest (image ∷ images) v grows i (inl is) x holds = omega (arith, ap boot_of (one_view sh image x v (subst (λ (j : Units). Holds sh j x) is holds) (on_holds sh rest image images v grows)))
+among_low sh rest (image ∷ images) v grows i (inl is) x holds = omega (arith, ap boot_of (one_view sh image x v (rw is at holds) (on_holds sh rest image images v grows)))
 among_low sh rest (image ∷ []) v grows i (inr none) x holds = absurd none
 among_low sh rest (image ∷ before ∷ images) v grows i (inr there) x holds =
     let older = grows.2 in
@@ -110,8 +110,8 @@ among_low sh rest (image ∷ before ∷ images) v grows i (inr there) x holds =
 
 pub lived_among : (sh : Shape) (images : List Units) (v : View) (t : Turn) (lives : Lives sh images v t) (w : View) (a : Turn) → Lived sh images v t lives w a → (i : Units) × Among images i × Holds sh i w
 lived_among sh [] v t lives w a lived = absurd lived
-lived_among sh (image ∷ images) v t (holds, inl starts) w a is = (image, inl refl, subst (λ (x : View). Holds sh image x) (sym is.0) holds)
-lived_among sh (image ∷ images) v t (holds, inr (u, s, step, lives)) w a (inl is) = (image, inl refl, subst (λ (x : View). Holds sh image x) (sym is.0) holds)
+lived_among sh (image ∷ images) v t (holds, inl starts) w a is = (image, inl refl, rw (sym is.0) at holds)
+lived_among sh (image ∷ images) v t (holds, inr (u, s, step, lives)) w a (inl is) = (image, inl refl, rw (sym is.0) at holds)
 lived_among sh (image ∷ images) v t (holds, inr (u, s, step, lives)) w a (inr lived) =
     let i = lived_among sh images u s lives w a lived in
     (i.0, inr i.1, i.2)
@@ -126,9 +126,9 @@ first_since : (sh : Shape) (log : UnitLog) (v : View) → Lives sh (settled log)
 first_since sh log v lives = record {
   view = v;
   turn = Awake;
-  lives = subst (λ (l : List Units). Lives sh l v Awake) (sym (append-nil (settled log))) lives;
+  lives = rw (sym (append-nil (settled log))) at lives;
   since = λ w lived same.
-      let i = lived_among sh (settled log ++ []) v Awake (subst (λ (l : List Units). Lives sh l v Awake) (sym (append-nil (settled log))) lives) w Awake lived in
+      let i = lived_among sh (settled log ++ []) v Awake (rw (sym (append-nil (settled log))) at lives) w Awake lived in
       inl (i.0, subst (λ (l : List Units). Among l i.0) (append-nil (settled log)) i.1, i.2);
 }
 

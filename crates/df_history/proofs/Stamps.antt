@@ -1,5 +1,5 @@
 -- One reply an op, in the awake views of one boot, and three counters of one boot that stood together.
-use Rattle.std.proofs.Common.{◌≡◌, inl, inr, ℕ, ◌≤◌, List, [], ◌∷◌, Some, refl, sym, ◌∙◌, ap, subst, arith}
+use Rattle.std.proofs.Common.{◌≡◌, inl, inr, ℕ, ◌≤◌, List, [], ◌∷◌, Some, refl, sym, ◌∙◌, ap, arith}
 use Rattle.df_theory.{specs.{Units.{Message, Units}, Shape.{Shape}, Copies.{rank_of}, View.{View, boot_of, head}, Holds.{Sound}}, proofs.Laws.{reply_here, one_stored, stored_op, next_grew}}
 use Rattle.df_history.{specs.Lives.{Awake, Lived, Lives, Steps, Turn}, proofs.Steps.{awake_low, lived_low, lived_self, lived_sound, lives_sound, step_same}}
 
@@ -15,7 +15,7 @@ stored_newest sh images image u v s t step lives a b k j r q is_a lived_b boots 
     let grew = next_grew sh u v (lives_sound sh images u s lives) goes.1.next in
     let boot : boot_of u ≡ boot_of b = omega (arith, older.1, boots, ap boot_of is_a.0, grew.boot) in
     elim (reply_here u v k r goes.1.next (ap (λ (x : View). x.stored k) (sym is_a.0) ∙ at_a)) [
-      | inl old ↦ more (subst (λ (x : Turn). Lived sh images u s lives u x) goes.0 (lived_self sh images u s lives)) boot old
+      | inl old ↦ more (rw (← goes.0) (lived_self sh images u s lives)) boot old
       | inr new ↦ absurd (omega (arith, new.4, stored_op sh b (lived_sound sh images u s lives b Awake lived_b) j q at_b, awake_low sh images u s lives goes.0 b Awake lived_b (sym boot)))
     ]
 

@@ -89,8 +89,8 @@ lived_sound sh (image ∷ images) v t (holds, inr (u, s, step, lives)) w a (inr 
 -- what a view needed was settled
 pub lived_needs : (sh : Shape) (images : List Units) (v : View) (t : Turn) (lives : Lives sh images v t) (w : View) (a : Turn) → Lived sh images v t lives w a → (place : Place) (x : AnyUnit) → Needs sh w place x → InImages images place x
 lived_needs sh [] v t lives w a lived place x need = absurd lived
-lived_needs sh (image ∷ images) v t (holds, inl starts) w a is place x need = inl (holds.bears.needs place x (subst (λ (y : View). Needs sh y place x) is.0 need))
-lived_needs sh (image ∷ images) v t (holds, inr (u, s, step, lives)) w a (inl is) place x need = inl (holds.bears.needs place x (subst (λ (y : View). Needs sh y place x) is.0 need))
+lived_needs sh (image ∷ images) v t (holds, inl starts) w a is place x need = inl (holds.bears.needs place x (rw is.0 at need))
+lived_needs sh (image ∷ images) v t (holds, inr (u, s, step, lives)) w a (inl is) place x need = inl (holds.bears.needs place x (rw is.0 at need))
 lived_needs sh (image ∷ images) v t (holds, inr (u, s, step, lives)) w a (inr lived) place x need = inr (lived_needs sh images u s lives w a lived place x need)
 
 -- a settled prepare has no higher boot than the newest view

@@ -119,7 +119,7 @@ module _ (logs : List UnitLog) (log : UnitLog) (c d : Content) (copy : Option An
   torn = hurt_law shape log (view c) (hurt copy None (now log)) is.rests torn_pool (record { first = 0; second = 1; apart = omega arith; inside = omega arith; at_first = is.copies 0 (omega arith); at_second = is.copies 1 (omega arith) }) torn_needs
 
   header_open : (s : ℕ) (b : Bool) → (1 == s) ≡ b → (struck log copy g (HeaderPlace s) ≡ hurt copy None (now log) (HeaderPlace s)) ⊎ IsOpen shape (view c) (struck log copy g) (HeaderPlace s)
-  header_open s true at = inr (subst (λ (k : ℕ). IsOpen shape (view c) (struck log copy g) (HeaderPlace k)) (eqb-true 1 s at) (record {
+  header_open s true at = inr (rw (← (eqb-true 1 s at)) (record {
     needless = λ x none. none;
     agrees = λ x shows. (g, (let both : Some (HeaderUnit g) ≡ Some x = shows in let one : x ≡ HeaderUnit g = cc in one), is.older.1);
   }))
@@ -163,7 +163,7 @@ module _ (logs : List UnitLog) (log : UnitLog) (c d : Content) (copy : Option An
   struck_places (PreparePlace s) x shows =
       let a = struck_holds.bears.agrees (PreparePlace s) x shows in
       let ours_is : IsOurs (PrepareUnit a.0) = subst IsOurs a.1 (of_log (PreparePlace s) x (is.rests.pooled (PreparePlace s) x shows)) in
-      (a.0, a.1, a.2.slot, subst (λ (p : Message). IsInRange p.header) (sym ours_is.0) (in_range a.0.header.checksum))
+      (a.0, a.1, a.2.slot, rw (sym ours_is.0) at (in_range a.0.header.checksum))
   struck_places (ReplyPlace k) x shows = let a = struck_holds.bears.agrees (ReplyPlace k) x shows in absurd (subst IsOurs a.1 (of_log (ReplyPlace k) x (is.rests.pooled (ReplyPlace k) x shows)))
   struck_places (BlockPlace a) x shows = absurd (let both : None ≡ Some x = sym (is.no_block a) ∙ shows in cc)
 
@@ -199,8 +199,8 @@ module _ (logs : List UnitLog) (log : UnitLog) (c d : Content) (copy : Option An
       puts_copies = (put_one_law (CopyPlace 2) (CopyUnit c), (λ e. omega arith), (λ e. omega arith), (put_one_law (CopyPlace 3) (CopyUnit c), (λ e. omega arith), (λ e. omega arith), tt));
       each_slot = λ s below. reaches s (1 == s) refl;
       each_copy = λ k below. elim (four k below) [
-        | inl at ↦ inl (subst (λ (n : ℕ). struck log copy g (CopyPlace n) ≡ Some (CopyUnit c)) (sym at) (is.copies 0 (omega arith)))
-        | inr (inl at) ↦ inl (subst (λ (n : ℕ). struck log copy g (CopyPlace n) ≡ Some (CopyUnit c)) (sym at) (is.copies 1 (omega arith)))
+        | inl at ↦ inl (rw at (is.copies 0 (omega arith)))
+        | inr (inl at) ↦ inl (rw at (is.copies 1 (omega arith)))
         | inr (inr (inl at)) ↦ inr (inl at)
         | inr (inr (inr at)) ↦ inr (inr (inl at))
       ];

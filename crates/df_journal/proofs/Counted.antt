@@ -37,7 +37,7 @@ top_more number other table k top a b seen at is_a is_b is n = (to, from)
           let same : s ≡ k = omega arith in
           let both : Some there ≡ Some seen = sym found ∙ ap (slice_get table) same ∙ at in
           let one : seen ≡ there = cc in
-          subst (λ (x : SlotSeen). (number_in number x.header ≤ n) × (number_in other x.prepare ≤ n)) one (omega arith, omega arith)
+          rw (← one) (omega arith, omega arith)
     ]
 
     from : SlotsWithin number other n (k + 1) table → max (max top a) b ≤ n
@@ -188,7 +188,7 @@ behind_tells sh image c seen b boot sequence op slot_count found none counts boo
 pub lost_tells : (image : Units) (c : Content) (seen : Counters) (b : Bool) (superblock_head head : ℕ) → IsTrue b ↔ IsLost seen superblock_head head → OnFalse b (IsComplete seen superblock_head head)
     → CountsBound c.boot head image seen → c.head ≡ superblock_head → Tells b (NotLost image c head)
 lost_tells image c seen b superblock_head head found none counts is =
-    let iff : IsComplete seen superblock_head head ↔ NotLost image c head = subst (λ (k : ℕ). IsComplete seen k head ↔ NotLost image c head) is (complete image c head seen counts) in
+    let iff : IsComplete seen superblock_head head ↔ NotLost image c head = rw (← is) (complete image c head seen counts) in
     tells b found none iff (λ bad good. elim bad [ inl ring ↦ omega (arith, ring, good.ring_op) | inr (inl reply) ↦ omega (arith, reply, good.reply_top) | inr (inr own) ↦ omega (arith, own, good.superblock) ])
 
 -- ---- turns of the loops, by what is read at an index

@@ -85,7 +85,7 @@ group_reaches h is = elim (cases_eq h.group_last 0) [
 pub taken_group : (layout : Layout) (cluster s : ℕ) (h : Header) → IsThere layout cluster (place_in WalPrepares s) (Ok h) → h.op ≤ (header_of h).group_last
 taken_group layout cluster s h (body, is) =
     let in_slot : IsInSlot layout s h = (valid_belongs layout cluster (place_in WalPrepares s) (record { header = h; body = body }) is).belongs in
-    group_reaches h (subst (λ (kind : Kind). ObeysVersion kind h) in_slot.kind is.sealed.rules.version)
+    group_reaches h (rw (← in_slot.kind) is.sealed.rules.version)
 
 -- both of its checksums have sixteen bytes
 pub shown_checks : (layout : Layout) (cluster s : ℕ) (table : List SlotSeen) (seen : SlotSeen) (h : Header) → IsSeenTable layout cluster table → slice_get table s ≡ Some seen → seen.prepare ≡ Ok h → IsCheck h.checksum × IsCheck h.parent
@@ -98,20 +98,20 @@ pub not_taken : (start : Start) (op : ℕ) (table : List SlotSeen) (s t : ℕ) (
 not_taken start op table s t seen other h same here there none taken =
     let both : Some other ≡ Some seen = sym there ∙ ap (slice_get table) (sym same) ∙ here in
     let one : other ≡ seen = cc in
-    none h (subst (λ (x : SlotSeen). IsTakenPrepare start op x h) one taken)
+    none h (rw one at taken)
 
 -- ---- the decision that is given on a slot
 
 -- the op that a slot is asked for is that op
 own_op : (layout : Layout) (scan : Scan) (slot op o : ℕ) → length scan.slots ≡ layout.slots → IsOpOf (length scan.slots) scan.start.op slot op → IsOpOf layout.slots scan.start.op slot o → op ≡ o
-own_op layout scan slot op o size own of = one_op layout.slots scan.start.op slot op o (subst (λ (n : ℕ). IsOpOf n scan.start.op slot op) size own) of
+own_op layout scan slot op o size own of = one_op layout.slots scan.start.op slot op o (rw size at own) of
 
 pub decided_slot : (layout : Layout) (image : Units.Units) (scan : Scan) (slot op o : ℕ) (seen : SlotSeen) (d : Cases.Decision) → TellsRings layout image scan → slice_get scan.slots slot ≡ Some seen → IsOpOf (length scan.slots) scan.start.op slot op
     → (HasChecks seen → d ≡ decision_on scan.start.boot op seen) → IsOpOf layout.slots scan.start.op slot o → d ≡ Cases.decision layout.slots scan.start.boot image o
 decided_slot layout image scan slot op o seen d tells at own is of =
     let same : op ≡ o = own_op layout scan slot op o tells.table.size own of in
     is (slot_checks layout scan.start.cluster slot scan.slots seen tells.table at) ∙ ap (λ (k : ℕ). decision_on scan.start.boot k seen) same
-    ∙ sym (decision_is layout.slots scan.start.boot o image seen (subst (λ (k : ℕ). ShowsSlot image k seen) (sym of.slot_is) (tells.shows.each slot seen at)))
+    ∙ sym (decision_is layout.slots scan.start.boot o image seen (rw (sym of.slot_is) at (tells.shows.each slot seen at)))
 
 -- ---- and once the head is known
 
@@ -154,4 +154,4 @@ pub planned_slot : (layout : Layout) (image : Units.Units) (scan : Scan) (slot o
 planned_slot layout image scan slot op o top seen d tells at own is of =
     let same : op ≡ o = own_op layout scan slot op o tells.table.size own of in
     is (slot_checks layout scan.start.cluster slot scan.slots seen tells.table at) ∙ ap (λ (k : ℕ). planned_on scan.start top k seen) same
-    ∙ sym (planned_is layout.slots top o scan.start image seen (subst (λ (k : ℕ). ShowsSlot image k seen) (sym of.slot_is) (tells.shows.each slot seen at)))
+    ∙ sym (planned_is layout.slots top o scan.start image seen (rw (sym of.slot_is) at (tells.shows.each slot seen at)))

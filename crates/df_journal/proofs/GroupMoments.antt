@@ -37,7 +37,7 @@ puts_are_steps layout cluster [] own of_file = tt
 puts_are_steps layout cluster (held ∷ helds) own of_file =
     let one : AreSteps (format_of layout held.unit.header.cluster) (prepare_put_events layout held) (put_steps held.unit) = (prepare_put layout held.unit.header.cluster held.unit.header.slot held.unit _ (own 0 held refl).brings, tt) in
     steps_join_law (format_of layout cluster) (prepare_put_events layout held) (group_puts layout helds) (put_steps held.unit) (group_steps (held_prepares helds))
-    (subst (λ (c : ℕ). AreSteps (format_of layout c) (prepare_put_events layout held) (put_steps held.unit)) (of_file 0 held refl) one)
+    (rw (of_file 0 held refl) at one)
     (puts_are_steps layout cluster helds (λ i x at. own (suc i) x at) (λ i x at. of_file (suc i) x at))
 
 -- a ring is whole sectors
@@ -85,7 +85,7 @@ length_messages (u ∷ us) = omega (arith, length_messages us)
 all_prepares : (layout : Layout) (cluster : ℕ) (sh : Shape) (us : List Message) → sh.layout.slots ≡ layout.slots → AreIn layout cluster us → AllPutPrepare sh (messages_of us) (prepare_units us)
 all_prepares layout cluster sh [] ring all = tt
 all_prepares layout cluster sh (u ∷ us) ring all = (
-  subst (λ (s : ℕ). PutsOne (put_one (PreparePlace u.header.slot) (PrepareUnit (message_of u))) (PreparePlace s) (PrepareUnit (message_of u))) (slot_is layout u (all 0 u refl).0 ∙ ap (λ (n : ℕ). u.header.op % n) (sym ring)) (put_one_law (PreparePlace u.header.slot) (PrepareUnit (message_of u))),
+  rw (← (slot_is layout u (all 0 u refl).0 ∙ ap (λ (n : ℕ). u.header.op % n) (sym ring))) (put_one_law (PreparePlace u.header.slot) (PrepareUnit (message_of u))),
   all_prepares layout cluster sh us ring (λ i x at. all (suc i) x at),
 )
 
@@ -177,14 +177,14 @@ module _ (layout : Layout) (cluster : ℕ) (helds : List Holding) (table : List 
         let one = in_messages us p at in
         let slot = slot_is layout one.1 (all one.0 one.1 one.2).0 in
         let here : slice_get new one.1.header.slot ≡ Some one.1.header = own_get layout cluster us table one.0 one.1 all (turn_apart layout cluster (head v + 1) _ us all may.may.is.turn some_slots room) put.table_is one.2 in
-        subst (λ (q : Units.Message). header_of (at_slot new past (q.header.op % layout.slots)) ≡ q.header) (sym one.3)
+        rw one.3
         (ap (λ (s : ℕ). header_of (at_slot new past s)) (sym slot) ∙ ap header_of (sym (at_slot_is new past one.1.header.slot one.1.header here)));
     reached = λ p at.
         let one = in_messages us p at in
         let slot = slot_is layout one.1 (all one.0 one.1 one.2).0 in
         let here : slice_get new one.1.header.slot ≡ Some one.1.header = own_get layout cluster us table one.0 one.1 all (turn_apart layout cluster (head v + 1) _ us all may.may.is.turn some_slots room) put.table_is one.2 in
-        subst (λ (q : Units.Message). Reaches (sector_units new (sectors_of us)) (HeaderPlace (q.header.op % layout.slots))) (sym one.3)
-        (subst (λ (s : ℕ). Reaches (sector_units new (sectors_of us)) (HeaderPlace s)) slot (two_reach new (first_slot us / 16) (last_slot 0 us / 16) one.1.header.slot one.1.header here (of_two one.0 one.1 one.2)));
+        rw one.3
+        (rw slot at (two_reach new (first_slot us / 16) (last_slot 0 us / 16) one.1.header.slot one.1.header here (of_two one.0 one.1 one.2)));
   }
 
   is_group : IsGroupTable sh image ps (λ s. header_of (at_slot new past s)) (sector_units new (sectors_of us))
@@ -240,8 +240,8 @@ module _ (layout : Layout) (cluster : ℕ) (helds : List Holding) (table : List 
   flush_ends after last told same =
       let log : after.log ≡ adds events t.log = all_added events t after told in
       record {
-        tidy = subst (λ (l : Log.Log). IsTidy sh (units_log f l) (appended v ps)) (sym log) both.1;
-        ring = subst (λ (l : Log.Log). ShowsRing layout cluster (Log.now l) last) (sym log) (subst (ShowsRing layout cluster (Log.now (adds events t.log))) (sym same) ring_after);
+        tidy = rw (sym log) at both.1;
+        ring = rw (sym log) at (subst (ShowsRing layout cluster (Log.now (adds events t.log))) (sym same) ring_after);
       }
 
 -- ---- of what a disk told
@@ -251,12 +251,12 @@ module _ (layout : Layout) (cluster : ℕ) (helds : List Holding) (table : List 
       → EachMoment before.log after.log (LeavesGroup layout cluster (held_prepares helds) table before may)
   group_moments part before after first last may =
       flush_moments layout cluster helds table before put own some may after
-      (subst (λ (o : Option Told). AddsPart (flush_events layout helds table) o (Some after)) first (subst (λ (o : Option Told). AddsPart (flush_events layout helds table) old o) last part))
+      (rw first at (rw last at part))
 
   pub group_ends : (made : List Header) (result : Result Unit Failed) → Adds (flush_events layout helds table) old new result → made ≡ with_headers (held_prepares helds) table → (before after : Told) → old ≡ Some before → new ≡ Some after
       → (may : MayFlushOn layout cluster (held_prepares helds) table before) → OnOk result (EndsFlushed layout cluster (held_prepares helds) table before may after made)
   group_ends made result adds same before after first last may =
-      go result (subst (λ (o : Option Told). Adds (flush_events layout helds table) o (Some after) result) first (subst (λ (o : Option Told). Adds (flush_events layout helds table) old o result) last adds))
+      go result (rw first at (rw last at adds))
     where
       go : (r : Result Unit Failed) → Adds (flush_events layout helds table) (Some before) (Some after) r → OnOk r (EndsFlushed layout cluster (held_prepares helds) table before may after made)
       go (Ok done) told = flush_ends layout cluster helds table before put own some may after made told same
@@ -269,4 +269,4 @@ between_of_ring layout room cluster helds table first last put own some here one
     let us = held_prepares helds in
     let are = ends_of_ring layout cluster us (are_in layout cluster helds table put own) (omega (arith, some, length_of_units helds)) (ring_whole layout) in
     let path : sectors_between first last ≡ sectors_of us = λ i. sectors_between (one i) (two i) in
-    subst (λ (l : Layout). AreOfRing l (sectors_between first last)) (sym here) (subst (AreOfRing layout) (sym path) are)
+    rw (sym here) at (subst (AreOfRing layout) (sym path) are)

@@ -20,7 +20,7 @@ AreApart us = (i j : ℕ) (u x : Message) → slice_get us i ≡ Some u → slic
 -- ---- the table
 
 kept_one : (layout : Layout) (cluster : ℕ) (u : Message) (table : List Header) → IsHeaderTable layout cluster table → IsInOwnSlot layout u × (u.header.cluster ≡ cluster) → IsHeaderTable layout cluster (with_header u table)
-kept_one layout cluster u table is in_slot = table_kept layout cluster u.header.slot table u.header is (subst (λ (c : ℕ). IsHeader layout c u.header.slot u.header) in_slot.1 (in_header_ring layout u in_slot.0))
+kept_one layout cluster u table is in_slot = table_kept layout cluster u.header.slot table u.header is (rw (← in_slot.1) (in_header_ring layout u in_slot.0))
 
 pub group_kept : (layout : Layout) (cluster : ℕ) (us : List Message) (table : List Header) → AreIn layout cluster us → IsHeaderTable layout cluster table → IsHeaderTable layout cluster (with_headers us table)
 group_kept layout cluster [] table all is = is
@@ -181,7 +181,7 @@ sectors_put table past (sector ∷ sectors) = (table_put sector (in_sector secto
 put_there : (table : List Header) (sector s : ℕ) (h : Header) → s / 16 ≡ sector → slice_get table s ≡ Some h → put_headers sector (in_sector sector table) (HeaderPlace s) ≡ Some (HeaderUnit (header_of h))
 put_there table sector s h here at =
     let place : s ≡ 16 * sector + s % 16 = omega (arith, here) in
-    let there : slice_get (in_sector sector table) (s % 16) ≡ Some h = sector_has sector (s % 16) table h (omega arith) (subst (λ (n : ℕ). slice_get table n ≡ Some h) place at) in
+    let there : slice_get (in_sector sector table) (s % 16) ≡ Some h = sector_has sector (s % 16) table h (omega arith) (rw place at at) in
     cond-true (s / 16 == sector) (header_unit (slice_get (in_sector sector table) (s % 16))) None (eq-eqb (s / 16) sector here) ∙ ap header_unit there
 
 pub two_reach : (table : List Header) (first last s : ℕ) (h : Header) → slice_get table s ≡ Some h → (s / 16 ≡ first) ⊎ (s / 16 ≡ last) → Reaches (sector_units table (sectors_between first last)) (HeaderPlace s)

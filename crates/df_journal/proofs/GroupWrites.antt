@@ -37,11 +37,11 @@ module _ (layout : Layout) (helds : List Holding) (k : ℕ) (held : Holding) (at
 
   pub group_leads : (all : List Event) (old mid new : Option Told) → LeadsAs all (group_puts layout (drop k helds)) old mid → new ≡ after_all (prepare_put_events layout held) mid → LeadsAs all (group_puts layout (drop (k + 1) helds)) old new
   group_leads all old mid new before turn =
-      leads_more all (prepare_put_events layout held) (group_puts layout (drop (k + 1) helds)) old mid new (subst (λ (es : List Event). LeadsAs all es old mid) (ap (group_puts layout) from_here) before) turn
+      leads_more all (prepare_put_events layout held) (group_puts layout (drop (k + 1) helds)) old mid new (rw (ap (group_puts layout) from_here) at before) turn
 
   pub group_fails : (all : List Event) (old mid new : Option Told) → LeadsAs all (group_puts layout (drop k helds)) old mid → AddsPart (prepare_put_events layout held) mid new → AddsPart all old new
   group_fails all old mid new before part =
-      before.part new (subst (λ (es : List Event). AddsPart es mid new) (sym (ap (group_puts layout) from_here)) (part_then (prepare_put_events layout held) (group_puts layout (drop (k + 1) helds)) mid new part))
+      before.part new (rw ((ap (group_puts layout) from_here)) (part_then (prepare_put_events layout held) (group_puts layout (drop (k + 1) helds)) mid new part))
 
   -- and so are the headers
   pub headers_turn : (old new goal : List Header) → new ≡ with_header held.unit old → with_headers (held_prepares (drop k helds)) old ≡ goal → with_headers (held_prepares (drop (k + 1) helds)) new ≡ goal
@@ -63,6 +63,6 @@ pub flush_adds : (layout room : Layout) (helds : List Holding) (table made : Lis
     → mid ≡ after_all (group_puts layout helds) old → Adds (settle_events room made sectors) mid new result → Adds (flush_events layout helds table) old new result
 flush_adds layout room helds table made sectors old mid new result here same there first more =
     adds_then (group_puts layout helds) (settle_events layout (with_headers (held_prepares helds) table) (sectors_of (held_prepares helds))) old mid new result first
-    (subst (λ (l : Layout). Adds (settle_events l (with_headers (held_prepares helds) table) (sectors_of (held_prepares helds))) mid new result) here
-    (subst (λ (hs : List Header). Adds (settle_events room hs (sectors_of (held_prepares helds))) mid new result) same
-    (subst (λ (ss : List ℕ). Adds (settle_events room made ss) mid new result) there more)))
+    (rw here at
+    (rw same at
+    (rw there at more)))

@@ -25,7 +25,7 @@ in_header_ring layout u is =
       body = refl;
       own = is_own layout WalHeaders u.header (place_in WalHeaders u.header.slot) (record {
         op = own.op;
-        named = subst (λ (k : Kind). named_in_ring k u.header ≡ Some (place_in WalHeaders u.header.slot)) (sym here.kind) refl;
+        named = rw here.kind refl;
         has = own.has;
       });
     }
@@ -48,10 +48,10 @@ next_sector layout u table image own is shows =
       here = refl;
       has =
           let same : slot ≡ 16 * (slot / 16) + slot % 16 = omega arith in
-          sector_has (slot / 16) (slot % 16) new u.header (omega arith) (subst (λ (n : ℕ). slice_get new n ≡ Some u.header) same (get_set table slot u.header within));
+          sector_has (slot / 16) (slot % 16) new u.header (omega arith) (rw (← same) (get_set table slot u.header within));
       others = λ s h sector at.
           let same : 16 * (slot / 16) + s % 16 ≡ s = omega (arith, sector) in
-          let there : slice_get new s ≡ Some h = subst (λ (n : ℕ). slice_get new n ≡ Some h) same (sector_at (slot / 16) (s % 16) new h at).1 in
+          let there : slice_get new s ≡ Some h = rw same at (sector_at (slot / 16) (s % 16) new h at).1 in
           elim (set_cases table slot s u.header h there) [ inl here ↦ inl here.0 | inr elsewhere ↦ inr (shows s h elsewhere.1) ];
     }
 
@@ -82,11 +82,11 @@ stays layout cluster named parse image v u count whole held same tail low high =
     let places = of_places layout cluster named parse image whole in
     let op : u.checkpoint.content.op ≡ v.checkpoint.content.op = ap (λ (c : Checkpoint). c.content.op) same in
     record {
-      taken = λ p is. subst (λ (c : Checkpoint). Takes (slots sh) units c.content p) same (found.tail.takes p (tail p is));
+      taken = λ p is. rw same at (found.tail.takes p (tail p is));
       empty = λ o above within.
           let law = slot_law sh units u o places found (omega (arith, above, op)) (omega (arith, within, op)) in
           subst IsEmpty (decided_above (slots sh) (boot_of v) (head u) units o (omega (arith, above, high)) ∙ sym (decided_above (slots sh) (boot_of v) (head v) units o (omega (arith, above))))
-          (subst (λ (b : ℕ). IsEmpty (decided (slots sh) b (head u) units o)) boot (law.1 (omega (arith, above, high))));
+          (rw boot at (law.1 (omega (arith, above, high))));
     }
 
 module _ (layout : Layout) (u : Message) (table : List Header) (t : Told) (may : MayAppendOn layout u table t) (own : IsInOwnSlot layout u) (is : IsHeaderTable layout u.header.cluster table) (bytes : List ℕ) (brings : Brings layout u.header.cluster (place_in WalPrepares u.header.slot) u bytes) where
@@ -137,7 +137,7 @@ module _ (layout : Layout) (u : Message) (table : List Header) (t : Told) (may :
   ring_after s h at = elim (cases_eq (s / 16) (u.header.slot / 16)) [
     | inl here ↦
         let place : s ≡ 16 * (u.header.slot / 16) + s % 16 = omega (arith, here) in
-        let there : slice_get (new_sector u table) (s % 16) ≡ Some h = sector_has (u.header.slot / 16) (s % 16) (with_header u table) h (omega arith) (subst (λ (n : ℕ). slice_get (with_header u table) n ≡ Some h) place at) in
+        let there : slice_get (new_sector u table) (s % 16) ≡ Some h = sector_has (u.header.slot / 16) (s % 16) (with_header u table) h (omega arith) (rw place at at) in
         let puts : put_headers (u.header.slot / 16) (new_sector u table) (HeaderPlace s) ≡ Some (HeaderUnit (header_of h)) =
         cond-true (s / 16 == u.header.slot / 16) (header_unit (slice_get (new_sector u table) (s % 16))) None (eq-eqb (s / 16) (u.header.slot / 16) here) ∙ ap header_unit there in
         two_shows s ∙ ap (λ (x : Option AnyUnit). or_else x (unit_at layout u.header.cluster one (HeaderPlace s))) puts
@@ -155,8 +155,8 @@ module _ (layout : Layout) (u : Message) (table : List Header) (t : Told) (may :
   append_ends after new all same =
       let log : after.log ≡ adds events t.log = all_added events t after all in
       record {
-        tidy = subst (λ (l : Log.Log). IsTidy (shape_of layout u.header.cluster may.named may.parse) (units_log (format_of layout u.header.cluster) l) (appended may.view (message_of u ∷ []))) (sym log) leads.tidy;
-        ring = subst (λ (l : Log.Log). ShowsRing layout u.header.cluster (Log.now l) new) (sym log) (subst (ShowsRing layout u.header.cluster (Log.now (adds events t.log))) (sym same) ring_after);
+        tidy = rw log leads.tidy;
+        ring = rw log (subst (ShowsRing layout u.header.cluster (Log.now (adds events t.log))) (sym same) ring_after);
       }
 
   pub ends_appended : (after : Told) (new : List Header) (result : Result Unit Failed) → Adds events (Some t) (Some after) result → OnOk result (new ≡ with_header u table) → OnOk result (EndsAppended layout u table t may after new)
@@ -175,13 +175,13 @@ module _ (layout : Layout) (held : Holding) (table : List Header) (own : IsInOwn
   pub moments_of : AddsPart (journal_events layout held table) old new → (before after : Told) → old ≡ Some before → new ≡ Some after → (may : MayAppendOn layout held.unit table before) → EachMoment before.log after.log (AppendLeaves layout held.unit table before may)
   moments_of part before after first last may =
       append_moments layout held.unit table before may own is _ brings after
-      (subst (λ (o : Option Told). AddsPart (journal_events layout held table) o (Some after)) first (subst (λ (o : Option Told). AddsPart (journal_events layout held table) old o) last part))
+      (rw first at (rw last at part))
 
   pub ends_of : (made : List Header) (result : Result Unit Failed) → Adds (journal_events layout held table) old new result → made ≡ with_header held.unit table → (before after : Told) → old ≡ Some before → new ≡ Some after
       → (may : MayAppendOn layout held.unit table before) → OnOk result (EndsAppended layout held.unit table before may after made)
   ends_of made result adds same before after first last may =
       ends_appended layout held.unit table before may own is _ brings after made result
-      (subst (λ (o : Option Told). Adds (journal_events layout held table) o (Some after) result) first (subst (λ (o : Option Told). Adds (journal_events layout held table) old o result) last adds)) (whole result)
+      (rw first at (rw last at adds)) (whole result)
     where
       whole : (r : Result Unit Failed) → OnOk r (made ≡ with_header held.unit table)
       whole (Ok done) = same

@@ -36,7 +36,7 @@ read_more sh image c table slot op low seen wanted h shows at slot_is next found
     let sum : p.header.checksum ≡ named_by c.pin_checksum is.read = ap (λ (g : Units.Header). g.checksum) there.2 ∙ ap number_of found.1 ∙ is.wants in
     record {
       read = p ∷ is.read;
-      known = subst (λ (o : ℕ). AreKnown (slots sh) image o c.pin_checksum (p ∷ is.read)) next (subst (λ (s : ℕ). image (PreparePlace s) ≡ Some (PrepareUnit p)) slot_is there.1, sum, is.known);
+      known = rw (← next) (rw (← slot_is) there.1, sum, is.known);
       count = omega (arith, is.count, next);
       wants = sym (ap (λ (g : Units.Header). g.parent) there.2);
     }
@@ -60,7 +60,7 @@ read_lacks sh image c layout cluster table slot op seen wanted is_table shows at
 pub read_all : (sh : Shape) (image : Images) (c : Content) (op : ℕ) (wanted : List ℕ) → c.op ≡ op → IsRead sh image c op wanted → AllKnown sh image c
 read_all sh image c op wanted at is = record {
   read = is.read;
-  known = subst (λ (o : ℕ). AreKnown (slots sh) image (o + 1) c.pin_checksum is.read) (sym at) is.known;
+  known = rw (sym at) at is.known;
   count = omega (arith, at, is.count);
 }
 

@@ -1,5 +1,5 @@
 -- The device calls of a settling, sector by sector, and of a put with a settling after it.
-use Rattle.std.{specs.{Prelude.{Result, Ok, Err, OnOk, OnErr}, List.{slice_get}}, proofs.{Common.{◌≡◌, inl, ℕ, zero, suc, ◌+◌, ◌*◌, ◌/◌, ◌<◌, ◌≤◌, List, [], ◌∷◌, ◌++◌, length, drop, slice_index_or, Option, Some, refl, sym, ◌∙◌, ap, subst, arith}, lemmas.Option.{same_Some, slice_get-get_or}}}
+use Rattle.std.{specs.{Prelude.{Result, Ok, Err, OnOk, OnErr}, List.{slice_get}}, proofs.{Common.{◌≡◌, inl, ℕ, zero, suc, ◌+◌, ◌*◌, ◌/◌, ◌<◌, ◌≤◌, List, [], ◌∷◌, ◌++◌, length, drop, slice_index_or, Option, Some, refl, sym, ◌∙◌, ap, arith}, lemmas.Option.{same_Some, slice_get-get_or}}}
 use Rattle.df_base.specs.{declared.Failed.{Failed}, Log.{Event, Sync}}
 use Rattle.df_disk.{specs.{Told.{Told, after}, Adds.{Adds, AddsPart, after_all}}, proofs.Laws.{adds_then, after_append, all_then, part_then}}
 use Rattle.df_layout.specs.declared.layout.Layout.{Layout}
@@ -73,12 +73,12 @@ module _ (layout : Layout) (table : List Header) (sectors : List ℕ) (k past : 
       → LeadsAs all (sector_writes layout table (drop (k + 1) sectors)) old new
   turn_leads room all old mid new here before turn =
       leads_more all (sector_events layout at_k table) (sector_writes layout table (drop (k + 1) sectors)) old mid new
-      (subst (λ (es : List Event). LeadsAs all es old mid) (writes_from layout table sectors k at_k there) before) (subst (λ (l : Layout). new ≡ after_all (sector_events l at_k table) mid) here turn)
+      (rw (writes_from layout table sectors k at_k there) at before) (rw here at turn)
 
   pub turn_fails : (room : Layout) (all : List Event) (old mid new : Option Told) → room ≡ layout → LeadsAs all (sector_writes layout table (drop k sectors)) old mid → AddsPart (sector_events room at_k table) mid new → AddsPart all old new
   turn_fails room all old mid new here before part =
-      before.part new (subst (λ (es : List Event). AddsPart es mid new) (sym (writes_from layout table sectors k at_k there))
-      (part_then (sector_events layout at_k table) (sector_writes layout table (drop (k + 1) sectors)) mid new (subst (λ (l : Layout). AddsPart (sector_events l at_k table) mid new) here part)))
+      before.part new (rw ((writes_from layout table sectors k at_k there))
+      (part_then (sector_events layout at_k table) (sector_writes layout table (drop (k + 1) sectors)) mid new (rw here at part)))
 
 pub leads_end : (layout : Layout) (table : List Header) (sectors : List ℕ) (k : ℕ) (all : List Event) (old mid : Option Told) → length sectors ≤ k → LeadsAs all (sector_writes layout table (drop k sectors)) old mid → mid ≡ after_all all old
 leads_end layout table sectors k all old mid past leads =
@@ -112,6 +112,6 @@ pub both_add : (layout room : Layout) (held : Holding) (table made : List Header
 both_add layout room held table made sectors old mid new result here set one put settled =
     let slot = held.unit.header.slot in
     adds_then (prepare_put_events layout held) (settle_events layout (with_header held.unit table) (slot / 16 ∷ [])) old mid new result put
-    (subst (λ (l : Layout). Adds (settle_events l (with_header held.unit table) (slot / 16 ∷ [])) mid new result) here
-    (subst (λ (t : List Header). Adds (settle_events room t (slot / 16 ∷ [])) mid new result) set
-    (subst (λ (ks : List ℕ). Adds (settle_events room made ks) mid new result) one settled)))
+    (rw here at
+    (rw set at
+    (rw one at settled)))

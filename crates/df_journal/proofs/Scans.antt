@@ -39,7 +39,7 @@ slot_seen layout cluster slot (Some t) sector seen size shows header prepare =
 pub holds_read : (layout : Layout) (slot : ℕ) (told : Option Told) (bytes : List ℕ) {E : Type 0} (result : Result (Unit {0}) E) → slot % 16 ≡ 0 → OnOk result (Shows told (header_first layout (16 * (slot / 16))) bytes) → length bytes ≡ 4096
     → OnOk result (HoldsSector layout told slot bytes)
 holds_read layout slot told bytes (Err e) first shows size = tt
-holds_read layout slot told bytes (Ok x) first shows size = let same : 16 * (slot / 16) ≡ slot = omega arith in record { shows = subst (λ (n : ℕ). Shows told (header_first layout n) bytes) same shows; size = size }
+holds_read layout slot told bytes (Ok x) first shows size = let same : 16 * (slot / 16) ≡ slot = omega arith in record { shows = rw same at shows; size = size }
 
 -- and the next slot's, if that isn't the first of one
 same_sector : (layout : Layout) (slot : ℕ) → 0 < (slot + 1) % 16 → header_first layout slot ≡ header_first layout (slot + 1)
@@ -47,7 +47,7 @@ unfolding span_of sectors_before
 same_sector layout slot some = let same : slot / 16 ≡ (slot + 1) / 16 = omega arith in omega (arith, same)
 
 pub held_still : (layout : Layout) (slot : ℕ) (told : Option Told) (bytes : List ℕ) → 0 < (slot + 1) % 16 → HoldsSector layout told slot bytes → HoldsSector layout told (slot + 1) bytes
-held_still layout slot told bytes some holds = record { shows = subst (λ (n : ℕ). Shows told n bytes) (same_sector layout slot some) holds.shows; size = holds.size }
+held_still layout slot told bytes some holds = record { shows = rw (same_sector layout slot some) at holds.shows; size = holds.size }
 
 -- ---- the table
 
@@ -62,7 +62,7 @@ seen_more layout cluster told k table new seen within put is valid are = record 
         let same : s ≡ k = here in
         let both : Some other ≡ Some seen = sym at ∙ ap (λ (l : List SlotSeen). slice_get l s) put ∙ ap (slice_get (set table k seen)) same ∙ get_set table k seen within in
         let one : seen ≡ other = cc in
-        subst (λ (n : ℕ). IsSlotSeen layout cluster told n other) (sym same) (subst (IsSlotSeen layout cluster told k) one is)
+        rw (sym same) at (subst (IsSlotSeen layout cluster told k) one is)
     | inr elsewhere ↦ are.seen s other (omega arith) (sym (ap (λ (l : List SlotSeen). slice_get l s) put ∙ get_set_other table k s seen elsewhere) ∙ at)
   ];
   valid = λ s other less at. elim (cases_eq s k) [
@@ -70,7 +70,7 @@ seen_more layout cluster told k table new seen within put is valid are = record 
         let same : s ≡ k = here in
         let both : Some other ≡ Some seen = sym at ∙ ap (λ (l : List SlotSeen). slice_get l s) put ∙ ap (slice_get (set table k seen)) same ∙ get_set table k seen within in
         let one : seen ≡ other = cc in
-        subst (λ (n : ℕ). IsSlot layout cluster n other) (sym same) (subst (IsSlot layout cluster k) one valid)
+        rw (sym same) at (subst (IsSlot layout cluster k) one valid)
     | inr elsewhere ↦ are.valid s other (omega arith) (sym (ap (λ (l : List SlotSeen). slice_get l s) put ∙ get_set_other table k s seen elsewhere) ∙ at)
   ];
 }
@@ -113,8 +113,8 @@ rings_shown layout t scan is = record { table = is.is_table; shows = shows }
       each = λ s seen at.
           let same : seen ≡ seen_at layout cluster t.shown s = is.seen s seen at in
           record {
-            header = subst (λ (x : SlotSeen). ShowsHeader (Bytes.unit_at layout cluster t.shown (HeaderPlace s)) x.header) (sym same) (header_shown s (unit_at layout cluster t.shown (place_in WalHeaders s)) (class_at layout cluster t.shown (place_in WalHeaders s)));
-            prepare = subst (λ (x : SlotSeen). ShowsPrepare (Bytes.unit_at layout cluster t.shown (PreparePlace s)) x.prepare) (sym same) (prepare_shown s (unit_at layout cluster t.shown (place_in WalPrepares s)) (class_at layout cluster t.shown (place_in WalPrepares s)));
+            header = rw same (header_shown s (unit_at layout cluster t.shown (place_in WalHeaders s)) (class_at layout cluster t.shown (place_in WalHeaders s)));
+            prepare = rw same (prepare_shown s (unit_at layout cluster t.shown (place_in WalPrepares s)) (class_at layout cluster t.shown (place_in WalPrepares s)));
           };
       no_header = λ s past. ap (message_unit (HeaderPlace s)) (none_past layout cluster s t.shown (omega (arith, past, is.is_table.size))).0;
       no_prepare = λ s past. ap (message_unit (PreparePlace s)) (none_past layout cluster s t.shown (omega (arith, past, is.is_table.size))).1;

@@ -29,10 +29,10 @@ module _ (layout : Layout) (cluster : ℕ) (table : List SlotSeen) (image : Unit
       let decided : Cases.decision layout.slots start.boot image op ≡ decision_on start.boot op seen = decision_is layout.slots start.boot op image seen (shows.each slot seen at) in (
         p,
         record {
-          shown = subst (λ (o : ℕ). image (PreparePlace (o % layout.slots)) ≡ Some (PrepareUnit p)) (sym op_is) found.1;
+          shown = rw op_is found.1;
           take = λ above.
               let take : Cases.IsTake (decision_on start.boot op seen) = taken.take (omega (arith, above, op_is, of.pin)) in
-              subst (λ (k : ℕ). Cases.IsTake (Cases.decision layout.slots k image p.header.op)) (sym of.boot) (subst (λ (o : ℕ). Cases.IsTake (Cases.decision layout.slots start.boot image o)) (sym op_is) (subst Cases.IsTake (sym decided) take));
+              rw (sym of.boot) at (rw (sym op_is) at (subst Cases.IsTake (sym decided) take));
         },
         found.2,
       )
@@ -49,7 +49,7 @@ module _ (layout : Layout) (cluster : ℕ) (table : List SlotSeen) (image : Unit
   shown_taken op p op_is takes =
       let slot = op % layout.slots in
       let inside : slot < length table = omega (arith, mod-lt op (some_slots layout), is.size) in
-      let shown : image (PreparePlace slot) ≡ Some (PrepareUnit p) = subst (λ (o : ℕ). image (PreparePlace (o % layout.slots)) ≡ Some (PrepareUnit p)) op_is takes.shown in
+      let shown : image (PreparePlace slot) ≡ Some (PrepareUnit p) = rw (← op_is) takes.shown in
       elim (slice_get_cases table slot).1 [
         | inl there ↦
             let at : slice_get table slot ≡ Some there.0 = there.2 in
@@ -63,7 +63,7 @@ module _ (layout : Layout) (cluster : ℕ) (table : List SlotSeen) (image : Unit
                 shown = found.1;
                 op_is = sym (ap (λ (k : Units.Header). k.op) found.2) ∙ op_is;
                 take = λ above.
-                    subst Cases.IsTake decided (subst (λ (o : ℕ). Cases.IsTake (Cases.decision layout.slots start.boot image o)) op_is (subst (λ (k : ℕ). Cases.IsTake (Cases.decision layout.slots k image p.header.op)) of.boot (takes.take (omega (arith, above, op_is, of.pin)))));
+                    subst Cases.IsTake decided (rw op_is at (rw of.boot at (takes.take (omega (arith, above, op_is, of.pin)))));
               };
               same = found.2;
             }
@@ -103,7 +103,7 @@ taken_on layout cluster table image b start tail end kept new at ahead h is show
 pub shape_walk : (sh : Shape) (image : Units.Units) (b : Checkpoint) (layout : Layout) (tail : Tail) (kept : List Session) (at : Position) (ahead : List Session) → slots sh ≡ layout.slots → clients sh ≡ layout.clients
     → IsTakenWalk layout.clients layout.slots image b tail kept at ahead → IsTakenWalk (clients sh) (slots sh) image b tail kept at ahead
 shape_walk sh image b layout tail kept at ahead slots_are clients_are walk =
-    subst (λ (m : ℕ). IsTakenWalk (clients sh) m image b tail kept at ahead) (sym slots_are) (subst (λ (m : ℕ). IsTakenWalk m layout.slots image b tail kept at ahead) (sym clients_are) walk)
+    subst (λ (m : ℕ). IsTakenWalk (clients sh) m image b tail kept at ahead) (sym slots_are) (rw (sym clients_are) at walk)
 
 -- no prepare comes next, where the ring has room for one
 abbrev pub EndsThere : Layout → Start → List SlotSeen → Position → List Session → Type 0
@@ -139,9 +139,9 @@ module _ (layout : Layout) (cluster : ℕ) (table : List SlotSeen) (image : Unit
       → FitsGroup at.group at.group_last (at.last.op + 1) p.header → (p.header.op ≡ b.content.pin → p.header.group_last ≤ b.content.pin) → ⊥
   not_next p left takes fits group pin =
       let op : p.header.op ≡ at.last.op + 1 = omega (arith, fits.op_is, w.ends_on.op) in
-      let taken : TakenOf layout cluster table image is shows b.content start of_start (at.last.op + 1) p = shown_taken layout cluster table image is shows b.content start of_start (at.last.op + 1) p op (subst (λ (m : ℕ). Cases.Takes m image b.content p) starts.slots_are takes) in
+      let taken : TakenOf layout cluster table image is shows b.content start of_start (at.last.op + 1) p = shown_taken layout cluster table image is shows b.content start of_start (at.last.op + 1) p op (rw starts.slots_are at takes) in
       let here : Fits layout.clients (at.last.op + 1) (number_of at.last.checksum) at.last.mark (sessions_of ahead) p.header =
-      subst (λ (m : ℕ). Fits m (at.last.op + 1) (number_of at.last.checksum) at.last.mark (sessions_of ahead) p.header) starts.clients_are ((fits_behind (clients sh) b w.ps w.more at.last ahead p.header w.ends_on).1 fits) in
+      rw starts.clients_are at ((fits_behind (clients sh) b w.ps w.more at.last ahead p.header w.ends_on).1 fits) in
       let own_op : p.header.op ≡ taken.header.op = ap (λ (k : Units.Header). k.op) taken.same in
       let own_last : p.header.group_last ≡ (header_of taken.header).group_last = ap (λ (k : Units.Header). k.group_last) taken.same in
       none taken.header left (record {
@@ -149,8 +149,8 @@ module _ (layout : Layout) (cluster : ℕ) (table : List SlotSeen) (image : Unit
         there = taken.at;
         taken = taken.taken;
         fits = (
-          subst (λ (k : Units.Header). Fits layout.clients (at.last.op + 1) (number_of at.last.checksum) at.last.mark (sessions_of ahead) k) taken.same here,
-          (subst (λ (k : Units.Header). FitsGroup at.group at.group_last (at.last.op + 1) k) taken.same group, λ at_head. omega (arith, own_last, starts.pin, pin (omega (arith, own_op, at_head, starts.pin)))),
+          rw taken.same at here,
+          (rw taken.same at group, λ at_head. omega (arith, own_last, starts.pin, pin (omega (arith, own_op, at_head, starts.pin)))),
         );
       })
 
@@ -218,17 +218,17 @@ module _ (layout : Layout) (cluster : ℕ) (table : List SlotSeen) (image : Unit
       let at_end = chain_end (clients sh) (b.content.op + 1) b.content.op_checksum 0 b.parts.sessions all next bad.chain in
       let op : b.content.op + 1 + length all ≡ b.content.op + 1 + length w.ps + length w.more = omega (arith, size) in
       let fits = fits_same (clients sh) _ _ _ _ _ _ _ _ next.header op (last_checksum-append b.content.op_checksum w.ps w.more) (last_mark-append 0 w.ps w.more) (sessions-append b.parts.sessions w.ps w.more) at_end in
-      let split : AreGroups 0 b.content.op (b.content.op + 1) (w.ps ++ (w.more ++ next ∷ [])) = subst (λ (l : List Units.Message). AreGroups 0 b.content.op (b.content.op + 1) l) (append_assoc w.ps w.more (next ∷ [])) bad.grouped in
+      let split : AreGroups 0 b.content.op (b.content.op + 1) (w.ps ++ (w.more ++ next ∷ [])) = rw (append_assoc w.ps w.more (next ∷ [])) at bad.grouped in
       let grouped = groups_split 0 b.content.op (b.content.op + 1) (b.content.op + length w.ps) w.ps (w.more ++ next ∷ []) (omega arith) (λ p there. omega (arith, w.groups p there)) (omega arith) split in
       not_next next (omega (arith, short, starts.pin_near, starts.op_is, starts.slots_are)) (record {
-        shown = subst (λ (o : ℕ). image (PreparePlace (o % slots sh)) ≡ Some (PrepareUnit next)) (sym at_end.op_is) (known_here (slots sh) image (b.content.op + 1) b.content.pin_checksum all next rest shown);
+        shown = rw (sym at_end.op_is) at (known_here (slots sh) image (b.content.op + 1) b.content.pin_checksum all next rest shown);
         take = λ above. absurd (omega (arith, above, at_end.op_is, size, w.ends_on.op, short));
       }) fits ((w.next_group next).1 grouped) (λ at_pin. bad.ends next (in_last all next) at_pin)
 
   stops_by : at.last.op < b.content.pin → (rest : List Units.Message) → known.read ≡ all ++ rest → StopsAt sh image b at.last.op
   stops_by short [] same = absurd (omega (arith, short, known.count, w.ends_on.op, size, ap length same, length-append all []))
   stops_by short (next ∷ rest) same =
-      let shown : AreKnown (slots sh) image (b.content.op + 1) b.content.pin_checksum (all ++ next ∷ rest) = subst (λ (l : List Units.Message). AreKnown (slots sh) image (b.content.op + 1) b.content.pin_checksum l) same known.known in
+      let shown : AreKnown (slots sh) image (b.content.op + 1) b.content.pin_checksum (all ++ next ∷ rest) = rw same at known.known in
       record {
         front = all;
         unfit = record {
@@ -263,6 +263,6 @@ still_numbered h before after place small there others within k s at = elim (cas
   | inl here ↦
       let both : Some s ≡ Some (requested h.client h.request h.op) = sym at ∙ ap (slice_get after) here ∙ there in
       let one : s ≡ requested h.client h.request h.op = cc in
-      subst (λ (x : Session). x.request ≤ 2 ^ 62) (sym one) small
+      rw one small
   | inr other ↦ within k s (sym (others k other) ∙ at)
 ]

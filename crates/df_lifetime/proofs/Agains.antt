@@ -97,7 +97,7 @@ module _ (file : DataFile) (log : Log) (older : List Log) (t n : Told) (may : Ma
   stops_run : (layout : Layout) → StopsOpening layout t (Some n) → Lives
   stops_run layout (inl same) = inl (inl same)
   stops_run layout (inr (inl barrier)) = inl (inr barrier)
-  stops_run layout (inr (inr partly)) = stops_live file log older t may (Some n) (subst (λ (l : Layout). StopsOpening l t (Some n)) (own_rooms file log older t may layout partly.found partly.opened) (inr (inr partly)))
+  stops_run layout (inr (inr partly)) = stops_live file log older t may (Some n) (rw (← (own_rooms file log older t may layout partly.found partly.opened)) (inr (inr partly)))
 
   served_run : (layout : Layout) (found : FoundFile layout t) (c : CallsMade) → layout ≡ file.layout → CallsKeep t found.replica found.mended found.mending c → c.new ≡ Some n → LivesThrough file log older t (Some n)
   served_run layout found c same =
@@ -117,7 +117,7 @@ run_lives file older b t n p m run is spared wrote until along =
       | inr lives ↦
           let end : Told = told_after lives.events (did Sync (restarted t)) in
           let told : n ≡ told_after lives.events (did Sync t) = same_Some n (told_after lives.events (did Sync t)) (lives.told ∙ added_is_told lives.events (did Sync t)) in
-          let all : GoesAlong (did Sync t) n (did Sync (restarted t)) end = subst (λ (x : Told). GoesAlong (did Sync t) x (did Sync (restarted t)) end) (sym told) (after_along lives.events (did Sync t) (did Sync (restarted t)) refl) in
+          let all : GoesAlong (did Sync t) n (did Sync (restarted t)) end = rw (sym told) at (after_along lives.events (did Sync t) (did Sync (restarted t)) refl) in
           lives.moments m.log (moment_along (did Sync t) p n (did Sync (restarted t)) m end all along until)
     ]
 
@@ -168,5 +168,5 @@ pub runs_keep_since : RunsKeepSince
 runs_keep_since file older b t n served life spared =
     let s : Replica = served.found.found in
     let same : served.layout ≡ file.layout = own_rooms file b.log older t (may_reopen file older b t.shown (every_life_is_lived file older b t.shown life) spared) served.layout s served.found.is_opened in
-    let finds : FindsSince file b.log older t.shown s = every_open_finds_since file older b t.shown s life spared (subst (λ (l : Layout). IsOpened l t.shown s) same served.found.is_opened) in
+    let finds : FindsSince file b.log older t.shown s = every_open_finds_since file older b t.shown s life spared (rw same at served.found.is_opened) in
     record { finds = finds; keeps = λ g stands. runs_keep_on g file finds.found t n (restarted t) served refl (opens_anew file older b t s life finds) stands }

@@ -28,7 +28,7 @@ module _ (layout : Layout) (a b : Image) (same : ShowSame layout a b) where
     pub view_alike : one.view ≡ other.view
     view_alike =
         one_found_law (shape u.file) (unit_at layout u.file.cluster b) one.view other.view
-        (subst (λ (f : DataFile). IsFound (shape f) (unit_at layout f.cluster b) one.view) file_alike (subst (λ (image : Place → Option AnyUnit). IsFound (shape s.file) image one.view) (units_alike s.file.cluster) one.found)) other.found
+        (rw file_alike at (rw (units_alike s.file.cluster) at one.found)) other.found
 
     first : DataFile → (Place → Option AnyUnit) → View → Memory
     first f image v = memory_of (shape f) (spelling f) (opened (shape f) image v)
@@ -57,7 +57,7 @@ module _ (layout : Layout) (t : Told) (file : FoundFile layout t) where
 -- over the file what they show agrees
 pub agree_there : (layout : Layout) (a b : Image) → ShowSame layout a b → (file : DataFile) → file.layout ≡ layout → AgreeShown file.layout (shown_of file a) (shown_of file b)
 agree_there layout a b same file of =
-    let here : ShowSame file.layout a b = subst (λ (l : Layout). ShowSame l a b) (sym of) same in
+    let here : ShowSame file.layout a b = rw (sym of) at same in
     record {
       units = record { prepare = λ k. here.units file.cluster (PreparePlace k); reply = λ k. here.units file.cluster (ReplyPlace k); block = λ k. here.units file.cluster (BlockPlace k) };
       classes = λ place read none. here.classes file.cluster place read none;

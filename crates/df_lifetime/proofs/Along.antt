@@ -60,7 +60,7 @@ module _ (t p b m : Told) (part : GoesAlong t p b m) where
       let es : List Event = call.call.events in
       subst (λ (o : Option Told). HadReturned k o m.log rest) (sym (added_is_told es c))
       (returned_along k (told_after es u) (told_after es c) (along_on t u (told_after es u) b c (told_after es c) from (after_along es u c from.shows)) rest
-      (subst (λ (o : Option Told). HadReturned k o p.log rest) (added_is_told es u) had))
+      (rw (added_is_told es u) at had))
 
   had_along : (k : ℕ) (u c : Told) → GoesAlong t u b c → (s r : Replica) (old new : Option Told) (xs : List Exchange) (failed : Option Act) (calls : EndsCalls s r old new xs failed) → HadAnswers k (Some u) p.log s r old new xs failed calls
       → HadAnswers k (Some c) m.log s r old new xs failed calls

@@ -50,6 +50,6 @@ new_disks_are_made_on layout cluster t named below blank_start syncs = record {
   named = named;
   is_log = record { start = subst IsImage (sym blank_start) blank_is_image; events = syncs_are_events t.log.events syncs };
   making =
-      subst (λ (image : Image). IsMaking (shape (file_of layout cluster named)) (units_log (format_of layout cluster) (record { start = image; events = t.log.events })) (content_of (first_content layout cluster))) (sym blank_start)
+      rw (sym blank_start) at
       (new_is_making layout cluster named (shape (file_of layout cluster named)).parse t.log.events (record { rules = first_is_super layout cluster named; fits = first_fits layout cluster below }) syncs);
 }

@@ -1,5 +1,5 @@
 -- A life begins where a copy was made, or where it was stopped after the second copy of its superblock.
-use Rattle.std.proofs.Common.{◌≡◌, inl, inr, [], refl, sym, ◌∙◌, subst}
+use Rattle.std.proofs.Common.{◌≡◌, inl, inr, [], refl, sym, ◌∙◌}
 use Rattle.df_base.{specs.{Image.{Image}, Log.{now}, Moments.{IsMoment}}, proofs.Laws.{one_some}}
 use Rattle.df_disk.specs.Told.{Told}
 use Rattle.df_layout.specs.declared.layout.Layout.{Layout}
@@ -24,13 +24,13 @@ pub made_is_copied : MadeIsCopied
 made_is_copied layout t read o n run done empty honest distinct =
     let shown_is : now n.log ≡ n.shown = λ i sector. sym (honest.shows sector) i in
     let holds : HoldsCopy layout (file_of run) read.shown (view_of run) (now n.log) = run.copies.holds read o n done run.source run.target run.later empty run.view run.found in
-    is_copied layout (file_of run) read.shown (view_of run) n.shown (subst (λ (image : Image). ShowsCopy layout (file_of run) read.shown (view_of run) image) shown_is holds.shows) distinct
+    is_copied layout (file_of run) read.shown (view_of run) n.shown (rw shown_is at holds.shows) distinct
 
 pub stopped_is_copied : StoppedIsCopied
 stopped_is_copied layout t read o n p m run image empty until along left chance =
     let stops = run.copies.stops read o run.source run.target empty run.view run.found in
     let told : told_after stops.events o ≡ n = one_some run.new.second (told_after stops.events o) n (stops.told ∙ added_is_told stops.events o) run.later in
-    let all : GoesAlong o n (restarted o) (told_after stops.events (restarted o)) = subst (λ (x : Told). GoesAlong o x (restarted o) (told_after stops.events (restarted o))) told (after_along stops.events o (restarted o) refl) in
+    let all : GoesAlong o n (restarted o) (told_after stops.events (restarted o)) = rw told at (after_along stops.events o (restarted o) refl) in
     let moment : IsMoment (restarted o).log (told_after stops.events (restarted o)).log m.log = moment_along o p n (restarted o) m (told_after stops.events (restarted o)) all along until in
     elim (left_or_shows layout (file_of run) read.shown (view_of run) image left.whole m.log (stops.moments m.log moment image left chance)) [
       | inl split ↦ inl split

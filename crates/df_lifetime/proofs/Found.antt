@@ -43,7 +43,7 @@ module _ (file : DataFile) where
       let rest : answers_in xs ≡ answers_of file (next file w x.act.given x.act.command).0 (acts_in xs) = cc in
       subst (λ (y : Answer). IsAnswerThere v (promised_in w) a.given a.command y × AreThere v (promised_by (promised_in w) a.command y) xs) (sym one) (
         stays_behind (acts_in xs ++ more) (next file w a.given a.command).0 (promised_in w) a.given a.command (next file w a.given a.command).1 then inputs.1 (just_there (shape file) (spelling file) w a.given a.command work),
-        subst (λ (rs : List Promised). AreThere v rs xs) (sym (promised_on (shape file) (spelling file) w a.given work a.command)) (front_there xs more (next file w a.given a.command).0 then inputs.1 rest),
+        rw (sym (promised_on (shape file) (spelling file) w a.given work a.command)) at (front_there xs more (next file w a.given a.command).0 then inputs.1 rest),
       )
 
   pub front_inputs : (acts more : List Act) → AreInputs (acts ++ more) → AreInputs acts
@@ -66,7 +66,7 @@ module _ (file : DataFile) where
 
     -- what is there after the acts that came through is in the view that it came to
     came_there : (done : List Exchange) → AreThere (kept (work_after file start (acts_in c.answered ++ goes.came.more))) [] done → AreThere u [] done
-    came_there done there = are_there (kept (work_after file start acts)) u goes.view [] done (subst (λ (l : List Act). AreThere (kept (work_after file start l)) [] done) (sym goes.came.are) there)
+    came_there done there = are_there (kept (work_after file start acts)) u goes.view [] done (rw (sym goes.came.are) at there)
 
     -- so is what was answered in it
     answered_there : AreThere u [] c.answered
@@ -94,6 +94,6 @@ pub acknowledged_is_found : AcknowledgedIsFound
 acknowledged_is_found file first t chapters view life chance found =
     let goes = every_life_goes_on file first t chapters life chance in
     let shows : now t.log ≡ t.shown = λ i sector. sym (goes.may.honest.shows sector) i in
-    let there : IsFound (shape file) (unit_at file.layout file.cluster t.shown) goes.view = subst (λ (image : Image). IsFound (shape file) (unit_at file.layout file.cluster image) goes.view) shows goes.may.found in
+    let there : IsFound (shape file) (unit_at file.layout file.cluster t.shown) goes.view = rw shows at goes.may.found in
     let one : goes.view ≡ view = one_found_law (shape file) (unit_at file.layout file.cluster t.shown) goes.view view there found in
-    subst (λ (x : View). AllThere x chapters) one (all_there file goes.may.version first chapters goes.view goes.had)
+    rw one at (all_there file goes.may.version first chapters goes.view goes.had)

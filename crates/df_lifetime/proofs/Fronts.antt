@@ -54,7 +54,7 @@ cut_text bound budget text lines says script left rest begins refused = (same, �
     same = one_script bound budget text lines says (record { left = left; rest = rest; begins = begins; ends = inr refused }) script
 
     by : (e : (script.rest ≡ []) ⊎ IsRefused bound script.left script.rest) (n : ℕ) (line : List ℕ) → text_by e n line ≡ line ++ script_text (n + 1)
-    by (inl none) n line = absurd (refused.some (begins_one bound budget text says left script.left rest script.rest (subst (λ (l : List Said). BeginsWithLines bound budget text l left rest) same begins) script.begins ∙ none))
+    by (inl none) n line = absurd (refused.some (begins_one bound budget text says left script.left rest script.rest (rw same at begins) script.begins ∙ none))
     by (inr other) n line = refl
 
 -- ---- what they print
@@ -116,7 +116,7 @@ module _ (pace : Pace) (layout : Layout) (t : Told) (old new : Outside) (status 
   printed_front left rest begins false refused =
       let lines = lines_front (line_bound layout) script_budget s.text (all_said turns) s.says left s.script.left rest s.script.rest begins s.script.begins s.script.ends in
       let text = text_front pace file (shown_of file t.shown) (begun_work file t.shown s.view) (all_said turns) s.says lines in
-      front_on (all_text turns) (says_over s.says) (whole_text s) (subst (λ (l : List ℕ). IsFront l (says_over s.says)) (sym lines_text) text) (by_front s.script.ends (length s.says) (says_over s.says))
+      front_on (all_text turns) (says_over s.says) (whole_text s) (rw (sym lines_text) at text) (by_front s.script.ends (length s.says) (says_over s.says))
   printed_front left rest begins true refused =
       let cut = cut_text (line_bound layout) script_budget s.text (all_said turns) s.says s.script left rest begins (refused refl) in
       let count : length s.says + 1 ≡ 0 + length (all_said turns) + 1 = omega (arith, sym (ap length cut.0)) in
@@ -149,7 +149,7 @@ module _ (pace : Pace) (layout : Layout) (t : Told) (old new : Outside) (status 
 
     -- the disk failed in the last one
     some_written : (f : Failing) (cut : Bool) (how : Status) → IsFront (prints 0 turns false) (whole_text s) → Ends (Some f) cut how → Writes
-    some_written f cut DiskFault front ends = all_written false front (subst (λ (b : Bool). Appends old.written new.written (prints 0 turns b)) ends.0 ends.1)
+    some_written f cut DiskFault front ends = all_written false front (rw ends.0 at ends.1)
     some_written f cut WriteFault front ends = absurd (untold ends.2.step.untold)
     some_written f cut Refused front ends = absurd (untold ends.2.step.untold)
     some_written f cut Done front ends = absurd ends
@@ -161,7 +161,7 @@ module _ (pace : Pace) (layout : Layout) (t : Told) (old new : Outside) (status 
 
     written : (failing : Option Failing) (cut : Bool) → BeginsWithLines (line_bound layout) script_budget s.text (all_said turns ++ said_of failing) left rest → (cut ≡ true → IsRefused (line_bound layout) left rest) → Ends failing cut status → Writes
     written None cut begins refused ends =
-        none_written cut status (printed_front left rest (subst (λ (l : List Said). BeginsWithLines (line_bound layout) script_budget s.text l left rest) (append-nil (all_said turns)) begins) cut refused) ends
+        none_written cut status (printed_front left rest (rw (append-nil (all_said turns)) at begins) cut refused) ends
     written (Some f) cut begins refused ends =
         let some = begins_first (line_bound layout) script_budget s.text (all_said turns) (said_of (Some f)) left rest begins in
         some_written f cut status (printed_front some.0 some.1 some.2 false (λ is. absurd (cc))) ends

@@ -34,7 +34,7 @@ idle_sessions_leave_it file first chapters c view answered perhaps (v, had, inr 
     let none : acts ≡ [] =
     goes.came.are ∙ ap (λ (xs : List Exchange). acts_in xs ++ goes.came.more) answered ∙ none_more goes.came.more goes.came.rest (sym perhaps ∙ goes.came.some) in
     let begun : Work = begun_work file c.shown v in
-    let same : KeepsView (kept begun) view = subst (λ (l : List Act). KeepsView (kept (work_after file begun l)) view) none goes.view in
+    let same : KeepsView (kept begun) view = rw none at goes.view in
     had_on file first chapters v view had (keeps_on v (kept begun) view (begun_bare file c.shown v) same)
 
 -- ---- what was acknowledged

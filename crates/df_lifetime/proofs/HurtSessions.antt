@@ -34,8 +34,8 @@ module _ (file : DataFile) (g : Grade) (w : Work) (work : IsWork (shape file) (s
           rest = rest;
           some = some;
           may = (both.0, both.1, record { version = version; safe = safe; honest = honest; found = (found_law (shape file) ((format file).unit_at (now n.log)) both.0).0 both.2; no_chance = chance });
-          there = answers_there xs more rest are (subst (λ (l : List Act). AreInputs (acts_in xs ++ l)) some inputs);
-          stands = subst (λ (image : Image). StandsFor g (unit_at file.layout file.cluster image) view) shows both.3;
+          there = answers_there xs more rest are (rw some at inputs);
+          stands = rw shows at both.3;
         }
 
     -- after one
@@ -45,7 +45,7 @@ module _ (file : DataFile) (g : Grade) (w : Work) (work : IsWork (shape file) (s
         let image : Image = changed changes (now m.log) in
         let some = has_front file g (work_after file w (acts_in xs)) perhaps image (mid.left image (left_by m.log changes mid.safe.is_log loose) chance) in
         let view : View = kept (work_after file w (acts_in xs ++ some.front)) in
-        let has : HasView file g (work_after file w (acts_in xs ++ some.front)) image = subst (λ (u : Work). HasView file g u image) (sym (work_on file w (acts_in xs) some.front)) some.has in
+        let has : HasView file g (work_after file w (acts_in xs ++ some.front)) image = rw (sym (work_on file w (acts_in xs) some.front)) at some.has in
         let both = held_for g (shape file) ((format file).unit_at image) view has in
         let shows : now m.log ≡ m.shown = λ i sector. sym (honest.shows sector) i in
         record {
@@ -53,8 +53,8 @@ module _ (file : DataFile) (g : Grade) (w : Work) (work : IsWork (shape file) (s
           rest = some.rest;
           some = some.are;
           may = (both.0, both.1, stopped_may_open file both.0 m changes version mid.safe honest loose chance both.2);
-          there = answers_there xs some.front some.rest are (subst (λ (l : List Act). AreInputs (acts_in xs ++ l)) some.are inputs);
-          stands = subst (λ (now_shown : Image). StandsFor g (unit_at file.layout file.cluster (changed changes now_shown)) view) shows both.3;
+          there = answers_there xs some.front some.rest are (rw some.are at inputs);
+          stands = rw (← shows) both.3;
         }
 
   -- at the end of a session
@@ -62,10 +62,10 @@ module _ (file : DataFile) (g : Grade) (w : Work) (work : IsWork (shape file) (s
       → NoChanceOf (format file) n.log (now n.log) → NextFinds file g w xs (list_of failed) n
   next_ended xs None n safe honest left are inputs chance =
       next_now xs are [] inputs [] [] n refl safe honest chance
-      (subst (λ (l : List Act). HasView file g (work_after file w l) (now n.log)) (sym (append-nil (acts_in xs))) (left (now n.log) (now_left n.log safe.is_log) chance))
+      (rw (sym (append-nil (acts_in xs))) at (left (now n.log) (now_left n.log safe.is_log) chance))
   next_ended xs (Some a) n safe honest left are inputs chance = elim (left (now n.log) (now_left n.log safe.is_log) chance) [
     | inl before ↦
-        next_now xs are (a ∷ []) inputs [] (a ∷ []) n refl safe honest chance (subst (λ (l : List Act). HasView file g (work_after file w l) (now n.log)) (sym (append-nil (acts_in xs))) before)
+        next_now xs are (a ∷ []) inputs [] (a ∷ []) n refl safe honest chance (rw (sym (append-nil (acts_in xs))) at before)
     | inr after ↦ next_now xs are (a ∷ []) inputs (a ∷ []) [] n refl safe honest chance after
   ]
 
@@ -101,12 +101,12 @@ module _ (file : DataFile) (g : Grade) (view : View) (t base : Told) (version : 
     ended : NoChanceOf (format file) last.log (now last.log) → NextFinds file g start c.exchanges (list_of c.failed) last
     ended chance =
         next_ended file g start work version c.exchanges c.failed last (moments last.log (record { since = grew; until = extends_self last.log })).safe (subst IsHonest after_is keeps.honest)
-        (subst (λ (x : Told). LeavesAll file g start (acts_in c.exchanges) c.failed x) after_is keeps.left) keeps.answered inputs chance
+        (rw after_is at keeps.left) keeps.answered inputs chance
 
     midway : (k : ℕ) (m : Told) → IsMoment (did Sync base).log last.log m.log → AreAnswered k mending base m.log c → IsMidway file g (work_after file start (acts_in (take k c.exchanges))) (acts_in (drop k c.exchanges) ++ list_of c.failed) m.log
     midway zero m moment none = moments m.log moment
     midway (suc k) m moment were =
-        answered (suc k) m.log were (subst (λ (o : Option Told). IsUntil o m.log) (sym (added_is_told (events_made c) (told_after mending (did Sync base)))) moment.until)
+        answered (suc k) m.log were (rw ((added_is_told (events_made c) (told_after mending (did Sync base)))) moment.until)
 
     stopped : (k : ℕ) (m : Told) (changes : List (ℕ × List ℕ)) → IsMoment (did Sync base).log last.log m.log → AreAnswered k mending base m.log c → IsHonest m → AreLoose m.log.events changes → NoChanceOf (format file) m.log (changed changes (now m.log))
         → NextFinds file g start (take k c.exchanges) (acts_in (drop k c.exchanges) ++ list_of c.failed) (did (Stop changes) m)
@@ -144,8 +144,8 @@ runs_keep_on g file view t n base served same may stands =
     let c : CallsMade = served.made in
     let here = found_shown file view t base same may in
     let one : found.replica.file ≡ file = file_there served.layout t found ∙ one_file 2 file served.layout t.shown view found.found here found.is_opened in
-    let there = subst (λ (f : DataFile). IsFound (shape f) (unit_at f.layout f.cluster t.shown) view) (sym one) here in
-    let work : IsWork (shape file) (spelling file) (begun_work file t.shown view) = subst (λ (f : DataFile). IsWork (shape f) (spelling f) (begun_work f t.shown view)) one (served.keep.stands view there).0 in
+    let there = rw (sym one) at here in
+    let work : IsWork (shape file) (spelling file) (begun_work file t.shown view) = rw one at (served.keep.stands view there).0 in
     keeps_on file g view t base may.version work found.mending.events c (subst (λ (f : DataFile). KeepsOver f t c.exchanges c.failed found.mending.events (events_made c)) one served.keep.keeps g view base same may stands)
     (subst (λ (f : DataFile). AnsweredOver f t found.mending.events c) one served.keep.acknowledged g view base same may stands)
     (shows_over found.mending.events c t base same (served.after ∙ found.mending.told) (served_adds t n served))

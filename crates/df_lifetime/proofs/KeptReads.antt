@@ -1,5 +1,5 @@
 -- What a read is supplied with is what a log shows over which the disk is honest, so that the machine's laws of reads apply.
-use Rattle.std.{proofs.{Common.{◌≡◌, ℕ, ◌≤◌, ◌==◌, ◌&&◌, not, nat_lt, nat_le, zero, suc, Bool, true, false, if◌then◌else◌, List, [], ◌∷◌, Option, Some, None, Result, Ok, refl, sym, ◌∙◌, ap, subst, arith, lt-ltb, le-leb, le-ltb, eq-eqb, eqb-true}, lemmas.Option.{same_Some}}, specs.List.{slice_get}}
+use Rattle.std.{proofs.{Common.{◌≡◌, ℕ, ◌≤◌, ◌==◌, ◌&&◌, not, nat_lt, nat_le, zero, suc, Bool, true, false, if◌then◌else◌, List, [], ◌∷◌, Option, Some, None, Result, Ok, refl, sym, ◌∙◌, ap, arith, lt-ltb, le-leb, le-ltb, eq-eqb, eqb-true}, lemmas.Option.{same_Some}}, specs.List.{slice_get}}
 use Rattle.df_base.specs.Log as logs
 use Rattle.df_layout.specs.declared.damage.Class.{Class}
 use Rattle.df_theory.{specs.{Device.{units_log}, Shape.{Shape}, UnitLog.{UnitLog, now}, Units.{Block, Message, Session}, View.{head, sessions}}, proofs.Laws.{now_units}}
@@ -104,7 +104,7 @@ kept_replies_are_read g w k s r x is at there =
     let m : Memory = memory_of (shape file) (spelling file) w in
     let sense = (by g w (ReadReply s.client) x is).sense in
     let own = sense.view.answered k r there in
-    let low : s.op ≤ w.view.replies = subst (λ (t : Session). t.op ≤ w.view.replies) (same_Some own.0 s (sym own.1 ∙ at)) own.2 in
+    let low : s.op ≤ w.view.replies = rw (same_Some own.0 s (sym own.1 ∙ at)) at own.2 in
     let none : first_refusal (lookup_refusals m s.client) ≡ None = lookup_passes m s (client_found (sessions w.view) s k sense.sessions.apart at) low in
     let read = reply_read_law (shape file) (spells g w (ReadReply s.client) x is) (log g w (ReadReply s.client) x is) (damage g w (ReadReply s.client) x is) w s.client (by g w (ReadReply s.client) x is) none in
     let place : read.0 ≡ k = sense.sessions.apart read.0 k read.1 s read.3 at read.4 in

@@ -1,5 +1,5 @@
 -- Where an open finds a view, with each block that it references, no unit that is known lacks.
-use Rattle.std.{proofs.{Common.{◌≡◌, inl, inr, ℕ, zero, suc, ◌+◌, ◌-◌, ◌%◌, ◌^◌, ◌==◌, ◌<◌, ◌≤◌, Bool, true, false, if◌then◌else◌, List, [], ◌∷◌, drop, length, take, Some, refl, sym, ◌∙◌, ap, subst, arith}, lemmas.Bool.{cases_lt}, lemmas.Bool.Decides.{nat_tests}, lemmas.List.{length-take}, lemmas.Option.{same_Some}}, specs.List.{slice_get}}
+use Rattle.std.{proofs.{Common.{◌≡◌, inl, inr, ℕ, zero, suc, ◌+◌, ◌-◌, ◌%◌, ◌^◌, ◌==◌, ◌<◌, ◌≤◌, Bool, true, false, if◌then◌else◌, List, [], ◌∷◌, drop, length, take, Some, refl, sym, ◌∙◌, ap, arith}, lemmas.Bool.{cases_lt}, lemmas.Bool.Decides.{nat_tests}, lemmas.List.{length-take}, lemmas.Option.{same_Some}}, specs.List.{slice_get}}
 use Rattle.df_format.specs.declared.kind.Kind.{Kind}
 use Rattle.df_format.specs.declared.kind.Kind.TheVariants as kinds
 use Rattle.df_theory.{specs.{Found.{IsFound}, Holds.{Stands}, Opens.{AreKnown, Found, IsReadable, IsUsableSuperblock, OpenAnswer, Opens, ReadsTo, Refused, BootSpent, Damaged, named_by}, Opens.Opens.{LacksBlock, Opened, Spent, Unknown}, Sessions.{noted, session_of_header, sessions_after}, Shape.{Shape, slots}, Tails.{Chain, In, last_checksum}, Trailer.{InChain, Links, Says}, Units.{Block, BlockPlace, BlockUnit, Content, CopyPlace, Header, HeaderPlace, Message, Parts, Place, PreparePlace, PrepareUnit, ReplyPlace, ReplyUnit, Session, Units}, View.{View, boot_of, sessions}}, proofs.Laws.{chain_ops, in_dropped, known_one, noted_get, one_answer_law, same_says, sessions-drop, take_boot}}
@@ -18,7 +18,7 @@ one_chain image room c (x ∷ xs) (y ∷ ys) a k one two shows also =
     let place : x.0 ≡ y.0 = one.1 ∙ sym two.1 in
     let both : Some (BlockUnit x.1) ≡ Some (BlockUnit y.1) = sym (shows x.0 x.1 (inl (refl, refl))) ∙ ap (λ (e : ℕ). image (BlockPlace e)) place ∙ also y.0 y.1 (inl (refl, refl)) in
     let block : x.1 ≡ y.1 = cc in
-    let rest : xs ≡ ys = one_chain image room c xs ys x.1.before x.1.before_checksum one.7 (subst (λ (b : Block). Links room c ys b.before b.before_checksum) (sym block) two.7) (λ e b at. shows e b (inr at)) (λ e b at. also e b (inr at)) in
+    let rest : xs ≡ ys = one_chain image room c xs ys x.1.before x.1.before_checksum one.7 (rw (sym block) at two.7) (λ e b at. shows e b (inr at)) (λ e b at. also e b (inr at)) in
     λ i. (place i, block i) ∷ rest i
 
 -- ---- tails
@@ -116,7 +116,7 @@ module _ (sh : Shape) (image : Units) (v : View) (second : sh.version ≡ 2) (fo
   one_parts : (says : ShowsTrailer sh image c) → says.parts ≡ v.checkpoint.parts
   one_parts says =
       let chain : says.chain ≡ v.checkpoint.chain = one_chain image (sh.layout.block_size - 256) c says.chain v.checkpoint.chain c.trailer c.trailer_checksum says.trailer.links found.checkpoint.trailer.links says.shown found.chain_shown in
-      same_says sh c.op v.checkpoint.chain says.parts v.checkpoint.parts (subst (λ (l : List (ℕ × Block)). Says sh c.op l says.parts) chain says.trailer.says) found.checkpoint.trailer.says
+      same_says sh c.op v.checkpoint.chain says.parts v.checkpoint.parts (rw chain at says.trailer.says) found.checkpoint.trailer.says
 
   block_shown : (a sum : ℕ) → IsReferencedBlock sh image c a sum → IsShownAs image kinds.Block (BlockPlace a) sum
   block_shown a sum is =

@@ -97,7 +97,7 @@ module _ (file : DataFile) (first : View) (chapters : List Chapter) (b : Told) (
   one_unspent layout s opened =
       let of = one_opened layout s opened in
       let there : IsFound (shape file) (unit_at file.layout file.cluster t.shown) opened.view =
-      subst (λ (f : DataFile). IsFound (shape f) (unit_at f.layout f.cluster t.shown) opened.view) of (subst (λ (l : Layout). IsFound (shape s.file) (unit_at l s.file.cluster t.shown) opened.view) (sym opened.of.layout_is) opened.found) in
+      rw of at (rw (sym opened.of.layout_is) at opened.found) in
       subst (λ (v : View). boot_of v < 2 ^ 62) (one_found_law (shape file) (unit_at file.layout file.cluster t.shown) opened.view view there found_shown) opened.unspent
 
   -- ---- the disk failed within the mending or the boot update
@@ -119,9 +119,7 @@ module _ (file : DataFile) (first : View) (chapters : List Chapter) (b : Told) (
       let raised : View = kept (begun_state file b view d) in
       let end : Told = told_after es (did Sync b) in
       let both : EachMoment (did Sync b).log end.log (IsGoodFor Whole (format file) (shape file) view raised) × IsSameBare view raised =
-      (subst
-      (λ (f : DataFile). (g : Grade) (v : View) (base : Told) → base.shown ≡ t.shown → MayOpen f v base → StandsFor g (unit_at f.layout f.cluster t.shown) v
-      → EachMoment (did Sync base).log (told_after es (did Sync base)).log (IsGoodFor g (format f) (shape f) v (kept (begun_state f base v d))) × IsSameBare v (kept (begun_state f base v d))) one mends.moments)
+      (rw one at mends.moments)
       Whole view b shown opens stands_there in
       let later : EachMoment (did Sync b).log end.log (Order file first chapters) =
       weaker (did Sync b).log end.log (IsGoodFor Whole (format file) (shape file) view raised) (Order file first chapters) (λ log good. good_order raised both.1 log good) both.0 in
@@ -219,7 +217,7 @@ module _ (file : DataFile) (first : View) (chapters : List Chapter) (b : Told) (
             inputs = subst AreInputs (sym (front_and_rest k c.exchanges (list_of c.failed))) inputs;
             answers_are = first_answers file k start c.exchanges keeps.answered;
             came = record { more = has.front; rest = has.rest; are = refl; some = has.are };
-            view = subst (λ (w : Work). KeepsView (kept w) has.has.0) (sym (work_on file start (acts_in (take k c.exchanges)) has.front)) has.has.1;
+            view = rw (sym (work_on file start (acts_in (take k c.exchanges)) has.front)) at has.has.1;
           },
         ),
       );
@@ -262,7 +260,7 @@ module _ (file : DataFile) (first : View) (chapters : List Chapter) (b : Told) (
       all_moments zero p m later part none from = first_moments m.log (moment_along t p told b m end along part later)
       all_moments (suc k) p m later part were from =
           mid_order (suc k) m.log
-          (on (suc k) m.log (answered_along t p b m part (suc k) mending c shown (subst (λ (o : Option Told). WereAnswered (suc k) o p.log c) from were)) (until m.log (extends_along t p told b m end along part later)))
+          (on (suc k) m.log (answered_along t p b m part (suc k) mending c shown (rw (← from) were)) (until m.log (extends_along t p told b m end along part later)))
 
       served_comes : (n : Told) → told ≡ n → c.old ≡ over mending [] t → Comes file first chapters (Some c) t n b
       served_comes n same from =

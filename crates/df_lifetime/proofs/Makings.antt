@@ -56,12 +56,12 @@ module _ (layout : Layout) (cluster : ℕ) (t n : Told) where
     failed status other makes = (
       Err formats.DiskFault,
       (λ done. absurd (other done)),
-      subst (λ (x : Told). MakingLeaves {T = Unit {0}} layout cluster t makable x (Err formats.DiskFault)) (one_some (Some n) makes.after n makes.is refl) (record { moments = makes.moments; made = tt }),
+      rw (← (one_some (Some n) makes.after n makes.is refl)) (record { moments = makes.moments; made = tt }),
     )
 
     ends_as : (status : Status) → MakesOn layout cluster t makable (Some n) status → Ends status
     ends_as Done makes =
-        (Ok tt, (λ done. refl), subst (λ (x : Told). MakingLeaves {E = FormatError} layout cluster t makable x (Ok tt)) (one_some (Some n) makes.after n makes.is refl) (record { moments = makes.moments; made = makes.made refl }))
+        (Ok tt, (λ done. refl), rw (← (one_some (Some n) makes.after n makes.is refl)) (record { moments = makes.moments; made = makes.made refl }))
     ends_as Refused makes = failed Refused (λ no. cc) makes
     ends_as DiskFault makes = failed DiskFault (λ no. cc) makes
     ends_as WriteFault makes = failed WriteFault (λ no. cc) makes

@@ -1,5 +1,5 @@
 -- What a life had come to before its file was damaged is found again after a mending.
-use Rattle.std.proofs.Common.{◌≡◌, refl, sym, ◌∙◌, subst}
+use Rattle.std.proofs.Common.{◌≡◌, refl, sym, ◌∙◌}
 use Rattle.df_base.specs.{Image.{Image}, Log.{now}}
 use Rattle.df_theory.{specs.{Found.{IsFound}, View.{View}}, proofs.Laws.{one_found_law}}
 use Rattle.df_units.specs.Bytes.{unit_at}
@@ -16,14 +16,14 @@ mended_life_goes_on first view older b whole t o n chapters old new status is te
     let goes = every_life_goes_on file first whole chapters life chance in
     let left : now b.log ≡ whole.shown = (λ i sector. sym (lived.1.shows sector) i) ∙ sym same in
     let shows : now whole.log ≡ whole.shown = λ i sector. sym (goes.may.honest.shows sector) i in
-    let there : IsFound (shape file) (unit_at file.layout file.cluster whole.shown) view = subst (λ (image : Image). IsFound (shape file) (unit_at file.layout file.cluster image) view) left can.found in
+    let there : IsFound (shape file) (unit_at file.layout file.cluster whole.shown) view = rw left at can.found in
     let one : goes.view ≡ view =
-    one_found_law (shape file) (unit_at file.layout file.cluster whole.shown) goes.view view (subst (λ (image : Image). IsFound (shape file) (unit_at file.layout file.cluster image) goes.view) shows goes.may.found) there in
+    one_found_law (shape file) (unit_at file.layout file.cluster whole.shown) goes.view view (rw shows at goes.may.found) there in
     let end = ends_well is.mirrored.result is.mirrored.text new.written status is.mirrored.tells well in
     record {
       known = is.mirrored.shown end.0 n end.1 to;
       found = both.0;
       opens = both.1;
-      had = subst (λ (v : View). MayHave file first chapters v) one goes.had;
+      had = rw one at goes.had;
       there = acknowledged_is_found file first whole chapters view life chance there;
     }

@@ -36,7 +36,7 @@ module _ (file : DataFile) (view : View) (b : Told) (may : MayOpen file view b) 
   pub found_records : RecordsReplies view
   found_records = elim may.safe.synced [
     | inl is ↦
-        subst (λ (v : View). RecordsReplies v) (one_found_law (shape file) (now_units_of log) is.0 view (holds_found (shape file) (now_units_of log) is.0 is.1.grows.0) found_now)
+        rw (one_found_law (shape file) (now_units_of log) is.0 view (holds_found (shape file) (now_units_of log) is.0 is.1.grows.0) found_now) at
         (grows_records (shape file) log.start (λ w holds. shows w (holds_found (shape file) log.start w holds)) (now_units_of log ∷ settled log) is.0 is.1.grows (ends_settled log.start (Synced ∷ log.events)))
     | inr making ↦ absurd (no_choice making.0 (now_units_of log) (settled log) making.1.made view.checkpoint.content found_now.chosen.agreed)
   ]
@@ -65,7 +65,7 @@ module _ (file : DataFile) (view : View) (t o : Told) (old new : Outside) (statu
 
   none_next : Stands (units_shown file t.shown) view → RecordsReplies view → NoneNext is.base.file (content_of_superblock is.base) t.shown
   none_next stands records =
-      subst (λ (f : DataFile). NoneNext f (content_of_superblock is.base) t.shown) (sym file_is) (subst (λ (c : Content). NoneNext file c t.shown) (sym content_is)
+      subst (λ (f : DataFile). NoneNext f (content_of_superblock is.base) t.shown) (sym file_is) (rw content_is
       (λ kind place sum next. none_lacks (shape file) (units_shown file t.shown) view second found stands records kind place sum next.known next.lacks))
 
 -- ---- a run
@@ -97,8 +97,8 @@ module _ (file : DataFile) (c : Content) (t o : Told) (none : NoneNext file c t.
   fails_barred Of new old text e failed =
       let both = none_begun failed.mends failed.one failed.are in
       failed_barred e new failed.said text
-      (subst (λ (one : Option Mend). FailsAt file e one (did Sync t) new failed.said text) both.1
-      (subst (λ (ms : List Mend). FailsAt file e failed.one (told_after (mirrored_events file ms) (did Sync t)) new failed.said text) both.0 failed.fails))
+      (rw both.1 at
+      (rw both.0 at failed.fails))
 
   pub mending_barred : (Of : List Mend → Type 0) (new : Option Told) (old text : Option (List ℕ)) (result : Result ℕ Ending) → AnswersMending file c Of (did Sync t) o new old text result → new ≡ Some (did Sync t)
   mending_barred Of new old text (Ok count) answers = came_barred Of new old text _ answers
@@ -121,10 +121,10 @@ pub mirror_is_run : MirrorIsRun
 mirror_is_run file first b t n chapters life begun chance same ran =
     let opens = every_life_goes_on file first b chapters life chance in
     let shows : now b.log ≡ t.shown = (λ i sector. sym (opens.may.honest.shows sector) i) ∙ same in
-    let start : ShowsRecords file b.log.start = subst (λ (image : Image). ShowsRecords file image) (sym (start_stays file first b chapters life)) begun in
-    let found : IsFound (shape file) (units_shown file t.shown) opens.view = subst (λ (image : Image). IsFound (shape file) (units_shown file image) opens.view) shows opens.may.found in
-    let stands : Stands (units_shown file t.shown) opens.view = subst (λ (image : Image). Stands (units_shown file image) opens.view) same opens.stands in
+    let start : ShowsRecords file b.log.start = rw (sym (start_stays file first b chapters life)) at begun in
+    let found : IsFound (shape file) (units_shown file t.shown) opens.view = rw shows at opens.may.found in
+    let stands : Stands (units_shown file t.shown) opens.view = rw (← same) opens.stands in
     let part : AddsPart (Sync ∷ []) (Some t) ran.new.first =
     outcome_barred file opens.view t opens.may.version found stands (found_records file opens.view b opens.may start) ran.second ran.old ran.new ran.status ran.tell (ran.runs t ran.second ran.tell) in
     let run = looked t n ran.new.first ran.to part in
-    (run.0, run.1, subst (λ (x : Option Told). AddsPart (Sync ∷ []) (Some t) x) ran.to part)
+    (run.0, run.1, rw ran.to at part)

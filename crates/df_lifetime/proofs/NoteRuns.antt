@@ -1,5 +1,5 @@
 -- Each run of `notes` is a run over its file, and the first one is a making and a run.
-use Rattle.std.proofs.Common.{◌≡◌, inl, inr, List, [], ◌∷◌, Option, Some, Result, Ok, Err, ◌∙◌, ap, subst, ℕ}
+use Rattle.std.proofs.Common.{◌≡◌, inl, inr, List, [], ◌∷◌, Option, Some, Result, Ok, Err, ◌∙◌, ap, ℕ}
 use Rattle.df_base.specs.Log.{Sync}
 use Rattle.df_disk.specs.Told.{IsHonest, Told, did}
 use Rattle.df_layout.specs.declared.layout.Layout.{Layout}
@@ -33,7 +33,7 @@ pub notes_begin : NotesBegin
 notes_begin layout t n notes old new result to makable honest first =
     let synced : IsHonest (did Sync t) = honest_stays (Sync ∷ []) t honest in
     elim first [
-      | inl fails ↦ inl (call_is_making layout notes_cluster (did Sync t) n (Err DiskFault) makable synced (subst (λ (o : Option Told). FormatsFile {T = Unit {0}} layout notes_cluster (Some (did Sync t)) o (Err DiskFault)) to fails.formats))
+      | inl fails ↦ inl (call_is_making layout notes_cluster (did Sync t) n (Err DiskFault) makable synced (rw to at fails.formats))
       | inr makes ↦ inr (
         makes.made,
         call_is_making layout notes_cluster (did Sync t) makes.made (Ok tt) makable synced makes.formats,

@@ -39,8 +39,8 @@ module _ (sh : Shape) (by : Codec) where
       let more : xs ≡ result sh by (shown_after by shown (memory_of sh by.spell w) c) (next sh by shown w c).0 cs = cc are in
       let others : ys ≡ result sh by (shown_after by shown (memory_of sh by.spell w) d) (next sh by shown w d).0 ds = cc same in
       let rest =
-      same_run (shown_after by shown (memory_of sh by.spell w) c) (next sh by shown w c).0 (heard x s) e f cs ds xs ys one.1 (subst (λ (a : Answer). Follows (heard a s) ds ys f) answer two.1) ends ending more
-      (subst (λ (k : Command). ys ≡ result sh by (shown_after by shown (memory_of sh by.spell w) k) (next sh by shown w k).0 ds) asked others) in
+      same_run (shown_after by shown (memory_of sh by.spell w) c) (next sh by shown w c).0 (heard x s) e f cs ds xs ys one.1 (rw answer at two.1) ends ending more
+      (rw asked at others) in
       (rest.0, (λ i. sym answer i ∷ rest.1 i))
 
 -- ---- the numbers of a file
@@ -160,7 +160,7 @@ module _ (seed count : ℕ) (layout : Layout) (t : Told) (old new : Outside) (st
   pub last_numbers : numbers_in (memory works.last) ≡ after_answers (answers_in works.worked.exchanges) (numbers_in (memory opening.replica))
   last_numbers =
       calls_count opening.replica works.last opening.mended new.told works.worked.exchanges (begun_work opening.replica.file t.shown opening.is_opened.view)
-      (subst (λ (o : Option Act). EndsCalls opening.replica works.last opening.mended new.told works.worked.exchanges o) by_end.0 works.worked.calls)
+      (rw by_end.0 at works.worked.calls)
       (works.calls.stands opening.is_opened.view found)
 
   -- the numbers that its calls begin with are those of a view that is found
@@ -263,7 +263,7 @@ module _ (seed count : ℕ) (layout : Layout) (runs : Twice layout (OnFile layou
       record {
         status = first.1 ∙ sym second.1;
         text = workload_text (workload_of other.run other.last);
-        first = subst (λ (x : Workload). Appends runs.one.old.written runs.one.new.written (workload_text x)) workload_alike first.2;
+        first = rw workload_alike at first.2;
         second = second.2;
       }
 

@@ -21,7 +21,7 @@ pub same_prints : (line text : List ℕ) (given wanted : Status) (Word : Told �
 same_prints line text given wanted Word one other same is ended ending first second =
     let here = ended_whole line given one.status one.old.written one.new.written ended first in
     let there = ended_whole text wanted other.status other.old.written other.new.written ending second in
-    record { status = here.0 ∙ is ∙ sym there.0; text = text; first = subst (λ (l : List ℕ). Appends one.old.written one.new.written l) same here.1; second = there.1 }
+    record { status = here.0 ∙ is ∙ sym there.0; text = text; first = rw same at here.1; second = there.1 }
 
 -- ---- the summary
 

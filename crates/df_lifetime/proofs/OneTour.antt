@@ -113,6 +113,6 @@ scrub_has_one_text layout runs =
     let of : s.file.layout ≡ layout = layout_there layout runs.one.told here in
     let file : s.file ≡ there.replica.file =
     file_there layout runs.one.told here ∙ file_alike layout runs.one.told.shown runs.other.told.shown runs.same here.found there.found here.is_opened there.is_opened ∙ sym (file_there layout runs.other.told there) in
-    let spared : SparesReads s.file runs.other.told.shown other.after.shown = subst (λ (f : DataFile). SparesReads f runs.other.told.shown other.after.shown) (sym file) other.spares in
+    let spared : SparesReads s.file runs.other.told.shown other.after.shown = rw (sym file) at other.spares in
     let agree = spared_agree s.file runs.one.told.shown runs.other.told.shown one.after.shown other.after.shown one.spares spared (agree_there layout runs.one.told.shown runs.other.told.shown runs.same s.file of) in
-    tours_print_one layout runs (subst (λ (l : Layout). AgreeShown l (shown_of s.file one.after.shown) (shown_of s.file other.after.shown)) of agree)
+    tours_print_one layout runs (rw (← of) agree)

@@ -1,5 +1,5 @@
 -- The superblock that an open wrote records the replies that the file had.
-use Rattle.std.proofs.Common.{◌≡◌, ◌<◌, ◌^◌, inl, subst}
+use Rattle.std.proofs.Common.{◌≡◌, ◌<◌, ◌^◌, inl}
 use Rattle.df_base.specs.Image.{Image, IsImage}
 use Rattle.df_theory.{specs.{Found.{IsFound}, Holds.{Holds}, View.{View, boot_of}}, proofs.Laws.{holds_found, one_found_law}}
 use Rattle.df_units.{specs.{Bytes.{unit_at}, Meaning.{layout_of}}, proofs.Laws.{of_places}}
@@ -22,8 +22,8 @@ pub opened_shows_records : OpenedShowsRecords
 opened_shows_records file first t layout found c shows calls v there =
     let keeps = anew Whole file first t layout found c shows calls in
     let held : Holds (shape file) (unit_at file.layout file.cluster (begun_after found.mending.events t).shown) (kept (begun_work file t.shown first)) =
-    subst (λ (f : DataFile). Holds (shape f) (unit_at f.layout f.cluster (begun_after found.mending.events t).shown) (kept (begun_work f t.shown first))) (one Whole file first t layout found c shows calls) keeps.kept.kept_by.0.tidy.rests.holds in
+    rw (one Whole file first t layout found c shows calls) at keeps.kept.kept_by.0.tidy.rests.holds in
     let view_is : kept (begun_work file t.shown first) ≡ v =
     one_found_law (shape file) (unit_at file.layout file.cluster (begun_after found.mending.events t).shown) (kept (begun_work file t.shown first)) v
     (holds_found (shape file) (unit_at file.layout file.cluster (begun_after found.mending.events t).shown) (kept (begun_work file t.shown first)) held) there in
-    subst (λ (u : View). RecordsReplies u) view_is (begun_records file t.shown first shows.version shows.whole shows.found (unspent_begun Whole file first t layout found c shows calls))
+    rw (← view_is) (begun_records file t.shown first shows.version shows.whole shows.found (unspent_begun Whole file first t layout found c shows calls))

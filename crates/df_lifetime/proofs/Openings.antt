@@ -21,8 +21,8 @@ module _ (g : Grade) (file : DataFile) (view : View) (t : Told) (layout : Layout
 
   pub anew : KeepsAnew g t found.replica view found.mending.events c
   anew =
-      calls.anew g view found_there (subst (λ (f : DataFile). AreDistinctUnits (unit_at f.layout f.cluster t.shown)) (sym one) shows.distinct)
-      (subst (λ (f : DataFile). StandsFor g (unit_at f.layout f.cluster t.shown) view) (sym one) shows.stands)
+      calls.anew g view found_there (rw (sym one) at shows.distinct)
+      (rw (sym one) at shows.stands)
 
   -- said of the file
   pub keeps_begun : KeepsFile file g (begun_work file t.shown view) (begun_after found.mending.events t) c.exchanges c.failed (over [] (events_made c) (begun_after found.mending.events t))
@@ -44,8 +44,8 @@ module _ (g : Grade) (file : DataFile) (view : View) (t : Told) (layout : Layout
       let is : IsOpened layout t.shown found.found = found.is_opened in
       let of : found.found.file ≡ file = one_file 2 file layout t.shown view found.found shows.found is in
       let there : IsFound (shape file) (unit_at file.layout file.cluster t.shown) is.view =
-      subst (λ (f : DataFile). IsFound (shape f) (unit_at f.layout f.cluster t.shown) is.view) of
-      (subst (λ (l : Layout). IsFound (shape found.found.file) (unit_at l found.found.file.cluster t.shown) is.view) (sym is.of.layout_is) is.found) in
+      rw of at
+      (rw (sym is.of.layout_is) at is.found) in
       subst (λ (v : View). boot_of v < 2 ^ 62) (one_found_law (shape file) (unit_at file.layout file.cluster t.shown) is.view view there shows.found) is.unspent
 
 -- ---- the moments of its calls, and their end
@@ -70,7 +70,7 @@ module _ (file : DataFile) (g : Grade) (w : Work) where
   some_came : (acts perhaps : List Act) (log : Log) → IsMidway file g (work_after file w acts) perhaps log → (image : Image) → IsLeft log image → NoChanceOf (format file) log image → Came file g w acts perhaps image
   some_came acts perhaps log mid image left fair =
       let front = has_front file g (work_after file w acts) perhaps image (mid.left image left fair) in
-      record { came = acts ++ front.front; more = front.front; rest = front.rest; are = refl; some = front.are; has = subst (λ (u : Work). HasView file g u image) (sym (work_on file w acts front.front)) front.has }
+      record { came = acts ++ front.front; more = front.front; rest = front.rest; are = refl; some = front.are; has = rw (sym (work_on file w acts front.front)) at front.has }
 
   module _ (b : Told) (c : CallsMade) (keeps : KeepsFile file g w b c.exchanges c.failed (over [] (events_made c) b)) (answered : KeepsAnswered file g w (over [] [] b) c) where
     abbrev end : Told
@@ -88,7 +88,7 @@ module _ (file : DataFile) (g : Grade) (w : Work) where
         (record { since = grew; until = extends_self end.log })
 
     midway : (k : ℕ) (m : Told) → AreMade (ToAMoment k) b c m → IsMidway file g (work_after file w (acts_in (take k c.exchanges))) (acts_in (drop k c.exchanges) ++ list_of c.failed) m.log
-    midway k m made = answered k m.log made.0 (subst (λ (o : Option Told). IsUntil o m.log) (sym (added_is_told (events_made c) (did Sync b))) made.1)
+    midway k m made = answered k m.log made.0 (rw ((added_is_told (events_made c) (did Sync b))) made.1)
 
     pub made_honest : (extent : Extent) (m : Told) → AreMade extent b c m → IsHonest m
     made_honest ToItsEnd m made = subst IsHonest (same_end ∙ sym made) keeps.honest
@@ -184,9 +184,9 @@ pub stopped_opens_begin : StoppedOpensBegin
 stopped_opens_begin g file view t m image layout found c shows calls moment left chance =
     let same : found.replica.file ≡ file = one g file view t layout found c shows calls in
     let keeps = anew g file view t layout found c shows calls in
-    let fair = subst (λ (f : DataFile). NoChanceOf (format f) m.log image) (sym same) chance in
+    let fair = rw (sym same) at chance in
     let is = (keeps.opening m.log moment).left image left fair in
-    let stands : StandsFor g (unit_at file.layout file.cluster image) view = subst (λ (f : DataFile). StandsFor g (unit_at f.layout f.cluster image) view) same is.1 in
+    let stands : StandsFor g (unit_at file.layout file.cluster image) view = rw same at is.1 in
     elim is.0 [
       | inl before ↦ (
         view,
@@ -194,7 +194,7 @@ stopped_opens_begin g file view t m image layout found c shows calls moment left
         record {
           version = shows.version;
           whole = left.whole;
-          found = subst (λ (f : DataFile). IsFound (shape f) (unit_at f.layout f.cluster image) view) same before;
+          found = rw same at before;
           distinct = distinct_left file m.log image chance;
           stands = stands;
         },
@@ -205,7 +205,7 @@ stopped_opens_begin g file view t m image layout found c shows calls moment left
         record {
           version = shows.version;
           whole = left.whole;
-          found = subst (λ (f : DataFile). IsFound (shape f) (unit_at f.layout f.cluster image) (booted view (content_of (content_with found.replica.fields)))) same after;
+          found = rw same at after;
           distinct = distinct_left file m.log image chance;
           stands = stands_booted g (unit_at file.layout file.cluster image) view (content_of (content_with found.replica.fields)) stands;
         },

@@ -1,5 +1,5 @@
 -- Each run of the table's program is a run over its file, and each copy is one over its source.
-use Rattle.std.proofs.Common.{◌≡◌, inl, inr, [], Option, Some, None, refl, sym, ◌∙◌, ap, subst}
+use Rattle.std.proofs.Common.{◌≡◌, inl, inr, [], Option, Some, None, refl, sym, ◌∙◌, ap}
 use Rattle.df_base.specs.Image.{IsImage}
 use Rattle.df_disk.specs.Told.{Told}
 use Rattle.df_layout.specs.declared.layout.Layout.{Layout}
@@ -37,7 +37,7 @@ table_is_run t n ran = table_goes t n ran.old ran.new ran.status ran.to ran.from
 abbrev source_found : (t : Told) (s : Replica) (later : Option Told) → IsImage t.shown → MendsAll t s later → FoundFile s.file.layout t
 source_found t s later whole opened = record {
   found = opened.found;
-  is_opened = subst (λ (l : Layout). IsOpened l t.shown opened.found) (ap (λ (r : Replica). r.file.layout) (sym opened.raised)) (opened.opened whole);
+  is_opened = rw (← (ap (λ (r : Replica). r.file.layout) (sym opened.raised))) (opened.opened whole);
   replica = s;
   begun = inr opened.raised;
   mended = later;

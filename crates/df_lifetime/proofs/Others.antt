@@ -1,5 +1,5 @@
 -- The words `format` and `upgrade` leave a file as it is that was damaged: two copies of its superblock stand, of version 2.
-use Rattle.std.{proofs.{Common.{◌≡◌, inl, inr, ℕ, List, ◌∷◌, Option, Some, None, ◌∙◌, ap, arith, refl, subst, sym, ◌<◌}, lemmas.Bool.{both_ways}}, specs.Prelude.{true}}
+use Rattle.std.{proofs.{Common.{◌≡◌, inl, inr, ℕ, List, ◌∷◌, Option, Some, None, ◌∙◌, ap, arith, refl, ◌<◌}, lemmas.Bool.{both_ways}}, specs.Prelude.{true}}
 use Rattle.df_base.{specs.{Image.{Image}, Log.{Log, Sync}}, proofs.Laws.{one_some}}
 use Rattle.df_base.specs.Log as logs
 use Rattle.df_disk.specs.Told.{Told}
@@ -48,7 +48,7 @@ module _ (file : DataFile) (older : List Log) (b t : Told) (is : IsSound file ol
       let starts : MayStart _ (units_logs file older) (unit_at file.layout file.cluster t.shown) = record {
         settled_is = synced_settled _;
         chance = may.chance;
-        copies = subst (λ (was : Units). MayHurtCopies was (unit_at file.layout file.cluster t.shown)) (sym (now_units (format file) b.log.start (Sync ∷ b.log.events))) may.copies;
+        copies = rw ((now_units (format file) b.log.start (Sync ∷ b.log.events))) may.copies;
       } in
       let from : StartsWith (shape file) _ (unit_at file.layout file.cluster t.shown) (content_of c) =
       choice_stays_law (shape file) _ (units_logs file older) (unit_at file.layout file.cluster t.shown) (content_of c) may.lived starts (choice_chosen file.layout file.cluster t.shown c may.whole shown.super.chosen) in

@@ -1,5 +1,5 @@
 -- The superblock of a log that has grown records replies of sessions that had theirs, where that of its first image did.
-use Rattle.std.{proofs.{Common.{◌≡◌, inl, inr, ℕ, ◌+◌, ◌-◌, ◌<◌, ◌≤◌, List, [], ◌∷◌, drop, slice_index, Option, Some, None, refl, sym, ◌∙◌, ap, subst, arith}, lemmas.Bool.{cases_lt}}, specs.List.{slice_get}}
+use Rattle.std.{proofs.{Common.{◌≡◌, inl, inr, ℕ, ◌+◌, ◌-◌, ◌<◌, ◌≤◌, List, [], ◌∷◌, drop, slice_index, Option, Some, None, refl, sym, ◌∙◌, ap, arith}, lemmas.Bool.{cases_lt}}, specs.List.{slice_get}}
 use Rattle.df_theory.{specs.{Grown.{Grows}, Holds.{Holds, Sound}, Next.{Append, Boot, Finish, Next, Records, Reply, Same, checkpointed}, Sessions.{sessions_after}, Shape.{Shape}, UnitLog.{Stopped, Synced, UnitEvent, Wrote, now_of, settled_of}, Units.{Content, Message, Session, Units}, View.{View, head, sessions}}, proofs.Laws.{grows_sound, sessions-append, sessions-drop}}
 use Rattle.df_lifetime.{specs.Mirrored.{RecordsReplies}, proofs.Next.{old_session, same_op}}
 
@@ -54,7 +54,7 @@ ends_settled start ((Stopped after) ∷ es) = ends_more after start (settled_of 
 module _ (sh : Shape) (start : Units) (begun : (w : View) → Holds sh start w → RecordsReplies w) where
   pub grows_records : (images : List Units) (v : View) → Grows sh images v → EndsIn start images → RecordsReplies v
   grows_records [] v grows ends = absurd grows
-  grows_records (image ∷ []) v (holds, inl begins) ends = begun v (subst (λ (i : Units). Holds sh i v) ends holds)
+  grows_records (image ∷ []) v (holds, inl begins) ends = begun v (rw ends at holds)
   grows_records (image ∷ []) v (holds, inr (history, (u, goes, grows))) ends = absurd grows
   grows_records (image ∷ before ∷ images) v (holds, inl begins) ends = λ k s at some. absurd (omega (arith, some, begins.0.content.named k))
   grows_records (image ∷ before ∷ images) v (holds, inr (history, (u, goes, grows))) ends = records_step sh u v (grows_sound sh (before ∷ images) u grows) goes.next (grows_records (before ∷ images) u grows ends)

@@ -100,7 +100,7 @@ module _ (sh : Shape) (by : Codec) where
       let here : x ≡ (next sh by shown w c).1 = cc are in
       let more : xs ≡ result sh by (shown_after by shown (memory_of sh by.spell w) c) (next sh by shown w c).0 cs = cc are in
       let first : counted (heard x s) ≡ after_answer x (counted s) =
-      subst (λ (y : Answer). counted (heard y s) ≡ after_answer y (counted s)) (sym here) (point_counts sh by shown w s.point s c one.0) in
+      rw (sym here) at (point_counts sh by shown w s.point s c one.0) in
       run_counts (shown_after by shown (memory_of sh by.spell w) c) (next sh by shown w c).0 (heard x s) e cs xs one.1 more ∙ ap (after_answers xs) first
 
 -- ---- from any numbers on
@@ -150,7 +150,7 @@ module _ (seed count : ℕ) (layout : Layout) (t : Told) (old new : Outside) (st
   is_run : IsRun seed count file t.shown view works.run
   is_run = record {
     commands = map command_in (acts_in works.worked.exchanges);
-    follows = subst (λ (xs : List Answer). Follows (start seed count file.layout.clients) (map command_in (acts_in works.worked.exchanges)) xs works.run) answers_are follows_on;
+    follows = rw answers_are at follows_on;
     ends = asks_none seed count layout t old new status opening works whole ended;
   }
 

@@ -21,7 +21,7 @@ use Rattle.df_top.specs.declared.status.Status as top_status
 
 module _ (file : DataFile) (P : Table → Type 0) (b : Told) (version : file.version ≡ 2) (honest : IsHonest b) (order : Order file P b.log) (chance : NoChanceOf (format file) b.log (now b.log)) (t : Told) (shown : b.shown ≡ t.shown) where
   quiet : (es : List Event) (n p m : Told) → told_after es t ≡ n → EachMoment b.log (told_after es b).log (Order file P) → Extends n.log p.log → GoesAlong t p b m → Order file P m.log
-  quiet es n p m same each until part = each m.log (moment_along t p (told_after es t) b m (told_after es b) (after_along es t b shown) part (subst (λ (x : Told). Extends x.log p.log) (sym same) until))
+  quiet es n p m same each until part = each m.log (moment_along t p (told_after es t) b m (told_after es b) (after_along es t b shown) part (rw (sym same) at until))
 
   same : (n p m : Told) → t ≡ n → Extends n.log p.log → GoesAlong t p b m → Order file P m.log
   same n p m one until part = quiet [] n p m one (started b.log (Order file P) order) until part
@@ -68,7 +68,7 @@ module _ (file : DataFile) (start : Table) (before : List TableChapter) (table :
   cut : (k : ℕ) (log : Log) (chapter : TableChapter) → WereAnswered (suc k) (over mending [] base) log c → Extends end.log log → KeepsChapter (ToAMoment (suc k)) c changes pending chapter → After chapter log
   cut k log chapter were until is =
       cut_order file table base mending c changes pending kept (MayHaveTable start (chapter ∷ before)) (suc k) log chapter.kept is.0 were until is.1 is.2
-      (λ n. subst (λ (l : List Change). MayHaveTable start (chapter ∷ before) (with_commands (take n l) (with_commands chapter.kept table))) is.3 (one_more start before chapter.kept chapter.perhaps table n had))
+      (λ n. rw (← is.3) (one_more start before chapter.kept chapter.perhaps table n had))
 
 module _ (file : DataFile) (start : Table) (before : List TableChapter) (b : Told) (version : file.version ≡ 2) (honest : IsHonest b) (order : Order file (MayHaveTable start before) b.log) (chance : NoChanceOf (format file) b.log (now b.log)) (t : Told)
     (shown : b.shown ≡ t.shown) where
@@ -118,13 +118,13 @@ module _ (file : DataFile) (start : Table) (before : List TableChapter) (b : Tol
     at_first : (chapter : TableChapter) → KeepsChapter (ToAMoment 0) c keeps.changes keeps.pending chapter → EachMoment b.log last.log (Order file (MayHaveTable start (chapter ∷ before)))
     at_first chapter is =
         from_before Sync b.log last.log (Order file (MayHaveTable start (chapter ∷ before)))
-        (order_as file P (MayHaveTable start (chapter ∷ before)) b.log (λ v had. subst (λ (x : TableChapter). MayHaveTable start (x ∷ before) v) (sym is) (unchanged (keeps.changes ++ keeps.pending) v had)) order) kept.barrier
+        (order_as file P (MayHaveTable start (chapter ∷ before)) b.log (λ v had. rw is (unchanged (keeps.changes ++ keeps.pending) v had)) order) kept.barrier
         (since_barrier file start before there.table there.had b es c keeps.changes keeps.pending kept chapter is)
 
     at_moment : (k : ℕ) (p m : Told) (chapter : TableChapter) → Extends n.log p.log → GoesAlong t p b m → HaveAnswers k p.log (Some c) → KeepsChapter (ToAMoment k) c keeps.changes keeps.pending chapter → Order file (MayHaveTable start (chapter ∷ before)) m.log
     at_moment zero p m chapter until part had is = at_first chapter is m.log (moment_along t p n b m last along part until)
     at_moment (suc k) p m chapter until part had is =
-        cut file start before there.table there.had b es c keeps.changes keeps.pending kept k m.log chapter (answered_along t p b m part (suc k) es c shown (subst (λ (o : Option Told). WereAnswered (suc k) o p.log c) from had))
+        cut file start before there.table there.had b es c keeps.changes keeps.pending kept k m.log chapter (answered_along t p b m part (suc k) es c shown (rw (← from) had))
         (extends_along t p n b m last along part until) is
 
   -- ---- after any run
@@ -157,7 +157,7 @@ made : (layout : Layout) (cluster : ℕ) (file : DataFile) (t : Told) (start : T
 made layout cluster file t start tables of is begins =
     let empty : Order file (MayHaveTable (empty_table file.layout) []) t.log = began file (first_view file.layout file.cluster) t (empty_table file.layout) is (record { parts = tt; tail = tt }) (λ image left. first_is_empty file ((format file).unit_at image)) in
     subst (λ (l : List TableChapter). Order file (MayHaveTable start l) t.log) (sym begins.1)
-    (subst (λ (v : Table). Order file (MayHaveTable v []) t.log) (sym (begins.0 ∙ ap empty_table (sym of))) empty)
+    (rw (sym (begins.0 ∙ ap empty_table (sym of))) at empty)
 
 taken : (file : DataFile) (first : View) (t : Told) (start : Table) (tables : List TableChapter) → MayTake file first t.shown → FindsIn file t first start → tables ≡ [] → Order file (MayHaveTable start tables) (restarted t).log
 taken file first t start tables may finds none =

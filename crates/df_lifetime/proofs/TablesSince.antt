@@ -1,5 +1,5 @@
 -- A table that an opening finds after damage is that of a view which the file had: each block that it read is the one that was written there with the known checksum.
-use Rattle.std.proofs.Common.{◌≡◌, ◌⊎◌, inl, inr, List, [], ◌∷◌, ◌++◌, Some, Ok, Err, refl, sym, ◌∙◌, ap, subst}
+use Rattle.std.proofs.Common.{◌≡◌, ◌⊎◌, inl, inr, List, [], ◌∷◌, ◌++◌, Some, Ok, Err, refl, sym, ◌∙◌, ap}
 use Rattle.df_base.specs.Log.{Log, Sync, add}
 use Rattle.df_disk.specs.{Adds.{after_all}, Told.{Told}}
 use Rattle.df_history.specs.Histories.{Among, InHistoryPool, InHistoryPools, NoChanceOver, all_settled}
@@ -29,7 +29,7 @@ among_both (i ∷ one) other image (inr more) = elim (among_both one other image
 
 among_images : (images : List Units) (image : Units) (place : Place) (x : AnyUnit) → Among images image → image place ≡ Some x → InImages images place x
 among_images [] image place x among at = among
-among_images (i ∷ images) image place x (inl is) at = inl (subst (λ (u : Units). u place ≡ Some x) is at)
+among_images (i ∷ images) image place x (inl is) at = inl (rw is at at)
 among_images (i ∷ images) image place x (inr more) at = inr (among_images images image place x more at)
 
 settled_in : (logs : List UnitLog) (image : Units) (place : Place) (x : AnyUnit) → Among (all_settled logs) image → image place ≡ Some x → InHistoryPool logs place x
@@ -69,13 +69,13 @@ served_finds : (file : DataFile) (view : View) (t : Told) (layout : Layout) (old
     → serves.opened ≡ Ok table → FindsIn file t view table
 served_finds file view t layout old new status found serves table is opened = elim (serves_finds file view t is layout old new status found serves) [
   | inl disk ↦ absurd (table_not_disk table (sym opened ∙ disk))
-  | inr finds ↦ subst (λ r. FindsTable file.layout (shown_of file t.shown) (memory_of (shape file) (spelling file) (begun_work file t.shown view)) r) opened finds
+  | inr finds ↦ rw opened at finds
 ]
 
 pub served_table_was_had : ServedTableWasHad
 served_table_was_had file older b t layout old new status found serves table life spared opened =
     let same = own_rooms file b.log older t (may_reopen file older b t.shown (every_life_is_lived file older b t.shown life) spared) layout found.found found.is_opened in
-    let finds : FindsSince file b.log older t.shown found.found = every_open_finds_since file older b t.shown found.found life spared (subst (λ (l : Layout). IsOpened l t.shown found.found) same found.is_opened) in
+    let finds : FindsSince file b.log older t.shown found.found = every_open_finds_since file older b t.shown found.found life spared (rw same at found.is_opened) in
     let there : FindsIn file t finds.found table = served_finds file finds.found t layout old new status found serves table finds.is_found opened in
     (finds, of_logs file (add Sync b.log ∷ older) t finds.found table spared.chance (found_is_table file t finds.found table spared.whole finds.is_found there))
 
@@ -93,10 +93,10 @@ module _ (file : DataFile) (view : View) (t : Told) (layout : Layout) (old new :
     found = shows.found;
     distinct = shows.distinct;
     stands =
-        let there = subst (λ (f : DataFile). IsFound (shape f) (unit_at f.layout f.cluster t.shown) view) (sym same_file) shows.found in
-        subst (λ (f : DataFile). Stands (unit_at f.layout f.cluster t.shown) view) same_file
+        let there = rw (sym same_file) at shows.found in
+        rw same_file at
         (stands_shown found.replica t view table (serves.calls.stands view there)
-        (subst (λ (f : DataFile). IsObjectTable f (unit_at f.layout f.cluster t.shown) view table) (sym same_file) (found_is_table file t view table shows.whole shows.found finds)));
+        (rw (sym same_file) at (found_is_table file t view table shows.whole shows.found finds)));
   }
 
 pub served_table_begins : ServedTableBegins

@@ -67,7 +67,7 @@ module _ (t : Told) (s : Replica) (view : View) (old : IsOld s.file view t.shown
     stays_either : (log : Log) → log.start ≡ t.shown → UpgradeStaysBare s.file view (base_fields s) log → (image : Image) → IsLeft log image → NoChanceOf (format s.file) log image → IsEither s.file view image
     stays_either log starts stays image left chance = elim (stays.left image left chance) [
       | inl before ↦
-          let is : IsLeftByUpgrade s.file view view t.shown image = subst (λ (i : Image). IsLeftByUpgrade s.file view view i image) starts before in
+          let is : IsLeftByUpgrade s.file view view t.shown image = rw starts at before in
           inl (
             record {
               version = old.version;
@@ -79,7 +79,7 @@ module _ (t : Told) (s : Replica) (view : View) (old : IsOld s.file view t.shown
             is.clean clean,
           )
       | inr after ↦
-          let is : IsLeftByUpgrade (second s.file) view (upgraded view (base_fields s)) t.shown image = subst (λ (i : Image). IsLeftByUpgrade (second s.file) view (upgraded view (base_fields s)) i image) starts after in
+          let is : IsLeftByUpgrade (second s.file) view (upgraded view (base_fields s)) t.shown image = rw starts at after in
           inr (record {
             first = upgraded view (base_fields s);
             bare = bare;
@@ -134,7 +134,7 @@ module _ (file : DataFile) (view : View) (t n : Told) (status : Status) (old : I
       let own : IsOld s.file view t.shown = at_file file view t s one old in
       subst (λ (f : DataFile). IsUpgraded f view n.shown) one
       (ends_upgraded t s view own (own_rooms there.0 t s (all.opened old.whole)) all.writes.events n (told_is all.writes.events all.writes.told) (all.anew view own.whole own.found own.distinct) all.writes.spares
-      (subst (λ (f : DataFile). AreDistinctUnits (unit_at f.layout f.cluster n.shown)) (sym one) distinct))
+      (rw (sym one) at distinct))
 
   -- ---- after a stop
 
@@ -151,7 +151,7 @@ module _ (file : DataFile) (view : View) (t n : Told) (status : Status) (old : I
     -- at each moment after it
     by_moments : (es : List Event) → told_after es (did Sync t) ≡ n → EachMoment (restarted t).log (told_after es (restarted t)).log IsKeptBy → IsKeptBy m.log
     by_moments es is each =
-        let all : GoesAlong (did Sync t) n (restarted t) (told_after es (restarted t)) = subst (λ (x : Told). GoesAlong (did Sync t) x (restarted t) (told_after es (restarted t))) is (after_along es (did Sync t) (restarted t) refl) in
+        let all : GoesAlong (did Sync t) n (restarted t) (told_after es (restarted t)) = rw is at (after_along es (did Sync t) (restarted t) refl) in
         each m.log (moment_along (did Sync t) p n (restarted t) m (told_after es (restarted t)) all along until)
 
     -- nothing was done after it
@@ -166,9 +166,9 @@ module _ (file : DataFile) (view : View) (t n : Told) (status : Status) (old : I
         let own : IsOld s.file view t.shown = at_file file view t s one old in
         let both = anew own in
         by_moments es is (λ log moment image left chance.
-        subst (λ (f : DataFile). IsEither f view image) one
+        rw one at
         (stays_either t s view own (own_rooms layout t s opened) es (subst (λ (f : DataFile). IsClean (unit_at f.layout f.cluster t.shown) view) (sym one) clean) both.1 log moment.since.2 (both.0 log moment) image left
-        (subst (λ (f : DataFile). NoChanceOf (format f) log image) (sym one) chance)))
+        (rw (sym one) at chance)))
 
     comes_kept : (layout : Layout) → ComesToUpgrade layout t word.old word.new status → IsKeptBy m.log
     comes_kept layout (inl refuses) = by_barrier (one_some word.new.told (did Sync t) n refuses.barrier word.to)

@@ -1,5 +1,5 @@
 -- Each word that works on a file is a run over it.
-use Rattle.std.proofs.Common.{◌≡◌, inl, inr, [], ◌∷◌, Option, Some, refl, sym, ◌∙◌, ap, subst}
+use Rattle.std.proofs.Common.{◌≡◌, inl, inr, [], ◌∷◌, Option, Some, refl, sym, ◌∙◌, ap}
 use Rattle.df_base.specs.Log.{Sync}
 use Rattle.df_disk.specs.{Adds.{AddsPart}, Told.{Told, did}}
 use Rattle.df_layout.specs.declared.layout.Layout.{Layout}
@@ -16,7 +16,7 @@ module _ (t n : Told) (later : Option Told) (to : later ≡ Some n) where
 
   -- nothing was done but a barrier, if that
   pub looked : AddsPart (Sync ∷ []) (Some t) later → Quiet
-  looked part = (LooksOnly (subst (λ (o : Option Told). AddsPart (Sync ∷ []) (Some t) o) to part), refl)
+  looked part = (LooksOnly (rw to at part), refl)
 
   pub untouched : later ≡ Some t → Quiet
   untouched same = looked (inl same)
@@ -26,7 +26,7 @@ module _ (t n : Told) (later : Option Told) (to : later ≡ Some n) where
 
   -- or the disk failed in the open
   pub stopped : (layout : Layout) → StopsOpening layout t later → Quiet
-  stopped layout stops = (StopsInOpen layout (subst (λ (o : Option Told). StopsOpening layout t o) to stops), refl)
+  stopped layout stops = (StopsInOpen layout (rw to at stops), refl)
 
 -- or calls were made on what was found
 pub session : (t n : Told) (layout : Layout) (found : FoundFile layout t) (c : CallsMade) → c.from ≡ found.replica → c.old ≡ found.mended → c.new ≡ Some n → CallsKeep t found.replica found.mended found.mending c → (run : FileRun t n) × IsSession run layout found c

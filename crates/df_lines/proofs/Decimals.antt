@@ -63,9 +63,9 @@ pub first_byte : (byte n : ℕ) (rest : List ℕ) → n < 2 ^ 128 → byte ∷ r
 first_byte byte zero rest fits is = inl refl
 first_byte byte (suc n) rest fits is =
     let numeral = decimal_is_IsNumeral_wide (suc n) (below_wide (suc n) fits) in
-    let digits : AllDigits 10 (byte ∷ rest) = subst (λ (l : List ℕ). AllDigits 10 l) (sym is) numeral.0.1 in
+    let digits : AllDigits 10 (byte ∷ rest) = rw (sym is) at numeral.0.1 in
     let range = digit_from_value byte digits.0 in
-    let begins : 48 < get_or (byte ∷ rest) 0 0 = subst (λ (l : List ℕ). 48 < get_or l 0 0) (sym is) (begins_high (suc n) fits (omega arith)).1 in
+    let begins : 48 < get_or (byte ∷ rest) 0 0 = rw (sym is) at (begins_high (suc n) fits (omega arith)).1 in
     inr (begins, omega (arith, range))
 
 pub none_spells_nothing : (digits : List ℕ) (n : ℕ) → n < 2 ^ 128 → length digits ≡ 0 → digits ≡ decimal n → ⊥

@@ -1,5 +1,5 @@
 -- What a line says, from its words.
-use Rattle.std.{proofs.Common.{◌≡◌, inl, inr, ℕ, ◌<◌, if◌then◌else◌, List, [], ◌∷◌, ◌++◌, length, refl, sym, ap, subst, ◌∙◌, arith}, specs.{Prelude.{codes}, Str.{bytes_eq}}}
+use Rattle.std.{proofs.Common.{◌≡◌, inl, inr, ℕ, ◌<◌, if◌then◌else◌, List, [], ◌∷◌, ◌++◌, length, refl, sym, ap, ◌∙◌, arith}, specs.{Prelude.{codes}, Str.{bytes_eq}}}
 use Rattle.df_lines.{specs.{Grammar.{Said, Append, Stage, Flush, Reply, Block, Release, Checkpoint, Step, Prepare, Lookup, Read, Scrub, Recent, SaysLine}, Words.{Cuts}}, proofs.Naming.{Begun, bare_name, cut_name}}
 
 -- ---- the first word
@@ -105,4 +105,4 @@ pub only : (line name words known : List ℕ) → Cuts line name words → name 
 only line name words known cuts is none said says =
     let same = is_named said known (sym is ∙ cut_name line name words (name_of said) cuts (begun line said says)) in
     let whole : line ≡ known ++ (32 ∷ words) = cuts.whole ∙ ap (λ (l : List ℕ). l ++ (32 ∷ words)) is in
-    none (first_of said) (second_of said) (body_of said) (subst (λ (s : Said). SaysLine (known ++ (32 ∷ words)) s) same (subst (λ (l : List ℕ). SaysLine l said) whole says))
+    none (first_of said) (second_of said) (body_of said) (rw same at (rw whole at says))

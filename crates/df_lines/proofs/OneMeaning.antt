@@ -19,7 +19,7 @@ number_split m n a b m_fits n_fits same =
     (one_number m n m_fits n_fits parts.0, parts.1)
 
 body_split : (one other a b : List ℕ) → one ≡ other → IsBody one a → IsBody other b → a ≡ b
-body_split one other a b same x y = one_body one a b x (subst (λ (w : List ℕ). IsBody w b) (sym same) y)
+body_split one other a b same x y = one_body one a b x (rw (sym same) at y)
 
 same_asked : (make : ℕ → ℕ → List ℕ → Said) (c d r s : ℕ) (x y : List ℕ) → c ≡ d → r ≡ s → x ≡ y → make c r x ≡ make d s y
 same_asked make c d r s x y client request body = cc
@@ -46,11 +46,11 @@ one_request words c r d s x y one other =
 one_of_name : (line : List ℕ) (one : Said) (first second : ℕ) (body : List ℕ) → SaysLine line one → SaysLine line (line_named (name_of one) first second body) → one ≡ line_named (name_of one) first second body
 one_of_name line (Append c r x) m s y one other =
     let words = spaced (decimal c ∷ decimal r ∷ one.word ∷ []) in
-    let parts = one_request words c r m s x y (appended words c r x (subst (λ (l : List ℕ). SaysLine l (Append c r x)) one.is one)) (appended words m s y (subst (λ (l : List ℕ). SaysLine l (Append m s y)) one.is other)) in
+    let parts = one_request words c r m s x y (appended words c r x (rw one.is at one)) (appended words m s y (rw one.is at other)) in
     same_asked Append c m r s x y parts.0 parts.1 parts.2
 one_of_name line (Stage c r x) m s y one other =
     let words = spaced (decimal c ∷ decimal r ∷ one.word ∷ []) in
-    let parts = one_request words c r m s x y (staged words c r x (subst (λ (l : List ℕ). SaysLine l (Stage c r x)) one.is one)) (staged words m s y (subst (λ (l : List ℕ). SaysLine l (Stage m s y)) one.is other)) in
+    let parts = one_request words c r m s x y (staged words c r x (rw one.is at one)) (staged words m s y (rw one.is at other)) in
     same_asked Stage c m r s x y parts.0 parts.1 parts.2
 one_of_name line Flush m s y one other = refl
 one_of_name line (Reply n x) m s y one other =
@@ -88,9 +88,9 @@ one_text text (a ∷ one) (b ∷ other) lines others =
 -- a line isn't refused, and doesn't stand in an empty text
 pub no_line : (bound budget left : ℕ) (text rest : List ℕ) (said : Said) → IsLine bound budget text said → left ≡ budget → rest ≡ text → (rest ≡ []) ⊎ IsRefused bound left rest → ⊥
 no_line bound budget left text rest said line same_left same_rest (inl none) =
-    nothing_said said (subst (λ (t : List ℕ). SaysLine (line_of t) said) (sym same_rest ∙ none) line.says)
+    nothing_said said (rw (sym same_rest ∙ none) at line.says)
 no_line bound budget left text rest said line same_left same_rest (inr refused) =
-    refused.none said (subst (λ (n : ℕ). IsLine bound n rest said) (sym same_left) (subst (λ (t : List ℕ). IsLine bound budget t said) (sym same_rest) line))
+    refused.none said (rw (sym same_left) at (rw (sym same_rest) at line))
 
 -- how much a text leaves after its lines is one
 pub begins_one : (bound budget : ℕ) (text : List ℕ) (says : List Said) (left other : ℕ) (rest more : List ℕ) → BeginsWithLines bound budget text says left rest → BeginsWithLines bound budget text says other more → rest ≡ more
@@ -111,7 +111,7 @@ one_script bound budget text one other first second = same_script bound budget t
 pub whole_script : WholeScript
 whole_script bound budget text [] left begins = sym begins.1
 whole_script bound budget text (said ∷ more) left begins = (
-  λ none. nothing_said said (subst (λ (t : List ℕ). SaysLine (line_of t) said) none begins.0.says),
+  λ none. nothing_said said (rw none at begins.0.says),
   begins.0.says,
   whole_script bound (budget - taken text) (after_line text) more left begins.1,
 )

@@ -65,12 +65,12 @@ front_line window size taken left all whole is at_end =
     let parts = parts_of window.bytes all left is in
     let FrontOf : ℕ → List ℕ → Type 0 = λ n l. Front window size n (Some l) (window.bytes ++ l) in
     let front : FrontOf taken parts.0 = elim whole.ends [
-      | inl fed_line ↦ subst (λ (n : ℕ). FrontOf n parts.0) (sym fed_line.1) (fed window size parts.0 whole.line fed_line.0)
+      | inl fed_line ↦ rw (sym fed_line.1) at (fed window size parts.0 whole.line fed_line.0)
       | inr last_line ↦
           let none : parts.0 ≡ [] = subst IsAtEnd parts.1 (at_end last_line.0) in
-          subst (λ (n : ℕ). FrontOf n parts.0) (sym last_line.2) (subst (FrontOf size) (sym none) (last window size whole.line last_line.1 last_line.3))
+          rw last_line.2 (subst (FrontOf size) (sym none) (last window size whole.line last_line.1 last_line.3))
     ] in
-    let here : Front window size taken left (window.bytes ++ parts.0) = subst (λ (o : Option (List ℕ)). Front window size taken o (window.bytes ++ parts.0)) (sym parts.1) front in
+    let here : Front window size taken left (window.bytes ++ parts.0) = rw (sym parts.1) at front in
     subst (λ (l : List ℕ). Front window size taken left l) (sym parts.2) here
 
 module _ {L : Type 0} (grammar : Grammar L) where
@@ -78,7 +78,7 @@ module _ {L : Type 0} (grammar : Grammar L) where
   gives_line old window new size taken rest left all body (nexts.Line l) bound fits is front takes = record {
     line = record {
       within = record { line = omega (arith, front.size_is); all = omega (arith, front.taken_is, takes.0) };
-      says = subst (λ (line : List ℕ). grammar.says line (grammar.said_with body l)) (sym front.line) takes.4;
+      says = rw (sym front.line) at takes.4;
     };
     rest = ap (λ (b : List ℕ). unread b left) takes.2 ∙ front.rest;
     budget = omega (arith, front.taken_is, takes.1);
@@ -86,7 +86,7 @@ module _ {L : Type 0} (grammar : Grammar L) where
   gives_line old window new size taken rest left all body nexts.Refused bound fits is front takes = record {
     refuses = record {
       some = front.some;
-      none = λ said line. takes.2 said (omega (arith, front.taken_is, line.within.all)) (subst (λ (l : List ℕ). grammar.says l said) front.line line.says);
+      none = λ said line. takes.2 said (omega (arith, front.taken_is, line.within.all)) (rw front.line at line.says);
     };
     rest = ap (λ (w : Contents). unread w.bytes left) takes.0 ∙ is;
     read = inl (ap (λ (w : Contents). line_of w.bytes) takes.0 ∙ front.read);

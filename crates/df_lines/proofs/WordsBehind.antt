@@ -1,5 +1,5 @@
 -- The words after a line's name.
-use Rattle.std.{proofs.Common.{◌≡◌, ℕ, ◌+◌, ◌^◌, ◌<◌, ◌≤◌, List, [], ◌∷◌, ◌++◌, sym, subst, arith}, specs.Prelude.{decimal, codes}}
+use Rattle.std.{proofs.Common.{◌≡◌, ℕ, ◌+◌, ◌^◌, ◌<◌, ◌≤◌, List, [], ◌∷◌, ◌++◌, sym, arith}, specs.Prelude.{decimal, codes}}
 use Rattle.df_lines.{specs.{Grammar.{AreRequest, AreSized, IsBody, Append, Block, Checkpoint, Reply, SaysLine, Stage}, Words.{HasNoSpace, Cuts}}, proofs.Cutting.{decimal_no_space, no_cut, one_cut}}
 
 pub same_rest : (front a b : List ℕ) → front ++ a ≡ front ++ b → a ≡ b
@@ -47,4 +47,4 @@ pub blocked : (words : List ℕ) (most kind : ℕ) (body : List ℕ) → 2 ^ 8 �
 blocked words most kind body wide says = record { word = says.word; is = same_rest (codes "block ") words _ says.is; fits = (omega (arith, says.fits.0), says.fits.1) }
 
 pub rooted : (word body : List ℕ) → SaysLine (codes "checkpoint " ++ word) (Checkpoint body) → IsBody word body
-rooted word body says = subst (λ (w : List ℕ). IsBody w body) (sym (same_rest (codes "checkpoint ") word says.word says.is)) says.fits
+rooted word body says = rw (sym (same_rest (codes "checkpoint ") word says.word says.is)) at says.fits

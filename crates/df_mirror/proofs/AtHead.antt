@@ -50,8 +50,8 @@ module _ (b : Superblock) (k : ℕ) (image other : Units) (alike : AreAlike k im
       table = head.tells.table;
       shows = record {
         each = λ s seen at. let it = head.tells.shows.each s seen at in record {
-          header = subst (λ (x : Option AnyUnit). ShowsHeader x seen.header) (sym (alike (HeaderPlace s) (λ (same : HeaderPlace s ≡ ReplyPlace k). cc))) it.header;
-          prepare = subst (λ (x : Option AnyUnit). ShowsPrepare x seen.prepare) (sym (same_slot s)) it.prepare;
+          header = rw (sym (alike (HeaderPlace s) (λ (same : HeaderPlace s ≡ ReplyPlace k). cc))) at it.header;
+          prepare = rw (sym (same_slot s)) at it.prepare;
         };
         no_header = λ s past. alike (HeaderPlace s) (λ (same : HeaderPlace s ≡ ReplyPlace k). cc) ∙ head.tells.shows.no_header s past;
         no_prepare = λ s past. same_slot s ∙ head.tells.shows.no_prepare s past;
@@ -119,7 +119,7 @@ module _ (b : Superblock) (slots : Scan) (table : Table) (k : ℕ) (t o : Told) 
   reply_none same silent none = none_mended b (AreOfKind Reply) tt t o old new tell same silent (λ image. ShowsKnownReplies b image slots table (k + 1)) (record {
     has = shows.has;
     shown = λ j sum below known. elim (cases_eq j k) [
-      | inl here ↦ absurd (none sum (subst (λ (n : ℕ). IsRecordedReply (shape b.file) (superblock_units b t.shown) (content_of_superblock b) n sum) here known))
+      | inl here ↦ absurd (none sum (rw here at known))
       | inr other ↦ shows.shown j sum (omega (arith, below, other)) known
     ];
   })
@@ -145,7 +145,7 @@ module _ (b : Superblock) (slots : Scan) (table : Table) (k : ℕ) (t o : Told) 
               | inl newer ↦ absurd (let most = recorded.no_reply newer.0 (ap (λ (n : ℕ). superblock_units b u.shown (ReplyPlace n)) here ∙ newer.1) newer.2 in omega (arith, most, newer.3))
               | inr seen ↦
                   let same : number_of check ≡ sum = sym (recorded_sum b k check sum_at) ∙ ap (λ (n : ℕ). slice_index (content_of_superblock b).reply_checksums n) (sym here) ∙ sym recorded.sum_is in
-                  subst (λ (n : ℕ). IsShownAs (superblock_units b u.shown) Reply (ReplyPlace n) sum) (sym here) (subst (λ (n : ℕ). IsShownAs (superblock_units b u.shown) Reply (ReplyPlace k) n) same seen)
+                  rw (sym here) at (rw same at seen)
             ]
             | inr other ↦ shown_there (superblock_units b t.shown) (superblock_units b u.shown) Reply (ReplyPlace j) sum (alike (ReplyPlace j) (λ (same : ReplyPlace j ≡ ReplyPlace k). other (cc)))
                 (shows.shown j sum (omega (arith, below, other)) (recorded_there b k (superblock_units b u.shown) (superblock_units b t.shown) back j sum other recorded))
@@ -184,7 +184,7 @@ all_replies b image slots table shows place sum known = by place known
     among k is = elim (cases_lt k (length table.sessions)) [
       | inl within ↦ within
       | inr past ↦
-          let head : k < length shows.has.sessions = subst (λ (l : List units.Session). k < length l) (one_head b image is.sessions shows.has.sessions is.has shows.has.has) (slice_get_within is.sessions k is.session is.at) in
+          let head : k < length shows.has.sessions = rw (one_head b image is.sessions shows.has.sessions is.has shows.has.has) at (slice_get_within is.sessions k is.session is.at) in
           let size : length table.sessions ≡ length (take b.file.layout.clients shows.has.sessions) = sym (length-map table.sessions session_of) ∙ ap length shows.has.table_is in
           let clients : b.content.clients ≤ k = omega (arith, past, head, size, length-take b.file.layout.clients shows.has.sessions, b.fields.clients) in
           absurd (omega (arith, is.some, is.sum_is, none_past b k clients))

@@ -1,5 +1,5 @@
 -- The chain: what was read of it is shown, no block of it is written over, and each link takes the walk one block further.
-use Rattle.std.{proofs.{Common.{◌≡◌, ℕ, ◌+◌, ◌-◌, ◌<◌, ◌==◌, ◌||◌, Bool, true, false, List, [], ◌∷◌, length, map, Option, Some, refl, sym, ◌∙◌, ap, subst, arith, inl, inr, eq-eqb, eqb-true}, lemmas.Bool.{cases_order}}, specs.{Prelude.{Ok}, List.{list_any}}}
+use Rattle.std.{proofs.{Common.{◌≡◌, ℕ, ◌+◌, ◌-◌, ◌<◌, ◌==◌, ◌||◌, Bool, true, false, List, [], ◌∷◌, length, map, Option, Some, refl, sym, ◌∙◌, ap, arith, inl, inr, eq-eqb, eqb-true}, lemmas.Bool.{cases_order}}, specs.{Prelude.{Ok}, List.{list_any}}}
 use Rattle.df_layout.specs.declared.damage.Class.TheVariants.{Stale}
 use Rattle.df_format.specs.{declared.kind.Kind.{Kind}, declared.kind.Kind.TheVariants.{Block as AsBlock, Prepare, Reply, Trailer}}
 use Rattle.df_theory.specs.{Opens.{AreLinks, Arrives, IsLink, IsShown, ReadsTo}, Shape.{Shape}, Trailer.{InChain, IsCount}, Units.{AnyUnit, Block, BlockPlace, BlockUnit, Content, CopyUnit, HeaderUnit, Place, PreparePlace, PrepareUnit, ReplyPlace, ReplyUnit, Units}}
@@ -39,13 +39,13 @@ one_block image a x y one two = let both : Some (BlockUnit y) ≡ Some (BlockUni
 -- a block that is wanted and shown is one that was read, where this one isn't shown
 was_read : (image : Units) (xs ys : List (ℕ × Block)) (address sum a k e m : ℕ) → Arrives image xs address sum a k → Arrives image ys address sum e m → (IsShown image a k → ⊥) → IsShown image e m → (b : Block) × InChain e b xs
 was_read image [] [] address sum a k e m one two lacks shown =
-    absurd (lacks (subst (λ (n : ℕ). IsShown image a n) (two.1 ∙ sym one.1) (subst (λ (n : ℕ). IsShown image n m) (two.0 ∙ sym one.0) shown)))
+    absurd (lacks (rw (two.1 ∙ sym one.1) at (rw (two.0 ∙ sym one.0) at shown)))
 was_read image [] (y ∷ ys) address sum a k e m one two lacks shown =
     absurd (lacks (y.1, ap (λ (n : ℕ). image (BlockPlace n)) one.0 ∙ two.3, two.2 ∙ sym one.1, two.4))
 was_read image (x ∷ xs) [] address sum a k e m one two lacks shown = (x.1, inl (two.0 ∙ sym one.1, refl))
 was_read image (x ∷ xs) (y ∷ ys) address sum a k e m one two lacks shown =
     let same : y.1 ≡ x.1 = one_block image address x.1 y.1 one.3 two.3 in
-    let rest = was_read image xs ys x.1.before x.1.before_checksum a k e m one.5 (subst (λ (b : Block). Arrives image ys b.before b.before_checksum e m) same two.5) lacks shown in
+    let rest = was_read image xs ys x.1.before x.1.before_checksum a k e m one.5 (rw same at two.5) lacks shown in
     (rest.0, inr rest.1)
 
 -- a walk that is longer has shown what a shorter one wants
@@ -54,7 +54,7 @@ shown_before image [] ys address sum a k e m one two less = absurd (omega (arith
 shown_before image (x ∷ xs) [] address sum a k e m one two less = (x.1, ap (λ (n : ℕ). image (BlockPlace n)) two.0 ∙ one.3, one.2 ∙ sym two.1, one.4)
 shown_before image (x ∷ xs) (y ∷ ys) address sum a k e m one two less =
     let same : y.1 ≡ x.1 = one_block image address x.1 y.1 one.3 two.3 in
-    shown_before image xs ys x.1.before x.1.before_checksum a k e m one.5 (subst (λ (b : Block). Arrives image ys b.before b.before_checksum e m) same two.5) (omega (arith, less))
+    shown_before image xs ys x.1.before x.1.before_checksum a k e m one.5 (rw same at two.5) (omega (arith, less))
 
 -- walks of one length come to one block
 same_walk : (image : Units) (xs ys : List (ℕ × Block)) (address sum a k e m : ℕ) → Arrives image xs address sum a k → Arrives image ys address sum e m → length xs ≡ length ys → (a ≡ e) × (k ≡ m)
@@ -63,7 +63,7 @@ same_walk image [] (y ∷ ys) address sum a k e m one two size = absurd (omega (
 same_walk image (x ∷ xs) [] address sum a k e m one two size = absurd (omega (arith, size))
 same_walk image (x ∷ xs) (y ∷ ys) address sum a k e m one two size =
     let same : y.1 ≡ x.1 = one_block image address x.1 y.1 one.3 two.3 in
-    same_walk image xs ys x.1.before x.1.before_checksum a k e m one.5 (subst (λ (b : Block). Arrives image ys b.before b.before_checksum e m) same two.5) (omega (arith, size))
+    same_walk image xs ys x.1.before x.1.before_checksum a k e m one.5 (rw same at two.5) (omega (arith, size))
 
 -- so one block that is wanted isn't shown
 pub one_wanted : (sh : Shape) (image : Units) (c : Content) (a k e m : ℕ) → ReadsTo sh image c a k → ReadsTo sh image c e m → (IsShown image a k → ⊥) → (IsShown image e m → ⊥) → (a ≡ e) × (k ≡ m)

@@ -82,13 +82,13 @@ module _ (before now : Faults) (old new : Option (List ℕ)) (status : Status) w
   mended_causes mid (Err (Neither place class)) blamed blame failed tells =
       printed_causes ends.DiskFault ends.WriteFault before now status (since_then mid blamed.2 (blame (λ no. cc))) (λ no. cc) old new (neither_text place class) ends.Refused (λ no. cc) blamed.0 blamed.1 tells
   mended_causes mid (Err (Unopened e)) blamed blame failed tells =
-      unopened_causes ends.DiskFault ends.WriteFault before now status (since_then mid blamed.2 (blame (λ no. cc))) (λ no. cc) old new ℕ e ends.Refused (λ no. cc) (subst (λ (b : Bool). Blamed b before.first now.first) (first_open e) blamed.0) blamed.1 tells
+      unopened_causes ends.DiskFault ends.WriteFault before now status (since_then mid blamed.2 (blame (λ no. cc))) (λ no. cc) old new ℕ e ends.Refused (λ no. cc) (rw (first_open e) at blamed.0) blamed.1 tells
   mended_causes mid (Err First) blamed blame failed tells = first_causes ends.DiskFault ends.WriteFault before now status (since_then mid blamed.2 (blame (λ no. cc))) tells.0 blamed.0 blamed.1
   mended_causes mid (Err Second) blamed blame failed tells = second_causes ends.DiskFault ends.WriteFault before now status (since_then mid blamed.2 (blame (λ no. cc))) tells.0 blamed.0 blamed.1
   mended_causes mid (Err Sink) blamed blame failed tells =
       let is : status ≡ ends.WriteFault = tells.0 in
       let same : now.sink ≡ mid = failed refl in
-      neither_causes ends.DiskFault ends.WriteFault before now status (its_blame ends.WriteFault before.sink now.sink status is (subst (λ (n : ℕ). Rose before.sink n) (sym same) blamed.2.1)) blamed.0 blamed.1 (λ no. cc (is, no))
+      neither_causes ends.DiskFault ends.WriteFault before now status (its_blame ends.WriteFault before.sink now.sink status is (rw (sym same) at blamed.2.1)) blamed.0 blamed.1 (λ no. cc (is, no))
 
 -- ---- the barrier
 
@@ -113,7 +113,7 @@ module _ (T : Type 0) (e : OpenError) (old new : Outside) (status : Status) (bar
     | inl fault ↦ inl (record { undone = record { written = (prints.failing fault).1; told = syncs_part T old.first new.first e fault barrier }; why = inr (prints.failing fault).0 })
     | inr other ↦ inr (record {
       error = e;
-      is = superblock_refused t e other.0 (subst (λ (o : Option Told). TellsFoundAs 2 o (Err e)) told answer);
+      is = superblock_refused t e other.0 (rw told at answer);
       prints = prints.other other.0;
       barrier = synced T old.first new.first e other.0 barrier ∙ ap (after Sync) told;
     })
@@ -138,7 +138,7 @@ second_spare f is second = elim is.version [
 
 has_file : (b : Superblock) (image : Image) (f : SuperFields) → HasSuperAs 2 image f → b.content ≡ f → HasFile image b.file b.content
 has_file b image f super same = record {
-  super = subst (λ (n : ℕ). HasSuperAs n image b.content) (sym b.version) (subst (HasSuperAs 2 image) (sym same) super);
+  super = rw (sym b.version) at (subst (HasSuperAs 2 image) (sym same) super);
   layout = record { slots = sym b.fields.slots; message_size = sym b.fields.message_size; clients = sym b.fields.clients; block_size = sym b.fields.block_size; blocks = sym b.fields.blocks };
   cluster = b.fields.cluster_is;
 }
@@ -174,7 +174,7 @@ mirrored_then b t o old mid new status f super same barrier silent memory mirror
         mirrored = record {
           text = m.text;
           result = m.result;
-          answers = subst (λ (x : Option (List ℕ)). AnswersMending b.file (content_of_superblock b) AreInOrder (did Sync t) o new.first x m.text m.result) silent m.answers;
+          answers = rw silent at m.answers;
           shown = m.shown;
           trailer = m.trailer;
           tells = m.tells;

@@ -1,5 +1,5 @@
 -- An image has one first known unit that isn't shown.
-use Rattle.std.{proofs.{Common.{◌≡◌, ℕ, ◌+◌, ◌%◌, ◌<◌, List, refl, sym, ◌∙◌, ap, subst, arith, inl, inr}, lemmas.Bool.{cases_order}, lemmas.Option.{same_Some}}, specs.Prelude.{slice_index}}
+use Rattle.std.{proofs.{Common.{◌≡◌, ℕ, ◌+◌, ◌%◌, ◌<◌, List, refl, sym, ◌∙◌, ap, arith, inl, inr}, lemmas.Bool.{cases_order}, lemmas.Option.{same_Some}}, specs.Prelude.{slice_index}}
 use Rattle.df_format.specs.{declared.kind.Kind.{Kind}, declared.kind.Kind.TheVariants.{Block as AsBlock, Prepare as AsPrepare, Reply as AsReply, Reserved, Trailer as AsTrailer}}
 use Rattle.df_theory.{specs.{Opens.{AreKnown, named_by}, Shape.{Shape, slots}, Units.{BlockPlace, Content, Message, Place, PreparePlace, PrepareUnit, ReplyPlace, Units}}, proofs.Laws.{known_one}}
 use Rattle.df_mirror.{specs.Known.{ComesBefore, IsNamedPrepare, IsNext, IsReferencedBlock, IsShownAs}, proofs.{Chains.{one_wanted, shown_block}, Logs.{named_shown}, Ones.{one_trailer}}}
@@ -50,7 +50,7 @@ module _ (sh : Shape) (image : Units) (c : Content) where
       let second : IsNamedPrepare sh image c r n = two.known in
       elim (cases_order first.op second.op) [
         | inl same ↦
-            let known : AreKnown (slots sh) image (second.op + 1) c.pin_checksum first.later = subst (λ (op : ℕ). AreKnown (slots sh) image (op + 1) c.pin_checksum first.later) same first.known in
+            let known : AreKnown (slots sh) image (second.op + 1) c.pin_checksum first.later = rw same at first.known in
             let later = known_one (slots sh) image (second.op + 1) c.pin_checksum first.later second.later known second.known (omega (arith, first.count, second.count, same)) in
             (refl, ap (λ (x : ℕ). PreparePlace x) (first.slot_is ∙ ap (λ (op : ℕ). op % slots sh) same ∙ sym second.slot_is), first.sum_is ∙ ap (λ (l : List Message). named_by c.pin_checksum l) later ∙ sym second.sum_is)
         | inr (inl less) ↦ absurd (two.lacks (later_shown s r sum n first second less))

@@ -1,5 +1,5 @@
 -- What mends leave as it was: each place at which none was mended.
-use Rattle.std.{proofs.{Common.{◌≡◌, ℕ, List, [], ◌∷◌, Option, Some, None, refl, sym, ◌∙◌, ap, subst}, lemmas.Option.{same_Some}}, specs.Prelude.{Ok}}
+use Rattle.std.{proofs.{Common.{◌≡◌, ℕ, List, [], ◌∷◌, Option, Some, None, refl, sym, ◌∙◌, ap}, lemmas.Option.{same_Some}}, specs.Prelude.{Ok}}
 use Rattle.df_base.{specs.Image.{Image, IsImage}, proofs.Laws.{written_is_image}}
 use Rattle.df_disk.specs.Told.{Told}
 use Rattle.df_format.specs.{declared.kind.Kind.{Kind}, declared.kind.Kind.TheVariants.{Block, Prepare, Reply, Trailer}}
@@ -47,7 +47,7 @@ misses_kind file c second t [] kind place are of other = tt
 misses_kind file c second t (m ∷ ms) kind place are of other = (
   λ same.
       let here : IsPlaceOf m.kind m.place = known_place (shape file) (units_shown file t.shown) c m.kind m.place (checksum_of m.unit) are.0.known in
-      other (subst (λ (p : Place). IsPlaceOf kind p) same (subst (λ (k : Kind). IsPlaceOf k m.place) of.0 here)),
+      other (rw same at (rw of.0 at here)),
   misses_kind file c second (told_after (mirrored_events file (m ∷ [])) t) ms kind place are.1 of.1 other,
 )
 

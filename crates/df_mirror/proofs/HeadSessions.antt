@@ -61,7 +61,7 @@ unknown_front (suc n) h [] (x ∷ xs) d is full none = absurd (let clash : sessi
 unknown_front (suc n) h (s ∷ ss) (x ∷ xs) d is full none =
     let head : session_of x ≡ s = cc in
     let rest : sessions_of xs ≡ take n ss = cc in
-    let other : (s.client == h.client) ≡ false = subst (λ (t : units.Session). (t.client == h.client) ≡ false) head (none 0 (omega arith)) in
+    let other : (s.client == h.client) ≡ false = rw (← head) (none 0 (omega arith)) in
     rw other (ap (λ (l : List units.Session). s ∷ l) (unknown_front n h ss xs d rest (omega (arith, full)) (λ k within. none (suc k) (omega (arith, within)))))
 
 module _ (h : Header) (xs : List Session) (places : ℕ) (ss : List units.Session) (is : sessions_of xs ≡ take places ss) where
@@ -70,7 +70,7 @@ module _ (h : Header) (xs : List Session) (places : ℕ) (ss : List units.Sessio
 
   -- a prepare was noted in the table
   noted_in : (new : List Session) → length (noted h (sessions_of xs)) ≤ places → sessions_of new ≡ noted h (sessions_of xs) → sessions_of new ≡ take places (noted h ss)
-  noted_in new few same = same ∙ ap (noted h) is ∙ noted_front places h ss (subst (λ (l : List units.Session). length (noted h l) ≤ places) is few)
+  noted_in new few same = same ∙ ap (noted h) is ∙ noted_front places h ss (rw is at few)
 
   pub noted_known : (new : List Session) → IsKnownClient h.client xs → sessions_of new ≡ noted h (sessions_of xs) → sessions_of new ≡ take places (noted h ss)
   noted_known new known same = noted_in new (noted_few h xs places fits known) same
@@ -95,11 +95,11 @@ known_get : (n : ℕ) (image : Units) (op sum : ℕ) (named : List Message) (i :
 known_get n image op sum [] i known within = absurd (omega (arith, within))
 known_get n image op sum (p ∷ ps) zero known within =
     let one : op ≡ op + 0 = omega arith in
-    (p, refl, subst (λ (o : ℕ). image (PreparePlace (o % n)) ≡ Some (PrepareUnit p)) one known.0)
+    (p, refl, rw one at known.0)
 known_get n image op sum (p ∷ ps) (suc i) known within =
     let rest = known_get n image (op + 1) sum ps i known.2 (omega (arith, within)) in
     let one : op + 1 + i ≡ op + suc i = omega arith in
-    (rest.0, rest.1, subst (λ (o : ℕ). image (PreparePlace (o % n)) ≡ Some (PrepareUnit rest.0)) one rest.2)
+    (rest.0, rest.1, rw one at rest.2)
 
 take_one : (ps : List Message) (i : ℕ) (p : Message) → slice_get ps i ≡ Some p → take (suc i) ps ≡ take i ps ++ p ∷ []
 take_one [] i p at = absurd (let none : None ≡ Some p = at in cc)
@@ -160,11 +160,11 @@ module _ (b : Superblock) (slots : Scan) (start now : List Session) (fields : Su
   pub noted_next : (new : List Session) (h : file.Header) → header_of_seen (entry slots slot).prepare ≡ Some h → (places : ℕ) → places ≡ b.file.layout.clients
       → ((ss : List units.Session) → sessions_of now ≡ take places ss → sessions_of new ≡ take places (noted (header_of h) ss)) → HasNoted b slots start new (op + 1 - fields.op)
   noted_next new h is places clients notes =
-      one_more new (noted_one b slots start now (op - fields.op) has up_to_pin new h (subst (λ (s : ℕ). header_of_seen (entry slots s).prepare ≡ Some h) next_slot is)
-      (subst (λ (n : ℕ). (ss : List units.Session) → sessions_of now ≡ take n ss → sessions_of new ≡ take n (noted (header_of h) ss)) clients notes))
+      one_more new (noted_one b slots start now (op - fields.op) has up_to_pin new h (rw next_slot at is)
+      (rw clients at notes))
 
   pub none_next : header_of_seen (entry slots slot).prepare ≡ None → HasNoted b slots start now (op + 1 - fields.op)
-  none_next none = one_more now (noted_lost b slots start now (op - fields.op) has up_to_pin (subst (λ (s : ℕ). header_of_seen (entry slots s).prepare ≡ None) next_slot none))
+  none_next none = one_more now (noted_lost b slots start now (op - fields.op) has up_to_pin (rw next_slot at none))
 
 pub noted_all : (b : Superblock) (slots : Scan) (start now : List Session) (i : ℕ) → b.content.op + i ≡ (content_of_superblock b).pin → HasNoted b slots start now i
     → (image : Units) (named : List Message) → TellsRings b.file.layout image slots → AreKnown b.file.layout.slots image (b.content.op + 1) (content_of_superblock b).pin_checksum named → b.content.op + length named ≡ (content_of_superblock b).pin
@@ -178,7 +178,7 @@ module _ (b : Superblock) (slots : Scan) (slot client : ℕ) (image : Units) (te
   pub later_shown : (h : file.Header) → slot < length slots.slots → header_of_seen (entry slots slot).prepare ≡ Some h → h.boot ≡ b.content.boot → b.content.head < h.op → h.client ≡ client → HasLater b image client
   later_shown h within is boot above of =
       let it = prepare_shown b.file.layout image slots slot tells h within is in
-      (slot, it.0, it.1, record { boot = ap (λ (x : Header). x.boot) it.2 ∙ boot; above = subst (λ (x : Header). (content_of_superblock b).pin < x.op) (sym it.2) (omega (arith, pin_is b, above)); of_client = ap (λ (x : Header). x.client) it.2 ∙ of })
+      (slot, it.0, it.1, record { boot = ap (λ (x : Header). x.boot) it.2 ∙ boot; above = rw it.2 (omega (arith, pin_is b, above)); of_client = ap (λ (x : Header). x.client) it.2 ∙ of })
 
   pub later_seen : (p : Message) → image (PreparePlace slot) ≡ Some (PrepareUnit p) → IsLater b client p → (h : file.Header) × (header_of_seen (entry slots slot).prepare ≡ Some h) × (h.boot ≡ b.content.boot) × (b.content.head < h.op) × (h.client ≡ client)
   later_seen p shown later =

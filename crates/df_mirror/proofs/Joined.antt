@@ -114,7 +114,7 @@ module _ (file : DataFile) (c : Content) (Of Then All : List Mend → Type 0) (c
     does = record {
       are = mends_go_on file c o.shown t ms came.mends does.are came.does.are;
       told = came.does.told ∙ sym (told_behind file ms came.mends t);
-      printed = subst (λ (p : List ℕ). Appends old later p) (sym (lines_append ms came.mends)) (appends_more old text later (lines_of ms) (lines_of came.mends) does.printed came.does.printed);
+      printed = rw (sym (lines_append ms came.mends)) at (appends_more old text later (lines_of ms) (lines_of came.mends) does.printed came.does.printed);
     };
     last = last came.mends came.after came.last;
   }
@@ -127,10 +127,10 @@ module _ (file : DataFile) (c : Content) (Of Then All : List Mend → Type 0) (c
         mends = ms ++ failed.mends;
         one = failed.one;
         are_of = subst All all (closed ms (failed.mends ++ last) of failed.are_of);
-        are = subst (λ (l : List Mend). AreMends file c o.shown t l) all (mends_go_on file c o.shown t ms (failed.mends ++ last) does.are failed.are);
+        are = rw all at (mends_go_on file c o.shown t ms (failed.mends ++ last) does.are failed.are);
         said = failed.said;
-        printed = subst (λ (p : List ℕ). Appends old failed.said p) (sym (lines_append ms failed.mends)) (appends_more old text failed.said (lines_of ms) (lines_of failed.mends) does.printed failed.printed);
-        fails = subst (λ (m : Told). FailsAt file e failed.one m new failed.said later) (sym (told_behind file ms failed.mends t)) failed.fails;
+        printed = rw (sym (lines_append ms failed.mends)) at (appends_more old text failed.said (lines_of ms) (lines_of failed.mends) does.printed failed.printed);
+        fails = rw (sym (told_behind file ms failed.mends t)) at failed.fails;
       }
 
   pub joined : (a : ℕ) → a ≡ length ms → (new : Option Told) (later : Option (List ℕ)) (result : Result ℕ Ending) → (IsRefusal result → AreOfKind Trailer ms) → AnswersMending file c Then Mid o new text later result → AnswersMending file c All t o new old later (more a result)
@@ -152,10 +152,10 @@ pub answers_then : (file : DataFile) (c : Content) (Of Then All : List Mend → 
 answers_then file c Of Then All closed t o m mid new old text later a result only came is rest =
     let same : m ≡ told_after (mirrored_events file came.mends) t = sym (same_Some _ _ (sym came.after_is ∙ is)) ∙ came.does.told in
     let does : MendsUnits file c t o (told_after (mirrored_events file came.mends) t) old text came.mends = record { are = came.does.are; told = refl; printed = came.does.printed } in
-    joined file c Of Then All closed t o came.mends came.are_of old text does a came.last new later result (λ refusal. only refusal came.mends came.are_of) (subst (λ (x : Told). AnswersMending file c Then x o new text later result) same rest)
+    joined file c Of Then All closed t o came.mends came.are_of old text does a came.last new later result (λ refusal. only refusal came.mends came.are_of) (rw same at rest)
 
 -- what is told after a walk is whole
 pub told_is_whole : (file : DataFile) (c : Content) (Of : List Mend → Type 0) (t o m : Told) (mid : Option Told) (old text : Option (List ℕ)) (a : ℕ) → IsImage t.shown → AnswersMending file c Of t o mid old text (Ok a) → mid ≡ Some m → IsImage m.shown
 told_is_whole file c Of t o m mid old text a whole came is =
     let same : m ≡ told_after (mirrored_events file came.mends) t = sym (same_Some _ _ (sym came.after_is ∙ is)) ∙ came.does.told in
-    subst (λ (x : Told). IsImage x.shown) (sym same) (image_after file c o.shown t came.mends whole came.does.are)
+    rw (sym same) at (image_after file c o.shown t came.mends whole came.does.are)

@@ -29,7 +29,7 @@ it_is_there b a check t u is =
     record {
       shown = is.shown ∙ sym is.unit_is;
       sum = sym (ap checksum_of same) ∙ is.sum_is;
-      kind = subst (λ (x : AnyUnit). IsOfKind Trailer x) same is.of_kind;
+      kind = rw same at is.of_kind;
     }
 
 -- what isn't refused isn't broken
@@ -135,7 +135,7 @@ module _ (b : Superblock) (n index : ℕ) (walk : Walk) (t o : Told) (counts : I
               record {
                 chain = walked.chain ++ d ∷ [];
                 addresses = ap (λ (l : List Link). map (λ r. r.address) l) goes.2 ∙ map-append (λ r. r.address) walk.read.items (walk.at ∷ []) ∙ ap (λ (l : List ℕ). l ++ walk.at.address ∷ []) walked.addresses ∙ sym (map-append (λ x. x.0) walked.chain (d ∷ []));
-                arrives = subst (λ (r : Link). Arrives (superblock_units b m.shown) (walked.chain ++ d ∷ []) (content_of_superblock b).trailer (content_of_superblock b).trailer_checksum r.address (number_of r.checksum)) (sym goes.1) on;
+                arrives = rw goes.1 on;
                 links = links_more (shape b.file) (content_of_superblock b) n index walked.chain d walked.links counted goes.0;
               }
 

@@ -1,5 +1,5 @@
 -- What a shelf holds of what was read, and a unit that is wanted is the theory's.
-use Rattle.std.{proofs.{Common.{◌≡◌, ℕ, List, Option, Some, None, refl, sym, ◌∙◌, ap, subst}, lemmas.Option.{same_Some}}, specs.Prelude.{IsSome}}
+use Rattle.std.{proofs.{Common.{◌≡◌, ℕ, List, Option, Some, None, refl, sym, ◌∙◌, ap}, lemmas.Option.{same_Some}}, specs.Prelude.{IsSome}}
 use Rattle.df_base.specs.Image.{Image, IsImage}
 use Rattle.df_disk.specs.Told.{Told}
 use Rattle.df_layout.specs.{declared.damage.Class.{Class}, declared.layout.Layout.{Layout}, declared.places.Zone.TheVariants.{Superblock}}
@@ -28,7 +28,7 @@ held_some kind identity (Some held) found = refl
 pub blanked_held : (layout : Layout) (shelf new : Option Holding) (held : Holding) → shelf ≡ Some held → HoldsBlanked layout shelf new → (blanked : Holding) × (new ≡ Some blanked) × IsBlanked layout held blanked
 blanked_held layout None new held is holds = absurd holds
 blanked_held layout (Some old) None held is holds = absurd holds
-blanked_held layout (Some old) (Some blanked) held is holds = (blanked, refl, subst (λ (h : Holding). IsBlanked layout h blanked) (same_Some _ _ is) holds)
+blanked_held layout (Some old) (Some blanked) held is holds = (blanked, refl, rw (same_Some _ _ is) at holds)
 
 -- a unit that is shown is shown, whatever stands after it in the room
 pub shown_still : (kind : Kind) (identity : Identity) (told : Option Told) (old new : Holding) → new.unit ≡ old.unit → IsRead kind identity told None (Some old) → IsRead kind identity told None (Some new)
@@ -77,7 +77,7 @@ module _ (file : DataFile) (kind : Kind) (at : Place) (check : List ℕ) (identi
   pub found_unit : (u : Message) → IsFoundUnit kind identity u → IsUnitOf kind at check u
   found_unit u found =
       let some = some_unit at u kind for.stands in
-      let own : IsFoundUnit kind (record { layout = file.layout; cluster = file.cluster; place = place_of at; wanted = Checksum check }) u = subst (λ (i : Identity). IsFoundUnit kind i u) for.is found in
+      let own : IsFoundUnit kind (record { layout = file.layout; cluster = file.cluster; place = place_of at; wanted = Checksum check }) u = rw for.is at found in
       let told = units_told file.layout file.cluster at kind (words.Checksum check) u some.0 for.fits own.is some.1 in
       record { unit = some.0; unit_is = some.1; of_kind = told.of_kind.0 own.of_kind; sum_is = told.is_wanted.0 own.wanted }
 
@@ -85,13 +85,13 @@ module _ (file : DataFile) (kind : Kind) (at : Place) (check : List ℕ) (identi
   pub shows_unit : (image : Image) (u : Message) → shown_at identity image ≡ Some u → IsFoundUnit kind identity u → ShowsUnit file kind at check image u
   shows_unit image u shown found =
       let is = found_unit u found in
-      let here : Shown.unit_at file.layout file.cluster image (place_of at) ≡ Some u = subst (λ (i : Identity). shown_at i image ≡ Some u) for.is shown in
+      let here : Shown.unit_at file.layout file.cluster image (place_of at) ≡ Some u = rw for.is at shown in
       record { unit = is.unit; unit_is = is.unit_is; shown = message_at file image at kind for.stands ∙ ap (message_unit at) here ∙ is.unit_is; of_kind = is.of_kind; sum_is = is.sum_is }
 
   -- and where it shows none that is wanted
   pub lacks_unit : (image : Image) → IsImage image → ((u : Message) → shown_at identity image ≡ Some u → IsFoundUnit kind identity u → ⊥) → IsShownAs (units_shown file image) kind at (number_of check) → ⊥
   lacks_unit image whole none shown =
-      let own = subst (λ (i : Identity). (u : Message) → shown_at i image ≡ Some u → IsFoundUnit kind i u → ⊥) for.is none in
+      let own = rw for.is at none in
       none_wanted file.layout file.cluster image at kind (words.Checksum check) whole for.fits
       (λ u is of_kind wanted. own u is (record { is = shown_is_unit file.layout file.cluster image (place_of at) u whole is; of_kind = of_kind; wanted = wanted })) shown.unit shown.shown shown.of_kind shown.sum_is
 

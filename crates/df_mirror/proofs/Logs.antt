@@ -21,12 +21,12 @@ from_lower low high (m ∷ ls) less from = (omega (arith, less, from.0), from.1)
 
 pub from_kind : (rank : ℕ) (kind : Kind) (ms : List Mend) → rank ≤ rank_of_kind kind → AreOfKind kind ms → AreFrom rank ms
 from_kind rank kind [] less are = tt
-from_kind rank kind (m ∷ ms) less are = (subst (λ (k : Kind). rank ≤ rank_of_kind k) (sym are.0) less, subst (λ (k : Kind). AreFrom (rank_of_kind k) ms) (sym are.0) (from_kind (rank_of_kind kind) kind ms (omega arith) are.1))
+from_kind rank kind (m ∷ ms) less are = (rw (sym are.0) at less, rw (sym are.0) at (from_kind (rank_of_kind kind) kind ms (omega arith) are.1))
 
 pub then_from : (rank : ℕ) (kind : Kind) (ms ls : List Mend) → rank ≤ rank_of_kind kind → AreOfKind kind ms → AreFrom (rank_of_kind kind) ls → AreFrom rank (ms ++ ls)
 then_from rank kind [] ls less are from = from_lower rank (rank_of_kind kind) ls less from
 then_from rank kind (m ∷ ms) ls less are from =
-    (subst (λ (k : Kind). rank ≤ rank_of_kind k) (sym are.0) less, subst (λ (k : Kind). AreFrom (rank_of_kind k) (ms ++ ls)) (sym are.0) (then_from (rank_of_kind kind) kind ms ls (omega arith) are.1 from))
+    (rw (sym are.0) at less, rw (sym are.0) at (then_from (rank_of_kind kind) kind ms ls (omega arith) are.1 from))
 
 -- this many of one kind were mended, a read comes after them, and then those that follow in the order
 pub walk_then : {b : Superblock} {t o : Told} {old mid new : Outside} {told : Option Told} {a : ℕ} {Before After : Units → Type 0} (low high : ℕ) (kind : Kind) → low ≤ rank_of_kind kind → rank_of_kind kind ≤ high → Tell t o old → Mended b (AreOfKind kind) t o old mid (Ok a) Before → mid.second ≡ old.second
@@ -53,7 +53,7 @@ pub named_shown : (n : ℕ) (image : Units) (sum pin op a : ℕ) (ps later : Lis
 named_shown n image sum pin op a [] later known count above also size = absurd (omega (arith, count, above, size))
 named_shown n image sum pin op a (p ∷ ps) later known count above also size = elim (cases_eq a (op + 1)) [
   | inl here ↦
-      let from : AreKnown n image (op + 1 + 1) sum later = subst (λ (x : ℕ). AreKnown n image (x + 1) sum later) here also in
+      let from : AreKnown n image (op + 1 + 1) sum later = rw here at also in
       let rest : ps ≡ later = known_one n image (op + 1 + 1) sum ps later known.2 from (omega (arith, count, size, here)) in
       (p, ap (λ (x : ℕ). image (PreparePlace (x % n))) here ∙ known.0, known.1 ∙ ap (λ (l : List Message). named_by sum l) rest)
   | inr other ↦ named_shown n image sum pin (op + 1) a ps later known.2 (omega (arith, count)) (omega (arith, above, other)) also size
@@ -111,7 +111,7 @@ module _ (b : Superblock) (t o : Told) (old mid : Outside) (a : ℕ) (tell : Tel
 
       rings : TellsRings b.file.layout (superblock_units b m.shown) slots
       rings =
-          let here : IsScanned b.file.layout (Some m) slots = subst (λ (l : Layout). IsScanned l (Some m) slots) of_file (subst (λ (x : Option Told). IsScanned layout x slots) came_there scanned) in
+          let here : IsScanned b.file.layout (Some m) slots = rw of_file at (rw came_there at scanned) in
           subst (λ (n : ℕ). TellsRings b.file.layout (unit_at b.file.layout n m.shown) slots) (ap (λ (x : Start). x.cluster) begun ∙ cluster) (rings_shown b.file.layout m slots here)
 
       head : HasHead b (superblock_units b m.shown) slots table

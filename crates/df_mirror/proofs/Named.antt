@@ -42,8 +42,8 @@ module _ (b : Superblock) where
   pub names_all : (image : Units) (op sum : ℕ) → NamesPreparesFrom b image op sum → op ≡ b.content.op → ShowsNamed b image
   names_all image op sum from is = record {
     named = from.later;
-    known = subst (λ (o : ℕ). AreKnown b.file.layout.slots image (o + 1) (content_of_superblock b).pin_checksum from.later) is from.known;
-    count = subst (λ (o : ℕ). o + length from.later ≡ (content_of_superblock b).pin) is from.count;
+    known = rw is at from.known;
+    count = rw is at from.count;
   }
 
   -- the prepares that are named are within one turn of the ring
@@ -65,10 +65,10 @@ module _ (b : Superblock) where
             let slot : s ≡ op % b.file.layout.slots = cc in
             let high : known.op ≤ (content_of_superblock b).pin = omega (arith, known.count) in
             let one : known.op ≡ op = one_slot b.file.layout.slots b.content.op known.op op some known.above (omega (arith, high, within usable)) above (omega (arith, up_to_pin, within usable)) (sym known.slot_is ∙ slot) in
-            let there : AreKnown b.file.layout.slots (superblock_units b t.shown) (op + 1) (content_of_superblock b).pin_checksum known.later = subst (λ (o : ℕ). AreKnown b.file.layout.slots (superblock_units b t.shown) (o + 1) (content_of_superblock b).pin_checksum known.later) one known.known in
+            let there : AreKnown b.file.layout.slots (superblock_units b t.shown) (op + 1) (content_of_superblock b).pin_checksum known.later = rw one at known.known in
             let later : known.later ≡ from.later = known_one b.file.layout.slots (superblock_units b t.shown) (op + 1) (content_of_superblock b).pin_checksum known.later from.later there from.known (omega (arith, known.count, from.count, one)) in
             let sums : k ≡ sum = known.sum_is ∙ ap (λ (l : List Message). named_by (content_of_superblock b).pin_checksum l) later ∙ sym from.sum_is in
-            lacks (subst (λ (n : ℕ). IsShownAs (superblock_units b t.shown) Prepare (PreparePlace (op % b.file.layout.slots)) n) sums (subst (λ (p : Place). IsShownAs (superblock_units b t.shown) Prepare p k) same shown))
+            lacks (rw sums at (rw same at shown))
         at_kind Trailer (BlockPlace a) k known shown same = cc
         at_kind AsBlock (BlockPlace a) k known shown same = cc
         at_kind Reply (ReplyPlace p) k known shown same = cc
@@ -104,7 +104,7 @@ module _ (b : Superblock) where
           grid = grid_there b (superblock_units b t.shown) image (λ a. other_place b.file (content_of_superblock b) t o m new.first old.written new.written tell.whole is (BlockPlace a) Prepare (PreparePlace (op % n)) more mends.answers
               (λ (one : PreparePlace (op % n) ≡ BlockPlace a). cc)) from.grid;
           later = message_of u ∷ from.later;
-          known = subst (λ (k : ℕ). AreKnown n image k pin (message_of u ∷ from.later)) one (there, sum, later);
+          known = rw (← one) (there, sum, later);
           count = omega (arith, from.count, above);
           sum_is = refl;
         }
@@ -117,7 +117,7 @@ module _ (b : Superblock) where
     prepare_mended held shelf lent more mends shown h is =
         let it = due shelf (Ok more) mends shown in
         of_one b Prepare (PreparePlace (op % b.file.layout.slots)) t o old new (Ok more) (λ image. NamesPreparesFrom b image (op - 1) (number_of h.parent)) it.answers
-        (λ m there. subst (λ (x : Header). NamesPreparesFrom b (superblock_units b m.shown) (op - 1) (number_of x.parent)) (sym is) (names_on held shelf lent more it m there))
+        (λ m there. rw (sym is) at (names_on held shelf lent more it m there))
 
     pub prepare_failed : (e : Ending) → MendsUnit Prepare identity old new (Err e) → Mended b (AreOfKind Prepare) t o old new (Err e) (λ image. Unit {0})
     prepare_failed e mends = of_one b Prepare (PreparePlace (op % b.file.layout.slots)) t o old new (Err e) (λ image. Unit {0}) (due None (Err e) mends tt).answers (λ m is. tt)

@@ -1,5 +1,5 @@
 -- An image shows one trailer, and each block that is wanted of it is one of its chain.
-use Rattle.std.proofs.Common.{◌≡◌, ℕ, ◌-◌, ◌<◌, List, [], ◌∷◌, length, Some, refl, sym, ◌∙◌, subst, arith, inl, inr}
+use Rattle.std.proofs.Common.{◌≡◌, ℕ, ◌-◌, ◌<◌, List, [], ◌∷◌, length, Some, refl, sym, ◌∙◌, arith, inl, inr}
 use Rattle.df_sessions.specs.declared.session.Session.{Session}
 use Rattle.df_grid.specs.Grid.{GridState}
 use Rattle.df_theory.{specs.{Opens.{Arrives, ReadsTo}, Sessions.{Has}, Shape.{Shape}, Trailer.{InChain, Links, Says}, Units.{Block, BlockPlace, BlockUnit, Content, Units}}, proofs.Laws.{same_says}}
@@ -20,14 +20,14 @@ one_chain image room c (x ∷ xs) [] address sum one two shown also = absurd (om
 one_chain image room c (x ∷ xs) (y ∷ ys) address sum one two shown also =
     let place : x.0 ≡ y.0 = one.1 ∙ sym two.1 in
     let block : x.1 ≡ y.1 = one_block image x.0 y.0 x.1 y.1 place (shown x.0 x.1 (inl (refl, refl))) (also y.0 y.1 (inl (refl, refl))) in
-    let later : Links room c ys x.1.before x.1.before_checksum = subst (λ (b : Block). Links room c ys b.before b.before_checksum) (sym block) two.7 in
+    let later : Links room c ys x.1.before x.1.before_checksum = rw (sym block) at two.7 in
     let rest : xs ≡ ys = one_chain image room c xs ys x.1.before x.1.before_checksum one.7 later (λ a b at. shown a b (inr at)) (λ a b at. also a b (inr at)) in
     λ i. (place i, block i) ∷ rest i
 
 pub one_trailer : (sh : Shape) (image : Units) (c : Content) (one two : ShowsTrailer sh image c) → one.parts ≡ two.parts
 one_trailer sh image c one two =
     let chain = one_chain image (sh.layout.block_size - 256) c one.chain two.chain c.trailer c.trailer_checksum one.trailer.links two.trailer.links one.shown two.shown in
-    same_says sh c.op two.chain one.parts two.parts (subst (λ (l : List (ℕ × Block)). Says sh c.op l one.parts) chain one.trailer.says) two.trailer.says
+    same_says sh c.op two.chain one.parts two.parts (rw chain at one.trailer.says) two.trailer.says
 
 -- a walk that is shorter than the chain wants a block of it
 wants : (image : Units) (room : ℕ) (c : Content) (xs ys : List (ℕ × Block)) (address sum a k : ℕ) → Links room c xs address sum → Shown image xs → Arrives image ys address sum a k → length ys < length xs → (b : Block) × InChain a b xs
@@ -35,7 +35,7 @@ wants image room c [] ys address sum a k links shown arrives less = absurd (omeg
 wants image room c (x ∷ xs) [] address sum a k links shown arrives less = (x.1, inl (arrives.0 ∙ sym links.1, refl))
 wants image room c (x ∷ xs) (y ∷ ys) address sum a k links shown arrives less =
     let same : y.1 ≡ x.1 = one_block image address x.0 y.1 x.1 (sym links.1) arrives.3 (shown x.0 x.1 (inl (refl, refl))) in
-    let rest = wants image room c xs ys x.1.before x.1.before_checksum a k links.7 (λ e b at. shown e b (inr at)) (subst (λ (b : Block). Arrives image ys b.before b.before_checksum a k) same arrives.5) (omega (arith, less)) in
+    let rest = wants image room c xs ys x.1.before x.1.before_checksum a k links.7 (λ e b at. shown e b (inr at)) (rw same at arrives.5) (omega (arith, less)) in
     (rest.0, inr rest.1)
 
 pub wanted_block : (sh : Shape) (image : Units) (c : Content) (says : ShowsTrailer sh image c) (a k : ℕ) → ReadsTo sh image c a k → (b : Block) × InChain a b says.chain
@@ -50,7 +50,7 @@ trailer_there sh image other c says same = record { chain = says.chain; parts = 
 
 -- a trailer that is read, and each of whose waiting ops is that of a session, passes the tests of an open
 pub trailer_passes : (b : Superblock) (image : Units) (grid : GridState) (ss : List Session) → HasTrailerText b image grid ss → HasWaiting b ss → PassesTrailer (shape b.file) image (content_of_superblock b)
-trailer_passes b image grid ss text waiting = record { says = text.says; pending = λ n above within. subst (λ (l : List model.Session). Has l n) (sym text.sessions_are) (waiting n above within) }
+trailer_passes b image grid ss text waiting = record { says = text.says; pending = λ n above within. rw (sym text.sessions_are) at (waiting n above within) }
 
 -- and so it does wherever its chain is shown
 pub passes_there : (sh : Shape) (image other : Units) (c : Content) → ((a : ℕ) → other (BlockPlace a) ≡ image (BlockPlace a)) → PassesTrailer sh image c → PassesTrailer sh other c

@@ -1,5 +1,5 @@
 -- A mended file is opened as it was left.
-use Rattle.std.proofs.Common.{◌≡◌, ◌⊎◌, inl, inr, ℕ, List, [], ◌∷◌, Some, refl, sym, ◌∙◌, ap, subst, arith}
+use Rattle.std.proofs.Common.{◌≡◌, ◌⊎◌, inl, inr, ℕ, List, [], ◌∷◌, Some, refl, sym, ◌∙◌, ap, arith}
 use Rattle.df_base.specs.{Image.{Image}, Log.{Log, Sync}}
 use Rattle.df_base.specs.Log as logs
 use Rattle.df_disk.specs.Told.{Told, did}
@@ -55,7 +55,7 @@ module _ (file : DataFile) (c : Content) (t : Told) (hurt : IsHurtKnown file c t
   recorded_anew k m =
       let first = known_reply (shape file) (units_shown file m.first.image) c m.first.kind k m.first.sum m.first.known in
       let last = known_reply (shape file) (units_shown file m.last.image) c m.last.kind k (checksum_of m.last.unit) m.last.known in
-      let r = reply_of m.last.unit (subst (λ (kind : Kind). IsOfKind kind m.last.unit) last.0 m.last.of_kind) in
+      let r = reply_of m.last.unit (rw last.0 at m.last.of_kind) in
       record {
         reply = r.0;
         shown = m.last.new_is ∙ ap Some r.1;
@@ -88,15 +88,15 @@ module _ (file : DataFile) (view : View) (t : Told) (older : List Log) (shown : 
   starts = record {
     settled_is = synced_settled (histories.unit_log_in file t.log);
     chance = may.chance;
-    copies = subst (λ (was : Units). MayHurtCopies was (units_shown file shown)) (sym now_is) may.copies;
+    copies = rw now_is may.copies;
   }
 
   -- the superblock that is chosen is the view's, which the log left
   pub stays : (c : Content) → IsChosen (units_shown file shown) c → (c ≡ view.checkpoint.content) × Holds (shape file) (now log) view
   stays c chosen =
       let from = choice_stays_law (shape file) log (units_logs file older) (units_shown file shown) c may.lived starts chosen in
-      let same : from.view ≡ view = one_found_law (shape file) (units_shown file (logs.now t.log)) from.view view (holds_found (shape file) (units_shown file (logs.now t.log)) from.view (subst (λ (was : Units). Holds (shape file) was from.view) now_is from.holds)) found in
-      (from.content ∙ ap (λ (v : View). v.checkpoint.content) same, subst (λ (v : View). Holds (shape file) (now log) v) same from.holds)
+      let same : from.view ≡ view = one_found_law (shape file) (units_shown file (logs.now t.log)) from.view view (holds_found (shape file) (units_shown file (logs.now t.log)) from.view (rw now_is at from.holds)) found in
+      (from.content ∙ ap (λ (v : View). v.checkpoint.content) same, rw same at from.holds)
 
   own_by : (rest : List Log) → IsLived (shape file) (log ∷ units_logs file rest) → HasWoken file t.log rest → Holds (shape file) (now log) view → (k : ℕ) (r : Message) → r.header.boot ≡ boot_of view
       → InHistoryPool (log ∷ units_logs file rest) (ReplyPlace k) (ReplyUnit r) → InPool log (ReplyPlace k) (ReplyUnit r)
@@ -117,7 +117,7 @@ module _ (file : DataFile) (view : View) (t : Told) (older : List Log) (shown : 
     mended_found =
         holds_found (shape file) (units_shown file shown) view
         (left_holds (shape file) may.version log (units_logs file older) view (units_shown file shown) may.lived starts (stays view.checkpoint.content chosen).1 (of_places file.layout file.cluster file.named (parse_of (layout_of file.layout)) shown may.whole) chosen all
-        (subst (λ (was : Units). ShowsLeft (shape file) was (units_shown file shown) view.checkpoint.content) (sym now_is) (shows_left file view.checkpoint.content t hurt shown mended)) own_replies)
+        (rw (sym now_is) at (shows_left file view.checkpoint.content t hurt shown mended)) own_replies)
 
 -- ---- the law
 
@@ -130,9 +130,9 @@ copy_same file c old new mended n = elim (mended (CopyPlace n)) [
 
 pub mirrored_is_opened : MirroredIsOpened
 mirrored_is_opened file view c second t n older ms found unspent hurt may own whole chosen are is all =
-    let mended : (place : Place) → IsMendedOr file c t.shown n.shown place = λ place. subst (λ (m : Told). IsMendedOr file c t.shown m.shown place) (sym is) (mends_left file c second (did Sync t) ms are whole place) in
+    let mended : (place : Place) → IsMendedOr file c t.shown n.shown place = λ place. rw (sym is) at (mends_left file c second (did Sync t) ms are whole place) in
     let stays_chosen : IsChosen (units_shown file n.shown) c = chosen_same (units_shown file t.shown) (units_shown file n.shown) c (copy_same file c t.shown n.shown mended) chosen in
     let same : c ≡ view.checkpoint.content = (stays file view t older n.shown found may c stays_chosen).0 in
-    let opened : IsFound (shape file) (units_shown file n.shown) view = mended_found file view t older n.shown found may hurt own (subst (λ (d : Content). (place : Place) → IsMendedOr file d t.shown n.shown place) same mended)
-    (subst (λ (d : Content). IsChosen (units_shown file n.shown) d) same stays_chosen) (subst (λ (d : Content). AllShown (shape file) (units_shown file n.shown) d) same all) in
+    let opened : IsFound (shape file) (units_shown file n.shown) view = mended_found file view t older n.shown found may hurt own (rw same at mended)
+    (rw same at stays_chosen) (rw same at all) in
     (opened, found_is_not_refused_as 2 file n.shown view (inr refl) may.version unspent may.whole opened)

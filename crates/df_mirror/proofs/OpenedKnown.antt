@@ -1,5 +1,5 @@
 -- An image that shows each known unit shows the trailer and the named prepares of another one with the same superblock, where one checksum is one unit.
-use Rattle.std.proofs.{Common.{◌≡◌, inl, inr, ℕ, zero, suc, ◌+◌, ◌-◌, ◌%◌, ◌<◌, ◌≤◌, List, [], ◌∷◌, ◌++◌, length, take, Some, refl, sym, ◌∙◌, ap, subst, arith, length-append}, lemmas.Bool.{cases_eq}, lemmas.List.{length-take}}
+use Rattle.std.proofs.{Common.{◌≡◌, inl, inr, ℕ, zero, suc, ◌+◌, ◌-◌, ◌%◌, ◌<◌, ◌≤◌, List, [], ◌∷◌, ◌++◌, length, take, Some, refl, sym, ◌∙◌, ap, arith, length-append}, lemmas.Bool.{cases_eq}, lemmas.List.{length-take}}
 use Rattle.df_format.specs.declared.kind.Kind.TheVariants.{Prepare as AsPrepare, Reply as AsReply, Trailer as AsTrailer}
 use Rattle.df_theory.{specs.{Units.{AnyUnit, Block, BlockPlace, BlockUnit, Content, CopyUnit, HeaderUnit, Message, Place, PreparePlace, PrepareUnit, ReplyUnit, Session, Units}, Chance.{Distinct}, Found.{AreOfPlaces}, Opens.{AreKnown, AreLinks, IsLink, ReadsTo, named_by}, Sessions.{noted}, Shape.{Shape}, Tails.{Chain, In, last_checksum}, Trailer.{InChain, IsCount, Links}}, proofs.Laws.{arrives_more, links_more}}
 use Rattle.df_units.specs.Wanted.{IsOfKind, checksum_of}
@@ -59,9 +59,9 @@ module _ (sh : Shape) (was shown : Units) (c : Content) (places : AreOfPlaces sh
               record {
                 count = count;
                 read = r.0.read ++ d ∷ [];
-                counts = subst (λ (n : ℕ). IsCount (sh.layout.block_size - 256) c.trailer_size n) r.2 r.0.counts;
+                counts = rw r.2 at r.0.counts;
                 arrives = arrives_more shown r.0.read d c.trailer c.trailer_checksum a k r.0.arrives links.0 links.1 links.2 links.6 here;
-                links = links_more sh c count (length ds) r.0.read d (subst (λ (n : ℕ). AreLinks sh c n r.0.read) r.2 r.0.links) (omega (arith, ap length r.1)) link;
+                links = links_more sh c count (length ds) r.0.read d (rw r.2 at r.0.links) (omega (arith, ap length r.1)) link;
                 more = omega (arith, ap length r.1, length-append r.0.read (d ∷ []));
               },
               refl,
@@ -106,7 +106,7 @@ module _ (sh : Shape) (was shown : Units) (c : Content) (places : AreOfPlaces sh
       (record { op = op; above = above; slot_is = refl; later = take k ps; known = rest.0; count = omega (arith, length-take k ps); sum_is = refl }) in (
         (here.1, named, rest.0),
         λ a from to. elim (cases_eq a op) [
-          | inl first ↦ subst (λ (o : ℕ). shown (PreparePlace (o % sh.layout.slots)) ≡ was (PreparePlace (o % sh.layout.slots))) (sym first) (here.1 ∙ sym here.0)
+          | inl first ↦ rw (sym first) at (here.1 ∙ sym here.0)
           | inr later ↦ rest.1 a (omega arith) (omega arith)
         ],
       )

@@ -89,7 +89,7 @@ newest_counted sh image before images rest u v rises next history k r older show
 first_counted : (sh : Shape) (start : Units) → AreEarlier sh start → (images : List Units) (v : View) → Grows sh images v → EndsAt images start → (k : ℕ) (r : Message) → InImages images (ReplyPlace k) (ReplyUnit r) → IsCounted v.checkpoint.content r
 first_counted sh start earlier [] v grows ends k r at = absurd at
 first_counted sh start earlier (image ∷ []) v (holds, inl begins) ends k r (inl here) =
-    λ own low. absurd (omega (arith, own, earlier k r (ap (λ (i : Units). i (ReplyPlace k)) (sym ends) ∙ here) v (subst (λ (i : Units). Holds sh i v) ends holds)))
+    λ own low. absurd (omega (arith, own, earlier k r (ap (λ (i : Units). i (ReplyPlace k)) (sym ends) ∙ here) v (rw ends at holds)))
 first_counted sh start earlier (image ∷ []) v (holds, inl begins) ends k r (inr none) = absurd none
 first_counted sh start earlier (image ∷ []) v (holds, inr (history, (u, goes, grows))) ends k r at = absurd grows
 first_counted sh start earlier (image ∷ before ∷ images) v (holds, inl begins) ends k r (inl here) = absurd (begins.1 (ReplyPlace k) (ReplyUnit r) here)
@@ -125,7 +125,7 @@ module _ (sh : Shape) (log last : UnitLog) (logs : List UnitLog) (begun : IsBegu
       → (k : ℕ) (r : Message) → InImages images (ReplyPlace k) (ReplyUnit r) ⊎ WasThere k r → IsCounted v.checkpoint.content r
   later_counted [] v grows stays ends k r at = absurd grows
   later_counted (image ∷ []) v holds stays ends k r at =
-      at_start v (subst (λ (i : Units). Holds sh i v) ends holds) k r (elim at [
+      at_start v (rw ends at holds) k r (elim at [
         | inl (inl here) ↦ begun.start.chance.pooled (ReplyPlace k) (ReplyUnit r) (ap (λ (i : Units). i (ReplyPlace k)) (sym ends) ∙ here)
         | inl (inr none) ↦ absurd none
         | inr was ↦ was
@@ -161,7 +161,7 @@ all_counted sh log [] v lived sync holds k r (inl own) = first_log_counted sh lo
 all_counted sh log [] v lived sync holds k r (inr none) = absurd none
 all_counted sh log (before ∷ logs) v lived sync holds k r pool =
     let begun = lived.0 in
-    subst (λ (w : View). IsCounted w.checkpoint.content r) (newest_is sh log before logs v begun sync holds)
+    rw (newest_is sh log before logs v begun sync holds) at
     (later_counted sh log before logs begun lived.1 (λ w had j q at. all_counted sh before logs w lived.1 begun.start.settled_is had j q at) (settled log) begun.newest begun.grows begun.stays (ends_settled log.start log.events) k r (elim pool [
       | inl own ↦ inl (pooled_settled log sync (ReplyPlace k) (ReplyUnit r) own)
       | inr older ↦ inr older

@@ -108,10 +108,10 @@ reply_low sh (image ∷ images) v (holds, inr (u, next, rises)) k s of r (inr th
 -- ---- the newest log
 
 pub newest_holds : (sh : Shape) (log : UnitLog) (v : View) → IsSettled log → Rises sh (settled log) v → Holds sh (now log) v
-newest_holds sh log v sync rises = (subst (λ (l : List Units). Rises sh l v) sync.newest rises).0
+newest_holds sh log v sync rises = (rw sync.newest at rises).0
 
 pub not_made : (sh : Shape) (log : UnitLog) (c : Content) (v : View) → HasMade sh log c → IsSettled log → Holds sh (now log) v → ⊥
-not_made sh log c v made sync holds = no_choice c (now log) sync.older (subst (λ (l : List Units). AreMade c l) sync.newest made.made) v.checkpoint.content holds.chosen.agreed
+not_made sh log c v made sync holds = no_choice c (now log) sync.older (rw sync.newest at made.made) v.checkpoint.content holds.chosen.agreed
 
 first_rises : (sh : Shape) (log : UnitLog) (v : View) → IsFirstLog sh log → IsSettled log → Holds sh (now log) v → (u : View) × Rises sh (settled log) u
 first_rises sh log v (inl (inl grown, blank)) sync holds = (grown.0, grows_rises sh (settled log) grown.0 grown.1.grows)
@@ -140,9 +140,9 @@ same_low w v same = (omega (arith, ap boot_of same), omega (arith, ap sequence s
 -- the views of a log that was restarted are no older than that of its start
 pub among_low : (sh : Shape) (rest images : List Units) (v : View) → GrowsOn sh rest images v → (i : Units) → Among images i → (w : View) → Holds sh i w → (boot_of w ≤ boot_of v) × (sequence w ≤ sequence v)
 among_low sh rest [] v grows i among w holds = absurd among
-among_low sh rest (image ∷ []) v grows i (inl is) w holds = same_low w v (one_view sh image w v (subst (λ (j : Units). Holds sh j w) is holds) grows)
+among_low sh rest (image ∷ []) v grows i (inl is) w holds = same_low w v (one_view sh image w v (rw is at holds) grows)
 among_low sh rest (image ∷ []) v grows i (inr none) w holds = absurd none
-among_low sh rest (image ∷ before ∷ images) v grows i (inl is) w holds = same_low w v (one_view sh image w v (subst (λ (j : Units). Holds sh j w) is holds) grows.0)
+among_low sh rest (image ∷ before ∷ images) v grows i (inl is) w holds = same_low w v (one_view sh image w v (rw is at holds) grows.0)
 among_low sh rest (image ∷ before ∷ images) v grows i (inr there) w holds =
     let low = among_low sh rest (before ∷ images) grows.2.0 grows.2.2 i there w holds in
     let g = next_grew sh grows.2.0 v (rises_sound sh (before ∷ images) grows.2.0 (later_rises sh rest (before ∷ images) grows.2.0 grows.2.2)) grows.2.1.next in

@@ -104,7 +104,7 @@ module _ (file : DataFile) (c : Content) (t : Told) (hurt : IsHurtKnown file c t
       | inl last ↦
           inr (λ sector from below. elim (cases_lt sector (first + count)) [
             | inl earlier ↦ same sector from earlier
-            | inr later ↦ let is : first + count ≡ sector = omega arith in subst (λ (s : ℕ). IsUnhurt t s) is last
+            | inr later ↦ let is : first + count ≡ sector = omega arith in rw is at last
           ])
       | inr may ↦ inl (first + count, omega arith, omega arith, may)
     ]
@@ -130,7 +130,7 @@ module _ (file : DataFile) (c : Content) (t : Told) (hurt : IsHurtKnown file c t
       known_there there sector from below (inr of) =
           let here : has file.layout place sector ≡ true = and_from _ _ there (and_from _ _ (le-leb (span_at file.layout place).first sector from) (lt-ltb sector ((span_at file.layout place).first + (span_at file.layout place).count) below)) in
           let same = one_place file.layout place of.place sector (outside_header (shape file) (units_shown file (now t.log)) c of.kind of.place of.sum of.known) here of.has_it in
-          (of.kind, of.sum, subst (λ (p : Place). IsKnownAt (shape file) (units_shown file (now t.log)) c of.kind p of.sum) (sym same) of.known)
+          (of.kind, of.sum, rw (sym same) at of.known)
 
 -- ---- mends
 
@@ -179,7 +179,7 @@ mends_left file c second t (m ∷ ms) are whole place =
     go None put rest = subst (λ (o : Option AnyUnit). (new ≡ o) ⊎ IsMendedAt file c place o new) (shows None put) rest
     go (Some y) put rest =
         let is = (put_one_law m.place m.unit).only place y put in
-        let known : IsKnownAt (shape file) (units_shown file t.shown) c m.kind place (checksum_of m.unit) = subst (λ (p : Place). IsKnownAt (shape file) (units_shown file t.shown) c m.kind p (checksum_of m.unit)) (sym is.0) are.0.known in
+        let known : IsKnownAt (shape file) (units_shown file t.shown) c m.kind place (checksum_of m.unit) = rw (sym is.0) at are.0.known in
         inr (record {
           first = record { image = t.shown; kind = m.kind; sum = checksum_of m.unit; known = known; old_is = refl };
           last = elim rest [

@@ -1,5 +1,5 @@
 -- A run that ends as Done or Found mended known units, and shows them all.
-use Rattle.std.{proofs.{Common.{◌≡◌, ◌⊎◌, inl, inr, ℕ, List, Option, refl, sym, ◌∙◌, ap, subst}, lemmas.Option.{same_Some}}, specs.Prelude.{Result, Ok, Err}}
+use Rattle.std.{proofs.{Common.{◌≡◌, ◌⊎◌, inl, inr, ℕ, List, Option, refl, sym, ◌∙◌, ap}, lemmas.Option.{same_Some}}, specs.Prelude.{Result, Ok, Err}}
 use Rattle.df_base.specs.{Image.{Image, IsImage}, Log.{Sync}}
 use Rattle.df_disk.specs.Told.{Told, did}
 use Rattle.df_format.specs.Copies.{content_with}
@@ -35,13 +35,13 @@ mended_is_opened view base t o n logs old new status is tell shows well told fou
     let b = is.base in
     let c = content_of_superblock b in
     let end = ends_well is.mirrored.result is.mirrored.text new.written status is.mirrored.tells well in
-    let came : Came b.file c AreInOrder (did Sync t) o new.first old.written is.mirrored.text (λ ms after. end.0 ≡ _) = subst (λ (r : Result ℕ Ending). AnswersMending b.file c AreInOrder (did Sync t) o new.first old.written is.mirrored.text r) end.1 is.mirrored.answers in
+    let came : Came b.file c AreInOrder (did Sync t) o new.first old.written is.mirrored.text (λ ms after. end.0 ≡ _) = rw end.1 at is.mirrored.answers in
     let after : came.after ≡ n = same_Some came.after n (sym came.after_is ∙ told) in
     let m : Told = told_after (mirrored_events b.file came.mends) (did Sync base) in
     let same : n.shown ≡ m.shown = ap (λ (x : Told). x.shown) (sym after ∙ came.does.told) ∙ sym (same_goes_on (mirrored_events b.file came.mends) (did Sync t) (did Sync base) shows) in
     let chosen : IsChosen (units_shown b.file t.shown) c = choice_chosen b.file.layout b.file.cluster t.shown (content_with b.content) tell.whole (super_is_written_as b.file.version t.shown b.content tell.whole is.has.super) in
     let opened : IsFound (shape b.file) (units_shown b.file m.shown) view × IsNotRefused b.file m.shown =
-    mirrored_is_opened b.file view c o.shown base m logs came.mends found unspent hurt (subst (λ (image : Image). MayReopen b.file base.log logs image) same may)
-    (subst (λ (image : Image). HasWoken b.file base.log logs ⊎ NoneCameBack view (units_shown b.file image)) same own) (subst (λ (image : Image). IsImage image) (sym shows) tell.whole) (subst (λ (image : Image). IsChosen (units_shown b.file image) c) (sym shows) chosen)
-    (mends_alike b.file c o.shown (did Sync t) (did Sync base) came.mends shows came.does.are) refl (subst (λ (image : Image). AllShown (shape b.file) (units_shown b.file image) c) same (is.mirrored.shown end.0 n end.1 told)) in
-    subst (λ (image : Image). IsFound (shape b.file) (units_shown b.file image) view × IsNotRefused b.file image) (sym same) opened
+    mirrored_is_opened b.file view c o.shown base m logs came.mends found unspent hurt (rw same at may)
+    (rw same at own) (rw (sym shows) at tell.whole) (rw (sym shows) at chosen)
+    (mends_alike b.file c o.shown (did Sync t) (did Sync base) came.mends shows came.does.are) refl (rw same at (is.mirrored.shown end.0 n end.1 told)) in
+    rw (sym same) at opened

@@ -1,5 +1,5 @@
 -- An image that shows each known unit holds the view that was left, where what else it shows was left so or is of what is recorded.
-use Rattle.std.proofs.{Common.{◌≡◌, ◌⊎◌, inl, inr, ℕ, ◌+◌, ◌-◌, ◌%◌, ◌<◌, ◌≤◌, List, ◌∷◌, slice_index, Some, refl, sym, ◌∙◌, ap, subst, arith}, lemmas.Bool.{cases_lt}, lemmas.Option.{same_Some}}
+use Rattle.std.proofs.{Common.{◌≡◌, ◌⊎◌, inl, inr, ℕ, ◌+◌, ◌-◌, ◌%◌, ◌<◌, ◌≤◌, List, ◌∷◌, slice_index, Some, refl, sym, ◌∙◌, ap, arith}, lemmas.Bool.{cases_lt}, lemmas.Option.{same_Some}}
 use Rattle.df_format.specs.declared.kind.Kind.TheVariants.{Reply as AsReply}
 use Rattle.df_theory.{specs.{Units.{AnyUnit, BlockPlace, BlockUnit, Content, CopyPlace, HeaderPlace, Message, Place, PreparePlace, PrepareUnit, ReplyPlace, ReplyUnit, Units}, Copies.{IsChosen}, Shape.{Shape, slots}, View.{View, boot_of}, Shows.{Agrees, AgreesReply, Needs}, Holds.{Holds}, UnitLog.{UnitLog, now, settled}, Chance.{Distinct, InImages, InPool}, Found.{AreOfPlaces}}, proofs.Laws.{pool_pools, short_same}}
 use Rattle.df_units.specs.Wanted.{checksum_of}
@@ -59,7 +59,7 @@ module _ (sh : Shape) (second : sh.version ≡ 2) (log : UnitLog) (logs : List U
 
   one : (place : Place) (x y : AnyUnit) → was place ≡ Some x → image place ≡ Some y → Distinct x y
   one place x y at there =
-      let settled_was : InImages (settled log) place x = subst (λ (l : List Units). InImages l place x) (sym may.settled_is.newest) (inl at) in
+      let settled_was : InImages (settled log) place x = rw may.settled_is.newest (inl at) in
       may.chance.distinct place place x y (inl (pool_pools log.start log.events place x (inl settled_was))) (history_pools (log ∷ logs) place y (may.chance.pooled place y there))
 
   rises : Rises sh (settled log) v
@@ -85,7 +85,7 @@ module _ (sh : Shape) (second : sh.version ≡ 2) (log : UnitLog) (logs : List U
   prepares_same : (s : ℕ) → image (PreparePlace s) ≡ was (PreparePlace s)
   prepares_same s = elim (left.prepares s) [
     | inl same ↦ same
-    | inr named ↦ subst (λ (i : ℕ). image (PreparePlace i) ≡ was (PreparePlace i)) (sym named.3) (named_same named.0 named.1 named.2)
+    | inr named ↦ rw (sym named.3) at (named_same named.0 named.1 named.2)
   ]
 
   -- ---- the replies
@@ -100,7 +100,7 @@ module _ (sh : Shape) (second : sh.version ≡ 2) (log : UnitLog) (logs : List U
         elim (cases_lt c.replies r.header.op) [
           | inl above ↦
               let is = none k r at boot above in
-              subst (λ (q : Message). AgreesReply v q) (same_reply r old.0 old.1) (record {
+              rw (← (same_reply r old.0 old.1)) (record {
                 op = λ own. omega (arith, is.0, ap (λ (q : Message). q.header.op) (same_reply r old.0 old.1));
                 mark = λ own. omega (arith, is.1, ap (λ (q : Message). q.header.mark) (same_reply r old.0 old.1));
                 checkpoint = old.2.checkpoint;
@@ -110,7 +110,7 @@ module _ (sh : Shape) (second : sh.version ≡ 2) (log : UnitLog) (logs : List U
           | inr not ↦
               let low : r.header.op ≤ c.replies = omega arith in
               let mark = all_counted sh log logs v lived may.settled_is holds k r pool boot low in
-              subst (λ (q : Message). AgreesReply v q) (same_reply r old.0 old.1) (record {
+              rw (← (same_reply r old.0 old.1)) (record {
                 op = λ own. omega (arith, low, holds.bears.sound.replies_from.0, ap (λ (q : Message). q.header.op) (same_reply r old.0 old.1));
                 mark = λ own. omega (arith, mark, holds.bears.sound.head_from, ap (λ (q : Message). q.header.mark) (same_reply r old.0 old.1));
                 checkpoint = old.2.checkpoint;

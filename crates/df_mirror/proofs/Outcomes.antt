@@ -44,7 +44,7 @@ module _ (file : DataFile) (c : Content) (second : Image) where
     no_more shown (Ok count) m end is = is.lacks (end.0 m.kind m.place (checksum_of m.unit) is.known)
     no_more shown (Err (Neither place class)) m end is =
         let same = one_next (shape file) (units_shown file shown) c m.kind end.kind m.place end.at (checksum_of m.unit) end.sum is.next end.next in
-        end.other (record { unit = m.unit; shown = ap (λ (p : Place). units_shown file second p) (sym same.1) ∙ is.from; of_kind = subst (λ (k : Kind). IsOfKind k m.unit) same.0 is.of_kind; sum_is = same.2 })
+        end.other (record { unit = m.unit; shown = ap (λ (p : Place). units_shown file second p) (sym same.1) ∙ is.from; of_kind = rw same.0 at is.of_kind; sum_is = same.2 })
     no_more shown (Err (Unopened e)) m end is = refused_or_next file shown c most e m.kind m.place (checksum_of m.unit) end is.next is.spare
     no_more shown (Err First) m end is = end
     no_more shown (Err Second) m end is = end
@@ -82,9 +82,9 @@ module _ (file : DataFile) (c : Content) (second : Image) where
     -- a list of mends after which nothing is left to be mended goes on from any other one
     goes_on : (t u : Told) → u.shown ≡ t.shown → (ms ls : List Mend) → AreMends file c second t ms → AreMends file c second u ls → (result : Result ℕ Ending) → EndsAt (told_after (mirrored_events file ms) t).shown result → (rest : List Mend) × (ms ≡ ls ++ rest)
     goes_on t u same ms [] are also result end = (ms, refl)
-    goes_on t u same [] (l ∷ ls) are also result end = absurd (no_more t.shown result l end (subst (λ (image : Image). IsMend file c image second l) same also.0))
+    goes_on t u same [] (l ∷ ls) are also result end = absurd (no_more t.shown result l end (rw same at also.0))
     goes_on t u same (m ∷ ms) (l ∷ ls) are also result end =
-        let head : m ≡ l = one_mend t.shown m l are.0 (subst (λ (image : Image). IsMend file c image second l) same also.0) in
+        let head : m ≡ l = one_mend t.shown m l are.0 (rw same at also.0) in
         let shown : (told_after (mirrored_events file (l ∷ [])) u).shown ≡ (told_after (mirrored_events file (m ∷ [])) t).shown = λ i. written (first_at file.layout (sym head i).place) (sym head i).bytes (same i) in
         let rest = goes_on (told_after (mirrored_events file (m ∷ [])) t) (told_after (mirrored_events file (l ∷ [])) u) shown ms ls are.1 also.1 result end in
         (rest.0, λ i. head i ∷ rest.1 i)
@@ -169,7 +169,7 @@ module _ (b : Superblock) (t o : Told) (old new : Outside) (status : Status) (te
       inl (reached (Err (Neither place class)) _ came tt
       (subst (λ (n : Told). IsNeither b.file c n.shown o.shown place class) came.does.told came.last.0) tells)
   reaches (Err (Unopened e)) came all passes tells =
-      inl (reached (Err (Unopened e)) _ came tt (subst (λ (n : Told). RefusesFirstTrailer b.file n.shown c e) came.does.told came.last.1) (tells.other (its_error b.file came.after.shown c e came.last.1)))
+      inl (reached (Err (Unopened e)) _ came tt (rw came.does.told at came.last.1) (tells.other (its_error b.file came.after.shown c e came.last.1)))
   reaches (Err First) failed all passes tells = inr (record { ending = First; text = text; failed = failed; tells = tells })
   reaches (Err Second) failed all passes tells = inr (record { ending = Second; text = text; failed = failed; tells = tells })
   reaches (Err Sink) failed all passes tells = inr (record { ending = Sink; text = text; failed = failed; tells = tells })
@@ -208,7 +208,7 @@ stop_at file First None (m ∷ rest) line mid new said text last status fails te
 stop_at file Second None [] line mid new said text last status fails tells = (fails.0, inl (tells.0, tells.1 ∙ fails.1))
 stop_at file Second None (m ∷ rest) line mid new said text last status fails tells = inl (tells.0, inl fails.0, tells.1 ∙ fails.1)
 stop_at file First (Some m) rest line mid new said text last status fails tells = inl (tells.0, fails.0, tells.1 ∙ fails.1)
-stop_at file Sink (Some m) rest line mid new said text last status fails tells = inr (tells.0, fails.0, subst (λ (x : Option (List ℕ)). AppendsPart said x (mended_text (place_of m.place))) (sym tells.1) fails.1)
+stop_at file Sink (Some m) rest line mid new said text last status fails tells = inr (tells.0, fails.0, rw (sym tells.1) at fails.1)
 stop_at file Sink None rest line mid new said text last status fails tells = absurd fails
 stop_at file Second (Some m) rest line mid new said text last status fails tells = absurd fails
 stop_at file (Unopened e) None rest line mid new said text last status fails tells = absurd fails
@@ -226,7 +226,7 @@ module _ (file : DataFile) (c : Content) (most : c.op ≤ 2 ^ 62) (t u o : Told)
   beside (inl r) =
       let one : r.mends ≡ ls = one_list file c o.shown most t u same r.mends ls r.are also r.result result r.ends ends in
       let shown : (told_after (mirrored_events file ls) u).shown ≡ (told_after (mirrored_events file r.mends) t).shown = same_goes_on (mirrored_events file ls) t u same ∙ ap (λ (l : List Mend). (told_after (mirrored_events file l) t).shown) (sym one) in
-      let end : r.result ≡ result = one_end file c o.shown most (told_after (mirrored_events file r.mends) t).shown (length ls) r.result result (subst (λ (l : List Mend). Counts (length l) r.result) one r.counts) counts r.ends (subst (λ (image : Image). EndsAt file c o.shown image result) shown ends) in
+      let end : r.result ≡ result = one_end file c o.shown most (told_after (mirrored_events file r.mends) t).shown (length ls) r.result result (rw one at r.counts) counts r.ends (rw shown at ends) in
       subst (λ (x : Outcome). ComesTo file c t o old new status x ⊎ StopsBefore file t old new status x) (λ i. outcome_of (one i) (end i)) (comes_or_stops file c t o old new status r)
   beside (inr s) =
       let f = s.failed in
@@ -245,11 +245,11 @@ module _ (file : DataFile) (c : Content) (most : c.op ≤ 2 ^ 62) (t u o : Told)
 module _ (b d : Superblock) (image other : Image) (same : image ≡ other) (has : HasFile image b.file b.content) (also : HasFile other d.file d.content) where
   one_content : d.content ≡ b.content
   one_content =
-      one_super image d.content b.content (subst (λ (n : ℕ). HasSuperAs n image d.content) d.version (subst (λ (x : Image). HasSuperAs d.file.version x d.content) (sym same) also.super)) (subst (λ (n : ℕ). HasSuperAs n image b.content) b.version has.super)
+      one_super image d.content b.content (rw d.version at (rw (sym same) at also.super)) (rw b.version at has.super)
 
   one_file : d.file ≡ b.file
   one_file =
-      let there : IsLayoutOf d.file.layout b.content = subst (λ (f : SuperFields). IsLayoutOf d.file.layout f) one_content also.layout in
+      let there : IsLayoutOf d.file.layout b.content = rw one_content at also.layout in
       same_file d.file b.file
       (same_layout d.file.layout b.file.layout (there.slots ∙ sym has.layout.slots) (there.message_size ∙ sym has.layout.message_size) (there.clients ∙ sym has.layout.clients) (there.block_size ∙ sym has.layout.block_size) (there.blocks ∙ sym has.layout.blocks))
       (sym also.cluster ∙ ap (λ (f : SuperFields). f.cluster) one_content ∙ has.cluster) (d.version ∙ sym b.version)
@@ -266,11 +266,11 @@ run_stops_before t o u p old new past later status other is also tell tells same
           let files : d.file ≡ b.file = one_file b d t.shown u.shown same is.has also.has in
           let contents : cd ≡ cb = ap (λ (f : SuperFields). content_in f) (one_content b d t.shown u.shown same is.has also.has) in
           let are : AreMends b.file cb o.shown (did Sync u) r.mends =
-          subst (λ (image : Image). AreMends b.file cb image (did Sync u) r.mends) (sym second) (subst (λ (x : Content). AreMends b.file x p.shown (did Sync u) r.mends) contents (subst (λ (f : DataFile). AreMends f cd p.shown (did Sync u) r.mends) files r.are)) in
+          rw (sym second) at (rw contents at (rw files at r.are)) in
           let ends : EndsAt b.file cb o.shown (told_after (mirrored_events b.file r.mends) (did Sync u)).shown r.result =
-          subst (λ (image : Image). EndsAt b.file cb image (told_after (mirrored_events b.file r.mends) (did Sync u)).shown r.result) (sym second)
-          (subst (λ (x : Content). EndsAt b.file x p.shown (told_after (mirrored_events b.file r.mends) (did Sync u)).shown r.result) contents
-          (subst (λ (f : DataFile). EndsAt f cd p.shown (told_after (mirrored_events f r.mends) (did Sync u)).shown r.result) files r.ends)) in
+          rw (sym second) at
+          (rw contents at
+          (rw files at r.ends)) in
           let came : ComesTo d.file cd (did Sync u) p past later other (outcome_of r.mends r.result) = elim (comes_or_stops d.file cd (did Sync u) p past later other r) [
             | inl comes ↦ comes
             | inr stops ↦ absurd (not_whole other (stops_fault d.file stops.left _ _ _ _ _ other stops.stops) whole)

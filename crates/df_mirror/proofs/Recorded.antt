@@ -44,7 +44,7 @@ newer_out : (b : Superblock) (k : ℕ) (o : Option format.Message) (class : Clas
 newer_out b k None class r is boot above = absurd (cc)
 newer_out b k (Some u) class r is boot above =
     let same : message_of u ≡ r = cc in
-    (ap (λ (m : Message). m.header.boot) same ∙ boot, subst (λ (m : Message). (content_of_superblock b).replies < m.header.op) (sym same) above)
+    (ap (λ (m : Message). m.header.boot) same ∙ boot, rw (sym same) at above)
 
 module _ (b : Superblock) (t : Told) (k : ℕ) (seen : Result Header Class) (is : seen ≡ header_at b.file.layout b.file.cluster t.shown (place_of (ReplyPlace k))) where
   abbrev Shown : Option format.Message
@@ -74,7 +74,7 @@ reply_due b t k sum recorded first passes = record { known = recorded; first = f
     at_kind lacks Reply (ReplyPlace p) other known shown same =
         let place : p ≡ k = cc in
         let sums : other ≡ sum = known.sum_is ∙ ap (λ (n : ℕ). slice_index (content_of_superblock b).reply_checksums n) place ∙ sym recorded.sum_is in
-        lacks (subst (λ (n : ℕ). IsShownAs (superblock_units b t.shown) Reply (ReplyPlace k) n) sums (subst (λ (at : Place). IsShownAs (superblock_units b t.shown) Reply at other) same shown))
+        lacks (rw sums at (rw same at shown))
     at_kind lacks Trailer (BlockPlace a) other known shown same = cc
     at_kind lacks AsBlock (BlockPlace a) other known shown same = cc
     at_kind lacks Prepare (PreparePlace s) other known shown same = cc
@@ -96,7 +96,7 @@ module _ (b : Superblock) (k : ℕ) (check : List ℕ) (t o : Told) (old : Outsi
     pub recorded_newer : IsNewer b seen → MendsRecorded b k check t o old mid (Ok 0)
     recorded_newer newer = record {
       answers = λ known first passes. none_came b.file (content_of_superblock b) (AreAt Reply (ReplyPlace k)) tt t o told old.written old.written (same ∙ tell.first) refl (λ ms n. 0 ≡ length ms) refl;
-      shown = λ u there. inl (subst (λ (x : Told). HasNewer b (superblock_units b x.shown) k) (same_Some _ _ (sym (same ∙ tell.first) ∙ there)) (newer_shown b t k seen seen_is newer));
+      shown = λ u there. inl (rw (same_Some _ _ (sym (same ∙ tell.first) ∙ there)) at (newer_shown b t k seen seen_is newer));
     }
 
     module _ (none : IsNewer b seen → ⊥) (identity : Identity)

@@ -1,5 +1,5 @@
 -- A referenced block, as a turn over the addresses.
-use Rattle.std.{proofs.{Common.{◌≡◌, ℕ, ◌+◌, ◌<◌, List, Option, Some, None, sym, ◌∙◌, ap, subst, arith, inl, inr}, lemmas.Bool.{cases_eq}, lemmas.Option.{same_Some}}, specs.Prelude.{Result, Ok, Err, IfOk, OnOk}}
+use Rattle.std.{proofs.{Common.{◌≡◌, ℕ, ◌+◌, ◌<◌, List, Option, Some, None, sym, ◌∙◌, ap, arith, inl, inr}, lemmas.Bool.{cases_eq}, lemmas.Option.{same_Some}}, specs.Prelude.{Result, Ok, Err, IfOk, OnOk}}
 use Rattle.df_disk.specs.Told.{Told}
 use Rattle.df_format.specs.{declared.kind.Kind.{Kind}, declared.kind.Kind.TheVariants.{Block as AsBlock, Prepare, Reply, Trailer}, Spelling.{IsCheck}}
 use Rattle.df_buffers.specs.{declared.identity.Identity.{Identity}, Sounds.{Holding}}
@@ -51,7 +51,7 @@ module _ (b : Superblock) (grid : GridState) (ss : List Session) (before : ℕ) 
             let parts = one_trailer (shape b.file) (superblock_units b t.shown) (content_of_superblock b) known.says shows.has.says in
             let both : Some sum ≡ Some (number_of check) = sym known.reference ∙ ap (λ (p : Parts). p.references e) parts ∙ ap shows.has.says.parts.references place ∙ referenced in
             let one : sum ≡ number_of check = same_Some _ _ both in
-            lacks (subst (λ (n : ℕ). IsShownAs (superblock_units b t.shown) AsBlock (BlockPlace (before + 1)) n) one (subst (λ (p : Place). IsShownAs (superblock_units b t.shown) AsBlock p sum) same shown))
+            lacks (rw one at (rw same at shown))
         at_kind Prepare (PreparePlace s) sum known shown same = cc
         at_kind Reply (ReplyPlace k) sum known shown same = cc
         at_kind kind at sum known shown same = absurd known
@@ -88,7 +88,7 @@ module _ (b : Superblock) (grid : GridState) (ss : List Session) (before : ℕ) 
               | inl here ↦
                   let it = (mends.shows m is).2 in
                   let one : number_of check ≡ sum = same_Some _ _ (sym live ∙ ap (λ (n : ℕ). sum_at n grid.blocks.live) (sym here) ∙ known) in
-                  subst (λ (n : ℕ). IsShownAs (superblock_units b m.shown) AsBlock (BlockPlace n) sum) (sym here) (record { unit = it.unit; shown = it.shown; of_kind = it.of_kind; sum_is = it.sum_is ∙ one })
+                  rw here (record { unit = it.unit; shown = it.shown; of_kind = it.of_kind; sum_is = it.sum_is ∙ one })
               | inr other ↦ shown_there (superblock_units b t.shown) (superblock_units b m.shown) AsBlock (BlockPlace a) sum (same a other) (shows.shown a sum (omega (arith, to, other)) known)
             ];
           }

@@ -1,5 +1,5 @@
 -- A trailer is refused for one thing, and once it is, no known unit is next, and it doesn't pass the tests of an open.
-use Rattle.std.{proofs.{Common.{◌≡◌, ℕ, ◌+◌, ◌-◌, ◌<◌, ◌≤◌, ◌^◌, true, false, List, [], ◌∷◌, length, min, Option, Some, None, refl, sym, ◌∙◌, ap, subst, arith, inl, inr}, lemmas.Option.{same_Some}}, specs.Prelude.{◌⊎◌, Ok}}
+use Rattle.std.{proofs.{Common.{◌≡◌, ℕ, ◌+◌, ◌-◌, ◌<◌, ◌≤◌, ◌^◌, true, false, List, [], ◌∷◌, length, min, Option, Some, None, refl, sym, ◌∙◌, ap, arith, inl, inr}, lemmas.Option.{same_Some}}, specs.Prelude.{◌⊎◌, Ok}}
 use Rattle.df_base.specs.Image.{Image}
 use Rattle.df_format.specs.{declared.kind.Kind.{Kind}, declared.kind.Kind.TheVariants.{Block as AsBlock, Prepare as AsPrepare, Reply as AsReply, Reserved, Trailer as AsTrailer}}
 use Rattle.df_layout.specs.{declared.fields.Field.{Field}, declared.fields.Field.TheVariants.{TrailerChain}}
@@ -21,7 +21,7 @@ link_in sh image c index (x ∷ xs) [] address sum a k block links inside shown 
     let both : Some (BlockUnit block) ≡ Some (BlockUnit x.1) = sym at ∙ ap (λ (n : ℕ). image (BlockPlace n)) (arrives.0 ∙ sym links.1) ∙ shown x.0 x.1 (inl (refl, refl)) in
     let same : x.1 ≡ block = cc in
     let here : length xs ≡ index = omega (arith, size) in
-    subst (λ (b : Block). IsLink sh c index b) same (record { sequence = links.3; place = links.4 ∙ here; size = subst (λ (i : ℕ). length x.1.body ≡ piece_size (sh.layout.block_size - 256) c.trailer_size i) here links.5; before = λ above. before xs inside links.7 (omega (arith, above, here)) })
+    rw (← same) (record { sequence = links.3; place = links.4 ∙ here; size = rw (← here) links.5; before = λ above. before xs inside links.7 (omega (arith, above, here)) })
   where
     before : (rest : List (ℕ × Block)) → ((e : ℕ) (b : Block) → InChain e b (x ∷ rest) → e ≤ sh.layout.blocks) → Links (sh.layout.block_size - 256) c rest x.1.before x.1.before_checksum → 0 < length rest → (0 < x.1.before) × (x.1.before ≤ sh.layout.blocks)
     before [] within named some = absurd (omega (arith, some))
@@ -29,7 +29,7 @@ link_in sh image c index (x ∷ xs) [] address sum a k block links inside shown 
 link_in sh image c index (x ∷ xs) (y ∷ ys) address sum a k block links inside shown arrives size at =
     let both : Some (BlockUnit y.1) ≡ Some (BlockUnit x.1) = sym arrives.3 ∙ ap (λ (n : ℕ). image (BlockPlace n)) (sym links.1) ∙ shown x.0 x.1 (inl (refl, refl)) in
     let same : y.1 ≡ x.1 = cc in
-    link_in sh image c index xs ys x.1.before x.1.before_checksum a k block links.7 (λ e b there. inside e b (inr there)) (λ e b there. shown e b (inr there)) (subst (λ (b : Block). Arrives image ys b.before b.before_checksum a k) same arrives.5) (omega (arith, size)) at
+    link_in sh image c index xs ys x.1.before x.1.before_checksum a k block links.7 (λ e b there. inside e b (inr there)) (λ e b there. shown e b (inr there)) (rw same at arrives.5) (omega (arith, size)) at
 
 -- a text of which a part fails says nothing
 unsaid : (sh : Shape) (op : ℕ) (text : List ℕ) (parts : Parts) (f : Fault) → sh.parse ≡ parse_of sh.layout → op ≤ 2 ^ 62 → fault sh.layout op text ≡ Some f → sh.parse op text ≡ Some parts → ⊥
@@ -47,7 +47,7 @@ module _ (sh : Shape) (shown : Shown) (c : Content) (parse : sh.parse ≡ parse_
   said chain whole =
       let room : ℕ = sh.layout.block_size - 256 in
       let same = one_chain shown.units room c chain says.chain c.trailer c.trailer_checksum whole.links says.trailer.links whole.shows says.shown in
-      (same, its_text sh c.op chain says.parts (some_chain room c chain named whole.links) (subst (λ (l : List (ℕ × Block)). Says sh c.op l says.parts) (sym same) says.trailer.says))
+      (same, its_text sh c.op chain says.parts (some_chain room c chain named whole.links) (rw same says.trailer.says))
 
   unbroken : (a : ℕ) → IsBroken sh shown c a → ⊥
   unbroken a bad =
@@ -57,7 +57,7 @@ module _ (sh : Shape) (shown : Shown) (c : Content) (parse : sh.parse ≡ parse_
       let there = broken_shown sh shown c a bad a bad.sum bad.reads in
       let both : Ok there.0 ≡ Ok bad.block = sym (asked_shown shown a bad.sum there.0 there.1 there.2 there.3) ∙ bad.is in
       let same : there.0 ≡ bad.block = cc in
-      bad.broken (subst (λ (b : Block). IsLink sh c bad.index b) same
+      bad.broken (rw same at
       (link_in sh shown.units c bad.index says.chain bad.reads.read c.trailer c.trailer_checksum a bad.sum there.0 says.trailer.links says.trailer.inside says.shown bad.reads.arrives (omega (arith, one, two, bad.at)) there.1))
 
   pub fails_no_test : (field : Field) (value : ℕ) → FailsTest sh shown c field value → ⊥
@@ -66,14 +66,14 @@ module _ (sh : Shape) (shown : Shown) (c : Content) (parse : sh.parse ≡ parse_
   fails_no_test field value (inr (inr (inl (of, bad)))) =
       let there = said bad.chain bad.whole in
       let parts : says.parts ≡ bad.parts = same_Some _ _ (sym there.1 ∙ bad.says) in
-      let none : bad.parts.references value ≡ None = ap (λ (p : Parts). p.references value) (sym parts) ∙ says.trailer.spare value bad.block (subst (λ (l : List (ℕ × Block)). InChain value bad.block l) there.0 bad.chained) in
+      let none : bad.parts.references value ≡ None = ap (λ (p : Parts). p.references value) (sym parts) ∙ says.trailer.spare value bad.block (rw there.0 at bad.chained) in
       let no : is_known (bad.parts.references value) ≡ false = ap is_known none in
       let yes : is_known (bad.parts.references value) ≡ true = bad.known in
       cc
   fails_no_test field value (inr (inr (inr (of, bad)))) =
       let there = said bad.chain bad.whole in
       let parts : says.parts ≡ bad.parts = same_Some _ _ (sym there.1 ∙ bad.says) in
-      bad.lacks (subst (λ (p : Parts). Has p.sessions value) parts (passes.pending value bad.above bad.reached))
+      bad.lacks (rw parts at (passes.pending value bad.above bad.reached))
 
 -- ---- a trailer that is refused
 
@@ -121,7 +121,7 @@ module _ (file : DataFile) (image : Image) (c : Content) (most : c.op ≤ 2 ^ 62
   trailer_or_refused (BadField field value) (BlockPlace a) sum (named, inl fails) next spare = next.lacks (shown_block units a sum (tests_shown sh Told c field value fails a sum next.known))
   trailer_or_refused (BadField field value) (BlockPlace a) sum (named, inr (of, again)) next spare =
       let same = one_wanted sh units c value again.sum a sum again.reads next.known (again_lacks sh units c value again) (λ shown. next.lacks (shown_block units a sum shown)) in
-      not_spare value again (subst (λ (n : ℕ). IsSparePlace sh units c (BlockPlace n)) (sym same.0) spare)
+      not_spare value again (rw (sym same.0) at spare)
   trailer_or_refused (BadField field value) place sum is next spare = absurd next.known
   trailer_or_refused e place sum is next spare = absurd is
 

@@ -29,7 +29,7 @@ module _ (layout : Layout) (image : Units) (scan : Scan) (s : ℕ) (tells : Tell
   pub prepare_shown : (h : Header) → s < length scan.slots → header_of_seen (entry scan s).prepare ≡ Some h → (p : Message) × (image (PreparePlace s) ≡ Some (PrepareUnit p)) × (p.header ≡ header_of h)
   prepare_shown h within seen =
       let at = at_slot scan.slots s within in
-      in_ring (image (PreparePlace s)) at.0.prepare h (tells.shows.each s at.0 at.1).prepare (subst (λ (o : Option SlotSeen). header_of_seen (or_blank o).prepare ≡ Some h) at.1 seen)
+      in_ring (image (PreparePlace s)) at.0.prepare h (tells.shows.each s at.0 at.1).prepare (rw at.1 at seen)
 
   -- and what is shown is seen
   pub prepare_seen : (p : Message) → image (PreparePlace s) ≡ Some (PrepareUnit p) → (h : Header) × (header_of_seen (entry scan s).prepare ≡ Some h) × (p.header ≡ header_of h)
@@ -37,7 +37,7 @@ module _ (layout : Layout) (image : Units) (scan : Scan) (s : ℕ) (tells : Tell
     | inl within ↦
         let at = at_slot scan.slots s within in
         let it = of_ring (image (PreparePlace s)) at.0.prepare p (tells.shows.each s at.0 at.1).prepare is in
-        (it.0, subst (λ (o : Option SlotSeen). header_of_seen (or_blank o).prepare ≡ Some it.0) (sym at.1) it.1, it.2)
+        (it.0, rw at.1 it.1, it.2)
     | inr past ↦ absurd (let both : None ≡ Some (PrepareUnit p) = sym (tells.shows.no_prepare s past) ∙ is in cc)
   ]
 
@@ -47,7 +47,7 @@ has_client layout cluster s (Ok g) h there seen =
     let u : format.Message = record { header = g; body = there.0 } in
     let slot = (valid_belongs layout cluster (place_in WalPrepares s) u there.1).belongs in
     let rules : ObeysPrepare g = subst (λ (k : Kind). ObeysKind k g) slot.kind there.1.sealed.rules.kind in
-    let some : 0 < h.client = subst (λ (x : Header). 0 < x.client) same rules.client in
+    let some : 0 < h.client = rw same at rules.client in
     λ zero. omega (arith, some, zero)
 has_client layout cluster s (Err class) h there seen = absurd (cc)
 
@@ -55,4 +55,4 @@ has_client layout cluster s (Err class) h there seen = absurd (cc)
 pub seen_client : (layout : Layout) (cluster : ℕ) (scan : Scan) (s : ℕ) (h : Header) → IsSeenTable layout cluster scan.slots → s < length scan.slots → header_of_seen (entry scan s).prepare ≡ Some h → h.client ≢ 0
 seen_client layout cluster scan s h table within seen =
     let at = at_slot scan.slots s within in
-    has_client layout cluster s at.0.prepare h (table.each s at.0 at.1).prepare (subst (λ (o : Option SlotSeen). header_of_seen (or_blank o).prepare ≡ Some h) at.1 seen)
+    has_client layout cluster s at.0.prepare h (table.each s at.0 at.1).prepare (rw at.1 at seen)

@@ -1,5 +1,5 @@
 -- In a run each known unit that is shown stays shown, by the log that begins after its barrier.
-use Rattle.std.{proofs.Common.{◌≡◌, ℕ, List, [], ◌∷◌, ◌++◌, Option, Some, None, refl, sym, ◌∙◌, ap, subst, append_assoc, append-nil, inl, inr}, specs.Prelude.{Result, Ok, Err}}
+use Rattle.std.{proofs.Common.{◌≡◌, ℕ, List, [], ◌∷◌, ◌++◌, Option, Some, None, refl, sym, ◌∙◌, ap, append_assoc, append-nil, inl, inr}, specs.Prelude.{Result, Ok, Err}}
 use Rattle.df_base.{specs.{Image.{Image, IsImage, written}, Log.{Event, Log, Sync}, Moments.{EachMoment, Extends}}, proofs.Laws.{extends_on}}
 use Rattle.df_disk.{specs.{Adds.{AddsPart, after_all}, Told.{Told, after, did}}, proofs.Laws.{after_append}}
 use Rattle.df_theory.specs.Units.{Content}
@@ -12,7 +12,7 @@ use Rattle.df_mirror.{specs.{declared.ending.Ending.{Ending}, declared.ending.En
 pub mends_alike : (file : DataFile) (c : Content) (second : Image) (t u : Told) (ms : List Mend) → u.shown ≡ t.shown → AreMends file c second t ms → AreMends file c second u ms
 mends_alike file c second t u [] same are = tt
 mends_alike file c second t u (m ∷ ms) same are = (
-  subst (λ (image : Image). IsMend file c image second m) (sym same) are.0,
+  rw (sym same) at are.0,
   mends_alike file c second (told_after (mirrored_events file (m ∷ [])) t) (told_after (mirrored_events file (m ∷ [])) u) ms (ap (λ (image : Image). written (first_at file.layout m.place) m.bytes image) same) are.1,
 )
 
@@ -34,13 +34,13 @@ module _ (file : DataFile) (c : Content) (second : Image) (t : Told) (whole : Is
 
   each : (front back : List Mend) (u : Told) → ms ≡ front ++ back → u ≡ told_after (mirrored_events file front) (restarted t) → EachMoment u.log (told_after (mirrored_events file back ++ part) u).log (LeavesKnownShown file c u.shown)
   each front back u split is =
-      let all : AreMends file c second (restarted t) (front ++ (back ++ last)) = subst (λ (l : List Mend). AreMends file c second (restarted t) l) (ap (λ (l : List Mend). l ++ last) split ∙ append_assoc front back last) there in
+      let all : AreMends file c second (restarted t) (front ++ (back ++ last)) = rw (ap (λ (l : List Mend). l ++ last) split ∙ append_assoc front back last) at there in
       let long : EachMoment u.log (told_after (mirrored_events file (back ++ last)) u).log (LeavesKnownShown file c u.shown) =
       known_stays file c second (restarted t) u front (back ++ last) (record { shows = λ sector. refl }) (λ sector. refl) whole all is in
       let es : List Event = mirrored_events file back ++ part in
       let join : mirrored_events file (back ++ last) ≡ es ++ rest = events_append file back last ∙ ap (λ (l : List Event). mirrored_events file back ++ l) cut ∙ sym (append_assoc (mirrored_events file back) part rest) in
       let exit : Log = (told_after es u).log in
-      let longer : Extends (told_after (mirrored_events file (back ++ last)) u).log exit = subst (λ (x : Told). Extends x.log exit) (sym (ap (λ (l : List Event). told_after l u) join ∙ told_append es rest u)) (told_extends rest (told_after es u)) in
+      let longer : Extends (told_after (mirrored_events file (back ++ last)) u).log exit = rw (sym (ap (λ (l : List Event). told_after l u) join ∙ told_append es rest u)) at (told_extends rest (told_after es u)) in
       λ log moment. long log (record { since = moment.since; until = extends_on (told_after (mirrored_events file (back ++ last)) u).log exit log longer moment.until })
 
   pub keeps : (new : Option Told) → new ≡ after_all part (Some (told_after (mirrored_events file ms) (did Sync t))) → KeepsKnown file c t new
@@ -54,7 +54,7 @@ module _ (file : DataFile) (c : Content) (second : Image) (t : Told) (whole : Is
 module _ (file : DataFile) (c : Content) (t o : Told) (whole : IsImage t.shown) (new : Option Told) (old text : Option (List ℕ)) where
   came_keeps : (Last : List Mend → Told → Type 0) → Came file c AreInOrder (did Sync t) o new old text Last → KeepsKnown file c t new
   came_keeps Last came =
-      keeps file c o.shown t whole came.mends [] (subst (λ (l : List Mend). AreMends file c o.shown (did Sync t) l) (sym (append-nil came.mends)) came.does.are) [] [] refl new (came.after_is ∙ ap (λ (x : Told). Some x) came.does.told)
+      keeps file c o.shown t whole came.mends [] (rw (sym (append-nil came.mends)) at came.does.are) [] [] refl new (came.after_is ∙ ap (λ (x : Told). Some x) came.does.told)
 
   failed_keeps : (e : Ending) → Failed file c AreInOrder (did Sync t) o new old text e → KeepsKnown file c t new
   failed_keeps e failed = by failed.one failed.are e failed.fails

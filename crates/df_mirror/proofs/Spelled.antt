@@ -1,5 +1,5 @@
 -- The sectors that bring a unit, with zeros after it, are the unit's own.
-use Rattle.std.proofs.{Common.{◌≡◌, ◌≢◌, ℕ, ◌+◌, ◌-◌, ◌*◌, ◌≤◌, List, [], ◌++◌, length, take, drop, replicate, Some, refl, sym, ◌∙◌, ap, subst, arith, append-nil, length-append, length-drop}, lemmas.List.{length-replicate, length-take, take-append-drop, take-append-le, take_at}}
+use Rattle.std.proofs.{Common.{◌≡◌, ◌≢◌, ℕ, ◌+◌, ◌-◌, ◌*◌, ◌≤◌, List, [], ◌++◌, length, take, drop, replicate, Some, refl, sym, ◌∙◌, ap, arith, append-nil, length-append, length-drop}, lemmas.List.{length-replicate, length-take, take-append-drop, take-append-le, take_at}}
 use Rattle.df_base.proofs.Laws.{AreBytes-append, AreBytes-zeros}
 use Rattle.df_layout.specs.{declared.layout.Layout.{Layout}, declared.places.Place.{Place}, declared.places.Zone.{Zone}, declared.places.Zone.TheVariants.{WalHeaders}, Spans.{place_sectors}}
 use Rattle.df_format.{specs.{declared.header.Header.{Header}, Brings.{Brings}, Message.{Message, sectors_end, sectors_of, unit_bytes}, Shown.{unit_in}, UnitLaws.{place_size}, Valid.{BeginsWithUnit, HasBody, IsUnit}}, proofs.Laws.{body_follows, count_is, length-unit, one_unit}}
@@ -20,7 +20,7 @@ module _ (layout : Layout) (cluster : ℕ) (place : Place) (u : Message) (bytes 
   -- they have the whole unit
   long : 256 + length u.body ≤ length bytes
   long =
-      let shown : unit_in layout cluster place bytes ≡ Some u = subst (λ (l : List ℕ). unit_in layout cluster place l ≡ Some u) (append-nil bytes) (brings.read []) in
+      let shown : unit_in layout cluster place bytes ≡ Some u = rw (append-nil bytes) at (brings.read []) in
       let body = ap (λ (l : List ℕ). length l) (body_follows layout cluster place bytes u other shown) in
       omega (arith, body, length-take (u.header.size - 256) (drop 256 bytes), length-drop 256 bytes, brings.for.piece.some, brings.for.piece.whole, size)
 

@@ -21,7 +21,7 @@ module _ (sh : Shape) (image : Units) (c : Content) (count : ℕ) (counts : IsCo
 
   here : (d : ℕ × Block) (a k f : ℕ) (x : Block) → IsThere a k → f ≡ d.0 → x ≡ d.1 → d.0 ≡ a → d.1.checksum ≡ k → IsThere f x.checksum
   here d a k f x is one two place sum =
-      subst (λ (n : ℕ). IsThere n x.checksum) (sym (one ∙ place)) (subst (λ (n : ℕ). IsThere a n) (sym (ap (λ (b : Block). b.checksum) two ∙ sum)) is)
+      subst (λ (n : ℕ). IsThere n x.checksum) (sym (one ∙ place)) (rw (sym (ap (λ (b : Block). b.checksum) two ∙ sum)) at is)
 
   pub read_known : (front ys : List (ℕ × Block)) (a k e m i : ℕ) → Arrives image front c.trailer c.trailer_checksum a k → AreLinks sh c count front → count ≡ length front + i → Arrives image ys a k e m → AreLinks sh c i ys → (f : ℕ) (x : Block) → InChain f x ys → IsThere f x.checksum
   read_known front [] a k e m i arrives are size rest links f x at = absurd at
@@ -152,10 +152,10 @@ module _ (file : DataFile) (c : Content) (second : Image) (kind : Kind) (place :
       by Prepare place shown keeps same = is.spare Prepare place sum keeps shown same
       by Reserved place shown keeps same = is.spare Reserved place sum keeps shown same
       by Reply (ReplyPlace k) shown keeps same =
-          let known = known_reply (shape file) (units_shown file v.shown) c m.kind k (checksum_of m.unit) (subst (λ (p : Place). IsKnownAt (shape file) (units_shown file v.shown) c m.kind p (checksum_of m.unit)) (sym same) is.known) in
+          let known = known_reply (shape file) (units_shown file v.shown) c m.kind k (checksum_of m.unit) (rw (sym same) at is.known) in
           let sums : sum ≡ checksum_of m.unit = keeps ∙ sym known.1.sum_is in
-          is.lacks (subst (λ (j : Kind). IsShownAs (units_shown file v.shown) j m.place (checksum_of m.unit)) (sym known.0)
-          (subst (λ (p : Place). IsShownAs (units_shown file v.shown) Reply p (checksum_of m.unit)) same (subst (λ (n : ℕ). IsShownAs (units_shown file v.shown) Reply (ReplyPlace k) n) sums shown)))
+          is.lacks (rw (sym known.0) at
+          (rw same at (rw sums at shown)))
       by Reply (CopyPlace n) shown keeps same = absurd keeps
       by Reply (HeaderPlace s) shown keeps same = absurd keeps
       by Reply (PreparePlace s) shown keeps same = absurd keeps
@@ -198,4 +198,4 @@ known_stays file c second t u ms later honest still whole are is =
     let at = reaches file c second t ms later honest still whole are in
     let each : EachMoment n.log (told_after (mirrored_events file later) n).log (LeavesKnownShown file c n.shown) = λ log moment left is_left kind place sum known shown.
     through file c second kind place sum later n at.0 at.1 at.2 (behind file c second t ms later are) shown (keeps_known (shape file) (units_shown file n.shown) c kind place sum known) log moment left is_left in
-    subst (λ (x : Told). EachMoment x.log (told_after (mirrored_events file later) x).log (LeavesKnownShown file c x.shown)) (sym is) each
+    rw (sym is) at each

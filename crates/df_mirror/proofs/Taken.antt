@@ -77,16 +77,16 @@ module _ (file : DataFile) (kind : Kind) (at : Place) (check : List ℕ) (identi
 
   put : IsPut (format_of file.layout file.cluster) (first_at file.layout at) (bytes_of held) (put_one at there.unit)
   put =
-      let steps : PutsUnit file.layout (place_of at) held = subst (λ (i : Identity). PutsUnit i.layout i.place held) for.is puts in
+      let steps : PutsUnit file.layout (place_of at) held = rw for.is at puts in
       let owner : held.unit.header.cluster ≡ file.cluster = found.is.owner ∙ ap (λ (i : Identity). i.cluster) for.is in
       subst (λ (k : ℕ). IsPut (format_of file.layout k) (first_at file.layout at) (bytes_of held) (put_one at there.unit)) owner (steps.0 at there.unit refl there.unit_is).0
 
   -- the bytes are the unit's sectors
   its_sectors : (place_of at).zone ≢ WalHeaders → bytes_of held ≡ sectors_of held.unit
   its_sectors other =
-      let own : IsFoundUnit kind (record { layout = file.layout; cluster = file.cluster; place = place_of at; wanted = Checksum check }) held.unit = subst (λ (i : Identity). IsFoundUnit kind i held.unit) for.is found in
-      let brings : PutsUnit file.layout (place_of at) held = subst (λ (i : Identity). PutsUnit i.layout i.place held) for.is puts in
-      exact_sectors file.layout file.cluster (place_of at) held.unit (bytes_of held) other own.is (subst (λ (k : ℕ). Brings file.layout k (place_of at) held.unit (bytes_of held)) own.is.owner brings.1)
+      let own : IsFoundUnit kind (record { layout = file.layout; cluster = file.cluster; place = place_of at; wanted = Checksum check }) held.unit = rw for.is at found in
+      let brings : PutsUnit file.layout (place_of at) held = rw for.is at puts in
+      exact_sectors file.layout file.cluster (place_of at) held.unit (bytes_of held) other own.is (rw (← own.is.owner) brings.1)
       (omega (arith, length-take (sectors_end held.unit.header.size) held.bytes)) tidy
 
   the_mend : Mend
@@ -117,8 +117,8 @@ module _ (file : DataFile) (kind : Kind) (at : Place) (check : List ℕ) (identi
         let sum = sym there.sum_is in
         record {
           next = record {
-            known = subst (λ (n : ℕ). IsKnownAt (shape file) (units_shown file t.shown) c kind at n) sum due.known;
-            lacks = subst (λ (n : ℕ). IsShownAs (units_shown file t.shown) kind at n → ⊥) sum lacks;
+            known = rw sum at due.known;
+            lacks = rw sum at lacks;
             first = due.first;
             trailer = due.trailer;
           };
@@ -126,7 +126,7 @@ module _ (file : DataFile) (kind : Kind) (at : Place) (check : List ℕ) (identi
           of_kind = there.of_kind;
           from = from.shown ∙ sym from.unit_is ∙ there.unit_is;
           puts = put;
-          sectors = (held.unit, there.unit_is, subst (λ (i : Identity). shown_at i o.shown ≡ Some held.unit) for.is shown, its_sectors (no_ring kind at (known_place (shape file) (units_shown file t.shown) c kind at (number_of check) due.known)));
+          sectors = (held.unit, there.unit_is, rw for.is at shown, its_sectors (no_ring kind at (known_place (shape file) (units_shown file t.shown) c kind at (number_of check) due.known)));
         }
 
     pub one_mended : (new : Option Told) (old text : Option (List ℕ)) → WritesUnit identity.layout identity.place held (Some t) new old text {T = Unit {0}} (Ok tt) → Came file c (AreAt kind at) t o new old text (λ ms n. 1 ≡ length ms)
@@ -138,7 +138,7 @@ module _ (file : DataFile) (kind : Kind) (at : Place) (check : List ℕ) (identi
           after = _;
           after_is = own.0;
           are_of = (refl, refl, tt);
-          does = record { are = (is_mend, tt); told = refl; printed = subst (λ (p : List ℕ). Appends old text p) (sym (append-nil (mended_text (place_of at)))) own.1 };
+          does = record { are = (is_mend, tt); told = refl; printed = rw (sym (append-nil (mended_text (place_of at)))) at own.1 };
           last = refl;
         }
 
@@ -190,7 +190,7 @@ module _ (file : DataFile) (c : Content) (kind : Kind) (at : Place) (check : Lis
       none_came file c (AreAt kind at) tt t o new.first old new.written takes.2.0 takes.2.1
       (λ ms n. (is : IsNeither file c n.shown o.shown place other) × WouldBe (AreAt kind at) ms is.kind is.at) (
         neither other takes.3.0 place whole takes.0
-            (subst (λ (k : Class). IsRead kind identity (Some t) (Some k) None) (sym takes.1) first) takes.3.1,
+            (rw (sym takes.1) at first) takes.3.1,
         λ m same there.
             (same, there, tt),
       )
@@ -208,5 +208,5 @@ no_refusal kind identity class old new shelf (Err (Neither place other)) takes r
 pub told_from : (kind : Kind) (identity : Identity) (class : Class) (old new : Outside) (shelf : Option Holding) (result : Result (Unit {0}) Ending) (t o : Told) → old.first ≡ Some t → old.second ≡ Some o → TakesUnit kind identity class old new shelf result
     → TakesUnit kind identity class (record { first = Some t; second = Some o; written = old.written }) new shelf result
 told_from kind identity class old new shelf result t o first second takes =
-    subst (λ (s : Option Told). TakesUnit kind identity class (record { first = Some t; second = s; written = old.written }) new shelf result) second
-    (subst (λ (f : Option Told). TakesUnit kind identity class (record { first = f; second = old.second; written = old.written }) new shelf result) first takes)
+    rw second at
+    (rw first at takes)

@@ -29,7 +29,7 @@ GivesParts reader parts = (layout : Layout) (op : ℕ) (text : List ℕ) → Has
 module _ (b : Superblock) (usable : IsSuper b.content) (t : Told) (whole : IsImage t.shown) (g : GridState) (reader : Reader) (parts : rooms.Parts) (named : b.content.trailer_address ≢ 0)
     (adopted : IsAdopted (shape b.file) (shown_of b.file.layout b.file.cluster t.shown) (content_of_superblock b) g reader) (same : g.layout ≡ b.file.layout) (gives : GivesParts reader parts) where
   said : AreParts (layout_of b.file.layout) parts adopted.parts
-  said = subst (AreParts (layout_of b.file.layout) parts) (sym adopted.parts_are) (gives b.file.layout b.content.op (text_of adopted.chain) (subst (λ (l : Layout). HasRead l b.content.op reader (text_of adopted.chain)) same adopted.has))
+  said = subst (AreParts (layout_of b.file.layout) parts) (sym adopted.parts_are) (gives b.file.layout b.content.op (text_of adopted.chain) (rw same at adopted.has))
 
   bytes : AreBytes (text_of adopted.chain)
   bytes = text_bytes (shape b.file) (superblock_units b t.shown) adopted.chain (of_places b.file.layout b.file.cluster b.file.named (parse_of (layout_of b.file.layout)) t.shown whole) adopted.shows
@@ -148,8 +148,8 @@ text_untracked b image g ss n f lent some text lacking = let named = subst (λ (
       spare = text.says.trailer.spare;
       above = lacking.above;
       reached = lacking.reached;
-      lacks = λ has. has_not n ss lacking.lacks (subst (λ (l : List model.Session). Has l n) text.sessions_are has);
-      least = λ m above less. subst (λ (l : List model.Session). Has l m) (sym text.sessions_are) (has_is m ss (lacking.least m above less));
+      lacks = λ has. has_not n ss lacking.lacks (rw text.sessions_are at has);
+      least = λ m above less. rw (sym text.sessions_are) at (has_is m ss (lacking.least m above less));
     },
   )))),
 )

@@ -18,7 +18,7 @@ module _ (b : Superblock) (Of : List Mend → Type 0) (none : Of []) (t o : Told
   pub none_mended : Shows (superblock_units b t.shown) → Mended b Of t o old new (Ok 0) Shows
   none_mended shows = record {
     answers = none_came b.file (content_of_superblock b) Of none t o new.first old.written new.written (same ∙ tell.first) silent (λ ms n. 0 ≡ length ms) refl;
-    shown = λ u is. subst (λ (x : Told). Shows (superblock_units b x.shown)) (same_Some _ _ (sym (same ∙ tell.first) ∙ is)) shows;
+    shown = λ u is. rw (same_Some _ _ (sym (same ∙ tell.first) ∙ is)) at shows;
   }
 
   -- the first file can't be read
@@ -51,8 +51,8 @@ then_mended {b = b} {Of = Of} {Then = Then} {All = All} {t = t} {o = o} {old = o
 -- a read comes after it
 pub read_behind : {b : Superblock} {Of : List Mend → Type 0} {t o : Told} {old mid new : Outside} {result : Result ℕ Ending} {Shows : Units → Type 0} → Mended b Of t o old mid result Shows → new.first ≡ mid.first → new.written ≡ mid.written → Mended b Of t o old new result Shows
 read_behind {b = b} {Of = Of} {t = t} {o = o} {old = old} {mid = mid} {new = new} {result = result} has same silent = record {
-  answers = subst (λ (x : Option Told). AnswersMending b.file (content_of_superblock b) Of t o x old.written new.written result) (sym same)
-      (subst (λ (x : Option (List ℕ)). AnswersMending b.file (content_of_superblock b) Of t o mid.first old.written x result) (sym silent) has.answers);
+  answers = rw (sym same) at
+      (rw (sym silent) at has.answers);
   shown = λ u is. has.shown u (sym same ∙ is);
 }
 

@@ -74,7 +74,7 @@ module _ (sh : Shape) (spell : Parts → List ℕ) (w : Work) (sum client reques
     is = record {
       some = omega arith;
       turn = (refl, refl, tt);
-      stamped = λ q at. subst (λ (x : Message). IsStamped v (head v + 1) x.header) (sym (in_single q p at)) (record { mark = refl; checkpoint = refl; boot = refl; group = refl; group_last = refl });
+      stamped = λ q at. rw ((in_single q p at)) (record { mark = refl; checkpoint = refl; boot = refl; group = refl; group_last = refl });
     };
     room = omega (arith, is.room);
     pipeline = omega (arith, is.pipeline, work.view.pipeline);

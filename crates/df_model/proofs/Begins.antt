@@ -34,7 +34,7 @@ pub fits : (xs : List (ℕ × Block)) (ys : List ℕ) → AreDistinctBlocks xs �
 fits [] ys apart all = omega arith
 fits (x ∷ xs) ys apart all =
     let shorter = length_without x.0 ys (all x.0 x.1 (inl (refl, refl))) in
-    let rest = fits xs (without x.0 ys) apart.1 (λ a b at. in_without x.0 a ys (λ same. apart.0 b (subst (λ (k : ℕ). InChain k b xs) same at)) (all a b (inr at))) in
+    let rest = fits xs (without x.0 ys) apart.1 (λ a b at. in_without x.0 a ys (λ same. apart.0 b (rw same at at)) (all a b (inr at))) in
     omega (arith, shorter, rest)
 
 free_case : (x a : ℕ) (rest : List ℕ) (h : Bool) → (a == x) ≡ true → h ≡ false → is_in a (cond (not h) (x ∷ rest) rest) ≡ true
@@ -63,7 +63,7 @@ count_le room size n k one two = go (nat_lt k n) refl
     go true is =
         let less : k < n = grind (arith, nat_tests) in
         let before : n - 1 ≡ k + (n - k - 1) = omega (arith, less) in
-        let needed : room * (k + (n - k - 1)) < size = subst (λ (i : ℕ). room * i < size) before (one.needed (omega (arith, less))) in
+        let needed : room * (k + (n - k - 1)) < size = rw before at (one.needed (omega (arith, less))) in
         absurd (omega (arith, needed, two.holds, mul-add room k (n - k - 1)))
 
 -- ---- the begin

@@ -102,7 +102,7 @@ block_aside_law sh w image put a b free one = (
     bears = record {
       sound = holds.bears.sound;
       agrees = λ place x is. agrees holds place x (put place) refl is;
-      needs = λ place x needed. keep place x (holds.bears.needs place x needed) (λ same. no_need x (subst (λ (p : Place). Needs sh w.view p x) same needed));
+      needs = λ place x needed. keep place x (holds.bears.needs place x needed) (λ same. no_need x (rw same at needed));
     };
     chosen = chosen holds;
     short = short_same sh image (overlay put image) w.view (λ s. put_else put image (BlockPlace a) (PreparePlace s) (BlockUnit b) one (λ same. cc (same))) holds.short;

@@ -1,5 +1,5 @@
 -- A boot update: it may be made, its state makes sense, and it leads on.
-use Rattle.std.proofs.Common.{◌≡◌, inl, inr, ℕ, ◌+◌, ◌-◌, ◌<◌, ◌^◌, List, [], ◌∷◌, length, take, drop, false, true, refl, sym, ◌∙◌, ap, subst, arith}
+use Rattle.std.proofs.Common.{◌≡◌, inl, inr, ℕ, ◌+◌, ◌-◌, ◌<◌, ◌^◌, List, [], ◌∷◌, length, take, drop, false, true, refl, sym, ◌∙◌, ap, arith}
 use Rattle.df_theory.{specs.{Units.{BlockPlace, Content, Message, Parts, PreparePlace, PrepareUnit}, Tails.{In, last_checksum}, Shape.{Shape}, View.{Checkpoint, View, boot_of, head}, Holds.{IsWhole, Stands}, Next.{MayBoot, booted}, UnitLog.{UnitLog, now, settled}, Chance.{EachLeft}, Grown.{IsClear as IsClearOf}, Rests.{IsGoodLog}, Runs.{AtEach, Step, after_step, after_steps}, CopyPuts.{PutsCopies, update_steps}, WholeLaws.{IsStanding}, WriterLaws.{Updates}, TidyLaws.{IsGoodWhole, IsTidy}, Upgrades.{as_version}}, proofs.Laws.{boot_law, boot_sound, found_sound, low_steps, low_update, may_raise, prepare_agrees, stands_law, whole_update_law}}
 use Rattle.df_model.{specs.{Work.{Work, opened, raised}, Memory.{Memory, memory_of}, Making.{boot_content, named_sums}, Sense.{Captured, Chained, Durable, IsBacked, IsClearAddress, Live, Written}, Laws.{BacksOn, LeadsOn}, Boots.{BootCommandLaw, BootMayLaw, IsMendedFor, RaisedLaw, Raises}}, proofs.{Captures.{capture_raised}, Grid.{each_weaker}, Groups.{staged_on}, Knows.{KnowsNoMore, one_fewer}, NoBlocks.{blocks_stay, spare_all, update_no_blocks}, Recording.{IsRecordable, named_count, recordable, records_now}, Runs.{found_few}, Writing.{own_same}}}
 
@@ -113,7 +113,7 @@ module _ (sh : Shape) (spell : Parts → List ℕ) (log : UnitLog) (w : Work) (s
         copies = after.copies;
         headers = λ s below.
             let h = after.headers s below in
-            (h.0, h.1, λ p at slot. h.2 p (subst (λ (n : ℕ). In p (drop n v.tail)) (sym none) at) slot);
+            (h.0, h.1, λ p at slot. h.2 p (rw none at) slot);
       }
 
   tidy : IsTidy sh later (booted v d)
@@ -144,5 +144,5 @@ module _ (sh : Shape) (spell : Parts → List ℕ) (log : UnitLog) (w : Work) (s
 pub boot_command_law : BootCommandLaw
 boot_command_law sh spell log w sum steps mended unspent does =
     let u = raised w (boot_content (memory_of sh spell w) sum) in
-    subst (λ (ss : List Step). LeadsOn sh spell log w u ss × (IsBacked log w → BacksOn sh log w u ss)) (sym does.are)
+    rw does.are
     (update_leads sh spell log w sum mended unspent does.puts, update_backs sh spell log w sum mended unspent does.puts)

@@ -18,11 +18,11 @@ on_disk f sh spell log w u steps events format is_log are on =
     let same = sym (same_log f events steps log is_log are) in (
       record {
         moments = (tidy_moments_law f sh (kept w) led log events format is_log are on.0.leads).0;
-        keeps = subst (λ (l : UnitLog). IsKeptBy sh spell l u) same on.0.keeps;
+        keeps = rw same at on.0.keeps;
       },
       λ backed. record {
         moments = (standing_moments_law f sh (kept w) led log events format is_log are (on.1 backed).stands).0;
-        backed = subst (λ (l : UnitLog). IsBacked l u) same (on.1 backed).backed;
+        backed = rw same at (on.1 backed).backed;
       },
     )
 

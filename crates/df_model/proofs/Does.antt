@@ -41,7 +41,7 @@ module _ (sh : Shape) (spell : Parts → List ℕ) (log : UnitLog) (w : Work) (s
   still_shown : ShowsWritten later u
   still_shown q now_is k x is =
       let one : t ≡ q = (let both : Some t ≡ Some q = now_is in cc) in
-      shown k x (subst (λ (y : Running). InChain k x y.written) (sym one) is)
+      shown k x (rw (sym one) at is)
 
   trailer_on : Both sh spell log w u steps
   trailer_on =
@@ -120,7 +120,7 @@ begun_backed sh spell log w root backed = record {
 begun_written : (sh : Shape) (spell : Parts → List ℕ) (image : Units) (w : Work) (root : List ℕ) → ShowsWritten image (with_running w (Some (begun sh spell w root)))
 begun_written sh spell image w root r at a b is =
     let one : begun sh spell w root ≡ r = (let both : Some (begun sh spell w root) ≡ Some r = at in cc) in
-    absurd (subst (λ (x : Running). InChain a b x.written) (sym one) is)
+    absurd (rw (sym one) at is)
 
 -- a check of the scrubber changes neither blocks nor checkpoints
 checked : (log : UnitLog) (w u : Work) → u.view ≡ w.view → u.live ≡ w.live → u.running ≡ w.running → IsBacked log w → IsBacked log u

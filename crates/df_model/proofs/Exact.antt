@@ -42,7 +42,7 @@ repeated_test (Some s) request n next = grind (arith, nat_tests)
 requests_pass : (m : Memory) (client request : ℕ) (body : List ℕ) (h : Header) → 0 < client → length body ≤ message_room m.layout → request ≤ 2 ^ 62 → h.client ≡ client → h.request ≡ request → h.mark ≡ m.replies → MayAsk m.layout.clients h m.sessions
     → m.head + 1 ≤ m.content.op + m.layout.slots → m.head + 1 ≤ m.replies + 8 → m.head + 1 ≤ 2 ^ 62 → first_refusal (request_refusals m client request body) ≡ None
 requests_pass m client request body h named fits in_range of_client of_request of_mark may room pipeline unspent =
-    let asked : HasAsked m.layout.clients m.sessions h (session_of_client client m.sessions) = subst (λ (c : ℕ). HasAsked m.layout.clients m.sessions h (session_of_client c m.sessions)) of_client (has_asked m.layout.clients h m.sessions may) in
+    let asked : HasAsked m.layout.clients m.sessions h (session_of_client client m.sessions) = rw (← of_client) (has_asked m.layout.clients h m.sessions may) in
     let next : request ≡ next_request (session_of_client client m.sessions) = sym of_request ∙ asked.next in
     pass_all (request_refusals m client request body) (
       ne_eqb client 0 (λ same. omega arith),

@@ -150,7 +150,7 @@ less_left room size n [] all some = refl
 less_left room size n (a ∷ more) all some =
     let before : n + length (a ∷ more) - 1 ≡ n + length more = omega arith in
     let parts : room * (n + length more) ≡ room * n + room * length more = mul-add room n (length more) in
-    let needed : room * (n + length more) < size = subst (λ (k : ℕ). room * k < size) before (all.needed (omega arith)) in
+    let needed : room * (n + length more) < size = rw before at (all.needed (omega arith)) in
     absurd (omega (arith, some.holds, needed, parts))
 
 pub finish_exact_law : FinishExactLaw

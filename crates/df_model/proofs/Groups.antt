@@ -38,7 +38,7 @@ module _ (m n : Memory) (f l g k : ℕ) where
       let one = (prepare_in m f l op p (first_of s) r).header in
       let two = (prepare_in n g k o q (first_of t) r).header in (
         ask_on places one two ss refl refl later asks.0,
-        subst (λ (x : List Session). MayAskInTurn places x (prepares_in n g k (o + 1) (first_of t) rs (drop 1 t))) (noted_alike one two ss (same_session op o p q (first_of s) (first_of t) r same))
+        rw (noted_alike one two ss (same_session op o p q (first_of s) (first_of t) r same)) at
             (alike_asks places (op + 1) (o + 1) (first_of s) (first_of t) rs (drop 1 s) (drop 1 t) (noted one ss) (ap (λ (x : ℕ). x + 1) same) later asks.1),
       )
 
@@ -100,6 +100,6 @@ staged_on sh v u m n f l g k op o p q rs s t same later shorter heads replies ta
       room = omega (arith, old.room, one, two, shorter);
       pipeline = omega (arith, old.pipeline, one, two, heads, replies);
       unspent = omega (arith, old.unspent, one, two, heads);
-      asks = subst (λ (x : List Session). MayAskInTurn (clients sh) x ps) (sym tables) (alike_asks m n f l g k (clients sh) op o p q rs s t (sessions v) same later old.asks);
+      asks = rw (sym tables) at (alike_asks m n f l g k (clients sh) op o p q rs s t (sessions v) same later old.asks);
       sessions = subst (AreLawful (clients sh)) (alike_sessions m n f l g k op o p q rs s t (sessions v) same ∙ ap (λ (x : List Session). sessions_after x ps) (sym tables)) old.sessions;
     }

@@ -30,7 +30,7 @@ begin_keeps sh spell w root bytes work none =
       one = one_fewer w (with_running w (Some (begun sh spell w root))) (begin_knows sh spell w root) work.one;
       sums = work.sums;
       few = work.few;
-      clear = λ r at. subst (λ (q : Running). AtEachOf (IsClearAddress w.live w.view.checkpoint) q.left) (let e : begun sh spell w root ≡ r = cc in e)
+      clear = λ r at. rw (← (let e : begun sh spell w root ≡ r = cc in e))
           (each_weaker (IsFree sh w) (IsClearAddress w.live w.view.checkpoint) (λ a free. let none_there = nowhere w a free.unheld in record { dead = none_there.live; unreferenced = none_there.durable; no_trailer = none_there.chain }) (begun sh spell w root).left frees);
     }
 
@@ -63,7 +63,7 @@ trailer_keeps sh spell w sum r a more work at left =
       one = one_more w (with_trailer_block w r a (next_trailer sh spell w r sum) more) a sum (trailer_knows w r a (next_trailer sh spell w r sum) more at) (trailer_new sh spell w r a more at left (work.running r at) (work.clear r at)) work.one;
       sums = work.sums;
       few = work.few;
-      clear = λ q is. subst (λ (x : Running). AtEachOf (IsClearAddress w.live w.view.checkpoint) x.left) (let e : u ≡ q = cc in e)
+      clear = λ q is. rw (← (let e : u ≡ q = cc in e))
           (let all : AtEachOf (IsClearAddress w.live w.view.checkpoint) (a ∷ more) = subst (AtEachOf (IsClearAddress w.live w.view.checkpoint)) left (work.clear r at) in all.1);
     }
 

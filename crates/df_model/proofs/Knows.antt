@@ -19,8 +19,8 @@ one_more w u at sum more new one a c d first second = go (more a c first) (more 
   where
     go : IsKnown w a c ⊎ ((a ≡ at) × (c ≡ sum)) → IsKnown w a d ⊎ ((a ≡ at) × (d ≡ sum)) → c ≡ d
     go (inl x) (inl y) = one a c d x y
-    go (inl x) (inr y) = absurd (new c (subst (λ (k : ℕ). IsKnown w k c) y.0 x))
-    go (inr x) (inl y) = absurd (new d (subst (λ (k : ℕ). IsKnown w k d) x.0 y))
+    go (inl x) (inr y) = absurd (new c (rw y.0 at x))
+    go (inr x) (inl y) = absurd (new d (rw x.0 at y))
     go (inr x) (inr y) = x.1 ∙ sym y.1
 
 -- nothing is known at an address that isn't held
@@ -76,7 +76,7 @@ entry_live sh w a c is = entry_in w.live (addresses sh.layout) a c is
 pub begin_knows : (sh : Shape) (spell : Parts → List ℕ) (w : Work) (root : List ℕ) → KnowsNoMore w (with_running w (Some (begun sh spell w root)))
 begin_knows sh spell w root a c (Live is) = Live is
 begin_knows sh spell w root a c (Captured r now is) = Live (entry_live sh w a c (ap (λ (x : Running). x.parts.references a) (let e : begun sh spell w root ≡ r = (let both : Some (begun sh spell w root) ≡ Some r = now in cc) in e) ∙ is))
-begin_knows sh spell w root a c (Written r b now is same) = absurd (subst (λ (x : Running). InChain a b x.written) (sym (let e : begun sh spell w root ≡ r = (let both : Some (begun sh spell w root) ≡ Some r = now in cc) in e)) is)
+begin_knows sh spell w root a c (Written r b now is same) = absurd (rw (sym (let e : begun sh spell w root ≡ r = (let both : Some (begun sh spell w root) ≡ Some r = now in cc) in e)) at is)
 begin_knows sh spell w root a c (Durable is) = Durable is
 begin_knows sh spell w root a c (Chained b is same) = Chained b is same
 
@@ -91,7 +91,7 @@ trailer_knows w r at new more now a c (Captured q is_now is) =
     inl (Captured r now (ap (λ (x : Running). x.parts.references a) e ∙ is))
 trailer_knows w r at new more now a c (Written q b is_now is sum) =
     let e : record r { written = (at, new) ∷ r.written; left = more } ≡ q = (let both : Some (record r { written = (at, new) ∷ r.written; left = more }) ≡ Some q = is_now in cc) in
-    written_case w r at new a c b now (subst (λ (x : Running). InChain a b x.written) (sym e) is) sum
+    written_case w r at new a c b now (rw (sym e) at is) sum
 trailer_knows w r at new more now a c (Durable is) = inl (Durable is)
 trailer_knows w r at new more now a c (Chained b is sum) = inl (Chained b is sum)
 
@@ -113,7 +113,7 @@ trailer_new sh spell w r at more now left capture clears c known = go known
         cc (here, spare)
     go (Written q b is_now is sum) =
         let e : q ≡ r = (let both : Some q ≡ Some r = sym is_now ∙ now in cc) in
-        let rise : RiseFrom (at + 1) (at ∷ more) = subst (RiseFrom (at + 1)) left (capture.written at b (subst (λ (x : Running). InChain at b x.written) e is)).1 in
+        let rise : RiseFrom (at + 1) (at ∷ more) = subst (RiseFrom (at + 1)) left (capture.written at b (rw e at is)).1 in
         omega (arith, rise.0)
     go (Durable is) = cc (is, clear.unreferenced)
     go (Chained b is sum) = clear.no_trailer b is
@@ -131,7 +131,7 @@ known_as w u a c view live running (Live is) = Live (ap (λ (f : ℕ → Option 
 known_as w u a c view live running (Captured r at is) = Captured r (sym running ∙ at) is
 known_as w u a c view live running (Written r b at is sum) = Written r b (sym running ∙ at) is sum
 known_as w u a c view live running (Durable is) = Durable (ap (λ (v : View). v.checkpoint.parts.references a) (sym view) ∙ is)
-known_as w u a c view live running (Chained b is sum) = Chained b (subst (λ (v : View). InChain a b v.checkpoint.chain) view is) sum
+known_as w u a c view live running (Chained b is sum) = Chained b (rw view at is) sum
 
 pub aside_one : (w u : Work) → u.view ≡ w.view → u.live ≡ w.live → u.running ≡ w.running → AreOne w → AreOne u
 aside_one w u view live running one = one_fewer w u (λ a c is. known_as w u a c view live running is) one
@@ -147,7 +147,7 @@ opened_as v a c w view live idle (Live is) = inl (ap (λ (f : ℕ → Option ℕ
 opened_as v a c w view live idle (Captured r at is) = absurd (cc (at, idle))
 opened_as v a c w view live idle (Written r b at is sum) = absurd (cc (at, idle))
 opened_as v a c w view live idle (Durable is) = inl (ap (λ (u : View). u.checkpoint.parts.references a) (sym view) ∙ is)
-opened_as v a c w view live idle (Chained b is sum) = inr (b, subst (λ (u : View). InChain a b u.checkpoint.chain) view is, sum)
+opened_as v a c w view live idle (Chained b is sum) = inr (b, rw view at is, sum)
 
 pub opened_one : (sh : Shape) (v : View) (w : Work) → Sound sh v → BlocksApart v → w.view ≡ v → w.live ≡ v.checkpoint.parts.references → w.running ≡ None → AreOne w
 opened_one sh v w sound apart view live idle a c d first second = go (opened_as v a c w view live idle first) (opened_as v a d w view live idle second)

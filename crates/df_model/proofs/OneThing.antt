@@ -24,7 +24,7 @@ module _ (sh : Shape) (spell : Parts → List ℕ) (w : Work) (given : Given) wh
       (Appends (Append client request body) (p ∷ []) (One client request body none staged))
 
   one_step : (o : Option Running) → w.running ≡ o → Change sh spell w given Advance (after_step_of sh spell w (supplied_sum given) o).0
-  one_step None at = Stays Advance (λ image steps does. subst (λ (o : Option Running). DoesAdvance sh spell w (supplied_sum given) o steps) at does)
+  one_step None at = Stays Advance (λ image steps does. rw at at does)
   one_step (Some r) at = left r.left refl
     where
       left : (l : List ℕ) → r.left ≡ l → Change sh spell w given Advance (after_running sh spell w (supplied_sum given) r l).0

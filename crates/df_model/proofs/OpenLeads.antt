@@ -51,11 +51,11 @@ module _ (sh : Shape) (spell : Parts → List ℕ) (log : UnitLog) (w : Work) (t
         leads = record {
           leads = record {
             moments = each_append (IsGoodLog sh w.view u.view) first (update_steps puts) log good on.leads.leads.moments;
-            rests = subst (λ (l : UnitLog). RestsOn sh l u.view) (sym ends) on.leads.leads.rests;
+            rests = rw (sym ends) at on.leads.leads.rests;
           };
-          tidy = subst (λ (l : UnitLog). IsTidy sh l u.view) (sym ends) on.leads.tidy;
+          tidy = rw (sym ends) at on.leads.tidy;
         };
-        keeps = subst (λ (l : UnitLog). IsKeptBy sh spell l u) (sym ends) on.keeps;
+        keeps = rw (sym ends) at on.keeps;
       }
 
   pub open_backs : IsBacked log w → BacksOn sh log w u (raise_steps headers copies puts)
@@ -71,9 +71,9 @@ module _ (sh : Shape) (spell : Parts → List ℕ) (log : UnitLog) (w : Work) (t
       record {
         stands = record {
           moments = each_append (IsGoodWhole sh w.view u.view) first (update_steps puts) log (stands_each sh w.view d first log good stands) on.stands.moments;
-          standing = subst (λ (l : UnitLog). IsStanding l u.view) (sym ends) on.stands.standing;
+          standing = rw (sym ends) at on.stands.standing;
         };
-        backed = subst (λ (l : UnitLog). IsBacked l u) (sym ends) on.backed;
+        backed = rw (sym ends) at on.backed;
       }
 
 pub open_command_law : OpenCommandLaw

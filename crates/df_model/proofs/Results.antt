@@ -163,7 +163,7 @@ module _ (sh : Shape) (spell : Parts → List ℕ) (log : UnitLog) (w : Work) (g
   flush_writes ps does =
       let mid = after_steps (all_puts does.prepares) log in
       subst (λ (ss : List Step). Shows log ss (group_puts sh.layout.slots ps) under) (sym does.are)
-      (subst (λ (l : UnitLog). AgreeReads (now l) (overlay (group_puts sh.layout.slots ps) under)) (sym (after_append (all_puts does.prepares) (Syncs ∷ (all_puts does.headers ++ Syncs ∷ [])) log ∙ after_append (all_puts does.headers) (Syncs ∷ []) (add Synced mid)))
+      (rw ((after_append (all_puts does.prepares) (Syncs ∷ (all_puts does.headers ++ Syncs ∷ [])) log ∙ after_append (all_puts does.headers) (Syncs ∷ []) (add Synced mid)))
       (headers_agree does.table does.headers (add Synced mid) (overlay (group_puts sh.layout.slots ps) under) does.sectors (prepares_agree sh ps does.prepares log under does.puts agree)))
 
   finish_writes : (c : Content) → (r : Running) → (c ≡ (checkpoint_of sh spell w r (supplied_sum given)).content) → DoesFinish w.view (checkpoint_of sh spell w r (supplied_sum given)) steps → Shows log steps (copies_of c) under
@@ -194,7 +194,7 @@ module _ (sh : Shape) (spell : Parts → List ℕ) (log : UnitLog) (w : Work) (g
       let place = place_of_reply m in
       let r = reply_of m (supplied_sum given) body in
       unless_refused log (first_refusal (reply_refusals m op body)) steps (DoesReply w.view place r steps) (put_one (ReplyPlace place) (ReplyUnit r)) under agree (λ done.
-      subst (λ (ss : List Step). Shows log ss (put_one (ReplyPlace place) (ReplyUnit r)) under) (sym done.are) (agree_one done.put (now log) under (ReplyPlace place) (ReplyUnit r) done.one agree)) does
+      rw done.are (agree_one done.put (now log) under (ReplyPlace place) (ReplyUnit r) done.one agree)) does
   shows_next (WriteBlock kind body) does = unless_refused log (first_refusal (block_refusals m kind body)) steps _ _ under agree (λ done. block_writes log steps w.view (next_address m) (block_of m.content.boot (supplied_sum given) kind body) under agree done) does
   shows_next Advance does = advances w.running refl does
   shows_next command does = idle log steps under does agree

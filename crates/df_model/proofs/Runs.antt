@@ -12,7 +12,7 @@ leads_all sh spell log w (x ∷ xs) keeps does =
     let u : Work = (after sh spell w x.act.given x.act.command).0 in
     let one : Both sh spell log w u x.steps = command_law sh spell log w x.act.given x.act.command x.steps does.1 keeps does.0 in
     let rest = leads_all sh spell (after_steps x.steps log) u xs one.0.keeps does.2 in
-    ((one.0.leads, rest.0), subst (λ (l : UnitLog). IsKeptBy sh spell l (work_after sh spell u (map act_of xs))) (sym (after_append x.steps (steps_of (led_by sh spell u xs)) log)) rest.1)
+    ((one.0.leads, rest.0), rw (sym (after_append x.steps (steps_of (led_by sh spell u xs)) log)) at rest.1)
 
 stands_all : (sh : Shape) (spell : Parts → List ℕ) (log : UnitLog) (w : Work) (xs : List Stepped) → IsKeptBy sh spell log w → DoAll sh spell log w xs → IsBacked log w
     → KeepStanding sh log (kept w) (led_by sh spell w xs) × IsBacked (after_steps (steps_of (led_by sh spell w xs)) log) (work_after sh spell w (map act_of xs))
@@ -22,7 +22,7 @@ stands_all sh spell log w (x ∷ xs) keeps does backed =
     let one : Both sh spell log w u x.steps = command_law sh spell log w x.act.given x.act.command x.steps does.1 keeps does.0 in
     let on = one.1 backed in
     let rest = stands_all sh spell (after_steps x.steps log) u xs one.0.keeps does.2 on.backed in
-    ((on.stands, rest.0), subst (λ (l : UnitLog). IsBacked l (work_after sh spell u (map act_of xs))) (sym (after_append x.steps (steps_of (led_by sh spell u xs)) log)) rest.1)
+    ((on.stands, rest.0), rw (sym (after_append x.steps (steps_of (led_by sh spell u xs)) log)) at rest.1)
 
 pub run_law : RunLaw
 run_law sh spell log w xs keeps does =
@@ -41,7 +41,7 @@ shown_lawful : (sh : Shape) (image : Units) (p : Message) → AreOfPlaces sh ima
 shown_lawful sh image p places shows =
     let of = places (PreparePlace (p.header.op % sh.layout.slots)) (PrepareUnit p) shows in
     let same : of.0 ≡ p = cc (of.1) in
-    let range : IsInRange p.header = subst (λ (q : Message). IsInRange q.header) same of.3 in
+    let range : IsInRange p.header = rw same at of.3 in
     record { client = range.client; request = range.request; op = range.op }
 
 -- whatever was done to the image: what is found in it makes sense
@@ -78,7 +78,7 @@ pub first_kept_law : FirstKeptLaw
 first_kept_law sh spell log v codec version tidy standing first = (
   record {
     sense = opened_law sh spell (now log) v codec version tidy.rests.holds.bears.sound
-        (record { prepares = λ p at. absurd (subst (In p) first.tail at); bytes = subst (λ (chain : List (ℕ × Block)). AreBytes (text_of chain)) (sym first.chain) (λ i. omega arith) })
+        (record { prepares = λ p at. absurd (subst (In p) first.tail at); bytes = rw first.chain (λ i. omega arith) })
         (λ a b at. absurd (subst (InChain a b) first.chain at));
     tidy = tidy;
     written = λ r none. absurd (cc);

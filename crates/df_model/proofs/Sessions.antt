@@ -9,7 +9,7 @@ known_case : (h : Header) (x s : Session) (ss : List Session) (room : ℕ) (b : 
     → ((k : ℕ) → length ss ≤ k → session_of_client h.client ss ≡ Some s → MayAsk k h ss) → MayAsk room h (x ∷ ss)
 known_case h x s ss room true is there few next answered more =
     let one : x ≡ s = (let both : Some x ≡ Some s = there in cc) in
-    inl (eqb-true x.client h.client is, next ∙ ap (λ (t : Session). t.request + 1) (sym one), subst (λ (t : Session). t.op ≤ h.mark) (sym one) answered)
+    inl (eqb-true x.client h.client is, next ∙ ap (λ (t : Session). t.request + 1) (sym one), rw (sym one) at answered)
 known_case h x s ss room false is there few next answered more = inr (eqb-false x.client h.client is, room - 1, omega arith, more (room - 1) (omega arith) there)
 
 pub known_asks : (room : ℕ) (h : Header) (ss : List Session) (s : Session) → session_of_client h.client ss ≡ Some s → length ss ≤ room → h.request ≡ s.request + 1 → s.op ≤ h.mark → MayAsk room h ss

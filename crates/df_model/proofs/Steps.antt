@@ -12,7 +12,7 @@ count_of room size (suc n) some is low high = record {
   holds = omega arith;
   needed = λ any.
       let same : suc n - 1 ≡ n = omega arith in
-      subst (λ (k : ℕ). room * k < size) (sym same) (omega (arith, mul-suc room n));
+      rw same (omega (arith, mul-suc room n));
 }
 
 pub pieces_count : (room size : ℕ) → 0 < room → 0 < size → IsCount room size (pieces_of room size)
@@ -95,7 +95,7 @@ module _ (sh : Shape) (spell : Parts → List ℕ) (w : Work) (r : Running) (sum
   text = ap (λ (l : List ℕ). l ++ b.body) old.text ∙ sym (take-add (block_room sh.layout * length r.written) (block_room sh.layout) (spell r.parts)) ∙ ap (λ (k : ℕ). take k (spell r.parts)) (sym (mul-suc (block_room sh.layout) (length r.written)))
 
   written : (x : ℕ) (y : Block) → InChain x y u.written → IsSpare sh u x × RiseFrom (x + 1) more
-  written x y (inl here) = (subst (IsSpare sh u) (sym here.0) (keep_spare a left_spare.0), subst (λ (k : ℕ). RiseFrom (k + 1) more) (sym here.0) rises.1)
+  written x y (inl here) = (subst (IsSpare sh u) (sym here.0) (keep_spare a left_spare.0), rw (sym here.0) at rises.1)
   written x y (inr there) =
       let before = old.written x y there in
       let rise : RiseFrom (x + 1) (a ∷ more) = subst (RiseFrom (x + 1)) left before.1 in

@@ -14,11 +14,11 @@ pub idle : (sh : Shape) (spell : Parts → List ℕ) (log : UnitLog) (w u : Work
 idle sh spell log w u steps same keeps work written backs none =
     subst (λ (ss : List Step). Both sh spell log w u ss) (sym none) (
       record {
-        leads = subst (λ (v : View). LeadsTidily sh log w.view (record { steps = []; view = v })) (sym same) (tidy_idle_law sh log w.view keeps.tidy).0;
+        leads = rw same (tidy_idle_law sh log w.view keeps.tidy).0;
         keeps = record { sense = work; tidy = subst (IsTidy sh log) (sym same) keeps.tidy; written = written };
       },
       λ backed. record {
-        stands = subst (λ (v : View). KeepsStanding sh log w.view (record { steps = []; view = v })) (sym same) ((tidy_idle_law sh log w.view keeps.tidy).1 backed.standing);
+        stands = rw same ((tidy_idle_law sh log w.view keeps.tidy).1 backed.standing);
         backed = backs backed;
       },
     )
@@ -112,13 +112,13 @@ block_on sh spell log w a b steps fits own keeps free does =
     let later = overlay does.put image in
     let on = tidy_block_law sh log w.view does.put a b keeps.tidy none.chain does.one in
     let spare : (c : ℕ) → w.view.checkpoint.parts.references a ≡ Some c → ⊥ = λ c is. cc (is, none.durable) in
-    subst (λ (ss : List Step). Both sh spell log w u ss) (sym does.are) (
+    rw does.are (
       record {
         leads = on.0;
         keeps = record {
           sense = live_keeps sh spell w a b.checksum fits keeps.sense free;
           tidy = on.0.tidy;
-          written = λ r at k x is. block_else image does.put a b does.one k (λ same. none.written r x at (subst (λ (e : ℕ). InChain e x r.written) same is)) ∙ keeps.written r at k x is;
+          written = λ r at k x is. block_else image does.put a b does.one k (λ same. none.written r x at (rw same at is)) ∙ keeps.written r at k x is;
         };
       },
       λ backed. record {

@@ -19,7 +19,7 @@ below_suc n = grind (arith, nat_tests)
 
 no_scrubs : (scrub : ℕ) → (if nat_lt 0 scrub then Option.Some piece.Scrub else None) ≡ None → replicate scrub Scrub ≡ []
 no_scrubs zero none = refl
-no_scrubs (suc n) none = absurd (let some = subst (λ (b : Bool). (if b then Option.Some piece.Scrub else None) ≡ None) (below_suc n) none in cc)
+no_scrubs (suc n) none = absurd (let some = rw (below_suc n) at none in cc)
 
 pub none_min : (n : ℕ) → min 0 n ≡ 0
 none_min n = omega arith
@@ -31,7 +31,7 @@ min_none n = omega arith
 nothing : (r : Option Course) (steps scrub : ℕ) → (if (is_running r && nat_lt 0 steps) then Option.Some piece.Step else (if nat_lt 0 scrub then Some piece.Scrub else None)) ≡ None → work_left steps (steps_left r) scrub ≡ []
 nothing None steps scrub none = λ i. replicate (min_none steps i) Advance ++ no_scrubs scrub none i
 nothing (Some r) zero scrub none = λ i. replicate (none_min (length r.left + 1) i) Advance ++ no_scrubs scrub none i
-nothing (Some r) (suc n) scrub none = absurd (let some = subst (λ (b : Bool). (if b then Option.Some piece.Step else (if nat_lt 0 scrub then Some piece.Scrub else None)) ≡ None) (below_suc n) none in cc)
+nothing (Some r) (suc n) scrub none = absurd (let some = rw (below_suc n) at none in cc)
 
 -- a stand, and what is left there
 module _ (sh : Shape) (codec : Codec) (x : Stand) where
@@ -98,7 +98,7 @@ module _ (sh : Shape) (codec : Codec) (x : Stand) where
   scrub_left : (steps scrub : ℕ) (p : Piece) → (is_running (course_of spell w.running) && nat_lt 0 steps) ≡ false → (if nat_lt 0 scrub then Option.Some piece.Scrub else None) ≡ Some p → Leaves (due_with false steps scrub) p
   scrub_left steps zero p idle is = absurd (cc)
   scrub_left steps (suc n) p idle is =
-      of_piece (due_with false steps (suc n)) p piece.Scrub (subst (λ (b : Bool). (if b then Option.Some piece.Scrub else None) ≡ Some p) (below_suc n) is) (scrub_first (supplied_verdict (supplied codec x.shown (memory_of sh spell w) Scrub)) (to_check (memory_of sh spell w)) steps n idle)
+      of_piece (due_with false steps (suc n)) p piece.Scrub (rw (below_suc n) at is) (scrub_first (supplied_verdict (supplied codec x.shown (memory_of sh spell w) Scrub)) (to_check (memory_of sh spell w)) steps n idle)
 
   work_next : (b : Bool) (steps scrub : ℕ) (p : Piece) → (is_running (course_of spell w.running) && nat_lt 0 steps) ≡ b → (if b then Option.Some piece.Step else (if nat_lt 0 scrub then Some piece.Scrub else None)) ≡ Some p → Leaves (due_with false steps scrub) p
   work_next true steps scrub p runs is = of_piece (due_with false steps scrub) p piece.Step is (step_first (supplied_sum (supplied codec x.shown (memory_of sh spell w) Advance)) w.running steps scrub runs)

@@ -1,5 +1,5 @@
 -- What is told of the log: the work beside a script changes nothing of it.
-use Rattle.std.proofs.{Common.{◌≡◌, ℕ, zero, suc, ◌+◌, ◌-◌, ◌≤◌, min, Bool, true, false, List, [], ◌∷◌, ◌++◌, length, take, drop, Option, Some, None, Result, Ok, Err, replicate, refl, sym, ◌∙◌, ap, subst, arith, length-drop}, lemmas.List.{take_all}}
+use Rattle.std.proofs.{Common.{◌≡◌, ℕ, zero, suc, ◌+◌, ◌-◌, ◌≤◌, min, Bool, true, false, List, [], ◌∷◌, ◌++◌, length, take, drop, Option, Some, None, Result, Ok, Err, replicate, refl, sym, ◌∙◌, ap, arith, length-drop}, lemmas.List.{take_all}}
 use Rattle.df_layout.specs.declared.damage.Class.{Class}
 use Rattle.df_theory.{specs.{Units.{Message, Parts, ReplyPlace, Session, Units, overlay}, Sessions.{sessions_after}, Shape.{Shape}, View.{View, head, sessions}}, proofs.Laws.{sessions-drop}}
 use Rattle.df_model.specs.{Work.{Request, Running, Work}, Memory.{Memory, course, course_of, memory_of, stored_sum}, Refusals.{begin_refusals, first_refusal, is_running, steps_left}, Making.{needed_of}, After.{after_check, after_running, after_step_of, begun, outcome, to_check, with_running}, Commands.{Advance, Begin, Scrub, supplied_sum, supplied_verdict}, Supply.{Codec, Shown, class_at, reply_given, step_puts, supplied, trailer_puts}, declared.answers.Verdict.{Verdict}, declared.answers.Verdict.TheVariants.{Sound, Failing}}
@@ -135,7 +135,7 @@ module _ (sh : Shape) (codec : Codec) where
       let y = all_by_loop sh codec x begins in
       let z = all_by_loop sh codec y (steps_due sh codec pace y) in
       let joined : stand_after sh codec pace x ≡ all_by_loop sh codec z (scrubs_due pace) = loop_join sh codec x begins (steps_due sh codec pace y ++ scrubs_due pace) ∙ loop_join sh codec y (steps_due sh codec pace y) (scrubs_due pace) in
-      subst (λ (w : Stand). Stays x w) (sym joined)
+      rw (sym joined) at
       (then_stays x z (all_by_loop sh codec z (scrubs_due pace))
       (then_stays x y z (begins_stay (is_begin_due pace x.appended (is_running (course_at sh codec x))) x.work.view.checkpoint.parts.root x goes) (steps_stay (min pace.steps (steps_left (course_at sh codec y))) y))
       (scrubs_stay pace.scrub z))

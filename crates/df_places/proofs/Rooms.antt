@@ -1,5 +1,5 @@
 -- The sectors of a place are sectors of the disk, and what is read of them is what the place shows.
-use Rattle.std.{proofs.Common.{◌≡◌, ◌≢◌, ℕ, ◌/◌, ◌%◌, ◌<◌, ◌≤◌, List, length, Option, Some, None, refl, sym, ◌∙◌, ap, subst, arith}, specs.Prelude.{Result}}
+use Rattle.std.{proofs.Common.{◌≡◌, ◌≢◌, ℕ, ◌/◌, ◌%◌, ◌<◌, ◌≤◌, List, length, Option, Some, None, refl, sym, ◌∙◌, ap, arith}, specs.Prelude.{Result}}
 use Rattle.df_base.specs.Image.{Image, bytes_at}
 use Rattle.df_disk.specs.Told.{AreSectors, Shows, Told}
 use Rattle.df_layout.{specs.{declared.damage.Class.{Class}, declared.layout.Layout.{Layout}, declared.places.Place.{Place}, declared.places.Zone.{Zone}, declared.places.Zone.TheVariants.{Superblock, WalHeaders, WalPrepares, ClientReplies, Grid}, Spans.{HasPlace, span_of}}, proofs.Laws.{lies_inside, zones_follow}}
@@ -12,20 +12,20 @@ pub are_sectors : (layout : Layout) (place : Place) (zone : Zone) (first n : ℕ
 unfolding span_of
 are_sectors layout place zone first n has in_zone is some whole fits =
     let inside = lies_inside layout place has in
-    let room : n ≤ room_size layout place.zone = subst (λ (z : Zone). n ≤ room_size layout z) (sym in_zone) fits in
+    let room : n ≤ room_size layout place.zone = rw (sym in_zone) at fits in
     record { some = some; whole = whole; last = omega (arith, is, room, inside.in_file, (zones_follow layout).bound) }
 
 pub room_sectors : (layout : Layout) (place : Place) (zone : Zone) (first n : ℕ) → HasPlace layout place → place.zone ≡ zone → first ≡ (span_of layout place).first → n ≡ room_size layout zone → AreSectors first n
 unfolding span_of
 room_sectors layout place zone first n has in_zone is size =
     let inside = lies_inside layout place has in
-    let room : n ≡ room_size layout place.zone = subst (λ (z : Zone). n ≡ room_size layout z) (sym in_zone) size in
+    let room : n ≡ room_size layout place.zone = rw (sym in_zone) at size in
     are_sectors layout place zone first n has in_zone is (omega (arith, room, inside.some)) (omega (arith, size)) (omega (arith, size))
 
 sectors_read : (layout : Layout) (place : Place) (zone : Zone) (n : ℕ) → place.zone ≡ zone → n ≡ room_size layout zone → n / 4096 ≡ (span_of layout place).count
 unfolding span_of
 sectors_read layout place zone n in_zone is =
-    let room : n ≡ room_size layout place.zone = subst (λ (z : Zone). n ≡ room_size layout z) (sym in_zone) is in
+    let room : n ≡ room_size layout place.zone = rw (sym in_zone) at is in
     omega (arith, room)
 
 -- the bytes that were read are those of the place
@@ -56,4 +56,4 @@ pub read_seen : (layout : Layout) (cluster : ℕ) (place : Place) (zone : Zone) 
 read_seen layout cluster place zone None bytes seen alone in_zone size shows is = tt
 read_seen layout cluster place zone (Some t) bytes seen alone in_zone size shows is =
     let part = read_part layout t.shown place zone bytes alone in_zone size shows in
-    is ∙ shown_part layout cluster t.shown place bytes (part ∙ place_part layout t.shown place (subst (λ (z : Zone). z ≢ WalHeaders) (sym in_zone) alone))
+    is ∙ shown_part layout cluster t.shown place bytes (part ∙ place_part layout t.shown place (rw (sym in_zone) at alone))

@@ -42,7 +42,7 @@ module _ (kind : Kind) (zone : Zone) (identity : Identity) (bytes : List ℕ) (s
   of_place : (t : Told) → Shows (Some t) (span_of identity.layout identity.place).first bytes → bytes ≡ bytes_of identity.layout t.shown identity.place
   of_place t shows =
       read_part identity.layout t.shown identity.place zone bytes (is_no_ring kind zone stands) in_zone fills shows
-      ∙ place_part identity.layout t.shown identity.place (subst (λ (z : Zone). z ≢ WalHeaders) (sym in_zone) (is_no_ring kind zone stands))
+      ∙ place_part identity.layout t.shown identity.place (rw (sym in_zone) at (is_no_ring kind zone stands))
 
   unit_shown : (t : Told) → Shows (Some t) (span_of identity.layout identity.place).first bytes → unit_in identity.layout identity.cluster identity.place bytes ≡ shown_at identity t.shown
   unfolding unit_at

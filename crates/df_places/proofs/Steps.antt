@@ -25,9 +25,9 @@ puts_at layout cluster (BlockPlace a) u x bytes alone is brings = subst (λ (y :
 own_brings : (zone : Zone) (layout : Layout) (place : Place) (held : Holding) (lent : List ℕ) → held.layout ≡ layout → place.zone ≡ zone → IsUnit layout held.unit.header.cluster place held.unit → BringsOwn zone held lent
     → Brings layout held.unit.header.cluster place held.unit lent
 own_brings zone layout place held lent same in_zone own brings =
-    let there : IsUnit layout held.unit.header.cluster brings.place held.unit = subst (λ (l : Layout). IsUnit l held.unit.header.cluster brings.place held.unit) same brings.is in
+    let there : IsUnit layout held.unit.header.cluster brings.place held.unit = rw same at brings.is in
     let here = one_place layout held.unit.header.cluster brings.place place held.unit (brings.in_zone ∙ sym in_zone) there own in
-    subst (λ (p : Place). Brings layout held.unit.header.cluster p held.unit lent) here (subst (λ (l : Layout). Brings l held.unit.header.cluster brings.place held.unit lent) same brings.brings)
+    subst (λ (p : Place). Brings layout held.unit.header.cluster p held.unit lent) here (rw same at brings.brings)
 
 pub write_brings : (zone : Zone) (layout : Layout) (place : Place) (held : Holding) (lent : List ℕ) → held.layout ≡ layout → place.zone ≡ zone → IsUnit layout held.unit.header.cluster place held.unit
     → lent ≡ take (sectors_end held.unit.header.size) held.bytes → BringsOwn zone held lent → Brings layout held.unit.header.cluster place held.unit (take (sectors_end held.unit.header.size) held.bytes)
@@ -41,8 +41,8 @@ put_is_steps kind zone layout place held lent stands same in_zone own value brin
     let sectors = take (sectors_end held.unit.header.size) held.bytes in
     let to_place : Brings layout cluster place held.unit sectors = write_brings zone layout place held lent same in_zone own value brings in
     let alone : (place_of at).zone ≡ WalHeaders → ⊥ = λ ring. is_no_ring kind zone stands (sym in_zone ∙ ap (λ (p : Place). p.zone) (sym here) ∙ ring) in
-    let put = puts_at layout cluster at held.unit x sectors alone is (subst (λ (p : Place). Brings layout cluster p held.unit sectors) (sym here) to_place) in (
-      subst (λ (p : Place). IsPut (format_of layout cluster) (span_of layout p).first sectors (put_one at x)) here put,
+    let put = puts_at layout cluster at held.unit x sectors alone is (rw (sym here) at to_place) in (
+      rw here at put,
       tt,
     )
 

@@ -1,5 +1,5 @@
 -- A superblock that an open takes is of the version that is asked for and can be used, and so back.
-use Rattle.std.proofs.{Common.{inl, inr, ℕ, ◌≡◌, ◌==◌, Some, None, sym, ◌∙◌, subst}, lemmas.Bool.{cases_eq, cond-true, cond-false, eq-eqb, ne_eqb}}
+use Rattle.std.proofs.{Common.{inl, inr, ℕ, ◌≡◌, ◌==◌, Some, None, sym, ◌∙◌}, lemmas.Bool.{cases_eq, cond-true, cond-false, eq-eqb, ne_eqb}}
 use Rattle.df_format.{specs.{Copies.{content_with}, declared.superblock.SuperFields.{SuperFields}, declared.superblock.SuperFault.TheVariants.{Version as OtherVersion}, SuperRules.{IsSuper, fault_of}}, proofs.Laws.{faults}}
 use Rattle.df_theory.specs.{Trailer.{IsReference}, View.{PassesTests}}
 use Rattle.df_units.{specs.{Format.{shape_as}, Meaning.{content_of, layout_of}, Superblocks.{AreFieldsOf}}, proofs.Laws.{usable_passes}}
@@ -29,5 +29,5 @@ as_none version f of is = fault_asked version f of ∙ (faults f).1 is
 -- the fields of a file pass the theory's tests for its version
 pub passes_as : (file : DataFile) (f : SuperFields) → AreFieldsOf file.layout file.cluster f → f.version ≡ file.version → IsSuper f → PassesTests (shape file) (content_of (content_with f)) × IsReference (layout_of file.layout) (content_of (content_with f))
 passes_as file f of version rules =
-    subst (λ (v : ℕ). PassesTests (shape_as v file.layout file.cluster file.named (parse_of (layout_of file.layout))) (content_of (content_with f)) × IsReference (layout_of file.layout) (content_of (content_with f))) version
+    rw (← version)
     (usable_passes file.layout file.cluster file.named (parse_of (layout_of file.layout)) (content_with f) of rules)

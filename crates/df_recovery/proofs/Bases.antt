@@ -25,7 +25,7 @@ empty_fits file g rooms are = record {
   layout_is = ap (λ (x : GridState). x.layout) are.grid_is;
   cluster_is = ap (λ (x : GridState). x.cluster) are.grid_is;
   boot_is = ap (λ (x : GridState). x.boot) are.grid_is;
-  idle = subst (λ (x : GridState). IsIdle x.blocks) (sym are.grid_is) (record { captured = refl; written = refl; left = refl });
+  idle = rw are.grid_is (record { captured = refl; written = refl; left = refl });
   rooms_are = are.rooms_are;
 }
 
@@ -89,7 +89,7 @@ GivesParts reader parts = (layout : Layout) (op : ℕ) (text : List ℕ) → Has
 
 module _ (file : DataFile) (shown : Shown) (f : SuperFields) (g : GridState) (reader : Reader) (parts : rooms.Parts) (adopted : IsAdopted (shape file) shown (content_in f) g reader) (same : g.layout ≡ file.layout) (gives : GivesParts reader parts) where
   said : AreParts (layout_of file.layout) parts adopted.parts
-  said = subst (AreParts (layout_of file.layout) parts) (sym adopted.parts_are) (gives file.layout f.op (text_of adopted.chain) (subst (λ (l : Layout). HasRead l f.op reader (text_of adopted.chain)) same adopted.has))
+  said = subst (AreParts (layout_of file.layout) parts) (sym adopted.parts_are) (gives file.layout f.op (text_of adopted.chain) (rw same at adopted.has))
 
   sessions_said : adopted.parts.sessions ≡ sessions_of parts.sessions.items
   sessions_said = sym (ap sessions_of said.sessions ∙ sessions_back adopted.parts.sessions)
@@ -100,7 +100,7 @@ module _ (file : DataFile) (shown : Shown) (f : SuperFields) (g : GridState) (re
     chain = adopted.chain;
     parts = adopted.parts;
     trailer = adopted.trailer;
-    shown = subst (λ (units : Units.Units). (a : ℕ) (b : Units.Block) → InChain a b adopted.chain → units (Units.BlockPlace a) ≡ Some (Units.BlockUnit b)) is adopted.shows;
+    shown = rw is at adopted.shows;
     root_is = said.root;
     sessions_are = sessions_said;
     blocks_are = adopted.blocks;
@@ -137,8 +137,8 @@ text_untracked file shown f base n text named lacking = record {
   says = its_text (shape file) f.op text.chain text.parts (some_chain (file.layout.block_size - 256) (content_in f) text.chain named text.trailer.links) text.trailer.says;
   above = lacking.above;
   reached = lacking.reached;
-  lacks = λ has. has_not n base.sessions lacking.lacks (subst (λ (ss : List Units.Session). Has ss n) text.sessions_are has);
-  least = λ m above less. subst (λ (ss : List Units.Session). Has ss m) (sym text.sessions_are) (has_is m base.sessions (lacking.least m above less));
+  lacks = λ has. has_not n base.sessions lacking.lacks (rw text.sessions_are at has);
+  least = λ m above less. rw (sym text.sessions_are) at (has_is m base.sessions (lacking.least m above less));
 }
 
 -- ---- of a disk, told or not

@@ -60,7 +60,7 @@ module _ (t : Told) (file : DataFile) (read : Read) (base : Base) (is : IsOfFile
   lowest =
       let c = content_with read.found.content in
       let same : is.choice.content ≡ c = one_law (content_at t.shown) is.choice.content c is.choice.is chosen in
-      let members : AreMembers (content_at t.shown) c read.found.chosen.members = subst (λ (x : Content). AreMembers (content_at t.shown) x read.found.chosen.members) same is.choice.members in
+      let members : AreMembers (content_at t.shown) c read.found.chosen.members = rw same at is.choice.members in
       let first = chosen.agreed.first in
       let small : first < 4 = omega (arith, chosen.agreed.apart, chosen.agreed.inside) in
       let low = position_upto read.found.chosen.members first ((members first small).1 chosen.agreed.at_first) in
@@ -89,8 +89,8 @@ module _ (t : Told) (file : DataFile) (read : Read) (base : Base) (is : IsOfFile
 
 pub file_is_read : FileIsRead
 file_is_read t file read base is = record {
-  tells = subst (λ (image : Units.Units). TellsRings read.layout image read.slots) same (slots_shown read.layout t read.slots is.scanned.slots);
-  shows = subst (λ (image : Units.Units). ShowsReplies image read.replies) same (replies_shown read.layout read.slots.start.cluster t read.replies is.scanned.replies);
+  tells = rw same at (slots_shown read.layout t read.slots is.scanned.slots);
+  shows = rw same at (replies_shown read.layout read.slots.start.cluster t read.replies is.scanned.replies);
   slots_are = ap (λ (l : Layout). l.slots) (sym is.layout);
   clients_are = ap (λ (l : Layout). l.clients) (sym is.layout);
   content_is = refl;

@@ -59,8 +59,8 @@ shows_reply (Err class) = refl
 pub shows_table : (slots : List SlotSeen) (replies : List (Result Header Class)) → ShowsTable (image_of slots replies) slots
 shows_table slots replies = record {
   each = λ s seen at. record {
-    header = subst (λ (o : Option SlotSeen). ShowsHeader (header_seen o) seen.header) (sym at) (shows_header seen.header);
-    prepare = subst (λ (o : Option SlotSeen). ShowsPrepare (prepare_seen o) seen.prepare) (sym at) (shows_prepare seen.prepare);
+    header = rw at (shows_header seen.header);
+    prepare = rw at (shows_prepare seen.prepare);
   };
   no_header = λ s past. ap header_seen (slice_get_past slots s past);
   no_prepare = λ s past. ap prepare_seen (slice_get_past slots s past);
@@ -68,7 +68,7 @@ shows_table slots replies = record {
 
 pub shows_replies : (slots : List SlotSeen) (replies : List (Result Header Class)) → ShowsReplies (image_of slots replies) replies
 shows_replies slots replies = record {
-  each = λ k reply at. subst (λ (o : Option (Result Header Class)). ShowsReply (reply_in o) reply) (sym at) (shows_reply reply);
+  each = λ k reply at. rw at (shows_reply reply);
   no_more = λ k past. ap reply_in (slice_get_past replies k past);
 }
 
@@ -134,7 +134,7 @@ module _ (sh : Shape) (image : Units.Units) (f : SuperFields) (ss after : List S
   pub tracks_on : Tracks f.replies f.op (sessions_of ss) → Tracks n end.op (sessions_of after)
   tracks_on tracks =
       subst (λ (l : List Units.Session). Tracks n end.op l) (sym found.ends.sessions_are)
-      (subst (λ (top : ℕ). Tracks n top (sessions_after (sessions_of ss) found.tail)) (sym found.ends.op)
+      (rw (sym found.ends.op) at
       (tracks_chain sh.layout.clients f.op (any_base f ss).content.op_checksum 0 n n (sessions_of ss) found.tail (fewer tracks) found.is.chain (omega arith) replies.mark))
 
   pub asked_on : AreAsked (sessions_of ss) → AreAsked (sessions_of after)

@@ -24,7 +24,7 @@ counts_all : (image : Units.Units) (rings seen : Counters) → CountsRings image
     → ((n : ℕ) → (seen.boot ≤ n) ↔ ((rings.boot ≤ n) × RepliesWithin image (λ h. h.boot) n))
     → CountsAll image seen
 counts_all image rings seen counts ring_op checkpoint boot = record {
-  ring_op = λ n. subst (λ (x : ℕ). (x ≤ n) ↔ RingsWithin image (λ h. h.op) n) (sym ring_op) (counts.ring_op n);
+  ring_op = λ n. rw (sym ring_op) at (counts.ring_op n);
   checkpoint = λ n. (
     λ le. let all = (checkpoint n).0 le in ((counts.checkpoint n).0 all.0, all.1),
     λ both. (checkpoint n).1 ((counts.checkpoint n).1 both.0, both.1),
@@ -131,7 +131,7 @@ module _ (sh : Shape) (image : Units.Units) (b : Checkpoint) (read : Read) (is :
     replied n not_lost replies = record { reaches = reaches; not_lost = kept not_lost; replies = replies }
 
     pub opens_lacking : (n k : ℕ) → NotLost image b.content end.op → IsReplies image b.content found.tail n → LacksReply image b.content (sessions_of sessions) n k → Opens sh image (Refused (Damages (ReplyPlace k)))
-    opens_lacking n k not_lost replies lacks = Unanswered b found.tail n k (replied n not_lost replies) (subst (λ (ss : List Units.Session). LacksReply image b.content ss n k) found.ends.sessions_are lacks)
+    opens_lacking n k not_lost replies lacks = Unanswered b found.tail n k (replied n not_lost replies) (rw found.ends.sessions_are at lacks)
 
     abbrev pub view_of : ℕ → View
     view_of n = record { checkpoint = b; tail = found.tail; replies = n; stored = λ k. stored_by n (slice_get (sessions_after b.parts.sessions found.tail) k) (image (ReplyPlace k)) }
@@ -145,7 +145,7 @@ module _ (sh : Shape) (image : Units.Units) (b : Checkpoint) (read : Read) (is :
       tail = found.is;
       not_lost = kept not_lost;
       replies = replies;
-      stored = law image (view_of n) (subst (λ (ss : List Units.Session). AllAnswered image b.content ss n) found.ends.sessions_are all) (λ k. refl);
+      stored = law image (view_of n) (rw found.ends.sessions_are at all) (λ k. refl);
     }
 
     pub opens_spent : (n : ℕ) → b.content.boot ≡ 2 ^ 62 → StoredAreFound → NotLost image b.content end.op → IsReplies image b.content found.tail n → AllAnswered image b.content (sessions_of sessions) n → Opens sh image (Refused NoBoot)

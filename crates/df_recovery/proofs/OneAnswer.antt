@@ -1,5 +1,5 @@
 -- An image has one answer.
-use Rattle.std.proofs.{Common.{◌≡◌, ℕ, true, List, replicate, Some, None, refl, sym, ◌∙◌, ap, subst}, lemmas.Slice.Eq.{bytes_eq-Decides}}
+use Rattle.std.proofs.{Common.{◌≡◌, ℕ, true, List, replicate, Some, None, refl, sym, ◌∙◌, ap}, lemmas.Slice.Eq.{bytes_eq-Decides}}
 use Rattle.df_base.specs.Image.{Image, blank}
 use Rattle.df_layout.specs.declared.damage.Class.{Class}
 use Rattle.df_format.{specs.{Copies.{Content, content_at, is_blank_copy}, declared.superblock.SuperFault.{SuperFault}, declared.superblock.SuperFault.TheVariants.{Version as OtherVersion, BadField as BrokenField}, declared.superblock.SuperFields.{SuperFields}}, proofs.Laws.{same_copy, blank_copy_none}}
@@ -14,14 +14,14 @@ one_content image c d one two = one_law (content_at image) c d one two
 one_fault : (version : ℕ) (image : Image) (x y : SuperFault) → HasFaultAs version image x → HasFaultAs version image y → x ≡ y
 one_fault version image x y one two =
     let same : one.content ≡ two.content = one_content image one.content two.content one.chosen two.chosen in
-    let fault : fault_as version two.content.fields ≡ Some x = subst (λ (c : Content). fault_as version c.fields ≡ Some x) same one.broken in
+    let fault : fault_as version two.content.fields ≡ Some x = rw same at one.broken in
     let other : fault_as version two.content.fields ≡ Some y = two.broken in
     cc
 
 no_fault : (version : ℕ) (image : Image) (f : SuperFields) (x : SuperFault) → HasSuperAs version image f → HasFaultAs version image x → ⊥
 no_fault version image f x found faulty =
     let same : faulty.content ≡ found.content = one_content image faulty.content found.content faulty.chosen found.chosen in
-    let fault : fault_as version found.content.fields ≡ Some x = subst (λ (c : Content). fault_as version c.fields ≡ Some x) same faulty.broken in
+    let fault : fault_as version found.content.fields ≡ Some x = rw same at faulty.broken in
     let none : fault_as version found.content.fields ≡ None = ap (fault_as version) found.fields ∙ found.usable in
     cc
 

@@ -31,13 +31,13 @@ module _ (version : ℕ) (layout : Layout) (image : Image) where
       let same = one_file one.file two.file one.fields two.fields one.has two.has one.of two.of in
       let usable : IsSuper one.fields = (super_as one.file.version one.fields one.has.super.usable).1 in
       let of_file : FailsTest (shape one.file) (shown_of layout one.file.cluster image) (content_in two.fields) other number =
-      subst (λ (x : DataFile). FailsTest (shape x) (shown_of layout x.cluster image) (content_in two.fields) other number) (sym same.0) two.fails in
+      rw (sym same.0) at two.fails in
       one_test (shape one.file) (shown_of layout one.file.cluster image) (content_in one.fields) field other value number refl usable.op one.fails
-      (subst (λ (g : SuperFields). FailsTest (shape one.file) (shown_of layout one.file.cluster image) (content_in g) other number) (sym same.1) of_file)
+      (rw (sym same.1) at of_file)
 
   same_answer : (a b : DataFile) (f g : SuperFields) (x y : OpenAnswer) → HasFile image a f → HasFile image b g → IsAsked version layout a → IsAsked version layout b → Opens (shape a) (unit_at layout a.cluster image) x → Opens (shape b) (unit_at layout b.cluster image) y → x ≡ y
   same_answer a b f g x y one two first second opens other =
-      one_answer_law (shape a) (unit_at layout a.cluster image) x y opens (subst (λ (z : DataFile). Opens (shape z) (unit_at layout z.cluster image) y) (sym (one_file a b f g one two first second).0) other)
+      one_answer_law (shape a) (unit_at layout a.cluster image) x y opens (rw (sym (one_file a b f g one two first second).0) at other)
 
   one_place : (place other : Place) (class kind : Class) → IsDamagedFile version layout image place class → IsDamagedFile version layout image other kind → (place ≡ other) × (class ≡ kind)
   one_place place other class kind one two =

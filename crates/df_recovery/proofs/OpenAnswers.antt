@@ -70,7 +70,7 @@ module _ (t : Told) (read : Read) (traces : Traces) (after : List Session) (s : 
     replies = kept.replies ∙ sym replies;
     sessions_are = kept.stored.requests ∙ ends.sessions_are;
     stored = stored_kept image v read.replies after s.table.sessions from.shows found.stored ends.sessions_are kept.unstored
-        (subst (λ (n : ℕ). StoresTo n read.replies (length after) after s.table.sessions) (sym replies) kept.stored);
+        (rw (sym replies) at kept.stored);
     count = kept.count;
     headers = headers v found;
     waiting = waits;
@@ -80,7 +80,7 @@ module _ (t : Told) (read : Read) (traces : Traces) (after : List Session) (s : 
   pub kept_answer : AnswersFinding read (Ok traces) after → SurveysAs s.file.version s.file.layout t.shown (Ok s)
   kept_answer answers =
       let first = answers (shape s.file) image base from in
-      let ends : EndsAt first.view.checkpoint first.view.tail traces.tail after = subst (λ (c : Checkpoint). EndsAt c first.view.tail traces.tail after) (sym first.checkpoint) first.ends in
+      let ends : EndsAt first.view.checkpoint first.view.tail traces.tail after = rw first.checkpoint first.ends in
       record {
         has = subst (HasFile t.shown s.file) (sym kept.fields) is.has;
         of = record { version_is = refl; layout_is = refl };
@@ -96,5 +96,5 @@ kept_is_answer t read traces after s is answers kept headers = kept_answer t rea
 -- and the state's head is that of whatever view is found
 pub head_found : (version : ℕ) (layout : Layout) (image : Image) (s : State) → SurveysAs version layout image (Ok s) → (v : View) → IsFound (shape s.file) (unit_at s.file.layout s.file.cluster image) v → head v ≡ s.head
 head_found version layout image s is v found =
-    let here : IsFound (shape s.file) (unit_at layout s.file.cluster image) v = subst (λ (l : Layout). IsFound (shape s.file) (unit_at l s.file.cluster image) v) is.of.layout_is found in
+    let here : IsFound (shape s.file) (unit_at layout s.file.cluster image) v = rw (← is.of.layout_is) found in
     ap head (one_found_law (shape s.file) (unit_at layout s.file.cluster image) v is.view here is.found) ∙ sym (ap (λ (m : Memory). m.head) is.stands)

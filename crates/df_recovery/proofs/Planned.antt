@@ -203,13 +203,13 @@ module _ (layout : Layout) (sh : Shape) (image : Units.Units) (v : View) (scan :
       let takes = is.found.tail.takes own.0 own.1 in
       let n : slots sh ≡ layout.slots = is.slots_are in
       let here : own.0.header.op % slots sh ≡ slot = ap (λ (k : ℕ). k % slots sh) own.2 ∙ ap (λ (k : ℕ). o % k) n ∙ of.slot_is in
-      let shown : image (PreparePlace slot) ≡ Some (PrepareUnit own.0) = subst (λ (k : ℕ). image (PreparePlace k) ≡ Some (PrepareUnit own.0)) here takes.shown in
+      let shown : image (PreparePlace slot) ≡ Some (PrepareUnit own.0) = rw here at takes.shown in
       elim (cases_lt scan.start.head o) [
         | inl above ↦
             let same : decision_of d ≡ decision layout.slots scan.start.boot image o = decided ∙ planned_middle layout.slots top o scan.start image above (omega (arith, low, is.head_is)) in
             let take : Cases.IsTake (decision (slots sh) v.checkpoint.content.boot image own.0.header.op) = takes.take (omega (arith, is.pin, own.2, above)) in
             let plain : Cases.IsTake (decision layout.slots scan.start.boot image o) =
-            subst (λ (k : ℕ). Cases.IsTake (decision k scan.start.boot image o)) n (subst (λ (b : ℕ). Cases.IsTake (decision (slots sh) b image o)) is.boot (subst (λ (k : ℕ). Cases.IsTake (decision (slots sh) v.checkpoint.content.boot image k)) own.2 take)) in
+            rw n at (rw is.boot at (rw own.2 at take)) in
             let is_take : Cases.IsTake (decision_of d) = subst Cases.IsTake (sym same) plain in
             let said = subst (SaysOfSlot scan.start.boot o (image (HeaderPlace slot)) (image (PreparePlace slot))) (sym same) (says slot o of.slot_is) in
             (own.0, own.1, own.2, shown, is_take, own_taken slot o own.0 (decision_of d) shown is_take said)

@@ -46,7 +46,7 @@ entry_there scan slot below =
 
 pub planned_more : (cluster : ℕ) (scan : Scan) (top k : ℕ) (old new : List Header) → k < length old → ArePlanned cluster scan top k old → PutsHeader cluster scan top k old new → ArePlanned cluster scan top (k + 1) new
 planned_more cluster scan top k old new inside before put slot less = elim (cases_eq slot k) [
-  | inl here ↦ subst (λ (n : ℕ). (d : Decision) × IsDecided scan top n d × (slice_get new n ≡ Some (header_by cluster n (entry scan n) (decision_of d)))) (sym here)
+  | inl here ↦ rw here
       (put.0, put.1, ap (λ (xs : List Header). slice_get xs k) put.2 ∙ get_set old k (header_by cluster k (entry scan k) (decision_of put.0)) inside)
   | inr away ↦
       let was = before slot (omega (arith, less, away)) in
@@ -64,8 +64,8 @@ taken_valid : (layout : Layout) (cluster slot : ℕ) (r : Result Header Class) �
 taken_valid layout cluster slot (Ok h) reserved (body, is) =
     let u : Message = record { header = h; body = body } in
     let here : IsInSlot layout slot h = (valid_belongs layout cluster (place_in WalPrepares slot) u is).belongs in
-    let own : IsUnit layout h.cluster (place_in WalPrepares h.slot) u = subst (λ (c : ℕ). IsUnit layout c (place_in WalPrepares h.slot) u) (sym is.owner) (subst (λ (n : ℕ). IsUnit layout cluster (place_in WalPrepares n) u) (sym here.slot) is) in
-    subst (λ (n : ℕ). IsHeader layout cluster n h) here.slot (subst (λ (c : ℕ). IsHeader layout c h.slot h) is.owner (in_header_ring layout u own))
+    let own : IsUnit layout h.cluster (place_in WalPrepares h.slot) u = rw (sym is.owner) at (rw (sym here.slot) at is) in
+    subst (λ (n : ℕ). IsHeader layout cluster n h) here.slot (rw (← is.owner) (in_header_ring layout u own))
 taken_valid layout cluster slot (Err class) reserved there = reserved
 
 by_valid : (layout : Layout) (cluster slot : ℕ) (seen : SlotSeen) (d : Decision) → IsHeader layout cluster slot (reserved_header cluster slot) → IsSlot layout cluster slot seen → IsHeader layout cluster slot (header_by cluster slot seen (decision_of d))
@@ -83,6 +83,6 @@ planned_table layout cluster scan top table named small slots count planned = re
       let below : slot < layout.slots = omega (arith, slice_get_within table slot h at, count) in
       let plan = planned slot below in
       let same : header_by cluster slot (entry scan slot) (decision_of plan.0) ≡ h = same_Some _ _ (sym plan.2 ∙ at) in
-      subst (λ (x : Header). IsHeader layout cluster slot x) same
+      rw same at
       (by_valid layout cluster slot (entry scan slot) plan.0 (reserved_unit layout cluster slot named small below) (slots.each slot (entry scan slot) (entry_there scan slot (omega (arith, below, slots.size)))));
 }

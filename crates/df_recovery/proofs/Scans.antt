@@ -15,7 +15,7 @@ use Rattle.df_recovery.{specs.{Checkpoints.{Base, TellsCheckpoint}, Finding.{IsO
 pub tables_of : (l layout : Layout) (start : Start) (f : SuperFields) (now told : Option Told) (scan : Scan) (replies : List (Result Header Class)) → AreScanned l start.cluster now scan replies → l ≡ layout → start ≡ start_of f → now ≡ told → AreScanned layout f.cluster told scan replies
 tables_of l layout start f now told scan replies are same from still =
     subst (λ (k : Layout). AreScanned k f.cluster told scan replies) same
-    (subst (λ (s : Start). AreScanned l s.cluster told scan replies) from (subst (λ (t : Option Told). AreScanned l start.cluster t scan replies) still are))
+    (rw from at (rw still at are))
 
 tells_synced : (file : DataFile) (told : Option Told) (f : SuperFields) (result : Result Base OpenError) → TellsCheckpoint file (after Sync told) f result → TellsCheckpoint file told f result
 tells_synced file None f result tells = tt
@@ -38,14 +38,14 @@ pub scan_read : (version : ℕ) (layout : Layout) (old new : Option Told) (s : S
 scan_read version layout old new s barrier found served read = record {
   copies = found;
   served = served;
-  behind = behind_synced layout old s (subst (λ (t : Option Told). IsReadBehind layout t s) barrier read);
+  behind = behind_synced layout old s (rw barrier at read);
 }
 
 -- the superblock that was asked for is of a file of its version
 file_asked : (version : ℕ) (image : Image) (f : SuperFields) (file : DataFile) → HasSuperAs version image f → file.version ≡ f.version → (file.version ≡ version) × HasSuperAs file.version image f
 file_asked version image f file has of =
     let same : file.version ≡ version = of ∙ (super_as version f has.usable).0 in
-    (same, subst (λ (v : ℕ). HasSuperAs v image f) (sym same) has)
+    (same, rw (sym same) at has)
 
 -- the superblock is the answer so far
 pub scan_found : (version : ℕ) (layout : Layout) (told : Option Told) (copies : Copies) (s : Scanned) → s.copies ≡ copies
@@ -84,15 +84,15 @@ scanned_as version t layout s whole found scan =
     let cluster : s.rooms.log.slots.start.cluster ≡ s.copies.found.content.cluster = ap (λ (x : Start). x.cluster) read.start in
     record {
       image = whole;
-      has = record { super = asked.1; layout = subst (λ (l : Layout). IsLayoutOf l s.copies.found.content) (sym read.file.layout_is) scan.served.layout_is; cluster = sym read.file.cluster_is };
+      has = record { super = asked.1; layout = rw (sym read.file.layout_is) at scan.served.layout_is; cluster = sym read.file.cluster_is };
       choice = found.choice;
       chosen_is = found.content;
       layout = refl;
       cluster = cluster ∙ sym read.file.cluster_is;
       start = read.start;
       scanned = record {
-        slots = subst (λ (l : Layout). rings.IsScanned l (Some t) s.rooms.log.slots) (sym read.file.layout_is) read.tables.rings;
-        replies = subst (λ (l : Layout). slots.AreRepliesScanned l s.rooms.log.slots.start.cluster (Some t) s.rooms.log.replies) (sym read.file.layout_is) (subst (λ (n : ℕ). slots.AreRepliesScanned layout n (Some t) s.rooms.log.replies) (sym cluster) read.tables.replies_are);
+        slots = rw (sym read.file.layout_is) at read.tables.rings;
+        replies = rw (sym read.file.layout_is) at (rw (sym cluster) at read.tables.replies_are);
       };
       checkpoint = read.checkpoint;
       sessions = refl;

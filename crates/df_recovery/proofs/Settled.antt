@@ -35,7 +35,7 @@ lawful version layout told x scan =
         cluster_is = sym read.file.cluster_is;
       };
       start = read.start;
-      slots = subst (λ (l : Layout). AreSlots l x.file.cluster x.rooms.log.slots.slots) (sym read.file.layout_is) (subst (λ (n : ℕ). AreSlots layout n x.rooms.log.slots.slots) cluster read.tables.rings.is_table);
+      slots = rw (sym read.file.layout_is) at (rw cluster at read.tables.rings.is_table);
       places = read.places ∙ ap (λ (l : Layout). l.clients) (sym read.file.layout_is);
       idle = read.idle;
     }
@@ -45,9 +45,9 @@ pub numbered_by : (before after : List Session) → sessions_of after ≡ sessio
 numbered_by before after same within k s at = from (slice_get before k) refl (sym (slice_get-map session_of before k) ∙ sym (ap (λ (ss : List Units.Session). slice_get ss k) same) ∙ slice_get-map session_of after k ∙ ap (option_map session_of) at)
   where
     from : (o : Option Session) → slice_get before k ≡ o → option_map session_of (slice_get before k) ≡ Some (session_of s) → s.request ≤ 2 ^ 62
-    from None there is = absurd (let no : option_map session_of None ≡ Some (session_of s) = subst (λ (x : Option Session). option_map session_of x ≡ Some (session_of s)) there is in cc)
+    from None there is = absurd (let no : option_map session_of None ≡ Some (session_of s) = rw there at is in cc)
     from (Some t) there is =
-        let both : Some (session_of t) ≡ Some (session_of s) = subst (λ (x : Option Session). option_map session_of x ≡ Some (session_of s)) there is in
+        let both : Some (session_of t) ≡ Some (session_of s) = rw there at is in
         subst (λ (n : ℕ). n ≤ 2 ^ 62) (ap (λ (x : Units.Session). x.request) (same_Some _ _ both)) (within k t there)
 
 pub if_ok_more : {T E : Type 0} → (P Q : T → Type 0) (r : Result T E) → ((x : T) → P x → Q x) → IfOk r P → IfOk r Q
@@ -81,7 +81,7 @@ module _ (t : Told) (x : Scanned) (is : IsOfFile t x.file (read_of x) (base_scan
     base_is = λ i. record { root = (ap (λ r. r.items) (keeps.root ∙ root_is)) i; sessions = x.sessions.sessions; blocks = (keeps.blocks ∙ blocks_are) i }
 
     own : IsOfFile t s.file (read_of x) (base_with s x.sessions.sessions)
-    own = subst (λ (b : Base). IsOfFile t s.file (read_of x) b) (sym base_is) (subst (λ (file : DataFile). IsOfFile t file (read_of x) (base_scanned x)) (sym file_is) is)
+    own = subst (λ (b : Base). IsOfFile t s.file (read_of x) b) (sym base_is) (rw file_is is)
 
     abbrev image : Units.Units
     image = unit_at s.file.layout s.file.cluster t.shown
@@ -93,7 +93,7 @@ module _ (t : Told) (x : Scanned) (is : IsOfFile t x.file (read_of x) (base_scan
       head_checksum = ap (λ (r : Traces). r.tail.checksum) traces_are;
       replies = ap (λ (r : Traces). r.replies) traces_are;
       unstored = unstored;
-      stored = subst (λ table. StoresTo traces.replies x.rooms.log.replies (length after) after table.sessions) (sym keeps.sessions) stores;
+      stored = rw (sym keeps.sessions) at stores;
       count = plan.plan.is_table.count;
       waiting = waiting ∙ (λ i. waiting_in ((sym keeps.file) i).layout.slots (of.slots i) y.scanned.rooms.log.headers ((sym traces_are) i).replies ((sym traces_are) i).tail.op);
       starts = record { staged = refl; running = refl; tour = refl; findings = refl };
@@ -106,7 +106,7 @@ module _ (t : Told) (x : Scanned) (is : IsOfFile t x.file (read_of x) (base_scan
         let content : v.checkpoint.content ≡ base.content = one_chosen_law image v.checkpoint.content base.content is_found.chosen read.readable.chosen in
         let start : y.scanned.rooms.log.slots.start ≡ start_of x.copies.found.content = ap (λ (r : Scan). r.start) (keeps.slots ∙ of.slots) ∙ is.start in
         let tells : TellsRings s.file.layout image y.scanned.rooms.log.slots =
-        subst (λ (r : Scan). TellsRings s.file.layout image r) (sym (keeps.slots ∙ of.slots)) (subst (λ (file : DataFile). TellsRings file.layout image x.rooms.log.slots) (sym file_is) read.tells) in
+        rw (sym (keeps.slots ∙ of.slots)) at (rw (sym file_is) at read.tells) in
         let here = plan.plan.from (shape s.file) image v (record {
           slots_are = refl;
           op = ap (λ (c : Content). c.op) content ∙ sym (ap (λ (r : Start). r.op) start);
@@ -116,11 +116,11 @@ module _ (t : Told) (x : Scanned) (is : IsOfFile t x.file (read_of x) (base_scan
           tells = tells;
           found = is_found;
         }) slot in
-        subst (λ (u : Units.Header). IsSlotHeader (shape s.file) image v slot u) (ap header_or_none at) here
+        rw (ap header_or_none at) at here
       where
         top_is : (v : View) → IsFound (shape s.file) image v → head v ≡ y.traces.tail.op
         top_is v is_found =
-            ends_there traces after answers v (subst (λ (file : DataFile). IsFound (shape file) (unit_at file.layout file.cluster t.shown) v) file_is is_found)
+            ends_there traces after answers v (rw file_is at is_found)
             ∙ sym (ap (λ (r : Traces). r.tail.op) traces_are)
 
     pub opened : SurveysAs x.file.version x.file.layout t.shown (Ok s)
@@ -190,20 +190,20 @@ module _ (t : Told) (x : Scanned) (is : IsOfFile t x.file (read_of x) (base_scan
       let members = x.copies.found.chosen.members in
       let top = y.traces.tail.op in
       let here : ArePlannedFrom x.file.layout x.file.cluster scan top x.copies.slots members y.scanned.rooms.log.headers y.scanned.rooms.log.mends.items =
-      subst (λ (file : DataFile). ArePlannedFrom file.layout file.cluster scan top x.copies.slots members y.scanned.rooms.log.headers y.scanned.rooms.log.mends.items) of.file
-      (subst (λ (r : Scan). ArePlannedFrom y.scanned.file.layout y.scanned.file.cluster r top x.copies.slots members y.scanned.rooms.log.headers y.scanned.rooms.log.mends.items) of.slots
-      (subst (λ (c : Copies). ArePlannedFrom y.scanned.file.layout y.scanned.file.cluster y.scanned.rooms.log.slots top c.slots c.found.chosen.members y.scanned.rooms.log.headers y.scanned.rooms.log.mends.items) of.copies plan.plan)) in
+      rw of.file at
+      (rw of.slots at
+      (rw of.copies at plan.plan)) in
       let each : ArePlanned x.file.cluster scan top layout.slots y.scanned.rooms.log.headers =
-      subst (λ (file : DataFile). ArePlanned file.cluster scan top file.layout.slots y.scanned.rooms.log.headers) of.file
-      (subst (λ (r : Scan). ArePlanned y.scanned.file.cluster r top y.scanned.file.layout.slots y.scanned.rooms.log.headers) of.slots plan.each) in
-      let tells : TellsRings layout image scan = subst (λ (n : ℕ). TellsRings layout (unit_at layout n t.shown) scan) cluster (rings_shown layout t scan is.scanned.slots) in
+      rw of.file at
+      (rw of.slots at plan.each) in
+      let tells : TellsRings layout image scan = rw (← cluster) (rings_shown layout t scan is.scanned.slots) in
       let list = here.list image tells ∙ ap (λ (xs : List Mend). xs ++ slot_mends (needs_header layout scan.start top image) (shown_class scan) layout.slots) (copies_listed members)
       ∙ ap (λ (xs : List Mend). map (copy_mend_at t.shown) (filter (λ n. not (get_or members n false)) (range_with_len 0 4)) ++ xs) (slots_listed top) in
       record {
-        choice = subst (λ (c : Copies). IsChoiceOf t.shown c.found.chosen) (sym of.copies) is.choice;
+        choice = rw (sym of.copies) at is.choice;
         four = plan.four;
-        table = subst (λ (c : Copies). y.scanned.rooms.log.headers ≡ headers_of layout t.shown c.found.content top) (sym of.copies) (headers_shown top y.scanned.rooms.log.headers here.is_table.count tells each);
-        mends = subst (λ (c : Copies). y.scanned.rooms.log.mends.items ≡ mends_of layout t.shown c.found.content top c.found.chosen.members) (sym of.copies) list;
+        table = rw (sym of.copies) at (headers_shown top y.scanned.rooms.log.headers here.is_table.count tells each);
+        mends = rw (sym of.copies) at list;
       }
 
 -- ---- what a disk tells
@@ -223,7 +223,7 @@ module _ (version : ℕ) (x : Scanned) (layout : Layout) where
       → ((t : Told) → IsOfFile t x.file (read_of x) (base_scanned x) → SurveysAs x.file.version x.file.layout t.shown r) → TellsSurveyAs version layout told r
   told_answer r None reads from law = tt
   told_answer r (Some t) reads from law =
-      λ image. subst (λ (l : Layout). SurveysAs version l t.shown r) from.behind.file.layout_is (subst (λ (v : ℕ). SurveysAs v x.file.layout t.shown r) (version_is (Some t) from) (law t (scanned_as version t layout x image reads from)))
+      λ image. subst (λ (l : Layout). SurveysAs version l t.shown r) from.behind.file.layout_is (rw (version_is (Some t) from) at (law t (scanned_as version t layout x image reads from)))
 
 -- ---- what was read, of a file of which the sessions may differ
 
@@ -233,9 +233,9 @@ told_found version l (Some t) x reads = reads
 
 pub read_kept : (version : ℕ) (layout : Layout) (told : Option Told) (x y : Scanned) → TellsReadAs version (λ (z : Scanned). z.copies.found) layout told (Ok x) → IsScanAs version layout told x → KeepsScannedFile x y → IsReadOf version layout told y
 read_kept version layout told x y reads scan of = record {
-  file = subst (λ (c : Copies). IsFileOf layout c.found.content y.file) (sym of.copies) (subst (IsFileOf layout x.copies.found.content) (sym of.file) scan.behind.file);
+  file = rw (sym of.copies) at (subst (IsFileOf layout x.copies.found.content) (sym of.file) scan.behind.file);
   copies = subst (AreCopies version told) (sym of.copies) scan.copies;
-  found = subst (λ (c : Copies). TellsFoundAs version told (Ok c.found)) (sym of.copies) (told_found version layout told x reads);
+  found = rw (sym of.copies) at (told_found version layout told x reads);
   start = ap (λ (r : Scan). r.start) of.slots ∙ scan.behind.start ∙ ap (λ (c : Copies). start_of c.found.content) (sym of.copies);
   rings_are = subst (rings.IsScanned layout told) (sym of.slots) scan.behind.tables.rings;
 }

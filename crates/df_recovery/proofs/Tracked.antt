@@ -18,14 +18,14 @@ of_list : (ss : List Session) (k : ℕ) (s : Units.Session) → slice_get (sessi
 of_list ss k s at = pick (slice_get ss k) refl (sym (slice_get-map session_of ss k) ∙ at)
   where
     pick : (o : Option Session) → slice_get ss k ≡ o → option_map session_of (slice_get ss k) ≡ Some s → IsOf ss k s
-    pick None there is = absurd (let no : option_map session_of None ≡ Some s = subst (λ (y : Option Session). option_map session_of y ≡ Some s) there is in cc)
+    pick None there is = absurd (let no : option_map session_of None ≡ Some s = rw there at is in cc)
     pick (Some x) there is =
-        let yes : option_map session_of (Some x) ≡ Some s = subst (λ (y : Option Session). option_map session_of y ≡ Some s) there is in
+        let yes : option_map session_of (Some x) ≡ Some s = rw there at is in
         record { from = x; at = there; is = (let one : session_of x ≡ s = cc in one) }
 
 pub tracked : (places replies op : ℕ) (ss : List Session) → AreReadSessions places op ss → IsPendingReply ss replies op None → Tracks replies op (sessions_of ss)
 tracked places replies op ss read pending = record {
-  below = λ k s at. let f = of_list ss k s at in subst (λ (x : Units.Session). x.op ≤ op) f.is (read.each k f.from f.at).op_is.1;
+  below = λ k s at. let f = of_list ss k s at in rw (← f.is) (read.each k f.from f.at).op_is.1;
   apart = λ j k s t one two same.
       let f = of_list ss j s one in
       let g = of_list ss k t two in
@@ -36,7 +36,7 @@ tracked places replies op ss read pending = record {
 -- so they make sense by themselves
 pub of_checkpoint : (places : ℕ) (f : SuperFields) (ss : List Session) → AreReadSessions places f.op ss → IsPendingReply ss f.replies f.op None → AreOfCheckpoint f ss
 of_checkpoint places f ss read pending = record {
-  asked = λ k s at. let g = of_list ss k s at in subst (λ (x : Units.Session). 0 < x.request) g.is (read.each k g.from g.at).request.0;
+  asked = λ k s at. let g = of_list ss k s at in rw (← g.is) (read.each k g.from g.at).request.0;
   numbered = λ k s at. (read.each k s at).request.1;
   unstored = λ k s at. (read.each k s at).reply;
   tracks = tracked places f.replies f.op ss read pending;

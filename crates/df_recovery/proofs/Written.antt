@@ -1,5 +1,5 @@
 -- A superblock that can be used was written: its content is the one that its fields give.
-use Rattle.std.proofs.Common.{◌≡◌, ℕ, ◌==◌, Bool, true, false, cond, List, Option, Some, None, refl, sym, ◌∙◌, ap, subst}
+use Rattle.std.proofs.Common.{◌≡◌, ℕ, ◌==◌, Bool, true, false, cond, List, Option, Some, None, refl, sym, ◌∙◌, ap}
 use Rattle.df_base.specs.{Fields.{check_of}, Image.{Image, IsImage, IsSector}}
 use Rattle.df_format.{specs.{Super.{covered_bytes}, SuperRules.{IsSuper}, Copies.{Content, copy_in, if_here, copy_at, content_in_copy, content_at, content_with}, CopyLaws.{IsWrittenCopy}, declared.superblock.SuperCopy.{SuperCopy}, declared.superblock.SuperFields.{SuperFields}}, proofs.Laws.{was_written}}
 use Rattle.df_recovery.{proofs.Asked.{super_as}, specs.{Opening.{HasSuperAs}, OpeningLaws.{SuperIsWritten}}}
@@ -43,4 +43,4 @@ written_as version image f whole found =
     same ∙ ap content_with found.fields
 
 pub super_is_written_as : SuperIsWritten
-super_is_written_as version image f whole found = subst (λ (c : Content). IsChosenContent (content_at image) c) (written_as version image f whole found) found.chosen
+super_is_written_as version image f whole found = rw (written_as version image f whole found) at found.chosen

@@ -17,7 +17,7 @@ within_more number n k replies reply at all le j other less there = elim (cases_
       let same : j ≡ k = omega arith in
       let both : Some other ≡ Some reply = sym there ∙ ap (slice_get replies) same ∙ at in
       let one : reply ≡ other = cc in
-      subst (λ (x : Result Header Class). number x ≤ n) one le
+      rw one at le
 ]
 
 within_fewer : (number : Result Header Class → ℕ) (n k : ℕ) (replies : List (Result Header Class)) → AreNotAbove number n (k + 1) replies → AreNotAbove number n k replies

@@ -1,5 +1,5 @@
 -- A sound reply stands in the slot that its header names.
-use Rattle.std.proofs.Common.{◌≡◌, sym, subst}
+use Rattle.std.proofs.Common.{◌≡◌, sym}
 use Rattle.df_layout.specs.{declared.layout.Layout.{Layout}, declared.places.Place.{Place}, declared.places.Zone.{Zone}, declared.places.Zone.TheVariants.{ClientReplies}}
 use Rattle.df_format.{specs.{declared.kind.Kind.TheVariants.{Reply as AsReply}, Valid.{Belongs, IsOfSession, IsUnit}}, proofs.Laws.{valid_belongs}}
 use Rattle.df_buffers.specs.Sounds.{Holding, IsSound}
@@ -9,6 +9,6 @@ pub in_own_slot : (layout : Layout) (held : Holding) → IsSound ClientReplies A
 in_own_slot layout held sound same =
     let u = held.unit in
     let there = valid_belongs held.layout u.header.cluster sound.place u sound.is in
-    let of : IsOfSession sound.place.index u.header = subst (λ (z : Zone). Belongs held.layout z sound.place.index u.header) sound.in_zone there.belongs in
+    let of : IsOfSession sound.place.index u.header = rw sound.in_zone at there.belongs in
     let here : sound.place ≡ reply_place u.header.slot = λ i. record { zone = sound.in_zone i; index = sym of.slot i } in
-    subst (λ (l : Layout). IsUnit l u.header.cluster (reply_place u.header.slot) u) same (subst (λ (p : Place). IsUnit held.layout u.header.cluster p u) here sound.is)
+    rw same at (rw here at sound.is)

@@ -13,14 +13,14 @@ use Rattle.df_replies.{specs.{declared.answers.Lacking.{Lacking}, Named.{IsNamed
 -- the content of a superblock names a reply with this header where the superblock does
 named : (f : SuperFields) (k : ℕ) (h : Header) (r : Message) → r.header ≡ header_of h → IsNamedBy f k h → IsNamed (content_of (content_with f)) k r
 named f k h r is by = record {
-  old = λ less. by.old (subst (λ (x : Units.Header). x.op < answered_of f) is less) ∙ sym (ap (λ (x : Units.Header). x.checksum) is);
-  new = λ from. ap (λ (x : Units.Header). x.boot) is ∙ by.new (subst (λ (x : Units.Header). answered_of f ≤ x.op) is from);
+  old = λ less. by.old (rw is at less) ∙ sym (ap (λ (x : Units.Header). x.checksum) is);
+  new = λ from. ap (λ (x : Units.Header). x.boot) is ∙ by.new (rw is at from);
 }
 
 named_by : (f : SuperFields) (k : ℕ) (h : Header) (r : Message) → r.header ≡ header_of h → IsNamed (content_of (content_with f)) k r → IsNamedBy f k h
 named_by f k h r is by = record {
-  old = λ less. by.old (subst (λ (x : Units.Header). x.op < answered_of f) (sym is) less) ∙ ap (λ (x : Units.Header). x.checksum) is;
-  new = λ from. sym (ap (λ (x : Units.Header). x.boot) is) ∙ by.new (subst (λ (x : Units.Header). answered_of f ≤ x.op) (sym is) from);
+  old = λ less. by.old (rw is less) ∙ ap (λ (x : Units.Header). x.checksum) is;
+  new = λ from. sym (ap (λ (x : Units.Header). x.boot) is) ∙ by.new (rw is from);
 }
 
 answers_shown : (f : SuperFields) (image : Units.Units) (k : ℕ) (s : Session) (reply : Result Header Class) → ShowsReply (image (ReplyPlace k)) reply → AnswersIn f k s reply ↔ IsAnswered image (content_of (content_with f)) k (session_of s)
@@ -57,7 +57,7 @@ module _ (f : SuperFields) (image : Units.Units) (replies : List (Result Header 
   answered_before : (k : ℕ) → AnsweredTo f ss n replies k → (j : ℕ) (s : Units.Session) → j < k → slice_get (sessions_of ss) j ≡ Some s → s.op ≤ n → IsAnswered image c j s
   answered_before k before j s less at stored =
       let t = session_there ss j s at in
-      let answer = before j t.0 less t.1 (subst (λ (x : Units.Session). x.op ≤ n) t.2 stored) in
+      let answer = before j t.0 less t.1 (rw t.2 at stored) in
       subst (IsAnswered image c j) (sym t.2) ((answers_shown f image j t.0 answer.0 (shows.each j answer.0 answer.1)).0 answer.2)
 
   first_lacks : (lacking : Lacking) → IsFirstLacking f ss n replies lacking → LacksReply image c (sessions_of ss) n lacking.place

@@ -16,7 +16,7 @@ asks_on : (room fewer more op : ℕ) (rs : List Request) (ss : List Units.Sessio
 asks_on room fewer more op [] ss later asks = tt
 asks_on room fewer more op (r ∷ rs) ss later asks = (
   ask_on room (asker_of fewer op r) (asker_of more op r) ss refl refl later asks.0,
-  subst (λ (x : List Units.Session). MayAskInTurn room x (asks_of more (op + 1) rs)) (noted_as fewer more op r ss) (asks_on room fewer more (op + 1) rs (noted (asker_of fewer op r) ss) later asks.1),
+  rw (noted_as fewer more op r ss) at (asks_on room fewer more (op + 1) rs (noted (asker_of fewer op r) ss) later asks.1),
 )
 
 -- ---- in a state
@@ -48,7 +48,7 @@ later_on layout op later head fewer more ss rs further replies old = record {
 pub staging_on : (s t : State) → t.file ≡ s.file → t.staged ≡ s.staged → t.head ≡ s.head → s.fields.op ≤ t.fields.op → s.replies ≤ t.replies → sessions_of t.table.sessions ≡ sessions_of s.table.sessions → AreStaging s → AreStaging t
 staging_on s t file staged head op replies sessions old =
     let later : Stages s.file.layout t.fields.op s.head t.replies (sessions_of s.table.sessions) s.staged = later_on s.file.layout s.fields.op t.fields.op s.head s.replies t.replies (sessions_of s.table.sessions) s.staged op replies old in
-    subst (λ (f : DataFile). Stages f.layout t.fields.op t.head t.replies (sessions_of t.table.sessions) t.staged) (sym file)
-    (subst (λ (n : ℕ). Stages s.file.layout t.fields.op n t.replies (sessions_of t.table.sessions) t.staged) (sym head)
-    (subst (λ (ss : List Units.Session). Stages s.file.layout t.fields.op s.head t.replies ss t.staged) (sym sessions)
-    (subst (λ (rs : List Request). Stages s.file.layout t.fields.op s.head t.replies (sessions_of s.table.sessions) rs) (sym staged) later)))
+    rw (sym file) at
+    (rw (sym head) at
+    (rw (sym sessions) at
+    (rw (sym staged) at later)))

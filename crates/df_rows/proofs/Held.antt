@@ -27,10 +27,10 @@ key_cases m k = by_option (map.get m k)
 
 -- a place in a list that is another one's, under the same key
 pub same_place : (ds es : List Entry) (j k i : ℕ) → ds ≡ es → j ≡ k → IsAt ds j i → IsAt es k i
-same_place ds es j k i list key at = subst (λ (l : List Entry). IsAt l k i) list (subst (λ (n : ℕ). IsAt ds n i) key at)
+same_place ds es j k i list key at = subst (λ (l : List Entry). IsAt l k i) list (rw key at at)
 
 pub same_gap : (ds es : List Entry) (j k i : ℕ) → ds ≡ es → j ≡ k → IsGap ds j i → IsGap es k i
-same_gap ds es j k i list key gap = subst (λ (l : List Entry). IsGap l k i) list (subst (λ (n : ℕ). IsGap ds n i) key gap)
+same_gap ds es j k i list key gap = subst (λ (l : List Entry). IsGap l k i) list (rw key at gap)
 
 module _ (max room : ℕ) (es : List Entry) (t : Table) (is : table_of max es ≡ t) (are : AreRows max room es) where
   pub max_is : t.max ≡ max

@@ -1,5 +1,5 @@
 -- What a table takes: rows in turn, the rows of bodies, and that bodies are one table.
-use Rattle.std.{proofs.{Common.{◌≡◌, ◌≢◌, ℕ, zero, suc, ◌+◌, ◌*◌, ◌<◌, ◌≤◌, eqb, cond, Bool, true, false, ◌&&◌, List, [], ◌∷◌, ◌++◌, length, take, drop, ◌-◌, map, Option, Some, None, is_some, inl, inr, refl, sym, ap, subst, ◌∙◌, arith, length-append}, Math.Dec.{T}, lemmas.Bool.{cases_eq, eq-eqb, ne_eqb}, lemmas.List.{drop-drop, take-append-drop}, lemmas.List.Elements.{All-cons, All-head, All-nil, All-tail}}, specs.{List.{All}, Ordering.{is_lt, nat_cmp}, Cmp.{nat_cmp_total}, FinMap.{get-entries, get-empty, entries_sorted, is_sorted, len-insert, len-empty, len-entries}, FinMap.Entries.{below_all}}}
+use Rattle.std.{proofs.{Common.{◌≡◌, ◌≢◌, ℕ, zero, suc, ◌+◌, ◌*◌, ◌<◌, ◌≤◌, eqb, cond, Bool, true, false, ◌&&◌, List, [], ◌∷◌, ◌++◌, length, take, drop, ◌-◌, map, Option, Some, None, is_some, inl, inr, refl, sym, ap, ◌∙◌, arith, length-append}, Math.Dec.{T}, lemmas.Bool.{cases_eq, eq-eqb, ne_eqb}, lemmas.List.{drop-drop, take-append-drop}, lemmas.List.Elements.{All-cons, All-head, All-nil, All-tail}}, specs.{List.{All}, Ordering.{is_lt, nat_cmp}, Cmp.{nat_cmp_total}, FinMap.{get-entries, get-empty, entries_sorted, is_sorted, len-insert, len-empty, len-entries}, FinMap.Entries.{below_all}}}
 use Rattle.std.specs.FinMap as finite
 use Rattle.df_base.proofs.Laws.{same_front}
 use Rattle.df_rows.{specs.{Rows.{Entry, IsEntry, row_of, rows_of}, Commands.{Map}, Sorted.{KeysRise, key_at}, Tables.{AreNew, IsNew, Table, with_row, with_rows}, Blocks.{TableTakes, TakesAll, chunks_of}, Laws.{BlocksAreTable, OneTable}}, proofs.{Entries.{length-row_of, row_split}, Found.{find_looks, look, look_none}, Viewed.{get_inserted, rise_tail, same_maps}, Chunked.{joined, joined_chunks}}}
@@ -30,7 +30,7 @@ pub one_table : OneTable
 one_table t one other [] first second = first ∙ sym second
 one_table t one other (body ∷ bodies) first second =
     let same : second.0 ≡ first.0 = one_body t body second.0 first.0 second.1 first.1 in
-    one_table (with_rows first.0 t) one other bodies first.2 (subst (λ (es : List Entry). TakesAll (with_rows es t) bodies other) same second.2)
+    one_table (with_rows first.0 t) one other bodies first.2 (rw same at second.2)
 
 -- ---- rows in turn
 
@@ -170,7 +170,7 @@ blocks_are_table per t some fit few =
     let joins = joined_chunks per es some in
     let room : finite.len none.rows + length es ≤ t.max = omega (arith, len-empty nat_cmp (List ℕ), len-entries t.rows, few) in
     let new : AreNew es none = all_new es none (entries_rise t.rows) (λ j inside. get-empty nat_cmp (key_at es j)) room in
-    chunks_taken (chunks_of per es) none t (subst (λ (l : List Entry). All IsEntry l) (sym joins) fit) (subst (λ (l : List Entry). AreNew l none) (sym joins) new)
+    chunks_taken (chunks_of per es) none t (rw (sym joins) at fit) (rw (sym joins) at new)
     (all_back t ∙ ap (λ (l : List Entry). with_rows l none) (sym joins))
 
 -- ---- a body that is read row by row
@@ -201,7 +201,7 @@ refused_rest t e bytes rest (f ∷ es) is same refused takes =
     let first = All-head IsEntry f es takes.fit in
     let parts = row_split e f rest (rows_of es) is first (ap (λ (l : List ℕ). l ++ rest) (sym same) ∙ takes.whole) in
     let key : f ≡ e = sym parts.0 in
-    refused es (record { whole = parts.1; fit = All-tail IsEntry f es takes.fit; new = subst (λ (x : Entry). AreNew es (with_row x t)) key takes.new.1 })
+    refused es (record { whole = parts.1; fit = All-tail IsEntry f es takes.fit; new = rw key at takes.new.1 })
 
 -- a body of whole rows has a multiple of 64 bytes
 pub whole_rows : (t : Table) (body : List ℕ) (es : List Entry) → TableTakes t body es → length body ≡ 64 * length es

@@ -46,7 +46,7 @@ pub only : (line name words known : List ℕ) → Cuts line name words → name 
 only line name words known cuts is none said says =
     let same = is_named said known (sym is ∙ cut_name line name words (name_of said) cuts (begun line said says)) in
     let whole : line ≡ known ++ (32 ∷ words) = cuts.whole ∙ ap (λ (l : List ℕ). l ++ (32 ∷ words)) is in
-    none (key_of said) (value_of said) (subst (λ (s : Said). SaysTableLine (known ++ (32 ∷ words)) s) same (subst (λ (l : List ℕ). SaysTableLine l said) whole says))
+    none (key_of said) (value_of said) (rw same at (rw whole at says))
 
 -- what a put says of the words after its name
 pub putting : (words : List ℕ) (most key : ℕ) (value : List ℕ) → 2 ^ 128 ≤ most + 1 → SaysTableLine (codes "put " ++ words) (Put key value) → AreSized words most key value

@@ -27,7 +27,7 @@ module _ (file : DataFile) (g : Grade) where
   behind (suc k) w s old base [] t new log same live keeps NoCalls since = absurd since
   behind (suc k) w s old base (x ∷ xs) t new log same live keeps (More u mid call rest) since =
       let es = call.call.events in
-      let then = subst (λ (f : DataFile). Keeps g u (next f w x.act.given x.act.command).0 (after_all es base)) same (call.call.keeps g w base keeps).1.1 in
+      let then = rw same at (call.call.keeps g w base keeps).1.1 in
       let later = behind k (next file w x.act.given x.act.command).0 u mid (after_all es base) xs t new log (call.call.file ∙ same) call.call.live then rest since in
       let ends = after_append es (call_events rest) base ∙ later.ends in
       record { replica = later.replica; old = later.old; told = later.told; same = later.same; live = later.live; keeps = later.keeps; calls = later.calls; ends = ends; since = later.since }
@@ -46,7 +46,7 @@ module _ (file : DataFile) (g : Grade) where
     midway_answered until =
         let served = all_served b.replica t b.old new (drop k xs) b.live b.calls in
         subst (λ (l : List Act). IsMidway file g (work_after file w (acts_in (take k xs))) l log) (sym (append-nil (acts_in (drop k xs))))
-        (at_moment b.replica (work_after file w (acts_in (take k xs))) (acts_in (drop k xs)) b.told (after_all events (Some b.told)) log b.same (served.kept_on g (work_after file w (acts_in (take k xs))) (Some b.told) b.keeps).0 b.since (subst (λ (o : Option Told). IsUntil o log) b.ends until))
+        (at_moment b.replica (work_after file w (acts_in (take k xs))) (acts_in (drop k xs)) b.told (after_all events (Some b.told)) log b.same (served.kept_on g (work_after file w (acts_in (take k xs))) (Some b.told) b.keeps).0 b.since (rw b.ends at until))
 
     -- where the disk failed in one more
     midway_failed : (a : Act) (u : Replica) (end : Option Told) → (call : Calls a t u new end None) → IsUntil (after_all call.call.events last) log → IsMidway file g (work_after file w (acts_in (take k xs))) (acts_in (drop k xs) ++ a ∷ []) log
@@ -54,7 +54,7 @@ module _ (file : DataFile) (g : Grade) where
         let served = all_served b.replica t b.old new (drop k xs) b.live b.calls in
         let stopped = fault_stops_them b.replica t u b.old new end (drop k xs) events a served call.call in
         at_moment b.replica (work_after file w (acts_in (take k xs))) (acts_in (drop k xs) ++ a ∷ []) b.told (after_all (events ++ call.call.events) (Some b.told)) log b.same (stopped.moments g (work_after file w (acts_in (take k xs))) (Some b.told) b.keeps) b.since
-        (subst (λ (o : Option Told). IsUntil o log) (ap (after_all call.call.events) b.ends ∙ sym (after_append events call.call.events (Some b.told))) until)
+        (rw (ap (after_all call.call.events) b.ends ∙ sym (after_append events call.call.events (Some b.told))) at until)
 
   midway : (w : Work) (s t : Replica) (old new base : Option Told) (xs : List Exchange) (failed : Option Act) → s.file ≡ file → s.live ≡ true → Keeps g s w base → (calls : EndsCalls s t old new xs failed) → (k : ℕ) (log : Log)
       → HadAnswers k base log s t old new xs failed calls → IsUntil (after_all (events_to s t old new xs failed calls) base) log → IsMidway file g (work_after file w (acts_in (take k xs))) (acts_in (drop k xs) ++ list_of failed) log
@@ -63,7 +63,7 @@ module _ (file : DataFile) (g : Grade) where
   midway w s t old new base xs (Some a) same live keeps calls k log had until =
       let es = call_events calls.2 in
       midway_failed k w xs calls.0 calls.1 (after_all es base) log (behind k w s old base xs calls.0 calls.1 log same live keeps calls.2 had) a t new calls.3
-      (subst (λ (o : Option Told). IsUntil o log) (after_append es calls.3.call.events base) until)
+      (rw (after_append es calls.3.call.events base) at until)
 
 pub keeps_answered : (file : DataFile) (g : Grade) (w : Work) (base : Option Told) (c : CallsMade) → c.from.file ≡ file → c.from.live ≡ true → Keeps g c.from w base → KeepsAnswered file g w base c
 keeps_answered file g w base c same live keeps k log had until = midway file g w c.from c.to c.old c.new base c.exchanges c.failed same live keeps c.calls k log had until

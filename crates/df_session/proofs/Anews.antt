@@ -52,8 +52,8 @@ calls_keep_anew t s mended found to new xs failed calls whole live g view is dis
     let w : Work = begun_work s.file t.shown view in
     let anew = found.anew g view whole is distinct stands in
     let same : (told_after es (restarted t)).shown ≡ n.shown = same_goes_on es (did Sync t) (restarted t) refl in
-    let started : IsKept g s w (restarted (told_after es (restarted t))).log = subst (λ (x : Work). IsKept g s x (restarted (told_after es (restarted t))).log) (begun_is_work t s mended found view whole is) anew.kept_for in
-    let there : IsKept g s w (restarted n).log = subst (λ (m : Image). IsKept g s w (record { start = m; events = [] })) same started in
+    let started : IsKept g s w (restarted (told_after es (restarted t))).log = rw (begun_is_work t s mended found view whole is) at anew.kept_for in
+    let there : IsKept g s w (restarted n).log = rw same at started in
     let by : OpenedOver g s (kept w) w (restarted n) (did Sync (restarted n)) = opened_begun g s w n there in
     record {
       opening = anew.moments;

@@ -51,8 +51,8 @@ pub begun_is_work : BegunIsWork
 begun_is_work t s mended over view whole found =
     let f : State = over.found in
     let found_there : IsFound (shape f.file) (unit_at f.file.layout f.file.cluster t.shown) view =
-    subst (λ (x : DataFile). IsFound (shape x) (unit_at x.layout x.cluster t.shown) view) (ap (λ (r : State). r.file) over.raised) found in
+    rw (ap (λ (r : State). r.file) over.raised) at found in
     let shown : unit_at f.file.layout f.file.cluster (image_after over.mending.events t.shown) (CopyPlace 0) ≡ Some (CopyUnit (content_of (content_with (boot_fields f)))) =
-    subst (λ (r : State). unit_at r.file.layout r.file.cluster (image_after over.mending.events t.shown) (CopyPlace 0) ≡ Some (CopyUnit (content_of (content_with r.fields)))) over.raised (over.copies whole 0 (omega arith)) in
+    rw over.raised at (over.copies whole 0 (omega arith)) in
     let is : begun_state f.file t view (boot_fields f) ≡ begun_work f.file t.shown view = begun_is t f view whole (over.opened whole) found_there (image_after over.mending.events t.shown) (over.mending.spares t.shown whole).whole shown in
-    subst (λ (r : State). begun_state r.file t view r.fields ≡ begun_work r.file t.shown view) (sym over.raised) is
+    rw over.raised is

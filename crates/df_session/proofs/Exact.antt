@@ -118,7 +118,7 @@ module _ (s t : Replica) (old new : Option Told) (answer : Answer) where
   pub exact_damaged : (command : Command) → IsExact command s t old new answer → (place : Place) (class : Class) → answer ≡ answers.Advance (Err (step.Damaged place class)) → IsDamagedStep command new place class
   exact_damaged Advance is place class damaged =
       let answered : is.0 ≡ Err (step.Damaged place class) = cc (is.1, damaged) in
-      let stopped = subst (λ (r : Result Progress StepError). IsStepCall s t old new r) answered is.2 in
+      let stopped = rw answered at is.2 in
       record {
         step = refl;
         copy = never s.running (on_running s.running (λ r i. ap (λ (p : Place). p.zone) i.4.verdict.place_is) stopped);

@@ -23,4 +23,4 @@ module _ (layout : Layout) (t : Told) (file : FoundFile layout t) where
 
   -- the view that was found is found with it
   pub view_there : IsFound (shape file.replica.file) (unit_at file.replica.file.layout file.replica.file.cluster t.shown) file.is_opened.view
-  view_there = subst (λ (f : DataFile). IsFound (shape f) (unit_at f.layout f.cluster t.shown) file.is_opened.view) (sym file_there) (found_here layout t file.found file.is_opened)
+  view_there = rw (sym file_there) at (found_here layout t file.found file.is_opened)

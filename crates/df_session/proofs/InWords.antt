@@ -1,5 +1,5 @@
 -- What an answer is in the machine's words, and what a call comes to, by what is heard of it.
-use Rattle.std.{proofs.Common.{◌≡◌, ℕ, Bool, true, false, Option, Some, None, if◌then◌else◌, refl, sym, ◌∙◌, ap, subst, Result, Ok, Err}, specs.Prelude.{OnOk}}
+use Rattle.std.{proofs.Common.{◌≡◌, ℕ, Bool, true, false, Option, Some, None, if◌then◌else◌, refl, sym, ◌∙◌, ap, Result, Ok, Err}, specs.Prelude.{OnOk}}
 use Rattle.df_base.specs.Causes.{Blamed, IsBlamed}
 use Rattle.df_disk.specs.Told.{Told}
 use Rattle.df_model.specs.{Commands.{Answer as Answered, Command, ToAdvance, ToAppend, ToBegin, ToFlush, ToReadBlock, ToReadPrepare, ToReadReply, ToRelease, ToReply, ToScrub, ToStage, ToWriteBlock}, declared.answers.Progress.TheVariants.{Done, Working}, Called.{command_of}, declared.commands.Answer.{Answer}, declared.commands.Command.{Command as Asked}, Faults.{is_append_fault, is_block_fault, is_flush_fault, is_lookup_fault, is_prepare_fault, is_read_fault, is_reply_fault}}
@@ -72,14 +72,14 @@ pub record Made (command : Command) (s t : Replica) (old new : Option Told) (bef
 module _ (command : Command) (s t : Replica) (old new : Option Told) where
   makes_to : (a : Answer) → IsExact command s t old new a → Makes command s t old new (machine_answer a) → (r : Result Answer Fault) → InWords a r → MakesTo command s t old new r
   makes_to a exact makes (Ok b) is = record {
-    exact = subst (λ (x : Answer). IsExact command s t old new x) (sym is.0) exact;
+    exact = rw (sym is.0) at exact;
     told = is.1;
     in_words = ap machine_answer is.0 ∙ is.2;
-    makes = subst (λ (x : Option Answered). Makes command s t old new x) is.2 makes;
+    makes = rw is.2 at makes;
   }
-  makes_to a exact makes (Err Disk) none = (subst (λ (x : Option Answered). Makes command s t old new x) none makes, tt)
+  makes_to a exact makes (Err Disk) none = (rw none at makes, tt)
   makes_to a exact makes (Err (Damaged place class)) is =
-      (subst (λ (x : Option Answered). Makes command s t old new x) is.1 makes, exact_damaged s t old new a command exact place class is.0)
+      (rw is.1 at makes, exact_damaged s t old new a command exact place class is.0)
 
   -- a replica that answered lives on
   pub lives : (r : Result Answer Fault) → MakesTo command s t old new r → OnOk r (t.live ≡ true)
@@ -94,5 +94,5 @@ module _ (command : Command) (s t : Replica) (old new : Option Told) where
 -- of a command that was asked in other words
 pub heard_so : {x y : Asked} {s t : Replica} {old new : Option Told} {before now : ℕ} {a : Answer} {r : Result Answer Fault} → x ≡ y → Called (command_of y) s t old new before now a → r ≡ heard a → Made (command_of x) s t old new before now r
 heard_so {x} {y} {s} {t} {old} {new} {before} {now} {a} {r} is called heard_is =
-    subst (λ (c : Asked). Made (command_of c) s t old new before now r) (sym is)
-    (subst (λ (h : Result Answer Fault). Made (command_of y) s t old new before now h) (sym heard_is) (heard_made (command_of y) s t old new before now a called))
+    rw (sym is) at
+    (rw (sym heard_is) at (heard_made (command_of y) s t old new before now a called))

@@ -12,9 +12,9 @@ use Rattle.df_replica.{specs.{Below.{DataFile, State as Replica, restarted, shap
 pub begun_here : (t : Told) (s : Replica) (mended : Option Told) (over : MendsAll t s mended) (view : View) → IsImage t.shown → IsFound (shape s.file) (unit_at s.file.layout s.file.cluster t.shown) view
     → Keeps Firm s (begun_work s.file t.shown view) None
 begun_here t s mended over view whole found =
-    let found_there = subst (λ (f : DataFile). IsFound (shape f) (unit_at f.layout f.cluster t.shown) view) (ap (λ (r : Replica). r.file) over.raised) found in
+    let found_there = rw (ap (λ (r : Replica). r.file) over.raised) at found in
     let keeps : Keeps Firm s (begun_state s.file t view s.fields) None =
-    subst (λ (r : Replica). Keeps Firm r (begun_state r.file t view r.fields) None) (sym over.raised) (begun_keeps over.found t view whole (over.opened whole) found_there) in
+    rw over.raised (begun_keeps over.found t view whole (over.opened whole) found_there) in
     subst (λ (w : Work). Keeps Firm s w None) (begun_is_work t s mended over view whole found) keeps
 
 -- and it is what each base keeps that shows what the disk showed
@@ -22,7 +22,7 @@ pub opened_here : (t : Told) (s : Replica) (mended : Option Told) (over : MendsA
     → OpenedOver g s view (begun_work s.file t.shown view) base (told_after over.mending.events (did Sync base))
 opened_here t s mended over whole g view base same may stands =
     let shows : now base.log ≡ base.shown = λ i sector. sym (may.honest.shows sector) i in
-    let found = subst (λ (image : Image). IsFound (shape s.file) (unit_at s.file.layout s.file.cluster image) view) (shows ∙ same) may.found in
+    let found = rw (shows ∙ same) at may.found in
     subst (λ (w : Work). OpenedOver g s view w base (told_after over.mending.events (did Sync base))) (begun_is_work t s mended over view whole found) (opened_over t s mended over g view base same may stands)
 
 pub calls_keep : CallsOnOpenFileKeepIt

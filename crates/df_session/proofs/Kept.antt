@@ -45,11 +45,11 @@ goes_over (e ∷ es) t =
 
 serves_on : (s0 s t : Replica) (told0 told new : Option Told) (xs ys : List Exchange) (events : List Event) → IsServed s0 s told0 told xs events → (calls : AreCalls s told ys t new) → IsServed s0 t told0 new (xs ++ ys) (events ++ call_events calls)
 serves_on s0 s t told0 told new xs [] events served NoCalls =
-    subst (λ (l : List Exchange). IsServed s0 t told0 new l (events ++ [])) (sym (append-nil xs)) (subst (λ (l : List Event). IsServed s0 t told0 new xs l) (sym (append-nil events)) served)
+    subst (λ (l : List Exchange). IsServed s0 t told0 new l (events ++ [])) (sym (append-nil xs)) (rw (sym (append-nil events)) at served)
 serves_on s0 s t told0 told new xs (y ∷ ys) events served (More u mid call rest) =
     let fs = call.call.events in
     subst (λ (l : List Exchange). IsServed s0 t told0 new l (events ++ (fs ++ call_events rest))) (append_assoc xs (y ∷ []) ys)
-    (subst (λ (l : List Event). IsServed s0 t told0 new ((xs ++ y ∷ []) ++ ys) l) (append_assoc events fs (call_events rest))
+    (rw (append_assoc events fs (call_events rest)) at
     (serves_on s0 u t told0 mid new (xs ++ y ∷ []) ys (events ++ fs) (one_more_is_served s0 s u told0 told mid xs events y served call.call) rest))
 
 pub all_served : (s t : Replica) (old new : Option Told) (xs : List Exchange) → s.live ≡ true → (calls : AreCalls s old xs t new) → IsServed s t old new xs (call_events calls)
@@ -86,10 +86,10 @@ opened_over t s mended over g view base same may stands =
     record {
       honest = goes.honest (record { shows = may.honest.shows });
       grew = goes.grew;
-      kept_for = subst (λ (m : Image). IsKept g s (at m) n.log) same is.kept_for;
+      kept_for = rw (← same) is.kept_for;
       moments = subst (λ (m : Image). EachMoment (did Sync base).log n.log (IsGoodFor g (format s.file) (shape s.file) view (kept (at m)))) same is.moments;
       bare = subst (λ (m : Image). KeepsView view (kept (at m))) same is.bare;
-      settled = subst (λ (m : Image). AreSettled s.file n.log (at m)) same is.settled;
+      settled = rw (← same) is.settled;
     }
 
 module _ (g : Grade) (s : Replica) (view : View) (w : Work) (base n0 : Told) (live : s.live ≡ true) (is_opened : OpenedOver g s view w base n0) where
@@ -121,7 +121,7 @@ module _ (g : Grade) (s : Replica) (view : View) (w : Work) (base n0 : Told) (li
       → AreSettled s.file (adds (events ++ call.call.events) n0.log) (work_after s.file w (acts_in xs))
   settled_still u v old mid new xs events a served call =
       let then = (served.answered Firm w alone).1 in
-      let spares : SparesHeld s.file a.command (work_after s.file w (acts_in xs)) call.call.events = subst (λ (f : DataFile). SparesHeld f a.command (work_after s.file w (acts_in xs)) call.call.events) served.file (call.call.spares (work_after s.file w (acts_in xs)) then) in
+      let spares : SparesHeld s.file a.command (work_after s.file w (acts_in xs)) call.call.events = rw served.file at (call.call.spares (work_after s.file w (acts_in xs)) then) in
       subst (λ (l : Log). AreSettled s.file l (work_after s.file w (acts_in xs))) (sym (adds_on events call.call.events n0.log))
       (stay_settled (work_after s.file w (acts_in xs)) then.0.clear s.file a.command call.call.events (adds events n0.log) spares (settled_behind u old mid xs events served))
 
@@ -136,9 +136,9 @@ module _ (g : Grade) (s : Replica) (view : View) (w : Work) (base n0 : Told) (li
         is = is;
         honest = goes.honest is_opened.honest;
         barrier = extends_on n.log n0.log (did Sync base).log goes.grew is_opened.grew;
-        moments = subst (λ (l : List Act). EachMoment (did Sync base).log n.log (IsMidway s.file g w l)) (sym (append-nil (acts_in xs))) (all_moments (acts_in xs) n (subst (λ (o : Option Told). EachIsMidway s.file g w (acts_in xs) (Some n0) o) is on.0));
-        left = subst (λ (o : Option Told). LeavesView s.file g (work_after s.file w (acts_in xs)) o) is (answered_is_there s u old new xs (call_events calls) served g w (Some n0) is_opened.kept_for);
-        tidy = tidy_of u (work_after s.file w (acts_in xs)) n.log served.file (subst (λ (o : Option Told). Keeps g u (work_after s.file w (acts_in xs)) o) is on.1);
+        moments = rw (sym (append-nil (acts_in xs))) at (all_moments (acts_in xs) n (rw is at on.0));
+        left = rw is at (answered_is_there s u old new xs (call_events calls) served g w (Some n0) is_opened.kept_for);
+        tidy = tidy_of u (work_after s.file w (acts_in xs)) n.log served.file (rw is at on.1);
         settled = settled_told s.file (work_after s.file w (acts_in xs)) (call_events calls) n0 n is (settled_behind u old new xs (call_events calls) served);
         answered = (served.answered g w (keeps_alone g s w (Some n0) is_opened.kept_for)).0;
       }
@@ -154,8 +154,8 @@ module _ (g : Grade) (s : Replica) (view : View) (w : Work) (base n0 : Told) (li
         is = is;
         honest = goes.honest is_opened.honest;
         barrier = extends_on n.log n0.log (did Sync base).log goes.grew is_opened.grew;
-        moments = all_moments (acts_in xs ++ a ∷ []) n (subst (λ (o : Option Told). EachIsMidway s.file g w (acts_in xs ++ a ∷ []) (Some n0) o) is (stopped.moments g w (Some n0) is_opened.kept_for));
-        left = subst (λ (o : Option Told). LeavesEither s.file g (work_after s.file w (acts_in xs)) (work_after s.file w (acts_in xs ++ a ∷ [])) o) is (stopped.left g w (Some n0) is_opened.kept_for);
+        moments = all_moments (acts_in xs ++ a ∷ []) n (rw is at (stopped.moments g w (Some n0) is_opened.kept_for));
+        left = rw is at (stopped.left g w (Some n0) is_opened.kept_for);
         tidy = tt;
         settled =
             settled_told s.file (work_after s.file w (acts_in xs)) (events_to s u old new xs (Some a) calls) n0 n is

@@ -78,8 +78,8 @@ as_many s told given command is = ap supplied_sums is
 pub supplied_is_result : SuppliedIsResult
 supplied_is_result s w t command given rep supplied sums =
     next_is (shape s.file) (codec s.file) (shown_of s.file t.shown) w given command
-    (subst (λ (m : Memory). AreSums (codec s.file) m (supplied_sums given) command) rep sums)
-    (subst (λ (m : Memory). IsFoundIn (shown_of s.file t.shown) m given command) rep (found_in s t given command supplied))
+    (rw rep at sums)
+    (rw rep at (found_in s t given command supplied))
 
 -- ---- a call
 
@@ -127,7 +127,7 @@ module _ (given : Given) (command : Command) (s u : State) (t : Told) (new : Opt
     answer_is = goes.0;
     keeps = goes.1;
     whole = subst IsImage (sym (shown_then call.events t)) leaves.whole;
-    shown_is = subst (λ (x : Image). AgreeShown s.file.layout (shown_of s.file x) (shown_after (codec s.file) shown m command)) (sym (shown_then call.events t)) agrees_then;
+    shown_is = rw (sym (shown_then call.events t)) at agrees_then;
   }
 
 pub one_more_is_result : OneMoreIsResult

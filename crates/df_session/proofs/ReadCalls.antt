@@ -1,5 +1,5 @@
 -- A read or a check that is made: what it is rightly supplied with, and the call that it is. It does nothing to the disk.
-use Rattle.std.proofs.Common.{◌≡◌, ℕ, Option, Some, None, Result, Ok, Err, [], refl, sym, subst}
+use Rattle.std.proofs.Common.{◌≡◌, ℕ, Option, Some, None, Result, Ok, Err, [], refl}
 use Rattle.df_base.specs.{Image.{Image}, declared.Failed.{Failed}}
 use Rattle.df_disk.specs.Told.{Told}
 use Rattle.df_layout.specs.{declared.damage.Class.{Class}, declared.damage.Class.TheVariants.{Blank}}
@@ -20,7 +20,7 @@ made_with : (command : Command) (given : Given) (s t : Replica) (old new : Optio
 made_with command given s t old new answer same quiet call = record {
   act = record { command = command; given = given };
   is = refl;
-  calls = record { call = subst (λ (o : Option Told). IsCall given command s t old o answer) (sym same) call; own = adds_none command s old new answer quiet same };
+  calls = record { call = rw same call; own = adds_none command s old new answer quiet same };
 }
 
 -- the call of a read, by what the read serves

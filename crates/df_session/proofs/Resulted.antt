@@ -16,9 +16,9 @@ pub calls_result : (file : DataFile) (s u : Replica) (old new : Option Told) (xs
     → AgreeShown file.layout (shown_of file t.shown) shown → answers_in xs ≡ result (shape file) (codec file) shown w (map command_in (acts_in xs))
 calls_result file s u old new [] t w shown of told calls k whole agree = refl
 calls_result file s u old new (x ∷ xs) t w shown of told (More v mid made later) k whole agree =
-    let call : IsCall x.act.given x.act.command s v (Some t) mid (Some x.answer) = subst (λ (o : Option Told). IsCall x.act.given x.act.command s v o mid (Some x.answer)) told made.call in
-    let one = one_more_is_result x.act.given x.act.command s v t mid x.answer w shown call k whole (subst (λ (f : DataFile). AgreeShown f.layout (shown_of f t.shown) shown) (sym of) agree) in
-    let is : IsResult file shown w x.act.command x.answer v (told_after call.events t) = subst (λ (f : DataFile). IsResult f shown w x.act.command x.answer v (told_after call.events t)) of one.1 in
+    let call : IsCall x.act.given x.act.command s v (Some t) mid (Some x.answer) = rw (← told) made.call in
+    let one = one_more_is_result x.act.given x.act.command s v t mid x.answer w shown call k whole (rw of agree) in
+    let is : IsResult file shown w x.act.command x.answer v (told_after call.events t) = rw (← of) one.1 in
     let m : Memory = memory_of (shape file) (codec file).spell w in
     let rest = calls_result file v u mid new xs (told_after call.events t) (next (shape file) (codec file) shown w x.act.command).0 (shown_after (codec file) shown m x.act.command) is.file_is one.0 later is.keeps is.whole is.shown_is in
     (λ i. is.answer_is i ∷ rest i)

@@ -1,5 +1,5 @@
 -- Each call of a session spares the blocks that are held.
-use Rattle.std.proofs.Common.{◌≡◌, true, List, [], ◌∷◌, Option, Some, None, refl, ◌∙◌, subst}
+use Rattle.std.proofs.Common.{◌≡◌, true, List, [], ◌∷◌, Option, Some, None, refl, ◌∙◌}
 use Rattle.df_disk.specs.Told.{Told}
 use Rattle.df_model.specs.Work.{Work}
 use Rattle.df_replica.specs.{Below.{DataFile, State as Replica}, Leaving.{SparesHeld}, Serving.{Firm, Keeps, next}, Session.{Act, Exchange, acts_in, work_after}}
@@ -10,8 +10,8 @@ module _ (file : DataFile) where
   all_spare w s t old new [] same keeps are = tt
   all_spare w s t old new (x ∷ xs) same keeps (More u mid made rest) =
       let call = made.call in
-      let then : Keeps Firm u (next file w x.act.given x.act.command).0 None = subst (λ (f : DataFile). Keeps Firm u (next f w x.act.given x.act.command).0 None) same (call.answers Firm w keeps).1 in (
-        subst (λ (f : DataFile). SparesHeld f x.act.command w call.events) same (call.spares w keeps),
+      let then : Keeps Firm u (next file w x.act.given x.act.command).0 None = rw same at (call.answers Firm w keeps).1 in (
+        rw same at (call.spares w keeps),
         all_spare (next file w x.act.given x.act.command).0 u t mid new xs (call.file ∙ same) then rest,
       )
 
@@ -21,7 +21,7 @@ ends_spare w s t old new xs None live keeps ends = all_spare s.file w s t old ne
 ends_spare w s t old new xs (Some a) live keeps ends =
     let served = all_served s ends.0 old ends.1 xs live ends.2 in (
       all_spare s.file w s ends.0 old ends.1 xs refl keeps ends.2,
-      subst (λ (f : DataFile). SparesHeld f a.command (work_after s.file w (acts_in xs)) ends.3.call.events) served.file (ends.3.call.spares (work_after s.file w (acts_in xs)) (served.answered Firm w keeps).1),
+      rw served.file at (ends.3.call.spares (work_after s.file w (acts_in xs)) (served.answered Firm w keeps).1),
     )
 
 pub spares_blocks : (w : Work) (c : CallsMade) → c.from.live ≡ true → Keeps Firm c.from w None → SparesBlocks c.from.file w c

@@ -168,7 +168,7 @@ module _ (file : DataFile) (image : Image) (whole : IsImage image) where
   content_sum : (n : ℕ) (c : Content) → content_at image n ≡ Some c → IsContentOfFile file (content_of c) → number_of c.checksum ≡ (codec file).content (content_of c)
   content_sum n c shown of =
       let there = copy_there n c shown in
-      let of_copy = subst (λ (x : Content). IsContentOfFile file (content_of x)) (sym there.2) of in
+      let of_copy = rw (sym there.2) at of in
       let is = was_written (image n) there.0 (whole.sectors n) (nothing_else (unnamed_of there.0.fields) there.0.fields.first_nonzero of_copy.rest) there.1 in
       subst (λ (x : Content). number_of x.checksum ≡ (codec file).content (content_of x)) there.2 (written_sum there.0 is.0 of_copy)
 

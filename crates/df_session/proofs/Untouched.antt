@@ -1,5 +1,5 @@
 -- What isn't written stays out of a stop's reach: the blocks of the durable checkpoint, after a call that answered or not.
-use Rattle.std.proofs.{Common.{◌≡◌, inl, inr, ℕ, ◌||◌, Bool, true, false, List, [], ◌∷◌, Some, refl, sym, ◌∙◌, ap, subst}, lemmas.Bool.{or_parts, or_from, or_cases}}
+use Rattle.std.proofs.{Common.{◌≡◌, inl, inr, ℕ, ◌||◌, Bool, true, false, List, [], ◌∷◌, Some, refl, sym, ◌∙◌, ap}, lemmas.Bool.{or_parts, or_from, or_cases}}
 use Rattle.df_base.specs.{Image.{covers}, Log.{Event, Log, Stop, Sync, Write, add, loose}, Moments.{adds}}
 use Rattle.df_disk.specs.{Adds.{after_all}, Told.{Told, did}}
 use Rattle.df_model.{specs.{Commands.{Advance, Command}, Sense.{AtEachOf, IsClearAddress}, Work.{Running, Work, is_captured, is_held, is_known, is_of}}, proofs.Laws.{some_of}}
@@ -40,7 +40,7 @@ module _ (w : Work) (clear : (r : Running) → w.running ≡ Some r → AtEachOf
   ]
 
   not_next : (command : Command) (a : ℕ) → is_durable w a ≡ true → WritesNext command w a → ⊥
-  not_next Advance a durable next = clear_is_none a (subst (λ (l : List ℕ). AtEachOf (IsClearAddress w.live w.view.checkpoint) l) next.3 (clear next.0 next.2)).0 durable
+  not_next Advance a durable next = clear_is_none a (rw next.3 at (clear next.0 next.2)).0 durable
   not_next command a durable next = absurd next
 
   is_held_too : (a : ℕ) → is_durable w a ≡ true → is_held w a ≡ true
@@ -55,4 +55,4 @@ module _ (w : Work) (clear : (r : Running) → w.running ≡ Some r → AtEachOf
 -- ---- as it is told
 
 pub settled_told : (file : DataFile) (w : Work) (events : List Event) (t n : Told) → after_all events (Some t) ≡ Some n → AreSettled file (adds events t.log) w → AreSettled file n.log w
-settled_told file w events t n is settled = subst (λ (l : Log). AreSettled file l w) (log_after events t n is) settled
+settled_told file w events t n is settled = rw (log_after events t n is) at settled

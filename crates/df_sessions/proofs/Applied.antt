@@ -84,7 +84,7 @@ has_room max client items now view is none room =
     let most : max ≡ now.max = ap (λ (t : Table). t.max) view in
     let long : length items ≡ length now.sessions = ap length same in
     elim room [
-      | inl known ↦ (let no : IsSome {T = ℕ} None = subst (λ (o : Option ℕ). IsSome o) (sym none) known in cc)
+      | inl known ↦ (let no : IsSome {T = ℕ} None = rw (sym none) at known in cc)
       | inr left ↦ omega arith
     ]
 

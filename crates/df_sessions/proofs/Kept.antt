@@ -1,5 +1,5 @@
 -- A request and a stored reply keep what is always so of a table.
-use Rattle.std.{proofs.{Common.{Option, Some, None, IsSome, ◌∙◌, ◌≡◌, ◌≢◌, ℕ, zero, suc, ◌+◌, ◌<◌, ◌≤◌, ◌⊎◌, inl, inr, false, List, [], ◌∷◌, length, refl, arith, ap, sym, subst}, lemmas.List.{length-set}, lemmas.Bool.{cases_Bool, eqb-true}}, specs.{Prelude.{nat_eq}, List.{AllByRecursion, IsDistinct, position}}}
+use Rattle.std.{proofs.{Common.{Option, Some, None, IsSome, ◌∙◌, ◌≡◌, ◌≢◌, ℕ, zero, suc, ◌+◌, ◌<◌, ◌≤◌, ◌⊎◌, inl, inr, false, List, [], ◌∷◌, length, refl, arith, ap, sym}, lemmas.List.{length-set}, lemmas.Bool.{cases_Bool, eqb-true}}, specs.{Prelude.{nat_eq}, List.{AllByRecursion, IsDistinct, position}}}
 use Rattle.df_sessions.{specs.{declared.session.Session.{Session}, Table.{IsSessionTable, IsKnownClient, clients_of, has_client, requested, with_request, with_reply_stored}}, proofs.Places.{first_place, request_known}}
 
 -- what holds of each client, and of a request's, holds after the request
@@ -16,7 +16,7 @@ distinct_requested : (client request op : ℕ) (sessions : List Session) → IsD
 unfolding IsDistinct
 distinct_requested client request op [] distinct = (tt, tt)
 distinct_requested client request op (s ∷ sessions) distinct = elim (cases_Bool (has_client client s)) [
-  | inl same ↦ let e : s.client ≡ client = eqb-true s.client client same in rw same (subst (λ (c : ℕ). IsDistinct nat_eq (c ∷ clients_of sessions)) e distinct)
+  | inl same ↦ let e : s.client ≡ client = eqb-true s.client client same in rw same (rw e at distinct)
   | inr other ↦ rw other (all_requested (λ y. nat_eq s.client y ≡ false) client request op sessions other distinct.0, distinct_requested client request op sessions distinct.1)
 ]
 
@@ -74,8 +74,8 @@ reply_keeps max place reply sessions is =
       some = is.some;
       most = is.most;
       within = omega (arith, length_replied place reply sessions);
-      distinct = subst (λ (cs : List ℕ). IsDistinct nat_eq cs) (sym clients) is.distinct;
-      named = subst (λ (cs : List ℕ). AllByRecursion (λ c. c ≢ 0) cs) (sym clients) is.named;
+      distinct = rw (sym clients) at is.distinct;
+      named = rw (sym clients) at is.named;
     }
 
 pub empty_keeps : (max : ℕ) → 1 ≤ max → max ≤ 64 → IsSessionTable (record { max = max; sessions = [] })

@@ -33,7 +33,7 @@ still_shown ((Stop cs) ∷ es) t new n spare (inr is) = absurd spare
 member_stays : (f : SuperFields) (members : List Bool) (t u : Told) (n : ℕ) → IsUsable f → length members ≡ 4 → AddsPart (repair_events f 0 members) (Some t) (Some u) → IsTrue (get_or members n false) → u.shown n ≡ t.shown n
 member_stays f members t u n usable size is member =
     let place : 0 + n ≡ n = omega arith in
-    let spares : Spares n 0 members = subst (λ (k : ℕ). Spares k 0 members) place (member_spared 0 n members member) in
+    let spares : Spares n 0 members = rw place at (member_spared 0 n members member) in
     still_shown (repair_events f 0 members) t (Some u) n (spared f (copy_put f usable) n 0 members (omega arith) spares) is
 
 pub keeps_members : {T E : Type 0} → (f : SuperFields) (members : List Bool) (old new : Option Told) (result : Result T E) → IsUsable f → length members ≡ 4 → Adds (repair_events f 0 members) old new result → KeepsMembers members old new
@@ -64,7 +64,7 @@ module _ (f : SuperFields) (members : List Bool) (size : length members ≡ 4) w
 
   module _ {T E : Type 0} (result : Result T E) (err : IsErr result) where
     some_mended : (old new : Option Told) → AddsPart parts old new → Adds (repair_events f 0 members) old new result
-    some_mended old new is = adds_failed (repair_events f 0 members) old new result err (subst (λ (es : List Event). AddsPart es old new) (sym are_parts) is)
+    some_mended old new is = adds_failed (repair_events f 0 members) old new result err (rw (sym are_parts) at is)
 
     pub first_fails : (old new : Option Told) → AddsPart (part 0) old new → Adds (repair_events f 0 members) old new result
     first_fails old new is = some_mended old new (part_then (part 0) _ old new is)
@@ -106,7 +106,7 @@ module _ (f : SuperFields) (chosen : Chosen) (for : IsFor f chosen) (log : Log) 
     | inl member ↦ shown_stays f c puts n 0 members log fits ((choice.members n below).0 member)
     | inr other ↦
         let place : 0 + n ≡ n = omega arith in
-        written_shows f c puts n 0 members log fits (subst (λ (k : ℕ). Writes k 0 members) place (other_written 0 n members (omega (arith, for.size)) other))
+        written_shows f c puts n 0 members log fits (rw place at (other_written 0 n members (omega (arith, for.size)) other))
   ]
 
   further : (m k : ℕ) → (content_at (now log) (m + suc k) ≡ Some c → ⊥) → content_at (now log) ((m + 1) + k) ≡ Some c → ⊥
@@ -117,14 +117,14 @@ module _ (f : SuperFields) (chosen : Chosen) (for : IsFor f chosen) (log : Log) 
   outside_from number [] away = tt
   outside_from number (true ∷ others) away = outside_from (number + 1) others (λ k inside is. further number k (away (suc k) (omega arith) is))
   outside_from number (false ∷ others) away = (
-    let place : number + 0 ≡ number = omega arith in subst (λ (j : ℕ). content_at (now log) j ≡ Some c → ⊥) place (away 0 (omega arith) refl),
+    let place : number + 0 ≡ number = omega arith in rw place at (away 0 (omega arith) refl),
     outside_from (number + 1) others (λ k inside is. further number k (away (suc k) (omega arith) is)),
   )
 
   outside : AreOutside (content_at (now log)) c 0 members
   outside = outside_from 0 members (λ k inside is shown.
       let place : 0 + k ≡ k = omega arith in
-      let member : get_or members k false ≡ true = (choice.members k (omega (arith, for.size))).1 (subst (λ (j : ℕ). content_at (now log) j ≡ Some c) place shown) in
+      let member : get_or members k false ≡ true = (choice.members k (omega (arith, for.size))).1 (rw place at shown) in
       let both : false ≡ true = sym is ∙ member in cc)
 
   pub unless_misled : AreQuiet log → AtEach (KeepsUnlessMisled log c) log (repair_events f 0 members)

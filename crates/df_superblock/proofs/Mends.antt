@@ -31,7 +31,7 @@ member_spared number (suc k) (true ∷ members) is =
     subst (λ (n : ℕ). Spares n (number + 1) members) place (member_spared (number + 1) k members is)
 member_spared number (suc k) (false ∷ members) is =
     let place : (number + 1) + k ≡ number + suc k = omega arith in
-    (λ e. omega arith, subst (λ (n : ℕ). Spares n (number + 1) members) place (member_spared (number + 1) k members is))
+    (λ e. omega arith, rw place at (member_spared (number + 1) k members is))
 
 -- and each other one is
 pub other_written : (number k : ℕ) (members : List Bool) → k < length members → get_or members k false ≡ false → Writes (number + k) number members
@@ -43,7 +43,7 @@ other_written number (suc k) (true ∷ members) inside is =
     subst (λ (n : ℕ). Writes n (number + 1) members) place (other_written (number + 1) k members (omega arith) is)
 other_written number (suc k) (false ∷ members) inside is =
     let place : (number + 1) + k ≡ number + suc k = omega arith in
-    inr (subst (λ (n : ℕ). Writes n (number + 1) members) place (other_written (number + 1) k members (omega arith) is))
+    inr (rw place at (other_written (number + 1) k members (omega arith) is))
 
 module _ (f : SuperFields) (c : Content) (puts : (n : ℕ) → n < 4 → PutsCopy n (copy_bytes n f) c) where
   -- the log with one copy more

@@ -1,5 +1,5 @@
 -- A start that shows a newer copy 1, to which a repair is misled much later.
-use Rattle.std.proofs.Common.{◌≡◌, ◌⊎◌, inl, inr, ℕ, ◌<◌, ◌==◌, if◌then◌else◌, false, List, [], ◌∷◌, Some, None, refl, sym, ◌∙◌, ap, subst, arith}
+use Rattle.std.proofs.Common.{◌≡◌, ◌⊎◌, inl, inr, ℕ, ◌<◌, ◌==◌, if◌then◌else◌, false, List, [], ◌∷◌, Some, None, refl, sym, ◌∙◌, ap, arith}
 use Rattle.df_theory.{specs.{Units.{CopyPlace, HeaderPlace, PreparePlace, ReplyPlace, BlockPlace, Layout, Content, CopyUnit, Units}, Copies.{rank_of, IsNextContent, Agree, IsChosen}, UnitLog.{UnitLog, Synced, Stopped, add, now, loose, wrote, put_one}, Chance.{InImages}}, proofs.Laws.{same_copy, chosen_above, put_one_law, four}}
 use Rattle.df_superblock.specs.Misleading.{GrowFrom, KnowsCopies, MayLeaveCopies, MisleadsLaw}
 
@@ -92,7 +92,7 @@ module _ (base : List Units) (image : Units) (x : Content) (next : IsNextContent
   usual : (n : ℕ) (d : Content) → n < 4 → image (CopyPlace n) ≡ Some (CopyUnit d) → InImages base (CopyPlace n) (CopyUnit d) ⊎ ((d ≡ first) ⊎ ((n ≡ 0) × IsNextContent first d))
   usual n d below shown = elim (four n below) [
     | inl is ↦ elim zeroth [
-      | inl z ↦ inr (inr (is, subst (λ (c : Content). IsNextContent first c) (sym (content_of x d (sym z ∙ at 0 is))) next))
+      | inl z ↦ inr (inr (is, rw (sym (content_of x d (sym z ∙ at 0 is))) at next))
       | inr z ↦ inr (inl (content_of first d (sym z ∙ at 0 is)))
     ]
     | inr (inl is) ↦ inr (inl (content_of first d (sym one ∙ at 1 is)))
@@ -108,7 +108,7 @@ module _ (base : List Units) (image : Units) (x : Content) (next : IsNextContent
 
 torn_known : (n : ℕ) (d : Content) → n < 4 → torn (CopyPlace n) ≡ Some (CopyUnit d) → InImages (now log4 ∷ now log3 ∷ now log2 ∷ now log1 ∷ log0.start ∷ []) (CopyPlace n) (CopyUnit d) ⊎ ((d ≡ first) ⊎ ((n ≡ 0) × IsNextContent first d))
 torn_known n d below shown = elim (four n below) [
-  | inl is ↦ inr (inr (is, subst (λ (c : Content). IsNextContent first c) (sym (content_of third d (at 0 is))) (inl (refl, refl))))
+  | inl is ↦ inr (inr (is, rw ((content_of third d (at 0 is))) (inl (refl, refl))))
   | inr (inl is) ↦ inl (inr (inr (inr (inr (inl (ap (λ (i : ℕ). log0.start (CopyPlace i)) is ∙ ap (λ (c : Content). Some (CopyUnit c)) (content_of d again (sym (at 1 is)))))))))
   | inr (inr (inl is)) ↦ inr (inl (content_of first d (at 2 is)))
   | inr (inr (inr is)) ↦ inr (inl (content_of first d (at 3 is)))
@@ -141,9 +141,9 @@ grew = (
 bad_left : MayLeaveCopies (wrote (put 0 first) log5) bad
 bad_left n below firm = elim (four n below) [
   | inl is ↦ absurd (let wet : loose (wrote (put 0 first) log5) (CopyPlace 0) ≡ false = ap (λ (i : ℕ). loose (wrote (put 0 first) log5) (CopyPlace i)) (sym is) ∙ firm in cc)
-  | inr (inl is) ↦ subst (λ (i : ℕ). bad (CopyPlace i) ≡ now (wrote (put 0 first) log5) (CopyPlace i)) (sym is) refl
-  | inr (inr (inl is)) ↦ subst (λ (i : ℕ). bad (CopyPlace i) ≡ now (wrote (put 0 first) log5) (CopyPlace i)) (sym is) refl
-  | inr (inr (inr is)) ↦ subst (λ (i : ℕ). bad (CopyPlace i) ≡ now (wrote (put 0 first) log5) (CopyPlace i)) (sym is) refl
+  | inr (inl is) ↦ rw is refl
+  | inr (inr (inl is)) ↦ rw is refl
+  | inr (inr (inr is)) ↦ rw is refl
 ]
 
 bad_known : KnowsCopies (wrote (put 0 first) log5) bad

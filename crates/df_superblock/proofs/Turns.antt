@@ -1,5 +1,5 @@
 -- An update of four equal copies, step by step.
-use Rattle.std.proofs.{Common.{◌≡◌, ◌⊎◌, inl, inr, ℕ, ◌<◌, ◌≤◌, ◌+◌, ◌||◌, false, List, [], ◌∷◌, ◌++◌, Some, refl, sym, ◌∙◌, ap, subst, arith}, lemmas.Bool.{cases_eq, cases_lt}}
+use Rattle.std.proofs.{Common.{◌≡◌, ◌⊎◌, inl, inr, ℕ, ◌<◌, ◌≤◌, ◌+◌, ◌||◌, false, List, [], ◌∷◌, ◌++◌, Some, refl, sym, ◌∙◌, ap, arith}, lemmas.Bool.{cases_eq, cases_lt}}
 use Rattle.df_base.{specs.{Image.{Image, written}, Log.{Event, Write, Sync, Stop, Log, add, loose, loose_of, now, now_of}, Moments.{Extends}}, proofs.Laws.{AtEach}}
 use Rattle.df_format.specs.Copies.{Content, content_at, rank_of_copy}
 use Rattle.df_quorum.{specs.Quorum.{Copies, CopiesAgree, IsChosenContent}, proofs.Laws.{same_content as same_copy, chosen_above}}
@@ -52,7 +52,7 @@ module _ (copies : Copies) (old new : Content) (i : ℕ) (less : rank_of_copy ol
   is_old not =
       let less_two : i < 2 = early not in
       chosen_above copies old (record { first = 2; second = 3; apart = omega arith; inside = omega arith; at_first = around.behind 2 less_two (omega arith); at_second = around.behind 3 (omega arith) (omega arith) }) (λ d a. elim (one_of d a) [
-        | inl same ↦ absurd (no_pair not less_two (subst (λ (x : Content). CopiesAgree copies x) same a))
+        | inl same ↦ absurd (no_pair not less_two (rw same at a))
         | inr same ↦ inl same
       ])
 

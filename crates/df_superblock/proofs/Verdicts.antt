@@ -33,7 +33,7 @@ shows_sector (Some t) n bytes size shown = shown ∙ ap (λ (count : ℕ). bytes
     one k is = omega (arith, is)
 
 pub read_shows : {T E : Type 0} → (told : Option Told) (at n : ℕ) (bytes : List ℕ) (result : Result T E) → at ≡ n → length bytes ≡ 4096 → OnOk result (Shows told at bytes) → OnOk result (ShowsSector told n bytes)
-read_shows told at n bytes (Ok x) same size shown = shows_sector told n bytes size (subst (λ (k : ℕ). Shows told k bytes) same shown)
+read_shows told at n bytes (Ok x) same size shown = shows_sector told n bytes size (rw same at shown)
 read_shows told at n bytes (Err e) same size shown = tt
 
 -- a room that was written over as a whole
@@ -97,5 +97,5 @@ enough_from slots f first is behind = (
 pub read_on : (slots : List Slot) (f : SuperFields) (from next : ℕ) → ((n : ℕ) → from ≤ n → n < next → IsCopyRead slots f n) → IsCopyRead slots f next → (n : ℕ) → from ≤ n → n < next + 1 → IsCopyRead slots f n
 read_on slots f from next before here n more less = elim (cases_lt n next) [
   | inl low ↦ before n more low
-  | inr high ↦ let same : next ≡ n = omega arith in subst (λ (k : ℕ). IsCopyRead slots f k) same here
+  | inr high ↦ let same : next ≡ n = omega arith in rw same at here
 ]

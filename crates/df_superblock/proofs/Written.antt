@@ -50,7 +50,7 @@ module _ (f : SuperFields) (usable : IsUsable f) (log : Log) where
   all_equal : AreEqual (now (adds (update_events f) log)) (content_with f)
   all_equal n below =
       let place : 0 + n ≡ n = omega arith in
-      written_shows f (content_with f) (copy_put f usable) n 0 all log (omega arith) (subst (λ (k : ℕ). Writes k 0 all) place (other_written 0 n all below (all_false n below)))
+      written_shows f (content_with f) (copy_put f usable) n 0 all log (omega arith) (rw place at (other_written 0 n all below (all_false n below)))
 
 -- what a disk shows then, whether that is what its log leaves or not
 told_shown : (es : List Event) (t : Told) (log : Log) → t.shown ≡ now log → (u : Told) × (after_all es (Some t) ≡ Some u) × (u.shown ≡ now (adds es log))
@@ -62,7 +62,7 @@ ends_shown f None new (Ok x) usable is = subst (λ (o : Option Told). ShowsEqual
 ends_shown f (Some t) new (Ok x) usable is =
     let log : Log = record { start = t.shown; events = [] } in
     let u = told_shown (update_events f) t log refl in
-    subst (λ (o : Option Told). ShowsEqual f o) (sym (is ∙ u.1)) (subst (λ (image : Image). AreEqual image (content_with f)) (sym u.2) (all_equal f usable log))
+    subst (λ (o : Option Told). ShowsEqual f o) (sym (is ∙ u.1)) (rw (sym u.2) at (all_equal f usable log))
 ends_shown f old new (Err e) usable is = tt
 
 pub ends_equal : {T E : Type 0} → (f : SuperFields) (old new : Option Told) (result : Result T E) → IsUsable f → Adds (update_events f) old new result → OnOk result (EndsEqual f new)

@@ -120,7 +120,7 @@ module _ (layout : Layout) (w : Work) (s : Replica) (begun : IsBegun layout w s)
     space = record {
       live = ap (λ (b : Blocks). places b.live) caught.blocks ∙ ap places same_live ∙ sym (ap (λ (b : Blocks). places b.durable) caught.blocks);
       few = omega (arith, few_live, ap (λ (l : List (ℕ × ℕ)). length l) same_live, ap (λ (b : Blocks). length b.durable) caught.blocks);
-      chain = omega (arith, subst (λ (l : Layout). 2 * length s.blocks.chain ≤ blocks_of_table l + 4) begun.layout_is (few_chain layout w s begun), ap (λ (b : Blocks). length b.chain) caught.blocks);
+      chain = omega (arith, rw begun.layout_is at (few_chain layout w s begun), ap (λ (b : Blocks). length b.chain) caught.blocks);
     };
   }
 

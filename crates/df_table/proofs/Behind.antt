@@ -53,9 +53,9 @@ behind_few t Count few = record { max_is = refl; few = few }
 -- after a line that was executed the table is as it has to be
 pub steady_behind : (layout : Layout) (s t : Replica) (table later : Table) (said : Said) → IsSteady layout s table → IsReadyReplica layout t → later ≡ table_after table said → IsSteady layout t later
 steady_behind layout s t table later said steady ready is =
-    let few = behind_few table said (subst (λ (n : ℕ). map.len table.rows ≤ n) (sym steady.max) steady.few) in
-    let after = subst (λ (x : Table). HasFew table.max x) (sym is) few in
-    record { ready = ready; max = after.max_is ∙ steady.max; few = subst (λ (n : ℕ). map.len later.rows ≤ n) steady.max after.few }
+    let few = behind_few table said (rw (sym steady.max) at steady.few) in
+    let after = rw (sym is) at few in
+    record { ready = ready; max = after.max_is ∙ steady.max; few = rw steady.max at after.few }
 
 -- ---- a session
 
@@ -87,17 +87,17 @@ module _ (layout : Layout) (s : Session) (left more : Option (List ℕ)) (servin
     executed_on : now.replica.live ≡ true → IsServing layout (record now { count = now.count + 1 }) more
     executed_on live = record {
       live = live;
-      block = subst (λ (n : ℕ). 64 * rows_in_block layout ≤ n) (sym leaves.block) serving.block;
+      block = rw (sym leaves.block) at serving.block;
       bound = ap (λ (r : ReaderParts). r.reading.bound) leaves.lines ∙ bound ∙ serving.bound;
       count = omega (arith, serving.count, less, leaves.count, ap (λ (r : ReaderParts). r.reading.budget) leaves.lines);
-      at_end = subst (λ (r : ReaderParts). IsTrue r.ended → IsAtEnd more) (sym leaves.lines) (at_end serving.at_end);
+      at_end = rw (sym leaves.lines) at (at_end serving.at_end);
     }
 
     pub ready_next : s.layout ≡ layout → (turn : Step) → OnGoing turn (now.replica.live ≡ true) → OnGoing turn (IsReadyForNext s (record now { count = now.count + 1 }) more)
     ready_next of Goes live = record {
       layout = leaves.layout;
-      serving = subst (λ (l : Layout). IsServing l (record now { count = now.count + 1 }) more) (sym of) (executed_on live);
-      budget = subst (λ (r : ReaderParts). r.reading.budget < s.lines.reading.budget) (sym leaves.lines) less;
+      serving = rw (sym of) at (executed_on live);
+      budget = rw (sym leaves.lines) at less;
     }
     ready_next of (Ends status) live = tt
 

@@ -1,5 +1,5 @@
 -- A live block that is read: the call that was made, and what the opening finds by it.
-use Rattle.std.proofs.{Common.{◌≡◌, inl, inr, ℕ, Bool, true, not, List, [], ◌∷◌, Option, Some, None, refl, sym, ◌∙◌, ap, subst, Result, Ok, Err}, lemmas.Option.{none-some}}
+use Rattle.std.proofs.{Common.{◌≡◌, inl, inr, ℕ, Bool, true, not, List, [], ◌∷◌, Option, Some, None, refl, sym, ◌∙◌, ap, Result, Ok, Err}, lemmas.Option.{none-some}}
 use Rattle.df_base.specs.Causes.{Blamed}
 use Rattle.df_disk.specs.Told.{Told}
 use Rattle.df_theory.specs.Units.{Block}
@@ -32,21 +32,21 @@ module _ (address : ℕ) (s : Replica) (told : Option Told) (t : Told) (is : tol
   pub block_found_here : (b : Block) (body : List ℕ) (r : Result Table Ending) → b.body ≡ body → IsReadBlock address s told (Ok b) → TakesRows address before most table body r → ReadsTableBlock (shown_of s.file t.shown) (memory s) address before most table r
   block_found_here b body r same exact takes =
       by_body Table (GivesRows before most table b.body) (LacksRows address before most table b.body) (ReadsTableBlock (shown_of s.file t.shown) (memory s) address before most table) r (λ later is. (b, shown, is)) (λ place is. (b, shown, is))
-      (subst (λ (x : List ℕ). TakesRows address before most table x r) (sym same) takes)
+      (rw (sym same) at takes)
     where
       shown : block_read (shown_of s.file t.shown) (memory s) (ReadBlock address) ≡ Ok b
-      shown = sym (subst (λ (o : Option Told). IsBlockFound s address o (Ok b)) is exact.1)
+      shown = sym (rw is at exact.1)
 
   pub block_unfound : (e : ReadError) → (e ≡ read.NotLive → ⊥) → IsReadBlock address s told (Err e) → ReadsTableBlock (shown_of s.file t.shown) (memory s) address before most table (Err (block_ending e))
   block_unfound read.DiskFault known exact = tt
   block_unfound read.NotLive known exact = absurd (known refl)
-  block_unfound (read.Damaged place class) known exact = (exact.1, sym (subst (λ (o : Option Told). IsBlockFound s address o (Err class)) is exact.2))
+  block_unfound (read.Damaged place class) known exact = (exact.1, sym (rw is at exact.2))
 
 -- ---- no refusal, and whom it blames
 
 pub live_there : (address : ℕ) (s : Replica) (told : Option Told) (e : ReadError) → is_known (sum_at address (memory s).blocks.live) ≡ true → IsReadBlock address s told (Err e) → e ≡ read.NotLive → ⊥
 live_there address s told e known exact is =
-    none-some read.NotLive (sym (ap (λ (b : Bool). first_refusal {E = ReadError} ((not b, read.NotLive) ∷ [])) known) ∙ subst (λ (x : ReadError). IsReadBlock address s told (Err x)) is exact)
+    none-some read.NotLive (sym (ap (λ (b : Bool). first_refusal {E = ReadError} ((not b, read.NotLive) ∷ [])) known) ∙ rw is at exact)
 
 pub read_blamed : (e : ReadError) (n now : ℕ) → (e ≡ read.NotLive → ⊥) → Blamed (is_read_fault e) n now → Blamed (is_disk (block_ending e)) n now
 read_blamed read.DiskFault n now known blamed = blamed

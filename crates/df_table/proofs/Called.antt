@@ -161,7 +161,7 @@ module _ (s t : Replica) (old new : Option Told) where
     step_takes runs (Ok (progress.Done sequence)) is serves own blamed =
         let makes = (step_called s t old new before now (Ok (progress.Done sequence)) is serves own blamed).makes in
         record { comes = one_made Advance s t old new (ToAdvance (Ok (progress.Done sequence))) makes tt; state = on_running s.running (λ r i. (i.0, i.2)) is; live = makes.calls.call.live; ends = tt; disk = blamed }
-    step_takes runs (Err step.NotRunning) is serves own blamed = absurd (subst (λ (r : Option RunningState). OfRunning r (λ c. Unit {0})) is.0 runs)
+    step_takes runs (Err step.NotRunning) is serves own blamed = absurd (rw is.0 at runs)
     step_takes runs (Err (step.Damaged place class)) is serves own blamed =
         let made = (heard_made Advance s t old new before now (answers.Advance (Err (step.Damaged place class))) (step_called s t old new before now (Err (step.Damaged place class)) is serves own blamed)).makes in
         record { comes = one_failed Advance s t old new (faults.Damaged place class) made; state = tt; live = tt; ends = made.1.untold; disk = blamed }

@@ -1,5 +1,5 @@
 -- The commands of a put or a drop: those that make room, the append, and the reply to it.
-use Rattle.std.{proofs.Common.{◌≡◌, ℕ, ◌+◌, Bool, true, false, if◌then◌else◌, List, [], ◌∷◌, Option, Result, Ok, Err, sym, ◌∙◌, ap, subst}, specs.Prelude.{IfErr, OnOk}}
+use Rattle.std.{proofs.Common.{◌≡◌, ℕ, ◌+◌, Bool, true, false, if◌then◌else◌, List, [], ◌∷◌, Option, Result, Ok, Err, ◌∙◌, ap, subst}, specs.Prelude.{IfErr, OnOk}}
 use Rattle.df_disk.specs.Told.{Told}
 use Rattle.df_layout.specs.declared.layout.Layout.{Layout}
 use Rattle.df_theory.specs.Units.{Session}
@@ -12,11 +12,11 @@ use Rattle.df_table.{specs.{declared.ending.Ending.{Ending}, Calls.{Changes, Che
 
 pub room_made : {T : Type 0} (layout : Layout) (rows : Map) (s t : Replica) (old new : Option Told) (r : Result T Ending) → is_full (memory s) ≡ true → Checkpoints layout rows s t old new r → MakesRoom layout rows s t old new r
 room_made layout rows s t old new r full comes =
-    (comes.0, subst (λ (b : Bool). Comes (if b then checkpoint layout (memory s) rows comes.0 else []) s t old new r) (sym full) comes.1)
+    (comes.0, rw full comes.1)
 
 pub room_left : (layout : Layout) (rows : Map) (s : Replica) (told : Option Told) → is_full (memory s) ≡ false → MakesRoom {T = Unit {0}} layout rows s s told told (Ok tt)
 room_left layout rows s told room =
-    (0, subst (λ (b : Bool). MakeAll (if b then checkpoint layout (memory s) rows 0 else []) s s told told) (sym room) (make_none s told))
+    (0, rw room (make_none s told))
 
 -- ---- the request and its reply
 
@@ -37,13 +37,13 @@ module _ (c : Change) (s : Replica) (n : ℕ) (body : List ℕ) (asks : n ≡ ne
     pub reply_ends : (ending : Ending) → EndIn (Reply op [] ∷ []) v t one new ending → EndIn (request (memory s) c) s t old new ending
     reply_ends ending ends =
         subst (λ (l : List Command). EndIn l s t old new ending) same_parts
-        (end_more (Append the_client n body ∷ []) (Reply (s.head + 1) [] ∷ []) s v t old one new appends ending (subst (λ (k : ℕ). EndIn (Reply k [] ∷ []) v t one new ending) next ends))
+        (end_more (Append the_client n body ∷ []) (Reply (s.head + 1) [] ∷ []) s v t old one new appends ending (rw next at ends))
 
     -- both were made
     pub both_made : MakeAll (Reply op [] ∷ []) v t one new → MakeAll (request (memory s) c) s t old new
     both_made replies =
         subst (λ (l : List Command). MakeAll l s t old new) same_parts
-        (make_more (Append the_client n body ∷ []) (Reply (s.head + 1) [] ∷ []) s v t old one new appends (subst (λ (k : ℕ). MakeAll (Reply k [] ∷ []) v t one new) next replies))
+        (make_more (Append the_client n body ∷ []) (Reply (s.head + 1) [] ∷ []) s v t old one new appends (rw next at replies))
 
 -- ---- a put or a drop
 
@@ -60,7 +60,7 @@ module _ (layout : Layout) (rows : Map) (c : Change) (s : Replica) where
 
   pub change_comes : {T : Type 0} (u t : Replica) (old one new : Option Told) (r : Result T Ending) → MakesRoom {T = Unit {0}} layout rows s u old one (Ok tt) → HasRingRoom layout s u → Comes (request (memory u) c) u t one new r → Changes layout rows c s t old new r
   change_comes u t old one new r makes room comes =
-      (makes.0, comes_more (room_for layout (memory s) rows makes.0) (request (memory s) c) s u t old one new makes.1 r (subst (λ (l : List Command). Comes l u t one new r) (same_request u room) comes))
+      (makes.0, comes_more (room_for layout (memory s) rows makes.0) (request (memory s) c) s u t old one new makes.1 r (rw (same_request u room) at comes))
 
 -- calls may go on, or not: as it ended
 pub goes_or_ends : {T : Type 0} (result : Result T Ending) (t : Replica) (new : Option Told) → OnOk result (t.live ≡ true) → IfErr result (IsOfCall new) → GoesOrEnds result t new

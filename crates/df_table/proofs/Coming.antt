@@ -46,7 +46,7 @@ module _ (file : DataFile) (P : Table → Type 0) where
     stands = seen.stands;
     own = seen.own;
     table = table;
-    is = subst (λ (v : View). IsObjectTable file ((format file).unit_at image) v table) (one_view (shape file) ((format file).unit_at image) has.view seen.view has.held seen.held) has.table;
+    is = rw (one_view (shape file) ((format file).unit_at image) has.view seen.view has.held seen.held) at has.table;
     had = had;
   }
 
@@ -187,15 +187,15 @@ module _ (file : DataFile) (P : Table → Type 0) (b : Told) (version : file.ver
 
   mended : (f : DataFile) (raised : View) (exit : Log) → f ≡ file → IsSameBare view raised → EachMoment (did Sync b).log exit (IsGoodWholeDisk (format f) (shape f) view raised) → EachMoment (did Sync b).log exit (Order file P)
   mended f raised exit one bare each log moment =
-      good_order raised bare log (extends_on log (did Sync b).log b.log moment.since (Sync ∷ [], refl, refl)) (subst (λ (g : DataFile). IsGoodWholeDisk (format g) (shape g) view raised log) one (each log moment))
+      good_order raised bare log (extends_on log (did Sync b).log b.log moment.since (Sync ∷ [], refl, refl)) (rw one at (each log moment))
 
   -- at each moment of as much of the mending as was done
   pub mends_order : (layout : Layout) (new : Option Told) (part : MendsPartly layout t new) → EachMoment b.log (told_after part.mending.events (did Sync b)).log (Order file P)
   mends_order layout new part =
       let es = part.mending.events in
       let one : part.found.file ≡ file = one_opened layout part.found part.opened in
-      let mine : MayOpen part.found.file view b = subst (λ (f : DataFile). MayOpen f view b) (sym one) may in
-      let theirs : Stands (unit_at part.found.file.layout part.found.file.cluster t.shown) view = subst (λ (f : DataFile). Stands (unit_at f.layout f.cluster t.shown) view) (sym one) stands_there in
+      let mine : MayOpen part.found.file view b = rw one may in
+      let theirs : Stands (unit_at part.found.file.layout part.found.file.cluster t.shown) view = rw one stands_there in
       let both = part.moments Whole view b shown mine theirs in
       let n = told_after es (did Sync b) in
       behind_barrier n (grew es (did Sync b)) (mended part.found.file _ n.log one both.1 both.0)

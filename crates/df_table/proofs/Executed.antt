@@ -67,7 +67,7 @@ module _ (layout : Layout) (said : Said) (c : Command) (s t : Replica) (old new 
       → IsOfCall new ending → AnswersLine layout said s t old new table later written took turn
   ended steps ending written took turn ends is halts wrote of_call =
       subst (λ (u : Step). AnswersLine layout said s t old new table later written took u) (sym is)
-      (inr (ending, steps, subst (λ (l : List Command). EndIn (line_commands layout (memory s) table.rows steps l) s t old new ending) (sym asks_is) halts, wrote, fit_is, of_call))
+      (inr (ending, steps, rw asks_is halts, wrote, fit_is, of_call))
 
 -- ---- a line without one
 

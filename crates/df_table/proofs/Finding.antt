@@ -1,5 +1,5 @@
 -- An opening finds the table of a file whose sessions are all the client's: the blocks that the view references are read, and so are the prepares of its tail.
-use Rattle.std.{proofs.Common.{◌≡◌, inl, inr, ℕ, zero, suc, ◌+◌, ◌-◌, ◌%◌, ◌<◌, ◌≤◌, Bool, List, [], ◌∷◌, append-nil, map, Option, Some, None, Ok, refl, sym, ◌∙◌, ap, subst, arith}, specs.List.{range_with_len, slice_get}}
+use Rattle.std.{proofs.Common.{◌≡◌, inl, inr, ℕ, zero, suc, ◌+◌, ◌-◌, ◌%◌, ◌<◌, ◌≤◌, Bool, List, [], ◌∷◌, append-nil, map, Option, Some, None, Ok, refl, sym, ◌∙◌, ap, arith}, specs.List.{range_with_len, slice_get}}
 use Rattle.df_base.proofs.Laws.{zero_plus, not_zero}
 use Rattle.df_disk.specs.Told.{Told}
 use Rattle.df_layout.specs.{declared.damage.Class.{Class}, declared.layout.Layout.{Layout}, declared.damage.Class.TheVariants.{Stale}}
@@ -44,7 +44,7 @@ module _ (shown : Shown) (m : Memory) where
   prepares_read before op (p ∷ ps) clients parent mark ss is sums chain there =
       let at : op - m.content.op - 1 ≡ before + 0 = omega (arith, is) in
       let known : prepare_sum m op ≡ Some p.header.checksum = ap (λ (k : ℕ). slice_get m.prepares k) at ∙ sums 0 in
-      let shows : shown.units (PreparePlace (op % m.layout.slots)) ≡ Some (PrepareUnit p) = subst (λ (k : ℕ). shown.units (PreparePlace (k % m.layout.slots)) ≡ Some (PrepareUnit p)) chain.0.op_is (there p (inl refl)) in (
+      let shows : shown.units (PreparePlace (op % m.layout.slots)) ≡ Some (PrepareUnit p) = rw (← chain.0.op_is) (there p (inl refl)) in (
         prepare_shown (prepare_sum m op) (shown.units (PreparePlace (op % m.layout.slots))) (class_at shown (PreparePlace (op % m.layout.slots))) p shows known,
         prepares_read (before + 1) (op + 1) ps clients p.header.checksum p.header.mark (noted p.header ss) (omega (arith, is)) (λ k. ap (λ (i : ℕ). slice_get m.prepares i) (next k) ∙ sums (suc k)) chain.1 (λ q at. there q (inr at)),
       )

@@ -72,8 +72,8 @@ module _ (layout : Layout) (s : Replica) (ready : IsReadyReplica layout s) where
   tests body room short =
       let o = session_of_client the_client (memory s).sessions in
       let is = own_session (memory s).sessions ready.own.alone in
-      let first = subst (λ (p : Option Session). (is_new p && (length (memory s).sessions == (memory s).layout.clients)) ≡ false) (sym is) (room_test (memory s).sessions (memory s).layout.clients s.file.layout.clients_within.0) in
-      let low = subst (λ (p : Option Session). last_op p ≤ (memory s).replies) (sym is) answered in (
+      let first = rw (sym is) at (room_test (memory s).sessions (memory s).layout.clients s.file.layout.clients_within.0) in
+      let low = rw (sym is) at answered in (
         refl,
         (le-ltb _ _ (omega (arith, short, s.file.layout.message_size_within.0)), (first, (repeated_test o (memory s).replies, (le-ltb _ _ low, (ap not (eq-eqb (next_request o) (next_request o) refl), (ne_eqb _ _ (λ same. omega (arith, same, ready.own.answered)), (room, tt))))))),
       )
@@ -120,8 +120,8 @@ may_begin s idle free =
 pub may_store : (layout : Layout) (s : Replica) → IsReadyReplica layout s → is_full (memory s) ≡ false → (c : Command) → IsCommand c → (n : ℕ) (body : List ℕ) → n ≡ next_request (session_of_client the_client (memory s).sessions) → body ≡ body_of c → MayAppendCommand s n body
 may_store layout s ready room c fits n body number spells =
     subst (λ (k : ℕ). MayAppendCommand s k body) (sym number)
-    (subst (λ (bytes : List ℕ). MayAppendCommand s (next_request (session_of_client the_client (memory s).sessions)) bytes) (sym spells) (may_append layout s ready (body_of c) room (short_body c fits)))
+    (rw (sym spells) at (may_append layout s ready (body_of c) room (short_body c fits)))
 
 -- and the reply to it
 pub may_answer : (layout : Layout) (s t : Replica) → IsReadyReplica layout s → (n : ℕ) (body : List ℕ) (op : ℕ) → op ≡ s.head + 1 → t ≡ with_prepare_appended s (next_unit s the_client n body) → first_refusal (reply_refusals (memory t) op []) ≡ None
-may_answer layout s t ready n body op next behind = subst (λ (v : Replica). first_refusal (reply_refusals (memory v) op []) ≡ None) (sym behind) (may_reply layout s ready n body op next)
+may_answer layout s t ready n body op next behind = rw behind (may_reply layout s ready n body op next)

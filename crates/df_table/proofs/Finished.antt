@@ -1,5 +1,5 @@
 -- A checkpoint of the table from its writes to its end: it may be begun, and after it the ring has room.
-use Rattle.std.{proofs.Common.{◌≡◌, ℕ, ◌+◌, ◌*◌, ◌≤◌, true, List, [], ◌∷◌, ◌++◌, length, Option, Some, None, Result, Ok, Err, refl, sym, ◌∙◌, ap, subst, arith, le-ltb, length-take}, specs.Prelude.{OnOk, replicate}}
+use Rattle.std.{proofs.Common.{◌≡◌, ℕ, ◌+◌, ◌*◌, ◌≤◌, true, List, [], ◌∷◌, ◌++◌, length, Option, Some, None, Result, Ok, Err, refl, sym, ◌∙◌, ap, arith, le-ltb, length-take}, specs.Prelude.{OnOk, replicate}}
 use Rattle.df_disk.specs.Told.{Told}
 use Rattle.df_layout.specs.declared.layout.Layout.{Layout}
 use Rattle.df_theory.specs.Units.{Parts}
@@ -69,7 +69,7 @@ module _ (layout : Layout) (s t : Replica) (e : IsEmptied layout s t) (n : ℕ) 
 
     half_needed : 2 * needed u [] ≤ blocks_of_table layout + 4
     half_needed =
-        few_needed layout u layout_there (subst (λ (k : ℕ). k ≤ 64) (sym (ap (λ (v : Replica). length (memory v).sessions) base)) (few_sessions layout s e.ready)) few_live
+        few_needed layout u layout_there (rw (sym (ap (λ (v : Replica). length (memory v).sessions) base)) at (few_sessions layout s e.ready)) few_live
 
     -- a checkpoint may be begun
     pub may_conclude : MayBegin u
@@ -94,7 +94,7 @@ module _ (layout : Layout) (s t : Replica) (e : IsEmptied layout s t) (n : ℕ) 
           idle = idle_runs v done.idle;
           answered = done.replies ∙ ap (λ (x : Replica). x.replies) base ∙ e.ready.own.answered ∙ sym (ap (λ (x : Replica). x.head) base) ∙ sym done.head;
           unstaged = done.staged ∙ ap (λ (x : Replica). x.staged) base ∙ e.ready.own.unstaged;
-          alone = subst (λ (x : Sessions). AreOwn (sessions_of x.sessions)) (sym (done.table ∙ ap (λ (x : Replica). x.table) base)) e.ready.own.alone;
+          alone = rw (sym (done.table ∙ ap (λ (x : Replica). x.table) base)) at e.ready.own.alone;
         };
         space = record {
           live = ap places (done.live ∙ sym done.durable);

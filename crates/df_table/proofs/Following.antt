@@ -24,7 +24,7 @@ module _ (layout : Layout) (shown : Shown) (m : Memory) where
       upto = omega (arith, is.upto, length-append is.prepares (p ∷ []));
       read = prepares_more shown m (m.content.op + 1) (op + 1) is.prepares p (omega (arith, is.upto)) is.read shows;
       commands = is.commands ++ c ∷ [];
-      follow = follow_more is.base is.prepares is.commands p c is.follow (subst (λ (k : Table). CommandFollows k p.body c) is.is follows);
+      follow = follow_more is.base is.prepares is.commands p c is.follow (rw is.is at follows);
       is = ap (with_command c) is.is ∙ sym (commands_more is.commands (c ∷ []) is.base);
     }
 
@@ -35,8 +35,8 @@ module _ (layout : Layout) (shown : Shown) (m : Memory) where
     -- or how it ends
     pub followed_ends : (A : Type 0) (later : Table) (ending : Ending) → op < m.head → ReadsPrepare {A = A} layout shown m (op + 1) t later (Err ending) → FindsOf layout shown m (Err ending)
     followed_ends A later Disk less reads = inl refl
-    followed_ends A later (Damaged place class) less reads = inr (subst (λ (p : Place). FindsTable layout shown m (Err (Damaged p class))) (sym reads.0) (PrepareHurt op t class is less reads.1))
-    followed_ends A later (NotTable place) less reads = inr (subst (λ (p : Place). FindsTable layout shown m (Err (NotTable p))) (sym reads.2.0) (OtherPrepare op t reads.0 is less reads.1 reads.2.1))
+    followed_ends A later (Damaged place class) less reads = inr (rw (sym reads.0) at (PrepareHurt op t class is less reads.1))
+    followed_ends A later (NotTable place) less reads = inr (rw (sym reads.2.0) at (OtherPrepare op t reads.0 is less reads.1 reads.2.1))
     followed_ends A later OpsSpent less reads = absurd reads
     followed_ends A later SequenceSpent less reads = absurd reads
 

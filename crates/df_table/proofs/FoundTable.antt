@@ -116,7 +116,7 @@ found_is_table file t v table whole found finds =
     let shown : Shown = shown_of file t.shown in
     let are = found_followed file.layout shown m table (Ok table) refl finds in
     let live : m.blocks.live ≡ are.blocks.before = are.blocks.of ∙ append-nil are.blocks.before in
-    let read : AreReadBlocks shown m m.blocks.live are.blocks.bodies = subst (λ (l : List (ℕ × ℕ)). AreReadBlocks shown m l are.blocks.bodies) (sym live) are.blocks.read in
+    let read : AreReadBlocks shown m m.blocks.live are.blocks.bodies = rw (sym live) at are.blocks.read in
     let tail : are.prepares ≡ v.tail =
     tail_seen shown m (m.content.op + 1) are.prepares v.tail _ _ _ _ are.read found.tail.chain (λ q at. (found.tail.takes q at).shown) (omega (arith, are.upto)) in
     record {
@@ -126,6 +126,6 @@ found_is_table file t v table whole found finds =
       base = are.base;
       rows = are.blocks.taken;
       commands = are.commands;
-      tail = subst (λ (l : List Message). FollowAll are.base l are.commands) tail are.follow;
+      tail = rw tail at are.follow;
       is = are.is;
     }

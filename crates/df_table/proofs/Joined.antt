@@ -1,5 +1,5 @@
 -- Commands that were made one after the other are joined: all of some, and then others, or the first of them.
-use Rattle.std.proofs.{Common.{◌≡◌, inl, inr, List, [], ◌∷◌, ◌++◌, All, map, Option, Some, None, Result, Ok, Err, refl, sym, ◌∙◌, ap, subst, append_assoc}, lemmas.List.{map-append}, lemmas.List.Elements.{All-append, All-cons, All-head, All-nil, All-tail}}
+use Rattle.std.proofs.{Common.{◌≡◌, inl, inr, List, [], ◌∷◌, ◌++◌, All, map, Option, Some, None, Result, Ok, Err, refl, sym, ◌∙◌, ap, append_assoc}, lemmas.List.{map-append}, lemmas.List.Elements.{All-append, All-cons, All-head, All-nil, All-tail}}
 use Rattle.df_disk.specs.Told.{Told}
 use Rattle.df_layout.specs.declared.places.Place.{Place}
 use Rattle.df_model.specs.Commands.{Answer, Command}
@@ -97,7 +97,7 @@ module _ (command : Command) (s t : Replica) (old new : Option Told) where
   -- it was made, and has no answer
   why_failed : (act : Act) → act.command ≡ command → (fault : Fault) → EndsBy fault command new → EndsFor (ended_by fault) new [] (Some act)
   why_failed act is faults.Disk ends = (act, refl)
-  why_failed act is (faults.Damaged place class) ends = inl (act, refl, subst (λ (c : Command). IsDamagedStep c new place class) (sym is) ends)
+  why_failed act is (faults.Damaged place class) ends = inl (act, refl, rw (sym is) at ends)
 
   pub one_failed : (fault : Fault) → Makes command s t old new None × EndsBy fault command new → EndIn (command ∷ []) s t old new (ended_by fault)
   one_failed fault made = record {

@@ -63,7 +63,7 @@ module _ (file : DataFile) where
   mid_of log v u t changes m first second good = record {
     safe = good.safe;
     left = λ image left chance. elim (good.left image left chance) [
-      | inl before ↦ (0, subst (λ (x : Table). HasTable file x image) (sym (none_taken t changes)) (has_table log image v t chance before.0 before.1 first))
+      | inl before ↦ (0, rw (sym (none_taken t changes)) at (has_table log image v t chance before.0 before.1 first))
       | inr after ↦ (m, has_table log image u (with_commands (take m changes) t) chance after.0 after.1 second)
     ];
   }
@@ -72,12 +72,12 @@ module _ (file : DataFile) where
   pub mid_kept : (s : Replica) (w : Work) (n : Told) (t : Table) (changes : List Change) → At file s w n t → IsTableMidway file t changes n.log
   mid_kept s w n t changes is =
       let each = (nothing_is_served s (Some n) is.live).kept_on Whole w (Some n) is.kept_is in
-      let mid = subst (λ (f : DataFile). machine.IsMidway f Whole w [] n.log) is.same (each.0.1 n.log (record { since = extends_self n.log; until = extends_self n.log })) in
+      let mid = rw is.same at (each.0.1 n.log (record { since = extends_self n.log; until = extends_self n.log })) in
       record {
         safe = mid.safe;
         left = λ image left chance.
             let some = mid.left image left chance in
-            (0, subst (λ (x : Table). HasTable file x image) (sym (none_taken t changes)) (has_table n.log image some.0 t chance some.2.0 some.2.1 (table_bare file (units_log (format file) n.log) (kept w) some.0 t some.1.parts some.1.tail is.table)));
+            (0, rw (sym (none_taken t changes)) at (has_table n.log image some.0 t chance some.2.0 some.2.1 (table_bare file (units_log (format file) n.log) (kept w) some.0 t some.1.parts some.1.tail is.table)));
       }
 
   -- more changes after, and some before
@@ -105,7 +105,7 @@ module _ (file : DataFile) where
     left = λ image left chance.
         let has = is.left image left chance in
         let k = take_front has.0 some more in
-        (k.0, subst (λ (l : List Change). HasTable file (with_commands l t) image) (sym k.1) has.1);
+        (k.0, rw (sym k.1) at has.1);
   }
 
   pub mid_behind : (log : Log) (t : Table) (some more : List Change) → IsTableMidway file (with_commands some t) more log → IsTableMidway file t (some ++ more) log
@@ -114,7 +114,7 @@ module _ (file : DataFile) where
     left = λ image left chance.
         let has = is.left image left chance in
         let k = take_behind has.0 some more in
-        (k.0, subst (λ (x : Table). HasTable file x image) (sym (ap (λ (l : List Change). with_commands l t) k.1 ∙ commands_more some (take has.0 more) t)) has.1);
+        (k.0, rw (sym (ap (λ (l : List Change). with_commands l t) k.1 ∙ commands_more some (take has.0 more) t)) at has.1);
   }
 
 -- ---- calls
@@ -140,7 +140,7 @@ at_behind file a s u old mid x w n t v is c table = record {
   same = same_behind file a s u old mid x w n is.same is.kept_is c.call;
   live = c.call.live;
   kept_is = kept_behind file a s u old mid x w n is.same is.kept_is c.call;
-  table = table_later file n.log (told_after c.call.events n).log _ v (subst (λ (l : Log). Extends l n.log) (sym (told_log c.call.events n)) (adds_extends c.call.events n.log)) table;
+  table = table_later file n.log (told_after c.call.events n).log _ v (rw (sym (told_log c.call.events n)) at (adds_extends c.call.events n.log)) table;
 }
 
 -- the calls of a session, the last of which perhaps failed
@@ -180,7 +180,7 @@ module _ (file : DataFile) (failed : Option Act) (u to : Replica) (mid new : Opt
       (λ log moment.
       mid_more file log t some more
       (mid_of file log (kept w) (kept (next file w a.given a.command).0) t some (length some) (table_later file n.log log (kept w) t moment.since is.table)
-      (subst (λ (l : List Change). IsTableIn file (units_log (format file) log) (kept (next file w a.given a.command).0) (with_commands l t)) (sym (take_all some))
+      (rw ((take_all some))
       (table_later file n.log log (kept (next file w a.given a.command).0) (with_commands some t) moment.since table))
       (good file a s r old one x w n is.same is.kept_is c.call log moment)))
       (weaker (told_after c.call.events n).log after.log (IsTableMidway file (with_commands some t) more) (IsTableMidway file t (some ++ more)) (λ log is. mid_behind file log t some more is) rest)
@@ -226,7 +226,7 @@ module _ (file : DataFile) (failed : Option Act) (u to : Replica) (mid new : Opt
       let there = at_behind file x.act s r old one x.answer w n t (with_commands some t) is c here.0 in
       let later = at_end xs r one rest (next file w x.act.given x.act.command).0 behind (with_commands some t) more there here.1 are.3 in
       subst (λ (o : Told). IsTableMidway file (with_commands changes t) pending o.log) (sym (ap last_told (told_append es (call_events rest) n)))
-      (subst (λ (x : Table). IsTableMidway file x pending (all_told rest behind).log) (sym (ap (λ (l : List Change). with_commands l t) are.4 ∙ commands_more some more t)) later)
+      (rw ((ap (λ (l : List Change). with_commands l t) are.4 ∙ commands_more some more t)) later)
 
   -- at each moment from the k-th answer on
   pub from_answer : (k : ℕ) (xs : List Exchange) (s : Replica) (old : Option Told) (calls : AreCalls s old xs u mid) (w : Work) (n : Told) (t : Table) (some more : List Change) (log : Log) → At file s w n t
@@ -242,5 +242,5 @@ module _ (file : DataFile) (failed : Option Act) (u to : Replica) (mid new : Opt
       let there = at_behind file x.act s r old one x.answer w n t (with_commands first t) is c here.0 in
       let later =
       from_answer k xs r one rest (next file w x.act.given x.act.command).0 behind (with_commands first t) before.1 more log there here.1 before.3 after
-      (subst (λ (o : Option Told). HadReturned k o log rest) (added_is_told es n) since) (subst (λ (o : Told). Extends o.log log) (ap last_told (told_append es (call_events rest) n)) until) in
-      subst (λ (x : Table). IsTableMidway file x (more ++ pending) log) (sym (ap (λ (l : List Change). with_commands l t) before.4 ∙ commands_more first before.1 t)) later
+      (rw (← (added_is_told es n)) since) (rw (← (ap last_told (told_append es (call_events rest) n))) until) in
+      rw ((ap (λ (l : List Change). with_commands l t) before.4 ∙ commands_more first before.1 t)) later

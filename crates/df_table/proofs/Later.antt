@@ -26,7 +26,7 @@ pub good_moments : (a : Act) (s u : Replica) (old mid : Option Told) (answer : O
     → EachMoment n.log (told_after c.events n).log (IsGoodWholeDisk (format s.file) (shape s.file) (kept w) (kept (next s.file w a.given a.command).0))
 good_moments a s u old mid answer w n kept_is c =
     let is = (c.keeps Whole w (Some n) kept_is).0 in
-    (subst (λ (o : Option Told). EachIsGood Whole s (kept w) (kept (next s.file w a.given a.command).0) (Some n) o) (added_is_told c.events n) is).1
+    (rw (added_is_told c.events n) at is).1
 
 -- ---- an answered call
 
@@ -84,6 +84,6 @@ module _ (file : DataFile) (a : Act) (s u : Replica) (old mid : Option Told) (x 
       leaves.units.block address ∙ ap (λ (k : Command). or_else (puts_of (memory s) sums k (BlockPlace address)) (unit_at s.file.layout s.file.cluster image (BlockPlace address))) is
       ∙ ap (λ (o : Option AnyUnit). or_else o (unit_at s.file.layout s.file.cluster image (BlockPlace address))) put in
       let there : unit_at file.layout file.cluster (image_after c.events image) (BlockPlace address) ≡ Some (BlockUnit b) =
-      subst (λ (f : DataFile). unit_at f.layout f.cluster (image_after c.events image) (BlockPlace address) ≡ Some (BlockUnit b)) same shown in
+      rw (← same) shown in
       let now_is : logs.now behind.log ≡ image_after c.events image = ap (λ (l : Log). logs.now l) (told_log c.events n) ∙ sym (image_on c.events n.log) in
       shown_written address b (ap (λ (i : Image). unit_at file.layout file.cluster i (BlockPlace address)) now_is ∙ there)

@@ -1,5 +1,5 @@
 -- How the table of a view follows from that of the one before: an append changes it by its command, and a checkpoint of the table leaves it.
-use Rattle.std.{proofs.Common.{◌≡◌, ◌≤◌, ℕ, List, [], ◌∷◌, ◌++◌, length, refl, sym, ◌∙◌, ap, subst, arith}, specs.Prelude.{All}}
+use Rattle.std.{proofs.Common.{◌≡◌, ◌≤◌, ℕ, List, [], ◌∷◌, ◌++◌, length, refl, sym, ◌∙◌, ap, arith}, specs.Prelude.{All}}
 use Rattle.std.specs.FinMap as map
 use Rattle.df_damage.specs.Written.{IsWritten}
 use Rattle.df_rows.{specs.{declared.command.Command.{Command}, Blocks.{TakesAll, bodies_of}, Limits.{blocks_of_table, most_rows, rows_in_block}, Rows.{IsEntry}, Tables.{Table, with_command, with_commands}}, proofs.Laws.{blocks_are_table, commands_more, some_rows}}
@@ -19,12 +19,12 @@ follow_more t (q ∷ ps) (d ∷ cs) p c all one = (all.0, follow_more (with_comm
 pub table_appended : (file : DataFile) (log : UnitLog) (v u : View) (t : Table) (p : Message) (c : Command) → u.checkpoint ≡ v.checkpoint → u.tail ≡ v.tail ++ p ∷ [] → CommandFollows t p.body c → IsTableIn file log v t → IsTableIn file log u (with_command c t)
 table_appended file log v u t p c same longer follows is = record {
   bodies = is.bodies;
-  there = subst (λ (l : List (ℕ × ℕ)). WroteBodies log l is.bodies) (sym (ap (λ k. references_of file (record v { checkpoint = k })) same)) is.there;
+  there = rw (sym (ap (λ k. references_of file (record v { checkpoint = k })) same)) at is.there;
   few = is.few;
   base = is.base;
   rows = is.rows;
   commands = is.commands ++ c ∷ [];
-  tail = subst (λ (l : List Message). FollowAll is.base l (is.commands ++ c ∷ [])) (sym longer) (follow_more is.base v.tail is.commands p c is.tail (subst (λ (b : Table). CommandFollows b p.body c) is.is follows));
+  tail = rw (sym longer) at (follow_more is.base v.tail is.commands p c is.tail (rw is.is at follows));
   is = ap (with_command c) is.is ∙ sym (commands_more is.commands (c ∷ []) is.base);
 }
 
@@ -32,12 +32,12 @@ table_appended file log v u t p c same longer follows is = record {
 pub bare_by : (At : Place → AnyUnit → Type 0) (file : DataFile) (v u : View) (t : Table) → u.checkpoint.parts ≡ v.checkpoint.parts → u.tail ≡ v.tail → IsTableBy At file v t → IsTableBy At file u t
 bare_by At file v u t parts tail is = record {
   bodies = is.bodies;
-  there = subst (λ (l : List (ℕ × ℕ)). HaveBodies At l is.bodies) (sym (ap (λ (p : Parts). entries p.references (addresses (shape file).layout)) parts)) is.there;
+  there = rw (sym (ap (λ (p : Parts). entries p.references (addresses (shape file).layout)) parts)) at is.there;
   few = is.few;
   base = is.base;
   rows = is.rows;
   commands = is.commands;
-  tail = subst (λ (l : List Message). FollowAll is.base l is.commands) (sym tail) is.tail;
+  tail = rw (sym tail) at is.tail;
   is = is.is;
 }
 
@@ -56,8 +56,8 @@ table_finished file log u t max few fit blocks wrote empty = record {
   there = wrote;
   few = blocks;
   base = t;
-  rows = subst (λ (n : ℕ). TakesAll (record { max = n; rows = map.empty }) (bodies_of (rows_in_block file.layout) (map.entries t.rows)) t) max (blocks_are_table (rows_in_block file.layout) t (omega (arith, some_rows file.layout)) fit few);
+  rows = rw (← max) (blocks_are_table (rows_in_block file.layout) t (omega (arith, some_rows file.layout)) fit few);
   commands = [];
-  tail = subst (λ (l : List Message). FollowAll t l []) (sym empty) tt;
+  tail = rw empty tt;
   is = refl;
 }

@@ -73,7 +73,7 @@ returned_since zero n log calls had = had
 returned_since (suc k) n log NoCalls had = absurd had
 returned_since (suc k) n log (More u mid call rest) had =
     let later = told_after call.call.events n in
-    extends_on log later.log n.log (returned_since k later log rest (subst (λ (o : Option Told). HadReturned k o log rest) (added_is_told call.call.events n) had)) (grew call.call.events n)
+    extends_on log later.log n.log (returned_since k later log rest (rw (added_is_told call.call.events n) at had)) (grew call.call.events n)
 
 answers_since : (k : ℕ) (n : Told) (log : Log) (s r : Replica) (old new : Option Told) (xs : List Exchange) (failed : Option Act) (calls : EndsCalls s r old new xs failed) → HadAnswers k (Some n) log s r old new xs failed calls → Extends log n.log
 answers_since k n log s r old new xs None calls had = returned_since k n log calls had
@@ -121,8 +121,8 @@ module _ (file : DataFile) (w : Work) (t : Table) (base : Told) (mending : List 
     moments = moments;
     answered = λ k log some more before behind had until.
         let since = extends_on log (told_after mending (did Sync base)).log (did Sync base).log (were_since k (told_after mending (did Sync base)) log c had) (grew mending (did Sync base)) in
-        subst (λ (l : List Change). IsTableMidway file (with_commands l t) (more ++ []) log) (sym (only_nones (take k c.exchanges) [] some (first_leave k c.exchanges (list_of c.failed) leave) before))
-        (subst (λ (l : List Change). IsTableMidway file t (l ++ []) log) (sym (only_nones (drop k c.exchanges) (list_of c.failed) more (rest_leave k c.exchanges (list_of c.failed) leave) behind))
+        rw ((only_nones (take k c.exchanges) [] some (first_leave k c.exchanges (list_of c.failed) leave) before))
+        (rw ((only_nones (drop k c.exchanges) (list_of c.failed) more (rest_leave k c.exchanges (list_of c.failed) leave) behind))
         (moments log (record { since = since; until = until })));
     end_safe = moments end.log (record { since = barrier; until = extends_self end.log });
   }

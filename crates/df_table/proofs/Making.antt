@@ -37,7 +37,7 @@ all_making all s t old now is = subst (λ (l : List Command). MakeAll l s t old 
 
 module _ (f : ℕ → Command) (all : List Command) (b h : ℕ) (less : b < h) (s t u : Replica) (old now new : Option Told) (is : IsMaking all (map f (range_with_len (b + 1) (h - b))) s t old now) where
   counted : IsMaking all ((f (b + 1) ∷ []) ++ map f (range_with_len (b + 1 + 1) (h - (b + 1)))) s t old now
-  counted = subst (λ (k : ℕ). IsMaking all (map f (range_with_len (b + 1) k)) s t old now) one_more is
+  counted = rw one_more at is
     where
       one_more : h - b ≡ suc (h - (b + 1))
       one_more = omega (arith, less)
@@ -49,7 +49,7 @@ module _ (f : ℕ → Command) (all : List Command) (b h : ℕ) (less : b < h) (
   counted_ends ending ends = making_ends all (f (b + 1) ∷ []) (map f (range_with_len (b + 1 + 1) (h - (b + 1)))) s t u old now new counted ending ends
 
 pub all_counted : (f : ℕ → Command) (all : List Command) (b h : ℕ) (s t : Replica) (old now : Option Told) → h ≤ b → IsMaking all (map f (range_with_len (b + 1) (h - b))) s t old now → MakeAll all s t old now
-all_counted f all b h s t old now past is = all_making all s t old now (subst (λ (k : ℕ). IsMaking all (map f (range_with_len (b + 1) k)) s t old now) (none b h past) is)
+all_counted f all b h s t old now past is = all_making all s t old now (rw (none b h past) at is)
   where
     none : (b h : ℕ) → h ≤ b → h - b ≡ 0
     none b h past = omega (arith, past)

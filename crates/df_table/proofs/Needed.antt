@@ -73,12 +73,12 @@ module _ (s : Replica) (few : length (memory s).sessions ≤ 64) where
 
 pub few_needed : (layout : Layout) (s : Replica) → s.file.layout ≡ layout → length (memory s).sessions ≤ 64 → length s.blocks.live ≤ blocks_of_table layout → 2 * needed s [] ≤ blocks_of_table layout + 4
 few_needed layout s is few live =
-    subst (λ (l : Layout). 2 * needed s [] ≤ blocks_of_table l + 4) is (own_needed s few (subst (λ (l : Layout). length s.blocks.live ≤ blocks_of_table l) (sym is) live))
+    subst (λ (l : Layout). 2 * needed s [] ≤ blocks_of_table l + 4) is (own_needed s few (rw (sym is) at live))
 
 -- ---- the trailer of a checkpoint that is durable
 
 pub few_linked : (room size n t : ℕ) → 3840 ≤ room → (0 < n → room * (n - 1) < size) → (0 < n → size ≤ 49 * t + 3400) → 2 * n ≤ t + 4
 few_linked room size zero t big needed short = omega arith
 few_linked room size (suc p) t big needed short =
-    let less : room * p < size = subst (λ (k : ℕ). room * k < size) (suc_minus p) (needed (omega arith)) in
+    let less : room * p < size = rw (suc_minus p) at (needed (omega arith)) in
     omega (arith, short (omega arith), less, mul-le-mul_right p big)

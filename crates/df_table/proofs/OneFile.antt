@@ -1,5 +1,5 @@
 -- What an open finds of a disk that may be opened is the file, and what the opening finds is the one table.
-use Rattle.std.proofs.Common.{◌≡◌, ◌⊎◌, inl, inr, ◌∙◌, Ok, Err, sym, subst}
+use Rattle.std.proofs.Common.{◌≡◌, ◌⊎◌, inl, inr, ◌∙◌, Ok, Err, sym}
 use Rattle.df_base.specs.Image.{Image}
 use Rattle.df_disk.specs.Told.{Told}
 use Rattle.df_layout.specs.declared.layout.Layout.{Layout}
@@ -28,11 +28,11 @@ module _ (file : DataFile) (view : View) (t : Told) (found_here : IsFound (shape
     | inl disk ↦ inl disk
     | inr finds ↦
         let s = found.replica in
-        let there : IsFound (shape s.file) (unit_at s.file.layout s.file.cluster t.shown) view = subst (λ (f : DataFile). IsFound (shape f) (unit_at f.layout f.cluster t.shown) view) (sym (found_one layout found)) found_here in
+        let there : IsFound (shape s.file) (unit_at s.file.layout s.file.cluster t.shown) view = rw (sym (found_one layout found)) at found_here in
         let own : FindsTable s.file.layout (shown_of s.file t.shown) (memory_of (shape s.file) (spelling s.file) (begun_work s.file t.shown view)) serves.opened =
-        subst (λ (m : Memory). FindsTable s.file.layout (shown_of s.file t.shown) m serves.opened) (serves.calls.stands view there).1
-        (subst (λ (l : Layout). FindsTable l (shown_of s.file t.shown) (memory s) serves.opened) (sym (layout_there layout t found)) finds) in
-        inr (subst (λ (f : DataFile). FindsTable f.layout (shown_of f t.shown) (memory_of (shape f) (spelling f) (begun_work f t.shown view)) serves.opened) (found_one layout found) own)
+        rw (serves.calls.stands view there).1 at
+        (rw (sym (layout_there layout t found)) at finds) in
+        inr (rw (found_one layout found) at own)
   ]
 
   -- so it is the one table that is found there

@@ -31,7 +31,7 @@ module _ (shown : Shown) (m : Memory) where
   block_head : (x : ℕ × ℕ) (xs : List (ℕ × ℕ)) (bodies : List (List ℕ)) (t u : Table) → AreReadBlocks shown m (x ∷ xs) bodies → TakesAll t bodies u → BlockHead x xs t u
   block_head x xs [] t u read takes = absurd read
   block_head x xs (body ∷ more) t u read takes =
-      record { block = read.0.0; read = read.0.1; entries = takes.0; takes = subst (λ (b : List ℕ). TableTakes t b takes.0) (sym read.0.2) takes.1; bodies = more; reads = read.1; rest = takes.2 }
+      record { block = read.0.0; read = read.0.1; entries = takes.0; takes = rw (sym read.0.2) at takes.1; bodies = more; reads = read.1; rest = takes.2 }
 
   block_none : (bodies : List (List ℕ)) (t u : Table) → AreReadBlocks shown m [] bodies → TakesAll t bodies u → u ≡ t
   block_none [] t u read takes = takes
@@ -69,10 +69,10 @@ module _ (shown : Shown) (m : Memory) where
   compare [] r1 [] r2 bodies1 bodies2 t t1 t2 is read1 take1 read2 take2 = inl (record { rest = is; table = block_none bodies1 t t1 read1 take1 ∙ sym (block_none bodies2 t t2 read2 take2) })
   compare [] r1 (y ∷ b2) r2 bodies1 bodies2 t t1 t2 is read1 take1 read2 take2 =
       let h = block_head y b2 bodies2 t t2 read2 take2 in
-      inr (inr (record { next = y; more = b2 ++ r2; is = is; block = h.block; read = h.read; entries = h.entries; takes = subst (λ (u : Table). TableTakes u h.block.body h.entries) (sym (block_none bodies1 t t1 read1 take1)) h.takes; less = omega arith }))
+      inr (inr (record { next = y; more = b2 ++ r2; is = is; block = h.block; read = h.read; entries = h.entries; takes = rw ((block_none bodies1 t t1 read1 take1)) h.takes; less = omega arith }))
   compare (x ∷ b1) r1 [] r2 bodies1 bodies2 t t1 t2 is read1 take1 read2 take2 =
       let h = block_head x b1 bodies1 t t1 read1 take1 in
-      inr (inl (record { next = x; more = b1 ++ r1; is = sym is; block = h.block; read = h.read; entries = h.entries; takes = subst (λ (u : Table). TableTakes u h.block.body h.entries) (sym (block_none bodies2 t t2 read2 take2)) h.takes; less = omega arith }))
+      inr (inl (record { next = x; more = b1 ++ r1; is = sym is; block = h.block; read = h.read; entries = h.entries; takes = rw ((block_none bodies2 t t2 read2 take2)) h.takes; less = omega arith }))
   compare (x ∷ b1) r1 (y ∷ b2) r2 bodies1 bodies2 t t1 t2 is read1 take1 read2 take2 =
       let one = block_head x b1 bodies1 t t1 read1 take1 in
       let two = block_head y b2 bodies2 t t2 read2 take2 in
@@ -80,9 +80,9 @@ module _ (shown : Shown) (m : Memory) where
       let first : x ≡ y = cc in
       let more : b1 ++ r1 ≡ b2 ++ r2 = cc in
       let block = ok_one Block Class (block_read shown m (ReadBlock x.0)) one.block two.block one.read (ap (λ (z : ℕ × ℕ). block_read shown m (ReadBlock z.0)) first ∙ two.read) in
-      let entries = one_body t one.block.body two.entries one.entries (subst (λ (b : Block). TableTakes t b.body two.entries) (sym block) two.takes) one.takes in
+      let entries = one_body t one.block.body two.entries one.entries (rw (sym block) at two.takes) one.takes in
       all_on r1 r2 t1 t2 (length b1) (length b2)
-      (compare b1 r1 b2 r2 one.bodies two.bodies (with_rows one.entries t) t1 t2 more one.reads one.rest two.reads (subst (λ (es : List Entry). TakesAll (with_rows es t) two.bodies t2) entries two.rest))
+      (compare b1 r1 b2 r2 one.bodies two.bodies (with_rows one.entries t) t1 t2 more one.reads one.rest two.reads (rw entries at two.rest))
 
   -- ---- prepares
 
@@ -131,7 +131,7 @@ module _ (shown : Shown) (m : Memory) where
   compare_tail op (p ∷ p1) (q ∷ p2) (c ∷ c1) (d ∷ c2) t read1 all1 read2 all2 =
       let prepare = ok_one Message Class (message_given shown m (ReadPrepare op)) p q read1.0 read2.0 in
       let command : c ≡ d = one_command c d all1.0.fits all2.0.fits (sym all1.0.body_is ∙ ap (λ (x : Message). x.body) prepare ∙ all2.0.body_is) in
-      let behind : FollowAll (with_command c t) p2 c2 = subst (λ (e : Command). FollowAll (with_command e t) p2 c2) (sym command) all2.1 in
+      let behind : FollowAll (with_command c t) p2 c2 = rw (sym command) at all2.1 in
       subst (λ (e : Command). TailCompared op (with_commands c1 (with_command c t)) (with_commands c2 (with_command e t)) (suc (length p1)) (suc (length p2))) command
       (tail_all_on op (with_commands c1 (with_command c t)) (with_commands c2 (with_command c t)) (length p1) (length p2) (compare_tail (op + 1) p1 p2 c1 c2 (with_command c t) read1.1 all1.1 read2.1 behind))
 
@@ -192,7 +192,7 @@ module _ (layout : Layout) (shown : Shown) (m : Memory) where
     where
       go : BlockWhy x before t r → block_read shown m (ReadBlock x.0) ≡ Ok g.block → ⊥
       go (inl hurt) read = ok_err Block Class (block_read shown m (ReadBlock x.0)) g.block hurt.0 read hurt.1
-      go (inr (b, there, inl none, is)) read = none g.entries (subst (λ (y : Block). TableTakes t y.body g.entries) (ok_one Block Class (block_read shown m (ReadBlock x.0)) g.block b read there) g.takes)
+      go (inr (b, there, inl none, is)) read = none g.entries (rw (ok_one Block Class (block_read shown m (ReadBlock x.0)) g.block b read there) at g.takes)
       go (inr (b, there, inr many, is)) read = omega (arith, many, few, g.less)
 
   compare_taken : (r1 r2 : List (ℕ × ℕ)) (t1 t2 : Table) (a : AreTakenBlocks layout shown m r1 t1) (b : AreTakenBlocks layout shown m r2 t2) → Compared shown m r1 r2 t1 t2 (length a.before) (length b.before)
@@ -243,12 +243,12 @@ module _ (layout : Layout) (shown : Shown) (m : Memory) where
   ends_tail : (op : ℕ) (t u : Table) (r : Result Table Ending) (short long : ℕ) → op ≡ m.content.op + short → m.content.op + long ≤ m.head → t ≡ u → TailWhy op t r → TailGoesOn shown m (m.content.op + 1) u short long → ⊥
   ends_tail op t u r short long from within same why g =
       let place : m.content.op + 1 + short ≡ op + 1 = omega (arith, from) in
-      go why (subst (λ (n : ℕ). message_given shown m (ReadPrepare n) ≡ Ok g.prepare) place g.read)
+      go why (rw place at g.read)
     where
       go : TailWhy op t r → message_given shown m (ReadPrepare (op + 1)) ≡ Ok g.prepare → ⊥
       go (inl (less, class, hurt, is)) read = ok_err Message Class (message_given shown m (ReadPrepare (op + 1))) g.prepare class read hurt
       go (inr (inl (less, p, there, none, is))) read =
-          none g.command (subst (λ (v : Table). CommandFollows v p.body g.command) (sym same) (subst (λ (q : Message). CommandFollows u q.body g.command) (ok_one Message Class (message_given shown m (ReadPrepare (op + 1))) g.prepare p read there) g.follows))
+          none g.command (rw (sym same) at (rw (ok_one Message Class (message_given shown m (ReadPrepare (op + 1))) g.prepare p read there) at g.follows))
       go (inr (inr (all, is))) read = omega (arith, from, all, within, g.less)
 
   tail_way : (op : ℕ) (t : Table) (r1 r2 : Result Table Ending) → TailWhy op t r1 → TailWhy op t r2 → r1 ≡ r2
@@ -277,7 +277,7 @@ module _ (layout : Layout) (shown : Shown) (m : Memory) where
       let a = one.followed in
       let b = two.followed in
       let base = one_base a.base b.base a.blocks b.blocks in
-      let follow = subst (λ (u : Table). FollowAll u b.prepares b.commands) (sym base) b.follow in
+      let follow = rw (sym base) at b.follow in
       let behind : two.table ≡ with_commands b.commands a.base = b.is ∙ ap (λ (u : Table). with_commands b.commands u) (sym base) in
       go behind (compare_tail shown m (m.content.op + 1) a.prepares b.prepares a.commands b.commands a.base a.read a.follow b.read follow)
     where
@@ -286,7 +286,7 @@ module _ (layout : Layout) (shown : Shown) (m : Memory) where
       go behind (inl same) =
           let op : two.op ≡ one.op = omega (arith, one.followed.upto, two.followed.upto, same.count) in
           let table : two.table ≡ one.table = behind ∙ sym same.table ∙ sym one.followed.is in
-          tail_way one.op one.table r1 r2 one.why (subst (λ (n : ℕ). TailWhy n one.table r2) op (subst (λ (u : Table). TailWhy two.op u r2) table two.why))
+          tail_way one.op one.table r1 r2 one.why (rw op at (rw table at two.why))
       go behind (inr (inl g)) =
           absurd (
           ends_tail two.op two.table (with_commands two.followed.commands one.followed.base) r2 (length two.followed.prepares) (length one.followed.prepares) two.followed.upto

@@ -96,8 +96,8 @@ module _ (file : DataFile) where
   moves a s u w o mid x is c =
       let es = c.call.events in
       let leaves = c.call.leaves o.shown is.whole in
-      let behind = subst (λ (f : DataFile). (x ≡ (next f w a.given a.command).1) × Keeps Firm u (next f w a.given a.command).0 None) is.same (c.call.answers Firm w is.stands) in
-      let own : memory s ≡ m w = subst (λ (f : DataFile). memory s ≡ memory_of (shape f) (spelling f) w) is.same is.stands.1 in
+      let behind = rw is.same at (c.call.answers Firm w is.stands) in
+      let own : memory s ≡ m w = rw (← is.same) is.stands.1 in
       record {
         told = told_after es o;
         is = c.call.told ∙ added_is_told es o;
@@ -105,7 +105,7 @@ module _ (file : DataFile) where
         seen = record { same = c.call.file ∙ is.same; stands = behind.1; whole = subst IsImage (sym (shown_on es o)) leaves.whole };
         blocks = λ y.
             ap (λ i. unit_at file.layout file.cluster i (BlockPlace y)) (shown_on es o)
-            ∙ subst (λ (f : DataFile). unit_at f.layout f.cluster (image_after es o.shown) (BlockPlace y) ≡ or_else (puts_of (m w) (supplied_sums a.given) a.command (BlockPlace y)) (unit_at f.layout f.cluster o.shown (BlockPlace y))) is.same
+            ∙ rw is.same at
             (leaves.units.block y ∙ ap (λ (k : Memory). or_else (puts_of k (supplied_sums a.given) a.command (BlockPlace y)) (unit_at s.file.layout s.file.cluster o.shown (BlockPlace y))) own);
       }
 
@@ -139,10 +139,10 @@ module _ (file : DataFile) where
           is = f.is;
           replica = f.replica;
           told = go.told;
-          seen = subst (λ (k : Command). Seen f.replica (next file w f.exchange.act.given k).0 go.told) f.is go.seen;
+          seen = rw f.is at go.seen;
           accepted = subst IsAccepted (go.answer ∙ ap (λ (k : Command). (next file w f.exchange.act.given k).1) f.is) f.accepted;
-          blocks = subst (λ (k : Command). (y : ℕ) → image go.told (BlockPlace y) ≡ or_else (puts_of (m w) (supplied_sums f.exchange.act.given) k (BlockPlace y)) (image o (BlockPlace y))) f.is go.blocks;
-          made = subst (λ (p : Option Told). MakeAll cs f.replica t p new) go.is f.rest;
+          blocks = rw f.is at go.blocks;
+          made = rw go.is at f.rest;
         }
 
     -- ---- releases
@@ -164,7 +164,7 @@ module _ (file : DataFile) where
 
     writes_seen : (done todo : List (List ℕ)) (rest : List Command) (s : Replica) (w : Work) (o : Told) → Seen s w o → ShowsBodies (image o) (live_entries w) done → LowHeld w → MakeAll (map (WriteBlock 1) todo ++ rest) s t (Some o) new
         → Left (λ v p. ShowsBodies (image p) (live_entries v) (done ++ todo)) rest
-    writes_seen done [] rest s w o is shows low made = record { replica = s; work = w; told = o; seen = is; so = subst (λ (l : List (List ℕ)). ShowsBodies (image o) (live_entries w) l) (sym (append-nil done)) shows; made = made }
+    writes_seen done [] rest s w o is shows low made = record { replica = s; work = w; told = o; seen = is; so = rw (sym (append-nil done)) at shows; made = made }
     writes_seen done (body ∷ todo) rest s w o is shows low made =
         let n = next_made (WriteBlock 1 body) (map (WriteBlock 1) todo ++ rest) s w o is made in
         let sum = supplied_sum n.first.given in
@@ -179,18 +179,18 @@ module _ (file : DataFile) where
         n.blocks y ∙ ap (λ (u : Option AnyUnit). or_else u (image o (BlockPlace y))) (puts y ∙ put_apart address y b (λ same. omega (arith, same, below))) in
         let old = bodies_stay w.live (image o) (image n.told) all_addresses apart done shows in
         let all : ShowsBodies (image n.told) (live_entries (with_live w address (Some sum))) (done ++ body ∷ []) =
-        subst (λ (l : List (ℕ × ℕ)). ShowsBodies (image n.told) l (done ++ body ∷ []))
-        (sym (entries_last w.live address sum 1 (shape file).layout.blocks least.inside.0 (omega (arith, least.inside.1)) (λ y d live. lower w address y d low least.inside.0 least.free live)))
+        rw
+        (sym (entries_last w.live address sum 1 (shape file).layout.blocks least.inside.0 (omega (arith, least.inside.1)) (λ y d live. lower w address y d low least.inside.0 least.free live))) at
         (shows_more (image n.told) (live_entries w) done (address, sum) body old (record { block = b; there = there; sum = refl; own = omega arith; body_is = refl })) in
         let ends =
-        writes_seen (done ++ body ∷ []) todo rest n.replica (next file w n.first.given (WriteBlock 1 body)).0 n.told n.seen (subst (λ (v : Work). ShowsBodies (image n.told) (live_entries v) (done ++ body ∷ [])) (sym did.1) all)
+        writes_seen (done ++ body ∷ []) todo rest n.replica (next file w n.first.given (WriteBlock 1 body)).0 n.told n.seen (rw (sym did.1) at all)
         (subst LowHeld (sym did.1) (low_more (shape file) w address sum low least)) n.made in
         record {
           replica = ends.replica;
           work = ends.work;
           told = ends.told;
           seen = ends.seen;
-          so = subst (λ (l : List (List ℕ)). ShowsBodies (image ends.told) (live_entries ends.work) l) (append_assoc done (body ∷ []) todo) ends.so;
+          so = rw (append_assoc done (body ∷ []) todo) at ends.so;
           made = ends.made;
         }
 
@@ -208,8 +208,8 @@ module _ (file : DataFile) where
         let same : entries (λ y. sum_at y (live_entries w)) all_addresses ≡ live_entries w =
         entries_same (λ y. sum_at y (live_entries w)) w.live 1 (shape file).layout.blocks (λ y from to. entry_at w.live 1 (shape file).layout.blocks y from to) in
         let still = bodies_stay w.live (image o) (image n.told) all_addresses (λ y d live. n.blocks y) bodies shows in
-        let has : Has bodies (with_running w (Some (begun (shape file) (spelling file) w []))) n.told (Some (begun (shape file) (spelling file) w [])) = subst (λ (l : List (ℕ × ℕ)). ShowsBodies (image n.told) l bodies) (sym same) still in
-        record { replica = n.replica; work = (next file w n.first.given (Begin [])).0; told = n.told; seen = n.seen; so = subst (λ (v : Work). Has bodies v n.told v.running) (sym state) has; made = n.made }
+        let has : Has bodies (with_running w (Some (begun (shape file) (spelling file) w []))) n.told (Some (begun (shape file) (spelling file) w [])) = rw (sym same) at still in
+        record { replica = n.replica; work = (next file w n.first.given (Begin [])).0; told = n.told; seen = n.seen; so = rw state has; made = n.made }
 
     -- a step of it
     trailer_case : (bodies : List (List ℕ)) (w : Work) (o later : Told) (sum : ℕ) (r : Running) → AtEachOf (IsSpare (shape file) r) r.left → ShowsBodies (image o) (entries r.parts.references all_addresses) bodies → (left : List ℕ) → r.left ≡ left
@@ -220,7 +220,7 @@ module _ (file : DataFile) where
         let here = (subst (AtEachOf (IsSpare (shape file) r)) is spare).0 in
         bodies_stay r.parts.references (image o) (image later) all_addresses
         (λ y d known.
-        blocks y ∙ ap (λ (u : Option AnyUnit). or_else u (image o (BlockPlace y))) (put_apart a y _ (λ same. none_some d (r.parts.references y) (subst (λ (k : ℕ). r.parts.references k ≡ None) same here.unreferenced) known))) bodies shows
+        blocks y ∙ ap (λ (u : Option AnyUnit). or_else u (image o (BlockPlace y))) (put_apart a y _ (λ same. none_some d (r.parts.references y) (rw same at here.unreferenced) known))) bodies shows
 
     step_case : (bodies : List (List ℕ)) (w : Work) (o later : Told) (sum : ℕ) → IsWork (shape file) (spelling file) w → (q : Option Running) → w.running ≡ q → Has bodies w o q → IsAccepted (ToAdvance (after_step_of (shape file) (spelling file) w sum q).1)
         → ((y : ℕ) → image later (BlockPlace y) ≡ or_else (step_puts (m w) (course_of (spelling file) q) sum (BlockPlace y)) (image o (BlockPlace y)))
@@ -232,7 +232,7 @@ module _ (file : DataFile) where
     steps_seen bodies zero s w o is has made = record { replica = s; work = w; told = o; seen = is; so = has; made = made }
     steps_seen bodies (suc steps) s w o is has made =
         let n = next_made Advance (replicate steps Advance) s w o is made in
-        let sense = subst (λ (f : DataFile). IsWork (shape f) (spelling f) w) is.same is.stands.0 in
+        let sense = rw is.same at is.stands.0 in
         let sum = supplied_sum n.first.given in
         steps_seen bodies steps n.replica (next file w n.first.given Advance).0 n.told n.seen (step_case bodies w o n.told sum sense w.running refl has n.accepted n.blocks) n.made
 
@@ -253,7 +253,7 @@ rows_in_order layout s t o n rows steps w ready whole made idle stands =
     let one = releases_seen file t (Some n) (memory s).blocks.live (writes layout rows ++ (Begin [] ∷ replicate steps Advance)) s ready.work o is only made in
     let two =
     writes_seen file t (Some n) [] bodies (Begin [] ∷ replicate steps Advance) one.replica one.work one.told one.seen
-    (subst (λ (l : List (ℕ × ℕ)). ShowsBodies (image file one.told) l []) (sym (none_from one.work.live 1 (shape file).layout.blocks (λ y from. no_some (one.work.live y) (λ d is. one.so y d is)))) tt) (λ y d live. absurd (one.so y d live)) one.made in
+    (rw ((none_from one.work.live 1 (shape file).layout.blocks (λ y from. no_some (one.work.live y) (λ d is. one.so y d is)))) tt) (λ y d live. absurd (one.so y d live)) one.made in
     let three = begin_seen file t (Some n) bodies (replicate steps Advance) two.replica two.work two.told two.seen two.so two.made in
     let four = steps_seen file t (Some n) bodies steps three.replica three.work three.told three.seen three.so three.made in
     let last = none_of four.replica t (Some four.told) (Some n) four.made.exchanges four.made.calls four.made.are in
@@ -261,9 +261,9 @@ rows_in_order layout s t o n rows steps w ready whole made idle stands =
     let told : four.told ≡ n = one_told four.told n last.1 in
     let same : t.file ≡ file = ap (λ (r : Replica). r.file) there ∙ four.seen.same in
     let its : memory t ≡ memory_of (shape file) (spelling file) four.work = ap (λ (r : Replica). memory r) there ∙ subst (λ (f : DataFile). memory four.replica ≡ memory_of (shape f) (spelling f) four.work) four.seen.same four.seen.stands.1 in
-    let mine : memory t ≡ memory_of (shape file) (spelling file) w = subst (λ (f : DataFile). memory t ≡ memory_of (shape f) (spelling f) w) same stands.1 in
+    let mine : memory t ≡ memory_of (shape file) (spelling file) w = rw (← same) stands.1 in
     let none : four.work.running ≡ None = no_course (spelling file) four.work.running (sym (ap (λ (z : Memory). z.running) its) ∙ idle) in
-    let has : ShowsBodies (image file four.told) (references_of file (kept four.work)) bodies = subst (λ (q : Option Running). Has file t (Some n) bodies four.work four.told q) none four.so in
+    let has : ShowsBodies (image file four.told) (references_of file (kept four.work)) bodies = rw none at four.so in
     let alike : references_of file (kept four.work) ≡ references_of file (kept w) = sym (ap (λ (z : Memory). z.blocks.durable) its) ∙ ap (λ (z : Memory). z.blocks.durable) mine in
-    subst (λ (f : DataFile). ShowsBodies (unit_at f.layout f.cluster n.shown) (references_of f (kept w)) bodies) (sym same)
-    (subst (λ (p : Told). ShowsBodies (unit_at file.layout file.cluster p.shown) (references_of file (kept w)) bodies) told (subst (λ (l : List (ℕ × ℕ)). ShowsBodies (image file four.told) l bodies) alike has))
+    rw (sym same) at
+    (rw told at (rw alike at has))

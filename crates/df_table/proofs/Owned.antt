@@ -77,7 +77,7 @@ pub record OwnWork (w : Work) : Type 0 where
   pub captured : (r : Running) → w.running ≡ Some r → AllOwn r.parts.sessions
 
 pub own_bare : (v u : View) → IsSameBare v u → OwnView v → OwnView u
-own_bare v u same own = record { parts = subst (λ (p : Parts). AllOwn p.sessions) (sym same.parts) own.parts; tail = subst AllFrom (sym same.tail) own.tail }
+own_bare v u same own = record { parts = rw (sym same.parts) at own.parts; tail = subst AllFrom (sym same.tail) own.tail }
 
 -- ---- a command leads from one to another
 
@@ -97,8 +97,8 @@ module _ (file : DataFile) where
   changed_own w given c u has own (Lives kind body none) = record { view = own.view; captured = own.captured }
   changed_own w given c u has own (LetsGo address none) = record { view = own.view; captured = own.captured }
   changed_own w given c u has own (Begins root none) =
-      record { view = own.view; captured = λ r is. subst (λ (x : Running). AllOwn x.parts.sessions) (unsome _ r is) (after_own w.view.tail w.view.checkpoint.parts.sessions own.view.parts own.view.tail) }
-  changed_own w given c u has own (Writes r a more running left) = record { view = own.view; captured = λ q at. subst (λ (x : Running). AllOwn x.parts.sessions) (unsome _ q at) (own.captured r running) }
+      record { view = own.view; captured = λ r is. rw (← (unsome _ r is)) (after_own w.view.tail w.view.checkpoint.parts.sessions own.view.parts own.view.tail) }
+  changed_own w given c u has own (Writes r a more running left) = record { view = own.view; captured = λ q at. rw (← (unsome _ q at)) (own.captured r running) }
   changed_own w given c u has own (Ends r running left) =
       record { view = record { parts = own.captured r running; tail = drop_from _ w.view.tail own.view.tail }; captured = λ q at. absurd (let none : None ≡ Some q = at in cc) }
   changed_own w given c u has own (Appends _ ps (Staged none)) = absurd has
@@ -147,4 +147,4 @@ module _ (file : DataFile) (w : Work) (b : Told) (xs : List Exchange) (failed : 
   pub kept_seen : OwnWork w → AreClients (acts_in xs ++ list_of failed) → EachMoment (did Sync b).log end.log (EachSeen file)
   kept_seen own clients =
       weaker (did Sync b).log end.log (IsMidway file Whole w (acts_in xs ++ list_of failed)) (EachSeen file) (λ log mid image left no. some_seen file (acts_in xs ++ list_of failed) w image clients own (mid.left image left no))
-      (subst (λ (x : Told). EachMoment (did Sync b).log x.log (IsMidway file Whole w (acts_in xs ++ list_of failed))) same_end keeps.moments)
+      (rw same_end at keeps.moments)

@@ -1,5 +1,5 @@
 -- Blocks by their addresses: which are live, that a new one lies above them, and so stands last among them.
-use Rattle.std.{proofs.{Common.{◌≡◌, inl, inr, ℕ, zero, suc, ◌+◌, ◌<◌, ◌≤◌, ◌==◌, ◌||◌, Bool, true, false, if◌then◌else◌, List, [], ◌∷◌, ◌++◌, Option, Some, None, refl, sym, ◌∙◌, ap, subst, arith, eq-eqb, eqb-true, ne_eqb}, lemmas.Bool.{cases_eq, cases_lt, eqb-false}}, specs.List.{range_with_len}}
+use Rattle.std.{proofs.{Common.{◌≡◌, inl, inr, ℕ, zero, suc, ◌+◌, ◌<◌, ◌≤◌, ◌==◌, ◌||◌, Bool, true, false, if◌then◌else◌, List, [], ◌∷◌, ◌++◌, Option, Some, None, refl, sym, ◌∙◌, ap, arith, eq-eqb, eqb-true, ne_eqb}, lemmas.Bool.{cases_eq, cases_lt, eqb-false}}, specs.List.{range_with_len}}
 use Rattle.df_base.proofs.Laws.{no_some}
 use Rattle.df_theory.specs.{Shape.{Shape}, UnitLog.{UnitLog}}
 use Rattle.df_model.{specs.{After.{with_live}, Blocks.{entries, entry, sum_at}, Laws.{IsLeastFree}, Work.{Work, is_captured, is_held, is_known, is_of}}, proofs.Laws.{live_held}}
@@ -70,7 +70,7 @@ pub lower : (w : Work) (a y d : ℕ) → LowHeld w → 0 < a → is_held w a ≡
 lower w a y d low some free live = elim (cases_lt y a) [
   | inl less ↦ less
   | inr above ↦ elim (cases_eq y a) [
-    | inl same ↦ absurd (false_true (is_held w a) free (subst (λ (k : ℕ). is_held w k ≡ true) same (live_held w y d live)))
+    | inl same ↦ absurd (false_true (is_held w a) free (rw same at (live_held w y d live)))
     | inr other ↦ absurd (false_true (is_held w a) free (low y d live a some (omega (arith, above, other))))
   ]
 ]

@@ -1,5 +1,5 @@
 -- A prepare after the checkpoint that is read: the call that was made, and what the opening finds by it.
-use Rattle.std.proofs.{Common.{◌≡◌, ◌+◌, ◌<◌, ◌≤◌, ◌%◌, ◌&&◌, inr, ℕ, Bool, true, not, nat_le, nat_lt, List, [], ◌∷◌, Option, Some, None, refl, sym, ◌∙◌, ap, subst, Result, Ok, Err, lt-ltb, le-leb}, lemmas.Option.{none-some}}
+use Rattle.std.proofs.{Common.{◌≡◌, ◌+◌, ◌<◌, ◌≤◌, ◌%◌, ◌&&◌, inr, ℕ, Bool, true, not, nat_le, nat_lt, List, [], ◌∷◌, Option, Some, None, refl, sym, ◌∙◌, ap, Result, Ok, Err, lt-ltb, le-leb}, lemmas.Option.{none-some}}
 use Rattle.df_base.specs.Causes.{Blamed}
 use Rattle.df_disk.specs.Told.{Told}
 use Rattle.df_layout.specs.{declared.layout.Layout.{Layout}, declared.places.Place.{Place}, declared.places.Zone.TheVariants.{WalPrepares}}
@@ -35,23 +35,23 @@ module _ (layout : Layout) (op : ℕ) (s : Replica) (told : Option Told) (t : To
   prepare_found_here A p body r same exact takes =
       let slot = place_at WalPrepares (op % layout.slots) in
       by_body A (GivesCommand table later p.body) (LacksCommand slot table p.body) (ReadsPrepare layout (shown_of s.file t.shown) (memory s) op table later) r (λ done is. (p, shown, is)) (λ place is. (p, shown, is))
-      (subst (λ (x : List ℕ). TakesCommand slot table later x r) (sym same) takes)
+      (rw (sym same) at takes)
     where
       shown : message_given (shown_of s.file t.shown) (memory s) (ReadPrepare op) ≡ Ok p
-      shown = sym (subst (λ (o : Option Told). IsFoundBy s (ReadPrepare op) o (Ok p)) is exact.1)
+      shown = sym (rw is at exact.1)
 
   pub prepare_unfound : (A : Type 0) (e : PrepareError) → ((first last : ℕ) → e ≡ prepare.NotKept first last → ⊥) → IsReadPrepare op s told (Err e) → ReadsPrepare {A = A} layout (shown_of s.file t.shown) (memory s) op table later (Err (prepare_ending e))
   prepare_unfound A prepare.DiskFault kept exact = tt
   prepare_unfound A (prepare.NotKept first last) kept exact = absurd (kept first last refl)
   prepare_unfound A (prepare.Damaged place class) kept exact =
-      (exact.1 ∙ ap (λ (l : Layout). place_at WalPrepares (op % l.slots)) of, sym (subst (λ (o : Option Told). IsFoundBy s (ReadPrepare op) o (Err class)) is exact.2))
+      (exact.1 ∙ ap (λ (l : Layout). place_at WalPrepares (op % l.slots)) of, sym (rw is at exact.2))
 
 -- ---- no refusal, and whom it blames
 
 pub kept_there : (op : ℕ) (s : Replica) (told : Option Told) (e : PrepareError) → s.fields.op < op → op ≤ s.head → IsReadPrepare op s told (Err e) → (first last : ℕ) → e ≡ prepare.NotKept first last → ⊥
 kept_there op s told e behind within exact first last is =
     let kept : (nat_lt s.fields.op op && nat_le op s.head) ≡ true = ap (λ (b : Bool). b && nat_le op s.head) (lt-ltb _ _ behind) ∙ le-leb _ _ within in
-    none-some (prepare.NotKept first last) (sym (ap (λ (b : Bool). first_refusal {E = PrepareError} ((not b, prepare.NotKept (s.fields.op + 1) s.head) ∷ [])) kept) ∙ subst (λ (x : PrepareError). IsReadPrepare op s told (Err x)) is exact)
+    none-some (prepare.NotKept first last) (sym (ap (λ (b : Bool). first_refusal {E = PrepareError} ((not b, prepare.NotKept (s.fields.op + 1) s.head) ∷ [])) kept) ∙ rw is at exact)
 
 pub unread_blamed : (e : PrepareError) (n now : ℕ) → ((first last : ℕ) → e ≡ prepare.NotKept first last → ⊥) → Blamed (is_prepare_fault e) n now → Blamed (is_disk (prepare_ending e)) n now
 unread_blamed prepare.DiskFault n now kept blamed = blamed

@@ -1,5 +1,5 @@
 -- A file that isn't opened: what is said of it, and what it blames.
-use Rattle.std.proofs.Common.{◌≡◌, inl, inr, ℕ, List, Option, Some, refl, ◌∙◌, ap, subst, Err}
+use Rattle.std.proofs.Common.{◌≡◌, inl, inr, ℕ, List, Option, Some, refl, ◌∙◌, ap, Err}
 use Rattle.df_base.specs.{Causes.{IsBlamed}, Image.{IsImage}, Log.{Sync}}
 use Rattle.df_disk.specs.Told.{Told, after}
 use Rattle.df_layout.specs.declared.layout.Layout.{Layout}
@@ -29,7 +29,7 @@ refuses : (layout : Layout) (t : Told) (old new : Outside) (status : Status) (e 
     → PrintsTableError e old.written new.written status → RefusesTableFile layout t old new status
 refuses layout t old new status e other whole told answer unread barrier prints = record {
   error = e;
-  is = (subst (λ (o : Option Told). TellsSurvey layout o (Err e)) told answer) whole;
+  is = (rw told at answer) whole;
   other = other;
   refuse = record { prints = prints.other other; unread = unread };
   barrier = barrier ∙ ap (after Sync) told;

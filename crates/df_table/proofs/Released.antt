@@ -79,7 +79,7 @@ module _ (f : ℕ → Option ℕ) (n b : ℕ) (less : b < n) where
         let taken : without_entry (b + 1) t.blocks.live ≡ rest = without_it (sum_at (b + 1) t.blocks.live) refl in
         let live : u.blocks.live ≡ rest = ap (λ (v : Replica). v.blocks.live) behind ∙ taken in
         record {
-          making = subst (λ (l : List (ℕ × ℕ)). IsMaking (releases (memory s)) (releases_of l) s u told told) (sym live)
+          making = rw (sym live) at
               (making_more (releases (memory s)) (releases_at (b + 1) (memory t)) (releases_of rest) s t u told told told now_making made);
           left = live;
           state = behind ∙ ap (λ (v : Replica). released v (b + 1)) is.state ∙ ap (λ (l : List (ℕ × ℕ)). record s { blocks = record s.blocks { live = l } }) (taken ∙ sym live);

@@ -35,11 +35,11 @@ count_bodies per es = length-map (chunks_of per es) rows_of ∙ length-map (rang
 pub table_bounds : (file : DataFile) (log : UnitLog) (v : View) (t : Table) → IsTableIn file log v t → HasBounds file.layout t
 table_bounds file log v t is =
     let most = most_rows file.layout in
-    let few = subst (λ (x : Table). HasFew most x) (sym is.is) (follow_few most is.base v.tail is.commands is.tail (takes_few most (empty_table file.layout) is.base is.bodies is.rows (empty_few file.layout))) in
+    let few = rw (sym is.is) at (follow_few most is.base v.tail is.commands is.tail (takes_few most (empty_table file.layout) is.base is.bodies is.rows (empty_few file.layout))) in
     let fits = tables_fit file.layout (maps.len t.rows) few.few in
     record {
       max = few.max_is;
       few = omega (arith, few.few, few.max_is);
-      fit = subst (λ (x : Table). AreRowsFit x.rows) (sym is.is) (follow_fit is.base v.tail is.commands is.tail (takes_fit (empty_table file.layout) is.base is.bodies is.rows none_fits));
+      fit = rw (sym is.is) at (follow_fit is.base v.tail is.commands is.tail (takes_fit (empty_table file.layout) is.base is.bodies is.rows none_fits));
       blocks = omega (arith, fits.blocks, count_bodies (rows_in_block file.layout) (maps.entries t.rows), ap (block_count (rows_in_block file.layout)) (len-entries t.rows));
     }

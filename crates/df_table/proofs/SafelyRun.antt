@@ -13,15 +13,15 @@ use Rattle.df_table.{specs.{declared.ending.Ending.{Ending}, declared.ending.End
 -- ---- a text that is whole has no line that is refused
 
 says_some : (said : Said) (text : List ℕ) → text ≡ [] → SaysTableLine (line_of text) said → ⊥
-says_some (Put key value) text none says = let no : SaysTableLine [] (Put key value) = subst (λ (l : List ℕ). SaysTableLine (line_of l) (Put key value)) none says in cc (no.is)
-says_some (Drop key) text none says = let no : SaysTableLine [] (Drop key) = subst (λ (l : List ℕ). SaysTableLine (line_of l) (Drop key)) none says in cc (no.is)
-says_some (Get key) text none says = let no : SaysTableLine [] (Get key) = subst (λ (l : List ℕ). SaysTableLine (line_of l) (Get key)) none says in cc (no.is)
-says_some Count text none says = let no : SaysTableLine [] Count = subst (λ (l : List ℕ). SaysTableLine (line_of l) Count) none says in cc (no.is)
+says_some (Put key value) text none says = let no : SaysTableLine [] (Put key value) = rw none at says in cc (no.is)
+says_some (Drop key) text none says = let no : SaysTableLine [] (Drop key) = rw none at says in cc (no.is)
+says_some (Get key) text none says = let no : SaysTableLine [] (Get key) = rw none at says in cc (no.is)
+says_some Count text none says = let no : SaysTableLine [] Count = rw none at says in cc (no.is)
 
 whole_uncut : (bound budget : ℕ) (text rest : List ℕ) (all asked : List Said) (spare left : ℕ) → Begins SaysTableLine bound budget text all spare [] → Begins SaysTableLine bound budget text asked left rest → IsRefused SaysTableLine bound left rest → ⊥
 whole_uncut bound budget text rest [] [] spare left whole begins refused = refused.some (begins.1 ∙ sym whole.1)
 whole_uncut bound budget text rest (a ∷ all) [] spare left whole begins refused =
-    let no : IsRefused SaysTableLine bound budget text = subst (λ (n : ℕ). IsRefused SaysTableLine bound n text) begins.0 (subst (λ (l : List ℕ). IsRefused SaysTableLine bound left l) begins.1 refused) in no.none a whole.0
+    let no : IsRefused SaysTableLine bound budget text = rw begins.0 at (rw begins.1 at refused) in no.none a whole.0
 whole_uncut bound budget text rest [] (b ∷ asked) spare left whole begins refused = says_some b text (sym whole.1) begins.0.says
 whole_uncut bound budget text rest (a ∷ all) (b ∷ asked) spare left whole begins refused = whole_uncut bound (budget - taken text) (after_line text) rest all asked spare left whole.1 begins.1 refused
 
@@ -57,7 +57,7 @@ module _ (file : DataFile) (view : View) (table : Table) (t : Told) (text : List
         let read = lines.text text left in
         absurd (whole_uncut (line_bound file.layout) script_budget text read.1 whole.lines (table_said lines.turns ++ said_in lines.halt) whole.left read.0 whole.begins read.2 (read.3.refused cut))
     by_halt (Some h) cut is cut_is ends =
-        let halts : HaltsIn file.layout lines.replica lines.mid lines.table (Some h) lines.last new.told = subst (λ (o : Option Halt). HaltsIn file.layout lines.replica lines.mid lines.table o lines.last new.told) is lines.halts in
+        let halts : HaltsIn file.layout lines.replica lines.mid lines.table (Some h) lines.last new.told = rw is at lines.halts in
         halted h is h.ending refl ends.1 halts.3
 
     lines_end : Ends
@@ -77,7 +77,7 @@ module _ (file : DataFile) (view : View) (table : Table) (t : Told) (text : List
   serves_end s told opened (Served u r mid opens lines) (inl disk) later = absurd (cc (disk))
   serves_end s told opened (Served u r mid opens lines) (inr is) later =
       let same : u ≡ table = cc in
-      lines_end later r mid (subst (λ (x : Table). ServesLines file.layout x r mid old new status) same lines)
+      lines_end later r mid (rw same at lines)
 
   does_end : DoesTable file.layout t old new status → Ends
   does_end (inl refuses) = absurd (refuses.other (answers.1.answered refuses.error refuses.is))
@@ -96,7 +96,7 @@ module _ (file : DataFile) (view : View) (table : Table) (t : Told) (text : List
     | inr disk ↦ absurd (unfailed.0 disk)
   ]
   outcome_ends from (inr (inl refuses)) = absurd (answers.1.usable refuses.error refuses.is)
-  outcome_ends from (inr (inr own)) = does_end (subst (λ (l : Layout). DoesTable l t old new status) (answers.1.layout own.layout own.shown) own.does)
+  outcome_ends from (inr (inr own)) = does_end (rw (answers.1.layout own.layout own.shown) at own.does)
 
 pub safe_is_run : SafeTableIsRun
 safe_is_run file view table t text old new before now status may unspent finds from left whole causes none runs =

@@ -19,7 +19,7 @@ turns_calls layout s old t (x ∷ turns) u new v (NextTurn r mid steps are calls
 halt_calls : (layout : Layout) (s : Replica) (old : Option Told) (t : Table) (halt : Option Halt) (u : Replica) (new : Option Told) → (halts : HaltsIn layout s old t halt u new)
     → EndsCalls s u old new (halted_exchanges layout s old t halt u new halts) (halted_failed layout s old t halt u new halts)
 halt_calls layout s old t None u new halts =
-    subst (λ (r : Replica). AreCalls s old [] r new) (sym halts.0) (subst (λ (o : Option Told). AreCalls s old [] s o) (sym halts.1) NoCalls)
+    subst (λ (r : Replica). AreCalls s old [] r new) (sym halts.0) (rw halts.1 NoCalls)
 halt_calls layout s old t (Some h) u new halts = halts.1.calls
 
 -- all of them, of a replica and over what a disk shows
@@ -74,7 +74,7 @@ module _ (layout : Layout) (s : Replica) (told : Option Told) (before old new : 
   there opened (Served t u mid opens lines) = Served t u mid opens (lines_moved t u mid lines)
 
   pub moved : (opened : Result Table Ending) → ServesFoundTable layout s told before new status opened → ServesFoundTable layout s told old new status opened
-  moved opened serves = there opened (subst (λ (o : Outside). ServesFoundTable layout s told o new status opened) same_outside serves)
+  moved opened serves = there opened (rw same_outside at serves)
 
 -- ---- the file
 

@@ -33,12 +33,12 @@ module _ (layout : Layout) (mid : Option Told) (before after : Outside) (s now :
     halts = e.halts;
     text = λ text is.
         let so = e.text text (text_is text is) in
-        (so.0, so.1, subst (λ (n : ℕ). Begins SaysTableLine (line_bound layout) n text (table_said e.turns ++ said_in e.halt) so.0 so.1) budget_is so.2, so.3);
+        (so.0, so.1, rw (← budget_is) so.2, so.3);
     replica = e.replica;
     mid = e.mid;
     table = e.table;
     halt = e.halt;
-    written = subst (λ (n : ℕ). ServingEndsWith (map_text s.table s.replica.head (table_said e.turns) ++ closing n e.halt e.cut) e.halt e.cut before.written after.written status) counted e.written;
+    written = rw counted at e.written;
     cut = e.cut;
     last = now.replica;
   }
@@ -47,15 +47,15 @@ module _ (layout : Layout) (mid : Option Told) (before after : Outside) (s now :
 
 new_few : (max : ℕ) (t : Table) (es : List Entry) → AreNew es t → HasFew max t → HasFew max (with_rows es t)
 new_few max t [] new few = few
-new_few max t (e ∷ es) new few = new_few max (with_row e t) es new.1 (record { max_is = few.max_is; few = subst (λ (n : ℕ). map.len (map.insert t.rows e.0 e.1) ≤ n) few.max_is (put_few t e.0 e.1 (inr new.0.room) (omega (arith, few.few, few.max_is))) })
+new_few max t (e ∷ es) new few = new_few max (with_row e t) es new.1 (record { max_is = few.max_is; few = rw few.max_is at (put_few t e.0 e.1 (inr new.0.room) (omega (arith, few.few, few.max_is))) })
 
 pub takes_few : (max : ℕ) (t u : Table) (bodies : List (List ℕ)) → TakesAll t bodies u → HasFew max t → HasFew max u
 takes_few max t u [] takes few = subst (λ (x : Table). HasFew max x) (sym takes) few
 takes_few max t u (body ∷ bodies) takes few = takes_few max (with_rows takes.0 t) u bodies takes.2 (new_few max t takes.0 takes.1.new few)
 
 command_few : (max : ℕ) (t : Table) (c : Command) → CanApply t c → HasFew max t → HasFew max (with_command c t)
-command_few max t (Put e) room few = record { max_is = few.max_is; few = subst (λ (n : ℕ). map.len (map.insert t.rows e.0 e.1) ≤ n) few.max_is (put_few t e.0 e.1 room (omega (arith, few.few, few.max_is))) }
-command_few max t (Drop key) room few = record { max_is = few.max_is; few = subst (λ (n : ℕ). map.len (map.remove t.rows key) ≤ n) few.max_is (drop_few t key (omega (arith, few.few, few.max_is))) }
+command_few max t (Put e) room few = record { max_is = few.max_is; few = rw few.max_is at (put_few t e.0 e.1 room (omega (arith, few.few, few.max_is))) }
+command_few max t (Drop key) room few = record { max_is = few.max_is; few = rw few.max_is at (drop_few t key (omega (arith, few.few, few.max_is))) }
 
 pub follow_few : (max : ℕ) (t : Table) (ps : List Message) (cs : List Command) → FollowAll t ps cs → HasFew max t → HasFew max (with_commands cs t)
 follow_few max t [] [] follow few = few

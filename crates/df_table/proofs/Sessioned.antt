@@ -36,7 +36,7 @@ module _ (file : DataFile) (from to : Replica) (old new : Option Told) (xs : Lis
   answered_all None calls kept is k log some more before after had until = from_answer file None to to new new pending is tt k xs from old calls w n t some more log at (kept to new calls) before after had until
   answered_all (Some a) calls kept is k log some more before after had until =
       from_answer file (Some a) calls.0 to calls.1 new pending is calls.3 k xs from old calls.2 w n t some more log at (kept calls.0 calls.1 calls.2) before after had
-      (subst (λ (o : Told). Extends o.log log) (told_append (call_events calls.2) calls.3.call.events n) until)
+      (rw (← (told_append (call_events calls.2) calls.3.call.events n)) until)
 
 -- ---- after an open
 
@@ -61,8 +61,8 @@ module _ (t : Told) (s : Replica) (mended : Option Told) (over : MendsAll t s me
     made_kept : (u : Replica) (mid : Option Told) (w : Work) (n : Told) (table : Table) → KeptAll s.file failed u mid s mended w n table xs → KeptAll s.file made.failed u mid made.from made.old w n table made.exchanges
     made_kept u mid w n table kept =
         subst (λ (f : Option Act). KeptAll s.file f u mid made.from made.old w n table made.exchanges) (sym failed_is)
-        (subst (λ (r : Replica). KeptAll s.file failed u mid r made.old w n table made.exchanges) (sym from_is)
-        (subst (λ (o : Option Told). KeptAll s.file failed u mid s o w n table made.exchanges) (sym old_is)
+        (rw from_is
+        (rw (sym old_is) at
         (subst (KeptAll s.file failed u mid s mended w n table) (sym exchanges_is) kept)))
 
     -- from what the table is there on, whatever was told before
@@ -88,7 +88,7 @@ module _ (t : Told) (s : Replica) (mended : Option Told) (over : MendsAll t s me
             (moments_all s.file made.from made.to made.old made.new made.exchanges w n table at there.0 pends.0 there.1 made.failed made.calls kept pends.1);
         answered = λ k log some more before behind had until.
             answered_all s.file made.from made.to made.old made.new made.exchanges w n table at there.0 pends.0 there.1 made.failed made.calls kept pends.1 k log some more before behind
-            (subst (λ (o : Told). WereAnswered k (Some o) log made) same had) until;
+            (rw same at had) until;
         end_safe = end_all s.file made.from made.to made.old made.new made.exchanges w n table at there.0 pends.0 there.1 made.failed made.calls kept pends.1;
       }
 
@@ -173,9 +173,9 @@ sessions_keep layout t s mended over old new status opened (Served found r mid o
       | inr finds_it ↦
           table_is_one s.file (unit_at s.file.layout s.file.cluster t.shown) view table found is
           (found_is_table s.file t view found whole there
-          (subst (λ (m : Memory). FindsTable s.file.layout (shown_of s.file t.shown) m (Ok found)) stands.1 (subst (λ (l : Layout). FindsTable l (shown_of s.file t.shown) (memory s) (Ok found)) (sym own) finds_it)))
+          (rw stands.1 at (rw (sym own) at finds_it)))
     ] in
     let behind = acts_stand s.file opens.exchanges s r mended mid opens.calls w refl stands in
     opening_then s.file failed u new_told s mended w n table at opens.exchanges (table_exchanges lines.turns ++ halted) (memory s) asks
     (λ s' old' w' n' t' here so work.
-    lines_kept s.file u new_told layout own lines.turns r lines.replica lines.last mid lines.mid new.told found lines.table lines.halt lines.are lines.halts behind.0 s' old' w' n' t' here (so ∙ one) (subst (λ (v : Work). Keeps Firm r v None) (sym work) behind.1)))
+    lines_kept s.file u new_told layout own lines.turns r lines.replica lines.last mid lines.mid new.told found lines.table lines.halt lines.are lines.halts behind.0 s' old' w' n' t' here (so ∙ one) (rw (sym work) at behind.1)))

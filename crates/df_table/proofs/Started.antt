@@ -31,7 +31,7 @@ module _ (image : Units) (f : ℕ → Option ℕ) where
   shown_case s a c rest is (Some d) some [] shown later place = absurd shown
   shown_case s a c rest is (Some d) some (body ∷ bodies) shown later (inl here) =
       let sum : d ≡ c = one_some (f a) d c (sym (ap f here) ∙ some) is in
-      (shown.0.block, subst (λ (x : ℕ). image (BlockPlace x) ≡ Some (BlockUnit shown.0.block)) here shown.0.there, shown.0.sum ∙ sum, shown.0.own)
+      (shown.0.block, rw here at shown.0.there, shown.0.sum ∙ sum, shown.0.own)
   shown_case s a c rest is (Some d) some (body ∷ bodies) shown later (inr apart) = later apart bodies shown.1
 
   all_shown : (s n : ℕ) (bodies : List (List ℕ)) → ShowsBodies image (entries f (range_with_len s n)) bodies → (a c : ℕ) → s ≤ a → a < s + n → f a ≡ Some c → Shown a c
@@ -54,7 +54,7 @@ pub table_at : (file : DataFile) (view : View) (base t : Told) (table : Table) �
 table_at file view base t table same may is =
     table_later file base.log (did Sync base).log view table (Sync ∷ [], refl, refl)
     (table_written (units_log (format file) base.log) ((format file).unit_at (logs.now base.log)) may.no_chance file view table
-    (subst (λ (image : Image). IsObjectTable file (unit_at file.layout file.cluster image) view table) (sym ((λ i sector. sym (may.honest.shows sector) i) ∙ same)) is))
+    (rw (sym ((λ i sector. sym (may.honest.shows sector) i) ∙ same)) at is))
 
 -- ---- an open
 
@@ -91,7 +91,7 @@ module _ (t : Told) (s : Replica) (mended : Option Told) (over : MendsAll t s me
       let later : View = kept (begun_state s.file base view s.fields) in
       let here = table_later s.file (did Sync base).log log view table moment.since at_barrier in
       mid_of s.file log view later table changes 0 here
-      (subst (λ (x : Table). IsTableIn s.file (units_log (format s.file) log) later x) (sym (none_taken table changes)) (table_bare s.file (units_log (format s.file) log) view later table opens.bare.parts opens.bare.tail here)) (opens.moments log moment)
+      (rw (sym (none_taken table changes)) at (table_bare s.file (units_log (format s.file) log) view later table opens.bare.parts opens.bare.tail here)) (opens.moments log moment)
 
 -- ---- after an open, whatever was done to the disk before
 

@@ -41,7 +41,7 @@ pub record IsUnder (r : RunningState) (s t : Replica) : Type 0 where
 
 pub under_start : (r : RunningState) (s : Replica) → s.running ≡ Some r → IsUnder r s s
 under_start r s is = record {
-  running = subst (λ (o : Option RunningState). OfRunning o (λ q. q.op ≡ r.op)) (sym is) refl;
+  running = rw is refl;
   file = refl;
   head = refl;
   replies = refl;
@@ -105,4 +105,4 @@ one_step_more n s u t old mid new one two =
 
 pub one_step_ends : (n : ℕ) (s u t : Replica) (old mid new : Option Told) (ending : Ending) → MakeAll (replicate n Advance) s u old mid → EndIn (Advance ∷ []) u t mid new ending → EndIn (replicate (n + 1) Advance) s t old new ending
 one_step_ends n s u t old mid new ending one two =
-    subst (λ (l : List Command). EndIn l s t old new ending) (replicate_more n Advance) (end_more (replicate n Advance) (Advance ∷ []) s u t old mid new one ending two)
+    rw (replicate_more n Advance) at (end_more (replicate n Advance) (Advance ∷ []) s u t old mid new one ending two)

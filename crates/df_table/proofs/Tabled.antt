@@ -13,7 +13,7 @@ use Rattle.df_table.{specs.{Policy.{line_commands, opening}, Session.{Halt, Halt
 pub acts_stand : (file : DataFile) (xs : List Exchange) (s t : Replica) (old new : Option Told) → AreCalls s old xs t new → (w : Work) → s.file ≡ file → Keeps Firm s w None → (t.file ≡ file) × Keeps Firm t (work_after file w (acts_in xs)) None
 acts_stand file [] s t old new NoCalls w same keeps = (same, keeps)
 acts_stand file (x ∷ xs) s t old new (More u mid c rest) w same keeps =
-    acts_stand file xs u t mid new rest (next file w x.act.given x.act.command).0 (c.call.file ∙ same) (subst (λ (f : DataFile). Keeps Firm u (next f w x.act.given x.act.command).0 None) same (c.call.answers Firm w keeps).1)
+    acts_stand file xs u t mid new rest (next file w x.act.given x.act.command).0 (c.call.file ∙ same) (rw same at (c.call.answers Firm w keeps).1)
 
 pub memory_there : (file : DataFile) (s : Replica) (w : Work) → s.file ≡ file → Keeps Firm s w None → memory s ≡ memory_of (shape file) (spelling file) w
 memory_there file s w same keeps = subst (λ (f : DataFile). memory s ≡ memory_of (shape f) (spelling f) w) same keeps.1
@@ -107,9 +107,9 @@ halt_kept file u new layout own r last told told' table (Some h) halts same s ol
     let e = halts.1 in
     let cs = accepted table h.said in
     let asks : Asks (Unit {0}) e.failed (line_commands file.layout (memory r) t.rows halts.0 cs) e.exchanges =
-    subst (λ (l : Layout). Asks (Unit {0}) e.failed (line_commands l (memory r) t.rows halts.0 cs) e.exchanges) (sym own)
-    (subst (λ (z : Table). Asks (Unit {0}) e.failed (line_commands layout (memory r) z.rows halts.0 cs) e.exchanges) (sym so) (asks_ends (commands_of layout r table halts.0 h.said) r last told told' h.ending e)) in
-    line_to_end file e.failed u new s old w n t at e.exchanges (memory r) halts.0 cs (subst (λ (z : Table). AsksOne z cs) (sym so) (one_asked table h.said)) halts.2 (memory_there file r w same stands) asks
+    rw own
+    (rw so (asks_ends (commands_of layout r table halts.0 h.said) r last told told' h.ending e)) in
+    line_to_end file e.failed u new s old w n t at e.exchanges (memory r) halts.0 cs (rw so (one_asked table h.said)) halts.2 (memory_there file r w same stands) asks
 
 -- those of all lines
 pub lines_kept : (file : DataFile) (u : Replica) (new : Option Told) (layout : Layout) → file.layout ≡ layout → (turns : List TableTurn) (r q last : Replica) (told mid told' : Option Told) (table later : Table) (halt : Option Halt) → AreTurns layout r told table turns q mid later
@@ -120,13 +120,13 @@ lines_kept file u new layout own (x ∷ turns) r q last told mid told' table lat
     let halted = halted_exchanges layout q mid later halt last told' halts in
     let cs = accepted table x.said in
     let asks : Asks ⊥ None (line_commands file.layout (memory r) t.rows steps cs) x.exchanges =
-    subst (λ (l : Layout). Asks ⊥ None (line_commands l (memory r) t.rows steps cs) x.exchanges) (sym own)
-    (subst (λ (z : Table). Asks ⊥ None (line_commands layout (memory r) z.rows steps cs) x.exchanges) (sym so) (asks_made (commands_of layout r table steps x.said) x.exchanges are accepted_all)) in
+    rw own
+    (rw so (asks_made (commands_of layout r table steps x.said) x.exchanges are accepted_all)) in
     let then = acts_stand file x.exchanges r r' told between calls w same stands in
     subst (KeptAll file (halted_failed layout q mid later halt last told' halts) u new s old w n t) (sym (append_assoc x.exchanges (table_exchanges turns) halted))
-    (line_then file (halted_failed layout q mid later halt last told' halts) u new s old w n t at x.exchanges (table_exchanges turns ++ halted) (memory r) steps cs (subst (λ (z : Table). AsksOne z cs) (sym so) (one_asked table x.said)) fit (memory_there file r w same stands) asks
+    (line_then file (halted_failed layout q mid later halt last told' halts) u new s old w n t at x.exchanges (table_exchanges turns ++ halted) (memory r) steps cs (rw so (one_asked table x.said)) fit (memory_there file r w same stands) asks
     (λ s' old' w' n' t' here more_so work.
-    lines_kept file u new layout own turns r' q last between mid told' (table_after table x.said) later halt rest halts then.0 s' old' w' n' t' here (more_so ∙ ap (with_commands cs) so) (subst (λ (v : Work). Keeps Firm r' v None) (sym work) then.1)))
+    lines_kept file u new layout own turns r' q last between mid told' (table_after table x.said) later halt rest halts then.0 s' old' w' n' t' here (more_so ∙ ap (with_commands cs) so) (rw (sym work) at then.1)))
 
 -- ---- which puts and drops are among them
 

@@ -1,5 +1,5 @@
 -- An image and a view have one table, and a file that was just made has the empty one.
-use Rattle.std.proofs.Common.{◌≡◌, ℕ, List, [], ◌∷◌, Some, None, refl, sym, ◌∙◌, ap, subst, arith}
+use Rattle.std.proofs.Common.{◌≡◌, ℕ, List, [], ◌∷◌, Some, None, refl, sym, ◌∙◌, ap, arith}
 use Rattle.df_model.specs.Blocks.{addresses, entries}
 use Rattle.df_rows.{specs.{declared.command.Command.{Command}, Blocks.{TakesAll}, Tables.{Table, with_command, with_commands}}, proofs.Laws.{one_command, one_table}}
 use Rattle.df_session.specs.Below.{DataFile, shape}
@@ -42,15 +42,15 @@ one_list t (p ∷ ps) [] other first second = absurd first
 one_list t (p ∷ ps) (c ∷ one) [] first second = absurd second
 one_list t (p ∷ ps) (c ∷ one) (d ∷ other) first second =
     let same : c ≡ d = one_command c d first.0.fits second.0.fits (sym first.0.body_is ∙ second.0.body_is) in
-    same_commands c d one other same (one_list (with_command c t) ps one other first.1 (subst (λ (e : Command). FollowAll (with_command e t) ps other) (sym same) second.1))
+    same_commands c d one other same (one_list (with_command c t) ps one other first.1 (rw (sym same) at second.1))
 
 -- ---- the table
 
 pub one_table_by : (At : Place → AnyUnit → Type 0) → OneBlock At → (file : DataFile) (v : View) (t u : Table) → IsTableBy At file v t → IsTableBy At file v u → t ≡ u
 one_table_by At alone file v t u one two =
     let bodies = one_bodies At alone (references_of file v) one.bodies two.bodies one.there two.there in
-    let base = one_table (empty_table file.layout) one.base two.base one.bodies one.rows (subst (λ (l : List (List ℕ)). TakesAll (empty_table file.layout) l two.base) (sym bodies) two.rows) in
-    let commands = one_list one.base v.tail one.commands two.commands one.tail (subst (λ (b : Table). FollowAll b v.tail two.commands) (sym base) two.tail) in
+    let base = one_table (empty_table file.layout) one.base two.base one.bodies one.rows (rw (sym bodies) at two.rows) in
+    let commands = one_list one.base v.tail one.commands two.commands one.tail (rw (sym base) at two.tail) in
     one.is ∙ ap (λ (l : List Command). with_commands l one.base) commands ∙ ap (λ (b : Table). with_commands two.commands b) base ∙ sym two.is
 
 pub table_is_one : TableIsOne
@@ -64,7 +64,7 @@ none_referenced (a ∷ xs) = none_referenced xs
 pub first_is_empty : FirstIsEmpty
 first_is_empty file image = record {
   bodies = [];
-  there = subst (λ (l : List (ℕ × ℕ)). ShowsBodies image l []) (sym (none_referenced (addresses (shape file).layout))) tt;
+  there = rw ((none_referenced (addresses (shape file).layout))) tt;
   few = omega arith;
   base = empty_table file.layout;
   rows = refl;

@@ -18,7 +18,7 @@ read_more shown m (y ∷ xs) [] x b are is = absurd are
 read_more shown m (y ∷ xs) (body ∷ bodies) x b are is = (are.0, read_more shown m xs bodies x b are.1 is)
 
 takes_more : (t u : Table) (bodies : List (List ℕ)) (body : List ℕ) (es : List Entry) → TakesAll t bodies u → TableTakes u body es → TakesAll t (bodies ++ body ∷ []) (with_rows es u)
-takes_more t u [] body es all one = (es, subst (λ (k : Table). TableTakes k body es) all one, ap (with_rows es) all)
+takes_more t u [] body es all one = (es, rw all at one, ap (with_rows es) all)
 takes_more t u (b ∷ bodies) body es all one = (all.0, all.1, takes_more (with_rows all.0 t) u bodies body es all.2 one)
 
 unok : (x y : Taken) (r : Result Taken Ending) → r ≡ Ok x → r ≡ Ok y → x ≡ y
@@ -100,27 +100,27 @@ module _ (layout : Layout) (shown : Shown) (m : Memory) (f : ℕ → Option ℕ)
     taking_next (Some c) some next reads =
         let takes = reads.0.2 in
         subst (λ (k : ℕ). IsTaking layout shown m f n (b + 1) next.table k) (sym reads.1)
-        (subst (λ (k : Table). IsTaking layout shown m f n (b + 1) k (x.count + 1)) (sym takes.1.2) (taking_more b less x.table x.count is c some reads.0.0 reads.0.1 takes.0 takes.1.0 takes.1.1))
+        (rw (sym takes.1.2) at (taking_more b less x.table x.count is c some reads.0.0 reads.0.1 takes.0 takes.1.0 takes.1.1))
 
     -- or how it ends
     pub taking_ends : (o : Option ℕ) → sum_at (b + 1) m.blocks.live ≡ o → (ending : Ending) → ReadsNext shown m (b + 1) (blocks_of_table layout) x o (Err ending) → FindsOf layout shown m (Err ending)
     taking_ends None none ending reads = absurd (no_ok ending x (Err ending) refl reads)
     taking_ends (Some c) some Disk reads = inl refl
     taking_ends (Some c) some (Damaged place class) reads =
-        inr (subst (λ (p : Place). FindsTable layout shown m (Err (Damaged p class))) (sym reads.0) (BlockHurt (b + 1, c) (rest b less x.table x.count is) x.table class (split b less x.table x.count is (Some c) some) reads.1))
+        inr (rw (sym reads.0) at (BlockHurt (b + 1, c) (rest b less x.table x.count is) x.table class (split b less x.table x.count is (Some c) some) reads.1))
     taking_ends (Some c) some (NotTable place) reads =
         let takes = reads.2 in
-        inr (subst (λ (p : Place). FindsTable layout shown m (Err (NotTable p))) (sym takes.0)
+        inr (rw (sym takes.0) at
         (OtherBlock (b + 1, c) (rest b less x.table x.count is) x.table reads.0 (split b less x.table x.count is (Some c) some) reads.1 (elim takes.1 [
           | inl norows ↦ inl norows
-          | inr full ↦ inr (subst (λ (k : ℕ). blocks_of_table layout ≤ k) is.count full)
+          | inr full ↦ inr (rw is.count at full)
         ])))
     taking_ends (Some c) some OpsSpent reads = absurd reads
     taking_ends (Some c) some SequenceSpent reads = absurd reads
 
   -- all were gone through
   pub taking_all : (b : ℕ) (t : Table) (taken : ℕ) → b ≡ n → IsTaking layout shown m f n b t taken → AreTakenBlocks layout shown m [] t
-  taking_all b t taken all is = subst (λ (l : List (ℕ × ℕ)). AreTakenBlocks layout shown m l t) (ap (λ (k : ℕ). entries f (range_with_len (b + 1) k)) none_left) is.are
+  taking_all b t taken all is = rw (ap (λ (k : ℕ). entries f (range_with_len (b + 1) k)) none_left) at is.are
     where
       none_left : n - b ≡ 0
       none_left = omega (arith, all)
@@ -152,9 +152,9 @@ module _ (f : ℕ → Option ℕ) (n : ℕ) (s : Replica) (live : s.blocks.live 
 
     here : IsMaking (block_reads (memory s)) (reads_at (b + 1) (memory t) ++ to_come (b + 1)) s t old now
     here =
-        subst (λ (l : List Command). IsMaking (block_reads (memory s)) l s t old now)
+        rw
         (ap (λ (k : ℕ). reads_of (entries f (range_with_len (b + 1) k))) one_more ∙ parts (f (b + 1))
-        ∙ ap (λ (o : Option ℕ). reads_of (entry (b + 1) o []) ++ to_come (b + 1)) (sym (ap (λ (r : Replica). sum_at (b + 1) r.blocks.live) same ∙ ap (sum_at (b + 1)) live ∙ entry_at f 1 n (b + 1) (omega arith) (omega (arith, less))))) is
+        ∙ ap (λ (o : Option ℕ). reads_of (entry (b + 1) o []) ++ to_come (b + 1)) (sym (ap (λ (r : Replica). sum_at (b + 1) r.blocks.live) same ∙ ap (sum_at (b + 1)) live ∙ entry_at f 1 n (b + 1) (omega arith) (omega (arith, less))))) at is
       where
         one_more : n - b ≡ suc (n - (b + 1))
         one_more = omega (arith, less)
@@ -167,7 +167,7 @@ module _ (f : ℕ → Option ℕ) (n : ℕ) (s : Replica) (live : s.blocks.live 
 
   pub reading_all : (b : ℕ) (t : Replica) (old now : Option Told) → b ≡ n → IsMaking (block_reads (memory s)) (to_come b) s t old now → MakeAll (block_reads (memory s)) s t old now
   reading_all b t old now all is =
-      all_making (block_reads (memory s)) s t old now (subst (λ (k : ℕ). IsMaking (block_reads (memory s)) (reads_of (entries f (range_with_len (b + 1) k))) s t old now) none_left is)
+      all_making (block_reads (memory s)) s t old now (rw none_left at is)
     where
       none_left : n - b ≡ 0
       none_left = omega (arith, all)

@@ -1,5 +1,5 @@
 -- What one line does to a session: it goes on with the line executed, or ends.
-use Rattle.std.proofs.Common.{◌≡◌, ◌⊎◌, inl, inr, ◌<◌, ◌+◌, ℕ, true, false, IsTrue, List, [], ◌∷◌, ◌++◌, length, Option, Some, refl, sym, ◌∙◌, ap, subst}
+use Rattle.std.proofs.Common.{◌≡◌, ◌⊎◌, inl, inr, ◌<◌, ◌+◌, ℕ, true, false, IsTrue, List, [], ◌∷◌, ◌++◌, length, Option, Some, refl, sym, ◌∙◌, ap}
 use Rattle.df_base.specs.Streams.{Appends}
 use Rattle.df_inspect.{proofs.Laws.{appends_none}, specs.Opening.{script_text}}
 use Rattle.df_layout.specs.declared.layout.Layout.{Layout}
@@ -35,7 +35,7 @@ module _ (layout : Layout) (before after : Outside) (old new : Session) (room : 
   takes rest is =
       let taken_is = gives rest (record { is = is; ended = at_end }) in
       record {
-        line = subst (λ (n : ℕ). IsLine SaysTableLine n old.lines.reading.budget rest (said_with room.body line)) bound taken_is.line;
+        line = rw bound at taken_is.line;
         rest_is = ap (λ (l : ReaderParts). unread l.reading.held after.left) kept ∙ taken_is.rest;
         budget_is = ap (λ (l : ReaderParts). l.reading.budget) kept ∙ taken_is.budget;
       }
@@ -57,14 +57,14 @@ module _ (layout : Layout) (before after : Outside) (old new : Session) (same : 
   ends_done unwritten finished =
       ends_between layout (state before old) (state after new) false status.Done same one
       (λ rest is. record { refused = λ no. absurd (cc); held = λ no. absurd (cc); finished = λ done. finished rest is })
-      (inl (inl refl, subst (λ (o : Option (List ℕ)). Appends before.written o []) (sym unwritten) (appends_none before.written)))
+      (inl (inl refl, rw unwritten (appends_none before.written)))
 
   -- the source failed
   pub ends_read : after.written ≡ before.written → ServingEndsIn layout (state before old) (state after new) status.ReadFault
   ends_read unwritten =
       ends_between layout (state before old) (state after new) false status.ReadFault same one
       (λ rest is. record { refused = λ no. absurd (cc); held = λ no. absurd (cc); finished = λ done. absurd (cc) })
-      (inl (inr refl, subst (λ (o : Option (List ℕ)). Appends before.written o []) (sym unwritten) (appends_none before.written)))
+      (inl (inr refl, rw unwritten (appends_none before.written)))
 
   -- the next line is refused
   pub ends_refused : (room : ReaderParts) → old.lines.reading.bound ≡ line_bound layout → room.reading.bound ≡ old.lines.reading.bound → (IsTrue old.lines.ended → IsAtEnd before.left)
@@ -78,16 +78,16 @@ module _ (layout : Layout) (before after : Outside) (old new : Session) (same : 
       holds : (rest : List ℕ) → (state before old).text ≡ Some rest → (remains : List ℕ) → after.left ≡ Some remains → HoldsTableLine (line_bound layout) rest remains
       holds rest is remains has =
           let no = refuses rest is in
-          let whole : Some (room.reading.held ++ remains) ≡ Some rest = subst (λ (o : Option (List ℕ)). unread room.reading.held o ≡ Some rest) has no.rest in
+          let whole : Some (room.reading.held ++ remains) ≡ Some rest = rw has at no.rest in
           record {
             held = room.reading.held;
             is = cc whole;
-            line = subst (λ (n : ℕ). (line_of room.reading.held ≡ line_of rest) ⊎ (n < length (line_of room.reading.held))) (bound_kept ∙ bound) no.read;
+            line = rw (bound_kept ∙ bound) at no.read;
           }
 
       text : (rest : List ℕ) → (state before old).text ≡ Some rest → EndsTableText (line_bound layout) old.lines.reading.budget rest after.left true ends
       text rest is = record {
-        refused = λ yes. subst (λ (n : ℕ). IsRefused SaysTableLine n old.lines.reading.budget rest) bound (refuses rest is).refuses;
+        refused = λ yes. rw bound at (refuses rest is).refuses;
         held = λ yes remains has. holds rest is remains has;
         finished = λ done. absurd (undone_script (script_text (old.count + 1)) before.written after.written ends wrote done);
       }

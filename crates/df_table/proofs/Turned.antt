@@ -18,7 +18,7 @@ said_more (x ∷ turns) more = ap (λ (l : List Said). x.said ∷ l) (said_more 
 pub begins_more : (bound budget : ℕ) (text : List ℕ) (says : List Said) (left : ℕ) (rest : List ℕ) (said : Said) → Begins SaysTableLine bound budget text says left rest → IsLine SaysTableLine bound left rest said
     → Begins SaysTableLine bound budget text (says ++ said ∷ []) (left - taken rest) (after_line rest)
 begins_more bound budget text [] left rest said begins is = (
-  subst (λ (n : ℕ). IsLine SaysTableLine bound n text said) begins.0 (subst (λ (t : List ℕ). IsLine SaysTableLine bound left t said) begins.1 is),
+  rw begins.0 at (rw begins.1 at is),
   ((λ i. begins.0 i - taken (begins.1 i)), λ i. after_line (begins.1 i)),
 )
 begins_more bound budget text (x ∷ says) left rest said begins is = (begins.0, begins_more bound (budget - taken text) (after_line text) says left rest said begins.1 is)
@@ -56,7 +56,7 @@ module _ (layout : Layout) (old new : ServingState) (said : Said) (takes : (rest
       let taken_is = takes so_far.0 so_far.1 in (
         after_line so_far.0,
         taken_is.rest_is,
-        subst (λ (n : ℕ). Begins SaysTableLine (line_bound layout) origin.budget text (table_said turns ++ said ∷ []) n (after_line so_far.0)) (sym taken_is.budget_is)
+        rw (sym taken_is.budget_is) at
             (begins_more (line_bound layout) origin.budget text (table_said turns) old.budget so_far.0 said so_far.2 taken_is.line),
       )
 
@@ -95,7 +95,7 @@ module _ (layout : Layout) (old new : ServingState) (said : Said) (takes : (rest
     executed_more more wrote = record {
       text = λ text is.
           let begins = begins_too text is in
-          (begins.0, begins.1, subst (λ (l : List Said). Begins SaysTableLine (line_bound layout) origin.budget text l new.budget begins.0) (sym all_is) begins.2);
+          (begins.0, begins.1, rw (sym all_is) at begins.2);
       written = subst (Appends origin.outside.written new.outside.written) (sym text_is) (appends_more origin.outside.written old.outside.written new.outside.written (map_text origin.table origin.replica.head (table_said turns)) (line_of_turn old.table old.replica.head said) before.written wrote);
       lines = lines_is more;
       calls = calls_is;
@@ -117,7 +117,7 @@ module _ (layout : Layout) (old new : ServingState) (said : Said) (takes : (rest
           let begins = begins_too text is in (
             new.budget,
             begins.0,
-            subst (λ (l : List Said). Begins SaysTableLine (line_bound layout) origin.budget text l new.budget begins.0) (sym (append-nil (table_said (turns ++ turn ∷ [])) ∙ all_is)) begins.2,
+            rw (sym (append-nil (table_said (turns ++ turn ∷ [])) ∙ all_is)) at begins.2,
             record { refused = λ no. absurd (cc); held = λ no. absurd (cc); finished = λ done. absurd (let apart : WriteFault ≡ Done = sym fault ∙ done in cc) },
           );
       written = inr (
@@ -164,7 +164,7 @@ module _ (layout : Layout) (old new : ServingState) (cut : Bool) (status : Statu
     halts = (one, same);
     text = λ text is.
         let so_far = before.text text is in
-        (old.budget, so_far.0, subst (λ (l : List Said). Begins SaysTableLine (line_bound layout) origin.budget text l old.budget so_far.0) (sym (append-nil (table_said turns))) so_far.2, ends so_far.0 so_far.1);
+        (old.budget, so_far.0, rw (sym (append-nil (table_said turns))) at so_far.2, ends so_far.0 so_far.1);
     written = closes origin turns before wrote;
   }
     where
@@ -184,13 +184,13 @@ pub goes_on_more : (layout : Layout) (old mid new : ServingState) → ServingGoe
 goes_on_more layout old mid new one two = λ origin turns before.
     let first = one origin turns before in
     let second = two origin (turns ++ first.0) first.1 in
-    (first.0 ++ second.0, subst (λ (l : List TableTurn). ServingExecuted layout origin new l) (append_assoc turns first.0 second.0) second.1)
+    (first.0 ++ second.0, rw (append_assoc turns first.0 second.0) at second.1)
 
 pub ends_later : (layout : Layout) (old mid new : ServingState) (status : Status) → ServingGoesOn layout old mid → ServingEndsIn layout mid new status → ServingEndsIn layout old new status
 ends_later layout old mid new status one two = λ origin turns before. let first = one origin turns before in two origin (turns ++ first.0) first.1
 
 pub goes_none : (layout : Layout) (s : ServingState) → ServingGoesOn layout s s
-goes_none layout s = λ origin turns before. ([], subst (λ (l : List TableTurn). ServingExecuted layout origin s l) (sym (append-nil turns)) before)
+goes_none layout s = λ origin turns before. ([], rw (sym (append-nil turns)) at before)
 
 executed_none : (layout : Layout) (s : ServingState) → ServingExecuted layout s s []
 executed_none layout s = record {

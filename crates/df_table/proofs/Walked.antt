@@ -136,7 +136,7 @@ module _ (file : DataFile) where
     walk_writes : (t0 : Table) (done todo : List (List ℕ)) (rest : List Command) → Behind (λ w n t. (t ≡ t0) × WroteBodies (log_of n) (live_entries w) (done ++ todo)) rest
         → Behind (λ w n t. (t ≡ t0) × WroteBodies (log_of n) (live_entries w) done × LowHeld w) (map (WriteBlock 1) todo ++ rest)
     walk_writes t0 done [] rest k s old w n t xs at so asks ends =
-        k s old w n t xs at (so.0, subst (λ (l : List (List ℕ)). WroteBodies (log_of n) (live_entries w) l) (sym (append-nil done)) so.1) asks ends
+        k s old w n t xs at (so.0, rw ((append-nil done)) so.1) asks ends
     walk_writes t0 done (body ∷ todo) rest k s old w n t xs at so asks ends =
         peel_plain (WriteBlock 1 body) (map (WriteBlock 1) todo ++ rest) tt s old w n t xs at asks ends
         (λ a r mid x later is call accepted there more_asks more_ends.
@@ -157,13 +157,13 @@ module _ (file : DataFile) where
           body_is = refl;
         } in
         let all : WroteBodies (log_of behind) (live_entries (with_live w address (Some sum))) (done ++ body ∷ []) =
-        subst (λ (l : List (ℕ × ℕ)). WroteBodies (log_of behind) l (done ++ body ∷ []))
-        (sym (entries_last w.live address sum 1 (shape file).layout.blocks least.inside.0 (omega (arith, least.inside.1)) (λ y d live. lower w address y d so.2 least.inside.0 least.free live)))
+        rw
+        ((entries_last w.live address sum 1 (shape file).layout.blocks least.inside.0 (omega (arith, least.inside.1)) (λ y d live. lower w address y d so.2 least.inside.0 least.free live)))
         (wrote_more (log_of behind) (live_entries w) done (address, sum) body (bodies_later file n.log behind.log (live_entries w) done (grew call.call.events n) so.1) block) in
         walk_writes t0 (done ++ body ∷ []) todo rest
-        (λ s old w n t xs at so asks ends. k s old w n t xs at (so.0, subst (λ (l : List (List ℕ)). WroteBodies (log_of n) (live_entries w) l) (append_assoc done (body ∷ []) todo) so.1) asks ends)
+        (λ s old w n t xs at so asks ends. k s old w n t xs at (so.0, rw (← (append_assoc done (body ∷ []) todo)) so.1) asks ends)
         r mid (next file w a.given a.command).0 behind t later there
-        (so.0, subst (λ (v : Work). WroteBodies (log_of behind) (live_entries v) (done ++ body ∷ [])) (sym state) all, subst LowHeld (sym state) (low_more (shape file) w address sum so.2 least)) more_asks more_ends)
+        (so.0, rw state all, subst LowHeld (sym state) (low_more (shape file) w address sum so.2 least)) more_asks more_ends)
 
     -- ---- the begin and its steps
 
@@ -185,9 +185,9 @@ module _ (file : DataFile) where
         entries_same (λ y. sum_at y (live_entries w)) w.live 1 (shape file).layout.blocks (λ y from to. entry_at w.live 1 (shape file).layout.blocks y from to) in
         let written = bodies_later file n.log behind.log (live_entries w) bodies (grew call.call.events n) so.1 in
         let captured : Captured bodies (with_running w (Some (begun (shape file) (spelling file) w []))) behind = λ q running.
-        subst (λ (z : Running). (z.op ≡ head w.view) × WroteBodies (log_of behind) (entries z.parts.references (addresses (shape file).layout)) bodies) (one_some running)
+        rw (← (one_some running))
         (refl, subst (λ (l : List (ℕ × ℕ)). WroteBodies (log_of behind) l bodies) (sym same) written) in
-        k r mid (next file w a.given a.command).0 behind t later there (so.0, subst (λ (v : Work). Captured bodies v behind) (sym state) captured) more_asks more_ends)
+        k r mid (next file w a.given a.command).0 behind t later there (so.0, rw state captured) more_asks more_ends)
 
     -- what a step leads to
     record Stepped (t : Table) (n : Told) (v : Work) : Type 0 where
@@ -220,12 +220,12 @@ module _ (file : DataFile) where
     walk_steps : (t0 : Table) (steps : ℕ) (rest : List Command) → Behind (λ w n t. t ≡ t0) rest → Behind (λ w n t. (t ≡ t0) × Captured (bodies_in t0) w n) (replicate steps Advance ++ rest)
     walk_steps t0 zero rest k s old w n t xs at so asks ends = k s old w n t xs at so.0 asks ends
     walk_steps t0 (suc steps) rest k s old w n t xs at so asks ends =
-        let captured : Captured (bodies_in t) w n = subst (λ (z : Table). Captured (bodies_in z) w n) (sym so.0) so.1 in
+        let captured : Captured (bodies_in t) w n = rw so.0 so.1 in
         peel Advance (replicate steps Advance ++ rest) s old w n t xs at asks ends
         (λ a is x from some changes.
         subst (λ (l : List Change). IsTableIn file (log_of n) (kept (next file w a.given a.command).0) (with_commands l t)) (sym (no_change a.command x some is changes)) (stepped w n t a is at.table captured).table)
         (λ a is pending changes.
-        (0, subst (λ (z : Table). IsTableIn file (log_of n) (kept (next file w a.given a.command).0) z) (sym (none_taken t pending)) (stepped w n t a is at.table captured).table))
+        (0, rw ((none_taken t pending)) (stepped w n t a is at.table captured).table))
         (λ a r mid x some later is call from accepted changes there more_asks more_ends.
         let behind : Told = told_after call.call.events n in
         let none = no_change a.command x some is changes in
@@ -233,7 +233,7 @@ module _ (file : DataFile) where
         let still : Captured (bodies_in t0) (next file w a.given a.command).0 behind = λ q running.
         let known = (stepped w n t a is at.table captured).captured q running in (
           known.0,
-          subst (λ (z : Table). WroteBodies (log_of behind) (entries q.parts.references (addresses (shape file).layout)) (bodies_in z)) so.0
+          rw (← so.0)
               (bodies_later file n.log behind.log (entries q.parts.references (addresses (shape file).layout)) (bodies_in t) (grew call.call.events n) known.1),
         ) in
         subst (λ (l : List Change). All r mid (next file w a.given a.command).0 behind (with_commands l t) later) (sym none)
@@ -254,7 +254,7 @@ module _ (file : DataFile) where
       -- what is appended has the table after the command
       appended_there : (w : Work) (n : Told) (t : Table) (sum : ℕ) → t ≡ t0 → IsTableIn file (log_of n) (kept w) t → IsTableIn file (log_of n) (kept (with_prepare w (prepare w sum))) (with_command c t)
       appended_there w n t sum is table =
-          table_appended file (log_of n) (kept w) (kept (with_prepare w (prepare w sum))) t (prepare w sum) c refl refl (record { body_is = refl; fits = fits; room = subst (λ (z : Table). CanApply z c) (sym is) can }) table
+          table_appended file (log_of n) (kept w) (kept (with_prepare w (prepare w sum))) t (prepare w sum) c refl refl (record { body_is = refl; fits = fits; room = rw is can }) table
 
       -- the change of an accepted append is this command
       its_change : (some : List Change) → (d : Change) × IsCommand d × (body_of c ≡ body_of d) × (some ≡ d ∷ []) → some ≡ c ∷ []
@@ -273,7 +273,7 @@ module _ (file : DataFile) where
           → (k : ℕ) × IsTableIn file (log_of n) (kept (outcome {A = ℕ × ℕ} o w (with_prepare w (prepare w sum)) ((prepare w sum).header.op, sum)).0) (with_commands (take k pending) t)
       append_fails w n t sum is table None pending changes =
           (1, subst (λ (l : List Change). IsTableIn file (log_of n) (kept (with_prepare w (prepare w sum))) (with_commands (take 1 l) t)) (sym (its_change pending changes)) (appended_there w n t sum is table))
-      append_fails w n t sum is table (Some e) pending changes = (0, subst (λ (z : Table). IsTableIn file (log_of n) (kept w) z) (sym (none_taken t pending)) table)
+      append_fails w n t sum is table (Some e) pending changes = (0, rw ((none_taken t pending)) table)
 
       append_accepted : (w : Work) (sum : ℕ) → (o : Option AppendError) (x : Answer) → x ≡ ToAppend (outcome {A = ℕ × ℕ} o w (with_prepare w (prepare w sum)) ((prepare w sum).header.op, sum)).1 → IsAccepted x → (some : List Change) → Changes append x some → some ≡ c ∷ []
       append_accepted w sum None x from accepted some changes = its_change some (subst (λ (y : Answer). Changes append y some) from changes)

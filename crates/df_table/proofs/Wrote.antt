@@ -1,5 +1,5 @@
 -- Blocks of a table are written one after the other, into free addresses.
-use Rattle.std.{proofs.Common.{◌≡◌, ℕ, suc, ◌+◌, ◌-◌, ◌<◌, ◌≤◌, ◌==◌, nat_lt, Bool, true, false, if◌then◌else◌, List, [], ◌∷◌, ◌++◌, length, map, Option, None, Result, Ok, Err, refl, sym, ◌∙◌, ap, subst, arith}, specs.{Prelude.{OnOk}, FinMap.{len-entries}, Fork.{slice_chunk}, List.{range_with_len}}}
+use Rattle.std.{proofs.Common.{◌≡◌, ℕ, suc, ◌+◌, ◌-◌, ◌<◌, ◌≤◌, ◌==◌, nat_lt, Bool, true, false, if◌then◌else◌, List, [], ◌∷◌, ◌++◌, length, map, Option, None, Result, Ok, Err, refl, sym, ◌∙◌, ap, arith}, specs.{Prelude.{OnOk}, FinMap.{len-entries}, Fork.{slice_chunk}, List.{range_with_len}}}
 use Rattle.std.specs.FinMap as maps
 use Rattle.df_base.proofs.Laws.{minus_zero}
 use Rattle.df_disk.specs.Told.{Told}
@@ -27,7 +27,7 @@ wrote_at s t h is =
     let live = ap (λ (v : Replica). v.blocks.live) is in
     record {
       same = is ∙ ap (λ (l : List (ℕ × ℕ)). record s { blocks = record s.blocks { live = l } }) (sym live);
-      few = subst (λ (l : List (ℕ × ℕ)). length l ≤ length s.blocks.live + 1) (sym live) (one_entry _ _ s.blocks.live);
+      few = rw live (one_entry _ _ s.blocks.live);
     }
 
 pub wrote_one : {T : Type 0} (s t : Replica) (h : Header) (r : Result T Ending) → OnOk r (t ≡ written s h) → OnOk r (WroteBlocks 1 s t)
@@ -49,7 +49,7 @@ may_put layout s body is free short =
     let enough : (memory s).layout.blocks ≤ length (free_of (memory s)) + (length s.blocks.live + (length s.blocks.durable + length s.blocks.chain)) =
     enough_free (memory s).layout s.blocks.live s.blocks.captured s.blocks.written s.blocks.left s.blocks.durable s.blocks.chain free.captured free.written free.left in
     let blocks : (memory s).layout.blocks ≡ layout.blocks = ap (λ (l : Layout). l.blocks) is in
-    may_write s body (subst (λ (l : Layout). length body ≤ l.block_size - 256) (sym is) short) (omega (arith, enough, blocks, free.free))
+    may_write s body (rw (sym is) at short) (omega (arith, enough, blocks, free.free))
 
 -- ---- all of them
 
@@ -76,13 +76,13 @@ pub record IsWriting (layout : Layout) (rows : Map) (n b : ℕ) (s t : Replica) 
 
 pub writing_none : (layout : Layout) (rows : Map) (n : ℕ) (s : Replica) (told : Option Told) → IsWriting layout rows n 0 s s told told
 writing_none layout rows n s told = record {
-  making = subst (λ (k : ℕ). IsMaking (puts_from layout rows 0 n) (puts_from layout rows 0 k) s s told told) (minus_zero n) (making_none (puts_from layout rows 0 n) s told);
+  making = rw (← (minus_zero n)) (making_none (puts_from layout rows 0 n) s told);
   wrote = wrote_none s;
 }
 
 module _ (layout : Layout) (rows : Map) (n b : ℕ) (less : b < n) (s t : Replica) (old now : Option Told) (is : IsWriting layout rows n b s t old now) where
   next_making : IsMaking (puts_from layout rows 0 n) ((put_at layout rows b ∷ []) ++ puts_from layout rows (b + 1) (n - (b + 1))) s t old now
-  next_making = subst (λ (k : ℕ). IsMaking (puts_from layout rows 0 n) (puts_from layout rows b k) s t old now) one_more is.making
+  next_making = rw one_more at is.making
     where
       one_more : n - b ≡ suc (n - (b + 1))
       one_more = omega (arith, less)
@@ -107,7 +107,7 @@ module _ (layout : Layout) (rows : Map) (n b : ℕ) (less : b < n) (s t : Replic
 
 module _ (layout : Layout) (rows : Map) (n b : ℕ) (s t : Replica) (old now : Option Told) (is : IsWriting layout rows n b s t old now) (all : b ≡ n) where
   pub writing_all : MakeAll (puts_from layout rows 0 n) s t old now
-  writing_all = all_making (puts_from layout rows 0 n) s t old now (subst (λ (k : ℕ). IsMaking (puts_from layout rows 0 n) (puts_from layout rows b k) s t old now) none is.making)
+  writing_all = all_making (puts_from layout rows 0 n) s t old now (rw none at is.making)
     where
       none : n - b ≡ 0
       none = omega (arith, all)

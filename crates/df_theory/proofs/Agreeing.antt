@@ -73,15 +73,15 @@ take_boot n image c p takes above = elim (cases_eq p.header.boot c.boot) [
   | inl same ↦ same
   | inr differs ↦
       let at : IsTake (case (seen_header c.boot p.header.op (image (HeaderPlace (p.header.op % n)))) (seen c.boot p.header.op p.header)) =
-      subst (λ (y : Option AnyUnit). IsTake (case (seen_header c.boot p.header.op (image (HeaderPlace (p.header.op % n)))) (seen_prepare c.boot p.header.op y))) takes.shown (takes.take above) in
-      absurd (take_old (seen_header c.boot p.header.op (image (HeaderPlace (p.header.op % n)))) (subst (λ (s : Seen). IsTake (case (seen_header c.boot p.header.op (image (HeaderPlace (p.header.op % n)))) s)) (seen_past c.boot p.header.op p.header refl differs) at))
+      rw takes.shown at (takes.take above) in
+      absurd (take_old (seen_header c.boot p.header.op (image (HeaderPlace (p.header.op % n)))) (rw (seen_past c.boot p.header.op p.header refl differs) at at))
 ]
 
 pub empty_case : (a b : Seen) → (a ≡ Old) ⊎ (a ≡ Nothing) → (b ≡ Old) ⊎ (b ≡ Nothing) → IsEmpty (case a b)
-empty_case a b (inl is) (inl at) = subst (λ (s : Seen). IsEmpty (case s b)) (sym is) (subst (λ (s : Seen). IsEmpty (case Old s)) (sym at) tt)
-empty_case a b (inl is) (inr at) = subst (λ (s : Seen). IsEmpty (case s b)) (sym is) (subst (λ (s : Seen). IsEmpty (case Old s)) (sym at) tt)
-empty_case a b (inr is) (inl at) = subst (λ (s : Seen). IsEmpty (case s b)) (sym is) (subst (λ (s : Seen). IsEmpty (case Nothing s)) (sym at) tt)
-empty_case a b (inr is) (inr at) = subst (λ (s : Seen). IsEmpty (case s b)) (sym is) (subst (λ (s : Seen). IsEmpty (case Nothing s)) (sym at) tt)
+empty_case a b (inl is) (inl at) = subst (λ (s : Seen). IsEmpty (case s b)) (sym is) (rw at tt)
+empty_case a b (inl is) (inr at) = subst (λ (s : Seen). IsEmpty (case s b)) (sym is) (rw at tt)
+empty_case a b (inr is) (inl at) = subst (λ (s : Seen). IsEmpty (case s b)) (sym is) (rw at tt)
+empty_case a b (inr is) (inr at) = subst (λ (s : Seen). IsEmpty (case s b)) (sym is) (rw at tt)
 
 -- ---- an image whose units agree with a view
 
@@ -123,11 +123,11 @@ module _ (sh : Shape) (image : Units) (v : View) (sound : Sound sh v) (all : (pl
               let q = a.in_tail of (omega arith) in
               let one : q.0 ≡ p = in_one sh.layout.clients (v.checkpoint.content.op + 1) v.checkpoint.content.op_checksum 0 v.checkpoint.parts.sessions v.tail q.0 p sound.chain q.1 at (q.2 ∙ same) in
               let checksum : x.checksum ≡ p.header.checksum = sym q.3 ∙ ap (λ (w : Message). w.header.checksum) one in
-              subst (λ (s : Seen). IsTake (case s (Current p.header.checksum))) (sym (seen_now (boot_of v) p.header.op x same of)) (same_take x.checksum p.header.checksum checksum)
-          | inr past ↦ subst (λ (s : Seen). IsTake (case s (Current p.header.checksum))) (sym (seen_past (boot_of v) p.header.op x same past)) tt
+              rw ((seen_now (boot_of v) p.header.op x same of)) (same_take x.checksum p.header.checksum checksum)
+          | inr past ↦ rw ((seen_past (boot_of v) p.header.op x same past)) tt
         ]
         | inr differs ↦ elim (cases_lt x.op p.header.op) [
-          | inl less ↦ subst (λ (s : Seen). IsTake (case s (Current p.header.checksum))) (sym (seen_old (boot_of v) p.header.op x less)) tt
+          | inl less ↦ rw ((seen_old (boot_of v) p.header.op x less)) tt
           | inr more ↦ absurd (mod_apart sh.layout.slots p.header.op x.op sh.some (omega arith) (omega (arith, a.ring, ops.0)) (a.slot (omega arith)))
         ]
       ]
@@ -135,8 +135,8 @@ module _ (sh : Shape) (image : Units) (v : View) (sound : Sound sh v) (all : (pl
   pub takes_if : (p : Message) → In p v.tail → image (PreparePlace (p.header.op % sh.layout.slots)) ≡ Some (PrepareUnit p) → Takes sh.layout.slots image v.checkpoint.content p
   takes_if p at shown = record {
     shown = shown;
-    take = λ above. subst (λ (y : Option AnyUnit). IsTake (case (seen_header (boot_of v) p.header.op (image (HeaderPlace (p.header.op % sh.layout.slots)))) (seen_prepare (boot_of v) p.header.op y))) (sym shown)
-        (subst (λ (s : Seen). IsTake (case (seen_header (boot_of v) p.header.op (image (HeaderPlace (p.header.op % sh.layout.slots)))) s)) (sym (seen_now (boot_of v) p.header.op p.header refl (sound.records.tail p at above))) (take_at p at above (image (HeaderPlace (p.header.op % sh.layout.slots))) refl));
+    take = λ above. rw shown
+        (rw (sym (seen_now (boot_of v) p.header.op p.header refl (sound.records.tail p at above))) at (take_at p at above (image (HeaderPlace (p.header.op % sh.layout.slots))) refl));
   }
   -- above the head nothing of this boot is shown
 

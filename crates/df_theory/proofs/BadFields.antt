@@ -1,5 +1,5 @@
 -- An open of settled units never finds a bad field.
-use Rattle.std.proofs.Common.{◌≡◌, inl, inr, ℕ, suc, ◌+◌, ◌-◌, ◌%◌, ◌<◌, ◌≤◌, List, [], ◌∷◌, ◌++◌, length, Some, refl, sym, ◌∙◌, ap, subst, arith, length-append, append_assoc}
+use Rattle.std.proofs.Common.{◌≡◌, inl, inr, ℕ, suc, ◌+◌, ◌-◌, ◌%◌, ◌<◌, ◌≤◌, List, [], ◌∷◌, ◌++◌, length, Some, refl, sym, ◌∙◌, ap, arith, length-append, append_assoc}
 use Rattle.df_theory.{specs.{Units.{Block, BlockPlace, BlockUnit, Content, CopyPlace, PreparePlace, ReplyPlace, Units}, Shape.{Shape}, Copies.{IsChosen}, Trailer.{InChain, IsReference, Links}, View.{Checkpoint, IsSoundCheckpoint, PassesTests, View}, Found.{slot_behind}, Opens.{AreLinks, Arrives, BadField, BootSpent, Damaged, Found, IsLink, IsShown, NoQuorum, ReadsTo, Refused}, DamageLaws.{NoBadFieldLaw}, Grown.{Grows}, HistoryLaws.{AreDistinct, ShowsSettled}, Past.{FromEmpty}}, proofs.{Fields.{fields_hold_law}, Once.{was_chain}, Layers.{Answers, answers_of}, OneAnswer.{in_behind}}}
 
 pub arrives_more : (image : Units) (bs : List (ℕ × Block)) (d : ℕ × Block) (address checksum a k : ℕ) → Arrives image bs address checksum a k → 0 < a → d.0 ≡ a → d.1.checksum ≡ k → d.1.kind ≡ 0 → image (BlockPlace a) ≡ Some (BlockUnit d.1) → Arrives image (bs ++ d ∷ []) address checksum d.1.before d.1.before_checksum
@@ -25,10 +25,10 @@ module _ (sh : Shape) (shown : Units) (w : Checkpoint) (sound : IsSoundCheckpoin
   rest_shown bs (d ∷ ds) a k split arrives are links e x at =
       let size : length w.chain ≡ length bs + suc (length ds) = ap length split ∙ length-append bs (d ∷ ds) in
       let there = wanted a k (record { count = length w.chain; read = bs; counts = sound.trailer.count; arrives = arrives; links = are; more = omega arith }) in
-      let in_chain : InChain d.0 d.1 w.chain = subst (λ (l : List (ℕ × Block)). InChain d.0 d.1 l) (sym split) (in_behind d.0 d.1 bs (d ∷ ds) (inl (refl, refl))) in
+      let in_chain : InChain d.0 d.1 w.chain = rw (sym split) at (in_behind d.0 d.1 bs (d ∷ ds) (inl (refl, refl))) in
       let one : d.1 ≡ there.0 = same d.0 d.1 there.0 in_chain (ap (λ (n : ℕ). shown (BlockPlace n)) links.1 ∙ there.1) (links.2 ∙ sym there.2) in
       let here : shown (BlockPlace a) ≡ Some (BlockUnit d.1) = there.1 ∙ ap (λ (z : Block). Some (BlockUnit z)) (sym one) in
-      let link : IsLink sh w.content (length ds) d.1 = link_of sh w.content d ds a k links (λ f z in_rest. sound.trailer.inside f z (subst (λ (l : List (ℕ × Block)). InChain f z l) (sym split) (in_behind f z bs (d ∷ ds) (inr in_rest)))) in
+      let link : IsLink sh w.content (length ds) d.1 = link_of sh w.content d ds a k links (λ f z in_rest. sound.trailer.inside f z (rw (sym split) at (in_behind f z bs (d ∷ ds) (inr in_rest)))) in
       elim at [
         | inl first ↦ ap (λ (n : ℕ). shown (BlockPlace n)) (first.0 ∙ links.1) ∙ here ∙ ap (λ (z : Block). Some (BlockUnit z)) (sym first.1)
         | inr later ↦ rest_shown (bs ++ d ∷ []) ds d.1.before d.1.before_checksum (split ∙ sym (append_assoc bs (d ∷ []) ds)) (arrives_more shown bs d w.content.trailer w.content.trailer_checksum a k arrives links.0 links.1 links.2 links.6 here)
@@ -42,14 +42,14 @@ no_bad : (sh : Shape) (images : List Units) (v : View) (grows : Grows sh images 
 no_bad sh images v grows empty distinct shown of (inl p) = let both : Refused BadField ≡ Refused NoQuorum = p.1 in cc
 no_bad sh images v grows empty distinct shown of (inr (c, chosen, inl p)) =
     let w = fields_hold_law sh images v grows empty distinct shown of c chosen.agreed in
-    p.0 (subst (λ (d : Content). PassesTests sh d) w.2 w.3.tests) (subst (λ (d : Content). IsReference sh.layout d) w.2 w.3.trailer.reference)
+    p.0 (rw w.2 at w.3.tests) (rw w.2 at w.3.trailer.reference)
 no_bad sh images v grows empty distinct shown of (inr (c, chosen, inr (tests, reference, inl p))) = let both : Refused BadField ≡ Refused (Damaged (BlockPlace p.0)) = p.4 in cc
 no_bad sh images v grows empty distinct shown of (inr (c, chosen, inr (tests, reference, inr (inl p)))) =
     let w = fields_hold_law sh images v grows empty distinct shown of c chosen.agreed in
     p.1 w.0.checkpoint w.2 (record {
-      chosen = subst (λ (d : Content). IsChosen shown d) (sym w.2) chosen;
+      chosen = rw (sym w.2) at chosen;
       sound = w.3;
-      shown = all_shown sh shown w.0.checkpoint w.3 (λ a k reads. p.0 a k (subst (λ (d : Content). ReadsTo sh shown d a k) w.2 reads))
+      shown = all_shown sh shown w.0.checkpoint w.3 (λ a k reads. p.0 a k (rw w.2 at reads))
           (λ e x y at is checksum. distinct (BlockPlace e) (BlockPlace e) (BlockUnit x) (BlockUnit y) (was_chain sh images v grows w.0 w.1 e x at) (of (BlockPlace e) (BlockUnit y) is) checksum);
     })
 no_bad sh images v grows empty distinct shown of (inr (c, chosen, inr (tests, reference, inr (inr (b, content, readable, inl p))))) = let both : Refused BadField ≡ Refused (Damaged (CopyPlace p.0)) = p.3 in cc

@@ -159,7 +159,7 @@ headers_made : (c : Content) (put : Units) → PutsReserved put → PutsMade c p
 headers_made c put reserved = record {
   made = λ place y is.
       let e = reserved place y is in
-      subst (λ (p : Place). IsMade c p y) (sym e.2) (e.1, e.3, e.4);
+      rw e.2 (e.1, e.3, e.4);
   copies = λ n above. go n (put (CopyPlace n)) refl;
 }
   where
@@ -171,7 +171,7 @@ copy_made : (c : Content) (put : Units) → PutsOne put (CopyPlace 0) (CopyUnit 
 copy_made c put one = record {
   made = λ place y is.
       let at = one.only place y is in
-      subst (λ (p : Place). IsMade c p y) (sym at.0) at.1;
+      rw at.0 at.1;
   copies = λ n above. go n above (put (CopyPlace n)) refl;
 }
   where
@@ -241,7 +241,7 @@ format_law sh log v headers puts m first reserved =
     let rest = copies_all sh v puts first (after_steps (all_puts headers) log) made.1 in
     let steps : List Step = Syncs ∷ update_steps puts in (
       each_append (IsSafe sh) (all_puts headers) steps log made.0 rest.0,
-      subst (λ (l : UnitLog). RestsOn sh l v) (sym (after_append (all_puts headers) steps log)) rest.1,
+      rw (sym (after_append (all_puts headers) steps log)) at rest.1,
     )
 
 pub making_sync_law : MakingSyncLaw

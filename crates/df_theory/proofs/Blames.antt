@@ -18,7 +18,7 @@ module _ (sh : Shape) (log : UnitLog) (v : View) (shown : Units) (rests : RestsO
   wanted_now read [] a k split links more = absurd (omega (arith, ap length split, length-append read []))
   wanted_now read (d ∷ ds) a k split links more = (
     d.1,
-    ap (λ (e : ℕ). now log (BlockPlace e)) (sym links.1) ∙ chain_now d.0 d.1 (subst (λ (l : List (ℕ × Block)). InChain d.0 d.1 l) (sym split) (in_behind d.0 d.1 read (d ∷ ds) (inl (refl, refl)))),
+    ap (λ (e : ℕ). now log (BlockPlace e)) (sym links.1) ∙ chain_now d.0 d.1 (rw (sym split) at (in_behind d.0 d.1 read (d ∷ ds) (inl (refl, refl)))),
     links.2,
     links.6,
   )
@@ -40,7 +40,7 @@ module _ (sh : Shape) (log : UnitLog) (v : View) (shown : Units) (rests : RestsO
 
       chain : b.chain ≡ v.checkpoint.chain
       chain = same_links (sh.layout.block_size - 256) v.checkpoint.content b.chain v.checkpoint.chain v.checkpoint.content.trailer v.checkpoint.content.trailer_checksum
-          (subst (λ (c : Content). Links (sh.layout.block_size - 256) c b.chain c.trailer c.trailer_checksum) content readable.sound.trailer.links) rests.holds.bears.sound.checkpoint.trailer.links
+          (rw content at readable.sound.trailer.links) rests.holds.bears.sound.checkpoint.trailer.links
           (λ a e x y at there checksum. sym (distinct_now (BlockPlace e) (BlockPlace a) (BlockUnit y) (BlockUnit x) (chain_now e y there) (readable.shown a x at) (sym checksum)))
 
       parts : b.parts ≡ v.checkpoint.parts
@@ -53,7 +53,7 @@ read_law log shown place other x y chance at is = chance.distinct place other x 
 
 module _ (sh : Shape) (log : UnitLog) (v : View) (shown : Units) (rests : RestsOn sh log v) (chance : NoChance log shown) (agreed : Agree shown v.checkpoint.content) (r : Refusal) where
   blame_replies : (tail : List Message) → IsTail sh shown v.checkpoint tail → NotLost shown v.checkpoint.content (v.checkpoint.content.op + length tail) → AnswersReplies shown v.checkpoint tail (Refused r) → RefusalBlamesHurt sh log v shown r
-  blame_replies tail is_tail not_lost (n, counted, inl p) = subst (λ (x : Refusal). RefusalBlamesHurt sh log v shown x) (let both : Refused r ≡ Refused (Damaged (ReplyPlace p.0)) = p.2 in let one : Damaged (ReplyPlace p.0) ≡ r = cc in one) (λ unhurt. blamed unhurt)
+  blame_replies tail is_tail not_lost (n, counted, inl p) = rw (← (let both : Refused r ≡ Refused (Damaged (ReplyPlace p.0)) = p.2 in let one : Damaged (ReplyPlace p.0) ≡ r = cc in one)) (λ unhurt. blamed unhurt)
     where
       blamed : shown (ReplyPlace p.0) ≡ now log (ReplyPlace p.0) → (s : Session) × (q : Message) × (found : List Message) × (slice_get (sessions v) p.0 ≡ Some s) × In q v.tail × (q.header.client ≡ s.client) × IsTail sh shown v.checkpoint found × (v.checkpoint.content.op + length found < q.header.op) × (IsGroupUnhurt sh log v shown q → ⊥)
       blamed unhurt = elim (reply_is_hurt_law sh log v shown tail n p.0 p.1.session rests chance is_tail counted p.1.at p.1.stored unhurt) [
@@ -62,7 +62,7 @@ module _ (sh : Shape) (log : UnitLog) (v : View) (shown : Units) (rests : RestsO
       ]
   blame_replies tail is_tail not_lost (n, counted, inr p) = elim p.5 [
     | inl q ↦ absurd (let both : Refused r ≡ Found p.0 = q.1 in cc)
-    | inr q ↦ subst (λ (x : Refusal). RefusalBlamesHurt sh log v shown x) (let both : Refused r ≡ Refused BootSpent = q.1 in let one : BootSpent ≡ r = cc in one) (omega (arith, q.0, ap (λ (b : Checkpoint). b.content.boot) p.1))
+    | inr q ↦ rw (← (let both : Refused r ≡ Refused BootSpent = q.1 in let one : BootSpent ≡ r = cc in one)) (omega (arith, q.0, ap (λ (b : Checkpoint). b.content.boot) p.1))
   ]
 
   blame_tail : AnswersTail sh shown v.checkpoint (Refused r) → RefusalBlamesHurt sh log v shown r
@@ -94,7 +94,7 @@ module _ (sh : Shape) (log : UnitLog) (v : View) (shown : Units) (rests : RestsO
       let some : 0 < length ks = omega (arith, named.count, unfit.count, length-append p.0 (unfit.next ∷ unfit.rest)) in
       let same : p.0 ++ unfit.next ∷ unfit.rest ≡ ks = known_same sh.layout.slots shown (now log) (v.checkpoint.content.op + 1) v.checkpoint.content.pin_checksum (p.0 ++ unfit.next ∷ unfit.rest) ks unfit.known (named.known some) (omega (arith, named.count, unfit.count)) one_named in
       let split : (p.0 ++ unfit.next ∷ []) ++ unfit.rest ≡ ks = append_assoc p.0 (unfit.next ∷ []) unfit.rest ∙ same in
-      absurd (unfit.fails (fitting_front sh v.checkpoint (p.0 ++ unfit.next ∷ []) unfit.rest (subst (λ (l : List Message). AreFitting sh v.checkpoint l) (sym split) named.fits)))
+      absurd (unfit.fails (fitting_front sh v.checkpoint (p.0 ++ unfit.next ∷ []) unfit.rest (rw (sym split) at named.fits)))
   blame_known (inr (inr p)) = blame_tail p
 
   blame_traces : AnswersTraces sh shown v.checkpoint (Refused r) → RefusalBlamesHurt sh log v shown r
@@ -108,7 +108,7 @@ module _ (sh : Shape) (log : UnitLog) (v : View) (shown : Units) (rests : RestsO
     sound = rests.holds.bears.sound.checkpoint;
     shown = all_shown sh shown v.checkpoint rests.holds.bears.sound.checkpoint p.0 (same_block sh log v shown rests chance);
   }))
-  blame_trailer (inr (inr p)) = blame_traces (subst (λ (b : Checkpoint). AnswersTraces sh shown b (Refused r)) (readable_is sh log v shown rests chance agreed p.0 p.2) p.3)
+  blame_trailer (inr (inr p)) = blame_traces (rw (readable_is sh log v shown rests chance agreed p.0 p.2) at p.3)
 
   blame_fields : AnswersFields sh shown v.checkpoint.content (Refused r) → RefusalBlamesHurt sh log v shown r
   blame_fields (inl p) = absurd (p.0 rests.holds.bears.sound.checkpoint.tests rests.holds.bears.sound.checkpoint.trailer.reference)
@@ -116,7 +116,7 @@ module _ (sh : Shape) (log : UnitLog) (v : View) (shown : Units) (rests : RestsO
 
   pub blame : Answers sh shown (Refused r) → RefusalBlamesHurt sh log v shown r
   blame (inl p) = absurd (p.0 v.checkpoint.content agreed)
-  blame (inr p) = blame_fields (subst (λ (c : Content). AnswersFields sh shown c (Refused r)) (one_chosen shown p.0 v.checkpoint.content p.1 (chosen_still sh log v shown rests chance.pooled agreed)) p.2)
+  blame (inr p) = blame_fields (rw (one_chosen shown p.0 v.checkpoint.content p.1 (chosen_still sh log v shown rests chance.pooled agreed)) at p.2)
 
 pub blame_law : BlameLaw
 blame_law sh log v shown r rests chance agreed opens = blame sh log v shown rests chance agreed r (answers_of sh shown (Refused r) opens)

@@ -1,5 +1,5 @@
 -- A boot update keeps a view sound, also one that changes the version.
-use Rattle.std.proofs.Common.{◌≡◌, ℕ, ◌+◌, ◌-◌, List, [], ◌∷◌, length, take, drop, slice_index, sym, ◌∙◌, ap, subst, arith}
+use Rattle.std.proofs.Common.{◌≡◌, ℕ, ◌+◌, ◌-◌, List, [], ◌∷◌, length, take, drop, slice_index, sym, ◌∙◌, ap, arith}
 use Rattle.df_theory.{specs.{Units.{Block, Content, Layout}, Tails.{AreGroups, Chain, last_checksum}, Shape.{Shape}, Trailer.{IsCount, IsTrailer, Links, piece_size, Says}, View.{View, head}, Holds.{Sound}, Next.{MayBoot, SameCheckpoint, booted}, Upgrades.{as_version, of_version}}, proofs.{Tails.{chain_ops}, Sounds.{is}}}
 
 module _ (sh : Shape) (n : ℕ) (v : View) (d : Content) (sound : Sound sh v) (may : MayBoot (as_version n v) d) where
@@ -21,13 +21,13 @@ module _ (sh : Shape) (n : ℕ) (v : View) (d : Content) (sound : Sound sh v) (m
           none = λ zero_is. let n = t.reference.none (omega (arith, same.trailer.0)) in (omega (arith, n.0, same.trailer.1), omega (arith, n.1, same.trailer.2));
           size = λ above. let n = t.reference.size (omega (arith, same.trailer.0)) in (omega (arith, n.0, same.trailer.2), omega (arith, n.1, same.trailer.2));
         };
-        links = subst (λ (a : ℕ). Links room d v.checkpoint.chain a d.trailer_checksum) (sym same.trailer.0)
-            (subst (λ (k : ℕ). Links room d v.checkpoint.chain v.checkpoint.content.trailer k) (sym same.trailer.1)
+        links = rw (sym same.trailer.0) at
+            (rw (sym same.trailer.1) at
             (links_same room v.checkpoint.content d same.sequence same.trailer.2 v.checkpoint.chain v.checkpoint.content.trailer v.checkpoint.content.trailer_checksum t.links));
-        count = subst (λ (n : ℕ). IsCount room n (length v.checkpoint.chain)) (sym same.trailer.2) t.count;
+        count = rw (sym same.trailer.2) at t.count;
         inside = t.inside;
         size = t.size ∙ sym same.trailer.2;
-        says = subst (λ (n : ℕ). Says sh n v.checkpoint.chain v.checkpoint.parts) (sym same.op.0) t.says;
+        says = rw (sym same.op.0) at t.says;
         spare = t.spare;
       }
 
@@ -36,10 +36,10 @@ module _ (sh : Shape) (n : ℕ) (v : View) (d : Content) (sound : Sound sh v) (m
       let tests = sound.checkpoint.tests in
       let top : head (booted v d) ≡ head v = omega (arith, same.op.0) in
       record {
-        chain = subst (λ (o : ℕ). Chain sh.layout.clients (o + 1) d.op_checksum 0 v.checkpoint.parts.sessions v.tail) (sym same.op.0)
-            (subst (λ (k : ℕ). Chain sh.layout.clients (v.checkpoint.content.op + 1) k 0 v.checkpoint.parts.sessions v.tail) (sym same.op.1) sound.chain);
+        chain = rw (sym same.op.0) at
+            (rw (sym same.op.1) at sound.chain);
         room = sound.room;
-        grouped = subst (λ (o : ℕ). AreGroups 0 o (o + 1) v.tail) (sym same.op.0) sound.grouped;
+        grouped = rw (sym same.op.0) at sound.grouped;
         groups = λ p at. omega (arith, sound.groups p at, top);
         pin_ends = λ p at low. omega (arith, sound.groups p at, may.is.pin);
         checkpoint = record {
@@ -90,4 +90,4 @@ module _ (sh : Shape) (n : ℕ) (v : View) (d : Content) (sound : Sound sh v) (m
       }
 
 pub boot_sound : (sh : Shape) (v : View) (d : Content) → Sound sh v → MayBoot v d → Sound sh (booted v d)
-boot_sound sh v d sound may = subst (λ (n : ℕ). Sound (of_version n sh) (booted v d)) sound.checkpoint.tests.version (raise_sound sh v.checkpoint.content.version v d sound may)
+boot_sound sh v d sound may = rw sound.checkpoint.tests.version at (raise_sound sh v.checkpoint.content.version v d sound may)

@@ -1,5 +1,5 @@
 -- A log of sectors is a log of units.
-use Rattle.std.proofs.{Common.{◌≡◌, inl, inr, ℕ, Option, Some, None, Bool, true, false, ◌||◌, List, [], ◌∷◌, refl, sym, ◌∙◌, ap, subst, arith}, lemmas.Bool.{cases_eq, cond-false, cond-true}, lemmas.Bool.Decides.{nat_tests}}
+use Rattle.std.proofs.{Common.{◌≡◌, inl, inr, ℕ, Option, Some, None, Bool, true, false, ◌||◌, List, [], ◌∷◌, refl, sym, ◌∙◌, ap, arith}, lemmas.Bool.{cases_eq, cond-false, cond-true}, lemmas.Bool.Decides.{nat_tests}}
 use Rattle.df_theory.specs.UnitLog
 use Rattle.df_theory.specs.{Units.{AnyUnit, Place, Units, is_some, or_else, overlay}, Next.{kept}, UnitLog.{IsLeftBy, UnitLog, Wrote, loose_of, now, now_of, wrote}, Grown.{IsSafe}, Rests.{IsGoodLog}, Runs.{AtEach, IsPartWay, Puts, Step, Syncs, after_steps}, Device.{AreSteps, Format, IsFormat, IsGoodDisk, IsPartWayDisk, IsSafeDisk, all_units, stands, units_log, units_of}, DeviceLaws.{UnitMomentsLaw, StepsJoinLaw, ShownLaw, SettledLaw, DiskLaw, MomentsLaw, NewDiskLaw, PutLaw, RunMomentsLaw, SafeDiskLaw, SafeMomentsLaw}}
 use Rattle.df_base.{specs.{Image.{Image, blank, written, changed, IsPiece}, Log.{Event, Write, Sync, Stop, AreLoose}, Moments.{EachMoment, adds}}, proofs.Laws.{now_is_image, adds_extends, started, from_before, blank_is_image}}
@@ -47,7 +47,7 @@ pub changed_kept : (es : List Event) (changes : List (ℕ × List ℕ)) (image :
 changed_kept es [] image sector are firm = refl
 changed_kept es (c ∷ changes) image sector are firm =
     changed_kept es changes _ sector are.2 firm ∙ elim (cases_eq sector c.0) [
-      | inl here ↦ absurd (let wet : Log.loose_of es sector ≡ true = subst (λ (s : ℕ). Log.loose_of es s ≡ true) (sym here) are.0 in cc)
+      | inl here ↦ absurd (let wet : Log.loose_of es sector ≡ true = rw (sym here) at are.0 in cc)
       | inr elsewhere ↦ grind (arith, nat_tests)
     ]
 
@@ -97,7 +97,7 @@ module _ (f : Format) (P : UnitLog → Type 0) (Q : Log.Log → Type 0) (implies
   moments ((Write at bytes) ∷ es) ((Puts put) ∷ ss) log whole are each =
       let same : units_log f (Log.add (Write at bytes) log) ≡ wrote put (units_log f log) = put_law f log at bytes put whole are.0 in
       from_before (Write at bytes) log (adds es (Log.add (Write at bytes) log)) Q (implies log whole each.0) (adds_extends es (Log.add (Write at bytes) log))
-      (moments es ss (Log.add (Write at bytes) log) (whole_write log at bytes whole are.0.piece) are.1 (subst (λ (l : UnitLog). AtEach P l ss) (sym same) each.1))
+      (moments es ss (Log.add (Write at bytes) log) (whole_write log at bytes whole are.0.piece) are.1 (rw (sym same) at each.1))
   moments (Sync ∷ es) (Syncs ∷ ss) log whole are each = from_before Sync log (adds es (Log.add Sync log)) Q (implies log whole each.0) (adds_extends es (Log.add Sync log)) (moments es ss (Log.add Sync log) (whole_sync log whole) are each.1)
   moments [] (s ∷ ss) log whole are each = absurd are
   moments ((Write at bytes) ∷ es) [] log whole are each = absurd are

@@ -80,18 +80,18 @@ known_all sh image c none (suc j) low f = known_all sh image c none j (omega (ar
     let next : c.pin - j ≡ c.pin - suc j + 1 = omega (arith, low) in
     either ((p : Message) × (image (PreparePlace ((c.pin - j) % sh.layout.slots)) ≡ Some (PrepareUnit p)) × (p.header.checksum ≡ named_by c.pin_checksum ps)) (λ e. elim e [
       | inl at ↦ f (at.0 ∷ ps)
-          (subst (λ (k : ℕ). image (PreparePlace (k % sh.layout.slots)) ≡ Some (PrepareUnit at.0)) next at.1, at.2, subst (λ (k : ℕ). AreKnown sh.layout.slots image (k + 1) c.pin_checksum ps) next known) (omega (arith, size))
+          (rw next at at.1, at.2, rw next at known) (omega (arith, size))
       | inr fails ↦ none (c.pin - j) (record { read = ps; known = known; count = omega (arith, size, low); above = omega (arith, low); lacks = λ p shown sum. fails (p, shown, sum) })
     ]))
 
 all_fitting : (sh : Shape) (image : Units) (b : Checkpoint) → ((front : List Message) → IsUnfit sh image b front → ⊥) → (front rest : List Message) → AreKnown sh.layout.slots image (b.content.op + 1) b.content.pin_checksum (front ++ rest)
     → b.content.op + length (front ++ rest) ≡ b.content.pin → AreFitting sh b front → (AreFitting sh b (front ++ rest) → ⊥) → ⊥
-all_fitting sh image b none front [] known count fits f = f (subst (λ (l : List Message). AreFitting sh b l) (sym (append-nil front)) fits)
+all_fitting sh image b none front [] known count fits f = f (rw (sym (append-nil front)) at fits)
 all_fitting sh image b none front (x ∷ rest) known count fits f =
     let split : (front ++ x ∷ []) ++ rest ≡ front ++ x ∷ rest = append_assoc front (x ∷ []) rest in
     either (AreFitting sh b (front ++ x ∷ [])) (λ e. elim e [
-      | inl holds ↦ all_fitting sh image b none (front ++ x ∷ []) rest (subst (λ (l : List Message). AreKnown sh.layout.slots image (b.content.op + 1) b.content.pin_checksum l) (sym split) known) (subst (λ (l : List Message). b.content.op + length l ≡ b.content.pin) (sym split) count) holds
-          (λ all. f (subst (λ (l : List Message). AreFitting sh b l) split all))
+      | inl holds ↦ all_fitting sh image b none (front ++ x ∷ []) rest (rw (sym split) at known) (rw (sym split) at count) holds
+          (λ all. f (rw split at all))
       | inr fails ↦ none front (record { next = x; rest = rest; known = known; count = count; fits = fits; fails = fails })
     ])
 
@@ -219,7 +219,7 @@ all_answered image c ss n none (suc j) f = all_answered image c ss n none j (λ 
       | inl holds ↦ f (λ k s low at stored. elim (cases_eq k j) [
         | inl same ↦
             let one : t ≡ s = (let both : Some t ≡ Some s = sym is ∙ ap (λ (i : ℕ). slice_get ss i) (sym same) ∙ at in cc) in
-            subst (λ (i : ℕ). IsAnswered image c i s) (sym same) (subst (λ (x : Session). IsAnswered image c j x) one holds)
+            rw (sym same) at (rw one at holds)
         | inr differs ↦ below k s (omega (arith, low, differs)) at stored
       ])
       | inr fails ↦ elim (cases_lt n t.op) [
@@ -303,7 +303,7 @@ module _ (sh : Shape) (image : Units) (places : AreOfPlaces sh image) (none : (x
         let tests = readable.sound.tests in
         known_all sh image b.content (λ a lacks. none _ (Unknown b a readable not_behind lacks)) (b.content.pin - b.content.op) (omega (arith, tests.pin)) (λ ps known size.
         let start : b.content.pin - (b.content.pin - b.content.op) + 1 ≡ b.content.op + 1 = omega (arith, tests.pin) in
-        let here = subst (λ (o : ℕ). AreKnown sh.layout.slots image o b.content.pin_checksum ps) start known in
+        let here = rw start at known in
         let count : b.content.op + length ps ≡ b.content.pin = omega (arith, size, tests.pin) in
         all_fitting sh image b (λ front unfit. none _ (Unfit b front readable not_behind unfit)) [] ps here count (record { chain = tt; grouped = tt; ends = λ p at. absurd at }) (λ fits.
         longest_walk sh image b sh.layout.slots ps (named_walk sh image b ps tests here count fits) (omega arith) (λ tail is_tail. from_tail b tail (record { readable = readable; not_behind = not_behind; tail_is = is_tail }))))

@@ -1,5 +1,5 @@
 -- What the decision on a slot says of it.
-use Rattle.std.{proofs.{Common.{◌≡◌, inl, inr, ℕ, ◌<◌, ◌%◌, ◌==◌, Bool, true, false, if◌then◌else◌, Option, Some, None, refl, sym, ◌∙◌, ap, subst, arith}, lemmas.Bool.Decides.{nat_tests}}, specs.Prelude.{nat_lt}}
+use Rattle.std.{proofs.{Common.{◌≡◌, inl, inr, ℕ, ◌<◌, ◌%◌, ◌==◌, Bool, true, false, if◌then◌else◌, Option, Some, None, refl, sym, ◌∙◌, ap, arith}, lemmas.Bool.Decides.{nat_tests}}, specs.Prelude.{nat_lt}}
 use Rattle.df_theory.specs.{Units.{AnyUnit, BlockUnit, CopyUnit, Header, HeaderPlace, HeaderUnit, Message, PreparePlace, PrepareUnit, ReplyUnit}, Cases.{Current, Far, IsNow, Lost, Nothing, Old, SaysOfSlot, Seen, Take, case, seen, seen_header, seen_prepare}, ViewLaws.{DecisionLaw}}
 
 -- what one ring shows, where these are the headers that it may show
@@ -58,7 +58,7 @@ prepare_is b o (Some (BlockUnit c)) = λ h other. (let both = other.1 in cc)
 
 -- the prepare that is shown, of a header
 shown_prepare : (b o : ℕ) (y : Option AnyUnit) (h : Header) → PrepareOf y h → IsNow b o h → (p : Message) × (y ≡ Some (PrepareUnit p)) × IsNow b o p.header × (p.header ≡ h)
-shown_prepare b o y h of now = (of.0, of.1, subst (λ (g : Header). IsNow b o g) (sym of.2) now, of.2)
+shown_prepare b o y h of now = (of.0, of.1, rw (sym of.2) at now, of.2)
 
 same_message : (y : Option AnyUnit) (p q : Message) → y ≡ Some (PrepareUnit p) → y ≡ Some (PrepareUnit q) → p ≡ q
 same_message y p q one two = let both : Some (PrepareUnit p) ≡ Some (PrepareUnit q) = sym one ∙ two in cc

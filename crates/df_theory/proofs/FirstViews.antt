@@ -31,15 +31,15 @@ module _ (sh : Shape) (v : View) (first : IsFirst sh v) where
         says = refl;
         spare = λ a b none. refl;
       } in
-      subst (λ (p : Parts). IsTrailer sh v.checkpoint.content v.checkpoint.chain p) (sym first.parts) (subst (λ (l : List (ℕ × Block)). IsTrailer sh v.checkpoint.content l no_parts) (sym first.chain) nothing)
+      subst (λ (p : Parts). IsTrailer sh v.checkpoint.content v.checkpoint.chain p) (sym first.parts) (rw (sym first.chain) at nothing)
 
   pub first_sound : Sound sh v
   first_sound = record {
-    chain = subst (λ (l : List Message). Chain sh.layout.clients (v.checkpoint.content.op + 1) v.checkpoint.content.op_checksum 0 v.checkpoint.parts.sessions l) (sym first.tail) tt;
+    chain = rw first.tail tt;
     room = omega (arith, ap length first.tail);
-    grouped = subst (λ (l : List Message). AreGroups 0 v.checkpoint.content.op (v.checkpoint.content.op + 1) l) (sym first.tail) tt;
-    groups = λ p at. absurd (subst (λ (l : List Message). In p l) first.tail at);
-    pin_ends = λ p at low. absurd (subst (λ (l : List Message). In p l) first.tail at);
+    grouped = rw first.tail tt;
+    groups = λ p at. absurd (rw first.tail at at);
+    pin_ends = λ p at low. absurd (rw first.tail at at);
     checkpoint = record {
       tests = first.content.tests;
       trailer = first_trailer;
@@ -60,7 +60,7 @@ module _ (sh : Shape) (v : View) (first : IsFirst sh v) where
       checksum =
           let none : v.checkpoint.content.pin - v.checkpoint.content.op ≡ 0 = omega (arith, first.content.pin.1) in
           ap (λ (k : ℕ). last_checksum v.checkpoint.content.op_checksum (take k v.tail)) none ∙ first.content.numbers.1 ∙ sym first.content.pin.2;
-      tail = λ p at. absurd (subst (λ (l : List Message). In p l) first.tail at);
+      tail = λ p at. absurd (rw first.tail at at);
       stored = λ k r is. absurd (let both : None ≡ Some r = sym (first.stored k) ∙ is in cc);
     };
   }
@@ -68,9 +68,9 @@ module _ (sh : Shape) (v : View) (first : IsFirst sh v) where
   first_needs : (place : Place) (x : AnyUnit) → Needs sh v place x → ⊥
   first_needs (CopyPlace n) x need = need
   first_needs (HeaderPlace s) x need = need
-  first_needs (PreparePlace s) x need = let none : In need.0 [] = subst (λ (l : List Message). In need.0 l) first.tail need.1 in none
+  first_needs (PreparePlace s) x need = let none : In need.0 [] = rw first.tail at need.1 in none
   first_needs (ReplyPlace k) x need = let both : None ≡ Some need.0 = sym (first.stored k) ∙ need.1 in cc
-  first_needs (BlockPlace a) x need = let none : InChain a need.0 [] = subst (λ (l : List (ℕ × Block)). InChain a need.0 l) first.chain need.1 in none
+  first_needs (BlockPlace a) x need = let none : InChain a need.0 [] = rw first.chain at need.1 in none
 
   pub first_holds : (image : Units) → ShowsMade v.checkpoint.content image → image (CopyPlace 0) ≡ Some (CopyUnit v.checkpoint.content) → image (CopyPlace 1) ≡ Some (CopyUnit v.checkpoint.content) → Holds sh image v
   first_holds image made zero_is one_is = record {

@@ -60,7 +60,7 @@ module _ (sh : Shape) (log : UnitLog) (v : View) (ps : List Message) (rests : Re
   sectors_calm images more (put ∷ puts) all = (
     λ place y is.
         let e = all.0.each place y is in
-        subst (λ (p : Place). IsCalm sh (appended v ps) p × MaySettle sh images (appended v ps) p y) (sym e.2)
+        rw e.2
         (subst (λ (x : AnyUnit). IsCalm sh (appended v ps) (HeaderPlace e.0) × MaySettle sh images (appended v ps) (HeaderPlace e.0) x) (sym e.3)
         (record { no_copy = λ copy. copy; no_prepare = λ prepare. prepare; needless = λ x need. need }, may_header images more e.0 e.1 e.4)),
     sectors_calm images more puts all.1,
@@ -112,7 +112,7 @@ flush_law sh log v ps qs prepares headers rests quiet clear may boots same all s
       leads = record {
         moments = each_append (IsGoodLog sh v (appended v ps)) (all_puts prepares) (Syncs ∷ (all_puts headers ++ Syncs ∷ [])) log group
             (moment_last sh v (appended v ps) prepares log group, each_weaker (IsGoodLog sh (appended v ps) (appended v ps)) (IsGoodLog sh v (appended v ps)) (λ l good. good_both sh l v (appended v ps) good) (all_puts headers ++ Syncs ∷ []) log1 after);
-        rests = subst (λ (l : UnitLog). RestsOn sh l (appended v ps)) (sym end_is) rests2;
+        rests = rw (sym end_is) at rests2;
       };
     }
   where

@@ -83,7 +83,7 @@ module _ (sh : Shape) (v : View) (ps : List Message) (sound : Sound sh v) (may :
       clear = mid.clear;
       needs = λ place x need.
           let was = mid.needs place x need in
-          let still = away place (λ y is. group_slot q at x (subst (λ (p : Place). Needs sh v p x) (one.only place y is).0 need)) was.0 in
+          let still = away place (λ y is. group_slot q at x (rw (one.only place y is).0 at need)) was.0 in
           (still.0, still.1 ∙ was.1);
       copies = λ n. (away (CopyPlace n) (no_copy n) (mid.copies n)).0;
       chosen = chosen_same (now log) (now (wrote put log)) v.checkpoint.content (λ n. (away (CopyPlace n) (no_copy n) (mid.copies n)).1) mid.chosen;
@@ -128,7 +128,7 @@ module _ (sh : Shape) (v : View) (ps : List Message) (sound : Sound sh v) (may :
       | inl here ↦ elim (all_shown qs (λ p at. inside p (inr at))) [
         | inr missing ↦ inr missing
         | inl rest ↦ inl (λ p at. elim at [
-          | inl is ↦ subst (λ (w : Message). j (slot w) ≡ Some (PrepareUnit w)) (sym is) here
+          | inl is ↦ rw (sym is) at here
           | inr there ↦ rest p there
         ])
       ]
@@ -164,14 +164,14 @@ module _ (sh : Shape) (v : View) (ps : List Message) (sound : Sound sh v) (may :
 
     stays_old : (place : Place) (x : AnyUnit) → InImages (settled log) place x → Agrees sh (appended v ps) place x
     stays_old place x old = agrees_grew sh v (appended v ps) (next_grew sh v (appended v ps) sound (Append ps may.is)) place x
-        (inr (inr (λ s p is unit own. mid.clear s p (subst (λ (l : Place). InImages (settled log) l (PrepareUnit p)) is (subst (λ (y : AnyUnit). InImages (settled log) place y) unit old)) own)))
+        (inr (inr (λ s p is unit own. mid.clear s p (rw is at (rw unit at old)) own)))
         (old_agrees sh (settled log) v mid.grows place x old)
 
     agrees_u : (place : Place) (x : AnyUnit) → j place ≡ Some x → Agrees sh (appended v ps) place x
     agrees_u place x is = elim (from place x is) [
       | inl old ↦ stays_old place x old
       | inr (inl block) ↦ block_agrees sh (appended v ps) place x block
-      | inr (inr new) ↦ subst (λ (p : Place). Agrees sh (appended v ps) p x) (sym new.2) (subst (λ (y : AnyUnit). Agrees sh (appended v ps) (slot new.0) y) (sym new.3) (new_agrees new.0 new.1))
+      | inr (inr new) ↦ rw new.2 (rw new.3 (new_agrees new.0 new.1))
     ]
 
     needs_u : ((p : Message) → In p ps → j (slot p) ≡ Some (PrepareUnit p)) → (place : Place) (x : AnyUnit) → Needs sh (appended v ps) place x → j place ≡ Some x
@@ -200,7 +200,7 @@ module _ (sh : Shape) (v : View) (ps : List Message) (sound : Sound sh v) (may :
     whole_history place x is = elim (from place x is) [
       | inl old ↦ inl (inl old)
       | inr (inl block) ↦ inl (inr (block_in_view (appended v ps) place x block))
-      | inr (inr new) ↦ inl (inr (subst (λ (p : Place). InView (appended v ps) p x) (sym new.2) (new.0, new.3, in_back new.0 v.tail ps new.1)))
+      | inr (inr new) ↦ inl (inr (rw new.2 (new.0, new.3, in_back new.0 v.tail ps new.1)))
     ]
 
     -- ---- a part of it
@@ -227,7 +227,7 @@ module _ (sh : Shape) (v : View) (ps : List Message) (sound : Sound sh v) (may :
         | inr few ↦
             let same : p ≡ new.0 = sole ps p new.0 at new.1 (omega arith) in
             let place_is : place ≡ slot p = new.2 ∙ ap slot (sym same) in
-            inl (subst (λ (l : Place). InImages (settled log) l x) (sym place_is) (missing x (ap j (sym place_is) ∙ is)))
+            inl (rw (sym place_is) at (missing x (ap j (sym place_is) ∙ is)))
       ]
     ]
 
@@ -265,7 +265,7 @@ module _ (sh : Shape) (v : View) (ps : List Message) (sound : Sound sh v) (may :
       agrees_v place x is = elim (part_from p at missing place x is) [
         | inl old ↦ old_agrees sh (settled log) v mid.grows place x old
         | inr (inl block) ↦ block_agrees sh v place x block
-        | inr (inr new) ↦ subst (λ (l : Place). Agrees sh v l x) (sym new.2) (subst (λ (y : AnyUnit). Agrees sh v (slot new.0) y) (sym new.3) (part_agrees new.0 new.1 new.4))
+        | inr (inr new) ↦ rw new.2 (rw new.3 (part_agrees new.0 new.1 new.4))
       ]
 
       -- what is shown above the head is of the group
@@ -299,7 +299,7 @@ module _ (sh : Shape) (v : View) (ps : List Message) (sound : Sound sh v) (may :
         | inr (inl block) ↦ inl (inr (block_in_view v place x block))
         | inr (inr new) ↦
             let stamped = may.is.stamped new.0 new.1 in
-            inr (subst (λ (l : Place). IsSurvivor (settled log) j v l x) (sym new.2) (
+            inr (rw new.2 (
               new.0,
               new.3,
               record {
@@ -328,8 +328,8 @@ module _ (sh : Shape) (v : View) (ps : List Message) (sound : Sound sh v) (may :
     left = λ j left chance.
         let n = next_is log mid j left chance.pooled in
         elim n.which [
-          | inl is ↦ inl (subst (λ (w : View). Holds sh j w) is n.outcome.holds)
-          | inr is ↦ inr (subst (λ (w : View). Holds sh j w) is n.outcome.holds)
+          | inl is ↦ inl (rw is at n.outcome.holds)
+          | inr is ↦ inr (rw is at n.outcome.holds)
         ];
   }
 

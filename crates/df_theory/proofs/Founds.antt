@@ -72,7 +72,7 @@ module _ (sh : Shape) (image : Units) (v : View) (places : AreOfPlaces sh image)
         let s = f.stored.no_more k r is in
         let there = f.stored.shown k s.0 s.1 s.2 in
         let same : there.0 ≡ r = (let two : Some there.0 ≡ Some r = sym there.1 ∙ is in cc) in
-        (s.0, s.1, s.2, subst (λ (w : Message). Answers s.0 w) same there.3);
+        (s.0, s.1, s.2, rw same at there.3);
     stores = λ k s at low. let there = f.stored.shown k s at low in (there.0, there.1);
     records = record {
       pin_to = f.tail.reaches;
@@ -82,15 +82,15 @@ module _ (sh : Shape) (image : Units) (v : View) (places : AreOfPlaces sh image)
           let s = f.stored.no_more k r is in
           let there = f.stored.shown k s.0 s.1 s.2 in
           let same : there.0 ≡ r = (let two : Some there.0 ≡ Some r = sym there.1 ∙ is in cc) in
-          subst (λ (w : Message). IsNamed v.checkpoint.content k w) same there.4;
+          rw same at there.4;
     };
   }
 
   taken_header : (b : ℕ) (h : Header) (p : Message) → (hd pr : Option AnyUnit) → hd ≡ Some (HeaderUnit h) → pr ≡ Some (PrepareUnit p) → h.op ≡ p.header.op → h.boot ≡ b → p.header.boot ≡ b → IsTake (case (seen_header b p.header.op hd) (seen_prepare b p.header.op pr)) → h.checksum ≡ p.header.checksum
   taken_header b h p hd pr hd_is pr_is same h_of p_of take =
-      let at : IsTake (case (seen b p.header.op h) (seen b p.header.op p.header)) = subst (λ (x : Option AnyUnit). IsTake (case (seen_header b p.header.op x) (seen b p.header.op p.header))) hd_is (subst (λ (y : Option AnyUnit). IsTake (case (seen_header b p.header.op hd) (seen_prepare b p.header.op y))) pr_is take) in
-      let one : IsTake (case (Current h.checksum) (seen b p.header.op p.header)) = subst (λ (s : Seen). IsTake (case s (seen b p.header.op p.header))) (seen_now b p.header.op h same h_of) at in
-      take_same h.checksum p.header.checksum (subst (λ (s : Seen). IsTake (case (Current h.checksum) s)) (seen_now b p.header.op p.header refl p_of) one)
+      let at : IsTake (case (seen b p.header.op h) (seen b p.header.op p.header)) = rw hd_is at (rw pr_is at take) in
+      let one : IsTake (case (Current h.checksum) (seen b p.header.op p.header)) = rw (seen_now b p.header.op h same h_of) at at in
+      take_same h.checksum p.header.checksum (rw (seen_now b p.header.op p.header refl p_of) at one)
 
   pub header_in_tail : (s : ℕ) (h : Header) → image (HeaderPlace s) ≡ Some (HeaderUnit h) → (0 < h.op → s ≡ h.op % sh.layout.slots) → h.boot ≡ boot_of v → v.checkpoint.content.pin < h.op → (p : Message) × In p v.tail × (p.header.op ≡ h.op) × (p.header.checksum ≡ h.checksum)
   header_in_tail s h is slot of above =
@@ -111,16 +111,16 @@ module _ (sh : Shape) (image : Units) (v : View) (places : AreOfPlaces sh image)
   pub header_found : (s : ℕ) (h : Header) → image (HeaderPlace s) ≡ Some (HeaderUnit h) → AgreesHeader sh v s h
   header_found s h is =
       let of = places (HeaderPlace s) (HeaderUnit h) is in
-      let slot : 0 < h.op → s ≡ h.op % sh.layout.slots = subst (λ (x : Header). 0 < x.op → s ≡ x.op % sh.layout.slots) (let same : of.0 ≡ h = (let e = of.1 in cc) in same) (λ some. (of.3 some).0) in
+      let slot : 0 < h.op → s ≡ h.op % sh.layout.slots = rw (← (let same : of.0 ≡ h = (let e = of.1 in cc) in same)) (λ some. (of.3 some).0) in
       record { op = f.not_lost.header s h is; ring = (f.not_behind.header s h is).1; checkpoint = (f.not_behind.header s h is).0; boot = (f.not_behind.header s h is).2; slot = slot; in_tail = λ own above. header_in_tail s h is slot own above }
 
   pub prepare_found : (s : ℕ) (p : Message) → image (PreparePlace s) ≡ Some (PrepareUnit p) → AgreesPrepare sh v s p
   prepare_found s p is =
       let of = places (PreparePlace s) (PrepareUnit p) is in
       let same : of.0 ≡ p = (let e = of.1 in cc) in
-      let slot : s ≡ p.header.op % sh.layout.slots = subst (λ (x : Message). s ≡ x.header.op % sh.layout.slots) same of.2 in
+      let slot : s ≡ p.header.op % sh.layout.slots = rw same at of.2 in
       record {
-        some = subst (λ (x : Message). 0 < x.header.op) same of.3.op.0;
+        some = rw same at of.3.op.0;
         op = f.not_lost.prepare s p is;
         ring = (f.not_behind.prepare s p is).1;
         checkpoint = (f.not_behind.prepare s p is).0;
@@ -164,8 +164,8 @@ module _ (sh : Shape) (image : Units) (v : View) (places : AreOfPlaces sh image)
           let old = old_header (boot_of v) p.header.op (image (HeaderPlace (p.header.op % sh.layout.slots))) (λ x is. below_header sh v p.header.op x (header_found (p.header.op % sh.layout.slots) x is) (omega (arith, ops.0)) (omega (arith, ops.1, more.behind.room))) in
           record {
             shown = own.shown;
-            take = λ above. subst (λ (y : Option AnyUnit). IsTake (case (seen_header (boot_of v) p.header.op (image (HeaderPlace (p.header.op % sh.layout.slots)))) (seen_prepare (boot_of v) p.header.op y))) (sym own.shown)
-                (subst (λ (s : Seen). IsTake (case (seen_header (boot_of v) p.header.op (image (HeaderPlace (p.header.op % sh.layout.slots)))) s)) (sym (seen_now (boot_of v) p.header.op p.header refl own.own))
+            take = λ above. rw own.shown
+                (rw (sym (seen_now (boot_of v) p.header.op p.header refl own.own)) at
                 (take_beside (seen_header (boot_of v) p.header.op (image (HeaderPlace (p.header.op % sh.layout.slots)))) p.header.checksum old));
           }
 
@@ -268,7 +268,7 @@ module _ (sh : Shape) (image : Units) (v : View) (h : Holds sh image v) where
           let r = sound.stores k s at low in
           let t = sound.answered k r.0 r.1 in
           let same : t.0 ≡ s = (let two : Some t.0 ≡ Some s = sym t.1 ∙ at in cc) in
-          (r.0, r.1, stored_shown k r.0 r.1, subst (λ (w : Session). Answers w r.0) same t.3, sound.records.stored k r.0 r.1);
+          (r.0, r.1, stored_shown k r.0 r.1, rw same at t.3, sound.records.stored k r.0 r.1);
       no_more = λ k r is. let t = sound.answered k r is in (t.0, t.1, t.2);
     };
   }
@@ -277,7 +277,7 @@ pub slot_law : SlotLaw
 slot_law sh image v o places f above within = (
   λ pinned low.
       let p = chain_at sh.layout.clients (v.checkpoint.content.op + 1) v.checkpoint.content.op_checksum 0 v.checkpoint.parts.sessions v.tail o f.tail.chain (omega arith) (omega arith) in
-      subst (λ (n : ℕ). IsTake (decision sh.layout.slots (boot_of v) image n)) p.2 ((f.tail.takes p.0 p.1).take (omega (arith, p.2))),
+      rw p.2 at ((f.tail.takes p.0 p.1).take (omega (arith, p.2))),
   λ high. subst IsEmpty (sym (decided_above sh.layout.slots (boot_of v) (head v) image o high)) (empty_cut (seen_header (boot_of v) o (image (HeaderPlace (o % sh.layout.slots)))) (seen_prepare (boot_of v) o (image (PreparePlace (o % sh.layout.slots))))
       (old_header (boot_of v) o (image (HeaderPlace (o % sh.layout.slots))) (λ x is. below_header sh v o x (header_found sh image v places f (o % sh.layout.slots) x is) high within))
       (prepare_near (boot_of v) o (image (PreparePlace (o % sh.layout.slots))) (λ x is. near_prepare sh v o x (prepare_found sh image v places f (o % sh.layout.slots) x is) high within))),

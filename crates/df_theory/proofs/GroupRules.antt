@@ -1,5 +1,5 @@
 -- The group rule: by what is over so far, and by the prepare before.
-use Rattle.std.proofs.{Common.{◌≡◌, inl, inr, ℕ, ◌+◌, ◌<◌, ◌≤◌, List, [], ◌∷◌, Some, refl, sym, ◌∙◌, ap, subst, arith}, lemmas.Bool.{cases_eq}}
+use Rattle.std.proofs.{Common.{◌≡◌, inl, inr, ℕ, ◌+◌, ◌<◌, ◌≤◌, List, [], ◌∷◌, Some, refl, sym, ◌∙◌, ap, arith}, lemmas.Bool.{cases_eq}}
 use Rattle.df_theory.specs.{Units.{Header, Message, Session}, Sessions.{noted}, Tails.{AreGroups, Chain, In}, GroupLaws.{FollowGroups, GroupRuleLaw}}
 
 -- after a prepare
@@ -35,7 +35,7 @@ module _ (clients base pin : ℕ) (low : base ≤ pin) where
             | inr next ↦
                 let same : q ≡ next.prepare = (let both : Some q ≡ Some next.prepare = next.is in cc) in
                 inr (
-                  open_at q op here holds (subst (λ (x : Header). x.group_last ≡ x.op → ⊥) (sym same) next.open_yet),
+                  open_at q op here holds (rw (sym same) at next.open_yet),
                   next.same.0 ∙ ap (λ (x : Header). x.group) (sym same),
                   next.same.1 ∙ ap (λ (x : Header). x.group_last) (sym same),
                 )

@@ -1,5 +1,5 @@
 -- Where the walk of an open ends, and what is lost.
-use Rattle.std.proofs.{Common.{◌≡◌, inl, inr, ℕ, ◌+◌, ◌%◌, ◌<◌, List, [], ◌∷◌, length, Some, refl, sym, ◌∙◌, ap, subst, arith, length-append}, lemmas.Bool.{cases_eq, cases_lt}}
+use Rattle.std.proofs.{Common.{◌≡◌, inl, inr, ℕ, ◌+◌, ◌%◌, ◌<◌, List, [], ◌∷◌, length, Some, refl, sym, ◌∙◌, ap, arith, length-append}, lemmas.Bool.{cases_eq, cases_lt}}
 use Rattle.df_theory.{specs.{Units.{HeaderPlace, IsAlone, Message, PreparePlace, PrepareUnit, Session, Units}, Sessions.{noted, sessions_after}, Tails.{AreGroups, Chain, In, last_checksum, last_mark}, Shape.{Shape, clients}, View.{Checkpoint, boot_of}, Shows.{AgreesPrepare}, Cases.{Takes, seen_header, seen_prepare}, Groups.{AreMore}, Found.{IsReach}, GroupLaws.{AloneLaw, ClearSlotLaw, LostLaw, ShowsGroup, WalkLaw}}, proofs.{Tails.{chain_ops, in_either, in_single}, Agreeing.{IsBelow, below_header, empty_case, near_prepare, old_header, old_prepare}, Founds.{chain_at, header_found, prepare_found}, OneFound.{step_on}}}
 
 same_taken : (n : ℕ) (image : Units) (b : Checkpoint) (p q : Message) → Takes n image b.content p → Takes n image b.content q → p.header.op ≡ q.header.op → p ≡ q
@@ -14,7 +14,7 @@ no_longer sh image b tail more (p ∷ ps) reach goes is = elim (cases_lt (length
       (λ x y at there op. same_taken sh.layout.slots image b x y (reach.behind.shown x at) (is.behind.shown y there) op) is.behind.grouped further in
       reach.longest next.0 (record {
         room = omega (arith, is.behind.room, length-append more (next.0 ∷ []));
-        shown = λ x at. elim (in_either x more (next.0 ∷ []) at) [ inl old ↦ reach.behind.shown x old | inr new ↦ subst (λ (q : Message). Takes sh.layout.slots image b.content q) (sym (in_single x next.0 new)) (is.behind.shown next.0 next.1) ];
+        shown = λ x at. elim (in_either x more (next.0 ∷ []) at) [ inl old ↦ reach.behind.shown x old | inr new ↦ rw (sym (in_single x next.0 new)) at (is.behind.shown next.0 next.1) ];
         chain = next.2;
         grouped = next.3;
       })

@@ -14,10 +14,10 @@ groups_closed f g l m op (p ∷ ps) below low groups = (fits_closed f g l m op p
 pub groups_append : (f l op : ℕ) (ps qs : List Message) (low : ℕ) → AreGroups f l op ps → l < op + length ps → ((p : Message) → In p ps → p.header.group_last < op + length ps) → low < op + length ps → AreGroups 0 low (op + length ps) qs → AreGroups f l op (ps ++ qs)
 groups_append f l op [] qs low groups ends each below more =
     let same : op + 0 ≡ op = omega arith in
-    groups_closed 0 f low l op qs (omega arith) (omega arith) (subst (λ (n : ℕ). AreGroups 0 low n qs) same more)
+    groups_closed 0 f low l op qs (omega arith) (omega arith) (rw same at more)
 groups_append f l op (p ∷ ps) qs low groups ends each below more =
     let same : op + suc (length ps) ≡ op + 1 + length ps = omega arith in
-    (groups.0, groups_append p.header.group p.header.group_last (op + 1) ps qs low groups.1 (omega (arith, each p (inl refl))) (λ q at. omega (arith, each q (inr at))) (omega arith) (subst (λ (n : ℕ). AreGroups 0 low n qs) same more))
+    (groups.0, groups_append p.header.group p.header.group_last (op + 1) ps qs low groups.1 (omega (arith, each p (inl refl))) (λ q at. omega (arith, each q (inr at))) (omega arith) (rw same at more))
 
 -- those after an op where a group ends
 pub groups_drop : (n f l op low : ℕ) (ps : List Message) → AreGroups f l op ps → l < op + n → n ≤ length ps → ((p : Message) → In p ps → p.header.op < op + n → p.header.group_last < op + n) → (clients parent mark : ℕ) (ss : List Session) → Chain clients op parent mark ss ps → low < op + n → AreGroups 0 low (op + n) (drop n ps)
@@ -99,7 +99,7 @@ in_group first last op [] each end = tt
 in_group first last op (p ∷ ps) each end =
     let here = each p (inl refl) in (
       inr (omega arith, here.0, here.1),
-      subst (λ (f : ℕ). AreGroups f p.header.group_last (op + 1) ps) (sym here.0) (subst (λ (l : ℕ). AreGroups first l (op + 1) ps) (sym here.1) (in_group first last (op + 1) ps (λ q at. each q (inr at)) (omega arith))),
+      rw (sym here.0) at (rw (sym here.1) at (in_group first last (op + 1) ps (λ q at. each q (inr at)) (omega arith))),
     )
 
 pub turn_groups : (op last low : ℕ) (ps : List Message) → ((p : Message) → In p ps → (p.header.group ≡ op) × (p.header.group_last ≡ last)) → op + length ps ≤ last + 1 → low < op → AreGroups 0 low op ps
@@ -107,5 +107,5 @@ turn_groups op last low [] each end below = tt
 turn_groups op last low (p ∷ ps) each end below =
     let here = each p (inl refl) in (
       inl (omega arith, here.0, omega (arith, here.1)),
-      subst (λ (f : ℕ). AreGroups f p.header.group_last (op + 1) ps) (sym here.0) (subst (λ (l : ℕ). AreGroups op l (op + 1) ps) (sym here.1) (in_group op last (op + 1) ps (λ q at. each q (inr at)) (omega arith))),
+      rw here.0 (rw here.1 (in_group op last (op + 1) ps (λ q at. each q (inr at)) (omega arith))),
     )

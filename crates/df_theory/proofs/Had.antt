@@ -19,9 +19,9 @@ module _ (sh : Shape) (images : List Units) (v : View) (grows : Grows sh images 
       let sound = was_sound sh images v grows y was in
       let ops = chain_ops sh.layout.clients (w.checkpoint.content.op + 1) w.checkpoint.content.op_checksum 0 w.checkpoint.parts.sessions w.tail p f.tail.chain at in
       let chain : Chain sh.layout.clients (w.checkpoint.content.op + 1) w.checkpoint.content.op_checksum 0 y.checkpoint.parts.sessions y.tail =
-      subst (λ (c : Content). Chain sh.layout.clients (c.op + 1) c.op_checksum 0 y.checkpoint.parts.sessions y.tail) content sound.chain in
+      rw content at sound.chain in
       let ends : last_checksum w.checkpoint.content.op_checksum (take (w.checkpoint.content.pin - w.checkpoint.content.op) y.tail) ≡ w.checkpoint.content.pin_checksum =
-      subst (λ (c : Content). last_checksum c.op_checksum (take (c.pin - c.op) y.tail) ≡ c.pin_checksum) content sound.records.checksum in
+      rw content at sound.records.checksum in
       same_named sh.layout.clients (w.checkpoint.content.op + 1) w.checkpoint.content.op_checksum 0 0 w.checkpoint.parts.sessions y.checkpoint.parts.sessions w.tail y.tail (w.checkpoint.content.pin - w.checkpoint.content.op) f.tail.chain chain
       (omega (arith, f.tail.reaches)) (omega (arith, sound.records.pin_to, ap (λ (c : Content). c.pin) content, ap (λ (c : Content). c.op) content)) (f.tail.pinned ∙ sym ends)
       (λ a b in_a in_b checksum. distinct (PreparePlace (a.header.op % sh.layout.slots)) (PreparePlace (b.header.op % sh.layout.slots)) (PrepareUnit a) (PrepareUnit b)
@@ -42,7 +42,7 @@ module _ (sh : Shape) (images : List Units) (v : View) (grows : Grows sh images 
             let sound = was_sound sh images v grows a.0 a.1 in
             let op_is : a.0.checkpoint.content.op ≡ w.checkpoint.content.op = ap (λ (c : Content). c.op) a.2 in
             let q = chain_at sh.layout.clients (a.0.checkpoint.content.op + 1) a.0.checkpoint.content.op_checksum 0 a.0.checkpoint.parts.sessions a.0.tail p.header.op sound.chain (omega (arith, ops.0, op_is)) (omega (arith, sound.records.pin_to, ap (λ (c : Content). c.pin) a.2)) in
-            (a.0, a.1, subst (λ (x : Message). In x a.0.tail) (sym (named a.0 a.1 a.2 p q.0 at q.1 (sym q.2) (omega arith))) q.1)
+            (a.0, a.1, rw (sym (named a.0 a.1 a.2 p q.0 at q.1 (sym q.2) (omega arith))) at q.1)
         | inl above ↦ above_case p at ops holds_op above
       ]
     where

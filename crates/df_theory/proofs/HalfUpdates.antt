@@ -1,5 +1,5 @@
 -- An update is stopped within copy 1, and mended.
-use Rattle.std.proofs.Common.{◌≡◌, ◌⊎◌, inl, inr, ℕ, ◌<◌, ◌||◌, Bool, true, false, if◌then◌else◌, List, [], ◌∷◌, Some, None, refl, sym, ◌∙◌, ap, subst, arith}
+use Rattle.std.proofs.Common.{◌≡◌, ◌⊎◌, inl, inr, ℕ, ◌<◌, ◌||◌, Bool, true, false, if◌then◌else◌, List, [], ◌∷◌, Some, None, refl, sym, ◌∙◌, ap, arith}
 use Rattle.df_theory.{specs.{Units.{Content, CopyPlace, CopyUnit, Units, is_some, or_else}, UnitLog.{same_place, IsLeftBy, Stopped, Synced, UnitLog, add, now, put_one, wrote}, Chance.{NoChance}, Holds.{Holds}, Rests.{IsGoodLog}, MendLaws.{IsNumber, MayMend}, Sample.{UpdateSampleLaw}}, proofs.{Writes.{stop_law}, PutOne.{put_one_law}, Keeps.{four}, AllOf.{All}, Ours.{IsOurs, distinct_in, log4_all}, SampleSlots.{header_shown, slot, table}, SampleUnits.{put_all}, Without.{without, without_shows}, Samples.{content1, log4, shape, view2}, SampleEnds.{content2, leads5, view5}}}
 
 -- copy 0 is durable, and copy 1 is being written
@@ -59,8 +59,8 @@ copy : (k : ℕ) → k < 4 → (image (CopyPlace k) ≡ Some (CopyUnit content1)
 copy k below = elim (four k below) [
   | inl at ↦ inr (inl at)
   | inr (inl at) ↦ inr (inr (inl at))
-  | inr (inr (inl at)) ↦ inl (subst (λ (n : ℕ). image (CopyPlace n) ≡ Some (CopyUnit content1)) (sym at) refl)
-  | inr (inr (inr at)) ↦ inl (subst (λ (n : ℕ). image (CopyPlace n) ≡ Some (CopyUnit content1)) (sym at) refl)
+  | inr (inr (inl at)) ↦ inl (rw at refl)
+  | inr (inr (inr at)) ↦ inl (rw at refl)
 ]
 
 may : MayMend shape (add (Stopped image) log) view2 table [] mends

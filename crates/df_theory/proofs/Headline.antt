@@ -1,5 +1,5 @@
 -- Stop anywhere, and the next open goes on.
-use Rattle.std.proofs.Common.{◌≡◌, ◌⊎◌, inl, inr, [], ◌∷◌, subst}
+use Rattle.std.proofs.Common.{◌≡◌, ◌⊎◌, inl, inr, [], ◌∷◌}
 use Rattle.df_theory.{specs.{Units.{Units}, Shape.{Shape}, View.{View}, Holds.{Holds}, UnitLog.{IsLeftBy, Synced, UnitLog, add, now, settled}, Chance.{EachLeft, NoChance}, Grown.{IsSafe}, Rests.{IsGoodLog, RestsOn}, Runs.{after_steps}, HeadlineLaws.{BarrierLaw, CleanStartLaw, HeadlineLaw, Survives}}, proofs.{Steps.{grows_holds, synced_rests, rests_safe, rests_holds}, Founds.{holds_found, found_holds}, OneFound.{one_found_law}, Writes.{stop_law, anew_law, no_choice}, Runs.{each_weaker}}}
 
 pub survives : (sh : Shape) (log : UnitLog) (image : Units) (w : View) → IsSafe sh log → IsLeftBy log image → NoChance log image → Holds sh image w → Survives sh log image w
@@ -20,7 +20,7 @@ barrier_law sh log v was found = elim was [
   | inl grown ↦
       let holds = grows_holds sh (now log) (settled log) grown.0 grown.1.grows in
       let same : grown.0 ≡ v = one_found_law sh (now log) grown.0 v (holds_found sh (now log) grown.0 holds) found in
-      subst (λ (x : View). RestsOn sh (add Synced log) x) same (synced_rests sh log grown.0 grown.1)
+      rw same at (synced_rests sh log grown.0 grown.1)
   | inr made ↦ absurd (no_choice made.0 (now log) (settled log) made.1.made v.checkpoint.content found.chosen.agreed)
 ]
 

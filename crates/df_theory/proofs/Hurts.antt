@@ -80,7 +80,7 @@ module _ (sh : Shape) (log : UnitLog) (v : View) (shown : Units) (rests : RestsO
               let one : p ≡ q.0 = same_named sh.layout.clients (v.checkpoint.content.op + 1) v.checkpoint.content.op_checksum 0 0 v.checkpoint.parts.sessions v.checkpoint.parts.sessions tail v.tail (v.checkpoint.content.pin - v.checkpoint.content.op) found.chain rests.holds.bears.sound.chain
               (omega (arith, found.reaches)) (omega (arith, rests.holds.bears.sound.records.pin_to)) (found.pinned ∙ sym rests.holds.bears.sound.records.checksum) distinct_here
               (v.checkpoint.content.pin - p.header.op) p q.0 at q.1 (sym q.2) (omega (arith, ops.0)) in
-              subst (λ (w : Message). In w v.tail) (sym one) q.1
+              rw (sym one) at q.1
         ]
 
     tail_op : (q : Message) → In q v.tail → q.header.op ≤ head v
@@ -155,7 +155,7 @@ module _ (sh : Shape) (log : UnitLog) (v : View) (shown : Units) (rests : RestsO
             room = omega (arith, behind.1, rests.holds.bears.sound.room, length-append more (next.0 ∷ []));
             shown = λ p at. elim (in_either p more (next.0 ∷ []) at) [
               | inl old ↦ reach.behind.shown p old
-              | inr new ↦ subst (λ (q : Message). Takes sh.layout.slots shown v.checkpoint.content q) (sym (in_single p next.0 new)) (taken_now next.0 (behind.2 next.0 next.1) here)
+              | inr new ↦ rw (sym (in_single p next.0 new)) at (taken_now next.0 (behind.2 next.0 next.1) here)
             ];
             chain = next.2;
             grouped = next.3;
@@ -170,7 +170,7 @@ module _ (sh : Shape) (log : UnitLog) (v : View) (shown : Units) (rests : RestsO
             shown = λ q at.
                 let ops = chain_ops sh.layout.clients (v.checkpoint.content.op + 1 + length tail) (last_checksum v.checkpoint.content.op_checksum tail) (last_mark 0 tail) (sessions_after v.checkpoint.parts.sessions tail) behind.0 q behind.3 at in
                 let p = chain_at sh.layout.clients (v.checkpoint.content.op + 1 + length tail) (last_checksum v.checkpoint.content.op_checksum tail) (last_mark 0 tail) (sessions_after v.checkpoint.parts.sessions tail) more q.header.op reach.behind.chain (omega (arith, ops.0)) (omega (arith, ops.1)) in
-                subst (λ (w : Message). Takes sh.layout.slots shown v.checkpoint.content w) (one_more p.0 q p.1 at p.2) (reach.behind.shown p.0 p.1);
+                rw (one_more p.0 q p.1 at p.2) at (reach.behind.shown p.0 p.1);
             chain = behind.3;
             grouped = behind.4;
           };
@@ -186,7 +186,7 @@ module _ (sh : Shape) (log : UnitLog) (v : View) (shown : Units) (rests : RestsO
             let top : head v ≡ v.checkpoint.content.op + length tail = omega (arith, tail_short) in
             record {
               header = λ s h is own. omega (arith, (header_is s h is).op own);
-              prepare = λ s p is own. subst (λ (n : ℕ). BindsHead n p.header) top ((prepare_is s p is).op own);
+              prepare = λ s p is own. rw top at ((prepare_is s p is).op own);
               superblock = omega (arith, rests.holds.bears.sound.head_from);
               reply = λ k r is own.
                   let a = reply_is k r is in
@@ -233,7 +233,7 @@ pub headers_tell_law : HeadersTellLaw
 headers_tell_law sh shown w s h places f is own above =
     let o = places (HeaderPlace s) (HeaderUnit h) is in
     let same : o.0 ≡ h = (let e = o.1 in cc) in
-    header_in_tail sh shown w places f s h is (subst (λ (x : Header). 0 < x.op → s ≡ x.op % sh.layout.slots) same (λ some. (o.3 some).0)) own above
+    header_in_tail sh shown w places f s h is (rw (← same) (λ some. (o.3 some).0)) own above
 
 pub tail_is_front_law : TailIsFrontLaw
 tail_is_front_law sh log v shown tail rests chance found = front sh log v shown rests chance.pooled tail found chance
@@ -252,7 +252,7 @@ checkpoint_stays_law sh log v w shown rests chance agreed f = λ i. record { con
 
     chain : w.checkpoint.chain ≡ v.checkpoint.chain
     chain = same_links (sh.layout.block_size - 256) v.checkpoint.content w.checkpoint.chain v.checkpoint.chain v.checkpoint.content.trailer v.checkpoint.content.trailer_checksum
-        (subst (λ (c : Content). Links (sh.layout.block_size - 256) c w.checkpoint.chain c.trailer c.trailer_checksum) content f.checkpoint.trailer.links) rests.holds.bears.sound.checkpoint.trailer.links
+        (rw content at f.checkpoint.trailer.links) rests.holds.bears.sound.checkpoint.trailer.links
         (λ a e b d at there checksum. chance.distinct (BlockPlace a) (BlockPlace e) (BlockUnit b) (BlockUnit d)
         (pools (BlockPlace a) (BlockUnit b) (chance.pooled (BlockPlace a) (BlockUnit b) (f.chain_shown a b at)))
         (pools (BlockPlace e) (BlockUnit d) (rests.pooled (BlockPlace e) (BlockUnit d) (rests.holds.bears.needs (BlockPlace e) (BlockUnit d) (d, there, refl)))) checksum)
@@ -302,7 +302,7 @@ front_is clients op parent mark ss [] qs one two same short = refl
 front_is clients op parent mark ss (p ∷ ps) [] one two same short = absurd (omega arith)
 front_is clients op parent mark ss (p ∷ ps) (q ∷ qs) one two same short =
     let first : p ≡ q = same p q (inl refl) (inl refl) (one.0.op_is ∙ sym two.0.op_is) in
-    let chain : Chain clients (op + 1) p.header.checksum p.header.mark (noted p.header ss) qs = subst (λ (x : Message). Chain clients (op + 1) x.header.checksum x.header.mark (noted x.header ss) qs) (sym first) two.1 in
+    let chain : Chain clients (op + 1) p.header.checksum p.header.mark (noted p.header ss) qs = rw (sym first) at two.1 in
     let rest = front_is clients (op + 1) p.header.checksum p.header.mark (noted p.header ss) ps qs one.1 chain (λ x y at there. same x y (inr at) (inr there)) (omega arith) in
     λ i. sym first i ∷ rest i
 
@@ -313,7 +313,7 @@ reply_is_hurt_law sh log v shown tail n k s rests chance found counted at low un
       let r = sound.stores k s there (omega (arith, low, small)) in
       let t = sound.answered k r.0 r.1 in
       let one : t.0 ≡ s = (let both : Some t.0 ≡ Some s = sym t.1 ∙ there in cc) in
-      inl (r.0, unhurt ∙ rests.holds.bears.needs (ReplyPlace k) (ReplyUnit r.0) (r.0, r.1, refl), subst (λ (x : Session). Answers x r.0) one t.3, sound.records.stored k r.0 r.1)
+      inl (r.0, unhurt ∙ rests.holds.bears.needs (ReplyPlace k) (ReplyUnit r.0) (r.0, r.1, refl), rw one at t.3, sound.records.stored k r.0 r.1)
   | inr new ↦ inr (new.0, new.1, ap (λ (l : List Session). slice_get l k) (sym same_sessions) ∙ new.2, in_dropped (length tail) new.1 v.tail new.3, new.4, late new.1 new.3)
 ]
   where

@@ -1,5 +1,5 @@
 -- What each writer leaves whole.
-use Rattle.std.proofs.{Common.{◌≡◌, ◌⊎◌, inl, inr, ℕ, ◌+◌, ◌-◌, ◌%◌, ◌<◌, ◌||◌, [], ◌∷◌, Option, Some, None, refl, sym, ◌∙◌, ap, subst, arith}, lemmas.Bool.{cases_eq}}
+use Rattle.std.proofs.{Common.{◌≡◌, ◌⊎◌, inl, inr, ℕ, ◌+◌, ◌-◌, ◌%◌, ◌<◌, ◌||◌, [], ◌∷◌, Option, Some, None, refl, sym, ◌∙◌, ap, arith}, lemmas.Bool.{cases_eq}}
 use Rattle.df_theory.{specs.{Units.{AnyUnit, BlockPlace, BlockUnit, Content, CopyPlace, CopyUnit, Header, HeaderPlace, HeaderUnit, Message, Place, PreparePlace, PrepareUnit, ReplyPlace, ReplyUnit, Units, is_some, or_else, overlay}, Tails.{In}, Shape.{Shape}, View.{View}, Holds.{IsWhole, Sound, Stands}, Next.{MayAppend, appended}, UnitLog.{PutsOne, Synced, UnitLog, add, now, wrote}, Chance.{EachLeft}, Runs.{Puts, Syncs}, WriterLaws.{IsHeaderSector}, WholeLaws.{IsStanding, Spares, StandsLaw, WholeAppendLaw, WholeBlockLaw, WholeReplyLaw, WholeUpdateLaw}}, proofs.{Tails.{chain_ops, in_either, in_single, in_dropped}, Slots.{mod_apart}, Writes.{put_else}}}
 
 module _ (sh : Shape) (image : Units) (v : View) (p : Message) (prepare headers : Units) (sound : Sound sh v) (may : MayAppend sh v (p ∷ [])) (one : PutsOne prepare (PreparePlace (p.header.op % sh.layout.slots)) (PrepareUnit p)) (sector : IsHeaderSector sh image p headers)
@@ -127,10 +127,10 @@ whole_update_law sh image v c puts whole =
     let i3 : Units = overlay puts.put3 i2 in
     record {
       copies = λ n below. elim (four n below) [
-        | inl is ↦ subst (λ (k : ℕ). i3 (CopyPlace k) ≡ Some (CopyUnit c.content)) (sym is) (copy_over puts.put3 i2 3 0 c.content puts.one3 (λ e. omega arith) ∙ copy_over puts.put2 i1 2 0 c.content puts.one2 (λ e. omega arith) ∙ copy_over puts.put1 i0 1 0 c.content puts.one1 (λ e. omega arith) ∙ copy_here puts.put0 image 0 c.content puts.one0)
-        | inr (inl is) ↦ subst (λ (k : ℕ). i3 (CopyPlace k) ≡ Some (CopyUnit c.content)) (sym is) (copy_over puts.put3 i2 3 1 c.content puts.one3 (λ e. omega arith) ∙ copy_over puts.put2 i1 2 1 c.content puts.one2 (λ e. omega arith) ∙ copy_here puts.put1 i0 1 c.content puts.one1)
-        | inr (inr (inl is)) ↦ subst (λ (k : ℕ). i3 (CopyPlace k) ≡ Some (CopyUnit c.content)) (sym is) (copy_over puts.put3 i2 3 2 c.content puts.one3 (λ e. omega arith) ∙ copy_here puts.put2 i1 2 c.content puts.one2)
-        | inr (inr (inr is)) ↦ subst (λ (k : ℕ). i3 (CopyPlace k) ≡ Some (CopyUnit c.content)) (sym is) (copy_here puts.put3 i2 3 c.content puts.one3)
+        | inl is ↦ rw (sym is) at (copy_over puts.put3 i2 3 0 c.content puts.one3 (λ e. omega arith) ∙ copy_over puts.put2 i1 2 0 c.content puts.one2 (λ e. omega arith) ∙ copy_over puts.put1 i0 1 0 c.content puts.one1 (λ e. omega arith) ∙ copy_here puts.put0 image 0 c.content puts.one0)
+        | inr (inl is) ↦ rw (sym is) at (copy_over puts.put3 i2 3 1 c.content puts.one3 (λ e. omega arith) ∙ copy_over puts.put2 i1 2 1 c.content puts.one2 (λ e. omega arith) ∙ copy_here puts.put1 i0 1 c.content puts.one1)
+        | inr (inr (inl is)) ↦ rw (sym is) at (copy_over puts.put3 i2 3 2 c.content puts.one3 (λ e. omega arith) ∙ copy_here puts.put2 i1 2 c.content puts.one2)
+        | inr (inr (inr is)) ↦ rw (sym is) at (copy_here puts.put3 i2 3 c.content puts.one3)
       ];
       headers = λ s below.
           let old = whole.headers s below in (

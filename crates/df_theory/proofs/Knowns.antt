@@ -1,5 +1,5 @@
 -- Prepares that the superblock names, from the last one down.
-use Rattle.std.proofs.{Common.{◌≡◌, inl, inr, ℕ, zero, suc, ◌+◌, ◌-◌, ◌%◌, ◌<◌, ◌≤◌, List, [], ◌∷◌, ◌++◌, length, take, Some, refl, sym, ◌∙◌, ap, subst, arith, length-append, append_assoc}, lemmas.Bool.{cases_eq, cases_lt}, lemmas.List.{length-take}}
+use Rattle.std.proofs.{Common.{◌≡◌, inl, inr, ℕ, zero, suc, ◌+◌, ◌-◌, ◌%◌, ◌<◌, ◌≤◌, List, [], ◌∷◌, ◌++◌, length, take, Some, refl, sym, ◌∙◌, ap, arith, length-append, append_assoc}, lemmas.Bool.{cases_eq, cases_lt}, lemmas.List.{length-take}}
 use Rattle.df_theory.{specs.{Units.{Content, Message, PreparePlace, PrepareUnit, Session, Units}, Sessions.{noted}, Tails.{AreGroups, Chain, EndsAt, In, last_checksum}, Shape.{Shape, clients}, View.{Checkpoint}, Found.{IsTail}, Opens.{AreFitting, AreKnown, IsUnfit, LacksKnown, named_by}}, proofs.{Sessions.{chain_take}, Tails.{in_front}}}
 
 -- lists that are shown from one op on are one
@@ -24,7 +24,7 @@ pub record KnownAt (n : ℕ) (image : Units) (a c : ℕ) (size : ℕ) : Type 0 w
 pub known_at : (n : ℕ) (image : Units) (op c a size : ℕ) (xs : List Message) → AreKnown n image op c xs → op ≤ a → a < op + length xs → size + 1 ≡ op + length xs → KnownAt n image a c size
 known_at n image op c a size [] known low high count = absurd (omega arith)
 known_at n image op c a size (x ∷ xs) known low high count = elim (cases_eq a op) [
-  | inl same ↦ subst (λ (k : ℕ). KnownAt n image k c size) (sym same) (record { here = x; rest = xs; shown = known.0; names = known.1; known = known.2; count = omega arith })
+  | inl same ↦ rw same (record { here = x; rest = xs; shown = known.0; names = known.1; known = known.2; count = omega arith })
   | inr differs ↦ known_at n image (op + 1) c a size xs known.2 (omega arith) (omega arith) (omega arith)
 ]
 
@@ -88,14 +88,14 @@ pub not_further : (sh : Shape) (image : Units) (b : Checkpoint) (xs zs : List Me
 not_further sh image b xs zs one two less =
     let same : xs ++ one.next ∷ one.rest ≡ zs ++ two.next ∷ two.rest = known_one sh.layout.slots image (b.content.op + 1) b.content.pin_checksum (xs ++ one.next ∷ one.rest) (zs ++ two.next ∷ two.rest) one.known two.known (omega (arith, one.count, two.count)) in
     let more = front_more xs zs one.next one.rest two.next two.rest same less in
-    one.fails (fitting_front sh b (xs ++ one.next ∷ []) more.0 (subst (λ (l : List Message). AreFitting sh b l) more.1 two.fits))
+    one.fails (fitting_front sh b (xs ++ one.next ∷ []) more.0 (rw more.1 at two.fits))
 
 -- what fits as a whole has no part that doesn't
 pub all_fit : (sh : Shape) (image : Units) (b : Checkpoint) (front ps : List Message) → IsUnfit sh image b front → AreFitting sh b ps → AreKnown sh.layout.slots image (b.content.op + 1) b.content.pin_checksum ps → b.content.op + length ps ≡ b.content.pin → ⊥
 all_fit sh image b front ps unfit fits known count =
     let same : front ++ unfit.next ∷ unfit.rest ≡ ps = known_one sh.layout.slots image (b.content.op + 1) b.content.pin_checksum (front ++ unfit.next ∷ unfit.rest) ps unfit.known known (omega (arith, unfit.count)) in
     let split : (front ++ unfit.next ∷ []) ++ unfit.rest ≡ ps = append_assoc front (unfit.next ∷ []) unfit.rest ∙ same in
-    unfit.fails (fitting_front sh b (front ++ unfit.next ∷ []) unfit.rest (subst (λ (l : List Message). AreFitting sh b l) (sym split) fits))
+    unfit.fails (fitting_front sh b (front ++ unfit.next ∷ []) unfit.rest (rw (sym split) at fits))
 
 pub groups_take : (k f l op : ℕ) (ps : List Message) → AreGroups f l op ps → AreGroups f l op (take k ps)
 groups_take zero f l op ps groups = tt

@@ -124,7 +124,7 @@ half_way P sh log v (put ∷ puts) good rests quiet written =
     let same : after_steps (header_steps (put ∷ puts)) log ≡ add Synced after = after_append (all_puts (put ∷ puts)) (Syncs ∷ []) log in
     record {
       moments = each_append P (all_puts (put ∷ puts)) (Syncs ∷ []) log written.0 (good after written.1, good (add Synced after) synced);
-      rests = subst (λ (l : UnitLog). RestsOn sh l v) (sym same) synced;
+      rests = rw (sym same) at synced;
       quiet = subst IsQuiet (sym same) (quiet_synced after);
     }
 
@@ -136,7 +136,7 @@ mend_law sh log v table headers copies may =
     let agreed = may.agreed in
     let rest = copies_rests sh v agreed.first agreed.second copies mid agreed.apart agreed.inside (stays agreed.first ∙ agreed.at_first) (stays agreed.second ∙ agreed.at_second) half.rests half.quiet may.puts_copies in (
       each_append (IsGoodLog sh v v) (header_steps headers) (copy_steps copies) log half.moments rest.0,
-      subst (λ (l : UnitLog). RestsOn sh l v) (sym (after_append (header_steps headers) (copy_steps copies) log)) rest.1,
+      rw (sym (after_append (header_steps headers) (copy_steps copies) log)) at rest.1,
     )
 
 -- ---- nothing is left

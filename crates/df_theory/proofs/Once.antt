@@ -52,8 +52,8 @@ was_reply sh (image ∷ images) v (holds, inr (history, (u, next, grows))) a b k
 -- the blocks of a view's trailer were settled
 pub was_chain : (sh : Shape) (images : List Units) (v : View) (grows : Grows sh images v) (w : View) → Was sh images v grows w → (a : ℕ) (b : Block) → InChain a b w.checkpoint.chain → InImages images (BlockPlace a) (BlockUnit b)
 was_chain sh [] v grows w was a b at = absurd was
-was_chain sh (image ∷ images) v (holds, inl begins) w is a b at = inl (holds.bears.needs (BlockPlace a) (BlockUnit b) (b, subst (λ (x : View). InChain a b x.checkpoint.chain) is at, refl))
-was_chain sh (image ∷ images) v (holds, inr (history, (u, next, grows))) w (inl is) a b at = inl (holds.bears.needs (BlockPlace a) (BlockUnit b) (b, subst (λ (x : View). InChain a b x.checkpoint.chain) is at, refl))
+was_chain sh (image ∷ images) v (holds, inl begins) w is a b at = inl (holds.bears.needs (BlockPlace a) (BlockUnit b) (b, rw is at at, refl))
+was_chain sh (image ∷ images) v (holds, inr (history, (u, next, grows))) w (inl is) a b at = inl (holds.bears.needs (BlockPlace a) (BlockUnit b) (b, rw is at at, refl))
 was_chain sh (image ∷ images) v (holds, inr (history, (u, next, grows))) w (inr was) a b at = inr (was_chain sh images u grows w was a b at)
 
 pub same_links : (room : ℕ) (content : Content) (cs ds : List (ℕ × Block)) (address checksum : ℕ) → Links room content cs address checksum → Links room content ds address checksum
@@ -64,7 +64,7 @@ same_links room content (c ∷ cs) [] address checksum one two same = absurd (om
 same_links room content (c ∷ cs) (d ∷ ds) address checksum one two same =
     let place : c.0 ≡ d.0 = one.1 ∙ sym two.1 in
     let block : c.1 ≡ d.1 = same c.0 d.0 c.1 d.1 (inl (refl, refl)) (inl (refl, refl)) (one.2 ∙ sym two.2) in
-    let rest : cs ≡ ds = same_links room content cs ds c.1.before c.1.before_checksum one.7 (subst (λ (b : Block). Links room content ds b.before b.before_checksum) (sym block) two.7) (λ a e b d at there. same a e b d (inr at) (inr there)) in
+    let rest : cs ≡ ds = same_links room content cs ds c.1.before c.1.before_checksum one.7 (rw (sym block) at two.7) (λ a e b d at there. same a e b d (inr at) (inr there)) in
     λ i. (place i, block i) ∷ rest i
 
 pub same_chains : (clients op p1 p2 m1 m2 : ℕ) (s1 s2 : List Session) (ps qs : List Message) → Chain clients op p1 m1 s1 ps → Chain clients op p2 m2 s2 qs → length ps ≡ length qs

@@ -26,7 +26,7 @@ readable_one sh image b d one two = λ i. record { content = content i; chain = 
 
     chain : b.chain ≡ d.chain
     chain = same_chain (sh.layout.block_size - 256) b.content image b.chain d.chain b.content.trailer b.content.trailer_checksum one.sound.trailer.links
-        (subst (λ (c : Content). Links (sh.layout.block_size - 256) c d.chain c.trailer c.trailer_checksum) (sym content) two.sound.trailer.links) one.shown two.shown
+        (rw (sym content) at two.sound.trailer.links) one.shown two.shown
 
     parts : b.parts ≡ d.parts
     parts = same_parts sh b.content d.content b.chain d.chain b.parts d.parts content chain one.sound.trailer.says two.sound.trailer.says
@@ -42,7 +42,7 @@ next_shown : (image : Units) (room : ℕ) (c : Content) (chain read rest : List 
 next_shown image room c chain read [] a k shown split links more = absurd (omega (arith, ap length split, length-append read []))
 next_shown image room c chain read (d ∷ ds) a k shown split links more = (
   d.1,
-  ap (λ (e : ℕ). image (BlockPlace e)) (sym links.1) ∙ shown d.0 d.1 (subst (λ (l : List (ℕ × Block)). InChain d.0 d.1 l) (sym split) (in_behind d.0 d.1 read (d ∷ ds) (inl (refl, refl)))),
+  ap (λ (e : ℕ). image (BlockPlace e)) (sym links.1) ∙ shown d.0 d.1 (rw (sym split) at (in_behind d.0 d.1 read (d ∷ ds) (inl (refl, refl)))),
   links.2,
   links.6,
 )
@@ -62,7 +62,7 @@ same_wanted image [] (d ∷ ds) address checksum a k e m one two none no_more = 
 same_wanted image (b ∷ bs) [] address checksum a k e m one two none no_more = absurd (no_more (b.1, ap (λ (x : ℕ). image (BlockPlace x)) two.0 ∙ one.3, one.2 ∙ sym two.1, one.4))
 same_wanted image (b ∷ bs) (d ∷ ds) address checksum a k e m one two none no_more =
     let block : d.1 ≡ b.1 = (let both : Some (BlockUnit d.1) ≡ Some (BlockUnit b.1) = sym two.3 ∙ one.3 in cc) in
-    same_wanted image bs ds b.1.before b.1.before_checksum a k e m one.5 (subst (λ (x : Block). Arrives image ds x.before x.before_checksum e m) block two.5) none no_more
+    same_wanted image bs ds b.1.before b.1.before_checksum a k e m one.5 (rw block at two.5) none no_more
 
 -- ---- step by step
 
@@ -118,14 +118,14 @@ replies_one image b tail x y one two = go one.2 two.2
     go : (((k : ℕ) × LacksReply image b.content (sessions_after b.parts.sessions tail) one.0 k × (x ≡ Refused (Damaged (ReplyPlace k)))) ⊎ ((v : View) × (v.checkpoint ≡ b) × (v.tail ≡ tail) × (v.replies ≡ one.0) × IsStored image v × AnswersLast v x))
         → (((k : ℕ) × LacksReply image b.content (sessions_after b.parts.sessions tail) two.0 k × (y ≡ Refused (Damaged (ReplyPlace k)))) ⊎ ((v : View) × (v.checkpoint ≡ b) × (v.tail ≡ tail) × (v.replies ≡ two.0) × IsStored image v × AnswersLast v y)) → x ≡ y
     go (inl p) (inl q) =
-        let k = same_first image b.content (sessions_after b.parts.sessions tail) one.0 p.0 q.0 p.1 (subst (λ (n : ℕ). LacksReply image b.content (sessions_after b.parts.sessions tail) n q.0) same q.1) in
+        let k = same_first image b.content (sessions_after b.parts.sessions tail) one.0 p.0 q.0 p.1 (rw same at q.1) in
         p.2 ∙ ap (λ (n : ℕ). Refused (Damaged (ReplyPlace n))) k ∙ sym q.2
     go (inl p) (inr q) = absurd (none_lacks image b tail one.0 p.0 q.0 p.1 q.1 q.2 (q.3 ∙ same) q.4)
     go (inr p) (inl q) = absurd (none_lacks image b tail two.0 q.0 p.0 q.1 p.1 p.2 (p.3 ∙ sym same) p.4)
     go (inr p) (inr q) = last_one p.0 q.0 x y (same_state image b tail one.0 p.0 q.0 p.1 q.1 p.2 q.2 p.3 (q.3 ∙ same) p.4 q.4) p.5 q.5
 
 tail_one : (sh : Shape) (image : Units) (b : Checkpoint) (x y : OpenAnswer) → AnswersTail sh image b x → AnswersTail sh image b y → x ≡ y
-tail_one sh image b x y one two = go one.2 (subst (λ (l : List Message). ((NotLost image b.content (b.content.op + length l) → ⊥) × ((more : List Message) × IsReach sh image b l more × (y ≡ Refused (Damaged (PreparePlace (slot_behind sh b l more)))))) ⊎ (NotLost image b.content (b.content.op + length l) × AnswersReplies image b l y)) same two.2)
+tail_one sh image b x y one two = go one.2 (rw same at two.2)
   where
     same : two.0 ≡ one.0
     same = one_tail sh image b two.0 one.0 two.1 one.1
@@ -175,13 +175,13 @@ traces_one sh image b x y from (inr p) (inr q) = known_one sh image b x y from p
 trailer_one : (sh : Shape) (image : Units) (c : Content) (x y : OpenAnswer) → AnswersTrailer sh image c x → AnswersTrailer sh image c y → x ≡ y
 trailer_one sh image c x y (inl p) (inl q) = p.4 ∙ ap (λ (n : ℕ). Refused (Damaged (BlockPlace n))) (same_wanted image p.2.read q.2.read c.trailer c.trailer_checksum p.0 p.1 q.0 q.1 p.2.arrives q.2.arrives p.3 q.3) ∙ sym q.4
 trailer_one sh image c x y (inl p) (inr (inl q)) = absurd (p.3 (q.0 p.0 p.1 p.2))
-trailer_one sh image c x y (inl p) (inr (inr q)) = absurd (p.3 (readable_reads sh image q.0 p.0 p.1 q.2 (subst (λ (d : Content). ReadsTo sh image d p.0 p.1) (sym q.1) p.2)))
+trailer_one sh image c x y (inl p) (inr (inr q)) = absurd (p.3 (readable_reads sh image q.0 p.0 p.1 q.2 (rw (sym q.1) at p.2)))
 trailer_one sh image c x y (inr (inl p)) (inl q) = absurd (q.3 (p.0 q.0 q.1 q.2))
 trailer_one sh image c x y (inr (inl p)) (inr (inl q)) = p.2 ∙ sym q.2
 trailer_one sh image c x y (inr (inl p)) (inr (inr q)) = absurd (p.1 q.0 q.1 q.2)
-trailer_one sh image c x y (inr (inr p)) (inl q) = absurd (q.3 (readable_reads sh image p.0 q.0 q.1 p.2 (subst (λ (d : Content). ReadsTo sh image d q.0 q.1) (sym p.1) q.2)))
+trailer_one sh image c x y (inr (inr p)) (inl q) = absurd (q.3 (readable_reads sh image p.0 q.0 q.1 p.2 (rw (sym p.1) at q.2)))
 trailer_one sh image c x y (inr (inr p)) (inr (inl q)) = absurd (q.1 p.0 p.1 p.2)
-trailer_one sh image c x y (inr (inr p)) (inr (inr q)) = traces_one sh image p.0 x y p.2.sound.tests.pin.0 p.3 (subst (λ (b : Checkpoint). AnswersTraces sh image b y) (readable_one sh image q.0 p.0 q.2 p.2) q.3)
+trailer_one sh image c x y (inr (inr p)) (inr (inr q)) = traces_one sh image p.0 x y p.2.sound.tests.pin.0 p.3 (rw (readable_one sh image q.0 p.0 q.2 p.2) at q.3)
 
 fields_one : (sh : Shape) (image : Units) (c : Content) (x y : OpenAnswer) → AnswersFields sh image c x → AnswersFields sh image c y → x ≡ y
 fields_one sh image c x y (inl p) (inl q) = p.1 ∙ sym q.1
@@ -193,7 +193,7 @@ answers_one : (sh : Shape) (image : Units) (x y : OpenAnswer) → Answers sh ima
 answers_one sh image x y (inl p) (inl q) = p.1 ∙ sym q.1
 answers_one sh image x y (inl p) (inr q) = absurd (p.0 q.0 q.1.agreed)
 answers_one sh image x y (inr p) (inl q) = absurd (q.0 p.0 p.1.agreed)
-answers_one sh image x y (inr p) (inr q) = fields_one sh image p.0 x y p.2 (subst (λ (c : Content). AnswersFields sh image c y) (one_chosen image q.0 p.0 q.1 p.1) q.2)
+answers_one sh image x y (inr p) (inr q) = fields_one sh image p.0 x y p.2 (rw (one_chosen image q.0 p.0 q.1 p.1) at q.2)
 
 pub one_answer_law : OneAnswerLaw
 one_answer_law sh image x y one two = answers_one sh image x y (answers_of sh image x one) (answers_of sh image y two)
@@ -203,13 +203,13 @@ one_answer_law sh image x y one two = answers_one sh image x y (answers_of sh im
 -- what is read up to the last step is found
 to_state : (sh : Shape) (image : Units) (b : Checkpoint) (tail : List Message) (n : ℕ) (w : View) → IsReadable sh image b → NotBehind sh image b.content → IsTail sh image b tail → NotLost image b.content (b.content.op + length tail) → IsReplies image b.content tail n → w.checkpoint ≡ b → w.tail ≡ tail → w.replies ≡ n → IsStored image w → IsFound sh image w
 to_state sh image b tail n w readable not_behind is_tail not_lost counted base same count stored = record {
-  chosen = subst (λ (d : Checkpoint). IsChosen image d.content) (sym base) readable.chosen;
-  checkpoint = subst (λ (d : Checkpoint). IsSoundCheckpoint sh d) (sym base) readable.sound;
-  chain_shown = subst (λ (d : Checkpoint). (a : ℕ) (x : Block) → InChain a x d.chain → image (BlockPlace a) ≡ Some (BlockUnit x)) (sym base) readable.shown;
-  not_behind = subst (λ (d : Checkpoint). NotBehind sh image d.content) (sym base) not_behind;
-  tail = subst (λ (d : Checkpoint). IsTail sh image d w.tail) (sym base) (subst (λ (l : List Message). IsTail sh image b l) (sym same) is_tail);
-  not_lost = subst (λ (d : Checkpoint). NotLost image d.content (d.content.op + length w.tail)) (sym base) (subst (λ (l : List Message). NotLost image b.content (b.content.op + length l)) (sym same) not_lost);
-  replies = subst (λ (d : Checkpoint). IsReplies image d.content w.tail w.replies) (sym base) (subst (λ (l : List Message). IsReplies image b.content l w.replies) (sym same) (subst (λ (m : ℕ). IsReplies image b.content tail m) (sym count) counted));
+  chosen = rw (sym base) at readable.chosen;
+  checkpoint = rw (sym base) at readable.sound;
+  chain_shown = rw (sym base) at readable.shown;
+  not_behind = rw (sym base) at not_behind;
+  tail = rw (sym base) at (rw (sym same) at is_tail);
+  not_lost = rw (sym base) at (rw (sym same) at not_lost);
+  replies = rw (sym base) at (rw (sym same) at (rw (sym count) at counted));
   stored = stored;
 }
 
@@ -227,7 +227,7 @@ to_found sh image v (inr (c, chosen, inr (tests, reference, inr (inr (b, content
     = elim is [
       | inl p ↦
           let one : w ≡ v = (let both : Found v ≡ Found w = p.1 in let back : w ≡ v = cc in back) in
-          subst (λ (z : View). IsFound sh image z × (boot_of z < 2 ^ 62)) one (to_state sh image b tail n w readable not_behind is_tail not_lost counted base same count stored, p.0)
+          rw (← one) (to_state sh image b tail n w readable not_behind is_tail not_lost counted base same count stored, p.0)
       | inr p ↦ absurd (let both : Found v ≡ Refused BootSpent = p.1 in cc)
     ]
 

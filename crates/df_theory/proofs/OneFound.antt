@@ -1,5 +1,5 @@
 -- An open finds one state.
-use Rattle.std.{proofs.{Common.{◌≡◌, inl, inr, ℕ, suc, ◌+◌, ◌-◌, ◌%◌, ◌<◌, ◌≤◌, List, [], ◌∷◌, ◌++◌, length, Option, Some, None, refl, sym, ◌∙◌, ap, subst, arith, length-append}, lemmas.Bool.{cases_lt}}, specs.List.{slice_get}}
+use Rattle.std.{proofs.{Common.{◌≡◌, inl, inr, ℕ, suc, ◌+◌, ◌-◌, ◌%◌, ◌<◌, ◌≤◌, List, [], ◌∷◌, ◌++◌, length, Option, Some, None, refl, sym, ◌∙◌, ap, arith, length-append}, lemmas.Bool.{cases_lt}}, specs.List.{slice_get}}
 use Rattle.df_theory.{specs.{Units.{Content, Message, PreparePlace, PrepareUnit, ReplyUnit, Session, Units}, Sessions.{noted, sessions_after}, Tails.{AreGroups, Chain, Fits, FitsGroup, In, last_checksum, last_mark}, Shape.{Shape, clients}, Trailer.{Links}, View.{Checkpoint, View, sessions}, Cases.{Takes}, Holds.{Holds}, Found.{IsReach, IsReplies, IsStored, IsTail}, ViewLaws.{FoundLaw, OneChosenLaw, OneFoundLaw, OneViewLaw}}, proofs.{Tails.{in_either, in_single}, Choices.{one_chosen}, Founds.{holds_found, found_holds}, OneView.{same_tail, same_chain, same_parts}, Grouped.{groups_closed}}}
 
 -- of two chains that show the same, the longer one has a prepare that fits the shorter one's end
@@ -10,14 +10,14 @@ pub next_of : (clients op parent mark : ℕ) (ss : List Session) (ps qs : List M
 next_of clients op parent mark ss [] [] one two same less = absurd (omega arith)
 next_of clients op parent mark ss [] (q ∷ qs) one two same less =
     let zero_more : op ≡ op + 0 = omega arith in
-    (q, inl refl, subst (λ (k : ℕ). Fits clients k parent mark ss q.header) zero_more two.0)
+    (q, inl refl, rw zero_more at two.0)
 next_of clients op parent mark ss (p ∷ ps) [] one two same less = absurd (omega arith)
 next_of clients op parent mark ss (p ∷ ps) (q ∷ qs) one two same less =
     let first : p ≡ q = same p q (inl refl) (inl refl) (one.0.op_is ∙ sym two.0.op_is) in
-    let chain : Chain clients (op + 1) p.header.checksum p.header.mark (noted p.header ss) qs = subst (λ (x : Message). Chain clients (op + 1) x.header.checksum x.header.mark (noted x.header ss) qs) (sym first) two.1 in
+    let chain : Chain clients (op + 1) p.header.checksum p.header.mark (noted p.header ss) qs = rw (sym first) at two.1 in
     let rest = next_of clients (op + 1) p.header.checksum p.header.mark (noted p.header ss) ps qs one.1 chain (λ x y at there. same x y (inr at) (inr there)) (omega arith) in
     let more : op + 1 + length ps ≡ op + suc (length ps) = omega arith in
-    (rest.0, inr rest.1, subst (λ (k : ℕ). Fits clients k (last_checksum p.header.checksum ps) (last_mark p.header.mark ps) (sessions_after (noted p.header ss) ps) rest.0.header) more rest.2)
+    (rest.0, inr rest.1, rw more at rest.2)
 
 -- of two chains that show the same, the longer one goes on from the shorter one, with whole groups
 pub goes_on : (clients op parent mark f l low : ℕ) (ss : List Session) (ps qs : List Message) → Chain clients op parent mark ss ps → Chain clients op parent mark ss qs → ((p q : Message) → In p ps → In q qs → p.header.op ≡ q.header.op → p ≡ q) → length ps ≤ length qs
@@ -25,20 +25,20 @@ pub goes_on : (clients op parent mark f l low : ℕ) (ss : List Session) (ps qs 
     → (rest : List Message) × (length ps + length rest ≡ length qs) × ((q : Message) → In q rest → In q qs) × Chain clients (op + length ps) (last_checksum parent ps) (last_mark mark ps) (sessions_after ss ps) rest × AreGroups 0 low (op + length ps) rest
 goes_on clients op parent mark f l low ss [] qs one two same less groups ends each below =
     let zero_more : op ≡ op + 0 = omega arith in
-    (qs, omega arith, λ q at. at, subst (λ (k : ℕ). Chain clients k parent mark ss qs) zero_more two, subst (λ (k : ℕ). AreGroups 0 low k qs) zero_more (groups_closed f 0 l low op qs (omega arith) (omega arith) groups))
+    (qs, omega arith, λ q at. at, rw zero_more at two, rw zero_more at (groups_closed f 0 l low op qs (omega arith) (omega arith) groups))
 goes_on clients op parent mark f l low ss (p ∷ ps) [] one two same less groups ends each below = absurd (omega arith)
 goes_on clients op parent mark f l low ss (p ∷ ps) (q ∷ qs) one two same less groups ends each below =
     let first : p ≡ q = same p q (inl refl) (inl refl) (one.0.op_is ∙ sym two.0.op_is) in
-    let chain : Chain clients (op + 1) p.header.checksum p.header.mark (noted p.header ss) qs = subst (λ (x : Message). Chain clients (op + 1) x.header.checksum x.header.mark (noted x.header ss) qs) (sym first) two.1 in
-    let grouped : AreGroups p.header.group p.header.group_last (op + 1) qs = subst (λ (x : Message). AreGroups x.header.group x.header.group_last (op + 1) qs) (sym first) groups.1 in
+    let chain : Chain clients (op + 1) p.header.checksum p.header.mark (noted p.header ss) qs = rw (sym first) at two.1 in
+    let grouped : AreGroups p.header.group p.header.group_last (op + 1) qs = rw (sym first) at groups.1 in
     let rest = goes_on clients (op + 1) p.header.checksum p.header.mark p.header.group p.header.group_last low (noted p.header ss) ps qs one.1 chain (λ x y at there. same x y (inr at) (inr there)) (omega arith)
     grouped (omega (arith, each p (inl refl))) (λ x at. omega (arith, each x (inr at))) (omega arith) in
     let more : op + 1 + length ps ≡ op + suc (length ps) = omega arith in (
       rest.0,
       omega (arith, rest.1),
       λ x at. inr (rest.2 x at),
-      subst (λ (k : ℕ). Chain clients k (last_checksum p.header.checksum ps) (last_mark p.header.mark ps) (sessions_after (noted p.header ss) ps) rest.0) more rest.3,
-      subst (λ (k : ℕ). AreGroups 0 low k rest.0) more rest.4,
+      rw more at rest.3,
+      rw more at rest.4,
     )
 
 -- and so does its next prepare
@@ -49,10 +49,10 @@ step_on clients op parent mark f l ss [] (q ∷ qs) one two same groups less = (
 step_on clients op parent mark f l ss (p ∷ ps) [] one two same groups less = absurd (omega arith)
 step_on clients op parent mark f l ss (p ∷ ps) (q ∷ qs) one two same groups less =
     let first : p ≡ q = same p q (inl refl) (inl refl) (one.0.op_is ∙ sym two.0.op_is) in
-    let chain : Chain clients (op + 1) p.header.checksum p.header.mark (noted p.header ss) qs = subst (λ (x : Message). Chain clients (op + 1) x.header.checksum x.header.mark (noted x.header ss) qs) (sym first) two.1 in
-    let grouped : AreGroups p.header.group p.header.group_last (op + 1) qs = subst (λ (x : Message). AreGroups x.header.group x.header.group_last (op + 1) qs) (sym first) groups.1 in
+    let chain : Chain clients (op + 1) p.header.checksum p.header.mark (noted p.header ss) qs = rw (sym first) at two.1 in
+    let grouped : AreGroups p.header.group p.header.group_last (op + 1) qs = rw (sym first) at groups.1 in
     let rest = step_on clients (op + 1) p.header.checksum p.header.mark p.header.group p.header.group_last (noted p.header ss) ps qs one.1 chain (λ x y at there. same x y (inr at) (inr there)) grouped (omega arith) in
-    (rest.0, inr rest.1, (one.0, rest.2), (subst (λ (x : Message). FitsGroup f l op x.header) (sym first) groups.0, rest.3), omega (arith, rest.4))
+    (rest.0, inr rest.1, (one.0, rest.2), (rw (sym first) at groups.0, rest.3), omega (arith, rest.4))
 
 -- prepares of one op that are taken are one
 same_taken : (n : ℕ) (image : Units) (c : Content) (p q : Message) → Takes n image c p → Takes n image c q → p.header.op ≡ q.header.op → p ≡ q
@@ -75,7 +75,7 @@ one_reach sh image b tail ps qs one two less =
     (λ p q at there op. same_taken sh.layout.slots image b.content p q (one.behind.shown p at) (two.behind.shown q there) op) two.behind.grouped less in
     one.longest next.0 (record {
       room = omega (arith, two.behind.room, length-append ps (next.0 ∷ []));
-      shown = λ p at. elim (in_either p ps (next.0 ∷ []) at) [ inl old ↦ one.behind.shown p old | inr new ↦ subst (λ (q : Message). Takes sh.layout.slots image b.content q) (sym (in_single p next.0 new)) (two.behind.shown next.0 next.1) ];
+      shown = λ p at. elim (in_either p ps (next.0 ∷ []) at) [ inl old ↦ one.behind.shown p old | inr new ↦ rw (sym (in_single p next.0 new)) at (two.behind.shown next.0 next.1) ];
       chain = next.2;
       grouped = next.3;
     })
@@ -126,7 +126,7 @@ one_found_law sh image v u one two = λ i. record { checkpoint = base i; tail = 
 
     chain : v.checkpoint.chain ≡ u.checkpoint.chain
     chain = same_chain (sh.layout.block_size - 256) v.checkpoint.content image v.checkpoint.chain u.checkpoint.chain v.checkpoint.content.trailer v.checkpoint.content.trailer_checksum one.checkpoint.trailer.links
-        (subst (λ (c : Content). Links (sh.layout.block_size - 256) c u.checkpoint.chain c.trailer c.trailer_checksum) (sym content) two.checkpoint.trailer.links)
+        (rw (sym content) at two.checkpoint.trailer.links)
         one.chain_shown two.chain_shown
 
     parts : v.checkpoint.parts ≡ u.checkpoint.parts
@@ -136,11 +136,11 @@ one_found_law sh image v u one two = λ i. record { checkpoint = base i; tail = 
     base = λ i. record { content = content i; chain = chain i; parts = parts i }
 
     tail : v.tail ≡ u.tail
-    tail = one_tail sh image v.checkpoint v.tail u.tail one.tail (subst (λ (b : Checkpoint). IsTail sh image b u.tail) (sym base) two.tail)
+    tail = one_tail sh image v.checkpoint v.tail u.tail one.tail (rw (sym base) at two.tail)
 
     replies : v.replies ≡ u.replies
     replies =
-        let moved : IsReplies image v.checkpoint.content v.tail u.replies = subst (λ (l : List Message). IsReplies image v.checkpoint.content l u.replies) (sym tail) (subst (λ (c : Content). IsReplies image c u.tail u.replies) (sym content) two.replies) in
+        let moved : IsReplies image v.checkpoint.content v.tail u.replies = rw (sym tail) at (rw (sym content) at two.replies) in
         let up = not_more image v.checkpoint.content v.tail v.replies u.replies one.replies moved in
         let down = not_more image v.checkpoint.content v.tail u.replies v.replies moved one.replies in
         omega arith

@@ -1,5 +1,5 @@
 -- Lists that an image shows are one.
-use Rattle.std.proofs.Common.{◌≡◌, inl, inr, ℕ, ◌+◌, ◌%◌, List, [], ◌∷◌, length, Some, refl, sym, ◌∙◌, ap, subst, arith}
+use Rattle.std.proofs.Common.{◌≡◌, inl, inr, ℕ, ◌+◌, ◌%◌, List, [], ◌∷◌, length, Some, refl, sym, ◌∙◌, ap, arith}
 use Rattle.df_theory.specs.{Units.{Block, BlockPlace, BlockUnit, Content, Message, Parts, PreparePlace, PrepareUnit, Session, Units}, Tails.{Chain, In}, Shape.{Shape, clients}, Trailer.{InChain, Links, Says}}
 
 -- chains from one op on that show the same at each op are one
@@ -22,7 +22,7 @@ same_chain room content image (c ∷ cs) [] address checksum one two shown there
 same_chain room content image (c ∷ cs) (d ∷ ds) address checksum one two shown there =
     let place : c.0 ≡ d.0 = one.1 ∙ sym two.1 in
     let block : c.1 ≡ d.1 = (let both : Some (BlockUnit c.1) ≡ Some (BlockUnit d.1) = sym (shown c.0 c.1 (inl (refl, refl))) ∙ ap (λ (a : ℕ). image (BlockPlace a)) place ∙ there d.0 d.1 (inl (refl, refl)) in cc) in
-    let rest : cs ≡ ds = same_chain room content image cs ds c.1.before c.1.before_checksum one.7 (subst (λ (b : Block). Links room content ds b.before b.before_checksum) (sym block) two.7) (λ a b at. shown a b (inr at)) (λ a b at. there a b (inr at)) in
+    let rest : cs ≡ ds = same_chain room content image cs ds c.1.before c.1.before_checksum one.7 (rw (sym block) at two.7) (λ a b at. shown a b (inr at)) (λ a b at. there a b (inr at)) in
     λ i. (place i, block i) ∷ rest i
 
 -- one chain says one thing
@@ -32,4 +32,4 @@ same_says sh op (c ∷ cs) p q one two = let both : Some p ≡ Some q = sym one 
 
 pub same_parts : (sh : Shape) (c d : Content) (cs ds : List (ℕ × Block)) (p q : Parts) → c ≡ d → cs ≡ ds → Says sh c.op cs p → Says sh d.op ds q → p ≡ q
 same_parts sh c d cs ds p q content chain one two =
-    same_says sh d.op ds p q (subst (λ (n : ℕ). Says sh n ds p) (ap (λ (x : Content). x.op) content) (subst (λ (l : List (ℕ × Block)). Says sh c.op l p) chain one)) two
+    same_says sh d.op ds p q (rw (ap (λ (x : Content). x.op) content) at (rw chain at one)) two

@@ -1,5 +1,5 @@
 -- What holds of all settled images of a log.
-use Rattle.std.proofs.Common.{◌≡◌, ◌⊎◌, inl, inr, ℕ, ◌+◌, ◌-◌, ◌%◌, ◌<◌, ◌≤◌, List, [], ◌∷◌, length, Some, None, refl, sym, ◌∙◌, ap, subst, arith, length-append}
+use Rattle.std.proofs.Common.{◌≡◌, ◌⊎◌, inl, inr, ℕ, ◌+◌, ◌-◌, ◌%◌, ◌<◌, ◌≤◌, List, [], ◌∷◌, length, Some, None, refl, sym, ◌∙◌, ap, arith, length-append}
 use Rattle.df_theory.{specs.{Units.{AnyUnit, Content, Message, PreparePlace, PrepareUnit, Units}, Tails.{In, last_checksum}, Shape.{Shape}, Copies.{rank_of}, View.{Checkpoint, View, boot_of, head}, Holds.{Holds}, Next.{Append, Boot, Finish, Next, Reply, Same}, Chance.{InImages}, First.{AreMade}, Grown.{AllInHistory, GoesOn, Grows, IsClear, IsLeftGroup}, Past.{FromEmpty, Was}, HistoryLaws.{OnePrepareLaw, StampLaw}}, proofs.{Grew.{Grew, next_grew}, Tails.{in_either, in_dropped, turn_ops}, Agreeing.{prepare_agrees}, Steps.{grows_sound}}}
 
 -- later views have counted as far
@@ -63,8 +63,8 @@ tail_settled sh (image ∷ images) v grows p at = inl (grows.0.bears.needs (Prep
 -- and so was what an earlier one had
 pub was_prepare : (sh : Shape) (images : List Units) (v : View) (grows : Grows sh images v) (w : View) → Was sh images v grows w → (p : Message) → In p w.tail → InImages images (PreparePlace (p.header.op % sh.layout.slots)) (PrepareUnit p)
 was_prepare sh [] v grows w was p at = absurd was
-was_prepare sh (image ∷ images) v (holds, inl begins) w is p at = inl (holds.bears.needs (PreparePlace (p.header.op % sh.layout.slots)) (PrepareUnit p) (p, subst (λ (x : View). In p x.tail) is at, refl, refl))
-was_prepare sh (image ∷ images) v (holds, inr (history, (u, next, grows))) w (inl is) p at = inl (holds.bears.needs (PreparePlace (p.header.op % sh.layout.slots)) (PrepareUnit p) (p, subst (λ (x : View). In p x.tail) is at, refl, refl))
+was_prepare sh (image ∷ images) v (holds, inl begins) w is p at = inl (holds.bears.needs (PreparePlace (p.header.op % sh.layout.slots)) (PrepareUnit p) (p, rw is at at, refl, refl))
+was_prepare sh (image ∷ images) v (holds, inr (history, (u, next, grows))) w (inl is) p at = inl (holds.bears.needs (PreparePlace (p.header.op % sh.layout.slots)) (PrepareUnit p) (p, rw is at at, refl, refl))
 was_prepare sh (image ∷ images) v (holds, inr (history, (u, next, grows))) w (inr was) p at = inr (was_prepare sh images u grows w was p at)
 
 -- a prepare that was appended in this step
@@ -116,7 +116,7 @@ one_later sh image images u v history goes grows s t p q here there op boot befo
   | inl (inl old) ↦ before s t old there
   | inl (inr new) ↦
       let same : new.0 ≡ p = (let e = new.1 in cc) in
-      elim (next_in u v p goes.next (subst (λ (x : Message). In x v.tail) same new.2)) [
+      elim (next_in u v p goes.next (rw same at new.2)) [
         | inl old ↦ before (p.header.op % sh.layout.slots) t (tail_settled sh images u grows p old) there
         | inr is ↦ absurd (omega (arith, appended_clear images u v p goes is t q there (sym boot ∙ is.boot), is.above))
       ]
@@ -168,7 +168,7 @@ gap_stays sh image images u v history goes grows s p at holds gap = record { mis
       | inl (inl old) ↦ gap.lacks t q old op boot group
       | inl (inr new) ↦
           let same : new.0 ≡ q = (let e = new.1 in cc) in
-          elim (next_in u v q goes.next (subst (λ (x : Message). In x v.tail) same new.2)) [
+          elim (next_in u v q goes.next (rw same at new.2)) [
             | inl old ↦ gap.lacks (q.header.op % sh.layout.slots) q (tail_settled sh images u grows q old) op boot group
             | inr is ↦ omega (arith, appended_clear images u v q goes is s p at (sym boot ∙ is.boot), is.group)
           ]
@@ -194,10 +194,10 @@ settled_was sh (image ∷ images) v (holds, inr (history, (u, next, grows))) emp
   ]
   | inl (inr new) ↦
       let same : new.0 ≡ p = (let e = new.1 in cc) in
-      inl (v, inl refl, subst (λ (q : Message). In q v.tail) same new.2)
+      inl (v, inl refl, rw same at new.2)
   | inr survivor ↦
       let same : survivor.0 ≡ p = (let e = survivor.1 in cc) in
-      let left : IsLeftGroup images image v p = subst (λ (q : Message). IsLeftGroup images image v q) same survivor.2 in
+      let left : IsLeftGroup images image v p = rw same at survivor.2 in
       inr (gap_left images image v p left)
 ]
 

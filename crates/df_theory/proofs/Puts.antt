@@ -40,7 +40,7 @@ module _ (sh : Shape) (log : UnitLog) (v : View) (put : Units) (rest : RestsOn s
     needless = (calm place y is).0.needless;
     agrees = λ x shown. elim (shows x shown) [
       | inl old ↦ old.1
-      | inr new ↦ subst (λ (z : AnyUnit). Agrees sh v place z) (sym new) (calm place y is).1.agrees
+      | inr new ↦ rw (sym new) at (calm place y is).1.agrees
     ];
   })
 
@@ -106,7 +106,7 @@ module _ (sh : Shape) (log : UnitLog) (v u : View) (put : Units) (place : Place)
   before_at : (j : Units) → ((y : AnyUnit) → j place ≡ Some y → Agrees sh v place y) → (other : Place) → Tear sh log v put j other → (j other ≡ now log other) ⊎ IsOpen sh v j other
   before_at j old other (Kept none same) = inl same
   before_at j old other (Loose wet place_calm shows) = inr (record { needless = place_calm.needless; agrees = λ y shown. block_agrees sh v other y (quiet other wet) })
-  before_at j old other (Touched y is shows) = inr (subst (λ (p : Place). IsOpen sh v j p) (sym (one.only other y is).0) (record { needless = leads.needless; agrees = old }))
+  before_at j old other (Touched y is shows) = inr (rw ((one.only other y is).0) (record { needless = leads.needless; agrees = old }))
 
   one_before : (j : Units) → Torn sh log v put j → ((y : AnyUnit) → j place ≡ Some y → InImages (settled log) place y × Agrees sh v place y) → TornView sh log v put j v
   one_before j torn old = record {
@@ -115,7 +115,7 @@ module _ (sh : Shape) (log : UnitLog) (v u : View) (put : Units) (place : Place)
       | inl may ↦ may.1.history
       | inr new ↦
           let at = (one.only other y new).0 in
-          inl (subst (λ (p : Place). InImages (settled log) p y) (sym at) (old y (ap j (sym at) ∙ shown)).0)
+          inl (rw (sym at) at (old y (ap j (sym at) ∙ shown)).0)
     ];
   }
 
@@ -127,13 +127,13 @@ module _ (sh : Shape) (log : UnitLog) (v u : View) (put : Units) (place : Place)
     | inl old ↦ agrees_grew sh v u leads.grew other y (inl leads.head_is) old.1
     | inr new ↦
         let at = one.only other z is in
-        subst (λ (p : Place). Agrees sh u p y) (sym at.0) (subst (λ (w : AnyUnit). Agrees sh u place w) (sym (new ∙ at.1)) leads.agrees)
+        rw (sym at.0) at (rw (sym (new ∙ at.1)) at leads.agrees)
   ]
 
   after_old : (j : Units) (other : Place) (y : AnyUnit) → Needs sh v other y → Tear sh log v put j other → j other ≡ Some y
   after_old j other y need (Kept none same) = same ∙ rest.holds.bears.needs other y need
   after_old j other y need (Loose wet place_calm shows) = absurd (place_calm.needless y need)
-  after_old j other y need (Touched z is shows) = absurd (leads.needless y (subst (λ (p : Place). Needs sh v p y) (one.only other z is).0 need))
+  after_old j other y need (Touched z is shows) = absurd (leads.needless y (rw (one.only other z is).0 at need))
 
   after_needs : (j : Units) → Torn sh log v put j → j place ≡ Some x → (other : Place) (y : AnyUnit) → Needs sh u other y → j other ≡ Some y
   after_needs j torn shown other y need = elim (leads.needs other y need) [
@@ -145,14 +145,14 @@ module _ (sh : Shape) (log : UnitLog) (v u : View) (put : Units) (place : Place)
   one_after j torn shown = record {
     holds = record {
       bears = record { sound = leads.sound; agrees = λ other y is. after_agrees j other y is (torn other); needs = after_needs j torn shown };
-      chosen = subst (λ (c : Checkpoint). IsChosen j c.content) (sym leads.checkpoint) (chosen_same (now log) j v.checkpoint.content (λ n. one_copy j n (torn (CopyPlace n))) rest.holds.chosen);
+      chosen = rw (sym leads.checkpoint) at (chosen_same (now log) j v.checkpoint.content (λ n. one_copy j n (torn (CopyPlace n))) rest.holds.chosen);
       short = leads.short j (one_short j torn);
     };
     history = λ other y is there. elim is [
       | inl may ↦ inr (block_in_view u other y (quiet other may.0))
       | inr new ↦
           let at = one.only other y new in
-          inr (subst (λ (p : Place). InView u p y) (sym at.0) (subst (λ (w : AnyUnit). InView u place w) (sym at.1) leads.history))
+          inr (rw (sym at.0) at (rw (sym at.1) at leads.history))
     ];
   }
 
@@ -161,7 +161,7 @@ module _ (sh : Shape) (log : UnitLog) (v u : View) (put : Units) (place : Place)
   one_cases j (Kept none same) (Some y) is = absurd (let no_unit : Some x ≡ None = sym one.at ∙ none in cc)
   one_cases j (Loose wet place_calm shows) (Some y) is = absurd (leads.no_block (quiet place wet))
   one_cases j (Touched z at shows) (Some y) is = elim (shows y is) [
-    | inl old ↦ inl (λ w shown. let same : y ≡ w = (let both : Some y ≡ Some w = sym is ∙ shown in cc) in subst (λ (k : AnyUnit). InImages (settled log) place k × Agrees sh v place k) same old)
+    | inl old ↦ inl (λ w shown. let same : y ≡ w = (let both : Some y ≡ Some w = sym is ∙ shown in cc) in rw same at old)
     | inr new ↦ inr (is ∙ ap Some (new ∙ (one.only place z at).1))
   ]
 

@@ -72,7 +72,7 @@ module _ (image : Units) (table : ℕ → Header) where
 
     pub moment_table : (put : Units) (log : UnitLog) → PutsTable table put → IsMoment More log → IsMoment More (wrote put log)
     moment_table put log puts moment = moment_wrote put log
-        (λ place x is. let e = puts place x is in subst (λ (p : Place). IsAllowed image table More p x) (sym e.1) (inr e.2)) (λ place of. spares place of (put place) refl) moment
+        (λ place x is. let e = puts place x is in rw e.1 (inr e.2)) (λ place of. spares place of (put place) refl) moment
       where
         spares : (place : Place) → IsBody place → (o : Option AnyUnit) → put place ≡ o → put place ≡ None
         spares place of None none = none
@@ -80,7 +80,7 @@ module _ (image : Units) (table : ℕ → Header) where
 
     pub moment_copy : (put : Units) (log : UnitLog) (k : ℕ) (e : Content) → PutsOne put (CopyPlace k) (CopyUnit e) → More k e → IsMoment More log → IsMoment More (wrote put log)
     moment_copy put log k e one more moment = moment_wrote put log
-        (λ place x is. let at = one.only place x is in subst (λ (p : Place). IsAllowed image table More p x) (sym at.0) (inr (e, at.1, more)))
+        (λ place x is. let at = one.only place x is in rw at.0 (inr (e, at.1, more)))
         (λ place of. miss put (CopyPlace k) place (CopyUnit e) one (λ same. subst IsBody same of)) moment
 
     pub moment_left : (log : UnitLog) (j : Units) → IsMoment More log → IsLeftBy log j → NoChance log j → IsAfter image table j

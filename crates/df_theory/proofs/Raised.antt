@@ -1,5 +1,5 @@
 -- The images that an open or an upgrade leaves, their copies aside: each holds the view that was found at the start, and with the new superblock the view that has it.
-use Rattle.std.proofs.{Common.{◌≡◌, ◌⊎◌, inl, inr, ℕ, ◌+◌, ◌<◌, ◌≤◌, ◌%◌, List, Some, refl, sym, ◌∙◌, ap, subst, arith}, lemmas.Bool.{cases_eq}}
+use Rattle.std.proofs.{Common.{◌≡◌, ◌⊎◌, inl, inr, ℕ, ◌+◌, ◌<◌, ◌≤◌, ◌%◌, List, Some, refl, sym, ◌∙◌, ap, arith}, lemmas.Bool.{cases_eq}}
 use Rattle.df_theory.{specs.{Units.{AnyUnit, BlockPlace, Content, CopyPlace, CopyUnit, Header, HeaderPlace, HeaderUnit, Message, Place, PreparePlace, PrepareUnit, ReplyPlace, Units}, Shape.{Shape}, Copies.{Agree, IsChosen, rank_of}, View.{View, boot_of}, Shows.{Agrees, Needs}, Holds.{Holds}, Next.{booted}, MendLaws.{IsFromSlot}, Upgrades.{IsRaised, MayRaise, as_version, of_version}, Found.{IsFound}}, proofs.{Tails.{chain_ops}, Choices.{boot_higher, same_copy}, Grew.{Grew, agrees_grew}, Agreeing.{prepare_agrees, reply_agrees}, Images.{IsOpen, bears_open, short_clear, short_same}, BootSounds.{raise_sound}, Masked.{masked, masked_chosen, masked_holds, unmasked_found, unmasked_holds}}}
 
 -- neither a copy nor a header
@@ -44,9 +44,9 @@ module _ (sh : Shape) (ver : ℕ) (image : Units) (v : View) (table : ℕ → He
         refl,
         record {
           op = λ own. let ops = chain_ops sh.layout.clients (v.checkpoint.content.op + 1) v.checkpoint.content.op_checksum 0 v.checkpoint.parts.sessions v.tail of.0 start.bears.sound.chain of.1 in omega (arith, ops.1, ap (λ (x : Header). x.op) of.2);
-          ring = subst (λ (x : Header). x.op ≤ v.checkpoint.content.op + sh.layout.slots) same a.2.ring;
-          checkpoint = subst (λ (x : Header). x.checkpoint ≤ v.checkpoint.content.sequence) same a.2.checkpoint;
-          boot = subst (λ (x : Header). x.boot ≤ v.checkpoint.content.boot) same a.2.boot;
+          ring = rw same at a.2.ring;
+          checkpoint = rw same at a.2.checkpoint;
+          boot = rw same at a.2.boot;
           slot = λ above. of.3;
           in_tail = λ own above. (of.0, of.1, ap (λ (x : Header). x.op) of.2, ap (λ (x : Header). x.checksum) of.2);
         },
@@ -67,7 +67,7 @@ module _ (sh : Shape) (ver : ℕ) (image : Units) (v : View) (table : ℕ → He
         needless = λ x need. need;
         agrees = λ x is. elim (after.headers s x is) [
           | inl old ↦ start.bears.agrees (HeaderPlace s) x old
-          | inr new ↦ subst (λ (y : AnyUnit). Agrees sh v (HeaderPlace s) y) (sym new) (slot_agrees s (table s) (may.tells s).from)
+          | inr new ↦ rw (sym new) at (slot_agrees s (table s) (may.tells s).from)
         ];
       })
       each (PreparePlace s) = inl (after.body (PreparePlace s) tt)

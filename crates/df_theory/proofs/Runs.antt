@@ -1,5 +1,5 @@
 -- One step after another, one command after another.
-use Rattle.std.proofs.Common.{◌≡◌, inl, inr, List, [], ◌∷◌, ◌++◌, refl, sym, subst}
+use Rattle.std.proofs.Common.{◌≡◌, inl, inr, List, [], ◌∷◌, ◌++◌, refl, sym}
 use Rattle.df_theory.{specs.{Units.{Units}, Shape.{Shape}, View.{View}, Holds.{Holds}, UnitLog.{UnitLog}, Rests.{IsGoodLog, RestsOn}, Runs.{AtEach, Command, HoldsPart, IsPartWay, Step, after_step, after_steps, steps_of, view_after}, WriterLaws.{CommandsLaw}}, proofs.Steps.{rests_safe, rests_holds}}
 
 pub after_append : (ss ts : List Step) (log : UnitLog) → after_steps (ss ++ ts) log ≡ after_steps ts (after_steps ss log)
@@ -29,5 +29,5 @@ commands_law sh log v (c ∷ cs) rests lead =
             left = λ image left chance. elim (good.left image left chance) [ inl is ↦ inl is | inr is ↦ inr (part_none sh image c.view cs is) ];
           }) c.steps log lead.0.moments)
           (each_weaker (IsPartWay sh c.view cs) (IsPartWay sh v (c ∷ cs)) (λ l part. record { safe = part.safe; left = λ image left chance. inr (part.left image left chance) }) (steps_of cs) (after_steps c.steps log) rest.0),
-      subst (λ (l : UnitLog). RestsOn sh l (view_after c.view cs)) (sym (after_append c.steps (steps_of cs) log)) rest.1,
+      rw (sym (after_append c.steps (steps_of cs) log)) at rest.1,
     )

@@ -1,5 +1,5 @@
 -- A sound view with the content, the head and the replies of what is found is the view that is found, where its blocks, prepares and replies are those shown.
-use Rattle.std.{proofs.Common.{◌≡◌, ℕ, ◌+◌, ◌-◌, List, Option, Some, None, refl, sym, ◌∙◌, ap, subst, arith}, specs.List.{slice_get}}
+use Rattle.std.{proofs.Common.{◌≡◌, ℕ, ◌+◌, ◌-◌, List, Option, Some, None, refl, sym, ◌∙◌, ap, arith}, specs.List.{slice_get}}
 use Rattle.df_theory.{specs.{Units.{Block, Content, Message, ReplyPlace, ReplyUnit, Session, Units}, Sessions.{sessions_after}, Tails.{Chain, In}, Shape.{Shape}, Trailer.{InChain, Links}, View.{View, head, sessions}, Holds.{IsNamed, Sound}, Found.{IsFound}}, proofs.{Once.{same_links, same_chains}, OneView.{same_parts as parts_same}}}
 
 module _ (sh : Shape) (shown : Units) (w : View) (f : IsFound sh shown w) (z : View) (sound : Sound sh z) (same_content : z.checkpoint.content ≡ w.checkpoint.content) (top : head z ≡ head w) (r : z.replies ≡ w.replies)
@@ -8,7 +8,7 @@ module _ (sh : Shape) (shown : Units) (w : View) (f : IsFound sh shown w) (z : V
     (same_reply : (k : ℕ) (x q : Message) → z.stored k ≡ Some x → shown (ReplyPlace k) ≡ Some (ReplyUnit q) → IsNamed w.checkpoint.content k q → x.header.op ≡ q.header.op → x ≡ q) where
   same_chain : z.checkpoint.chain ≡ w.checkpoint.chain
   same_chain = same_links (sh.layout.block_size - 256) w.checkpoint.content z.checkpoint.chain w.checkpoint.chain w.checkpoint.content.trailer w.checkpoint.content.trailer_checksum
-      (subst (λ (c : Content). Links (sh.layout.block_size - 256) c z.checkpoint.chain c.trailer c.trailer_checksum) same_content sound.checkpoint.trailer.links) f.checkpoint.trailer.links same_block
+      (rw same_content at sound.checkpoint.trailer.links) f.checkpoint.trailer.links same_block
 
   same_parts : z.checkpoint.parts ≡ w.checkpoint.parts
   same_parts = parts_same sh z.checkpoint.content w.checkpoint.content z.checkpoint.chain w.checkpoint.chain z.checkpoint.parts w.checkpoint.parts same_content same_chain sound.checkpoint.trailer.says f.checkpoint.trailer.says
@@ -17,7 +17,7 @@ module _ (sh : Shape) (shown : Units) (w : View) (f : IsFound sh shown w) (z : V
   same_tail =
       let op : z.checkpoint.content.op ≡ w.checkpoint.content.op = ap (λ (c : Content). c.op) same_content in
       same_chains sh.layout.clients (z.checkpoint.content.op + 1) z.checkpoint.content.op_checksum w.checkpoint.content.op_checksum 0 0 z.checkpoint.parts.sessions w.checkpoint.parts.sessions z.tail w.tail sound.chain
-      (subst (λ (n : ℕ). Chain sh.layout.clients (n + 1) w.checkpoint.content.op_checksum 0 w.checkpoint.parts.sessions w.tail) (sym op) f.tail.chain) (omega arith) same_prepare
+      (rw (sym op) at f.tail.chain) (omega arith) same_prepare
 
   same_sessions : sessions z ≡ sessions w
   same_sessions = λ i. sessions_after (same_parts i).sessions (same_tail i)

@@ -84,7 +84,7 @@ only_two a c is = go (a == 2) refl is
 stands4 : Stands (now log4) view5
 stands4 a c is =
     let at = only_two a c is in
-    (block, subst (λ (k : ℕ). now log4 (BlockPlace k) ≡ Some (BlockUnit block)) (sym at.0) refl, sym at.1, omega arith)
+    (block, rw at.0 refl, sym at.1, omega arith)
 
 -- the referenced blocks stand all along
 keep : KeepStanding shape made first commands

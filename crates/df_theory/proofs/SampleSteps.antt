@@ -80,10 +80,10 @@ pub copies_are :
     (c : Content) (image : Units) → image (CopyPlace 0) ≡ Some (CopyUnit c) → image (CopyPlace 1) ≡ Some (CopyUnit c) → image (CopyPlace 2) ≡ Some (CopyUnit c) → image (CopyPlace 3) ≡ Some (CopyUnit c)
     → (n : ℕ) → n < 4 → image (CopyPlace n) ≡ Some (CopyUnit c)
 copies_are c image at0 at1 at2 at3 n below = elim (four n below) [
-  | inl at ↦ subst (λ (k : ℕ). image (CopyPlace k) ≡ Some (CopyUnit c)) (sym at) at0
-  | inr (inl at) ↦ subst (λ (k : ℕ). image (CopyPlace k) ≡ Some (CopyUnit c)) (sym at) at1
-  | inr (inr (inl at)) ↦ subst (λ (k : ℕ). image (CopyPlace k) ≡ Some (CopyUnit c)) (sym at) at2
-  | inr (inr (inr at)) ↦ subst (λ (k : ℕ). image (CopyPlace k) ≡ Some (CopyUnit c)) (sym at) at3
+  | inl at ↦ rw (sym at) at at0
+  | inr (inl at) ↦ rw (sym at) at at1
+  | inr (inr (inl at)) ↦ rw (sym at) at at2
+  | inr (inr (inr at)) ↦ rw (sym at) at at3
 ]
 
 -- nothing is loose after an update

@@ -9,7 +9,7 @@ chain_append clients op parent mark ss [] qs chain more =
     subst (λ (k : ℕ). Chain clients k parent mark ss qs) same more
 chain_append clients op parent mark ss (x ∷ ps) qs chain more =
     let same : op + suc (length ps) ≡ op + 1 + length ps = omega arith in
-    (chain.0, chain_append clients (op + 1) x.header.checksum x.header.mark (noted x.header ss) ps qs chain.1 (subst (λ (k : ℕ). Chain clients k (last_checksum x.header.checksum ps) (last_mark x.header.mark ps) (sessions_after (noted x.header ss) ps) qs) same more))
+    (chain.0, chain_append clients (op + 1) x.header.checksum x.header.mark (noted x.header ss) ps qs chain.1 (rw same at more))
 
 pub last_mark-append : (m : ℕ) (ps qs : List Message) → last_mark m (ps ++ qs) ≡ last_mark (last_mark m ps) qs
 last_mark-append m [] qs = refl
@@ -139,7 +139,7 @@ tracks_noted room low later high h ss tracks may op le mark = record { below = b
 
     pending : (o : ℕ) → later < o → o ≤ high + 1 → Has (noted h ss) o
     pending o above to = elim (cases_eq o (high + 1)) [
-      | inl here ↦ subst (λ (n : ℕ). Has (noted h ss) n) (op ∙ sym here) (noted_has h ss)
+      | inl here ↦ rw (← (op ∙ sym here)) (noted_has h ss)
       | inr lower ↦
           let has = tracks.pending o (omega arith) (omega arith) in
           elim (noted_keeps room h ss has.0 has.1 may has.2) [

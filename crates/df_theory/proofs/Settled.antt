@@ -1,5 +1,5 @@
 -- What was settled was of a view, and the views just after an append, a reply and a checkpoint.
-use Rattle.std.{proofs.{Common.{◌≡◌, ◌⊎◌, inl, inr, ℕ, ◌-◌, ◌<◌, List, [], ◌∷◌, ◌++◌, length, Some, None, refl, sym, ◌∙◌, ap, subst, arith, length-append, length-drop}, lemmas.Bool.{cases_eq}}, specs.List.{slice_get}}
+use Rattle.std.{proofs.{Common.{◌≡◌, ◌⊎◌, inl, inr, ℕ, ◌-◌, ◌<◌, List, [], ◌∷◌, ◌++◌, length, Some, None, refl, sym, ◌∙◌, ap, arith, length-append, length-drop}, lemmas.Bool.{cases_eq}}, specs.List.{slice_get}}
 use Rattle.df_theory.{specs.{Units.{AnyUnit, Content, CopyPlace, CopyUnit, Message, ReplyPlace, ReplyUnit, Units}, Sessions.{sessions_after}, Tails.{In}, Shape.{Shape}, View.{View, head}, Next.{Append, Boot, Finish, Next, Reply, Same}, Chance.{InImages}, First.{AreMade}, Grown.{Grows}, Past.{FromEmpty, Was}}, proofs.{Tails.{in_either, in_dropped}, Appends.{kept_some}, Replies.{stored_at, stored_else}, Past.{was_self}}}
 
 -- ---- what was settled in a copy or a reply slot was of a view
@@ -74,8 +74,8 @@ pub after_append : (sh : Shape) (images : List Units) (v : View) (grows : Grows 
     → (b : View) × Was sh images v grows b × (head b ≡ p.header.group_last) × (b.replies ≡ p.header.mark) × (b.checkpoint.content.sequence ≡ p.header.checkpoint) × (b.checkpoint.content.boot ≡ p.header.boot)
 after_append sh [] v grows empty w p was at = absurd was
 after_append sh (image ∷ []) v (holds, inl begins) empty w p is at = absurd empty
-after_append sh (image ∷ before ∷ images) v (holds, inl begins) empty w p is at = absurd (let none : In p [] = subst (λ (l : List Message). In p l) (ap (λ (x : View). x.tail) is ∙ begins.0.tail) at in none)
-after_append sh (image ∷ images) v (holds, inr (history, (u, next, grows))) empty w p (inl is) at = elim (append_here u v p next.next (subst (λ (x : View). In p x.tail) is at)) [
+after_append sh (image ∷ before ∷ images) v (holds, inl begins) empty w p is at = absurd (let none : In p [] = rw (ap (λ (x : View). x.tail) is ∙ begins.0.tail) at at in none)
+after_append sh (image ∷ images) v (holds, inr (history, (u, next, grows))) empty w p (inl is) at = elim (append_here u v p next.next (rw is at at)) [
   | inl old ↦ let b = after_append sh images u grows empty u p (was_self sh images u grows) old in (b.0, inr b.1, b.2, b.3, b.4, b.5)
   | inr new ↦ (v, inl refl, new.0, new.1, new.2, new.3)
 ]

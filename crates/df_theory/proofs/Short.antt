@@ -1,5 +1,5 @@
 -- What was ever settled above the head makes up no whole group.
-use Rattle.std.proofs.Common.{◌≡◌, ◌⊎◌, inl, inr, ℕ, ◌+◌, ◌%◌, ◌<◌, ◌≤◌, List, [], ◌∷◌, length, refl, sym, ◌∙◌, ap, subst, arith}
+use Rattle.std.proofs.Common.{◌≡◌, ◌⊎◌, inl, inr, ℕ, ◌+◌, ◌%◌, ◌<◌, ◌≤◌, List, [], ◌∷◌, length, refl, ◌∙◌, ap, arith}
 use Rattle.df_theory.{specs.{Units.{Content, Message, PreparePlace, PrepareUnit, Units}, Sessions.{sessions_after}, Tails.{In, last_checksum, last_mark}, Shape.{Shape}, View.{Checkpoint, View, boot_of, head}, Groups.{AreMore, ShowsOwn}, Holds.{Holds}, Chance.{InImages}, Grown.{AllInHistory, Grows, IsClear}}, proofs.{Tails.{chain_ops}, Steps.{grows_sound, old_agrees}, Grew.{Grew, next_grew}, Past.{no_made}}}
 
 -- the prepare was settled at its slot, and is of this boot
@@ -26,12 +26,12 @@ split_more image images v n c boot history [] above low all = inl (λ p none. ab
 split_more image images v n c boot history (q ∷ qs) above low all = elim (split_more image images v n c boot history qs (λ p at. above p (inr at)) low (λ p at. all p (inr at))) [
   | inr clear ↦ inr clear
   | inl rest ↦ elim (all q (inl refl)).settled [
-    | inr old ↦ inl (λ p at. elim at [ inl is ↦ subst (λ (w : Message). WasOwn n images c w) (sym is) (record { settled = old; own = (all q (inl refl)).own }) | inr there ↦ rest p there ])
+    | inr old ↦ inl (λ p at. elim at [ inl is ↦ rw is (record { settled = old; own = (all q (inl refl)).own }) | inr there ↦ rest p there ])
     | inl here ↦ elim (history (PreparePlace (q.header.op % n)) (PrepareUnit q) here) [
-      | inl (inl old) ↦ inl (λ p at. elim at [ inl is ↦ subst (λ (w : Message). WasOwn n images c w) (sym is) (record { settled = old; own = (all q (inl refl)).own }) | inr there ↦ rest p there ])
+      | inl (inl old) ↦ inl (λ p at. elim at [ inl is ↦ rw is (record { settled = old; own = (all q (inl refl)).own }) | inr there ↦ rest p there ])
       | inl (inr new) ↦
           let same : new.0 ≡ q = (let e = new.1 in cc) in
-          absurd (omega (arith, low q (subst (λ (w : Message). In w v.tail) same new.2), above q (inl refl)))
+          absurd (omega (arith, low q (rw same at new.2), above q (inl refl)))
       | inr survivor ↦ inr survivor.2.clear
     ]
   ]
@@ -54,7 +54,7 @@ pool_short sh (image ∷ []) v (holds, inl begins) ps more = now_more sh image [
 pool_short sh (image ∷ before ∷ images) v (holds, inl begins) ps more = now_more sh image (before ∷ images) v ps holds (λ s p old own above. no_made v.checkpoint.content (before ∷ images) begins.2 s (PrepareUnit p) old) more
 pool_short sh (image ∷ images) v (holds, inr (history, (u, goes, grows))) ps more = elim goes.clear [
   | inl same ↦ elim (split_more image images v sh.layout.slots v.checkpoint.content refl history ps (λ p at. more_above sh (WasOwn sh.layout.slots (image ∷ images) v.checkpoint.content) v ps p more at) tail_low more.behind.shown) [
-    | inl old ↦ pool_short sh images u grows ps (subst (λ (b : Checkpoint). AreMore sh (WasOwn sh.layout.slots images b.content) b u.tail ps) same.0 (subst (λ (l : List Message). AreMore sh (WasOwn sh.layout.slots images v.checkpoint.content) v.checkpoint l ps) same.1 (more_by sh _ (WasOwn sh.layout.slots images v.checkpoint.content) v.checkpoint v.tail ps (λ p at was. old p at) more)))
+    | inl old ↦ pool_short sh images u grows ps (rw same.0 at (rw same.1 at (more_by sh _ (WasOwn sh.layout.slots images v.checkpoint.content) v.checkpoint v.tail ps (λ p at was. old p at) more)))
     | inr clear ↦ now_more sh image images v ps holds (λ s p old own above. omega (arith, clear s p old own)) more
   ]
   | inr (inl raised) ↦ now_more sh image images v ps holds (λ s p old own above.

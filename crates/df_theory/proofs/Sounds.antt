@@ -48,7 +48,7 @@ module _ (sh : Shape) (v : View) (ps : List Message) (sound : Sound sh v) (may :
       elim (session_is k s at) [
         | inl there ↦
             let same : old.0 ≡ s = (let two : Some old.0 ≡ Some s = sym old.1 ∙ there in cc) in
-            (s, at, subst (λ (t : Session). t.op ≤ v.replies) same old.2, subst (λ (t : Session). Answers t r) same old.3)
+            (s, at, rw same at old.2, rw same at old.3)
         | inr new ↦ absurd (kept_op s (head v) (v.stored k) r is new)
       ]
 
@@ -72,7 +72,7 @@ module _ (sh : Shape) (v : View) (ps : List Message) (sound : Sound sh v) (may :
   grouped =
       let same : head v + 1 ≡ v.checkpoint.content.op + 1 + length v.tail = omega arith in
       let new : AreGroups 0 (head v) (head v + 1) ps = turn_groups (head v + 1) (head v + length ps) (head v) ps (λ p at. let stamped = may.is.stamped p at in (stamped.group, stamped.group_last)) (omega arith) (omega arith) in
-      groups_append 0 v.checkpoint.content.op (v.checkpoint.content.op + 1) v.tail ps (head v) sound.grouped (omega arith) (λ p at. omega (arith, sound.groups p at)) (omega arith) (subst (λ (k : ℕ). AreGroups 0 (head v) k ps) same new)
+      groups_append 0 v.checkpoint.content.op (v.checkpoint.content.op + 1) v.tail ps (head v) sound.grouped (omega arith) (λ p at. omega (arith, sound.groups p at)) (omega arith) (rw same at new)
 
   pin_ends : EndsAt v.checkpoint.content.pin (v.tail ++ ps)
   pin_ends p at low = elim (in_either p v.tail ps at) [
@@ -84,7 +84,7 @@ module _ (sh : Shape) (v : View) (ps : List Message) (sound : Sound sh v) (may :
   append_sound = record {
     chain = chain_append sh.layout.clients (v.checkpoint.content.op + 1) v.checkpoint.content.op_checksum 0 v.checkpoint.parts.sessions v.tail ps sound.chain (
         let same : head v + 1 ≡ v.checkpoint.content.op + 1 + length v.tail = omega arith in
-        subst (λ (k : ℕ). Chain sh.layout.clients k (last_checksum v.checkpoint.content.op_checksum v.tail) (last_mark 0 v.tail) (sessions v) ps) same
+        rw same at
         (turn_chain sh.layout.clients (head v + 1) (last_checksum v.checkpoint.content.op_checksum v.tail) (last_mark 0 v.tail) v.replies (head v + length ps) (sessions v) ps may.is.turn
         (λ p at. let stamped = may.is.stamped p at in (stamped.mark, stamped.group_last)) sound.replies_from.1 (omega (arith, sound.pipeline.0)) (omega (arith, may.pipeline)) (omega arith) may.asks)
         );
@@ -112,7 +112,7 @@ module _ (sh : Shape) (v : View) (place : ℕ) (r : Message) (sound : Sound sh v
   reply_answered k q at = elim (cases_eq k place) [
     | inl here ↦
         let one : r ≡ q = (let two : Some r ≡ Some q = sym (stored_at k place r (v.stored k) here) ∙ at in cc) in
-        (is.session.0, ap (λ (i : ℕ). slice_get (sessions v) i) here ∙ is.session.1, omega (arith, is.op, is.session.2.op), subst (λ (w : Message). Answers is.session.0 w) one is.session.2)
+        (is.session.0, ap (λ (i : ℕ). slice_get (sessions v) i) here ∙ is.session.1, omega (arith, is.op, is.session.2.op), rw one at is.session.2)
     | inr away ↦
         let old = sound.answered k q (sym (stored_else k place r (v.stored k) away) ∙ at) in
         (old.0, old.1, omega (arith, old.2), old.3)
@@ -150,7 +150,7 @@ module _ (sh : Shape) (v : View) (place : ℕ) (r : Message) (sound : Sound sh v
       stored = λ k q at. elim (cases_eq k place) [
         | inl here ↦
             let one : r ≡ q = (let two : Some r ≡ Some q = sym (stored_at k place r (v.stored k) here) ∙ at in cc) in
-            subst (λ (w : Message). IsNamed v.checkpoint.content k w) one (record { old = λ low. absurd (omega (arith, is.op, sound.checkpoint.tests.answered, sound.replies_from.0)); new = λ above. is.boot })
+            rw (← one) (record { old = λ low. absurd (omega (arith, is.op, sound.checkpoint.tests.answered, sound.replies_from.0)); new = λ above. is.boot })
         | inr away ↦ sound.records.stored k q (sym (stored_else k place r (v.stored k) away) ∙ at)
       ];
     };
@@ -171,8 +171,8 @@ module _ (sh : Shape) (v : View) (c : Checkpoint) (sound : Sound sh v) (may : Ma
       let op : v.checkpoint.content.op + 1 + n ≡ c.content.op + 1 = omega (arith, is.op_from) in
       let chain = chain_drop n sh.layout.clients (v.checkpoint.content.op + 1) v.checkpoint.content.op_checksum 0 v.checkpoint.parts.sessions v.tail (omega (arith, is.op_to, is.op_from)) sound.chain in
       subst (λ (k : ℕ). Chain sh.layout.clients k c.content.op_checksum 0 c.parts.sessions (drop n v.tail)) op
-      (subst (λ (k : ℕ). Chain sh.layout.clients (v.checkpoint.content.op + 1 + n) k 0 c.parts.sessions (drop n v.tail)) (sym is.op_checksum)
-      (subst (λ (l : List Session). Chain sh.layout.clients (v.checkpoint.content.op + 1 + n) (last_checksum v.checkpoint.content.op_checksum (take n v.tail)) 0 l (drop n v.tail)) (sym is.sessions) chain))
+      (rw (sym is.op_checksum) at
+      (rw (sym is.sessions) at chain))
 
   tracks_here : Tracks c.content.replies c.content.op c.parts.sessions
   tracks_here =
@@ -181,8 +181,8 @@ module _ (sh : Shape) (v : View) (c : Checkpoint) (sound : Sound sh v) (may : Ma
       let op : v.checkpoint.content.op + length (take n v.tail) ≡ c.content.op = omega (arith, length-take n v.tail, is.op_from, is.op_to) in
       let here = tracks_chain sh.layout.clients v.checkpoint.content.op v.checkpoint.content.op_checksum 0 v.checkpoint.content.replies v.replies v.checkpoint.parts.sessions (take n v.tail) sound.checkpoint.tracks (chain_take n sh.layout.clients (v.checkpoint.content.op + 1) v.checkpoint.content.op_checksum 0 v.checkpoint.parts.sessions v.tail chain) sound.replies_from.0 (omega (arith, sound.replies_from.1)) in
       subst (λ (l : List Session). Tracks c.content.replies c.content.op l) (sym is.sessions)
-      (subst (λ (m : ℕ). Tracks m c.content.op (sessions_after v.checkpoint.parts.sessions (take n v.tail))) (sym is.replies)
-      (subst (λ (m : ℕ). Tracks v.replies m (sessions_after v.checkpoint.parts.sessions (take n v.tail))) op here))
+      (rw (sym is.replies) at
+      (rw op at here))
 
   head_same : head (checkpointed v c) ≡ head v
   head_same = omega (arith, length-drop n v.tail, is.op_from, is.op_to)

@@ -1,5 +1,5 @@
 -- Referenced blocks stand through a command that reaches none of them.
-use Rattle.std.proofs.Common.{◌≡◌, ◌<◌, inl, inr, ℕ, List, [], ◌∷◌, false, Option, Some, None, refl, subst}
+use Rattle.std.proofs.Common.{◌≡◌, ◌<◌, inl, inr, ℕ, List, [], ◌∷◌, false, Option, Some, None, refl}
 use Rattle.df_theory.{specs.{Units.{AnyUnit, Block, BlockPlace, BlockUnit, HeaderPlace, Place, Units}, Shape.{Shape}, View.{Checkpoint, View}, Holds.{Stands}, UnitLog.{PutsOne, UnitLog, loose, now}, Chance.{EachLeft}, Rests.{IsGoodLog}, Runs.{AtEach, Command, Leads, Puts, Step, Syncs, after_step, after_steps}, WholeLaws.{AllSpare, IsStanding, Spares}, TidyLaws.{IsGoodWhole, KeepsStanding}}, proofs.Keeps.{stands_law}}
 
 pub miss : (put : Units) (place other : Place) (x : AnyUnit) → PutsOne put place x → (other ≡ place → ⊥) → put other ≡ None
@@ -52,13 +52,13 @@ standing_after log v ss standing spare = last ss log (stands_law log v ss standi
 -- a view with the same checkpoint references the same
 same_standing : (log : UnitLog) (v u : View) → v.checkpoint ≡ u.checkpoint → IsStanding log v → IsStanding log u
 same_standing log v u same standing = record {
-  shown = subst (λ (c : Checkpoint). (a d : ℕ) → c.parts.references a ≡ Some d → (b : Block) × (now log (BlockPlace a) ≡ Some (BlockUnit b)) × (b.checksum ≡ d) × (0 < b.kind)) same standing.shown;
-  firm = subst (λ (c : Checkpoint). (a d : ℕ) → c.parts.references a ≡ Some d → loose log (BlockPlace a) ≡ false) same standing.firm;
+  shown = rw same at standing.shown;
+  firm = rw same at standing.firm;
 }
 
 same_spare : (v u : View) (ss : List Step) → v.checkpoint ≡ u.checkpoint → AllSpare v ss → AllSpare u ss
 same_spare v u [] same spare = tt
-same_spare v u ((Puts put) ∷ ss) same spare = (subst (λ (c : Checkpoint). (a d : ℕ) → c.parts.references a ≡ Some d → put (BlockPlace a) ≡ None) same spare.0, same_spare v u ss same spare.1)
+same_spare v u ((Puts put) ∷ ss) same spare = (rw same at spare.0, same_spare v u ss same spare.1)
 same_spare v u (Syncs ∷ ss) same spare = same_spare v u ss same spare
 
 -- a command that keeps the checkpoint, and spares what it references

@@ -1,5 +1,5 @@
 -- Events, one after another, on logs that are quiet but for free blocks.
-use Rattle.std.proofs.{Common.{◌≡◌, ◌⊎◌, inl, inr, arith, Bool, true, false, ◌||◌, List, [], ◌∷◌, length, Option, Some, None, refl, sym, ◌∙◌, ap, subst}, lemmas.Bool.{cases_Bool}}
+use Rattle.std.proofs.{Common.{◌≡◌, ◌⊎◌, inl, inr, arith, Bool, true, false, ◌||◌, List, [], ◌∷◌, length, Option, Some, None, refl, sym, ◌∙◌, ap}, lemmas.Bool.{cases_Bool}}
 use Rattle.df_theory.{specs.{Units.{AnyUnit, BlockPlace, CopyPlace, HeaderPlace, Place, PreparePlace, PrepareUnit, ReplyPlace, Units, is_some, or_else, overlay}, Shape.{Shape}, View.{Checkpoint, View}, Shows.{Agrees}, Holds.{Holds, Sound}, Next.{Same}, UnitLog.{IsLeftBy, Synced, UnitLog, add, loose, now, settled, wrote}, Chance.{AreFair, EachLeft, InImages, InPool}, First.{AreMade, IsMade}, Grown.{Begins, GoesOn, Grows, HasGrown, IsSafe}, Rests.{IsCalm, IsCalmPut, RestsOn, Stepped}}, proofs.{Grew.{Stays, agrees_grew, next_grew}, Images.{bears_open, chosen_same, short_same}, Torn.{IsPooled, Outcome, Tear, Kept, Loose, Touched, Torn, TornView}}}
 
 pub grows_holds : (sh : Shape) (image : Units) (images : List Units) (v : View) → Grows sh (image ∷ images) v → Holds sh image v
@@ -47,7 +47,7 @@ pub stays_on : (sh : Shape) (images : List Units) (u v : View) → Grows sh imag
 stays_on sh images u v grows goes place x at = elim goes.clear [
   | inl same ↦ inl (omega (arith, ap (λ (b : Checkpoint). b.content.op) same.0, ap length same.1))
   | inr (inl more) ↦ inr (inl more)
-  | inr (inr clear) ↦ inr (inr (λ s p is unit own. clear s p (subst (λ (l : Place). InImages images l (PrepareUnit p)) is (subst (λ (y : AnyUnit). InImages images place y) unit at)) own))
+  | inr (inr clear) ↦ inr (inr (λ s p is unit own. clear s p (rw is at (rw unit at at)) own))
 ]
 
 -- every settled unit agrees with the newest view

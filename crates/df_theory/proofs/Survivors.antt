@@ -1,5 +1,5 @@
 -- A file with boots, stopped within a group of two: the second one survives, the boot is raised, and its op is written anew.
-use Rattle.std.proofs.{Common.{◌≡◌, inl, inr, ℕ, ◌+◌, ◌%◌, ◌<◌, ◌==◌, true, false, if◌then◌else◌, List, [], ◌∷◌, Some, None, refl, sym, ap, subst, arith}, lemmas.Bool.{cases_eq}, lemmas.Bool.Decides.{nat_tests}}
+use Rattle.std.proofs.{Common.{◌≡◌, inl, inr, ℕ, ◌+◌, ◌%◌, ◌<◌, ◌==◌, true, false, if◌then◌else◌, List, [], ◌∷◌, Some, None, refl, sym, ap, arith}, lemmas.Bool.{cases_eq}, lemmas.Bool.Decides.{nat_tests}}
 use Rattle.df_theory.{specs.{Units.{AnyUnit, BlockUnit, Content, CopyUnit, Header, HeaderPlace, HeaderUnit, Message, PreparePlace, PrepareUnit, ReplyUnit, Units}, Shape.{Shape}, Trailer.{no_parts}, View.{View}, Holds.{Holds, IsWhole}, Next.{MayAppend, MayBoot, appended}, First.{IsFirst}, UnitLog.{IsLeftBy, Stopped, Synced, UnitLog, add, loose, now, put_one, wrote}, Chance.{NoChance}, Rests.{IsGoodLog, RestsOn}, Runs.{Command, after_steps}, MendLaws.{AllPutTable, Reaches}, WriterLaws.{AreSame}, TidyLaws.{IsTidy, LeadsTidily}, GroupLaws.{IsGroupTable, boot_command, flush_command}, Sample.{SurvivorSampleLaw}}, proofs.{PutOne.{put_one_law}, AllOf.{All}, FlushLaws.{flush_law}, SampleFiles.{bare, copies_of, first_of, is_first_bare, made_of, reserved, shape_of, tidy_of}, SampleSteps.{grouped, may_append_pair, may_raise, pair, prepare_put}, SampleUnits.{AreTold, copies_all, distinct_of, left_without, made_all, no_chance, put_all, wrote_pooled}, Samples.{block}, Without.{without, without_shows}, TidyGroups.{tidy_boot_law, tidy_flush_law}, Writes.{stop_law}}}
 
 abbrev shape : Shape
@@ -160,13 +160,13 @@ is_table = record {
     | inr (inr none) ↦ absurd none
   ];
   own = λ p at. elim at [
-    | inl is ↦ subst (λ (q : Message). table (q.header.op % 16) ≡ q.header) (sym is) refl
-    | inr (inl is) ↦ subst (λ (q : Message). table (q.header.op % 16) ≡ q.header) (sym is) refl
+    | inl is ↦ rw is refl
+    | inr (inl is) ↦ rw is refl
     | inr (inr none) ↦ absurd none
   ];
   reached = λ p at. elim at [
-    | inl is ↦ subst (λ (q : Message). Reaches headers (HeaderPlace (q.header.op % 16))) (sym is) (inl (HeaderUnit third.header, refl))
-    | inr (inl is) ↦ subst (λ (q : Message). Reaches headers (HeaderPlace (q.header.op % 16))) (sym is) (inr (inl (HeaderUnit fourth.header, refl)))
+    | inl is ↦ rw is (inl (HeaderUnit third.header, refl))
+    | inr (inl is) ↦ rw is (inr (inl (HeaderUnit fourth.header, refl)))
     | inr (inr none) ↦ absurd none
   ];
 }

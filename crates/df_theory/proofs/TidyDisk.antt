@@ -1,5 +1,5 @@
 -- A command from one tidy file to the next, on a disk.
-use Rattle.std.proofs.Common.{sym, subst}
+use Rattle.std.proofs.Common.{sym}
 use Rattle.df_theory.{specs.{Shape.{Shape}, View.{View}, UnitLog.{UnitLog}, Device.{Format, IsFormat, IsGoodWholeDisk, units_log}, TidyLaws.{IsGoodWhole, IsTidy}, WholeLaws.{IsStanding}, DeviceLaws.{StandingMomentsLaw, TidyMomentsLaw}}, proofs.Bridge.{safe_disk_law, firm_units, moments, moments_law, same_log}}
 use Rattle.df_base.specs.Log
 
@@ -12,11 +12,11 @@ on_disk f sh v u is log whole good = record {
 pub tidy_moments_law : TidyMomentsLaw
 tidy_moments_law f sh v c log es is whole are leads = (
   (moments_law f sh v c.view log es c.steps is whole are).1 leads.leads.moments,
-  subst (λ (l : UnitLog). IsTidy sh l c.view) (sym (same_log f es c.steps log whole are)) leads.tidy,
+  rw (sym (same_log f es c.steps log whole are)) at leads.tidy,
 )
 
 pub standing_moments_law : StandingMomentsLaw
 standing_moments_law f sh v c log es is whole are keeps = (
   moments f (IsGoodWhole sh v c.view) (IsGoodWholeDisk f sh v c.view) (on_disk f sh v c.view is) es c.steps log whole are keeps.moments,
-  subst (λ (l : UnitLog). IsStanding l c.view) (sym (same_log f es c.steps log whole are)) keeps.standing,
+  rw (sym (same_log f es c.steps log whole are)) at keeps.standing,
 )

@@ -46,7 +46,7 @@ flush_ring_law sh log ps qs prepares table headers all all_table is s below =
     ap (λ (l : UnitLog). now l (HeaderPlace s)) (flush_ends prepares headers log)
     ∙ headers_shown table headers log1 all_table s (elim (is.from s below) [
       | inl old ↦ inl (still ∙ old)
-      | inr new ↦ inr (subst (λ (k : ℕ). Reaches headers (HeaderPlace k)) (sym new.2) (is.reached new.0 new.1))
+      | inr new ↦ inr (rw (sym new.2) at (is.reached new.0 new.1))
     ])
 
 pub tidy_flush_law : TidyFlushLaw
@@ -141,5 +141,5 @@ tidy_boot_law sh log v d puts mended may = (
           copies = after.copies;
           headers = λ s below.
               let h = after.headers s below in
-              (h.0, h.1, λ p at slot. h.2 p (subst (λ (n : ℕ). In p (drop n v.tail)) (sym none) at) slot);
+              (h.0, h.1, λ p at slot. h.2 p (rw none at) slot);
         }

@@ -37,10 +37,10 @@ module _ (sh : Shape) (v : View) (under : Units) (puts : PutsCopies v.checkpoint
       let i1 : Units = overlay puts.put1 i0 in
       let i2 : Units = overlay puts.put2 i1 in
       elim (four n below) [
-        | inl is ↦ subst (λ (k : ℕ). over (CopyPlace k) ≡ Some (CopyUnit c)) (sym is) (copy_over puts.put3 i2 3 0 c puts.one3 (λ e. omega arith) ∙ copy_over puts.put2 i1 2 0 c puts.one2 (λ e. omega arith) ∙ copy_over puts.put1 i0 1 0 c puts.one1 (λ e. omega arith) ∙ copy_here puts.put0 under 0 c puts.one0)
-        | inr (inl is) ↦ subst (λ (k : ℕ). over (CopyPlace k) ≡ Some (CopyUnit c)) (sym is) (copy_over puts.put3 i2 3 1 c puts.one3 (λ e. omega arith) ∙ copy_over puts.put2 i1 2 1 c puts.one2 (λ e. omega arith) ∙ copy_here puts.put1 i0 1 c puts.one1)
-        | inr (inr (inl is)) ↦ subst (λ (k : ℕ). over (CopyPlace k) ≡ Some (CopyUnit c)) (sym is) (copy_over puts.put3 i2 3 2 c puts.one3 (λ e. omega arith) ∙ copy_here puts.put2 i1 2 c puts.one2)
-        | inr (inr (inr is)) ↦ subst (λ (k : ℕ). over (CopyPlace k) ≡ Some (CopyUnit c)) (sym is) (copy_here puts.put3 i2 3 c puts.one3)
+        | inl is ↦ rw (sym is) at (copy_over puts.put3 i2 3 0 c puts.one3 (λ e. omega arith) ∙ copy_over puts.put2 i1 2 0 c puts.one2 (λ e. omega arith) ∙ copy_over puts.put1 i0 1 0 c puts.one1 (λ e. omega arith) ∙ copy_here puts.put0 under 0 c puts.one0)
+        | inr (inl is) ↦ rw (sym is) at (copy_over puts.put3 i2 3 1 c puts.one3 (λ e. omega arith) ∙ copy_over puts.put2 i1 2 1 c puts.one2 (λ e. omega arith) ∙ copy_here puts.put1 i0 1 c puts.one1)
+        | inr (inr (inl is)) ↦ rw (sym is) at (copy_over puts.put3 i2 3 2 c puts.one3 (λ e. omega arith) ∙ copy_here puts.put2 i1 2 c puts.one2)
+        | inr (inr (inr is)) ↦ rw (sym is) at (copy_here puts.put3 i2 3 c puts.one3)
       ]
 
   no_header : (put image : Units) (k s : ℕ) → PutsOne put (CopyPlace k) (CopyUnit c) → overlay put image (HeaderPlace s) ≡ image (HeaderPlace s)
@@ -56,7 +56,7 @@ module _ (sh : Shape) (v : View) (under : Units) (puts : PutsCopies v.checkpoint
         let i2 : Units = overlay puts.put2 i1 in (
           shown.0,
           no_header puts.put3 i2 3 s puts.one3 ∙ no_header puts.put2 i1 2 s puts.one2 ∙ no_header puts.put1 i0 1 s puts.one1 ∙ no_header puts.put0 under 0 s puts.one0 ∙ shown.1,
-          λ p at mine. absurd (subst (λ (l : List Message). In p l) first.tail at),
+          λ p at mine. absurd (rw first.tail at at),
         );
   }
 
@@ -70,7 +70,7 @@ tidy_format_law sh log v headers puts making first reserved reached =
         rests = made.1;
         quiet = subst IsQuiet (sym same) (λ place wet. absurd (let no_unit : false ≡ true = wet in cc));
         clear = clear_one sh (after_steps (format_steps headers puts) log) v made.1 first.content.pin.0;
-        whole = subst (λ (l : UnitLog). IsWhole sh (now l) v) (sym same) (over_whole sh v (now under) puts first (λ s below. all_reached headers log s reserved (inr (reached s below))));
+        whole = rw same (over_whole sh v (now under) puts first (λ s below. all_reached headers log s reserved (inr (reached s below))));
       },
       record { shown = λ a c is. absurd (unreferenced a c is); firm = λ a c is. absurd (unreferenced a c is) },
     )

@@ -28,5 +28,5 @@ standing_run_law sh log v [] tidy lead standing keep = (
 standing_run_law sh log v (c ∷ cs) tidy lead standing keep =
     let rest = standing_run_law sh (after_steps c.steps log) c.view cs lead.0.tidy lead.1 keep.0.standing keep.1 in (
       (each_weaker (IsGoodWhole sh v c.view) (λ l. EachLeft l (λ image. SurvivesWhole sh l image v ⊎ SurvivesWhole sh l image c.view)) (survives_whole sh v c.view) c.steps log keep.0.moments, rest.0),
-      subst (λ (l : UnitLog). IsStanding l (view_after c.view cs)) (sym (after_append c.steps (steps_of cs) log)) rest.1,
+      rw (sym (after_append c.steps (steps_of cs) log)) at rest.1,
     )

@@ -29,7 +29,7 @@ module _ (sh : Shape) (log : UnitLog) (w : View) (put : Units) (k : ℕ) (old ne
   copy_open j here place (Kept none same) = inl same
   copy_open j here place (Loose wet place_calm shows) = inr (record { needless = place_calm.needless; agrees = λ x shown. block_agrees sh w place x (quiet place wet) })
   copy_open j here place (Touched y is shows) =
-      inr (subst (λ (p : Place). IsOpen sh w j p) (sym (one.only place y is).0) (record { needless = λ x need. need; agrees = here }))
+      inr (rw ((one.only place y is).0) (record { needless = λ x need. need; agrees = here }))
 
   pub copy_rests : (j : Units) → Torn sh log w put j → ((x : AnyUnit) → j (CopyPlace k) ≡ Some x → Agrees sh w (CopyPlace k) x) → Bears sh j w
   copy_rests j torn here = bears_open sh w (now log) j bears (λ place. copy_open j here place (torn place))
@@ -46,7 +46,7 @@ module _ (sh : Shape) (log : UnitLog) (w : View) (put : Units) (k : ℕ) (old ne
   pub copy_there : (j : Units) → Torn sh log w put j → (o : Option AnyUnit) → j (CopyPlace k) ≡ o → ((x : AnyUnit) → j (CopyPlace k) ≡ Some x → InImages (settled log) (CopyPlace k) x × Agrees sh w (CopyPlace k) x) ⊎ (j (CopyPlace k) ≡ Some (CopyUnit new))
   copy_there j torn None is = inl (λ x shown. absurd (let no_unit : None ≡ Some x = sym is ∙ shown in cc))
   copy_there j torn (Some y) is = elim (copy_at j (torn (CopyPlace k)) y is) [
-    | inl before ↦ inl (λ x shown. let same : y ≡ x = (let both : Some y ≡ Some x = sym is ∙ shown in cc) in subst (λ (z : AnyUnit). InImages (settled log) (CopyPlace k) z × Agrees sh w (CopyPlace k) z) same before)
+    | inl before ↦ inl (λ x shown. let same : y ≡ x = (let both : Some y ≡ Some x = sym is ∙ shown in cc) in rw same at before)
     | inr after ↦ inr (is ∙ ap Some after)
   ]
 
@@ -62,7 +62,7 @@ module _ (sh : Shape) (log : UnitLog) (w : View) (put : Units) (k : ℕ) (old ne
   copy_history j v history place y (inr puts) shown =
       let at = one.only place y puts in
       let there : j (CopyPlace k) ≡ Some (CopyUnit new) = ap j (sym at.0) ∙ shown ∙ ap Some at.1 in
-      inr (subst (λ (p : Place). InView v p y) (sym at.0) (subst (λ (x : AnyUnit). InView v (CopyPlace k) x) (sym at.1) (history there)))
+      inr (rw at.0 (rw at.1 (history there)))
 
 -- a view with the next content, whose tail and replies are those of this one
 pub record IsRaise (sh : Shape) (v u : View) : Type 0 where

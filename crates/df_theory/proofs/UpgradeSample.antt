@@ -53,20 +53,20 @@ places4 : AreOfPlaces shape (now log4)
 places4 (CopyPlace n) x is =
     let a = holds4.bears.agrees (CopyPlace n) x is in
     let o : a.0 ≡ (if a.0.checksum == 22 then content2 else content1) = subst IsOurs a.1 (ours (CopyPlace n) x is) in
-    (a.0, a.1, subst (λ (c : Content). c.checksum < 2 ^ 128) (sym o) (copy_low (a.0.checksum == 22)))
+    (a.0, a.1, rw (sym o) at (copy_low (a.0.checksum == 22)))
 places4 (HeaderPlace s) x is =
     let a = holds4.bears.agrees (HeaderPlace s) x is in
     let o : a.0 ≡ header_with a.0.checksum = subst IsOurs a.1 (ours (HeaderPlace s) x is) in
-    let r : (a.0.checksum < 2 ^ 128) × (0 < a.0.op → IsInRange a.0) = subst (λ (h : Header). (h.checksum < 2 ^ 128) × (0 < h.op → IsInRange h)) (sym o) (header_ranged (a.0.checksum == 5) (a.0.checksum == 7)) in
+    let r : (a.0.checksum < 2 ^ 128) × (0 < a.0.op → IsInRange a.0) = rw (sym o) at (header_ranged (a.0.checksum == 5) (a.0.checksum == 7)) in
     (a.0, a.1, r.0, λ some. (a.2.slot some, r.1 some))
 places4 (PreparePlace s) x is =
     let a = holds4.bears.agrees (PreparePlace s) x is in
     let o = subst IsOurs a.1 (ours (PreparePlace s) x is) in
-    (a.0, a.1, a.2.slot, subst (λ (p : Message). IsInRange p.header) (sym o.0) (prepare_ranged (a.0.header.checksum == 7)))
+    (a.0, a.1, a.2.slot, rw (sym o.0) at (prepare_ranged (a.0.header.checksum == 7)))
 places4 (ReplyPlace k) x is =
     let a = holds4.bears.agrees (ReplyPlace k) x is in
     let o : a.0 ≡ reply1 = subst IsOurs a.1 (ours (ReplyPlace k) x is) in
-    (a.0, a.1, subst (λ (r : Message). IsInRange r.header) (sym o) of_reply1, a.2.alone)
+    (a.0, a.1, rw o of_reply1, a.2.alone)
 places4 (BlockPlace a) x is = block_of a x (1 == a) (2 == a) is
 
 places : AreOfPlaces shape image
@@ -87,10 +87,10 @@ same_masked = same_images (masked content1 (now log4)) (masked content1 image) (
 
 other_copy : (n : ℕ) → n < 4 → (n ≡ 2 → ⊥) → image (CopyPlace n) ≡ Some (CopyUnit content1)
 other_copy n below away = elim (four n below) [
-  | inl at ↦ subst (λ (k : ℕ). image (CopyPlace k) ≡ Some (CopyUnit content1)) (sym at) refl
-  | inr (inl at) ↦ subst (λ (k : ℕ). image (CopyPlace k) ≡ Some (CopyUnit content1)) (sym at) refl
+  | inl at ↦ rw at refl
+  | inr (inl at) ↦ rw at refl
   | inr (inr (inl at)) ↦ absurd (away at)
-  | inr (inr (inr at)) ↦ subst (λ (k : ℕ). image (CopyPlace k) ≡ Some (CopyUnit content1)) (sym at) refl
+  | inr (inr (inr at)) ↦ rw at refl
 ]
 
 chosen : IsChosen image content1
@@ -100,7 +100,7 @@ chosen = chosen_above image content1 (agree_at image content1 0 1 (omega arith) 
 ]))
 
 found : IsFound shape image view2
-found = unmasked_found shape image view2 (subst (λ (i : Units). Holds shape i view2) same_masked (masked_holds shape (now log4) view2 places4 (holds_found shape (now log4) view2 holds4))) chosen
+found = unmasked_found shape image view2 (rw same_masked at (masked_holds shape (now log4) view2 places4 (holds_found shape (now log4) view2 holds4))) chosen
 
 -- ---- it may be raised
 
@@ -207,7 +207,7 @@ distinct_known : (x y : AnyUnit) → IsKnown x → IsKnown y → Distinct x y
 distinct_known x y (inl one) (inl two) = distinct x y one two
 distinct_known x y (inl one) (inr two) = subst (λ (z : AnyUnit). Distinct x z) (sym two) (distinct_third x one)
 distinct_known x y (inr one) (inl two) = subst (λ (z : AnyUnit). Distinct z y) (sym one) (third_distinct y two)
-distinct_known x y (inr one) (inr two) = subst (λ (z : AnyUnit). Distinct z y) (sym one) (subst (λ (z : AnyUnit). Distinct (CopyUnit content3) z) (sym two) (λ same. refl))
+distinct_known x y (inr one) (inr two) = subst (λ (z : AnyUnit). Distinct z y) (sym one) (rw two (λ same. refl))
 
 image_known : (place : Place) (x : AnyUnit) → image place ≡ Some x → IsKnown x
 image_known place x is = go (same_place (CopyPlace 2) place) is

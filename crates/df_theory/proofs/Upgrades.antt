@@ -123,7 +123,7 @@ module _ (sh : Shape) (ver : ℕ) (image : Units) (v : View) (table : ℕ → He
   each_moment Moment one two puts =
       each_append Moment (mend_steps headers copies) (update_steps puts) (restarted_at image)
       (each_append Moment (header_steps headers) (copy_steps copies) (restarted_at image) (each_weaker Restoring Moment one (header_steps headers) (restarted_at image) restoring_first.0) (each_weaker Restoring Moment one (copy_steps copies) mid restoring_second.0))
-      (subst (λ (l : UnitLog). AtEach Moment l (update_steps puts)) (sym (after_append (header_steps headers) (copy_steps copies) (restarted_at image))) (each_raising image table c d Moment two puts restored raising_begins).0)
+      (rw (sym (after_append (header_steps headers) (copy_steps copies) (restarted_at image))) at (each_raising image table c d Moment two puts restored raising_begins).0)
 
   pub raise_left : (puts : PutsCopies d) → AtEach (λ log. EachLeft log (λ j. HasBare sh ver j v d)) (restarted_at image) (raise_steps headers copies puts)
   raise_left puts = each_moment (λ log. EachLeft log (λ j. HasBare sh ver j v d)) restoring_left raising_left puts
@@ -239,7 +239,7 @@ open_law sh image v table headers copies d puts may =
     let same : v.checkpoint.content.version ≡ sh.version = may.found.checkpoint.tests.version in (
       subst (λ (n : ℕ). AtEach (λ log. EachLeft log (λ left. IsFound sh left v ⊎ IsFound (of_version n sh) left (booted v d))) (restarted_at image) (raise_steps headers copies puts)) same kept.0,
       kept.1,
-      subst (λ (n : ℕ). EndsRaised (of_version n sh) (after_steps (raise_steps headers copies puts) (restarted_at image)) (booted v d)) same (raise_ends_law sh v.checkpoint.content.version image v table headers copies d puts may).0,
+      rw same at (raise_ends_law sh v.checkpoint.content.version image v table headers copies d puts may).0,
     )
 
 pub upgrade_law : UpgradeLaw

@@ -17,7 +17,7 @@ pub sync_law : SyncLaw
 sync_law sh log v was holds = elim was [
   | inl grown ↦
       let same : grown.0 ≡ v = one_view sh (now log) grown.0 v (grows_holds sh (now log) (settled log) grown.0 grown.1.grows) holds in
-      subst (λ (x : View). RestsOn sh (add Synced log) x) same (synced_rests sh log grown.0 grown.1)
+      rw same at (synced_rests sh log grown.0 grown.1)
   | inr made ↦ absurd (no_view sh made.0 (now log) (settled log) v made.1.made holds)
 ]
 
@@ -25,7 +25,7 @@ pub stop_law : StopLaw
 stop_law sh log v image was holds = elim was [
   | inl grown ↦
       let same : grown.0 ≡ v = one_view sh image grown.0 v (grows_holds sh image (settled log) grown.0 grown.1.grows) holds in
-      subst (λ (x : View). RestsOn sh (add (Stopped image) log) x) same (record {
+      rw (← same) (record {
         fair = grown.1.fair;
         grows = grown.1.grows;
         old = old_agrees sh (image ∷ settled log) grown.0 grown.1.grows;
@@ -57,8 +57,8 @@ good_rests sh log v u w rests which = record {
   left = λ j left chance.
       let holds = rests_holds sh log w rests j left chance in
       elim which [
-        | inl is ↦ inl (subst (λ (x : View). Holds sh j x) is holds)
-        | inr is ↦ inr (subst (λ (x : View). Holds sh j x) is holds)
+        | inl is ↦ inl (rw is at holds)
+        | inr is ↦ inr (rw is at holds)
       ];
 }
 
@@ -94,7 +94,7 @@ quiet_synced log place wet = absurd (let no_unit : false ≡ true = wet in cc)
 pub header_law : HeaderLaw
 header_law sh log v put rests mend = calm_law sh log v put rests (λ place y is.
     let e = mend.each place y is in
-    subst (λ (p : Place). IsCalm sh v p × MaySettle sh (settled log) v p y) (sym e.2)
+    rw e.2
     (subst (λ (x : AnyUnit). IsCalm sh v (HeaderPlace e.0) × MaySettle sh (settled log) v (HeaderPlace e.0) x) (sym e.3)
     (record { no_copy = λ copy. copy; no_prepare = λ prepare. prepare; needless = λ x need. need }, may e.0 e.1 e.4)))
   where
@@ -114,9 +114,9 @@ header_law sh log v put rests mend = calm_law sh log v put rests (λ place y is.
             refl,
             record {
               op = λ own. let ops = chain_ops sh.layout.clients (v.checkpoint.content.op + 1) v.checkpoint.content.op_checksum 0 v.checkpoint.parts.sessions v.tail of.0 rests.holds.bears.sound.chain of.1 in omega (arith, ops.1, ap (λ (x : Header). x.op) of.2);
-              ring = subst (λ (x : Header). x.op ≤ v.checkpoint.content.op + sh.layout.slots) same a.2.ring;
-              checkpoint = subst (λ (x : Header). x.checkpoint ≤ v.checkpoint.content.sequence) same a.2.checkpoint;
-              boot = subst (λ (x : Header). x.boot ≤ v.checkpoint.content.boot) same a.2.boot;
+              ring = rw (← same) a.2.ring;
+              checkpoint = rw (← same) a.2.checkpoint;
+              boot = rw (← same) a.2.boot;
               slot = λ above. of.3;
               in_tail = λ own above. (of.0, of.1, ap (λ (x : Header). x.op) of.2, ap (λ (x : Header). x.checksum) of.2);
             },

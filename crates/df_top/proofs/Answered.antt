@@ -17,7 +17,7 @@ prints_turn text old new (Ok x) prints = prints.whole
 prints_turn text old new (Err e) prints = (refl, prints.part)
 
 pub not_fault : (text : List ℕ) (old new : Option (List ℕ)) (turn : Turn) → IsPrinted text old new turn → turn ≡ Ends DiskFault → ⊥
-not_fault text old new turn printed is = let no : DiskFault ≡ WriteFault = (subst (λ (u : Turn). IsPrinted text old new u) is printed).0 in cc
+not_fault text old new turn printed is = let no : DiskFault ≡ WriteFault = (rw is at printed).0 in cc
 
 -- ---- a call
 
@@ -86,6 +86,6 @@ module _ (command : Command) (s t : Replica) (old new : Option Told) (written to
 
   -- what was heard of its answer was told
   pub comes_told : (r : Result Called Fault) → MakesTo command s t old new r → IsBlamed is_disk_fault before now r → TellsAnswer command r written took turn → Comes
-  comes_told (Ok a) gives same tells = comes_answered gives.told gives.makes same (subst (λ (l : List ℕ). IsPrinted l written took turn) (same_words command gives.told a gives.in_words).0 tells)
+  comes_told (Ok a) gives same tells = comes_answered gives.told gives.makes same (rw (same_words command gives.told a gives.in_words).0 at tells)
   comes_told (Err Disk) makes blamed tells = comes_failed makes.0 (told_fault command written took turn tells) blamed.1
   comes_told (Err (Damaged place class)) makes same tells = comes_damaged command s t old new written took before now place class makes.0 makes.1 same turn tells

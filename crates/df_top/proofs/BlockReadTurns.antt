@@ -18,7 +18,7 @@ pub shown_turn : {T E : Type 0} (address : ℕ) (u : Shown) (h : Header) (b : Li
     → IsPrinted (block_text address (block_of u)) written took turn
 shown_turn address u h b written took r turn h_is b_is turn_is prints =
     subst (λ (v : Turn). IsPrinted (block_text address (block_of u)) written took v) (sym turn_is)
-    (prints_turn (block_text address (block_of u)) written took r (subst (λ (k : Header). Prints (shown_block address k u.body) written took r) h_is (subst (λ (c : List ℕ). Prints (shown_block address h c) written took r) b_is prints)))
+    (prints_turn (block_text address (block_of u)) written took r (rw h_is at (rw b_is at prints)))
 
 module _ (address : ℕ) (s t : Replica) (old new : Option Told) (same : new ≡ old) (written took : Option (List ℕ)) (before now : ℕ) (turn : Turn) where
   abbrev Reads : Type 0

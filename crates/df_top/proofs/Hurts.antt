@@ -21,7 +21,7 @@ all_give w s t old new [] keeps written are = tt
 all_give w s t old new (x ∷ xs) keeps written (More u mid made rest) =
     let call = made.call in
     let later : Work = (next s.file w x.act.given x.act.command).0 in
-    let on : IsWrittenIn u.file mid later = subst (λ (file : DataFile). IsWrittenIn file mid later) (sym call.file) (call.written w keeps written) in (
+    let on : IsWrittenIn u.file mid later = rw call.file (call.written w keeps written) in (
       gives x.act s u w old mid x.answer made keeps written,
       all_give later u t mid new xs (call.answers Firm w keeps).1 on rest,
     )
@@ -48,7 +48,7 @@ module _ (file : DataFile) (view : View) (t : Told) (may : MayBeHurt file view t
     stands : Keeps Firm found.replica w None
     stands =
         subst (λ (x : DataFile). Keeps Firm found.replica (begun_work x t.shown finds.found) None) same
-        (stand finds.found (subst (λ (x : DataFile). IsFound (shape x) (unit_at x.layout x.cluster t.shown) finds.found) (sym same) finds.is_found))
+        (stand finds.found (rw (sym same) at finds.is_found))
 
     -- all that it has was written, as the disk tells after the boot update
     written : IsWrittenIn found.replica.file found.mended w
@@ -56,8 +56,8 @@ module _ (file : DataFile) (view : View) (t : Told) (may : MayBeHurt file view t
         let goes = goes_told (did Sync t) found.mended (found.mending.events, found.mending.told) in
         let there = file_there file.layout t found in
         let own : IsWrittenFor found.found.file goes.0.log w =
-        opened_is_written_for file view t found.found goes.0.log w.view.checkpoint.content finds goes.2.grew (subst (λ (x : DataFile). IsWork (shape x) (spelling x) w) there stands.0) in
-        subst (λ (o : Option Told). IsWrittenIn found.replica.file o w) (sym goes.1) (subst (λ (x : DataFile). IsWrittenFor x goes.0.log w) (sym there) own)
+        opened_is_written_for file view t found.found goes.0.log w.view.checkpoint.content finds goes.2.grew (rw there at stands.0) in
+        subst (λ (o : Option Told). IsWrittenIn found.replica.file o w) (sym goes.1) (rw (sym there) at own)
 
     -- the reads of calls on what was found
     reads_own : (to : Replica) (now : Option Told) (xs : List Exchange) (failed : Option Act) → (calls : EndsCalls found.replica to found.mended now xs failed) → AllGiveOwn found.replica to found.mended now w xs failed calls
@@ -106,11 +106,11 @@ module _ (file : DataFile) (view : View) (t : Told) (may : MayBeHurt file view t
 
     own : (mode : Mode) → ServesOwn mode t old new status → ServesHurt file view t mode old new status
     own mode serves =
-        serves_hurt mode (subst (λ (l : Layout). Does mode l t old new status) ((probe_is_of_hurt file view t may).layout serves.layout serves.shown) serves.serves)
+        serves_hurt mode (rw ((probe_is_of_hurt file view t may).layout serves.layout serves.shown) at serves.serves)
 
 pub serves_over_hurt : (mode : Mode) (layout : Layout) (old new : Outside) (status : Status) → ServesIn mode layout old new status → ServesOverHurt mode layout old new status
 serves_over_hurt mode layout old new status serves = λ file view t same told may unspent.
-    serves_hurt file view t may unspent old new status mode (subst (λ (l : Layout). Does mode l t old new status) same (serves t told may.whole))
+    serves_hurt file view t may unspent old new status mode (rw same at (serves t told may.whole))
 
 pub runs_over_hurt : (mode : Mode) (old new : Outside) (status : Status) → Runs mode old new status → RunsOverHurt mode old new status
 runs_over_hurt mode old new status runs = λ file view t told may unspent. elim (runs t told may.whole) [

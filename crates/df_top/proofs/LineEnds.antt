@@ -27,11 +27,11 @@ pub held_next : (outside : Outside) (left : Option (List ℕ)) (old : Session) (
     → (text : List ℕ) → (state outside old).text ≡ Some text → (remains : List ℕ) → left ≡ Some remains → HoldsLine old.lines.reading.bound text remains
 held_next outside left old room ended bound gives text is remains has =
     let refuses : RefusesNext SaysLine old.lines.reading room.reading text (unread room.reading.held left) = gives text (record { is = is; ended = ended }) in
-    let whole : Some (room.reading.held ++ remains) ≡ Some text = subst (λ (o : Option (List ℕ)). unread room.reading.held o ≡ Some text) has refuses.rest in
+    let whole : Some (room.reading.held ++ remains) ≡ Some text = rw has at refuses.rest in
     record {
       held = room.reading.held;
       is = cc whole;
-      line = subst (λ (n : ℕ). (line_of room.reading.held ≡ line_of text) ⊎ (n < length (line_of room.reading.held))) bound refuses.read;
+      line = rw bound at refuses.read;
     }
 
 -- ---- a line was taken

@@ -21,7 +21,7 @@ on_ok T P r x is has = subst (λ (q : Result T FormatError). OnOk q P) is has
 module _ (layout : Layout) (cluster : ℕ) (before : Told) (may : MayMakeOn layout cluster before) (told new : Option Told) (status : Status) (is : told ≡ Some before) (honest : IsHonest before) where
   pub makes_on : {T : Type 0} (r : Result T FormatError) → AddsFormat (making_events layout cluster) told new r → ((n : Told) → new ≡ Some n → MakingLeaves layout cluster before may n r) → (status ≡ Done → (x : T) × (r ≡ Ok x)) → MakesOn layout cluster before may new status
   makes_on {T} r events makes done =
-      let by : ToldBy (Some before) new = subst (λ (o : Option Told). ToldBy o new) is (format_told (making_events layout cluster) told new r events) in
+      let by : ToldBy (Some before) new = rw is at (format_told (making_events layout cluster) told new r events) in
       let goes = goes_told before new by in
       let made = makes goes.0 goes.1 in
       record {

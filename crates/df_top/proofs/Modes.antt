@@ -1,5 +1,5 @@
 -- Words ask for one thing at most.
-use Rattle.std.{proofs.Common.{◌≡◌, ℕ, ◌^◌, ◌<◌, ◌≤◌, List, [], ◌∷◌, length, get_or, refl, sym, ap, subst, ◌∙◌, arith}, specs.Prelude.{decimal, codes}}
+use Rattle.std.{proofs.Common.{◌≡◌, ℕ, ◌^◌, ◌<◌, ◌≤◌, List, [], ◌∷◌, length, get_or, refl, sym, ap, ◌∙◌, arith}, specs.Prelude.{decimal, codes}}
 use Rattle.df_layout.specs.declared.layout.Layout.{Layout}
 use Rattle.df_lines.proofs.Laws.{one_number}
 use Rattle.df_pace.specs.declared.pace.Pace.{Pace}
@@ -118,7 +118,7 @@ one_mode words (Workload s n) (Workload u k) one other =
 one_mode words (Format l c) (Format m d) one other =
     let parts = three (codes "format") one.name (decimal c) (codes "format") other.name (decimal d) (sym one.is ∙ other.is) in
     same_format l m c d
-    (one_layout one.name l m one.names (subst (λ (n : List ℕ). NamesLayout n m) (sym parts.0) other.names))
+    (one_layout one.name l m one.names (rw (sym parts.0) at other.names))
     (one_number c d one.cluster_fits other.cluster_fits parts.1)
 
 -- ---- three words
@@ -145,7 +145,7 @@ pub only_format : (name cluster : List ℕ) → ((layout : Layout) (n : ℕ) →
 only_format name cluster none =
     of_three (codes "format") name cluster
     (λ s n says. let letter : 102 ≡ 119 = ap (λ (l : List ℕ). get_or l 0 0) (first_of (codes "format") name cluster (codes "workload") (decimal s) (decimal n) says.is) in omega (arith, letter))
-    (λ l c says. let parts = three (codes "format") name cluster (codes "format") says.name (decimal c) says.is in none l c (subst (λ (n : List ℕ). NamesLayout n l) (sym parts.0) says.names) parts.1 says.cluster_fits)
+    (λ l c says. let parts = three (codes "format") name cluster (codes "format") says.name (decimal c) says.is in none l c (rw (sym parts.0) at says.names) parts.1 says.cluster_fits)
 
 -- and after `workload` two numbers
 pub only_workload : (seed count : List ℕ) → ((s n : ℕ) → seed ≡ decimal s → count ≡ decimal n → s < 2 ^ 64 → 1 ≤ n → n ≤ 1000000 → ⊥) → (mode : Mode) → Means (codes "workload" ∷ seed ∷ count ∷ []) mode → ⊥

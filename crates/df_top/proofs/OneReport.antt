@@ -94,7 +94,7 @@ module _ (layout : Layout) (image : Image) (s u : Survey) (one : IsOpened layout
   view : one.view ≡ other.view
   view =
       one_found_law (shape s.state.file) (unit_at layout s.state.file.cluster image) one.view other.view one.found
-      (subst (λ (f : DataFile). IsFound (shape f) (unit_at layout f.cluster image) other.view) (sym file) other.found)
+      (rw (sym file) at other.found)
 
   first : DataFile → View → Memory
   first f v = memory_of (shape f) (spelling f) (opened (shape f) (unit_at layout f.cluster image) v)

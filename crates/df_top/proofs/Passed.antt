@@ -60,7 +60,7 @@ pub worked_ready : {s t : Session} {left : Option (List ℕ)} → IsReadySession
 worked_ready ready leaves live = record {
   live = live;
   count = omega (arith, ready.count, leaves.count, ap (λ (r : ReaderParts). r.reading.budget) leaves.lines);
-  at_end = λ ended. ready.at_end (subst (λ (r : ReaderParts). IsTrue r.ended) leaves.lines ended);
+  at_end = λ ended. ready.at_end (rw leaves.lines at ended);
 }
 
 -- ---- a piece that ends the session

@@ -34,15 +34,15 @@ text_on pace bound origin old turns (ByLine said) left budget so_far takes text 
     let line = takes before.0 before.1 in (
       after_line before.0,
       line.1,
-      subst (λ (n : ℕ). BeginsWithLines bound origin.budget text (all_said turns ++ said ∷ []) n (after_line before.0)) (sym line.2)
+      rw (sym line.2) at
           (begins_more bound origin.budget text (all_said turns) old.budget before.0 said before.2 line.0),
     )
 text_on pace bound origin old turns (ByLoop p) left budget so_far takes text is =
     let before = so_far.text text is in (
       before.0,
       takes.0 ∙ before.1,
-      subst (λ (n : ℕ). BeginsWithLines bound origin.budget text (all_said turns ++ []) n before.0) (sym takes.1)
-          (subst (λ (l : List Said). BeginsWithLines bound origin.budget text l old.budget before.0) (sym (append-nil (all_said turns))) before.2),
+      rw (sym takes.1) at
+          (rw (sym (append-nil (all_said turns))) at before.2),
     )
 
 -- the call was made and answered
@@ -67,7 +67,7 @@ module _ (pace : Pace) (bound : ℕ) (old new : SessionState) (asker : Asker) (t
   said_on : (text : List ℕ) → origin.text ≡ Some text → (rest : List ℕ) × (new.text ≡ Some rest) × BeginsWithLines bound origin.budget text (all_said (turns ++ one ∷ [])) new.budget rest
   said_on text is =
       let more = text_on pace bound origin old turns asker new.text new.budget so_far takes text is in
-      (more.0, more.1, subst (λ (l : List Said). BeginsWithLines bound origin.budget text l new.budget more.0) (sym said_is) more.2)
+      (more.0, more.1, rw (sym said_is) at more.2)
 
   pub call_done : Appends old.outside.written new.outside.written (told_by asker x) → new.lines ≡ old.lines + length (said_by asker) → new.beat ≡ beat_then → (more : List Turned) × Executed pace bound origin new (turns ++ more)
   call_done wrote lines beat = (
@@ -75,10 +75,10 @@ module _ (pace : Pace) (bound : ℕ) (old new : SessionState) (asker : Asker) (t
     record {
       text = said_on;
       written =
-          subst (λ (l : List ℕ). Appends origin.outside.written new.outside.written l) (sym text_is)
+          rw (sym text_is) at
           (appends_more origin.outside.written old.outside.written new.outside.written (all_text turns) (told_by asker x) so_far.written wrote);
       lines = let count = ap length said_is in omega (arith, lines, so_far.lines, count, length-append (all_said turns) (said_by asker));
-      calls = subst (λ (c : Beat). AreTurns pace origin.beat origin.replica origin.outside.told (turns ++ one ∷ []) c new.replica new.outside.told) (sym beat) all_turns;
+      calls = rw (sym beat) at all_turns;
     },
   )
 
@@ -91,11 +91,11 @@ module _ (pace : Pace) (bound : ℕ) (old new : SessionState) (asker : Asker) (t
         let more = said_on text is in (
           new.budget,
           more.0,
-          subst (λ (l : List Said). BeginsWithLines bound origin.budget text l new.budget more.0) (sym (append-nil (all_said (turns ++ one ∷ [])))) more.2,
+          rw (sym (append-nil (all_said (turns ++ one ∷ [])))) at more.2,
           record { refused = λ no. absurd (cc); held = λ no. absurd (cc); finished = λ no. absurd (cc) },
         );
     written =
-        subst (λ (l : List ℕ). AppendsPart origin.outside.written new.outside.written l) (sym text_is)
+        rw (sym text_is) at
         (appends_part origin.outside.written old.outside.written new.outside.written (all_text turns) (told_by asker x) so_far.written wrote);
     calls = (beat_then, all_turns, λ no. absurd (no refl));
   }
@@ -113,18 +113,18 @@ module _ (pace : Pace) (bound : ℕ) (old new : SessionState) (p : Piece) (text 
       → SessionGoesOn pace bound old new
   works_on x makes wrote lines beat origin turns so_far =
       call_done pace bound old new (ByLoop p) (text, budget) makes.act (makes.is, due) x makes.calls origin turns so_far
-      (subst (λ (o : Option (List ℕ)). Appends old.outside.written o []) (sym wrote) (appends_none old.outside.written)) (omega (arith, lines)) beat
+      (rw wrote (appends_none old.outside.written)) (omega (arith, lines)) beat
 
 -- ---- some calls and some more
 
 pub on_none : (pace : Pace) (bound : ℕ) (old new : SessionState) → new ≡ old → SessionGoesOn pace bound old new
-on_none pace bound old new same origin turns so_far = ([], subst (λ (l : List Turned). Executed pace bound origin new l) (sym (append-nil turns)) (subst (λ (s : SessionState). Executed pace bound origin s turns) (sym same) so_far))
+on_none pace bound old new same origin turns so_far = ([], rw (sym (append-nil turns)) at (rw (sym same) at so_far))
 
 pub on_more : (pace : Pace) (bound : ℕ) (old mid new : SessionState) → SessionGoesOn pace bound old mid → SessionGoesOn pace bound mid new → SessionGoesOn pace bound old new
 on_more pace bound old mid new one two origin turns so_far =
     let first = one origin turns so_far in
     let second = two origin (turns ++ first.0) first.1 in
-    (first.0 ++ second.0, subst (λ (l : List Turned). Executed pace bound origin new l) (append_assoc turns first.0 second.0) second.1)
+    (first.0 ++ second.0, rw (append_assoc turns first.0 second.0) at second.1)
 
 pub on_ends : (pace : Pace) (bound : ℕ) (old mid new : SessionState) (status : Status) → SessionGoesOn pace bound old mid → EndsIn pace bound mid new status → EndsIn pace bound old new status
 on_ends pace bound old mid new status one two origin turns so_far = let first = one origin turns so_far in two origin (turns ++ first.0) first.1
@@ -136,9 +136,9 @@ module _ (pace : Pace) (bound : ℕ) (old new : SessionState) (same_told : new.o
   stays : (status : Status) (origin : SessionState) (turns : List Turned) → Executed pace bound origin old turns → EndTurns pace origin.beat origin.replica origin.outside.told turns None status new.replica new.outside.told
   stays status origin turns so_far = (
     old.beat,
-    subst (λ (o : Option Told). AreTurns pace origin.beat origin.replica origin.outside.told turns old.beat new.replica o) (sym same_told)
-        (subst (λ (r : Replica). AreTurns pace origin.beat origin.replica origin.outside.told turns old.beat r old.outside.told) (sym same_replica) so_far.calls),
-    λ no. subst (λ (r : Replica). IsIdleBeat old.beat r) (sym same_replica) idle,
+    rw (sym same_told) at
+        (rw (sym same_replica) at so_far.calls),
+    λ no. rw (sym same_replica) at idle,
   )
 
   said_all : (origin : SessionState) (turns : List Turned) (text rest : List ℕ) → BeginsWithLines bound origin.budget text (all_said turns) old.budget rest → BeginsWithLines bound origin.budget text (all_said turns ++ []) old.budget rest
@@ -197,14 +197,14 @@ module _ (pace : Pace) (bound : ℕ) (old new : SessionState) (same_told : new.o
         ends_cut Script (λ no. cc) origin turns so_far (
           refl,
           appends_more origin.outside.written old.outside.written new.outside.written (all_text turns) _ so_far.written
-              (subst (λ (n : ℕ). Appends old.outside.written new.outside.written (script_text (n + 1))) so_far.lines wrote),
+              (rw so_far.lines at wrote),
         )
 
     pub ends_script_fault : AppendsPart old.outside.written new.outside.written (script_text (old.lines + 1)) → EndsIn pace bound old new WriteFault
     ends_script_fault wrote origin turns so_far =
         ends_cut WriteFault (λ no. cc) origin turns so_far
         (appends_part origin.outside.written old.outside.written new.outside.written (all_text turns) _ so_far.written
-        (subst (λ (n : ℕ). AppendsPart old.outside.written new.outside.written (script_text (n + 1))) so_far.lines wrote))
+        (rw so_far.lines at wrote))
 
 -- the session ends within a call
 module _ (pace : Pace) (bound : ℕ) (old new : SessionState) (asker : Asker) (command : Command) (takes : TakesFor bound old asker new.text new.budget) (next : (c : Command) → c ≡ command → IsNextCommand old.beat old.replica asker c) where
@@ -229,7 +229,7 @@ module _ (pace : Pace) (bound : ℕ) (old new : SessionState) (asker : Asker) (c
   -- the disk failed
   pub ends_disk : Makes command old.replica new.replica old.outside.told new.outside.told None × (new.outside.written ≡ old.outside.written) → EndsIn pace bound old new DiskFault
   ends_disk failed origin turns so_far =
-      ends_failing DiskFault (λ no. cc) failed.0 origin turns so_far (refl, subst (λ (o : Option (List ℕ)). Appends origin.outside.written o (all_text turns)) (sym failed.1) so_far.written)
+      ends_failing DiskFault (λ no. cc) failed.0 origin turns so_far (refl, rw (sym failed.1) at so_far.written)
 
   -- its step is damaged
   damaged_step : (makes : Makes command old.replica new.replica old.outside.told new.outside.told None) (line : List ℕ) → IsDamagedLine command new.outside.told line → IsDamagedLine makes.act.command new.outside.told line

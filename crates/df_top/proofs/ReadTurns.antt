@@ -19,7 +19,7 @@ pub shown_turn : {T E : Type 0} (word : List ℕ) (u : Shown) (h : Header) (b : 
     → IsPrinted (message_text word (message_of u)) written took turn
 shown_turn word u h b written took r turn h_is b_is turn_is prints =
     subst (λ (v : Turn). IsPrinted (message_text word (message_of u)) written took v) (sym turn_is)
-    (prints_turn (message_text word (message_of u)) written took r (subst (λ (k : Header). Prints (shown_text word k u.body) written took r) h_is (subst (λ (c : List ℕ). Prints (shown_text word h c) written took r) b_is prints)))
+    (prints_turn (message_text word (message_of u)) written took r (rw h_is at (rw b_is at prints)))
 
 module _ (s t : Replica) (old new : Option Told) (same : new ≡ old) (written took : Option (List ℕ)) (before now : ℕ) (turn : Turn) where
   abbrev Reads : Command → Type 0
@@ -56,8 +56,8 @@ pub came_as : {A E : Type 0} (asked command : Command) (is_fault : E → Bool) (
     → Comes command s (left_by is_fault s q) old new written took before now turn → Comes asked s t old new written took before now turn
 came_as {A} {E} asked command is_fault s t r q old new written took before now turn is leaves came answers =
     subst (λ (c : Command). Comes c s t old new written took before now turn) (sym is)
-    (subst (λ (u : Replica). Comes command s u old new written took before now turn) (sym (leaves ∙ ap (λ (x : Result A E). left_by is_fault s x) came)) answers)
+    (rw (sym (leaves ∙ ap (λ (x : Result A E). left_by is_fault s x) came)) at answers)
 
 -- and what was told of it, whatever asked for it
 pub tells_as : (asked command : Command) (r q : Result Answered Fault) (written took : Option (List ℕ)) (turn : Turn) → asked ≡ command → q ≡ r → TellsAnswer asked q written took turn → TellsAnswer command r written took turn
-tells_as asked command r q written took turn is same tells = subst (λ (c : Command). TellsAnswer c r written took turn) is (subst (λ (x : Result Answered Fault). TellsAnswer asked x written took turn) same tells)
+tells_as asked command r q written took turn is same tells = rw is at (rw same at tells)

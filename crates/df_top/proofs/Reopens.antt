@@ -26,7 +26,7 @@ session_lives : (file : DataFile) (logs : List Log) (w : Work) (base : Told) (xs
 session_lives file logs w base xs failed mending added keeps lived = λ l moment.
     let exit : Told = told_after added (told_after mending (did Sync base)) in
     let each : EachMoment (did Sync base).log exit.log (IsMidway file Firm w (acts_in xs ++ list_of failed)) =
-    subst (λ (n : Told). EachMoment (did Sync base).log n.log (IsMidway file Firm w (acts_in xs ++ list_of failed))) (sym (same_Some exit keeps.after keeps.is)) keeps.moments in
+    rw (sym (same_Some exit keeps.after keeps.is)) at keeps.moments in
     record {
       safe = (each l moment).safe;
       left = λ image gone chance. some_view file w (acts_in xs ++ list_of failed) image ((each l moment).left image gone chance);
@@ -50,14 +50,14 @@ module _ (file : DataFile) (log : Log) (logs : List Log) (t : Told) (may : MayRe
   pub calls_live : (found : FoundFile file.layout t) (c : CallsMade) → CallsKeep t found.replica found.mended found.mending c → (later : Option Told) → later ≡ after_all (events_made c) found.mended → LivesThrough file log logs t later
   calls_live found c keeps later adds =
       let of : DataFile = found.replica.file in
-      let here : MayReopen of log logs t.shown = subst (λ (f : DataFile). MayReopen f log logs t.shown) (sym (same_file found)) may in
-      let has : FindsSince of log logs t.shown found.found = subst (λ (f : DataFile). FindsSince f log logs t.shown found.found) (sym (same_file found)) (finds found) in
+      let here : MayReopen of log logs t.shown = rw (sym (same_file found)) at may in
+      let has : FindsSince of log logs t.shown found.found = rw (sym (same_file found)) at (finds found) in
       let opens = begun_may_open of has.found t here.version has.begins in
       subst (λ (f : DataFile). LivesThrough f log logs t later) (same_file found) (record {
         events = found.mending.events ++ events_made c;
         told = adds ∙ ap (after_all (events_made c)) found.mending.told ∙ sym (after_append found.mending.events (events_made c) (Some (did Sync t)));
         moments =
-            subst (λ (n : Told). EachMoment (did Sync (restarted t)).log n.log (IsLivedFile of (add Sync log ∷ logs))) (sym (told_append found.mending.events (events_made c) (did Sync (restarted t))))
+            rw (sym (told_append found.mending.events (events_made c) (did Sync (restarted t)))) at
             (session_lives of (add Sync log ∷ logs) (begun_work of t.shown has.found) (restarted t) c.exchanges c.failed found.mending.events (events_made c) (keeps.keeps Firm has.found (restarted t) refl opens tt) (keeps.lived log logs here));
       })
 
@@ -68,10 +68,10 @@ module _ (file : DataFile) (log : Log) (logs : List Log) (t : Told) (may : MayRe
   stops_live later (inr (inr partly)) =
       let of : DataFile = partly.found.file in
       let first = found_was_since file log logs t.shown partly.found may partly.opened in
-      let here : MayReopen of log logs t.shown = subst (λ (f : DataFile). MayReopen f log logs t.shown) (sym first.of) may in
-      let has : FindsSince of log logs t.shown partly.found = subst (λ (f : DataFile). FindsSince f log logs t.shown partly.found) (sym first.of) first in
+      let here : MayReopen of log logs t.shown = rw (sym first.of) at may in
+      let has : FindsSince of log logs t.shown partly.found = rw (sym first.of) at first in
       let good = partly.moments Firm has.found (restarted t) refl (begun_may_open of has.found t here.version has.begins) tt in
-      inr (subst (λ (f : DataFile). LivesThrough f log logs t later) first.of (record {
+      inr (rw (← first.of) (record {
         events = partly.mending.events;
         told = partly.mending.told;
         moments = λ l moment. record {
@@ -107,7 +107,7 @@ module _ (file : DataFile) (log : Log) (logs : List Log) (t : Told) (may : MayRe
         record { does = does; since = both.0; lived = both.1 }
 
     own : (mode : Mode) → ServesOwn mode t old new status → ServesSince file log logs t mode old new status
-    own mode serves = serves_since mode (subst (λ (l : Layout). Does mode l t old new status) (lived_layout file log logs t.shown may serves.layout serves.shown) serves.serves)
+    own mode serves = serves_since mode (rw (lived_layout file log logs t.shown may serves.layout serves.shown) at serves.serves)
 
 -- of three outcomes the last one says more
 on_last : {A B C D : Type 0} → (C → D) → A ⊎ B ⊎ C → A ⊎ B ⊎ D
@@ -117,7 +117,7 @@ on_last more (inr (inr c)) = inr (inr (more c))
 
 pub serves_over_history : (mode : Mode) (layout : Layout) (old new : Outside) (status : Status) → ServesIn mode layout old new status → ServesOverHistory mode layout old new status
 serves_over_history mode layout old new status serves = λ file t log logs same told may.
-    serves_since file log logs t may old new status mode (subst (λ (l : Layout). Does mode l t old new status) same (serves t told may.whole))
+    serves_since file log logs t may old new status mode (rw same at (serves t told may.whole))
 
 pub runs_over_history : (mode : Mode) (old new : Outside) (status : Status) → Runs mode old new status → RunsOverHistory mode old new status
 runs_over_history mode old new status runs = λ file t log logs told may.

@@ -33,8 +33,8 @@ syncs_part old new e syncs = elim (open_fault e) [
 pub same_report : (P : List ℕ → Type 0) (a b : Summary) (r q : List ℕ) (s u : List Session) (m n : List Mend) → a ≡ b → r ≡ q → s ≡ u → m ≡ n → P (inspection_text a r s m) → P (inspection_text b q u n)
 same_report P a b r q s u m n one two three four has =
     subst (λ (l : List Mend). P (inspection_text b q u l)) four
-    (subst (λ (l : List Session). P (inspection_text b q l m)) three
-    (subst (λ (l : List ℕ). P (inspection_text b l s m)) two (subst (λ (x : Summary). P (inspection_text x r s m)) one has)))
+    (rw three at
+    (rw two at (rw one at has)))
 
 pub same_summary : (P : List ℕ → Type 0) (a b : Summary) → a ≡ b → P (summary_text a) → P (summary_text b)
 same_summary P a b same has = subst (λ (x : Summary). P (summary_text x)) same has
@@ -57,11 +57,11 @@ module _ (layout : Layout) (t : Told) (old new : Outside) (status : Status) (who
   pub inspects : (s : Survey) → TellsSurvey layout old.told (Ok s.state) → TellsMends layout old.told s → new.told ≡ after Sync old.told
       → PrintsLine (report_of s) (status_of s.mends) old.written new.written status → (found : FoundFile layout t) × Inspects layout t found old new status
   inspects s answer mends barrier prints = (
-    looked_at s ((subst (λ (o : Option Told). TellsSurvey layout o (Ok s.state)) told answer) whole),
+    looked_at s ((rw told at answer) whole),
     record {
       survey = s;
       of = refl;
-      mendable = (subst (λ (o : Option Told). TellsMends layout o s) told mends) whole;
+      mendable = (rw told at mends) whole;
       prints = prints;
       unread = unread;
       unmended = refl;
@@ -72,7 +72,7 @@ module _ (layout : Layout) (t : Told) (old new : Outside) (status : Status) (who
   pub not_surveyed : (e : OpenError) → TellsSurvey layout old.told (Err e) → Syncs {T = Replica} old.told new.told (Err e) → PrintsOpenError e old.written new.written status → ComesTo Inspect layout t old new status
   not_surveyed e answer syncs prints =
       not_opened Inspect layout t old new status e whole told answer unread (λ no. syncs_once old.told new.told e no syncs)
-      (λ image is. subst (λ (o : Option Told). AddsPart (Sync ∷ []) o new.told) told (syncs_failed old.told new.told e is syncs)) prints
+      (λ image is. rw told at (syncs_failed old.told new.told e is syncs)) prints
 
 -- ---- recover and scrub
 

@@ -98,7 +98,7 @@ module _ (pace : Pace) (file : DataFile) where
     call_over : (asker : Asker) → IsNextCommand b s asker act.command → Later (beat_after pace b asker v answer) v n turns idle → Over b.due x (record { asker = asker; exchange = record { act = act; answer = answer } } ∷ turns) idle
     call_over (ByLine said) next later =
         let c : Command = command_of_line said in
-        let is : IsResult file x.shown x.work c answer v n = subst (λ (d : Command). IsResult file x.shown x.work d answer v n) next.0 result in
+        let is : IsResult file x.shown x.work c answer v n = rw (← next.0) result in
         let z : Stand = by_script sh cd x c in
         let there : Stands v z = stands v z is.file_is is.keeps in
         let count : IsHeadCounted z b.since = line_counts sh cd x c b.since here.sense counted in
@@ -110,7 +110,7 @@ module _ (pace : Pace) (file : DataFile) where
     call_over (ByLoop p) next later =
         let c : Command = piece_command p x.work.view.checkpoint.parts.root in
         let asked : act.command ≡ c = next.0 ∙ ap (piece_command p) (root_is s x here) in
-        let is : IsResult file x.shown x.work c answer v n = subst (λ (d : Command). IsResult file x.shown x.work d answer v n) asked result in
+        let is : IsResult file x.shown x.work c answer v n = rw (← asked) result in
         let z : Stand = by_loop sh cd x c in
         let there : Stands v z = stands v z is.file_is is.keeps in
         let count : IsHeadCounted z (if is_begun answer then v.head else b.since) =
@@ -123,9 +123,9 @@ module _ (pace : Pace) (file : DataFile) where
   one_more : (act : Act) (answer : Answer) (s v : Replica) (old mid : Option Told) (t : Told) (x : Stand) → s.file ≡ file → old ≡ Some t → (call : IsCall act.given act.command s v old mid (Some answer)) → Keeps Firm s x.work None → IsImage t.shown
       → AgreeShown file.layout (shown_of file t.shown) x.shown → (n : Told) × (mid ≡ Some n) × IsResult file x.shown x.work act.command answer v n
   one_more act answer s v old mid t x of told call k whole agree =
-      let here : IsCall act.given act.command s v (Some t) mid (Some answer) = subst (λ (o : Option Told). IsCall act.given act.command s v o mid (Some answer)) told call in
-      let one = one_more_is_result act.given act.command s v t mid answer x.work x.shown here k whole (subst (λ (f : DataFile). AgreeShown f.layout (shown_of f t.shown) x.shown) (sym of) agree) in
-      (told_after here.events t, one.0, subst (λ (f : DataFile). IsResult f x.shown x.work act.command answer v (told_after here.events t)) of one.1)
+      let here : IsCall act.given act.command s v (Some t) mid (Some answer) = rw (← told) call in
+      let one = one_more_is_result act.given act.command s v t mid answer x.work x.shown here k whole (rw of agree) in
+      (told_after here.events t, one.0, rw (← of) one.1)
 
   turns_over : (turns : List Turned) (s u : Replica) (old new : Option Told) (b c : Beat) (t : Told) (x : Stand) → s.file ≡ file → old ≡ Some t → AreTurns pace b s old turns c u new → Keeps Firm s x.work None → IsImage t.shown
       → AgreeShown file.layout (shown_of file t.shown) x.shown → IsHeadCounted x b.since → Over b.due x turns (IsIdleBeat c u)

@@ -142,14 +142,14 @@ module _ (s t : Replica) (old new : Option Told) (a : Answer) (x : Answered) (sa
   exact_on (WriteBlock kind body) is = write_on s t (write_running s t old new kind body is.0 is.2) kind body (outcome_in a)
   exact_on (Release address) is = release_on s t (release_running s t address is.0 is.2) address (outcome_in a)
   exact_on (Begin root) is = subst (λ (y : Answer). StillRuns (Begin root) s t (Ok (outcome_in y))) (sym is.1) (begin_on s t root is.0 is.2)
-  exact_on Advance is = subst (λ (y : Answer). StillRuns Advance s t (Ok (outcome_in y))) (sym is.1) (step_on s t old new is.0 is.2 x (subst (λ (y : Answer). machine_answer y ≡ Some x) is.1 said))
+  exact_on Advance is = subst (λ (y : Answer). StillRuns Advance s t (Ok (outcome_in y))) (sym is.1) (step_on s t old new is.0 is.2 x (rw is.1 at said))
   exact_on Scrub is = stays s t (ap (λ (r : Replica). r.running) is.2.0)
   exact_on command is = absurd is
 
   exact_steps : (command : Command) → IsExact command s t old new a → command ≡ Advance → StepsOn s t (Ok (outcome_in a))
   exact_steps command exact is =
-      let step = subst (λ (c : Command). IsExact c s t old new a) is exact in
-      subst (λ (y : Answer). StepsOn s t (Ok (outcome_in y))) (sym step.1) (step_steps s t old new step.0 step.2 x (subst (λ (y : Answer). machine_answer y ≡ Some x) step.1 said))
+      let step = rw is at exact in
+      subst (λ (y : Answer). StepsOn s t (Ok (outcome_in y))) (sym step.1) (step_steps s t old new step.0 step.2 x (rw step.1 at said))
 
 pub heard_call : (command : Command) (s t : Replica) (old new : Option Told) (a : Answer) → GivesAnswer command s t old new a → Call command s t old new (outcome_in a)
 heard_call command s t old new a gives = record {

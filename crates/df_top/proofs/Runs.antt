@@ -23,8 +23,8 @@ module _ (begun : Run) (s : Replica) (old : Option Told) (mid : Run) (u : Replic
     exchanges = one.exchanges ++ two.exchanges;
     calls = calls_join s u t old between new one.exchanges two.exchanges one.calls two.calls;
     follows =
-        subst (λ (l : List Command). Follows begun l (answers_in (one.exchanges ++ two.exchanges)) run) (sym (asked_by_both one.exchanges two.exchanges))
-        (subst (λ (l : List Answer). Follows begun (map command_in (acts_in one.exchanges) ++ map command_in (acts_in two.exchanges)) l run) (sym (map-append answer_in one.exchanges two.exchanges))
+        rw (sym (asked_by_both one.exchanges two.exchanges)) at
+        (rw (sym (map-append answer_in one.exchanges two.exchanges)) at
         (follows_more begun mid run (map command_in (acts_in one.exchanges)) (map command_in (acts_in two.exchanges)) (answers_in one.exchanges) (answers_in two.exchanges) one.follows two.follows));
   }
 
@@ -68,7 +68,7 @@ module _ (run : Run) (s t : Replica) (old new : Option Told) (command : Command)
     act = made.0.act;
     call = made.0.calls;
     asked = is ∙ ap (λ (c : Command). Option.Some c) (sym made.0.is);
-    ends = subst (λ (c : Command). EndsBy fault c new) (sym made.0.is) made.1;
+    ends = rw (sym made.0.is) at made.1;
   }
 
 -- ---- the last steps
@@ -113,11 +113,11 @@ module _ (begun : Run) (s : Replica) (old : Option Told) (run : Run) (t : Replic
     Ends = EndsRun begun s old run t new written took status
 
     pub ends_run : {T : Type 0} (r : Result T Fault) → Comes begun s old run t new r → OnOk r (asks run ≡ None) → PrintsRun run t r written took status → Ends
-    ends_run (Ok x) works over (inl printed) = record { worked = whole works over; writes = subst (λ (q : Status). WritesReport run t new None written took q) (sym printed.0) printed.1 }
-    ends_run (Ok x) works over (inr printed) = record { worked = whole works over; writes = subst (λ (q : Status). WritesReport run t new None written took q) (sym printed.0) printed.1 }
-    ends_run (Err Disk) f over printed = record { worked = cut f; writes = subst (λ (q : Status). WritesReport run t new (Some f.act) written took q) (sym printed.0) printed.1 }
-    ends_run (Err (Damaged place class)) f over (inl printed) = record { worked = cut f; writes = subst (λ (q : Status). WritesReport run t new (Some f.act) written took q) (sym printed.0) (damaged_text place class, damaged_line f.act.command new place class f.ends, printed.1) }
-    ends_run (Err (Damaged place class)) f over (inr printed) = record { worked = cut f; writes = subst (λ (q : Status). WritesReport run t new (Some f.act) written took q) (sym printed.0) (damaged_text place class, damaged_line f.act.command new place class f.ends, printed.1) }
+    ends_run (Ok x) works over (inl printed) = record { worked = whole works over; writes = rw printed.0 printed.1 }
+    ends_run (Ok x) works over (inr printed) = record { worked = whole works over; writes = rw printed.0 printed.1 }
+    ends_run (Err Disk) f over printed = record { worked = cut f; writes = rw printed.0 printed.1 }
+    ends_run (Err (Damaged place class)) f over (inl printed) = record { worked = cut f; writes = rw printed.0 (damaged_text place class, damaged_line f.act.command new place class f.ends, printed.1) }
+    ends_run (Err (Damaged place class)) f over (inr printed) = record { worked = cut f; writes = rw printed.0 (damaged_text place class, damaged_line f.act.command new place class f.ends, printed.1) }
 
 -- what is asked for is one command
 one_asked : (run : Run) (a b : Command) → asks run ≡ Some a → asks run ≡ Some b → a ≡ b

@@ -1,5 +1,5 @@
 -- Over a file that may be opened each other end of a word needs a call that failed, or a refusal that no such file has.
-use Rattle.std.proofs.Common.{◌≡◌, ◌⊎◌, ◌<◌, ◌^◌, inl, inr, ℕ, zero, suc, Bool, true, List, [], ◌∷◌, ◌++◌, length, Option, None, Some, refl, subst}
+use Rattle.std.proofs.Common.{◌≡◌, ◌⊎◌, ◌<◌, ◌^◌, inl, inr, ℕ, zero, suc, Bool, true, List, [], ◌∷◌, ◌++◌, length, Option, None, Some, refl}
 use Rattle.df_base.specs.Image.{IsImage}
 use Rattle.df_disk.specs.Told.{Told}
 use Rattle.df_layout.specs.{declared.damage.Mend.{Mend}, declared.layout.Layout.{Layout}}
@@ -49,7 +49,7 @@ whole_uncut layout text rest asked budget whole begins refused =
     let cut : IsScript (line_bound layout) script_budget text asked = record { left = budget; rest = rest; begins = begins; ends = inr refused } in
     let all : IsScript (line_bound layout) script_budget text whole.lines = record { left = whole.left; rest = []; begins = whole.begins; ends = inl refl } in
     let same : whole.lines ≡ asked = one_script (line_bound layout) script_budget text whole.lines asked all cut in
-    let read : BeginsWithLines (line_bound layout) script_budget text asked whole.left [] = subst (λ (l : List Said). BeginsWithLines (line_bound layout) script_budget text l whole.left []) same whole.begins in
+    let read : BeginsWithLines (line_bound layout) script_budget text asked whole.left [] = rw same at whole.begins in
     refused.some (begins_one (line_bound layout) script_budget text asked budget whole.left rest [] begins read)
 
 -- a generated run ends at its end, at a step that is damaged, or with a cause
@@ -132,7 +132,7 @@ module _ (file : DataFile) (view : View) (t : Told) (old new : Outside) (before 
     | inr failed ↦ absurd (unfailed.0 failed)
   ]
   ran mode (inr (inl refuses)) = absurd (answers.1.usable refuses.error refuses.is)
-  ran mode (inr (inr serves)) = inr (done mode (subst (λ (l : Layout). Does mode l t old new status) (answers.1.layout serves.layout serves.shown) serves.serves))
+  ran mode (inr (inr serves)) = inr (done mode (rw (answers.1.layout serves.layout serves.shown) at serves.serves))
 
 pub safe_is_run : SafeIsRun
 safe_is_run mode file view t old new before now status of may unspent told causes none runs =

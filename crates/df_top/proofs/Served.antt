@@ -28,7 +28,7 @@ pub from_start : (pace : Pace) (told : Option Told) (old : Outside) (s : Session
     → Ended pace s.lines.reading.bound (state (record { told = told; left = old.left; written = old.written }) s) last status → Ended pace (line_bound layout) (start told old s.replica) last status
 from_start pace told old s layout last status fresh none idle ended =
     subst (λ (n : ℕ). Ended pace n (start told old s.replica) last status) (ap (λ (r : Reading). r.bound) fresh.reading)
-    (subst (λ (o : SessionState). Ended pace s.lines.reading.bound o last status) (begins_so told old s (line_bound layout) fresh none idle) ended)
+    (rw (begins_so told old s (line_bound layout) fresh none idle) at ended)
 
 -- ---- a file that was opened
 
@@ -76,14 +76,14 @@ module _ (pace : Pace) (layout : Layout) (t : Told) (old new : Outside) (status 
   tells_on =
       let goes = goes_told (did Sync t) mended synced in
       let by_calls = ends_told s last.replica mended last.outside.told (exchanges_in ended.turns) (act_of ended.failing) made.calls in
-      let more = goes_told goes.0 last.outside.told (subst (λ (o : Option Told). ToldBy o last.outside.told) goes.1 by_calls) in
+      let more = goes_told goes.0 last.outside.told (rw goes.1 at by_calls) in
       (more.0, more.1)
 
   undamaged : status ≡ Refused → ⊥
   undamaged is =
       let origin : SessionState = start mended old s in
       refused_never origin.lines origin.outside last.outside ended.turns (act_of ended.failing) ended.cut tells_on.0 tells_on.1
-      (subst (λ (x : Status). EndsWith origin.lines origin.outside last.outside ended.turns (act_of ended.failing) ended.cut x) is ended.written)
+      (rw is at ended.written)
 
   calls : CallsKeep t found.replica found.mended found.mending (script_calls ended)
   calls = calls_keep t s mended over last.replica last.outside.told (exchanges_in ended.turns) (act_of ended.failing) made.calls whole live
@@ -113,7 +113,7 @@ pub refuses : (version : ℕ) (layout : Layout) (t : Told) (old new : Outside) (
     → PrintsOpenError e old.written new.written status → RefusesFileAs version layout t old new status
 refuses version layout t old new status e other whole told answer unread barrier prints = record {
   error = e;
-  is = record { why = (subst (λ (o : Option Told). TellsSurveyAs version layout o (Err e)) told answer) whole; other = other };
+  is = record { why = (rw told at answer) whole; other = other };
   refusal = record { prints = prints.other other; unread = unread };
   barrier = barrier ∙ ap (after Sync) told;
 }
@@ -134,8 +134,8 @@ not_opened mode layout t old new status e whole told answer unread barrier stops
 
 -- it serves it
 pub executed : (mode : Mode) (pace : Pace) → Executes mode pace → (layout : Layout) (t : Told) (old new : Outside) (status : Status) → (found : FoundFile layout t) × ServesScript pace layout t found old new status → Does mode layout t old new status
-executed Run pace is layout t old new status served = (tt, inr (inr (served.0, subst (λ (p : Pace). ServesScript p layout t served.0 old new status) is served.1)))
-executed (Paced given) pace is layout t old new status served = (tt, inr (inr (served.0, subst (λ (p : Pace). ServesScript p layout t served.0 old new status) is served.1)))
+executed Run pace is layout t old new status served = (tt, inr (inr (served.0, rw (← is) served.1)))
+executed (Paced given) pace is layout t old new status served = (tt, inr (inr (served.0, rw (← is) served.1)))
 executed mode pace is layout t old new status served = absurd is
 
 -- or the file isn't opened

@@ -28,7 +28,7 @@ pub record EndsAs (bound budget : ℕ) (text : List ℕ) (says lines : List Said
 
 module _ (bound budget : ℕ) (text : List ℕ) (says lines : List Said) (script : IsScript bound budget text says) (left : ℕ) (rest : List ℕ) (begins : BeginsWithLines bound budget text lines left rest) where
   behind : lines ≡ says → (left ≡ script.left) × (rest ≡ script.rest)
-  behind same = begins_one bound budget text says left script.left rest script.rest (subst (λ (l : List Said). BeginsWithLines bound budget text l left rest) same begins) script.begins
+  behind same = begins_one bound budget text says left script.left rest script.rest (rw same at begins) script.begins
 
   ends_whole : rest ≡ [] → EndsAs bound budget text says lines script Done (λ n printed. printed)
   ends_whole none = go script.ends refl
@@ -65,16 +65,16 @@ module _ (bound : ℕ) (text : List ℕ) (turns : List Turned) (old new : Outsid
   through None cut Done begins ends wrote is = record {
     left = left;
     rest = rest;
-    begins = subst (λ (l : List Said). BeginsWithLines bound budget text l left rest) (append-nil (all_said turns)) begins;
-    ends = inl (refl, (ends.finished refl).0, subst (λ (b : Bool). Appends old.written new.written (printed 0 turns b)) wrote.0 wrote.1);
+    begins = rw (append-nil (all_said turns)) at begins;
+    ends = inl (refl, (ends.finished refl).0, rw wrote.0 at wrote.1);
   }
   through None cut Script begins ends wrote is = record {
     left = left;
     rest = rest;
-    begins = subst (λ (l : List Said). BeginsWithLines bound budget text l left rest) (append-nil (all_said turns)) begins;
+    begins = rw (append-nil (all_said turns)) at begins;
     ends =
         let count : 0 + length (all_said turns) + 1 ≡ length (all_said turns) + 1 = omega arith in
-        inr (refl, ends.refused wrote.0, subst (λ (n : ℕ). Appends old.written new.written (all_text turns ++ script_text n)) count (subst (λ (b : Bool). Appends old.written new.written (printed 0 turns b)) wrote.0 wrote.1));
+        inr (refl, ends.refused wrote.0, rw count at (rw wrote.0 at wrote.1));
   }
   through (Some f) cut Done begins ends wrote is = absurd wrote
   through (Some f) cut Script begins ends wrote is = absurd wrote
@@ -165,11 +165,11 @@ module _ (layout : Layout) (a b : Image) (same : ShowSame layout a b) where
   one_view : (s u : Replica) (one : IsOpened layout a s) (other : IsOpened layout b u) → one.view ≡ other.view
   one_view s u one other =
       one_found_law (shape u.file) (unit_at layout u.file.cluster b) one.view other.view
-      (subst (λ (f : DataFile). IsFound (shape f) (unit_at layout f.cluster b) one.view) (one_file s u one other) (subst (λ (image : Place → Option AnyUnit). IsFound (shape s.file) image one.view) (units_there s.file.cluster) one.found)) other.found
+      (rw (one_file s u one other) at (rw (units_there s.file.cluster) at one.found)) other.found
 
   agree_there : (file : DataFile) → file.layout ≡ layout → AgreeShown file.layout (shown_of file a) (shown_of file b)
   agree_there file of =
-      let here : ShowSame file.layout a b = subst (λ (l : Layout). ShowSame l a b) (sym of) same in
+      let here : ShowSame file.layout a b = rw (sym of) at same in
       record {
         units = record { prepare = λ k. here.units file.cluster (PreparePlace k); reply = λ k. here.units file.cluster (ReplyPlace k); block = λ k. here.units file.cluster (BlockPlace k) };
         classes = λ place read none. here.classes file.cluster place read none;
@@ -180,7 +180,7 @@ module _ (layout : Layout) (a b : Image) (same : ShowSame layout a b) where
       → text_over pace s.file (shown_of s.file b) (begun_work s.file a one.view) says ≡ text_over pace u.file (shown_of u.file b) (begun_work u.file b other.view) says
   one_line pace s u one other says =
       let there : unit_at s.file.layout s.file.cluster a ≡ unit_at s.file.layout s.file.cluster b =
-      subst (λ (l : Layout). unit_at l s.file.cluster a ≡ unit_at l s.file.cluster b) (sym one.of.layout_is) (units_there s.file.cluster) in
+      rw (sym one.of.layout_is) at (units_there s.file.cluster) in
       ap (λ (image : Place → Option AnyUnit). text_over pace s.file (shown_of s.file b) (begun_from (shape s.file) (codec s.file) (opened (shape s.file) image one.view)) says) there
       ∙ ap (λ (v : View). text_over pace s.file (shown_of s.file b) (begun_work s.file b v) says) (one_view s u one other)
       ∙ ap (λ (f : DataFile). text_over pace f (shown_of f b) (begun_work f b other.view) says) (one_file s u one other)
@@ -200,7 +200,7 @@ one_text pace layout t u old new before now status ending text here there one ot
       first.0 ∙ sym second.0,
       (
         text_by script.ends (length says) (text_over pace r.file (shown_of r.file u.shown) (begun_work r.file u.shown there.is_opened.view) says),
-        subst (λ (l : List ℕ). Appends old.written new.written (text_by script.ends (length says) l)) line first.1,
+        rw line at first.1,
         second.1,
       ),
     )

@@ -83,7 +83,7 @@ module _ (s : Replica) (t : Told) where
         so_far = lists_on (scrub_of u) (scrub_of v) so.listed a w so.so_far c;
         counted = omega (arith, so.counted, count, ap length c.left, ap length c.rest);
         failing = omega (arith, so.failing, found, length-append so.listed (with_finding a w []));
-        printed = subst (λ (l : List ℕ). Appends old new l) (sym (texts_join so.listed (with_finding a w []))) (appends_more old mid new (failing_texts so.listed) (failing_texts (with_finding a w [])) so.printed printed);
+        printed = rw (sym (texts_join so.listed (with_finding a w []))) at (appends_more old mid new (failing_texts so.listed) (failing_texts (with_finding a w [])) so.printed printed);
       }
 
   -- ---- its end
@@ -155,7 +155,7 @@ module _ (s : Replica) (t : Told) where
           listed = so.listed;
           left = fails (left_of s (scrub_of u));
           front = so.so_far;
-          prints = subst (λ (o : Option (List ℕ)). Appends old o (failing_texts so.listed)) (sym failed.1) so.printed;
+          prints = rw (sym failed.1) at so.printed;
         })
 
 -- ---- the statuses
@@ -192,5 +192,5 @@ found_told s t u v told old mid new so (inl (x, is, tells)) = absurd (calm x mid
 found_told s t u v told old mid new so (inr failed) = (
   so.listed,
   sym so.failing ∙ sym (ap (λ (x : Tour). x.failing) failed.2),
-  subst (λ (o : Option (List ℕ)). Appends old o (failing_texts so.listed)) (sym failed.1) so.printed,
+  rw (sym failed.1) at so.printed,
 )

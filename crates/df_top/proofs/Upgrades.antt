@@ -71,7 +71,7 @@ module _ (file : DataFile) (view : View) (t : Told) (may : MayBeHurtAs 1 file vi
 
   own : UpgradesOwn t old new status → UpgradesHurt file view t old new status
   own u =
-      let comes : ComesToUpgrade file.layout t old new status = subst (λ (l : Layout). ComesToUpgrade l t old new status) ((probe_is_of_hurt_as 1 file view t may).layout u.layout u.shown) u.comes in
+      let comes : ComesToUpgrade file.layout t old new status = rw ((probe_is_of_hurt_as 1 file view t may).layout u.layout u.shown) at u.comes in
       record { comes = comes; of_hurt = of_hurt comes }
 
 pub upgrades_over_hurt : (old new : Outside) (status : Status) → RunsUpgrade old new status → UpgradesOverHurt old new status
@@ -105,7 +105,7 @@ module _ (file : DataFile) (view : View) (t : Told) (old new : Outside) (before 
     | inr failed ↦ absurd (no_disk failed)
   ]
   ran (inr (inl refuses)) = absurd (answers.usable refuses.error refuses.is)
-  ran (inr (inr own)) = inr (done (subst (λ (l : Layout). ComesToUpgrade l t old new status) (answers.layout own.layout own.shown) own.comes))
+  ran (inr (inr own)) = inr (done (rw (answers.layout own.layout own.shown) at own.comes))
 
 pub old_is_upgraded : OldIsUpgraded
 old_is_upgraded file view t old new before now status version whole found told causes none runs = ran file view t old new before now status version whole found causes none (runs t told whole)
@@ -120,7 +120,7 @@ refuses_second : (image : Image) (f : SuperFields) → HasSuperAs 1 image f → 
 refuses_second image f s = record {
   content = s.content;
   chosen = s.chosen;
-  broken = subst (λ (g : SuperFields). fault_as 2 g ≡ Some (OtherVersion f.version)) (sym s.fields) (other_version f (super_as 1 f s.usable).0);
+  broken = rw s.fields (other_version f (super_as 1 f s.usable).0);
 }
 
 pub second_is_left : SecondIsLeft

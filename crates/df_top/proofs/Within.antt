@@ -14,7 +14,7 @@ use Rattle.df_top.specs.{Acknowledging.{run_calls, script_calls}, Opening.{Stops
 
 module _ (file : DataFile) where
   call_within : (a : Act) (s t : Replica) (old new : Option Told) (answer : Option Answer) → s.file ≡ file → IsCall a.given a.command s t old new answer → AddsWithin file.layout old new
-  call_within a s t old new answer same call = record { events = call.events; told = call.told; within = subst (λ (f : DataFile). AreWithin f.layout call.events) same call.within }
+  call_within a s t old new answer same call = record { events = call.events; told = call.told; within = rw same at call.within }
 
   -- those of a list, each answered, and the file is the same after them
   calls_within : (s : Replica) (old : Option Told) (xs : List Exchange) (t : Replica) (new : Option Told) → s.file ≡ file → AreCalls s old xs t new → AddsWithin file.layout old new × (t.file ≡ file)
@@ -41,7 +41,7 @@ module _ (layout : Layout) (t : Told) where
   barrier_within new synced = behind new (none_within layout (Some (did Sync t)) new synced)
 
   pub mends_within : (file : DataFile) (new : Option Told) → file.layout ≡ layout → Mends file (Some (did Sync t)) new → AddsWithin layout (Some t) new
-  mends_within file new of mends = behind new (record { events = mends.events; told = mends.told; within = subst (λ (l : Layout). AreWithin l mends.events) of mends.within })
+  mends_within file new of mends = behind new (record { events = mends.events; told = mends.told; within = rw of at mends.within })
 
   stops_within : (new : Option Told) → StopsOpening layout t new → AddsWithin layout (Some t) new
   stops_within new (inl same) = none_within layout (Some t) new same
@@ -50,7 +50,7 @@ module _ (layout : Layout) (t : Told) where
 
   -- a mending, and calls after it
   session_within : (file : DataFile) (mended new : Option Told) → file.layout ≡ layout → Mends file (Some (did Sync t)) mended → AddsWithin file.layout mended new → AddsWithin layout (Some t) new
-  session_within file mended new of mends added = then_within layout (Some t) mended new (mends_within file mended of mends) (subst (λ (l : Layout). AddsWithin l mended new) of added)
+  session_within file mended new of mends added = then_within layout (Some t) mended new (mends_within file mended of mends) (rw of at added)
 
   -- where the disk failed before the file was found
   before_within : (mode : Mode) (new : Option Told) → StopsBefore mode layout t new → AddsWithin layout (Some t) new
@@ -59,7 +59,7 @@ module _ (layout : Layout) (t : Told) where
 
   -- what was found is mended, and nothing more
   found_within : (found : FoundFile layout t) (new : Option Told) → new ≡ found.mended → AddsWithin layout (Some t) new
-  found_within found new same = mends_within found.replica.file new (layout_there layout t found) (subst (λ (o : Option Told). Mends found.replica.file (Some (did Sync t)) o) (sym same) found.mending)
+  found_within found new same = mends_within found.replica.file new (layout_there layout t found) (rw (sym same) at found.mending)
 
   -- and calls are made on it
   calls_within_found : (found : FoundFile layout t) (to : Replica) (new : Option Told) (xs : List Exchange) (failed : Option Act) → EndsCalls found.replica to found.mended new xs failed → AddsWithin layout (Some t) new

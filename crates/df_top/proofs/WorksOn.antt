@@ -15,7 +15,7 @@ use Rattle.df_top.{specs.{Acknowledging.{run_calls}, Outside.{Blames, HasCauses,
 pub prints_done : {T : Type 0} (run : Run) (t : Replica) (worked : Result T Fault) (x : T) (report : Workload) (old new : Option (List ℕ)) (status : Status) → worked ≡ Ok x → report ≡ workload_of run t
     → PrintsLine (workload_text report) Done old new status → PrintsRun run t worked old new status
 prints_done run t worked x report old new status is same prints =
-    subst (λ (w : Result _ Fault). PrintsRun run t w old new status) (sym is) (subst (λ (w : Workload). PrintsLine (workload_text w) Done old new status) same prints)
+    subst (λ (w : Result _ Fault). PrintsRun run t w old new status) (sym is) (rw same at prints)
 
 -- ---- causes
 
@@ -54,13 +54,13 @@ module _ (seed count : ℕ) (layout : Layout) (t : Told) (old new : Outside) (st
   tells_on =
       let goes = goes_told (did Sync t) mended synced in
       let by_calls = ends_told s last mended new.told ended.worked.exchanges ended.worked.failed ended.worked.calls in
-      let more = goes_told goes.0 new.told (subst (λ (o : Option Told). ToldBy o new.told) goes.1 by_calls) in
+      let more = goes_told goes.0 new.told (rw goes.1 at by_calls) in
       (more.0, more.1)
 
   undamaged : status ≡ Refused → ⊥
   undamaged is =
       damaged_never run last new.told ended.worked.failed old.written new.written tells_on.0 tells_on.1
-      (subst (λ (x : Status). WritesReport run last new.told ended.worked.failed old.written new.written x) is ended.writes)
+      (rw is at ended.writes)
 
   calls : CallsKeep t found.replica found.mended found.mending (run_calls ended.worked)
   calls = calls_keep t s mended over last new.told ended.worked.exchanges ended.worked.failed ended.worked.calls image live

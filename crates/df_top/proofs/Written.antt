@@ -1,5 +1,5 @@
 -- The calls of a session go on, and so do their lines and what they print.
-use Rattle.std.proofs.Common.{◌≡◌, ℕ, ◌-◌, List, [], ◌∷◌, ◌++◌, Option, refl, sym, ◌∙◌, ap, subst, append_assoc}
+use Rattle.std.proofs.Common.{◌≡◌, ℕ, ◌-◌, List, [], ◌∷◌, ◌++◌, Option, refl, sym, ◌∙◌, ap, append_assoc}
 use Rattle.df_lines.specs.{Grammar.{Said}, Script.{BeginsWithLines, IsLine}, Text.{after_line, taken}}
 use Rattle.df_disk.specs.Told.{Told}
 use Rattle.df_pace.specs.{declared.beat.Beat.{Beat}, declared.pace.Pace.{Pace}}
@@ -27,7 +27,7 @@ turns_join pace b c d s t u old mid new (x ∷ turns) more (NextTurn v between i
 pub begins_more : (bound budget : ℕ) (text : List ℕ) (asked : List Said) (left : ℕ) (rest : List ℕ) (said : Said) → BeginsWithLines bound budget text asked left rest → IsLine bound left rest said
     → BeginsWithLines bound budget text (asked ++ said ∷ []) (left - taken rest) (after_line rest)
 begins_more bound budget text [] left rest said begins is = (
-  subst (λ (n : ℕ). IsLine bound n text said) begins.0 (subst (λ (t : List ℕ). IsLine bound left t said) begins.1 is),
+  rw begins.0 at (rw begins.1 at is),
   ((λ i. begins.0 i - taken (begins.1 i)), λ i. after_line (begins.1 i)),
 )
 begins_more bound budget text (x ∷ asked) left rest said begins is =

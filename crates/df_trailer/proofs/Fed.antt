@@ -1,5 +1,5 @@
 -- A piece more that a reader was fed, and what it answers.
-use Rattle.std.proofs.Common.{◌≡◌, ℕ, ◌+◌, ◌-◌, ◌*◌, ◌/◌, ◌<◌, ◌≤◌, true, Option, List, ◌++◌, length, take, drop, sym, ap, ◌∙◌, subst, arith, length-drop}
+use Rattle.std.proofs.Common.{◌≡◌, ℕ, ◌+◌, ◌-◌, ◌*◌, ◌/◌, ◌<◌, ◌≤◌, true, Option, List, ◌++◌, length, take, drop, sym, ap, ◌∙◌, arith, length-drop}
 use Rattle.df_layout.specs.declared.layout.Layout as file
 use Rattle.df_units.specs.Meaning.{layout_of}
 use Rattle.df_model.specs.Refusals.{first_refusal}
@@ -57,7 +57,7 @@ read_more layout op text old new piece n f was =
     let old_size : length (bits_room old) ≡ bits_size (layout_of layout) = room_size old ∙ ap (λ (l : file.Layout). (l.blocks + 7) / 8) was.of_layout in
     let new_size : length (bits_room new) ≡ bits_size (layout_of layout) = room_size new ∙ ap (λ (l : file.Layout). (l.blocks + 7) / 8) mine in
     let given : AreChecksKept text (length old.front.head.items + length (bits_room old)) (checks_room old) =
-    subst (λ (m : ℕ). AreChecksKept text (length old.front.head.items + m) (checks_room old)) (sym old_size) was.checks in
+    rw (sym old_size) at was.checks in
     let taken : AreChecksKept (text ++ piece) (length new.front.head.items + length (bits_room new)) (checks_room new) =
     checks_added (layout_of layout) text old.front.head.items (bits_room old) old.behind piece n new.front.head.items (bits_room new) new.behind (checks_room old) (checks_room new) was.kept a
     (omega (arith, checks_size old, checks_size new, blocks))
@@ -73,7 +73,7 @@ read_more layout op text old new piece n f was =
       of_layout = mine;
       of_op = f.op ∙ was.of_op;
       kept = added_is_kept (layout_of layout) text old.front.head.items (bits_room old) old.behind piece n new.front.head.items (bits_room new) new.behind was.kept a;
-      checks = subst (λ (m : ℕ). AreChecksKept (text ++ piece) (length new.front.head.items + m) (checks_room new)) new_size taken;
+      checks = rw new_size at taken;
     }
 
 -- what fails in what was kept fails in the text

@@ -1,5 +1,5 @@
 -- What fails in a text is told by what a reader keeps of it.
-use Rattle.std.{proofs.{Common.{◌≡◌, ℕ, zero, suc, ◌+◌, ◌-◌, ◌*◌, ◌/◌, ◌<◌, ◌≤◌, ◌==◌, Bool, true, false, nat_lt, inl, inr, Option, Some, None, List, [], ◌∷◌, ◌++◌, length, take, drop, refl, sym, ap, ◌∙◌, subst, arith, append_assoc, length-append, length-drop, append-nil, ◌⊎◌}, lemmas.Bool.{cases_eq, cases_lt, eq-eqb, ne_eqb, lt-ltb, le-ltb, ltb-false}, lemmas.List.{drop_at, ext_get_or, get_or-take, get_or_append_left, get_or-append-add, length-take-le, take-append-drop}}, specs.Prelude.{if◌then◌else◌, slice_index}}
+use Rattle.std.{proofs.{Common.{◌≡◌, ℕ, zero, suc, ◌+◌, ◌-◌, ◌*◌, ◌/◌, ◌<◌, ◌≤◌, ◌==◌, Bool, true, false, nat_lt, inl, inr, Option, Some, None, List, [], ◌∷◌, ◌++◌, length, take, drop, refl, sym, ap, ◌∙◌, arith, append_assoc, length-append, length-drop, append-nil, ◌⊎◌}, lemmas.Bool.{cases_eq, cases_lt, eq-eqb, ne_eqb, lt-ltb, le-ltb, ltb-false}, lemmas.List.{drop_at, ext_get_or, get_or-take, get_or_append_left, get_or-append-add, length-take-le, take-append-drop}}, specs.Prelude.{if◌then◌else◌, slice_index}}
 use Rattle.df_base.{specs.Fields.{field_at}, proofs.Laws.{field_front}}
 use Rattle.df_theory.specs.Units.{Layout}
 use Rattle.df_model.{specs.Refusals.{first_refusal}, proofs.Laws.{all_pass}}
@@ -120,7 +120,7 @@ nothing_kept l head bs none room = record {
   rest = [];
   is = ap (λ (h : List ℕ). h ++ []) (sym none);
   size = refl;
-  fits = subst (λ (h : List ℕ). length h ≤ head_end h) (sym none) (omega arith);
+  fits = rw none (omega arith);
   whole = λ some. absurd (omega arith);
   room = room;
   bits_are = λ i within inside. absurd (omega arith);

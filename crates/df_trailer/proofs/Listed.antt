@@ -1,5 +1,5 @@
 -- The sessions of a text in which nothing fails keep the rules of sessions, as the table has them.
-use Rattle.std.{proofs.{Common.{◌≡◌, ℕ, ◌≤◌, Option, Some, None, List, [], length, map, refl, sym, ap, ◌∙◌, subst}, lemmas.List.{length-map}, lemmas.Option.{slice_get-map}}, specs.{List.{slice_get}, Option.{option_map}}}
+use Rattle.std.{proofs.{Common.{◌≡◌, ℕ, ◌≤◌, Option, Some, None, List, [], length, map, refl, sym, ap, ◌∙◌}, lemmas.List.{length-map}, lemmas.Option.{slice_get-map}}, specs.{List.{slice_get}, Option.{option_map}}}
 use Rattle.df_layout.specs.declared.layout.Layout as file
 use Rattle.df_sessions.specs.declared.session.Session as table
 use Rattle.df_theory.specs.Units as model
@@ -17,18 +17,18 @@ from_list : (xs : List model.Session) (k : ℕ) (s : table.Session) → slice_ge
 from_list xs k s at = pick (slice_get xs k) refl (sym (slice_get-map without_reply xs k) ∙ at)
   where
     pick : (o : Option model.Session) → slice_get xs k ≡ o → option_map without_reply (slice_get xs k) ≡ Some s → IsFrom xs k s
-    pick None there is = absurd (let no : option_map without_reply None ≡ Some s = subst (λ (y : Option model.Session). option_map without_reply y ≡ Some s) there is in cc)
+    pick None there is = absurd (let no : option_map without_reply None ≡ Some s = rw there at is in cc)
     pick (Some x) there is =
-        let yes : option_map without_reply (Some x) ≡ Some s = subst (λ (y : Option model.Session). option_map without_reply y ≡ Some s) there is in
+        let yes : option_map without_reply (Some x) ≡ Some s = rw there at is in
         record { from = x; at = there; is = (let one : without_reply x ≡ s = cc in sym one) }
 
 rules_listed : (places op : ℕ) (xs : List model.Session) → length xs ≤ places → KeepRules op [] xs → AreReadSessions places op (map without_reply xs)
 rules_listed places op xs few keep = record {
-  few = subst (λ (n : ℕ). n ≤ places) (sym (length-map xs without_reply)) few;
+  few = rw (sym (length-map xs without_reply)) at few;
   each = λ k s at.
       let f = from_list xs k s at in
       let rules = keep.each k f.from f.at in
-      subst (λ (t : table.Session). IsReadSession op t) (sym f.is) (record { client = rules.0; request = (rules.1, rules.2); op_is = (rules.3, rules.4); reply = refl });
+      rw f.is (record { client = rules.0; request = (rules.1, rules.2); op_is = (rules.3, rules.4); reply = refl });
   clients = λ j k s t one two same.
       let f = from_list xs j s one in
       let g = from_list xs k t two in
@@ -44,5 +44,5 @@ pub sessions_listed : (layout : file.Layout) (op : ℕ) (text : List ℕ) (r : R
 sessions_listed layout op text r ss none read is =
     let clean : fault (layout_of layout) op text ≡ None = ap (λ (o : Option Failing). fault_in o) (sym (fails_as_read layout op text r read) ∙ none) in
     let f = fine (layout_of layout) op text clean in
-    subst (λ (l : List table.Session). AreReadSessions layout.clients op l) (sym is)
-    (rules_listed layout.clients op (parts_of (layout_of layout) text).sessions (subst (λ (n : ℕ). n ≤ layout.clients) (sym (sessions.length_read (count text) (sessions_at text) text)) f.few) f.rules)
+    rw (sym is) at
+    (rules_listed layout.clients op (parts_of (layout_of layout) text).sessions (rw (sym (sessions.length_read (count text) (sessions_at text) text)) at f.few) f.rules)

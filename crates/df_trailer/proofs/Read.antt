@@ -1,5 +1,5 @@
 -- What a text in which no part fails says: lawful parts, of which it is the spelling.
-use Rattle.std.{proofs.{Common.{◌≡◌, ℕ, zero, suc, ◌+◌, ◌-◌, ◌*◌, ◌/◌, ◌^◌, ◌<◌, ◌≤◌, ◌==◌, Bool, true, false, Option, Some, None, List, [], ◌∷◌, length, take, drop, refl, sym, ap, ◌∙◌, subst, arith, length-drop}, lemmas.List.{length-take-le, take_at}, lemmas.Bool.{ltb-false, leb-false, eqb-true, not-false}}, specs.{Prelude.{map, min}, List.{slice_get}}}
+use Rattle.std.{proofs.{Common.{◌≡◌, ℕ, zero, suc, ◌+◌, ◌-◌, ◌*◌, ◌/◌, ◌^◌, ◌<◌, ◌≤◌, ◌==◌, Bool, true, false, Option, Some, None, List, [], ◌∷◌, length, take, drop, refl, sym, ap, ◌∙◌, arith, length-drop}, lemmas.List.{length-take-le, take_at}, lemmas.Bool.{ltb-false, leb-false, eqb-true, not-false}}, specs.{Prelude.{map, min}, List.{slice_get}}}
 use Rattle.df_base.{specs.{Fields.{AreBytes, field_at}, Text.{total}}, proofs.Laws.{field_at-lt, AreBytes-take, AreBytes-drop, spelled_back}}
 use Rattle.df_theory.specs.Units.{Layout, Parts, Session}
 use Rattle.df_model.{specs.{Codec.{InGrid, IsChecksum, IsLawful}, Refusals.{first_refusal}}, proofs.Laws.{all_pass}}
@@ -36,7 +36,7 @@ fine l op text none =
       start = ltb-false (length text) 4 t.0;
       root = ltb-false 1024 (root_size text) t1.0;
       few = ltb-false l.clients (count text) t4.0;
-      rules = subst (λ (n : ℕ). KeepRules op [] (read_sessions n (sessions_at text) text)) all kept;
+      rules = rw all at kept;
       bits_are = leb-false (2 ^ l.blocks) (bits l text) t8.0;
       ends = eqb-true (length text) (end_at l text) (not-false (length text == end_at l text) t9.0);
     }
@@ -123,7 +123,7 @@ pub text_read : (l : Layout) (op : ℕ) (text : List ℕ) (parts : Parts) → op
 text_read l op text parts most are is =
     let p = fine_if (fault l op text) (parts_of l text) parts is in
     let f = fine l op text p.0 in
-    subst (λ (q : Parts). IsSpelling l op text q) p.1 (record {
+    rw (← p.1) (record {
       lawful = parts_lawful l op text most are f;
       spells = spelled_again l op text are f;
     })

@@ -62,7 +62,7 @@ kept_said layout op text r address none read some most =
     let blocks : r.layout.blocks ≡ layout.blocks = ap (λ (l : file.Layout). l.blocks) read.of_layout in
     let clean : fault (layout_of layout) op text ≡ None = ap (λ (o : Option Failing). fault_in o) (sym (fails_as_read layout op text r read) ∙ none) in
     let size : length (bits_room r) ≡ bits_size (layout_of layout) = room_size r ∙ ap (λ (n : ℕ). (n + 7) / 8) blocks in
-    let kept : AreChecksKept text (length head + length (bits_room r)) (checks_room r) = subst (λ (m : ℕ). AreChecksKept text (length head + m) (checks_room r)) (sym size) read.checks in
+    let kept : AreChecksKept text (length head + length (bits_room r)) (checks_room r) = rw (sym size) at read.checks in
     let room : length (checks_room r) ≡ 16 * layout.blocks = length_listed (byte_in_checks r.parts.checks.items) (16 * r.layout.blocks) ∙ ap (λ (n : ℕ). 16 * n) blocks in
     reference_at (layout_of layout) op text head (bits_room r) (checks_room r) r.behind address layout.clients_within.1 read.kept room kept clean some most
 

@@ -1,5 +1,5 @@
 -- What fails in a text, whatever comes after it, fails in each longer text.
-use Rattle.std.{proofs.{Common.{◌≡◌, ℕ, zero, suc, ◌+◌, ◌-◌, ◌*◌, ◌/◌, ◌^◌, ◌<◌, ◌≤◌, ◌==◌, Bool, true, false, nat_lt, inl, inr, Option, Some, None, List, [], ◌∷◌, ◌++◌, length, refl, ap, ◌∙◌, subst, arith, length-append}, lemmas.Bool.{cases_Bool, cases_lt, lt-ltb, le-ltb, le-leb, lt-leb}}, specs.Prelude.{min, nat_le, if◌then◌else◌}}
+use Rattle.std.{proofs.{Common.{◌≡◌, ℕ, zero, suc, ◌+◌, ◌-◌, ◌*◌, ◌/◌, ◌^◌, ◌<◌, ◌≤◌, ◌==◌, Bool, true, false, nat_lt, inl, inr, Option, Some, None, List, [], ◌∷◌, ◌++◌, length, refl, ap, ◌∙◌, arith, length-append}, lemmas.Bool.{cases_Bool, cases_lt, lt-ltb, le-ltb, le-leb, lt-leb}}, specs.Prelude.{min, nat_le, if◌then◌else◌}}
 use Rattle.df_base.{specs.Fields.{field_at}, proofs.Laws.{field_front}}
 use Rattle.df_theory.specs.Units.{Layout, Session}
 use Rattle.df_model.specs.Refusals.{first_refusal}
@@ -42,7 +42,7 @@ behind_head l op t ys f four low reach few right past is =
     let wt : whole t ≡ count t = omega arith in
     let wy : min (count t) ((length (t ++ ys) - (4 + root_size t + 4)) / 32) ≡ count t = omega arith in
     let ss : read_sessions (count t) (4 + root_size t + 4) (t ++ ys) ≡ read_sessions (count t) (4 + root_size t + 4) t = sessions_front (count t) (4 + root_size t + 4) t ys past in
-    let kept : count t ≤ wrong_place op [] (read_sessions (count t) at t) = subst (λ (n : ℕ). n ≤ wrong_place op [] (read_sessions n at t)) wt right in
+    let kept : count t ≤ wrong_place op [] (read_sessions (count t) at t) = rw wt at right in
     let w' : nat_lt (wrong_place op [] (read_sessions (count t) (4 + root_size t + 4) t)) (count t) ≡ false = le-ltb (wrong_place op [] (read_sessions (count t) at t)) (count t) kept in
     let a6 : nat_lt (length t) (4 + root_size t + 4 + 32 * count t) ≡ false = le-ltb (length t) (4 + root_size t + 4 + 32 * count t) past in
     let b6 : nat_lt (length (t ++ ys)) (4 + root_size t + 4 + 32 * count t) ≡ false = le-ltb (length (t ++ ys)) (4 + root_size t + 4 + 32 * count t) (omega arith) in

@@ -1,5 +1,5 @@
 -- Bits in words of 64: their bytes, and each of them as a bit of one number.
-use Rattle.std.{proofs.{Common.{◌≡◌, ◌≢◌, ℕ, zero, suc, ◌+◌, ◌*◌, ◌/◌, ◌%◌, ◌^◌, ◌<◌, ◌==◌, List, ◌++◌, length, take, drop, get_or, set, nat_eq, refl, sym, ap, ◌∙◌, subst, arith, inl, inr, bit_and}, lemmas.Nat.Bits.{shr_and_one, bit_at_cat_low}, lemmas.Nat.{le_bytes_8}, lemmas.Bool.{cases_eq}, lemmas.List.{get_or-set_same, get_or-set_other, length-set, take-append-le, take_all}}, specs.{Prelude.{slice_index}, Int.{bit_at, byte_at, bytes_low_first, to_le_bytes, from_le_bytes, w64}}}
+use Rattle.std.{proofs.{Common.{◌≡◌, ◌≢◌, ℕ, zero, suc, ◌+◌, ◌*◌, ◌/◌, ◌%◌, ◌^◌, ◌<◌, ◌==◌, List, ◌++◌, length, take, drop, get_or, set, nat_eq, refl, sym, ap, ◌∙◌, arith, inl, inr, bit_and}, lemmas.Nat.Bits.{shr_and_one, bit_at_cat_low}, lemmas.Nat.{le_bytes_8}, lemmas.Bool.{cases_eq}, lemmas.List.{get_or-set_same, get_or-set_other, length-set, take-append-le, take_all}}, specs.{Prelude.{slice_index}, Int.{bit_at, byte_at, bytes_low_first, to_le_bytes, from_le_bytes, w64}}}
 use Rattle.df_base.{specs.Fields.{AreBytes}, proofs.Laws.{byte_at-lt}}
 use Rattle.df_trailer.{specs.{Rooms.{bits_in_words, byte_in_words, byte_of_word}, Spelling.{listed}, Text.{bits_in}}, proofs.{Blocks.{length_listed}, BitBytes.{bit_behind, byte_done}, OneBit.{bit_found}}}
 
@@ -52,8 +52,8 @@ byte_set word place byte new within small is =
   where
     fits : (i : ℕ) → get_or (set (to_le_bytes w64 word) place byte) i 0 < 256
     fits i = elim (cases_eq i place) [
-      | inl same ↦ subst (λ (j : ℕ). get_or (set (to_le_bytes w64 word) place byte) j 0 < 256) (sym same) (subst (λ (b : ℕ). b < 256) (sym (get_or-set_same (to_le_bytes w64 word) place byte 0 within)) small)
-      | inr other ↦ subst (λ (b : ℕ). b < 256) (sym (get_or-set_other (to_le_bytes w64 word) place i byte 0 other)) (bytes_of_word word i)
+      | inl same ↦ rw same (rw ((get_or-set_same (to_le_bytes w64 word) place byte 0 within)) small)
+      | inr other ↦ rw (sym (get_or-set_other (to_le_bytes w64 word) place i byte 0 other)) at (bytes_of_word word i)
     ]
 
 pub byte_there : (word place byte new : ℕ) → place < 8 → byte < 256 → new ≡ from_le_bytes w64 (set (to_le_bytes w64 word) place byte) → byte_of_word new place ≡ byte

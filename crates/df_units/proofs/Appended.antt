@@ -46,7 +46,7 @@ append_on_disk layout cluster named parse log v u bytes sector headers whole tid
     let shows : (place : Units.Place) → UnitLog.now (units_log f log) place ≡ unit_at layout cluster (Log.now log) place = λ place. sym (shown_law f log (Log.now log) (is_format layout cluster) (λ sector. refl) place) in
     let put : Units.Units = put_one (PreparePlace u.header.slot) (PrepareUnit (message_of u)) in
     let one : PutsOne put (PreparePlace (u.header.op % layout.slots)) (PrepareUnit (message_of u)) =
-    subst (λ (s : ℕ). PutsOne put (PreparePlace s) (PrepareUnit (message_of u))) slot (put_one_law (PreparePlace u.header.slot) (PrepareUnit (message_of u))) in
+    rw (← slot) (put_one_law (PreparePlace u.header.slot) (PrepareUnit (message_of u))) in
     let leads = tidy_append_law sh (units_log f log) v (message_of u) put (put_headers sector headers) tidy may one
     (is_header_sector layout cluster sh u sector headers (Log.now log) slot next (UnitLog.now (units_log f log)) shows)
     (puts_new layout cluster sh u sector headers (Log.now log) slot next) in

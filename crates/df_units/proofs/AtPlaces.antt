@@ -99,7 +99,7 @@ module _ (layout : Layout) (cluster : ℕ) (named : 0 < cluster) (parse : ℕ �
   of_reply k None x shown is = absurd (cc)
   of_reply k (Some u) x shown is =
       let here = (shown_belongs layout cluster image (place_in ClientReplies k) u shown).belongs in
-      (message_of u, cc, reply_range layout cluster (place_in ClientReplies k) u (unit_shown (place_in ClientReplies k) u shown) here.kind, reply_alone u.header (subst (λ (kind : Kind). ObeysVersion kind u.header) here.kind (unit_shown (place_in ClientReplies k) u shown).sealed.rules.version))
+      (message_of u, cc, reply_range layout cluster (place_in ClientReplies k) u (unit_shown (place_in ClientReplies k) u shown) here.kind, reply_alone u.header (rw (← here.kind) (unit_shown (place_in ClientReplies k) u shown).sealed.rules.version))
 
   of_block : (a : ℕ) (o : Option Message) (x : AnyUnit) → Shown.unit_at layout cluster image (place_in Grid a) ≡ o → message_unit (BlockPlace a) o ≡ Some x → IsOfPlace (shape_of layout cluster named parse) (BlockPlace a) x
   of_block a None x shown is = absurd (cc)
@@ -132,5 +132,5 @@ unbooted_alone layout cluster image whole s p shown none =
     let u : Message = there.0 in
     let unit = shown_is_unit layout cluster image (place_in WalPrepares s) u whole there.1 in
     let kind = (shown_belongs layout cluster image (place_in WalPrepares s) u there.1).belongs.kind in
-    let version = subst (λ (k : Kind). ObeysVersion k u.header) kind unit.sealed.rules.version in
-    subst (λ (m : Units.Message). IsAlone m.header) there.2 (first_alone Prepare u.header version no_prepare (ap (λ (m : Units.Message). m.header.boot) there.2 ∙ none))
+    let version = rw kind at unit.sealed.rules.version in
+    rw (← there.2) (first_alone Prepare u.header version no_prepare (ap (λ (m : Units.Message). m.header.boot) there.2 ∙ none))

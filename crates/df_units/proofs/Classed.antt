@@ -178,7 +178,7 @@ module _ (layout : Layout) (cluster : ℕ) (image : Image) (place : Units.Place)
 
 copy_of_none : (kind : Kind) (o : Option Content) (x : AnyUnit) → copy_unit o ≡ Some x → IsOfKind kind x → ⊥
 copy_of_none kind None x is of_kind = absurd (cc)
-copy_of_none kind (Some c) x is of_kind = no_kind kind c (subst (λ (y : AnyUnit). IsOfKind kind y) (sym (same_Some _ _ is)) of_kind)
+copy_of_none kind (Some c) x is of_kind = no_kind kind c (rw (sym (same_Some _ _ is)) at of_kind)
   where
     no_kind : (kind : Kind) (c : Content) → IsOfKind kind (CopyUnit (content_of_copy c)) → ⊥
     no_kind Reserved c is = is

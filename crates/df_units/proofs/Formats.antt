@@ -75,6 +75,6 @@ format_on_disk layout cluster named parse sectors log is count reserved whole ma
     let same : units_log fmt (adds es log) ≡ after_steps ss (units_log fmt log) = same_log fmt es ss log whole are in
     record {
       moments = safe_moments_law fmt sh log es ss (is_format layout cluster) whole are safe;
-      tidy = subst (λ (l : UnitLog). IsTidy sh l v) (sym same) ends.0;
-      standing = subst (λ (l : UnitLog). IsStanding l v) (sym same) ends.1;
+      tidy = rw (sym same) at ends.0;
+      standing = rw (sym same) at ends.1;
     }

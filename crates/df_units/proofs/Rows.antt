@@ -41,7 +41,7 @@ table_written layout cluster sector table inside valid = record {
   inside = inside;
   each = λ i h is.
       let here = is_of_table table sector i h is in
-      subst (λ (x : Header). IsUnit layout cluster (place_in WalHeaders (16 * sector + i)) (record { header = x; body = [] })) here.1 (valid (16 * sector + i) (omega (arith, inside, here.0, layout.slots_within.2)));
+      rw here.1 at (valid (16 * sector + i) (omega (arith, inside, here.0, layout.slots_within.2)));
 }
 
 -- ---- reserved headers
@@ -81,10 +81,10 @@ module _ (layout : Layout) (cluster : ℕ) (new : Header) (named : 0 < cluster) 
   table_valid : (slot : ℕ) → slot < layout.slots → IsUnit layout cluster (place_in WalHeaders slot) (record { header = with_new cluster new slot; body = [] })
   table_valid slot below = elim (cases_eq slot new.slot) [
     | inl is ↦
-        subst (λ (h : Header). IsUnit layout cluster (place_in WalHeaders slot) (record { header = h; body = [] })) (sym (own_new slot is))
-        (subst (λ (s : ℕ). IsUnit layout cluster (place_in WalHeaders s) (record { header = new; body = [] })) (sym is) valid)
+        rw ((own_new slot is))
+        (rw is valid)
     | inr other ↦
-        subst (λ (h : Header). IsUnit layout cluster (place_in WalHeaders slot) (record { header = h; body = [] })) (sym (other_new slot other)) (reserved_unit layout cluster slot named small below)
+        rw (sym (other_new slot other)) at (reserved_unit layout cluster slot named small below)
   ]
 
   reserved_are : AreHeaders layout cluster sector (sector_of (reserved_header cluster) sector)

@@ -76,7 +76,7 @@ one_put layout cluster place x bytes there alone piece fits shown =
     put_shown_law (format_of layout cluster) (span_at layout place).first bytes (put_one place x) (is_format layout cluster) piece (place, λ sector is. fits_there layout place bytes sector there fits is) (touches_one layout place x bytes there alone piece.some fits)
     (λ image other y whole is.
     let one = only_one place other x y (same_place place other) refl is in
-    subst (λ (p : Units.Place). unit_at layout cluster (written (span_at layout place).first bytes image) p ≡ Some y) one.0 (shown image whole ∙ ap Some one.1))
+    rw (← one.0) (shown image whole ∙ ap Some one.1))
 
 -- bytes that bring a unit, written at its own place: it is shown there, whatever was there before
 brought_shown : (layout : Layout) (cluster : ℕ) (place : Place) (u : Message) (bytes : List ℕ) (image : Image) → place.zone ≢ WalHeaders → Brings layout cluster place u bytes
@@ -114,7 +114,7 @@ copy_put layout cluster number f small is =
     let x : AnyUnit = CopyUnit (content_of (content_with f)) in
     subst (λ (at : ℕ). IsPut (format_of layout cluster) at bytes (put_one (CopyPlace number) x)) (copy_first layout number)
     (one_put layout cluster (CopyPlace number) x bytes (lt-ltb number 4 small) (λ same. cc) one.piece (omega (arith, one.sector.size, copy_count layout number))
-    (λ image whole. subst (λ (at : ℕ). unit_at layout cluster (written at bytes image) (CopyPlace number) ≡ Some x) (sym (copy_first layout number)) (ap copy_unit (written_copy image number f small is))))
+    (λ image whole. rw ((copy_first layout number)) (ap copy_unit (written_copy image number f small is))))
 
 -- ---- a write of sixteen headers
 
@@ -175,7 +175,7 @@ module _ (layout : Layout) (cluster sector : ℕ) (headers : List Header) (are :
       let here : s / 16 ≡ sector = eqb-true _ _ put.0 in
       let h : Header = put.1.0 in
       let slot : 16 * sector + s % 16 ≡ s = omega arith in
-      let unit = subst (λ (n : ℕ). IsUnit layout cluster (place_in WalHeaders n) (record { header = h; body = [] })) slot (are.each (s % 16) h put.1.1) in
+      let unit = rw slot at (are.each (s % 16) h put.1.1) in
       ap (message_unit (HeaderPlace s)) (header_shown layout cluster image (16 * sector) s headers h are.sixteen (omega arith) put.1.1 unit) ∙ ap Some put.1.2
 
   headers_shown : (image : Image) (place : Units.Place) (x : AnyUnit) → IsImage image → put_headers sector headers place ≡ Some x → unit_at layout cluster (written (span_of layout first).first bytes image) place ≡ Some x
@@ -211,7 +211,7 @@ module _ (layout : Layout) (cluster : ℕ) (image : Image) (new : Header) (secto
   put_new : (s : ℕ) → or_else (put_headers sector headers (HeaderPlace s)) (shown (HeaderPlace s)) ≡ or_else (put_one (HeaderPlace new.slot) (HeaderUnit (header_of new)) (HeaderPlace s)) (shown (HeaderPlace s))
   put_new s = elim (cases_eq s new.slot) [
     | inl own ↦
-        subst (λ (i : ℕ). or_else (put_headers sector headers (HeaderPlace i)) (shown (HeaderPlace i)) ≡ or_else (put_one (HeaderPlace new.slot) (HeaderUnit (header_of new)) (HeaderPlace i)) (shown (HeaderPlace i))) (sym own)
+        rw own
         (ap (λ (o : Option AnyUnit). or_else o (shown (HeaderPlace new.slot)))
         (cond-true (new.slot / 16 == sector) (header_unit (slice_get headers (new.slot % 16))) None (eq-eqb (new.slot / 16) sector next.here) ∙ ap header_unit next.has
         ∙ sym (cond-true (new.slot == new.slot) (Some (HeaderUnit (header_of new))) None (eq-eqb new.slot new.slot refl))))

@@ -52,7 +52,7 @@ module _ (s : Survey) (t : Told) (four : length s.chosen.members ≡ 4) (usable 
   each_says n below = elim (cases_Bool (get_or s.chosen.members n false)) [
     | inl member ↦
         let here : 0 + n ≡ n = omega arith in
-        let spared : Spares n 0 s.chosen.members = subst (λ (k : ℕ). Spares k 0 s.chosen.members) here (member_spared 0 n s.chosen.members member) in (
+        let spared : Spares n 0 s.chosen.members = rw here at (member_spared 0 n s.chosen.members member) in (
           plan.super.content,
           ap (λ (i : Image). content_at i n) parts ∙ spared_stays s.state.fields usable n 0 s.chosen.members mid (omega (arith, four)) spared
               ∙ headers_stay s.state.file.layout s.state.headers n below (sectors_of s.state.file.layout s.mends) t.shown ∙ (plan.members_are n below).0 member,
@@ -81,10 +81,10 @@ above_told : (s : Survey) (t : Told) → length s.chosen.members ≡ 4 → IsUsa
 above_told s t four usable one plan = λ whole c chosen.
     let asked = super_as s.state.file.version s.state.fields plan.super.usable in
     let none : s.state.fields.boot ≡ 0 = elim asked.1.version [ inl first ↦ first.boot | inr second ↦ absurd (omega (arith, second.version, asked.0, one)) ] in
-    let says = chosen_says s t four usable plan c (subst (λ (i : Image). IsChosenContent (content_at i) c) (shown_after (restoring_events s) t) chosen) in
+    let says = chosen_says s t four usable plan c (rw (shown_after (restoring_events s) t) at chosen) in
     omega (arith, none, ap (λ (f : SuperFields). f.boot) says, ap (λ (f : SuperFields). f.sequence) says)
 
 pub is_above : (s : Survey) (old new : Option Told) → length s.chosen.members ≡ 4 → IsUsable s.state.fields → s.state.file.version ≡ 1 → ((t : Told) → old ≡ Some t → IsPlannedOf s t) → new ≡ after_all (restoring_events s) old → IsAbove new (base_fields s.state)
 is_above s None new four usable one plan added = subst (λ (o : Option Told). IsAbove o (base_fields s.state)) (sym (added ∙ none_after (restoring_events s))) tt
 is_above s (Some t) new four usable one plan added =
-    subst (λ (o : Option Told). IsAbove o (base_fields s.state)) (sym (added ∙ added_is_told (restoring_events s) t)) (above_told s t four usable one (plan t refl))
+    rw ((added ∙ added_is_told (restoring_events s) t)) (above_told s t four usable one (plan t refl))

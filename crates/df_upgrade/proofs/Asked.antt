@@ -14,7 +14,7 @@ use Rattle.df_upgrade.specs.Old.{AnswersOld, TellsHurtOld}
 hurt_old : (layout : Layout) (told : Option Told) (result : Result State OpenError) → TellsSurveyAs 1 layout told result → TellsHurtOld layout told result
 hurt_old layout told result tells = λ file view t is same may.
     answer_is_of_hurt_as 1 file view t result may (λ second. absurd (omega (arith, second)))
-    (subst (λ (l : Layout). TellsSurveyAs 1 l (Some t) result) same (subst (λ (o : Option Told). TellsSurveyAs 1 layout o result) is tells) may.whole)
+    (subst (λ (l : Layout). TellsSurveyAs 1 l (Some t) result) same (rw is at tells) may.whole)
 
 pub answers_old : (layout : Layout) (told : Option Told) (result : Result State OpenError) → TellsSurveyAs 1 layout told result → AnswersOld layout told result
 answers_old layout told result tells = record { answer = tells; hurt = hurt_old layout told result tells }
@@ -22,5 +22,5 @@ answers_old layout told result tells = record { answer = tells; hurt = hurt_old 
 -- the state that is found stands for what the machine begins with
 pub stands_old : (layout : Layout) (t : Told) (s : State) (view : View) → s.file.layout ≡ layout → (IsImage t.shown → IsOpenedAs 1 layout t.shown s) → IsImage t.shown → IsFound (shape s.file) (unit_at s.file.layout s.file.cluster t.shown) view → Represents s (first_state s.file t view)
 stands_old layout t s view of answer whole found =
-    let is : IsOpenedAs 1 s.file.layout t.shown s = subst (λ (l : Layout). IsOpenedAs 1 l t.shown s) (sym of) (answer whole) in
-    subst (λ (v : View). Represents s (opened (shape s.file) (unit_at s.file.layout s.file.cluster t.shown) v)) (one_found_law (shape s.file) (unit_at s.file.layout s.file.cluster t.shown) is.view view is.found found) is.stands
+    let is : IsOpenedAs 1 s.file.layout t.shown s = rw (sym of) at (answer whole) in
+    rw (← (one_found_law (shape s.file) (unit_at s.file.layout s.file.cluster t.shown) is.view view is.found found)) is.stands

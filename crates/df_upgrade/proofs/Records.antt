@@ -1,5 +1,5 @@
 -- The superblock of an upgrade passes its tests, and says what the machine records of the state that was found.
-use Rattle.std.proofs.{Common.{◌≡◌, inl, inr, ℕ, ◌+◌, ◌<◌, ◌^◌, List, [], None, false, true, refl, sym, ◌∙◌, ap, subst, arith}, lemmas.List.Elements.{All-drop}}
+use Rattle.std.proofs.{Common.{◌≡◌, inl, inr, ℕ, ◌+◌, ◌<◌, ◌^◌, List, [], None, false, true, refl, sym, ◌∙◌, ap, arith}, lemmas.List.Elements.{All-drop}}
 use Rattle.df_format.{specs.{Copies.{content_with}, Spelling.{no_checksum}, SuperRules.{IsFirstSuper, IsUsable, fault_of}, declared.superblock.SuperFields.{SuperFields}}, proofs.Laws.{faults}}
 use Rattle.df_sessions.specs.Table.{IsSessionTable}
 use Rattle.df_theory.specs.{Shape.{Shape}, Units.{Content, Parts, Units}, Upgrades.{as_version}, View.{View}}
@@ -28,7 +28,7 @@ module _ (y : Surveyed) (old : IsOldSurvey y) (usable : IsUsable y.scanned.copie
   sense : IsState (in_second s)
   sense = record {
     in_file = record {
-      cluster = subst (λ (n : ℕ). n < 2 ^ 128) (sym old.found.read.named) usable.fits.cluster;
+      cluster = rw (sym old.found.read.named) at usable.fits.cluster;
       version = refl;
       second = record {
         rules = record {

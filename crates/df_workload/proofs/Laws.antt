@@ -1,5 +1,5 @@
 -- What crates above may cite: before the end a run may be told any outcome; its flag follows the commands and answers; and runs are joined.
-use Rattle.std.proofs.Common.{◌≡◌, Bool, true, false, if◌then◌else◌, List, [], ◌∷◌, ◌++◌, Some, None, refl, sym, ◌∙◌, ap, subst}
+use Rattle.std.proofs.Common.{◌≡◌, Bool, true, false, if◌then◌else◌, List, [], ◌∷◌, ◌++◌, Some, None, refl, ◌∙◌, ap, subst}
 use Rattle.df_model.specs.Commands.{Advance, Answer, Command}
 pub use Rattle.df_workload.proofs.Running.{runs_so, asks_end}
 use Rattle.df_workload.specs.{Asking.{asks, asks_at}, Following.{Follows}, Hearing.{heard, stepped, told, told_at}, Sound.{MayBeTold, is_at_end}, declared.outcome.Outcome.{Outcome}, declared.outcome.Outcome.TheVariants.{Refused}, declared.state.Point.{Point}, declared.state.Point.TheVariants.{Appending, Replying, Stepping, Writing, Releasing, Beginning, Ending}, declared.state.State.{State}}
@@ -62,4 +62,4 @@ still_ending o s ending = ap (λ (p : Point). (told_at p o s).point) ending ∙ 
 
 -- and may be told whatever isn't a refusal
 pub may_end : (o : Outcome) (s : State) → s.point ≡ Ending → s.running ≡ true → (o ≡ Refused → ⊥) → MayBeTold s.point o s
-may_end o s ending runs done = subst (λ (p : Point). MayBeTold p o s) (sym ending) (runs, done)
+may_end o s ending runs done = rw ending (runs, done)

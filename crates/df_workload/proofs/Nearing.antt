@@ -111,7 +111,7 @@ nothing_left s over some = omega arith
 sound_ending : (t : State) → t.point ≡ Ending → IsWithinRound 0 t → t.round ≡ t.count → length t.held ≤ 8 → IsSoundState t
 sound_ending t p w over few = record {
   within = subst (λ (q : Point). IsWithinRound (left_at t.round q) t) (sym p) w;
-  point = subst (λ (q : Point). HasPoint q t) (sym p) (over, few);
+  point = rw p (over, few);
 }
 
 ending : (o : Outcome) (s : State) → s.point ≡ Ending → IsWithinRound 0 s → s.round ≡ s.count → length s.held ≤ 8 → s.running ≡ true → (o ≡ Refused → ⊥) → Nearer 0 s (stepped o s)

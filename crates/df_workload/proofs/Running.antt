@@ -59,4 +59,4 @@ runs_so Stepping o s c is = subst (λ (d : Command). (told_at Stepping o s).runn
 runs_so Writing o s c is = subst (λ (d : Command). (told_at Writing o s).running ≡ runs_after d o s.running) (some_is _ c is) (release_same (block_heard o s) ∙ (others_same o s).2)
 runs_so Releasing o s c is = subst (λ (d : Command). (told_at Releasing o s).running ≡ runs_after d o s.running) (some_is _ c is) (begin_same (release_heard o s) ∙ (others_same o s).3)
 runs_so Beginning o s c is = subst (λ (d : Command). (told_at Beginning o s).running ≡ runs_after d o s.running) (some_is _ c is) (next_same (begin_heard o s) ∙ begun_so (number_body s.round) o s)
-runs_so Ending o s c is = subst (λ (d : Command). (told_at Ending o s).running ≡ runs_after d o s.running) (asks_end s.running c is) (stepped_so o s)
+runs_so Ending o s c is = rw (asks_end s.running c is) at (stepped_so o s)

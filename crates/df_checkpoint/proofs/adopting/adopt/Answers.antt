@@ -1,5 +1,5 @@
 -- None of the chain is held by the blocks that are referenced.
-use Rattle.std.{proofs.Common.{◌+◌, ◌∙◌, ap, refl, subst, sym}, specs.Prelude.{Err}}
+use Rattle.std.{proofs.Common.{◌+◌, ◌∙◌, ap, refl}, specs.Prelude.{Err}}
 use Rattle.df_model.specs.Blocks.{is_held_in}
 use Rattle.df_trailer.specs.Reading.{kept_at}
 use Rattle.df_grid.specs.Grid.{GridState}
@@ -19,5 +19,5 @@ adopt_chain-requires-clause-free c = λ a among.
 
 pub returns-in-Some-clause-answer : goal.returns-in-Some-clause-answer
 returns-in-Some-clause-answer c =
-    subst (λ (fault : TrailerFault). AdoptAnswer c.args.grid.now c.args.grid.now c.args.reader.now c.args.blocks.now (Err fault)) (sym c.broken.ensures)
+    rw c.broken.ensures
     (refl, record { layout = refl; cluster = refl; boot = refl }, first_refused c.args.grid.now c.args.reader.now c.args.blocks.now c.in-Some.address c.requires.apart c.in-Some.ensures)

@@ -46,7 +46,7 @@ loop-done-preserved g c =
       size = omega (arith, i.size, c.push.ensures.len);
       apart = subst (λ (refs : List Link). AreDistinctLinks c.args.grid.now refs) (sym c.push.ensures.items)
           (apart_more c.args.grid.now c.loop-done.blocks.items c.loop-done.at i.apart here apart);
-      inside = λ more. subst (λ (h : GridState). HasAddress h c.in-Ok.before.address) i.grid (c.in-Ok.ensures.inside (omega arith));
+      inside = λ more. rw i.grid at (c.in-Ok.ensures.inside (omega arith));
       walked = walk_more c.loop-done.grid c.args.grid.now told (g.D.Disk.told c.args.disk.now)
           c.args.content.now c.args.count c.loop-done.done index
           c.loop-done.blocks.items c.loop-done.at c.push.new.self.items c.in-Ok.before

@@ -1,5 +1,5 @@
 -- A block that is live at the address is lent, or it isn't.
-use Rattle.std.proofs.Common.{◌∙◌, Option, Err, Result, ap, subst, sym}
+use Rattle.std.proofs.Common.{◌∙◌, Option, Err, Result, ap, sym}
 use Rattle.df_base.specs.Causes.{Blamed}
 use Rattle.df_disk.specs.Told.{Told}
 use Rattle.df_grid.specs.Grid.{GridState}
@@ -35,7 +35,7 @@ returns-in-Ok-clause-leaves g c = record {
   same = c.in-Ok.ensures.same;
   blames_source =
       unblamed c.put_block.result (g.A.Disk.faults c.args.from.now) (g.A.Disk.faults c.read_block.new.disk)
-      (λ is. subst (λ (r : Result (Unit {0}) Ending). PutsBlock c.args.address c.in-Ok.unit.now.unit c.args.target.now c.put_block.new.target (g.B.Disk.told c.args.to.now) (g.B.Disk.told c.put_block.new.to) r) is c.put_block.ensures.puts) c.in-Ok.ensures.cause;
+      (λ is. rw is at c.put_block.ensures.puts) c.in-Ok.ensures.cause;
 }
 
 -- ---- it isn't
@@ -52,7 +52,7 @@ returns-in-Err-clause-copies g c =
     let known = known_by c.in-Some.is c.reference.ensures in
     let live = live_there s from c.args.address c.in-Err.error known c.in-Err.ensures.exact in
     copies_live {T = Unit {0}} t.layout c.args.address s t t from to to (Err c.unread_block.result) known
-    (subst (λ (e : Ending). CopiesBlock {T = Unit {0}} t.layout c.args.address s t t from to to (Err e)) (sym c.unread_block.ensures)
+    (rw (sym c.unread_block.ensures) at
     (block_unread s from c.args.address (Unit {0}) t.layout t t to c.in-Err.error live c.in-Err.ensures.exact))
 
 pub returns-in-Err-clause-leaves : goal.returns-in-Err-clause-leaves
@@ -62,9 +62,9 @@ returns-in-Err-clause-leaves g c =
       kept = tt;
       same = c.in-Err.ensures.same;
       blames_source =
-          subst (λ (e : Ending). Blamed (is_source e) (g.A.Disk.faults c.args.from.now) (g.A.Disk.faults c.read_block.new.disk)) (sym c.unread_block.ensures)
+          rw (sym c.unread_block.ensures) at
           (block_blamed (g.A.Disk.faults c.args.from.now) (g.A.Disk.faults c.read_block.new.disk) c.in-Err.error live c.in-Err.ensures.cause);
       blames_target =
-          subst (λ (e : Ending). Blamed (is_target e) (g.B.Disk.faults c.args.to.now) (g.B.Disk.faults c.args.to.now)) (sym c.unread_block.ensures)
+          rw (sym c.unread_block.ensures) at
           (block_spares c.in-Err.error (g.B.Disk.faults c.args.to.now));
     }

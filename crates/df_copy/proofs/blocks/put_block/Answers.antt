@@ -1,5 +1,5 @@
 -- The block is made at the next address, which is free.
-use Rattle.std.proofs.Common.{◌≡◌, ℕ, ◌+◌, false, List, length, refl, sym, ap, subst, ◌∙◌, arith}
+use Rattle.std.proofs.Common.{◌≡◌, ℕ, ◌+◌, false, List, length, refl, sym, ap, ◌∙◌, arith}
 use Rattle.df_layout.specs.declared.layout.Layout.{Layout}
 use Rattle.df_format.specs.{declared.header.Header.{Header}, Message.{Message}}
 use Rattle.df_grid.specs.Grid.{GridState}
@@ -24,6 +24,6 @@ put_made-done-requires g c =
     may_put_block t.grid.cluster c.args.address u c.requires.unit t.trailer.block.layout t.grid (t.copied + 1) (t.trailer.block_fits ∙ t.trailer_fits ∙ sym t.grid_fits) refl (omega arith, omega (arith, of_layout, c.requires.room))
     (next_free t.layout c.requires.begun.0 c.requires.begun.1 c.requires.begun.2 t c.requires.begun.3) (omega (arith, size, room)) in
     record {
-      may = subst (λ (body : List ℕ). MayPut t.trailer.block.layout t.grid c.moved_to-header.result body) (sym c.body.ensures)
-          (subst (λ (h : Header). MayPut t.trailer.block.layout t.grid h u.body) (sym (c.moved_to-header.ensures ∙ ap (at_address (t.copied + 1)) c.header-2.ensures.header)) may);
+      may = rw (sym c.body.ensures) at
+          (rw (sym (c.moved_to-header.ensures ∙ ap (at_address (t.copied + 1)) c.header-2.ensures.header)) at may);
     }

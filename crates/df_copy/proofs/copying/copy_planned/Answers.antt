@@ -10,7 +10,7 @@ use Rattle.df_copy.proofs.copying.copy_planned.Goals as goal
 
 -- what was said at the entry is said of what the units leave
 later : (P : Layout → State → Type 0) (layout l : Layout) (s q : State) → l ≡ layout → q ≡ s → P layout s → P l q
-later P layout l s q layouts states is = subst (λ (x : Layout). P x q) (sym layouts) (subst (λ (x : State). P layout x) (sym states) is)
+later P layout l s q layouts states is = subst (λ (x : Layout). P x q) (sym layouts) (rw (sym states) at is)
 
 -- the ring is of the source's cluster
 ring_of : {T : Type 0} (layout : Layout) (s : State) (cluster : ℕ) (old new : Option Told) (r : Result T Ending) → cluster ≡ s.file.cluster → BeginsTarget layout cluster old new r → BeginsTarget layout s.file.cluster old new r
@@ -90,7 +90,7 @@ last_leaves : (s : State) (told : Option Told) (faults before now : ℕ) (r : Re
 last_leaves s told faults before now r blamed target = record {
   kept = on_ok r refl;
   same = refl;
-  blames_source = unblamed r faults faults (λ is. let both : Source ≡ Target = subst (λ (q : Result (Unit {0}) Ending). IfErr q (λ ending. ending ≡ Target)) is target in cc both) refl;
+  blames_source = unblamed r faults faults (λ is. let both : Source ≡ Target = rw is at target in cc both) refl;
   blames_target = blamed;
 }
 

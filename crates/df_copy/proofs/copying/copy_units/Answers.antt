@@ -9,12 +9,12 @@ use Rattle.df_copy.proofs.copying.copy_units.Goals as goal
 
 -- what the replies leave, as the blocks ask for it
 begun_as : (layout l : Layout) (s q : State) (rs : List Message) (t : Target) → l ≡ layout → q ≡ s → IsTarget layout s.file.cluster rs [] t → IsTarget l q.file.cluster rs [] t
-begun_as layout l s q rs t layouts states is = subst (λ (x : Layout). IsTarget x q.file.cluster rs [] t) (sym layouts) (subst (λ (x : State). IsTarget layout x.file.cluster rs [] t) (sym states) is)
+begun_as layout l s q rs t layouts states is = subst (λ (x : Layout). IsTarget x q.file.cluster rs [] t) (sym layouts) (rw (sym states) at is)
 
 -- and what the blocks leave
 both : {T : Type 0} (layout l : Layout) (s q : State) (n : Target) (from old new : Option Told) (rs : List Message) (r : Result T Ending) → l ≡ layout → q ≡ s → length rs ≡ length s.table.sessions → CopiesBlocks l q rs n from old new r → OnOk r (IsCopied layout s n)
 both layout l s q n from old new rs (Ok x) layouts states all copies =
-    (rs, copies.0, subst (λ (y : Layout). IsTarget y s.file.cluster rs copies.0 n) layouts (subst (λ (y : State). IsTarget l y.file.cluster rs copies.0 n) states copies.4), all, copies.2 ∙ ap (λ (y : State). length (references (memory y))) states)
+    (rs, copies.0, rw layouts at (rw states at copies.4), all, copies.2 ∙ ap (λ (y : State). length (references (memory y))) states)
 both layout l s q n from old new rs (Err e) layouts states all copies = tt
 
 pub copy_blocks-requires-clause-begun : goal.copy_blocks-requires-clause-begun
@@ -45,5 +45,5 @@ returns-in-Ok-clause-leaves g c = leaves_then c.in-Ok.ensures.leaves c.copy_bloc
 
 pub copy_blocks-requires-clause-room : goal.copy_blocks-requires-clause-room
 copy_blocks-requires-clause-room g c =
-    subst (λ (l : Layout). length (references (memory c.copy_replies.new.replica)) ≤ l.blocks) (sym c.in-Ok.ensures.grid.layout_is)
-    (subst (λ (s : State). length (references (memory s)) ≤ c.args.target.now.layout.blocks) (sym c.in-Ok.ensures.leaves.kept) c.requires.room)
+    rw (sym c.in-Ok.ensures.grid.layout_is) at
+    (rw (sym c.in-Ok.ensures.leaves.kept) at c.requires.room)

@@ -21,7 +21,7 @@ ends : {T E : Type 0} (s : State) (rs bs : List Message) (t n : Target) (f : Sup
     → Adds (all_events (made_events t.layout) (trailer_of t.layout s (moved_from 1 bs)) ++ superblock_events t.layout s rs bs) old new r
 ends {T = T} {E = E} s rs bs t n f old mid new x r layouts trailer is all adds =
     adds_then (all_events (made_events t.layout) (trailer_of t.layout s (moved_from 1 bs))) (superblock_events t.layout s rs bs) old mid new r trailer.events
-    (subst (λ (g : SuperFields). Adds {T = T} {E = E} (Sync ∷ update_events g) mid new r) (says t.layout n.layout s rs bs n f layouts is trailer.written all) adds)
+    (rw (says t.layout n.layout s rs bs n f layouts is trailer.written all) at adds)
 
 pub returns-in-Err-clause-finishes : goal.returns-in-Err-clause-finishes
 returns-in-Err-clause-finishes g c = λ rs bs is all.

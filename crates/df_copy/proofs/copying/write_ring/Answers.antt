@@ -1,5 +1,5 @@
 -- The table that was cleared is the one of reserved headers.
-use Rattle.std.proofs.Common.{◌∙◌, List, subst}
+use Rattle.std.proofs.Common.{◌∙◌, List}
 use Rattle.df_disk.specs.Adds.{Adds}
 use Rattle.df_format.specs.declared.header.Header.{Header}
 use Rattle.df_layout.specs.declared.layout.Layout.{Layout}
@@ -13,5 +13,5 @@ write_headers-requires-clause-sealed g c = writable c.args.rooms.now.layout c.ar
 pub returns-clause-events : goal.returns-clause-events
 returns-clause-events g c =
     let layout : Layout = c.args.rooms.now.layout in
-    subst (λ (table : List Header). Adds (header_writes layout 0 (sectors_in layout table)) (g.B.Disk.told c.args.to.now) (g.B.Disk.told c.write_headers.new.disk) c.write_headers.result)
-    (cleared layout c.args.cluster c.clear.new.self (c.clear.ensures.count ∙ c.args.rooms.now.headers_fit) c.clear.ensures.each) c.write_headers.ensures.events
+    rw
+    (cleared layout c.args.cluster c.clear.new.self (c.clear.ensures.count ∙ c.args.rooms.now.headers_fit) c.clear.ensures.each) at c.write_headers.ensures.events

@@ -1,5 +1,5 @@
 -- A copy after its open: what was written and judged is what is said of it.
-use Rattle.std.proofs.Common.{◌≡◌, Option, Ok, Err, subst, sym}
+use Rattle.std.proofs.Common.{◌≡◌, Option, Ok, Err, sym}
 use Rattle.df_disk.specs.Told.{Told}
 use Rattle.df_layout.specs.{declared.layout.Layout.{Layout}, Zones.{file_sectors}}
 use Rattle.df_opening.specs.Opened.{MendsAll}
@@ -18,9 +18,9 @@ returns-in-Ok-clause-copies g c = λ t whole mends.
     let later = g.A.Disk.told c.copy_into.new.from in
     let same : g.A.Disk.told c.args.from.now ≡ later = sym (c.in-Ok.ensures {u = tt}).leaves.same in
     file_copied c.args.rooms.layout t s (Ok tt) later old new (g.W.Sink.written c.args.sink.now) (g.W.Sink.written c.tell_copied.new.sink) c.tell_copied.result whole c.fields-fields.ensures.state c.fields-fields.ensures.usable c.requires.live
-    (subst (λ (o : Option Told). MendsAll t s o) same mends)
-    (subst (λ (l : Layout). CopiesInto l s later old new (Ok tt)) c.over-target.ensures.layout_is
-    (subst (λ (o : Option Told). CopiesInto c.over-target.result.layout s o old new (Ok tt)) same ((c.in-Ok.ensures {u = tt}).copies (opened_apart t s (g.A.Disk.told c.args.from.now) whole mends))))
+    (rw same at mends)
+    (rw c.over-target.ensures.layout_is at
+    (rw same at ((c.in-Ok.ensures {u = tt}).copies (opened_apart t s (g.A.Disk.told c.args.from.now) whole mends))))
     c.tell_copied.ensures.line
 
 pub returns-in-Ok-clause-causes : goal.returns-in-Ok-clause-causes
@@ -45,9 +45,9 @@ returns-clause-copies g c = λ t whole mends.
     let wrote = g.W.Sink.written c.tell_ending.new.sink in
     let same : g.A.Disk.told c.args.from.now ≡ later = sym (c.in-Err.ensures {u = tt}).leaves.same in
     file_copied c.args.rooms.layout t s (Err e) later old new written wrote c.tell_ending.result whole c.fields-fields.ensures.state c.fields-fields.ensures.usable c.requires.live
-    (subst (λ (o : Option Told). MendsAll t s o) same mends)
-    (subst (λ (l : Layout). CopiesInto {T = Unit {0}} l s later old new (Err e)) c.over-target.ensures.layout_is
-    (subst (λ (o : Option Told). CopiesInto {T = Unit {0}} c.over-target.result.layout s o old new (Err e)) same ((c.in-Err.ensures {u = tt}).copies (opened_apart t s (g.A.Disk.told c.args.from.now) whole mends))))
+    (rw same at mends)
+    (rw c.over-target.ensures.layout_is at
+    (rw same at ((c.in-Err.ensures {u = tt}).copies (opened_apart t s (g.A.Disk.told c.args.from.now) whole mends))))
     (ending_prints written wrote c.tell_ending.result (Unit {0}) c.args.rooms.layout e c.tell_ending.ensures.refused c.tell_ending.ensures.fault)
 
 pub returns-clause-causes : goal.returns-clause-causes

@@ -11,8 +11,7 @@ use Rattle.df_copy.proofs.engine.copy_reserved.Goals as goal
 
 pub returns-in-Ok-clause-does : goal.returns-in-Ok-clause-does
 returns-in-Ok-clause-does g c = λ t told whole.
-    inr (inr (subst (λ (o : Option Told). CopiesFile c.args.reserved.target.layout t (around o (g.B.Disk.told c.args.to.now) (g.W.Sink.written c.args.sink.now))
-    (around (g.A.Disk.told c.copy_opened.new.from) (g.B.Disk.told c.copy_opened.new.to) (g.W.Sink.written c.copy_opened.new.sink)) c.copy_opened.result) (sym told)
+    inr (inr (rw (sym told) at
     (c.copy_opened.ensures.copies t whole ((c.in-Ok.ensures {u = tt}).opened t told))))
 
 pub returns-in-Ok-clause-causes : goal.returns-in-Ok-clause-causes

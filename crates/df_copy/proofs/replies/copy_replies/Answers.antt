@@ -17,7 +17,7 @@ loop-place-init g c = record {
 pub copy_reply-requires-clause-ready : goal.copy_reply-requires-clause-ready
 copy_reply-requires-clause-ready g c =
     let i = c.loop-place.invariant in
-    subst (λ (l : Layout). IsReadySource l c.loop-place.replica) (sym i.grid.layout_is) (subst (λ (s : State). IsReadySource c.args.target.now.layout s) (sym i.leaves.kept) c.requires.ready)
+    subst (λ (l : Layout). IsReadySource l c.loop-place.replica) (sym i.grid.layout_is) (rw (sym i.leaves.kept) at c.requires.ready)
 
 pub loop-place-preserved : goal.loop-place-preserved
 loop-place-preserved g c =
@@ -29,7 +29,7 @@ loop-place-preserved g c =
     let behind = c.copy_reply.new.target.checks in
     record {
       leaves = leaves_then i.leaves c.in-Ok.ensures.leaves;
-      named = named_more (length c.args.replica.now.table.sessions) c.loop-place.target.checks behind i.named (subst (λ (q : State). SetsCheck (length q.table.sessions) c.loop-place.target.checks behind) i.leaves.kept c.in-Ok.ensures.named);
+      named = named_more (length c.args.replica.now.table.sessions) c.loop-place.target.checks behind i.named (rw i.leaves.kept at c.in-Ok.ensures.named);
       grid = record { layout_is = k.layout_is ∙ i.grid.layout_is; grid = k.grid ∙ i.grid.grid; copied = k.copied ∙ i.grid.copied };
       replying = λ apart. replying_more i.grid.layout_is i.leaves (omega (arith, sessions)) (i.replying apart) apart behind (g.B.Disk.told c.copy_reply.new.to) few c.in-Ok.field-0 c.in-Ok.ensures.copies;
     }

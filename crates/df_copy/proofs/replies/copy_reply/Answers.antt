@@ -40,7 +40,7 @@ returns-in-Ok-clause-leaves g c = record {
   same = c.in-Ok.ensures.same;
   blames_source =
       unblamed c.put_reply.result (g.A.Disk.faults c.args.from.now) (g.A.Disk.faults c.read_reply.new.disk)
-      (λ is. subst (λ (r : Result (Unit {0}) Ending). PutsReply c.in-Ok.unit.now.unit c.args.target.now c.put_reply.new.target (g.B.Disk.told c.args.to.now) (g.B.Disk.told c.put_reply.new.to) r) is c.put_reply.ensures.puts) c.in-Ok.ensures.cause;
+      (λ is. rw is at c.put_reply.ensures.puts) c.in-Ok.ensures.cause;
   blames_target = c.put_reply.ensures.disk;
 }
 
@@ -75,10 +75,10 @@ returns-in-Err-clause-leaves g c =
       kept = tt;
       same = c.in-Err.ensures.same;
       blames_source =
-          subst (λ (e : Ending). Blamed (is_source e) (g.A.Disk.faults c.args.from.now) (g.A.Disk.faults c.read_reply.new.disk)) (sym c.unread_reply.ensures)
+          rw (sym c.unread_reply.ensures) at
           (reply_blamed (g.A.Disk.faults c.args.from.now) (g.A.Disk.faults c.read_reply.new.disk) c.in-Err.error (not_no_client s from c.in-Some.session.client c.in-Err.error none c.in-Err.ensures.exact)
           (not_pending s from c.in-Some.session.client c.in-Err.error none c.in-Err.ensures.exact) c.in-Err.ensures.cause);
       blames_target =
-          subst (λ (e : Ending). Blamed (is_target e) (g.B.Disk.faults c.args.to.now) (g.B.Disk.faults c.args.to.now)) (sym c.unread_reply.ensures)
+          rw (sym c.unread_reply.ensures) at
           (reply_spares c.in-Err.error (g.B.Disk.faults c.args.to.now));
     }

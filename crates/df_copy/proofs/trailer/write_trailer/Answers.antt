@@ -1,5 +1,5 @@
 -- The trailer is begun after the blocks, and its pieces are written.
-use Rattle.std.proofs.Common.{◌≡◌, ◌∙◌, List, length, take, ap, arith, refl, subst}
+use Rattle.std.proofs.Common.{◌≡◌, ◌∙◌, List, length, take, ap, arith, refl}
 use Rattle.df_base.specs.Log.{Event}
 use Rattle.df_disk.specs.Adds.{AddsPart, after_all}
 use Rattle.df_format.specs.{declared.superblock.SuperFields.{SuperFields}, Message.{Message}}
@@ -69,7 +69,7 @@ returns-in-Err-clause-trailer g c = λ rs bs is.
     let begun = c.capture.new.self in
     let whole : begun ≡ begun_grid t.grid boot n = c.capture.ensures ∙ ap (λ (h : GridState). with_blocks h (blocks_captured h.blocks (take n (free_addresses h)))) c.set_boot.ensures in
     record {
-      events = subst (λ (es : List Event). AddsPart es (g.B.Disk.told c.args.to.now) (g.B.Disk.told c.write_pieces.new.to))
-          (own_events t.layout s (moved_from 1 bs) t.grid begun c.capture_of-capture.result boot n whole is.grid (ap (λ (f : SuperFields). f.boot) c.fields.ensures.value) c.requires.plan.blocks took.sequence took.root took.sessions) (c.in-Err.ensures {u = tt}).events;
+      events = rw
+          (own_events t.layout s (moved_from 1 bs) t.grid begun c.capture_of-capture.result boot n whole is.grid (ap (λ (f : SuperFields). f.boot) c.fields.ensures.value) c.requires.plan.blocks took.sequence took.root took.sessions) at (c.in-Err.ensures {u = tt}).events;
       written = tt;
     }

@@ -1,5 +1,5 @@
 -- One entry after the other.
-use Rattle.std.proofs.Common.{◌≡◌, ◌+◌, ◌-◌, ap, subst, arith, length}
+use Rattle.std.proofs.Common.{◌≡◌, ◌+◌, ◌-◌, ap, arith, length}
 use Rattle.df_grid.{specs.Table.{AreFinished, finishing}, proofs.{Held.{entry_there}, Turns.{more_finished, none_finished, part_length}}}
 use Rattle.df_grid.proofs.changes.finish_all.Goals as goal
 
@@ -21,4 +21,4 @@ loop-place-preserved c =
 pub returns : goal.returns
 returns c =
     let all : c.loop-place.place ≡ length c.args.entries.now = omega (arith, c.loop-place-test.false, c.loop-place.auto.place-end, c.len-place-end.ensures) in
-    subst (λ n. AreFinished n c.args.entries.now c.loop-place.entries c.loop-place.free) all c.loop-place.invariant
+    rw all at c.loop-place.invariant

@@ -1,5 +1,5 @@
 -- One address after the other, each the least that is free.
-use Rattle.std.proofs.Common.{◌≡◌, refl, arith, subst}
+use Rattle.std.proofs.Common.{◌≡◌, refl, arith}
 use Rattle.df_grid.{specs.Table.{AreTaken}, proofs.{Free.{none_taken, one_taken}, Turns.{few_taken, none_left}}}
 use Rattle.df_grid.proofs.changes.take_least.Goals as goal
 
@@ -16,4 +16,4 @@ pub loop-preserved : goal.loop-preserved
 loop-preserved c = rw (c.take.ensures.taken, c.push.ensures.items) (one_taken c.loop.counter c.in-Some.address c.args.free.now c.loop.free c.loop.taken.items c.loop.invariant c.in-Some.ensures.least)
 
 pub returns : goal.returns
-returns c = let all : c.loop.counter ≡ c.args.blocks = omega (arith, c.loop-test.false, c.loop.auto.counter-end) in subst (λ n. AreTaken n c.args.free.now c.loop.free c.loop.taken.items) all c.loop.invariant
+returns c = let all : c.loop.counter ≡ c.args.blocks = omega (arith, c.loop-test.false, c.loop.auto.counter-end) in rw all at c.loop.invariant

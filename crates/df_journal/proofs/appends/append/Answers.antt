@@ -1,5 +1,5 @@
 -- The events are steps, and their moments and their end are those of the theory's append.
-use Rattle.std.proofs.Common.{◌/◌, ◌∷◌, [], ap, subst, sym}
+use Rattle.std.proofs.Common.{◌/◌, ◌∷◌, [], ap, sym}
 use Rattle.df_layout.specs.declared.layout.Layout.{Layout}
 use Rattle.df_disk.proofs.Laws.{adds_part, adds_failed}
 use Rattle.df_format.specs.declared.header.Header.{Header}
@@ -10,7 +10,7 @@ use Rattle.df_journal.proofs.appends.append.Goals as goal
 pub settle-requires-clause-table : goal.settle-requires-clause-table
 settle-requires-clause-table g c =
     let cluster = c.args.unit.now.unit.header.cluster in
-    (cluster, subst (λ (l : Layout). IsHeaderTable l cluster c.put.new.table) (sym c.requires.room) c.put.ensures.valid)
+    (cluster, rw (sym c.requires.room) at c.put.ensures.valid)
 
 pub settle-requires-clause-sectors : goal.settle-requires-clause-sectors
 settle-requires-clause-sectors g c = sector_of_ring c.args.layout.now c.args.room.now.layout c.args.unit.now.unit c.header.result.now c.requires.room c.header.ensures.header c.put.ensures.own

@@ -15,4 +15,4 @@ returns c = λ image shows.
     let items = c.deref-slot-items.result.now in
     let same : items ≡ c.args.found.now.slots = c.deref-slot-items.ensures.value ∙ ap (λ (scan : Scan). scan.slots) c.found.view_is in
     let all : c.loop-slot.slot-index ≡ length items = omega (arith, c.loop-slot-test.false, c.loop-slot.auto.slot-index-end) in
-    bound_count c.args.boot c.args.top items c.loop-slot.greatest image (subst (λ n. IsTopOf (in_boot c.args.boot (λ h. h.op)) (binding_op c.args.boot c.args.top) items n c.loop-slot.greatest) all c.loop-slot.invariant) (subst (ShowsTable image) (sym same) shows)
+    bound_count c.args.boot c.args.top items c.loop-slot.greatest image (rw all at c.loop-slot.invariant) (subst (ShowsTable image) (sym same) shows)

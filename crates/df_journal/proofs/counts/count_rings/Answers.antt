@@ -15,4 +15,4 @@ returns-clause-rings c = λ image shows.
     let items = c.deref-slot-items.result.now in
     let same : items ≡ c.args.found.now.slots = c.deref-slot-items.ensures.value ∙ ap (λ (scan : Scan). scan.slots) c.found.view_is in
     let all : c.loop-slot.slot-index ≡ length items = omega (arith, c.loop-slot-test.false, c.loop-slot.auto.slot-index-end) in
-    slots_count items c.loop-slot.seen image (subst (λ n. CountsSlots items n c.loop-slot.seen) all c.loop-slot.invariant.0) (subst (ShowsTable image) (sym same) shows)
+    slots_count items c.loop-slot.seen image (rw all at c.loop-slot.invariant.0) (subst (ShowsTable image) (sym same) shows)

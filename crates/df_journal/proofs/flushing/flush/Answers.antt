@@ -1,5 +1,5 @@
 -- The events are steps, and their moments and their end are those of the theory's flush.
-use Rattle.std.proofs.Common.{subst, sym}
+use Rattle.std.proofs.Common.{sym}
 use Rattle.df_disk.proofs.Laws.{adds_part, adds_failed}
 use Rattle.df_layout.specs.declared.layout.Layout.{Layout}
 use Rattle.df_headers.specs.Ring.{IsHeaderTable}
@@ -21,7 +21,7 @@ returns-in_err-put_all-clause-moments g c = λ cluster before after put first la
 pub settle_between-requires-clause-table : goal.settle_between-requires-clause-table
 settle_between-requires-clause-table g c =
     let cluster = c.requires.may.0 in
-    (cluster, subst (λ (l : Layout). IsHeaderTable l cluster c.put_all.new.table) (sym c.requires.room) (c.put_all.ensures.valid cluster c.requires.may.1))
+    (cluster, rw (sym c.requires.room) at (c.put_all.ensures.valid cluster c.requires.may.1))
 
 pub settle_between-requires-clause-sectors : goal.settle_between-requires-clause-sectors
 settle_between-requires-clause-sectors g c =

@@ -22,6 +22,6 @@ loop-i-preserved g c = record {
   within = omega (arith, c.loop-i-test.true);
   leads = group_leads c.args.layout.now c.args.group.now c.loop-i.i c.index-group-i.result (stands_at c.args.group.now c.loop-i.i c.index-group-i.result (omega (arith, c.loop-i-test.true)) c.index-group-i.is) _ _ (g.D.Disk.told c.loop-i.disk) (g.D.Disk.told c.put.new.disk) c.loop-i.invariant.leads c.in_ok-put.ensures.events;
   table = headers_turn c.args.layout.now c.args.group.now c.loop-i.i c.index-group-i.result (stands_at c.args.group.now c.loop-i.i c.index-group-i.result (omega (arith, c.loop-i-test.true)) c.index-group-i.is) c.loop-i.table c.put.new.table _ c.in_ok-put.ensures.table c.loop-i.invariant.table;
-  valid = λ cluster may. subst (λ (k : ℕ). IsHeaderTable c.args.layout.now k c.put.new.table) (may.each c.loop-i.i c.index-group-i.result (stands_at c.args.group.now c.loop-i.i c.index-group-i.result (omega (arith, c.loop-i-test.true)) c.index-group-i.is)).1 c.put.ensures.valid;
+  valid = λ cluster may. rw (may.each c.loop-i.i c.index-group-i.result (stands_at c.args.group.now c.loop-i.i c.index-group-i.result (omega (arith, c.loop-i-test.true)) c.index-group-i.is)).1 at c.put.ensures.valid;
   faults = c.in_ok-put.ensures.cause.same ∙ c.loop-i.invariant.faults;
 }

@@ -1,5 +1,5 @@
 -- One more is shown as it is named, or the next one lacks.
-use Rattle.std.{proofs.{Common.{◌≡◌, ◌∙◌, sym, ap, subst, ℕ, ◌%◌, Bool, true, false, not, None, refl, arith}, lemmas.Slice.Eq.{bytes_eq-Decides}}, specs.Prelude.{Ok}}
+use Rattle.std.{proofs.{Common.{◌≡◌, ◌∙◌, sym, ap, ℕ, ◌%◌, Bool, true, false, not, None, refl, arith}, lemmas.Slice.Eq.{bytes_eq-Decides}}, specs.Prelude.{Ok}}
 use Rattle.df_format.specs.declared.header.Header.{Header}
 use Rattle.df_theory.specs.Shape.{slots}
 use Rattle.df_journal.{specs.{Known.{HasSum}, Scan.{Scan}}, proofs.{Decisions.{shown_checks}, Named.{IsRead, read_all, read_lacks, read_more, read_none}}}
@@ -20,7 +20,7 @@ loop-op-init c =
       from = λ within. omega (arith, within, head);
       named = omega (arith, head);
       checksum = c.requires.checksum;
-      read = λ sh image content tells names. subst (λ (o : ℕ). IsRead sh image content o c.args.checksum.now) (sym head) (read_none sh image content c.args.layout.now c.args.found.now.start c.args.checksum.now names);
+      read = λ sh image content tells names. rw (sym head) at (read_none sh image content c.args.layout.now c.args.found.now.start c.args.checksum.now names);
     }
 
 pub loop-op-preserved : goal.loop-op-preserved

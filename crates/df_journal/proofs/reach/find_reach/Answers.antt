@@ -22,14 +22,14 @@ loop-at-init c =
       within = omega (arith, last_op);
       most = omega (arith, last_op, c.requires.op);
       checksum = check;
-      last_checksum = subst (λ (t : Tail). IsCheck t.checksum) (sym last) check;
+      last_checksum = rw (sym last) at check;
       start = λ same. tail_sum;
       places = refl;
       places_on = ap (λ (t : Table). t.max) ahead;
       unstored = λ none. none;
-      unstored_on = λ none. subst (λ (t : Table). AreUnstored t.sessions) (sym ahead) none;
+      unstored_on = λ none. rw (sym ahead) at none;
       numbered = λ small. small;
-      numbered_on = λ small. subst (λ (t : Table). AreNumbered t.sessions) (sym ahead) small;
+      numbered_on = λ small. rw (sym ahead) at small;
       walk = λ sh image b tells starts. taken_begins image sh b c.args.layout.now c.args.found.now.start c.args.checksum.now c.args.sessions.now.sessions starts c.empty_tail-tail.result c.position_behind-at.result c.copied-ahead.result.sessions tail c.position_behind-at.ensures (ap (λ (t : Table). t.sessions) ahead);
     }
 
@@ -39,7 +39,7 @@ loop-at-preserved c =
     let h : Header = c.in-Some.header in
     let inv = c.loop-at.invariant in
     let start : c.found.inside.start ≡ c.args.found.now.start = ap (λ (s : Scan). s.start) c.found.view_is in
-    let next : IsNext c.args.layout.now c.args.found.now.start c.args.found.now.slots c.loop-at.at c.loop-at.ahead.sessions h = subst (λ (s : Start). IsNext c.args.layout.now s c.args.found.now.slots c.loop-at.at c.loop-at.ahead.sessions h) start c.in-Some.ensures.next in
+    let next : IsNext c.args.layout.now c.args.found.now.start c.args.found.now.slots c.loop-at.at c.loop-at.ahead.sessions h = rw start at c.in-Some.ensures.next in
     let at_is : position_of h ≡ c.position_of-at.result = sym c.position_of-at.ensures in
     let last_is : tail_to h ≡ c.position_of-at.result.last = ap (λ (p : Position). p.last) at_is in
     let op : c.position_of-at.result.last.op ≡ c.loop-at.at.last.op + 1 = sym (ap (λ (t : Tail). t.op) last_is) ∙ next.taken.op_is in
@@ -51,9 +51,9 @@ loop-at-preserved c =
       from = either (λ t s. c.args.found.now.start.op ≤ t.op) inv.from (omega (arith, op, inv.from, inv.order));
       order = either (λ t s. t.op ≤ c.position_of-at.result.last.op) (omega (arith, op, inv.order)) (omega arith);
       within = omega (arith, op, first, c.loop-at-test.true, c.from.ensures, inv.from, inv.order);
-      most = subst (λ (t : Tail). t.op ≤ 2 ^ 62) last_is c.in-Some.ensures.sound.op;
-      checksum = either (λ t s. IsCheck t.checksum) inv.checksum (subst (λ (t : Tail). IsCheck t.checksum) last_is c.in-Some.ensures.sound.checksum);
-      last_checksum = subst (λ (t : Tail). IsCheck t.checksum) last_is c.in-Some.ensures.sound.checksum;
+      most = rw (← last_is) c.in-Some.ensures.sound.op;
+      checksum = either (λ t s. IsCheck t.checksum) inv.checksum (rw (← last_is) c.in-Some.ensures.sound.checksum);
+      last_checksum = rw (← last_is) c.in-Some.ensures.sound.checksum;
       start = either (λ t s. t.op ≡ c.args.found.now.start.op → t.checksum ≡ c.args.checksum.now) inv.start (λ same. absurd (omega (arith, op, same, inv.from, inv.order)));
       places = either (λ t s. s.max ≡ c.args.sessions.now.max) inv.places (c.apply.ensures.places ∙ inv.places_on);
       places_on = c.apply.ensures.places ∙ inv.places_on;
@@ -64,10 +64,10 @@ loop-at-preserved c =
       walk = λ sh image b tells starts.
           let more = taken_on c.args.layout.now c.args.found.now.start.cluster c.args.found.now.slots image b c.args.found.now.start c.loop-at.tail c.keep_whole.new.tail c.loop-at.sessions.sessions c.keep_whole.new.sessions.sessions c.loop-at.at c.loop-at.ahead.sessions h c.requires.table tells.shows
           (record { boot = starts.boot; pin = starts.pin }) (inv.walk sh image b tells starts) next
-          (λ low. let moved = over (subst (λ (p : Position). p.group_last ≤ p.last.op) at_is low) in (moved.0 ∙ sym last_is, ap (λ (t : Table). t.sessions) moved.1 ∙ c.apply.ensures.sessions))
-          (λ up. let stayed = open_yet (subst (λ (p : Position). p.last.op < p.group_last) at_is up) in (stayed.0, ap (λ (t : Table). t.sessions) stayed.1)) in
-          subst (λ (p : Position). IsTakenWalk c.args.layout.now.clients c.args.layout.now.slots image b c.keep_whole.new.tail c.keep_whole.new.sessions.sessions p c.apply.new.self.sessions) at_is
-          (subst (λ (ss : List Session). IsTakenWalk c.args.layout.now.clients c.args.layout.now.slots image b c.keep_whole.new.tail c.keep_whole.new.sessions.sessions (position_of h) ss) (sym c.apply.ensures.sessions) more);
+          (λ low. let moved = over (rw (← at_is) low) in (moved.0 ∙ sym last_is, ap (λ (t : Table). t.sessions) moved.1 ∙ c.apply.ensures.sessions))
+          (λ up. let stayed = open_yet (rw (← at_is) up) in (stayed.0, ap (λ (t : Table). t.sessions) stayed.1)) in
+          rw at_is at
+          (rw (sym c.apply.ensures.sessions) at more);
     }
 
 pub loop-at-smaller : goal.loop-at-smaller
@@ -80,7 +80,7 @@ loop-at-smaller c =
 pub returns-in-None-clause-reach : goal.returns-in-None-clause-reach
 returns-in-None-clause-reach c = λ sh image b tells starts known.
     let start : c.found.inside.start ≡ c.args.found.now.start = ap (λ (s : Scan). s.start) c.found.view_is in
-    let ends : TailWalkGoesOn c.args.layout.now c.args.found.now.start c.args.found.now.slots c.loop-at.at c.loop-at.ahead.sessions None = subst (λ (s : Start). TailWalkGoesOn c.args.layout.now s c.args.found.now.slots c.loop-at.at c.loop-at.ahead.sessions None) start c.in-None.ensures.next in
+    let ends : TailWalkGoesOn c.args.layout.now c.args.found.now.start c.args.found.now.slots c.loop-at.at c.loop-at.ahead.sessions None = rw start at c.in-None.ensures.next in
     let walk = shape_walk sh image b c.args.layout.now c.loop-at.tail c.loop-at.sessions.sessions c.loop-at.at c.loop-at.ahead.sessions starts.slots_are starts.clients_are (c.loop-at.invariant.walk sh image b tells starts) in
     let none : EndsThere c.args.layout.now c.args.found.now.start c.args.found.now.slots c.loop-at.at c.loop-at.ahead.sessions = λ h room next. ends h next in
     record {

@@ -12,7 +12,7 @@ loop-slot-preserved g c =
     let layout = c.args.layout.now in
     let put = c.set.ensures in
     let before = c.hold_sector.ensures.same ∙ c.loop-slot.invariant.same in
-    let holds : HoldsSector layout told c.loop-slot.slot c.hold_sector.new.sector.bytes = subst (λ (t : Option Told). HoldsSector layout t c.loop-slot.slot c.hold_sector.new.sector.bytes) c.loop-slot.invariant.same c.in_ok-hold_sector.ensures.holds in
+    let holds : HoldsSector layout told c.loop-slot.slot c.hold_sector.new.sector.bytes = rw c.loop-slot.invariant.same at c.in_ok-hold_sector.ensures.holds in
     record {
       within = omega (arith, c.loop-slot-test.true);
       size = ap (λ (scan : Scan). length scan.slots) put ∙ length-set c.loop-slot.found.slots c.loop-slot.slot seen ∙ c.loop-slot.invariant.size;
@@ -31,4 +31,4 @@ loop-slot-preserved g c =
 pub returns-clause-scanned : goal.returns-clause-scanned
 returns-clause-scanned g c =
     seen_all c.args.layout.now (g.D.Disk.told c.args.disk.now) c.loop-slot.slot c.loop-slot.found c.loop-slot.invariant.size (omega (arith, c.loop-slot-test.false))
-    (subst (λ (n : ℕ). AreSeen c.args.layout.now n (g.D.Disk.told c.args.disk.now) c.loop-slot.slot c.loop-slot.found.slots) (sym (ap (λ (s : Start). s.cluster) c.loop-slot.invariant.start)) c.loop-slot.invariant.seen)
+    (rw (sym (ap (λ (s : Start). s.cluster) c.loop-slot.invariant.start)) at c.loop-slot.invariant.seen)

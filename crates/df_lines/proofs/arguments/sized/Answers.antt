@@ -1,5 +1,5 @@
 -- Each refusal has its cause.
-use Rattle.std.proofs.Common.{arith, subst, sym, List, ℕ}
+use Rattle.std.proofs.Common.{arith, sym, List, ℕ}
 use Rattle.df_lines.{specs.Grammar.{IsBody}, proofs.WordsBehind.{no_number, number_word, sized_first}}
 use Rattle.df_lines.proofs.arguments.sized.Goals as goal
 
@@ -16,4 +16,4 @@ pub returns-in_err-length-clause-none : goal.returns-in_err-length-clause-none
 returns-in_err-length-clause-none c =
     rw c.from_residual-in_err-length.ensures (λ n body are.
     let rest = number_word _ _ _ n _ (sized_first _ _ n body (omega arith) are) c.in_ok-number.ensures.found in
-    c.in_err-length.ensures.none body (subst (λ (w : List ℕ). IsBody w body) (sym rest.1) are.fits.1))
+    c.in_err-length.ensures.none body (rw (sym rest.1) at are.fits.1))

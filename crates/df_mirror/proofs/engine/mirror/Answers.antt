@@ -27,7 +27,7 @@ returns-clause-runs g c = λ none t o tell.
     let new = around (g.A.Disk.told c.mend_all-mended.new.first) (g.B.Disk.told c.mend_all-mended.new.second) written in
     let result = c.mend_all-mended.result in
     let barrier = c.in-Ok-survey_superblock.ensures.barrier ∙ ap (after Sync) tell.first in
-    let found = subst (λ (x : Option Told). TellsFoundAs 2 x (Ok c.in-Ok-survey_superblock.found)) tell.first
+    let found = rw tell.first at
     c.in-Ok-survey_superblock.ensures.answer in
     let otherwise = tells_otherwise result done.written written c.tell.result c.tell.ensures.tells in
     mirrored_then _ t o old mid new c.tell.result c.in-Ok-survey_superblock.found.content found.super refl barrier refl

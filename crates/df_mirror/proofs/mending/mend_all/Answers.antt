@@ -1,5 +1,5 @@
 -- The walks come one after the other, and after the last one all is shown.
-use Rattle.std.proofs.Common.{◌≡◌, ◌+◌, ◌∙◌, ℕ, arith, subst, sym, Ok, Err}
+use Rattle.std.proofs.Common.{◌≡◌, ◌+◌, ◌∙◌, ℕ, arith, sym, Ok, Err}
 use Rattle.df_format.specs.declared.kind.Kind.TheVariants.{Block as AsBlock, Trailer}
 use Rattle.df_mirror.{specs.{Mends.{AreInOrder}, Outside.{around}, Walks.{Mended, ShowsAll}}, proofs.{Logs.{all_mended, from_kind, refused_here, walk_then}, Turns.{ends_so}}}
 use Rattle.df_mirror.proofs.mending.mend_all.Goals as goal
@@ -34,6 +34,6 @@ returns-in-Ok-mend_log-clause-mends g c = λ t o tell.
     let old = around (g.A.Disk.told c.args.first.now) (g.B.Disk.told c.args.second.now) (g.W.Sink.written c.args.sink.now) in
     let new = around (g.A.Disk.told c.mend_log.new.first) (g.B.Disk.told c.mend_log.new.second) (g.W.Sink.written c.mend_log.new.sink) in
     let sum : c.in-Ok.mended + (c.in-Ok-mend_blocks.mended + c.in-Ok-mend_log.mended) ≡ c.in-Ok.mended + c.in-Ok-mend_blocks.mended + c.in-Ok-mend_log.mended = omega arith in
-    subst (λ (n : ℕ). Mended b AreInOrder t o old new (Ok n) (ShowsAll b)) sum
+    rw sum at
     (all_mended read.found.grid read.found.sessions.sessions tell (c.in-Ok.ensures.mends t o tell) c.in-Ok.ensures.same read.ensures.same read.ensures.reads (λ m. blocks.mends read.found.sessions.sessions m o) blocks.same (Ok c.in-Ok-mend_log.mended) (λ refusal. refusal)
     (λ m. c.in-Ok-mend_log.ensures.mends m o))

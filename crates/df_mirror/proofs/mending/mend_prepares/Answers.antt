@@ -12,9 +12,9 @@ loop-op-init g c =
     let b = c.args.base.now in
     let fields = sym c.fields-fields.ensures.value in
     record {
-      low = subst (λ (f : SuperFields). f.op ≤ f.head) fields c.fields-fields.ensures.usable.rules.head.0;
+      low = rw fields at c.fields-fields.ensures.usable.rules.head.0;
       high = omega arith;
-      walked = begins c.requires.layout (λ x t is. subst (λ (f : SuperFields). NamesPreparesFrom b (superblock_units b t.shown) f.head (number_of f.head_checksum)) fields (names_head b (superblock_units b t.shown) is));
+      walked = begins c.requires.layout (λ x t is. rw (← fields) (names_head b (superblock_units b t.shown) is));
     }
 
 pub mend_unit-requires-clause-layout : goal.mend_unit-requires-clause-layout

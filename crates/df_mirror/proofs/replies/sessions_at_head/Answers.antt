@@ -1,5 +1,5 @@
 -- Each turn notes the prepare of one op more.
-use Rattle.std.proofs.Common.{◌≡◌, ◌-◌, ◌∙◌, ◌≤◌, IsSome, Option, ℕ, ap, arith, refl, subst, sym}
+use Rattle.std.proofs.Common.{◌≡◌, ◌-◌, ◌∙◌, ◌≤◌, IsSome, Option, ℕ, ap, arith, refl, sym}
 use Rattle.df_format.specs.declared.superblock.SuperFields.{SuperFields}
 use Rattle.df_units.specs.Meaning.{header_of}
 use Rattle.df_mirror.proofs.{HeadSessions.{HasNoted, none_if, none_next, noted_all, noted_known, noted_last, noted_next, noted_no, noted_none}, Named.{pin_is}, RingSeen.{seen_client}}
@@ -13,10 +13,10 @@ loop-op-init c =
     let none : 0 ≡ c.fields-fields.result.now.op - c.fields-fields.result.now.op = omega arith in
     record {
       low = omega arith;
-      high = subst (λ (f : SuperFields). f.op ≤ f.head) (sym c.fields-fields.ensures.value) c.fields-fields.ensures.usable.rules.head.0;
+      high = rw (sym c.fields-fields.ensures.value) at c.fields-fields.ensures.usable.rules.head.0;
       places = refl;
       noted =
-          subst (λ (n : ℕ). HasNoted b c.args.slots.now start start n) none
+          rw (← none)
           (noted_none b c.args.slots.now start (omega (arith, c.requires.few, c.requires.places)));
     }
 
@@ -69,7 +69,7 @@ loop-op-preserved-in-Some c =
           (λ ss is. elim c.then-is_some.branch [
             | then-is_some-via-then-is_some w ↦
                 noted_known h table.sessions places ss is new
-                (subst (λ (o : Option ℕ). IsSome o) c.place_of.ensures (sym c.is_some.ensures ∙ w.if-is_some.true)) same
+                (rw c.place_of.ensures at (sym c.is_some.ensures ∙ w.if-is_some.true)) same
             | then-is_some-via-else-is_some+then-len-places w ↦
                 noted_last h table.sessions places ss is new (omega (arith, w.len.ensures.value, w.if-len-places.true)) same
           ]);

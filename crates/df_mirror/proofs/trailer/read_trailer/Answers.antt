@@ -15,7 +15,7 @@ pub returns-then-fields-eq0-clause-reads : goal.returns-then-fields-eq0-clause-r
 returns-then-fields-eq0-clause-reads g c = λ t told whole shown.
     let b = c.args.base.now in
     let units = superblock_units b t.shown in
-    let none : b.content.trailer_address ≡ 0 = subst (λ (x : SuperFields). x.trailer_address ≡ 0) c.fields-fields.ensures.value c.if-fields-eq0.true in
+    let none : b.content.trailer_address ≡ 0 = rw c.fields-fields.ensures.value at c.if-fields-eq0.true in
     let rules = c.fields-fields.ensures.usable.rules in
     let empty = grid_is b c.into_grid-grid.result c.args.grid.layout c.into_grid-grid.ensures c.requires.grid in (
       subst (λ (x : GridState). HasTrailerText b units x c.new-sessions.result.sessions) (sym empty)

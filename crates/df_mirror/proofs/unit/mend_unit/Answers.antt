@@ -1,5 +1,5 @@
 -- A unit that is shown is left alone, and one that isn't is taken.
-use Rattle.std.proofs.Common.{◌≡◌, ◌∙◌, Option, Some, None, refl, subst, sym, length, Result, Ok, Err}
+use Rattle.std.proofs.Common.{◌≡◌, ◌∙◌, Option, Some, None, refl, sym, length, Result, Ok, Err}
 use Rattle.df_disk.specs.Told.{Told}
 use Rattle.df_layout.specs.declared.damage.Class.{Class}
 use Rattle.df_buffers.specs.Sounds.{Holding}
@@ -12,10 +12,10 @@ returns-in-Ok-None-clause-shown g c = λ file at check t n for old new whole.
     let i = c.args.identity.now in
     let kind = g.K.UnitKind.KIND in
     let shelf = c.load.new.self.held in
-    let found = found_held kind i shelf (subst (λ (w : Option Class). HoldsFound kind i w shelf) c.in-Ok-None.field-0-is c.in-Ok-None.ensures.holds) in
-    let read = subst (λ (w : Option Class). IsRead kind i (g.A.Disk.told c.args.first.now) w shelf) c.in-Ok-None.field-0-is c.in-Ok-None.ensures.read in
+    let found = found_held kind i shelf (rw c.in-Ok-None.field-0-is at c.in-Ok-None.ensures.holds) in
+    let read = rw c.in-Ok-None.field-0-is at c.in-Ok-None.ensures.read in
     let now : IsRead kind i (Some n) None (Some found.0) =
-    subst (λ (o : Option Told). IsRead kind i o None (Some found.0)) (sym c.load.ensures.same ∙ new) (subst (λ (s : Option Holding). IsRead kind i (g.A.Disk.told c.args.first.now) None s) found.1 read) in
+    rw (sym c.load.ensures.same ∙ new) at (rw found.1 at read) in
     (found.0, found.1, shows_unit file kind at check i for n.shown found.0.unit now.judges found.2)
 
 pub returns-in-Ok-None-clause-mends : goal.returns-in-Ok-None-clause-mends
@@ -30,7 +30,7 @@ returns-in-Ok-clause-shown g c = λ file at check t n for old new whole.
       held,
       takes.1,
       written_is_shown file g.K.UnitKind.KIND at check i for held takes.2.found takes.2.puts takes.2.tidy t n _ _ _ whole
-          (subst (λ (f : Option Told). WritesUnit i.layout i.place held f (g.A.Disk.told c.take_unit.new.first) (g.W.Sink.written c.args.sink.now) (g.W.Sink.written c.take_unit.new.sink) {T = Unit {0}} (Ok tt)) (c.load.ensures.same ∙ old) takes.2.writes) new,
+          (rw (c.load.ensures.same ∙ old) at takes.2.writes) new,
     )
 
 pub returns-in-Ok-clause-mends : goal.returns-in-Ok-clause-mends
@@ -38,8 +38,8 @@ returns-in-Ok-clause-mends g c = λ file content at check t o for tell due.
     let i = c.args.identity.now in
     let kind = g.K.UnitKind.KIND in
     let told = g.A.Disk.told c.args.first.now in
-    let lacks = lacks_none kind i told c.in-Ok-Some.class c.load.new.self.held (subst (λ (w : Option Class). IsRead kind i told w c.load.new.self.held) c.in-Ok-Some.field-0-is c.in-Ok-Some.ensures.read) in
-    let lacking = subst (λ (x : Option Told). IsRead kind i x (Some c.in-Ok-Some.class) None) tell.first lacks in
+    let lacks = lacks_none kind i told c.in-Ok-Some.class c.load.new.self.held (rw c.in-Ok-Some.field-0-is at c.in-Ok-Some.ensures.read) in
+    let lacking = rw tell.first at lacks in
     let ok : Result (Unit {0}) Ending = Ok tt in
     taken file content kind at check i for t o due (lacks_unit file kind at check i for t.shown tell.whole lacking.judges.0) c.in-Ok-Some.class _ _ c.take_unit.new.shelf.held ok tell.other lacking
     (told_from kind i c.in-Ok-Some.class _ _ c.take_unit.new.shelf.held ok t o (c.load.ensures.same ∙ tell.first) tell.second c.in-Ok.ensures.takes)
@@ -49,8 +49,8 @@ returns-in-Err-take_unit-clause-mends g c = λ file content at check t o for tel
     let i = c.args.identity.now in
     let kind = g.K.UnitKind.KIND in
     let told = g.A.Disk.told c.args.first.now in
-    let lacks = lacks_none kind i told c.in-Ok-Some.class c.load.new.self.held (subst (λ (w : Option Class). IsRead kind i told w c.load.new.self.held) c.in-Ok-Some.field-0-is c.in-Ok-Some.ensures.read) in
-    let lacking = subst (λ (x : Option Told). IsRead kind i x (Some c.in-Ok-Some.class) None) tell.first lacks in
+    let lacks = lacks_none kind i told c.in-Ok-Some.class c.load.new.self.held (rw c.in-Ok-Some.field-0-is at c.in-Ok-Some.ensures.read) in
+    let lacking = rw tell.first at lacks in
     let err : Result (Unit {0}) Ending = Err c.in-Err-take_unit.ending in
     taken file content kind at check i for t o due (lacks_unit file kind at check i for t.shown tell.whole lacking.judges.0) c.in-Ok-Some.class _ _ c.take_unit.new.shelf.held err tell.other lacking
     (told_from kind i c.in-Ok-Some.class _ _ c.take_unit.new.shelf.held err t o (c.load.ensures.same ∙ tell.first) tell.second c.in-Err-take_unit.ensures.takes)

@@ -1,5 +1,5 @@
 -- The sectors of a sound room lie in the place that is the unit's own.
-use Rattle.std.proofs.Common.{ap, subst}
+use Rattle.std.proofs.Common.{ap}
 use Rattle.df_layout.specs.{declared.layout.Layout.{Layout}, declared.places.Span.{Span}}
 use Rattle.df_format.proofs.Laws.{valid_belongs}
 use Rattle.df_buffers.specs.Sounds.{AreWholeSectors}
@@ -11,7 +11,7 @@ sectors_of-requires g c = (valid_belongs c.args.layout.now c.args.unit.now.unit.
 
 pub write-requires : goal.write-requires
 write-requires g c =
-    let whole : AreWholeSectors g.K.RoomKind.ZONE c.args.layout.now c.sectors.result.now = subst (λ (l : Layout). AreWholeSectors g.K.RoomKind.ZONE l c.sectors.result.now) c.requires.layout c.sectors.ensures.whole in
+    let whole : AreWholeSectors g.K.RoomKind.ZONE c.args.layout.now c.sectors.result.now = rw c.requires.layout at c.sectors.ensures.whole in
     are_sectors c.args.layout.now c.args.place g.K.RoomKind.ZONE c.sectors_of.result.first _ (valid_belongs c.args.layout.now c.args.unit.now.unit.header.cluster c.args.place c.args.unit.now.unit c.requires.own).has c.requires.zone
     (ap (λ (s : Span). s.first) c.sectors_of.ensures) whole.some whole.whole whole.fits
 

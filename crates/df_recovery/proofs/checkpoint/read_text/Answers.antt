@@ -57,7 +57,7 @@ returns-in-Ok-clause-reads g c =
     let parts = c.into_parts-parts.result in
     let table = sym c.over.ensures in
     record {
-      tells = subst (λ (t : Table). TellsText file told f (record { root = parts.root.items; sessions = t.sessions; blocks = c.read_chain.new.grid.blocks })) table
+      tells = rw (← table)
           (told_text file told f c.read_chain.new.grid c.args.grid.now c.read_chain.new.reader parts layout cluster (c.in-Ok.ensures.grid.layout ∙ layout)
           (c.in-Ok.ensures.answer (shape file) (ap layout_of (sym layout)) refl) c.into_parts-parts.ensures.parts);
       sessions = subst (λ (t : Table). AreReadSessions file.layout.clients f.op t.sessions) table
@@ -72,6 +72,6 @@ returns-in-Err-clause-reads g c =
     let told = g.D.Disk.told c.args.disk.now in
     let layout = ap (λ (x : GridState). x.layout) c.requires.rooms.grid_is in
     let cluster = ap (λ (x : GridState). x.cluster) c.requires.rooms.grid_is in
-    subst (λ (e : OpenError). TellsCheckpoint file told c.args.content.now (Err e)) (sym c.refusal.ensures)
+    rw (sym c.refusal.ensures) at
     (told_refused file told c.args.content.now c.read_chain.new.grid c.args.grid.now c.read_chain.new.reader c.in-Err.fault layout cluster c.requires.named
     (c.in-Err.ensures.answer (shape file) (ap layout_of (sym layout)) refl))

@@ -162,5 +162,5 @@ returns-else-content-eq-GREATEST-clause-after c = λ were.
     record {
       numbered = c.in-Ok.ensures.sessions.numbered were.numbered;
       asked = asked_on shape image f c.args.sessions.now.sessions c.find_known.new.sessions.sessions c.in-Ok.reach c.replies-stored.result super found number were.asked;
-      tracks = tracks_on shape image f c.args.sessions.now.sessions c.find_known.new.sessions.sessions c.in-Ok.reach c.replies-stored.result super found number (subst (λ (x : SuperFields). Tracks x.replies x.op (sessions_of c.args.sessions.now.sessions)) (sym c.fields-content.ensures.value) were.tracks);
+      tracks = tracks_on shape image f c.args.sessions.now.sessions c.find_known.new.sessions.sessions c.in-Ok.reach c.replies-stored.result super found number (rw (sym c.fields-content.ensures.value) at were.tracks);
     }

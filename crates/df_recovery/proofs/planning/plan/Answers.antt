@@ -26,7 +26,7 @@ pub returns-clause-table : goal.returns-clause-table
 returns-clause-table c =
     let all : c.loop-slot.slot ≡ c.args.layout.now.slots = omega (arith, c.loop-slot.invariant.within, c.loop-slot-test.false) in
     planned_table c.args.layout.now c.args.cluster c.args.found.now c.args.head c.loop-slot.headers c.requires.named c.ranges.cluster.fits c.requires.slots c.loop-slot.invariant.size
-    (subst (λ (k : ℕ). ArePlanned c.args.cluster c.args.found.now c.args.head k c.loop-slot.headers) all c.loop-slot.invariant.planned)
+    (rw all at c.loop-slot.invariant.planned)
 
 pub returns-clause-each : goal.returns-clause-each
 returns-clause-each c =
@@ -36,9 +36,9 @@ returns-clause-each c =
 pub returns-clause-tells : goal.returns-clause-tells
 returns-clause-tells c = λ sh image v is.
     let all : c.loop-slot.slot ≡ c.args.layout.now.slots = omega (arith, c.loop-slot.invariant.within, c.loop-slot-test.false) in
-    plan_tells c.args.layout.now sh image v c.args.found.now c.args.head is c.args.cluster c.loop-slot.headers c.loop-slot.invariant.size (subst (λ (k : ℕ). ArePlanned c.args.cluster c.args.found.now c.args.head k c.loop-slot.headers) all c.loop-slot.invariant.planned)
+    plan_tells c.args.layout.now sh image v c.args.found.now c.args.head is c.args.cluster c.loop-slot.headers c.loop-slot.invariant.size (rw all at c.loop-slot.invariant.planned)
 
 pub returns-clause-whole : goal.returns-clause-whole
 returns-clause-whole c = λ sh image v is distinct.
     let all : c.loop-slot.slot ≡ c.args.layout.now.slots = omega (arith, c.loop-slot.invariant.within, c.loop-slot-test.false) in
-    plan_whole c.args.layout.now sh image v c.args.found.now c.args.head is c.args.cluster c.loop-slot.headers (subst (λ (k : ℕ). ArePlanned c.args.cluster c.args.found.now c.args.head k c.loop-slot.headers) all c.loop-slot.invariant.planned) distinct
+    plan_whole c.args.layout.now sh image v c.args.found.now c.args.head is c.args.cluster c.loop-slot.headers (rw all at c.loop-slot.invariant.planned) distinct

@@ -1,5 +1,5 @@
 -- The key, then the value.
-use Rattle.std.proofs.Common.{◌≡◌, ℕ, List, [], ◌∷◌, ◌++◌, decimal, subst, append_assoc}
+use Rattle.std.proofs.Common.{◌≡◌, ℕ, List, [], ◌∷◌, ◌++◌, decimal, append_assoc}
 use Rattle.df_base.specs.Streams.{Appends, AppendsPart}
 use Rattle.df_script_model.specs.Texts.{body_text, line_of, spaced}
 use Rattle.df_inspect.proofs.Laws.{prints_front, prints_more, prints_same}
@@ -11,9 +11,9 @@ two_pieces front value = simp append_assoc
 pub returns-in_err-write_line-clause-prints : goal.returns-in_err-write_line-clause-prints
 returns-in_err-write_line-clause-prints g c =
     prints_front (decimal c.args.key ++ 32 ∷ []) (line_of (body_text c.args.value.now)) _ _ _ _ c.from_residual.ensures.0 (two_pieces (decimal c.args.key) (body_text c.args.value.now))
-    (subst (λ (l : List ℕ). AppendsPart (g.W.Sink.written c.args.sink.now) (g.W.Sink.written c.write_line.new.sink) l) c.key_front.ensures c.in_err-write_line.ensures.prints.part)
+    (rw c.key_front.ensures at c.in_err-write_line.ensures.prints.part)
 
 pub returns-clause-prints : goal.returns-clause-prints
 returns-clause-prints g c =
     prints_same _ _ _ _ _ (two_pieces (decimal c.args.key) (body_text c.args.value.now)) (prints_more _ _ _ _ _ _
-    (subst (λ (l : List ℕ). Appends (g.W.Sink.written c.args.sink.now) (g.W.Sink.written c.write_line.new.sink) l) c.key_front.ensures c.in_ok-write_line.ensures.prints.whole) c.print_body.ensures.prints)
+    (rw c.key_front.ensures at c.in_ok-write_line.ensures.prints.whole) c.print_body.ensures.prints)

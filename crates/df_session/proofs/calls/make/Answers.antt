@@ -49,4 +49,4 @@ returns-in-Scrub-clause-makes g c =
     subst (λ (x : Command). MakesTo (command_of x) c.args.replica.now c.check.new.replica (g.D.Disk.told c.args.disk.now) (g.D.Disk.told c.check.new.disk) c.check.result) (sym c.in-Scrub.is) c.check.ensures.makes
 
 pub returns-in-Scrub-clause-tour : goal.returns-in-Scrub-clause-tour
-returns-in-Scrub-clause-tour g c = subst (λ (x : Command). KeepsTour (command_of x) c.args.replica.now c.check.new.replica c.check.result) (sym c.in-Scrub.is) c.check.ensures.tour
+returns-in-Scrub-clause-tour g c = rw c.in-Scrub.is c.check.ensures.tour

@@ -6,7 +6,7 @@ use Rattle.df_table.{specs.{declared.ending.Ending.{Ending}, Calls.{IsCheckpoint
 use Rattle.df_table.proofs.checkpointing.conclude.Goals as goal
 
 pub finish-requires : goal.finish-requires
-finish-requires g c = record { live = c.in-Ok.ensures.live; runs = subst (λ (r : Replica). IsCheckpointing r) (sym c.in-Ok.ensures.state) tt }
+finish-requires g c = record { live = c.in-Ok.ensures.live; runs = rw c.in-Ok.ensures.state tt }
 
 pub returns-in-Ok-clause-makes : goal.returns-in-Ok-clause-makes
 returns-in-Ok-clause-makes g c = λ may.
@@ -24,4 +24,4 @@ pub returns-in-Err-clause-goes : goal.returns-in-Err-clause-goes
 returns-in-Err-clause-goes g c = subst (IsOfCall (g.D.Disk.told c.args.disk.now)) (sym c.in-Err.ensures.spent) tt
 
 pub returns-in-Err-clause-disk : goal.returns-in-Err-clause-disk
-returns-in-Err-clause-disk g c = let faults = g.D.Disk.faults c.args.disk.now in subst (λ (e : Ending). Blamed (is_disk e) faults faults) (sym c.in-Err.ensures.spent) refl
+returns-in-Err-clause-disk g c = let faults = g.D.Disk.faults c.args.disk.now in rw c.in-Err.ensures.spent refl

@@ -70,4 +70,4 @@ pub returns-clause-wrote : goal.returns-clause-wrote
 returns-clause-wrote g c =
     let n = block_count (rows_in_block c.args.layout.now) (map.len c.args.table.now.rows) in
     let all : c.loop-block.block ≡ n = omega (arith, c.loop-block-test, c.loop-block.auto, c.blocks-block-end.ensures) in
-    subst (λ (k : ℕ). WroteBlocks k c.args.replica.now c.loop-block.replica) all c.loop-block.invariant.wrote
+    rw all at c.loop-block.invariant.wrote

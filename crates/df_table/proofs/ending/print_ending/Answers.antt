@@ -14,5 +14,5 @@ pub returns-in-SequenceSpent-clause-prints : goal.returns-in-SequenceSpent-claus
 returns-in-SequenceSpent-clause-prints g c =
     let old = g.W.Sink.written c.args.sink.now in
     let new = g.W.Sink.written c.write_line-in-SequenceSpent.new.sink in
-    subst (λ (e : Ending). Prints {E = Failed} (ending_text e) old new c.write_line-in-SequenceSpent.result) (sym c.in-SequenceSpent.is)
-    (subst (λ (text : List ℕ). Prints text old new c.write_line-in-SequenceSpent.result) c.text_line-in-SequenceSpent.ensures c.write_line-in-SequenceSpent.ensures.prints)
+    rw c.in-SequenceSpent.is
+    (rw c.text_line-in-SequenceSpent.ensures at c.write_line-in-SequenceSpent.ensures.prints)

@@ -1,5 +1,5 @@
 -- The probe reads alone, so that what is said of the file is said from the start on.
-use Rattle.std.{proofs.Common.{◌≡◌, inr, subst}, specs.Prelude.{Option, Some, Ok}}
+use Rattle.std.{proofs.Common.{◌≡◌, inr}, specs.Prelude.{Option, Some, Ok}}
 use Rattle.df_base.specs.Image.{IsImage}
 use Rattle.df_disk.specs.Told.{Told}
 use Rattle.df_layout.specs.declared.layout.Layout.{Layout}
@@ -14,11 +14,11 @@ returns-in-Ok-reserve-clause-runs g c = λ t told whole.
     let left = g.S.Source.left c.args.source.now in
     let written = g.W.Sink.written c.args.sink.now in
     let does : (u : Told) → g.D.Disk.told c.args.disk.now ≡ Some u → IsImage u.shown → DoesTable layout u (record { told = g.D.Disk.told c.args.disk.now; left = left; written = written }) new c.serve_table.result =
-    subst (λ (o : Option Told). (u : Told) → o ≡ Some u → IsImage u.shown → DoesTable layout u (record { told = o; left = left; written = written }) new c.serve_table.result) c.probe.ensures.same
-    (subst (λ (l : Layout). (u : Told) → g.D.Disk.told c.probe.new.disk ≡ Some u → IsImage u.shown → DoesTable l u (record { told = g.D.Disk.told c.probe.new.disk; left = left; written = written }) new c.serve_table.result) c.in-Ok-reserve.ensures.rooms c.serve_table.ensures.serves) in
+    rw c.probe.ensures.same at
+    (rw c.in-Ok-reserve.ensures.rooms at c.serve_table.ensures.serves) in
     inr (inr (record {
       layout = layout;
-      shown = subst (λ (o : Option Told). TellsLayout o (Ok layout)) told c.in-Ok-probe.ensures.answer;
+      shown = rw told at c.in-Ok-probe.ensures.answer;
       does = does t told whole;
     }))
 

@@ -11,9 +11,9 @@ loop-before-init g c =
     let s = c.args.replica.now in
     let first : s.replies ≡ c.summary-summary.result.replies = sym (ap (λ (x : Summary). x.replies) c.summary-summary.ensures) in
     record {
-      replied = subst (λ (k : ℕ). HasReplied k s s) first (replied_none s);
+      replied = rw (← first) (replied_none s);
       live = c.requires.live;
-      making = subst (λ (k : ℕ). IsMaking (replies (memory s)) (map (λ (op : ℕ). Reply op []) (range_with_len (k + 1) (s.head - k))) s s (g.D.Disk.told c.args.disk.now) (g.D.Disk.told c.args.disk.now)) first (making_none (replies (memory s)) s (g.D.Disk.told c.args.disk.now));
+      making = rw (← first) (making_none (replies (memory s)) s (g.D.Disk.told c.args.disk.now));
       disk_faults = refl;
     }
 

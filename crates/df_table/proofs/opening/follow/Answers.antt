@@ -16,7 +16,7 @@ returns-in-Ok-catch_up-clause-makes g c =
     let s = c.args.replica.now in
     let ok : Result Table Ending = Ok c.take_tail.new.table in
     comes_more (prepare_reads (memory s)) (replies (memory s)) s c.take_tail.new.replica c.catch_up.new.replica (g.D.Disk.told c.args.disk.now) (g.D.Disk.told c.take_tail.new.disk) (g.D.Disk.told c.catch_up.new.disk) c.in-Ok.ensures.makes ok
-    (subst (λ (r : Replica). Comes (replies (memory r)) c.take_tail.new.replica c.catch_up.new.replica (g.D.Disk.told c.take_tail.new.disk) (g.D.Disk.told c.catch_up.new.disk) ok) c.in-Ok.ensures.kept c.in-Ok-catch_up.ensures.makes)
+    (rw (← c.in-Ok.ensures.kept) c.in-Ok-catch_up.ensures.makes)
 
 pub returns-in-Ok-catch_up-clause-finds : goal.returns-in-Ok-catch_up-clause-finds
 returns-in-Ok-catch_up-clause-finds g c = λ w begun t is taken. inr (Found c.take_tail.new.table (c.in-Ok.ensures.takes w begun t is taken))
@@ -29,7 +29,7 @@ returns-in-Err-catch_up-clause-makes g c =
     let s = c.args.replica.now in
     let err : Result Table Ending = Err c.in-Err-catch_up.ending in
     comes_more (prepare_reads (memory s)) (replies (memory s)) s c.take_tail.new.replica c.catch_up.new.replica (g.D.Disk.told c.args.disk.now) (g.D.Disk.told c.take_tail.new.disk) (g.D.Disk.told c.catch_up.new.disk) c.in-Ok.ensures.makes err
-    (subst (λ (r : Replica). Comes (replies (memory r)) c.take_tail.new.replica c.catch_up.new.replica (g.D.Disk.told c.take_tail.new.disk) (g.D.Disk.told c.catch_up.new.disk) err) c.in-Ok.ensures.kept c.in-Err-catch_up.ensures.makes)
+    (rw (← c.in-Ok.ensures.kept) c.in-Err-catch_up.ensures.makes)
 
 pub returns-in-Err-catch_up-clause-finds : goal.returns-in-Err-catch_up-clause-finds
 returns-in-Err-catch_up-clause-finds g c = λ w begun t is taken. inl (ap (λ (e : Ending). Err e) c.in-Err-catch_up.ensures.fails)

@@ -33,31 +33,31 @@ returns-in-Ok-clause-opens g c = λ w begun.
     let s = c.args.replica.now in
     comes_more (block_reads (memory s)) (prepare_reads (memory s) ++ replies (memory s)) s c.take_blocks.new.replica c.follow.new.replica (g.D.Disk.told c.args.disk.now) (g.D.Disk.told c.take_blocks.new.disk) (g.D.Disk.told c.follow.new.disk)
     (c.in-Ok.ensures.makes w begun) c.follow.result
-    (subst (λ (r : Replica). Comes (prepare_reads (memory r) ++ replies (memory r)) c.take_blocks.new.replica c.follow.new.replica (g.D.Disk.told c.take_blocks.new.disk) (g.D.Disk.told c.follow.new.disk) c.follow.result) c.in-Ok.ensures.kept c.follow.ensures.makes)
+    (rw (← c.in-Ok.ensures.kept) c.follow.ensures.makes)
 
 pub returns-in-Ok-clause-finds : goal.returns-in-Ok-clause-finds
 returns-in-Ok-clause-finds g c = λ w begun t is.
     let s = c.args.replica.now in
     let u = c.take_blocks.new.replica in
     let kept = c.in-Ok.ensures.kept in
-    let own = subst (λ (n : ℕ). NoneIsOther (memory s) n) (sym (length-map s.table.sessions session_of)) c.in-None.ensures.none in
+    let own = rw (sym (length-map s.table.sessions session_of)) at c.in-None.ensures.none in
     let taken = c.in-Ok.ensures.takes w begun own c.requires.empty t is in
-    let finds = c.follow.ensures.finds w (subst (λ (r : Replica). IsBegun c.args.layout.now w r) (sym kept) begun) t (c.in-Ok.ensures.same ∙ is)
-    (subst (λ (r : Replica). AreTakenBlocks c.args.layout.now (shown_of r.file t.shown) (memory r) [] c.in-Ok.table) (sym kept) taken) in
+    let finds = c.follow.ensures.finds w (rw (sym kept) at begun) t (c.in-Ok.ensures.same ∙ is)
+    (rw (sym kept) at taken) in
     subst (λ (r : Replica). FindsOf c.args.layout.now (shown_of r.file t.shown) (memory r) c.follow.result) kept finds
 
 pub returns-in-Ok-clause-ready : goal.returns-in-Ok-clause-ready
 returns-in-Ok-clause-ready g c = λ w begun t is.
     let s = c.args.replica.now in
     let kept = c.in-Ok.ensures.kept in
-    let own = subst (λ (n : ℕ). NoneIsOther (memory s) n) (sym (length-map s.table.sessions session_of)) c.in-None.ensures.none in
+    let own = rw (sym (length-map s.table.sessions session_of)) at c.in-None.ensures.none in
     let taken = c.in-Ok.ensures.takes w begun own c.requires.empty t is in
     let opens =
     comes_more (block_reads (memory s)) (prepare_reads (memory s) ++ replies (memory s)) s c.take_blocks.new.replica c.follow.new.replica (g.D.Disk.told c.args.disk.now) (g.D.Disk.told c.take_blocks.new.disk) (g.D.Disk.told c.follow.new.disk)
     (c.in-Ok.ensures.makes w begun) c.follow.result
-    (subst (λ (r : Replica). Comes (prepare_reads (memory r) ++ replies (memory r)) c.take_blocks.new.replica c.follow.new.replica (g.D.Disk.told c.take_blocks.new.disk) (g.D.Disk.told c.follow.new.disk) c.follow.result) kept c.follow.ensures.makes) in
+    (rw (← kept) c.follow.ensures.makes) in
     ready_found c.args.layout.now w s begun (shown_of s.file t.shown) c.in-Ok.table taken c.follow.new.replica (g.D.Disk.told c.args.disk.now) (g.D.Disk.told c.follow.new.disk) c.follow.result opens
-    (subst (λ (r : Replica). OnOk c.follow.result (HasCaughtUp r c.follow.new.replica)) kept c.follow.ensures.caught) c.follow.ensures.live
+    (rw kept at c.follow.ensures.caught) c.follow.ensures.live
 
 pub returns-in-Err-clause-opens : goal.returns-in-Err-clause-opens
 returns-in-Err-clause-opens g c = λ w begun.
@@ -67,5 +67,5 @@ returns-in-Err-clause-opens g c = λ w begun.
 pub returns-in-Err-clause-finds : goal.returns-in-Err-clause-finds
 returns-in-Err-clause-finds g c = λ w begun t is.
     let s = c.args.replica.now in
-    let own = subst (λ (n : ℕ). NoneIsOther (memory s) n) (sym (length-map s.table.sessions session_of)) c.in-None.ensures.none in
+    let own = rw (sym (length-map s.table.sessions session_of)) at c.in-None.ensures.none in
     c.in-Err.ensures.takes w begun own c.requires.empty t is

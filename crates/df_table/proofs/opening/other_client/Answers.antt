@@ -1,5 +1,5 @@
 -- The first place that is another client's is the least one.
-use Rattle.std.proofs.{Common.{◌≡◌, ◌∙◌, ℕ, length, ap, arith, subst, sym}, lemmas.Bool.{false≢true}}
+use Rattle.std.proofs.{Common.{◌≡◌, ◌∙◌, ℕ, length, ap, arith, sym}, lemmas.Bool.{false≢true}}
 use borrow.Author.Count.{below_more}
 use Rattle.df_model.specs.declared.answers.Summary.{Summary}
 use Rattle.df_session.specs.Below.{memory}
@@ -19,4 +19,4 @@ returns-then-is_other-clause-found c = (c.is_other.ensures.0 c.if-is_other.true,
 pub returns-clause-none : goal.returns-clause-none
 returns-clause-none c =
     let all : c.loop-place.place ≡ length c.args.replica.now.table.sessions = omega (arith, c.loop-place-test, c.loop-place.auto, ap (λ (x : Summary). x.sessions) c.summary-place-end.ensures) in
-    subst (λ (k : ℕ). NoneIsOther (memory c.args.replica.now) k) all c.loop-place.invariant
+    rw all at c.loop-place.invariant

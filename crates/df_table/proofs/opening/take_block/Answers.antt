@@ -40,7 +40,7 @@ returns-in-Err-clause-makes g c =
     let same : t ≡ left_by {T = Table} is_read_fault s (Err c.in-Err.error) = c.read_block.follows.holds-at-none ∙ ap (left_by is_read_fault s) c.in-Err.is in
     let known = live_there c.args.address s (g.D.Disk.told c.args.disk.now) c.in-Err.error c.requires.known c.in-Err.ensures.exact in
     subst (λ (e : Ending). Comes {T = Table} (ReadBlock c.args.address ∷ []) s t (g.D.Disk.told c.args.disk.now) (g.D.Disk.told c.read_block.new.disk) (Err e)) (sym c.unread_block.ensures)
-    (subst (λ (r : Replica). Comes {T = Table} (ReadBlock c.args.address ∷ []) s r (g.D.Disk.told c.args.disk.now) (g.D.Disk.told c.read_block.new.disk) (Err (block_ending c.in-Err.error))) (sym same)
+    (rw (sym same) at
     (block_refused c.args.address s (left_by {T = Table} is_read_fault s (Err c.in-Err.error)) (g.D.Disk.told c.args.disk.now) (g.D.Disk.told c.read_block.new.disk) c.in-Err.ensures.same c.in-Err.error known c.in-Err.ensures.call))
 
 pub returns-in-Err-clause-reads : goal.returns-in-Err-clause-reads
@@ -52,5 +52,5 @@ returns-in-Err-clause-reads g c = λ told is.
 pub returns-in-Err-clause-disk : goal.returns-in-Err-clause-disk
 returns-in-Err-clause-disk g c =
     let known = live_there c.args.address c.args.replica.now (g.D.Disk.told c.args.disk.now) c.in-Err.error c.requires.known c.in-Err.ensures.exact in
-    subst (λ (e : Ending). Blamed (is_disk e) (g.D.Disk.faults c.args.disk.now) (g.D.Disk.faults c.read_block.new.disk)) (sym c.unread_block.ensures)
+    rw (sym c.unread_block.ensures) at
     (read_blamed c.in-Err.error (g.D.Disk.faults c.args.disk.now) (g.D.Disk.faults c.read_block.new.disk) known c.in-Err.ensures.cause)

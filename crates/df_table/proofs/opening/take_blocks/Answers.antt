@@ -17,7 +17,7 @@ loop-before-init g c =
       few = omega arith;
       making = λ w begun. reading_none w.live c.args.layout.now.blocks s (begun_entries c.args.layout.now w s begun) (g.D.Disk.told c.args.disk.now);
       taking = λ w begun own empty t is.
-          subst (λ (x : Table). IsTaking c.args.layout.now (shown_of s.file t.shown) (memory s) w.live c.args.layout.now.blocks 0 x 0) (sym empty)
+          rw (sym empty) at
           (taking_none c.args.layout.now (shown_of s.file t.shown) (memory s) w.live c.args.layout.now.blocks (begun_entries c.args.layout.now w s begun) own);
     }
 
@@ -41,9 +41,9 @@ loop-before-preserved g c =
           reading_more w.live n s (begun_entries c.args.layout.now w s begun) now.before less now.replica c.take_next.new.replica (g.D.Disk.told c.args.disk.now) (g.D.Disk.told now.disk) (g.D.Disk.told c.take_next.new.disk) now.invariant.kept (now.invariant.making w begun) c.in-Ok.ensures.makes;
       taking = λ w begun own empty t is.
           let ok : Result Taken Ending = Ok c.in-Ok.next in
-          let reads = subst (λ (r : Replica). ReadsNext (shown_of r.file t.shown) (memory r) (now.before + 1) c.blocks_of_table-most.result now.taken (sum_at (now.before + 1) r.blocks.live) ok) now.invariant.kept (c.in-Ok.ensures.reads t (now.invariant.told ∙ is)) in
+          let reads = rw now.invariant.kept at (c.in-Ok.ensures.reads t (now.invariant.told ∙ is)) in
           taking_next c.args.layout.now (shown_of s.file t.shown) (memory s) w.live n (begun_entries c.args.layout.now w s begun) now.before less now.taken (now.invariant.taking w begun own empty t is)
-          (sum_at (now.before + 1) s.blocks.live) refl c.in-Ok.next (subst (λ (k : ℕ). ReadsNext (shown_of s.file t.shown) (memory s) (now.before + 1) k now.taken (sum_at (now.before + 1) s.blocks.live) ok) c.blocks_of_table-most.ensures.value reads);
+          (sum_at (now.before + 1) s.blocks.live) refl c.in-Ok.next (rw c.blocks_of_table-most.ensures.value at reads);
     }
 
 pub returns-in-Err-clause-makes : goal.returns-in-Err-clause-makes
@@ -60,9 +60,9 @@ returns-in-Err-clause-takes g c = λ w begun own empty t is.
     let now = c.loop-before in
     let less : now.before < c.args.layout.now.blocks = omega (arith, c.loop-before-test) in
     let err : Result Taken Ending = Err c.in-Err.ending in
-    let reads = subst (λ (r : Replica). ReadsNext (shown_of r.file t.shown) (memory r) (now.before + 1) c.blocks_of_table-most.result now.taken (sum_at (now.before + 1) r.blocks.live) err) now.invariant.kept (c.in-Err.ensures.reads t (now.invariant.told ∙ is)) in
+    let reads = rw now.invariant.kept at (c.in-Err.ensures.reads t (now.invariant.told ∙ is)) in
     taking_ends c.args.layout.now (shown_of s.file t.shown) (memory s) w.live c.args.layout.now.blocks (begun_entries c.args.layout.now w s begun) now.before less now.taken (now.invariant.taking w begun own empty t is)
-    (sum_at (now.before + 1) s.blocks.live) refl c.in-Err.ending (subst (λ (k : ℕ). ReadsNext (shown_of s.file t.shown) (memory s) (now.before + 1) k now.taken (sum_at (now.before + 1) s.blocks.live) err) c.blocks_of_table-most.ensures.value reads)
+    (sum_at (now.before + 1) s.blocks.live) refl c.in-Err.ending (rw c.blocks_of_table-most.ensures.value at reads)
 
 pub returns-in-Err-clause-disk : goal.returns-in-Err-clause-disk
 returns-in-Err-clause-disk g c = subst (λ (n : ℕ). Blamed (is_disk c.in-Err.ending) n (g.D.Disk.faults c.take_next.new.disk)) c.loop-before.invariant.disk_faults c.in-Err.ensures.disk

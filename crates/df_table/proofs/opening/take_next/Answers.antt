@@ -34,4 +34,4 @@ returns-in-Err-clause-reads g c = λ told is.
 pub returns-in-None-clause-reads : goal.returns-in-None-clause-reads
 returns-in-None-clause-reads g c = λ told is.
     let ok : Result Taken Ending = Ok c.args.taken in
-    subst (λ (o : Option ℕ). ReadsNext (shown_of c.args.replica.now.file told.shown) (memory c.args.replica.now) c.args.address c.args.most c.args.taken o ok) (rw c.in-None.is at c.reference.ensures) refl
+    rw (← (rw c.in-None.is at c.reference.ensures)) refl

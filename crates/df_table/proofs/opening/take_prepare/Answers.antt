@@ -20,7 +20,7 @@ pub returns-in-Ok-clause-reads : goal.returns-in-Ok-clause-reads
 returns-in-Ok-clause-reads g c = λ of told is.
     let slots : c.from.result ≡ c.args.layout.now.slots = omega arith in
     prepare_found_here c.args.layout.now c.args.op c.args.replica.now (g.D.Disk.told c.args.disk.now) told is of c.args.table.now c.take_command.new.table (Unit {0}) _ c.body.result.now c.take_command.result (sym c.body.ensures) c.in-Ok.ensures.exact
-    (subst (λ (n : ℕ). TakesCommand (place_at WalPrepares (c.args.op % n)) c.args.table.now c.take_command.new.table c.body.result.now c.take_command.result) slots c.take_command.ensures)
+    (rw slots at c.take_command.ensures)
 
 pub returns-in-Ok-clause-kept : goal.returns-in-Ok-clause-kept
 returns-in-Ok-clause-kept g c = on_ok c.take_command.result (c.read_prepare.follows.holds-at-none ∙ ap (left_by is_prepare_fault c.args.replica.now) c.in-Ok.is)
@@ -41,7 +41,7 @@ returns-in-Err-clause-makes g c =
     let same : t ≡ left_by {T = Unit {0}} is_prepare_fault s (Err c.in-Err.error) = c.read_prepare.follows.holds-at-none ∙ ap (left_by is_prepare_fault s) c.in-Err.is in
     let kept = kept_there c.args.op s (g.D.Disk.told c.args.disk.now) c.in-Err.error c.requires.behind c.requires.within c.in-Err.ensures.exact in
     subst (λ (e : Ending). Comes {T = Unit {0}} (ReadPrepare c.args.op ∷ []) s t (g.D.Disk.told c.args.disk.now) (g.D.Disk.told c.read_prepare.new.disk) (Err e)) (sym c.unread_prepare.ensures)
-    (subst (λ (r : Replica). Comes {T = Unit {0}} (ReadPrepare c.args.op ∷ []) s r (g.D.Disk.told c.args.disk.now) (g.D.Disk.told c.read_prepare.new.disk) (Err (prepare_ending c.in-Err.error))) (sym same)
+    (rw (sym same) at
     (prepare_refused c.args.op s (left_by {T = Unit {0}} is_prepare_fault s (Err c.in-Err.error)) (g.D.Disk.told c.args.disk.now) (g.D.Disk.told c.read_prepare.new.disk) c.in-Err.ensures.same (Unit {0}) c.in-Err.error kept c.in-Err.ensures.call))
 
 pub returns-in-Err-clause-reads : goal.returns-in-Err-clause-reads
@@ -53,5 +53,5 @@ returns-in-Err-clause-reads g c = λ of told is.
 pub returns-in-Err-clause-disk : goal.returns-in-Err-clause-disk
 returns-in-Err-clause-disk g c =
     let kept = kept_there c.args.op c.args.replica.now (g.D.Disk.told c.args.disk.now) c.in-Err.error c.requires.behind c.requires.within c.in-Err.ensures.exact in
-    subst (λ (e : Ending). Blamed (is_disk e) (g.D.Disk.faults c.args.disk.now) (g.D.Disk.faults c.read_prepare.new.disk)) (sym c.unread_prepare.ensures)
+    rw (sym c.unread_prepare.ensures) at
     (unread_blamed c.in-Err.error (g.D.Disk.faults c.args.disk.now) (g.D.Disk.faults c.read_prepare.new.disk) kept c.in-Err.ensures.cause)

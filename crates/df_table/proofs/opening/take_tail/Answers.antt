@@ -14,8 +14,8 @@ loop-before-init g c =
       kept = refl;
       told = refl;
       disk_faults = refl;
-      making = subst (λ (k : ℕ). IsMaking (prepare_reads (memory s)) (map ReadPrepare (range_with_len (k + 1) (s.head - k))) s s (g.D.Disk.told c.args.disk.now) (g.D.Disk.told c.args.disk.now)) op (making_none (prepare_reads (memory s)) s (g.D.Disk.told c.args.disk.now));
-      following = λ w begun t is taken. subst (λ (k : ℕ). AreFollowed c.args.layout.now (shown_of s.file t.shown) (memory s) k c.args.table.now) op (followed_none c.args.layout.now (shown_of s.file t.shown) (memory s) c.args.table.now taken);
+      making = rw (← op) (making_none (prepare_reads (memory s)) s (g.D.Disk.told c.args.disk.now));
+      following = λ w begun t is taken. rw (← op) (followed_none c.args.layout.now (shown_of s.file t.shown) (memory s) c.args.table.now taken);
     }
 
 pub take_prepare-requires : goal.take_prepare-requires
@@ -41,7 +41,7 @@ loop-before-preserved g c =
           let ok : Result (Unit {0}) Ending = Ok tt in
           let reads = c.in-Ok.ensures.reads (ap (λ (r : Replica). r.file.layout) now.invariant.kept ∙ begun.layout_is) t (now.invariant.told ∙ is) in
           followed_more c.args.layout.now (shown_of s.file t.shown) (memory s) now.before now.table (now.invariant.following w begun t is taken) (Unit {0}) c.take_prepare.new.table tt
-          (subst (λ (r : Replica). ReadsPrepare {A = Unit {0}} c.args.layout.now (shown_of r.file t.shown) (memory r) (now.before + 1) now.table c.take_prepare.new.table ok) now.invariant.kept reads);
+          (rw now.invariant.kept at reads);
     }
 
 pub returns-in-Err-clause-makes : goal.returns-in-Err-clause-makes
@@ -80,4 +80,4 @@ returns-clause-takes g c = λ w begun t is taken.
     let now = c.loop-before in
     let order = begun_order c.args.layout.now w s begun in
     let all : now.before ≡ s.head = omega (arith, c.loop-before-test, now.auto, order, ap (λ (x : Summary). x.head) c.summary-summary.ensures, ap (λ (x : Summary). x.checkpoint_op) c.summary-summary.ensures) in
-    subst (λ (k : ℕ). AreFollowed c.args.layout.now (shown_of s.file t.shown) (memory s) k now.table) all (now.invariant.following w begun t is taken)
+    rw all at (now.invariant.following w begun t is taken)

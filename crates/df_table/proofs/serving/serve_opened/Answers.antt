@@ -1,5 +1,5 @@
 -- The table is found, and its script served; or why it isn't is told.
-use Rattle.std.proofs.Common.{◌≡◌, ◌∙◌, ℕ, false, true, ap, arith, refl, subst, sym, Ok, Err}
+use Rattle.std.proofs.Common.{◌≡◌, ◌∙◌, ℕ, false, true, ap, arith, refl, sym, Ok, Err}
 use Rattle.df_lines.specs.Text.{Reading}
 use Rattle.df_session.specs.{Below.{memory}, Reading.{shown_of}}
 use Rattle.df_table.{specs.{declared.session.Session.{Session}, Outside.{Blames, Outside}, Session.{NotOpened, Served}}, proofs.{Blamed.{line_apart, line_never, told_disk, told_line}, ServedLines.{found_steady, lines_served}}}
@@ -39,7 +39,7 @@ returns-in-Ok-clause-serves g c = λ w begun t is.
 
 pub returns-in-Ok-clause-causes : goal.returns-in-Ok-clause-causes
 returns-in-Ok-clause-causes g c = record {
-  disk = subst (λ (n : ℕ). Blames status.DiskFault n (g.D.Disk.faults c.serve_lines.new.disk) c.serve_lines.result) c.in-Ok.ensures.disk c.serve_lines.ensures.disk;
+  disk = rw c.in-Ok.ensures.disk at c.serve_lines.ensures.disk;
   source = c.serve_lines.ensures.source;
   sink = c.serve_lines.ensures.sink;
 }

@@ -18,8 +18,8 @@ serve_opened-requires g c =
     record {
       live = c.in-Ok.ensures.live;
       layout = sym of;
-      lines = subst (λ (l : Layout). IsFresh (line_bound l) c.args.reserved.lines) (sym is) c.requires.lines;
-      table = subst (λ (l : Layout). c.args.reserved.table ≡ empty_table l) (sym is) c.requires.table;
+      lines = rw (sym is) at c.requires.lines;
+      table = rw (sym is) at c.requires.table;
       block = omega (arith, c.requires.block, ap (λ (l : Layout). limits.rows_in_block l) is);
     }
 
@@ -40,7 +40,7 @@ returns-in-Ok-clause-serves g c = λ t told whole.
 
 pub returns-in-Ok-clause-causes : goal.returns-in-Ok-clause-causes
 returns-in-Ok-clause-causes g c = record {
-  disk = subst (λ (n : ℕ). Blames status.DiskFault n (g.D.Disk.faults c.serve_opened.new.disk) c.serve_opened.result) c.in-Ok.ensures.cause c.serve_opened.ensures.causes.disk;
+  disk = rw c.in-Ok.ensures.cause at c.serve_opened.ensures.causes.disk;
   source = c.serve_opened.ensures.causes.source;
   sink = c.serve_opened.ensures.causes.sink;
 }

@@ -7,15 +7,15 @@ use Rattle.df_table.proofs.turns.perform.Goals as goal
 pub put-requires : goal.put-requires
 put-requires g c = record {
   serving = c.requires.serving;
-  size = subst (λ (l : Line). value_length l ≤ length c.args.session.now.lines.body) c.in-Put.is c.requires.size;
-  fine = subst (λ (l : Line). refusal_of c.args.session.now.table l ≡ None) c.in-Put.is c.requires.fine;
+  size = rw c.in-Put.is at c.requires.size;
+  fine = rw c.in-Put.is at c.requires.fine;
 }
 
 pub drop_key-requires : goal.drop_key-requires
-drop_key-requires g c = record { serving = c.requires.serving; fine = subst (λ (l : Line). refusal_of c.args.session.now.table l ≡ None) c.in-Drop.is c.requires.fine }
+drop_key-requires g c = record { serving = c.requires.serving; fine = rw c.in-Drop.is at c.requires.fine }
 
 pub get-requires : goal.get-requires
-get-requires g c = get_has c.args.session.now.table c.in-Get.key (subst (λ (l : Line). refusal_of c.args.session.now.table l ≡ None) c.in-Get.is c.requires.fine)
+get-requires g c = get_has c.args.session.now.table c.in-Get.key (rw c.in-Get.is at c.requires.fine)
 
 pub returns-in-Put-clause-executes : goal.returns-in-Put-clause-executes
 returns-in-Put-clause-executes g c =
@@ -32,7 +32,7 @@ pub returns-in-Get-clause-executes : goal.returns-in-Get-clause-executes
 returns-in-Get-clause-executes g c =
     let s = c.args.session.now in
     let told = g.D.Disk.told c.args.disk.now in
-    let fine = subst (λ (l : Line). refusal_of s.table l ≡ None) c.in-Get.is c.requires.fine in
+    let fine = rw c.in-Get.is at c.requires.fine in
     subst (λ (l : Line). ExecutesLine s.layout (said_with s.lines.body l) s s told told (g.W.Sink.written c.args.sink.now) (g.W.Sink.written c.get.new.sink) c.get.result) (sym c.in-Get.is)
     (told_executes s.layout (Get c.in-Get.key) s told (g.W.Sink.written c.args.sink.now) (g.W.Sink.written c.get.new.sink) _ c.get.result (get_none s.table c.in-Get.key) (fine_text s.table s.replica.head (Get c.in-Get.key) fine)
     (c.get.ensures.tells s.replica.head) c.requires.serving.1.live)

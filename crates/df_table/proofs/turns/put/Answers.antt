@@ -1,5 +1,5 @@
 -- The command is the put of the value that stands in the buffer.
-use Rattle.std.{proofs.{Common.{◌≡◌, ◌∙◌, ℕ, List, take, length, Ok, Err, ap, arith, sym, subst}, lemmas.List.{length-take-le}}, specs.Prelude.{codes}}
+use Rattle.std.{proofs.{Common.{◌≡◌, ◌∙◌, ℕ, List, take, length, Ok, Err, ap, arith, sym}, lemmas.List.{length-take-le}}, specs.Prelude.{codes}}
 use Rattle.df_rows.specs.{declared.command.Command.{Command}, Tables.{with_command, HasRoom}, Grammar.{Put}, Rows.{Entry, IsEntry}}
 use Rattle.df_rows.specs.declared.command.Command.TheVariants as commands
 use Rattle.df_script_model.specs.Texts.{line_of, numbered}
@@ -19,8 +19,8 @@ change-requires g c =
     record {
       live = serving.live;
       buffer = serving.block;
-      fits = subst (λ (e : Entry). IsEntry e) (sym row) (record { key = c.ranges.key.fits; value = omega (arith, may.0, length-take-le c.args.size c.args.session.now.lines.body c.requires.size) });
-      room = subst (λ (e : Entry). HasRoom c.args.session.now.table e.0) (sym row) may.1;
+      fits = rw row (record { key = c.ranges.key.fits; value = omega (arith, may.0, length-take-le c.args.size c.args.session.now.lines.body c.requires.size) });
+      room = rw row may.1;
     }
 
 pub returns-in-Ok-clause-executes : goal.returns-in-Ok-clause-executes
@@ -31,7 +31,7 @@ returns-in-Ok-clause-executes g c =
     done_executes s.layout (Put c.args.key value) (commands.Put (c.args.key, value)) s c.change.new.session (g.D.Disk.told c.args.disk.now) (g.D.Disk.told c.change.new.disk) (g.W.Sink.written c.args.sink.now) (g.W.Sink.written c.print_answer.new.sink)
     (put_asks s.table c.args.key c.args.size s.lines.body c.requires.size c.requires.fine) (record { key = c.ranges.key.fits; value = put_short s.table c.args.key c.args.size s.lines.body c.requires.size c.requires.fine }) c.in-Ok.ensures.leaves c.in-Ok.op
     (line_of (numbered (codes "put") c.in-Ok.op)) c.printed.result
-    (λ ready few. subst (λ (k : Command). IsChanged s.layout s.table.rows k s.replica c.change.new.session.replica (g.D.Disk.told c.args.disk.now) (g.D.Disk.told c.change.new.disk) (Ok c.in-Ok.op)) asked (c.in-Ok.ensures.changed ready few))
+    (λ ready few. rw asked at (c.in-Ok.ensures.changed ready few))
     (c.in-Ok.ensures.applied.table ∙ ap (λ (k : Command). with_command k s.table) asked) c.in-Ok.ensures.applied.live (λ op. put_text s.table s.replica.head c.args.key c.args.size s.lines.body c.requires.size c.requires.fine ∙ ap (λ (n : ℕ). line_of (numbered (codes "put") n)) (sym op))
     (c.printed.ensures.prints _ _ _ c.print_answer.ensures.prints)
 
@@ -42,7 +42,7 @@ returns-in-Err-clause-executes g c =
     let asked : commands.Put c.new-row.result ≡ commands.Put (c.args.key, value) = ap commands.Put (c.new-row.ensures ∙ ap (λ (v : List ℕ). (c.args.key, v)) c.body.ensures) in
     ended_executes s.layout (Put c.args.key value) (commands.Put (c.args.key, value)) s c.change.new.session (g.D.Disk.told c.args.disk.now) (g.D.Disk.told c.change.new.disk) (g.W.Sink.written c.args.sink.now) (g.W.Sink.written c.tell_ending.new.sink)
     (put_asks s.table c.args.key c.args.size s.lines.body c.requires.size c.requires.fine) (record { key = c.ranges.key.fits; value = put_short s.table c.args.key c.args.size s.lines.body c.requires.size c.requires.fine }) c.in-Err.ensures.leaves c.in-Err.ending c.tell_ending.result
-    (λ ready few. subst (λ (k : Command). IsChanged s.layout s.table.rows k s.replica c.change.new.session.replica (g.D.Disk.told c.args.disk.now) (g.D.Disk.told c.change.new.disk) (Err c.in-Err.ending)) asked (c.in-Err.ensures.changed ready few)) c.tell_ending.ensures.writes
+    (λ ready few. rw asked at (c.in-Err.ensures.changed ready few)) c.tell_ending.ensures.writes
 
 pub returns-in-Err-clause-disk : goal.returns-in-Err-clause-disk
 returns-in-Err-clause-disk g c =

@@ -1,5 +1,5 @@
 -- Each turn goes on with one line more, or ends the session.
-use Rattle.std.proofs.Common.{◌∙◌, refl, sym, subst}
+use Rattle.std.proofs.Common.{◌∙◌, refl, sym}
 use Rattle.df_layout.specs.declared.layout.Layout.{Layout}
 use Rattle.df_table.{specs.{Ready.{IsSteady}, Serving.{IsServing, ServingEndsIn, ServingGoesOn, ServingState, state}}, proofs.Turned.{ended_all, goes_none, goes_on_more}}
 use Rattle.df_table.proofs.turns.serve_lines.Goals as goal
@@ -16,7 +16,7 @@ loop-status-init g c = record {
 }
 
 pub take_turn-requires : goal.take_turn-requires
-take_turn-requires g c = record { serving = subst (λ (k : Layout). IsServing k c.loop-status.session (g.S.Source.left c.loop-status.source)) (sym c.loop-status.invariant.layout) c.loop-status.invariant.serving }
+take_turn-requires g c = record { serving = rw (sym c.loop-status.invariant.layout) at c.loop-status.invariant.serving }
 
 pub loop-status-preserved : goal.loop-status-preserved
 loop-status-preserved g c =
@@ -28,13 +28,13 @@ loop-status-preserved g c =
     let new : ServingState = state (record { told = g.D.Disk.told c.take_turn.new.disk; left = g.S.Source.left c.take_turn.new.source; written = g.W.Sink.written c.take_turn.new.sink }) c.take_turn.new.session in
     record {
       goes = λ steady.
-          let here = subst (λ (k : Layout). IsSteady k now.session.replica now.session.table) (sym at) (now.invariant.steady steady) in
-          goes_on_more layout old mid new (now.invariant.goes steady) (subst (λ (k : Layout). ServingGoesOn k mid new) at (c.in-GoesOn.ensures.turns here));
+          let here = rw (sym at) at (now.invariant.steady steady) in
+          goes_on_more layout old mid new (now.invariant.goes steady) (rw at at (c.in-GoesOn.ensures.turns here));
       steady = λ steady.
-          let here = subst (λ (k : Layout). IsSteady k now.session.replica now.session.table) (sym at) (now.invariant.steady steady) in
-          subst (λ (k : Layout). IsSteady k c.take_turn.new.session.replica c.take_turn.new.session.table) at (c.in-GoesOn.ensures.steady here);
+          let here = rw (sym at) at (now.invariant.steady steady) in
+          rw at at (c.in-GoesOn.ensures.steady here);
       layout = c.in-GoesOn.ensures.next.layout ∙ at;
-      serving = subst (λ (k : Layout). IsServing k c.take_turn.new.session (g.S.Source.left c.take_turn.new.source)) at c.in-GoesOn.ensures.next.serving;
+      serving = rw at at c.in-GoesOn.ensures.next.serving;
       disk_faults = c.in-GoesOn.ensures.disk ∙ now.invariant.disk_faults;
       source_faults = c.in-GoesOn.ensures.source ∙ now.invariant.source_faults;
       sink_faults = c.in-GoesOn.ensures.sink ∙ now.invariant.sink_faults;
@@ -48,8 +48,8 @@ returns-in-Ends-clause-session g c = λ steady.
     let new : ServingState = state (record { told = g.D.Disk.told c.take_turn.new.disk; left = g.S.Source.left c.take_turn.new.source; written = g.W.Sink.written c.take_turn.new.sink }) c.take_turn.new.session in
     let layout = c.args.session.now.layout in
     let mid : ServingState = state (record { told = g.D.Disk.told now.disk; left = g.S.Source.left now.source; written = g.W.Sink.written now.sink }) now.session in
-    let here = subst (λ (k : Layout). IsSteady k now.session.replica now.session.table) (sym at) (now.invariant.steady steady) in
-    ended_all layout old mid new c.in-Ends.status (now.invariant.goes steady) (subst (λ (k : Layout). ServingEndsIn k mid new c.in-Ends.status) at (c.in-Ends.ensures.turns here))
+    let here = rw (sym at) at (now.invariant.steady steady) in
+    ended_all layout old mid new c.in-Ends.status (now.invariant.goes steady) (rw at at (c.in-Ends.ensures.turns here))
 
 pub returns-in-Ends-clause-ends : goal.returns-in-Ends-clause-ends
 returns-in-Ends-clause-ends g c = c.in-Ends.ensures.never

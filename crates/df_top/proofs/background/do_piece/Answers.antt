@@ -14,4 +14,4 @@ returns-in-Step-clause-does g c =
 
 pub returns-in-Scrub-clause-does : goal.returns-in-Scrub-clause-does
 returns-in-Scrub-clause-does g c =
-    subst (λ (p : Piece). DoesPiece (command_of_piece p c.args.replica.now.root) c.args.replica.now c.make_piece-in-Scrub.new.replica (g.D.Disk.told c.args.disk.now) (g.D.Disk.told c.make_piece-in-Scrub.new.disk) c.make_piece-in-Scrub.result) (sym c.in-Scrub.is) c.make_piece-in-Scrub.ensures.does
+    rw c.in-Scrub.is c.make_piece-in-Scrub.ensures.does

@@ -27,12 +27,12 @@ returns-in-Open g c =
       words = λ is. absurd (c.run_file.ensures.usage is);
       formats = λ layout cluster asks. absurd (makes_alone words layout cluster mode asks mine of);
       makes = λ layout cluster asks. absurd (makes_alone words layout cluster mode asks mine of);
-      runs = λ other of_other asks. subst (λ (m : Mode). Runs m old new c.run_file.result) (one_mode words mode other mine asks) c.run_file.ensures.runs;
+      runs = λ other of_other asks. rw (one_mode words mode other mine asks) at c.run_file.ensures.runs;
       inspects = λ asks. c.run_file.ensures.inspects (one_mode words mode Inspect mine asks);
       made_within = λ layout cluster asks. absurd (makes_alone words layout cluster mode asks mine of);
       within = λ other of_other asks. runs_within mode old new c.run_file.result c.run_file.ensures.runs;
-      hurt = λ other of_other asks. runs_over_hurt other old new c.run_file.result (subst (λ (m : Mode). Runs m old new c.run_file.result) (one_mode words mode other mine asks) c.run_file.ensures.runs);
-      lived = λ other of_other asks. runs_over_history other old new c.run_file.result (subst (λ (m : Mode). Runs m old new c.run_file.result) (one_mode words mode other mine asks) c.run_file.ensures.runs);
+      hurt = λ other of_other asks. runs_over_hurt other old new c.run_file.result (rw (one_mode words mode other mine asks) at c.run_file.ensures.runs);
+      lived = λ other of_other asks. runs_over_history other old new c.run_file.result (rw (one_mode words mode other mine asks) at c.run_file.ensures.runs);
       upgrades = λ asks. absurd (upgrades_alone words mode asks mine of);
       upgraded_within = λ asks. absurd (upgrades_alone words mode asks mine of);
       upgraded_hurt = λ asks. absurd (upgrades_alone words mode asks mine of);
@@ -84,8 +84,8 @@ returns-in-Make-clause-formats g c = λ layout cluster asks.
     let mine = subst (Means (map string_bytes c.args.words.now)) (makes_file c.in-Some.mode file (sym c.task_of.ensures ∙ c.in-Make.is)) c.in-Some.ensures.found in
     subst (λ (l : Layout). Formats l cluster (g.D.Disk.told c.args.disk.now) (g.D.Disk.told c.make_file.new.disk) (g.W.Sink.written c.args.sink.now) (g.W.Sink.written c.make_file.new.sink) c.make_file.result)
     (same_layout_asked words file.layout layout file.cluster cluster mine asks)
-    (subst (λ (n : ℕ). Formats c.in-Make.file.layout n (g.D.Disk.told c.args.disk.now) (g.D.Disk.told c.make_file.new.disk) (g.W.Sink.written c.args.sink.now) (g.W.Sink.written c.make_file.new.sink) c.make_file.result)
-    (same_cluster_asked words file.layout layout file.cluster cluster mine asks) c.make_file.ensures.formats)
+    (rw
+    (same_cluster_asked words file.layout layout file.cluster cluster mine asks) at c.make_file.ensures.formats)
 
 pub returns-in-Make-clause-makes : goal.returns-in-Make-clause-makes
 returns-in-Make-clause-makes g c = λ layout cluster asks.
@@ -94,8 +94,8 @@ returns-in-Make-clause-makes g c = λ layout cluster asks.
     let mine = subst (Means (map string_bytes c.args.words.now)) (makes_file c.in-Some.mode file (sym c.task_of.ensures ∙ c.in-Make.is)) c.in-Some.ensures.found in
     subst (λ (l : Layout). MakesFile l cluster (g.D.Disk.told c.args.disk.now) (g.D.Disk.told c.make_file.new.disk) c.make_file.result)
     (same_layout_asked words file.layout layout file.cluster cluster mine asks)
-    (subst (λ (n : ℕ). MakesFile c.in-Make.file.layout n (g.D.Disk.told c.args.disk.now) (g.D.Disk.told c.make_file.new.disk) c.make_file.result)
-    (same_cluster_asked words file.layout layout file.cluster cluster mine asks) c.make_file.ensures.makes)
+    (rw
+    (same_cluster_asked words file.layout layout file.cluster cluster mine asks) at c.make_file.ensures.makes)
 
 pub returns-in-Make-clause-made_within : goal.returns-in-Make-clause-made_within
 returns-in-Make-clause-made_within g c = λ layout cluster asks.

@@ -1,5 +1,5 @@
 -- The probe reads alone, so that what is said of the file is said from the start on.
-use Rattle.std.{proofs.Common.{inr, subst}, specs.Prelude.{Option, Ok}}
+use Rattle.std.{proofs.Common.{inr}, specs.Prelude.{Option, Ok}}
 use Rattle.df_disk.specs.Told.{Told}
 use Rattle.df_layout.specs.declared.layout.Layout.{Layout}
 use Rattle.df_session.specs.Below.{TellsLayout}
@@ -13,10 +13,10 @@ returns-in-Ok-reserve-clause-runs g c = λ t told whole.
     let new : Outside = record { told = g.D.Disk.told c.carry_out.new.disk; left = g.S.Source.left c.carry_out.new.source; written = g.W.Sink.written c.carry_out.new.sink } in
     let layout : Layout = c.in-Ok-probe.layout in
     let serves : ServesIn c.args.mode layout (record { told = g.D.Disk.told c.args.disk.now; left = left; written = written }) new c.carry_out.result =
-    subst (λ (o : Option Told). ServesIn c.args.mode layout (record { told = o; left = left; written = written }) new c.carry_out.result) c.probe.ensures.same
-    (subst (λ (l : Layout). ServesIn c.args.mode l (record { told = g.D.Disk.told c.probe.new.disk; left = left; written = written }) new c.carry_out.result) c.in-Ok-reserve.ensures.layout c.carry_out.ensures.serves) in
+    rw c.probe.ensures.same at
+    (rw c.in-Ok-reserve.ensures.layout at c.carry_out.ensures.serves) in
     inr (inr (record {
       layout = layout;
-      shown = subst (λ (o : Option Told). TellsLayout o (Ok layout)) told c.in-Ok-probe.ensures.answer;
+      shown = rw told at c.in-Ok-probe.ensures.answer;
       serves = serves t told whole;
     }))

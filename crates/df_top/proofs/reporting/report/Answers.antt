@@ -1,5 +1,5 @@
 -- What is printed is what the survey tells, and the status is that of its list.
-use Rattle.std.proofs.Common.{ℕ, List, ◌∙◌, ap, subst}
+use Rattle.std.proofs.Common.{ℕ, List, ◌∙◌, ap}
 use Rattle.df_inspect.specs.Prints.{Prints}
 use Rattle.df_session.specs.Replica.{summary_of}
 use Rattle.df_top.{specs.{Outside.{PrintsLine}, Reporting.{report_of, status_of}, declared.status.Status.{Status}}, proofs.Reported.{same_report}}
@@ -9,7 +9,7 @@ pub returns-clause-prints : goal.returns-clause-prints
 returns-clause-prints g c =
     let old = g.W.Sink.written c.args.sink.now in
     let new = g.W.Sink.written c.print_inspection-done.new.sink in
-    subst (λ (given : Status). PrintsLine (report_of c.args.surveyed.now) given old new c.ended.result) (c.found.ensures.is ∙ ap status_of c.to_mend-mends.ensures)
+    rw (c.found.ensures.is ∙ ap status_of c.to_mend-mends.ensures) at
     (c.ended.ensures.writes _ old new (same_report (λ (text : List ℕ). Prints text old new c.print_inspection-done.result)
     c.summary-summary.result (summary_of c.args.surveyed.now.state) c.root.result.now c.args.surveyed.now.state.root c.sessions.result.now c.args.surveyed.now.state.table.sessions c.to_mend-mends.result.now c.args.surveyed.now.mends
     c.summary-summary.ensures c.root.ensures c.sessions.ensures c.to_mend-mends.ensures c.print_inspection-done.ensures.prints))

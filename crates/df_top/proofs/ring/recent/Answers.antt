@@ -1,5 +1,5 @@
 -- The ring comes to a turn by what was printed of it.
-use Rattle.std.proofs.Common.{List, subst, sym}
+use Rattle.std.proofs.Common.{List, sym}
 use Rattle.df_inspect.specs.Prints.{Prints}
 use Rattle.df_layout.specs.declared.damage.Finding.{Finding}
 use Rattle.df_model.specs.Commands.{Recent}
@@ -12,6 +12,6 @@ returns-clause-answers g c = λ told.
     let s = c.args.replica.now in
     let written = g.W.Sink.written c.args.sink.now in
     let took = g.W.Sink.written c.print_recent.new.sink in
-    subst (λ (u : Turn). AnswersCommand Recent s s told told written took u) (sym c.printed.ensures.is)
+    rw (sym c.printed.ensures.is) at
     (ring_printed s told written took (c.fill-count.ensures.call told) c.print_recent.result
-    (subst (λ (found : List Finding). Prints (recent_text found) written took c.print_recent.result) c.fill-count.ensures.ring c.print_recent.ensures.prints))
+    (rw c.fill-count.ensures.ring at c.print_recent.ensures.prints))

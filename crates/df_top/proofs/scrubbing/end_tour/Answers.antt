@@ -9,4 +9,4 @@ pub returns-clause-prints : goal.returns-clause-prints
 returns-clause-prints g c =
     let old = g.W.Sink.written c.args.sink.now in
     let new = g.W.Sink.written c.print_tour.new.sink in
-    subst (λ (given : Status). PrintsLine (scrubbed_text (scrubs.TourEnd c.args.checked c.args.failing)) given old new c.ended.result) c.listed.ensures.is (c.ended.ensures.writes _ old new c.print_tour.ensures.prints)
+    rw c.listed.ensures.is at (c.ended.ensures.writes _ old new c.print_tour.ensures.prints)

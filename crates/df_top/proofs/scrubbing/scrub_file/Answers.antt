@@ -1,5 +1,5 @@
 -- The open answers of the file that the disk shows, and the tour leaves what it keeps.
-use Rattle.std.{proofs.Common.{ℕ, inr, refl, subst, sym}, specs.Prelude.{Option}}
+use Rattle.std.{proofs.Common.{ℕ, inr, refl, sym}, specs.Prelude.{Option}}
 use Rattle.df_disk.specs.Told.{Told}
 use Rattle.df_session.specs.{Below.{State}, Found.{FoundFile}}
 use Rattle.df_top.{specs.{Outside.{Blames, Outside}, Scrubs.{ScrubsFile}, declared.mode.Mode.TheVariants.{Scrub}, declared.status.Status.TheVariants.{DiskFault, Memory, ReadFault, Words}}, proofs.{Causes.{refused_causes, refused_never}, Reported.{scrubs}, Served.{not_opened}, Tours.{never_so}}}
@@ -13,13 +13,13 @@ returns-in-Ok-clause-scrubs g c = λ left t told whole.
     let old : Outside = record { told = g.D.Disk.told c.args.disk.now; left = left; written = g.W.Sink.written c.args.sink.now } in
     let opened : Outside = record { told = g.D.Disk.told c.open.new.disk; left = left; written = g.W.Sink.written c.tour.new.sink } in (
       tt,
-      inr (inr (subst (λ (o : Option Told). (found : FoundFile layout t) × ScrubsFile layout t found old (record { told = o; left = left; written = g.W.Sink.written c.tour.new.sink }) status) (sym c.tour.ensures.same)
+      inr (inr (rw (sym c.tour.ensures.same) at
           (scrubs layout t old opened status c.in-Ok.replica whole told refl c.in-Ok.ensures.live c.in-Ok.ensures.kept (c.in-Ok.ensures.opened t told) c.tour.ensures.tours))),
     )
 
 pub returns-in-Ok-clause-causes : goal.returns-in-Ok-clause-causes
 returns-in-Ok-clause-causes g c = λ source. record {
-  disk = subst (λ (n : ℕ). Blames DiskFault n (g.D.Disk.faults c.tour.new.disk) c.tour.result) c.in-Ok.ensures.cause c.tour.ensures.disk;
+  disk = rw c.in-Ok.ensures.cause at c.tour.ensures.disk;
   source = no_blame ReadFault source source c.tour.result refl (never_so c.tour.result ReadFault c.tour.ensures.ends (λ no. no));
   sink = c.tour.ensures.sink;
 }

@@ -1,5 +1,5 @@
 -- Each check lists what it found, and leaves less to be checked; at the end nothing is left.
-use Rattle.std.proofs.Common.{◌∙◌, Ok, Option, ap, refl, subst}
+use Rattle.std.proofs.Common.{◌∙◌, Ok, Option, ap, refl}
 use Rattle.df_inspect.proofs.Laws.{appends_none}
 use Rattle.df_disk.specs.Told.{Told}
 use Rattle.df_model.specs.declared.answers.Scrubbed.TheVariants.{Checked}
@@ -35,7 +35,7 @@ loop-status-preserved g c =
     record {
       touring = λ t told first.
           goes_on c.args.replica.now t u v (g.W.Sink.written c.args.sink.now) (g.W.Sink.written now.sink) (g.W.Sink.written c.check_next.new.sink) on.0 on.1 now.invariant.moved (now.invariant.touring t told first)
-          (subst (λ (o : Option Told). IsScrub u v o (Ok (Checked on.0 on.1))) (now.invariant.same ∙ told) on.2) on.3;
+          (rw (← (now.invariant.same ∙ told)) on.2) on.3;
       moved = same_on c.args.replica.now u v (g.D.Disk.told now.disk) (Checked on.0 on.1) now.invariant.moved on.2;
       same = c.in-GoesOn.ensures.same ∙ now.invariant.same;
       disk_faults = c.in-GoesOn.ensures.disk ∙ now.invariant.disk_faults;
@@ -47,13 +47,13 @@ returns-in-Ends-clause-tours g c = λ t told first.
     let now = c.loop-status in
     ends c.args.replica.now t now.replica c.check_next.new.replica (g.W.Sink.written c.args.sink.now) (g.W.Sink.written now.sink) (g.W.Sink.written c.check_next.new.sink) now.invariant.moved (now.invariant.touring t told first)
     c.in-Ends.status
-    (subst (λ (o : Option Told). TakesStep now.replica c.check_next.new.replica o (g.W.Sink.written now.sink) (g.W.Sink.written c.check_next.new.sink) (Ends c.in-Ends.status)) (now.invariant.same ∙ told) c.in-Ends.ensures.steps)
+    (rw (now.invariant.same ∙ told) at c.in-Ends.ensures.steps)
 
 pub returns-in-Ends-clause-found : goal.returns-in-Ends-clause-found
 returns-in-Ends-clause-found g c = λ t told first fault.
     let now = c.loop-status in
     found_told c.args.replica.now t now.replica c.check_next.new.replica (g.D.Disk.told now.disk) (g.W.Sink.written c.args.sink.now) (g.W.Sink.written now.sink) (g.W.Sink.written c.check_next.new.sink) (now.invariant.touring t told first)
-    (subst (λ (x : Status). TakesStep now.replica c.check_next.new.replica (g.D.Disk.told now.disk) (g.W.Sink.written now.sink) (g.W.Sink.written c.check_next.new.sink) (Ends x)) fault c.in-Ends.ensures.steps)
+    (rw fault at c.in-Ends.ensures.steps)
 
 pub returns-in-Ends-clause-ends : goal.returns-in-Ends-clause-ends
 returns-in-Ends-clause-ends g c =

@@ -9,7 +9,7 @@ returns-in-Run g c =
     let old : Outside = around (g.D.Disk.told c.args.disk.now) (g.S.Source.left c.args.source.now) (g.W.Sink.written c.args.sink.now) in
     let new : Outside = around (g.D.Disk.told c.serve_file.new.disk) (g.S.Source.left c.serve_file.new.source) (g.W.Sink.written c.serve_file.new.sink) in
     record {
-      serves = subst (λ (m : Mode). ServesIn m c.args.rooms.layout old new c.serve_file.result) (sym c.in-Run.is) (c.serve_file.ensures.serves Run c.idle.ensures);
+      serves = rw c.in-Run.is (c.serve_file.ensures.serves Run c.idle.ensures);
       inspects = λ is. absurd (let no : Run ≡ Inspect = sym c.in-Run.is ∙ is in cc);
       unread = λ no. absurd (no (subst ReadsScript (sym c.in-Run.is) (idle, refl)));
       causes = c.serve_file.ensures.causes;
@@ -23,8 +23,7 @@ returns-in-Paced g c = record {
   unread = λ no. absurd (no (subst ReadsScript (sym c.in-Paced.is) (c.in-Paced.pace, refl)));
   inspects = λ is. absurd (let no : Paced c.in-Paced.pace ≡ Inspect = sym c.in-Paced.is ∙ is in cc);
   serves =
-      subst (λ (m : Mode). ServesIn m c.args.rooms.layout (around (g.D.Disk.told c.args.disk.now) (g.S.Source.left c.args.source.now) (g.W.Sink.written c.args.sink.now))
-      (around (g.D.Disk.told c.serve_file-in-Paced.new.disk) (g.S.Source.left c.serve_file-in-Paced.new.source) (g.W.Sink.written c.serve_file-in-Paced.new.sink)) c.serve_file-in-Paced.result) (sym c.in-Paced.is)
+      rw c.in-Paced.is
       (c.serve_file-in-Paced.ensures.serves (Paced c.in-Paced.pace) refl);
 }
 

@@ -1,5 +1,5 @@
 -- The file is opened and served, or it isn't.
-use Rattle.std.proofs.Common.{◌≡◌, ℕ, true, false, refl, sym, ap, ◌∙◌, subst, arith}
+use Rattle.std.proofs.Common.{◌≡◌, ℕ, true, false, refl, sym, ap, ◌∙◌, arith}
 use Rattle.df_lines.specs.Text.{Reading}
 use Rattle.df_session.specs.Below.{State}
 use Rattle.df_top.{specs.{Outside.{Blames, Outside}, declared.session.Session.{Session}, declared.status.Status.TheVariants.{DiskFault}, Session.{state}}, proofs.{Causes.{ended_never, refused_causes, refused_never}, Served.{executed, from_start, not_executed, serves}}}
@@ -38,7 +38,7 @@ returns-in-Err-clause-causes g c =
 
 pub returns-in-Ok-clause-causes : goal.returns-in-Ok-clause-causes
 returns-in-Ok-clause-causes g c = record {
-  disk = subst (λ (n : ℕ). Blames DiskFault n (g.D.Disk.faults c.serve_script.new.disk) c.serve_script.result) c.in-Ok.ensures.cause c.serve_script.ensures.disk;
+  disk = rw c.in-Ok.ensures.cause at c.serve_script.ensures.disk;
   source = c.serve_script.ensures.source;
   sink = c.serve_script.ensures.sink;
 }

@@ -14,4 +14,4 @@ returns-in-Ok-clause-told g c =
 
 pub returns-in-Err-clause-told : goal.returns-in-Err-clause-told
 returns-in-Err-clause-told g c =
-    subst (λ (r : Result Answer Fault). TellsAnswer (command_of c.args.command.now) r (g.W.Sink.written c.args.sink.now) (g.W.Sink.written c.tell_fault.new.sink) (Ends c.tell_fault.result)) (sym c.in-Err.is) c.tell_fault.ensures.prints
+    rw c.in-Err.is c.tell_fault.ensures.prints

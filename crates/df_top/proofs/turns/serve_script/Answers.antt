@@ -26,8 +26,8 @@ loop-status-preserved g c =
     let before : SessionState = state (around (g.D.Disk.told now.disk) (g.S.Source.left now.source) (g.W.Sink.written now.sink)) now.session in
     let taken : SessionState = state (around (g.D.Disk.told c.take_line.new.disk) (g.S.Source.left c.take_line.new.source) (g.W.Sink.written c.take_line.new.sink)) c.take_line.new.session in
     let after : SessionState = state (around (g.D.Disk.told c.work.new.disk) (g.S.Source.left c.take_line.new.source) (g.W.Sink.written c.work.new.sink)) c.work.new.session in
-    let line = subst (λ (p : Pace). SessionGoesOn p bound before taken) now.invariant.pace (subst (λ (n : ℕ). SessionGoesOn now.session.pace n before taken) now.invariant.bound c.in-GoesOn.ensures.turns) in
-    let work = subst (λ (p : Pace). SessionGoesOn p bound taken after) (c.take_line.ensures.takes.pace ∙ now.invariant.pace) (c.in-GoesOn-work.ensures.turns (g.S.Source.left c.take_line.new.source) bound) in
+    let line = rw now.invariant.pace at (rw now.invariant.bound at c.in-GoesOn.ensures.turns) in
+    let work = rw (c.take_line.ensures.takes.pace ∙ now.invariant.pace) at (c.in-GoesOn-work.ensures.turns (g.S.Source.left c.take_line.new.source) bound) in
     let done = now.invariant.so_far in
     let more = on_more c.args.session.now.pace bound before taken after line work _ done.0 done.1 in
     record {
@@ -47,7 +47,7 @@ returns-in-Ends-clause-session g c =
     let before : SessionState = state (around (g.D.Disk.told now.disk) (g.S.Source.left now.source) (g.W.Sink.written now.sink)) now.session in
     let after : SessionState = state (around (g.D.Disk.told c.take_line.new.disk) (g.S.Source.left c.take_line.new.source) (g.W.Sink.written c.take_line.new.sink)) c.take_line.new.session in
     let done = now.invariant.so_far in
-    subst (λ (p : Pace). EndsIn p c.args.session.now.lines.reading.bound before after c.in-Ends.status) now.invariant.pace (subst (λ (n : ℕ). EndsIn now.session.pace n before after c.in-Ends.status) now.invariant.bound c.in-Ends.ensures.turns) _ done.0 done.1
+    subst (λ (p : Pace). EndsIn p c.args.session.now.lines.reading.bound before after c.in-Ends.status) now.invariant.pace (rw now.invariant.bound at c.in-Ends.ensures.turns) _ done.0 done.1
 
 pub returns-in-Ends-work-clause-session : goal.returns-in-Ends-work-clause-session
 returns-in-Ends-work-clause-session g c =
@@ -57,7 +57,7 @@ returns-in-Ends-work-clause-session g c =
     let before : SessionState = state (around (g.D.Disk.told now.disk) (g.S.Source.left now.source) (g.W.Sink.written now.sink)) now.session in
     let taken : SessionState = state (around (g.D.Disk.told c.take_line.new.disk) (g.S.Source.left c.take_line.new.source) (g.W.Sink.written c.take_line.new.sink)) c.take_line.new.session in
     let after : SessionState = state (around (g.D.Disk.told c.work.new.disk) (g.S.Source.left c.take_line.new.source) (g.W.Sink.written c.work.new.sink)) c.work.new.session in
-    let line = subst (λ (p : Pace). SessionGoesOn p bound before taken) now.invariant.pace (subst (λ (n : ℕ). SessionGoesOn now.session.pace n before taken) now.invariant.bound c.in-GoesOn.ensures.turns) in
-    let work = subst (λ (p : Pace). EndsIn p bound taken after status) (c.take_line.ensures.takes.pace ∙ now.invariant.pace) (c.in-Ends-work.ensures.turns (g.S.Source.left c.take_line.new.source) bound) in
+    let line = rw now.invariant.pace at (rw now.invariant.bound at c.in-GoesOn.ensures.turns) in
+    let work = rw (c.take_line.ensures.takes.pace ∙ now.invariant.pace) at (c.in-Ends-work.ensures.turns (g.S.Source.left c.take_line.new.source) bound) in
     let done = now.invariant.so_far in
     on_ends c.args.session.now.pace bound before taken after status line work _ done.0 done.1

@@ -12,11 +12,11 @@ returns-in-Ok-reserve-clause-upgrades g c = λ left t told whole.
     let new : Outside = record { told = g.D.Disk.told c.upgrade_there.new.disk; left = left; written = g.W.Sink.written c.upgrade_there.new.sink } in
     let layout : Layout = c.in-Ok-probe_version.layout in
     let upgrades : UpgradesIn layout (record { told = g.D.Disk.told c.args.disk.now; left = left; written = written }) new c.upgrade_there.result =
-    subst (λ (o : Option Told). UpgradesIn layout (record { told = o; left = left; written = written }) new c.upgrade_there.result) c.probe_version.ensures.same
-    (subst (λ (l : Layout). UpgradesIn l (record { told = g.D.Disk.told c.probe_version.new.disk; left = left; written = written }) new c.upgrade_there.result) c.in-Ok-reserve.ensures (c.upgrade_there.ensures.upgrades left)) in
+    rw c.probe_version.ensures.same at
+    (rw c.in-Ok-reserve.ensures at (c.upgrade_there.ensures.upgrades left)) in
     inr (inr (record {
       layout = layout;
-      shown = subst (λ (o : Option Told). TellsLayoutAs 1 o (Ok layout)) told c.in-Ok-probe_version.ensures.answer;
+      shown = rw told at c.in-Ok-probe_version.ensures.answer;
       comes = upgrades t told whole;
     }))
 

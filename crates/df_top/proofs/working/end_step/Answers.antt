@@ -1,5 +1,5 @@
 -- The step was taken, and the run heard of its answer.
-use Rattle.std.proofs.Common.{◌≡◌, ◌<◌, true, refl, subst, sym, Result}
+use Rattle.std.proofs.Common.{◌≡◌, ◌<◌, true, refl, sym, Result}
 use Rattle.df_model.specs.Commands.{Advance}
 use Rattle.df_session.specs.declared.hearing.Fault.{Fault}
 use Rattle.df_workload.{specs.{declared.state.State.{State as Run}, declared.state.Point.TheVariants.{Ending}}, proofs.Laws.{ends_by_step, may_end, still_ending}}
@@ -23,12 +23,12 @@ returns g c =
     let made = c.in_ok-outcome.ensures.makes in
     let runs = c.requires.ready.runs c.requires.running in
     record {
-      comes = subst (λ (r : Run). Works run s old r t new) (sym c.hear.ensures.heard) (made_works run s t old new Advance next o made);
-      ending = subst (λ (r : Run). r.point ≡ Ending) (sym c.hear.ensures.heard) (still_ending o run c.requires.ending);
-      less = subst (λ (r : Run). steps_left r t < steps_left run s) (sym c.hear.ensures.heard) (fewer_steps o run s t next (c.in_ok-outcome.ensures.steps refl) runs c.requires.running);
+      comes = rw (sym c.hear.ensures.heard) at (made_works run s t old new Advance next o made);
+      ending = rw (sym c.hear.ensures.heard) at (still_ending o run c.requires.ending);
+      less = rw (sym c.hear.ensures.heard) at (fewer_steps o run s t next (c.in_ok-outcome.ensures.steps refl) runs c.requires.running);
       ready = record {
         live = made_live run s t old new Advance next o made;
-        runs = subst (λ (r : Run). r.running ≡ true → IsRunning t) (sym c.hear.ensures.heard) (made_runs run s t old new Advance next o c.in_ok-outcome.ensures.runs c.requires.ready.runs);
+        runs = rw (sym c.hear.ensures.heard) at (made_runs run s t old new Advance next o c.in_ok-outcome.ensures.runs c.requires.ready.runs);
       };
       disk = c.in_ok-outcome.ensures.disk;
     }

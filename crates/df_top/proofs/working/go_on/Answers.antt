@@ -1,5 +1,5 @@
 -- The call that is asked for was made, and the run heard of its answer.
-use Rattle.std.proofs.Common.{◌≡◌, true, subst, sym, Result}
+use Rattle.std.proofs.Common.{◌≡◌, true, sym, Result}
 use Rattle.df_session.specs.declared.hearing.Fault.{Fault}
 use Rattle.df_workload.{specs.declared.state.State.{State as Run}, proofs.Laws.{asks_some, may_go_on}}
 use Rattle.df_top.{specs.Works.{Comes, IsRunning, Works}, proofs.Runs.{handed_on, made_fails, made_live, made_runs, made_works}}
@@ -23,10 +23,10 @@ returns g c =
     let next = asks_some run.point run c.requires.going in
     let made = c.in_ok-outcome.ensures.makes next.0 next.1 in
     record {
-      comes = subst (λ (r : Run). Works run s old r t new) (sym c.hear.ensures.heard) (made_works run s t old new next.0 next.1 c.in_ok-outcome.outcome made);
+      comes = rw (sym c.hear.ensures.heard) at (made_works run s t old new next.0 next.1 c.in_ok-outcome.outcome made);
       ready = record {
         live = made_live run s t old new next.0 next.1 c.in_ok-outcome.outcome made;
-        runs = subst (λ (r : Run). r.running ≡ true → IsRunning t) (sym c.hear.ensures.heard) (made_runs run s t old new next.0 next.1 c.in_ok-outcome.outcome (c.in_ok-outcome.ensures.runs next.0 next.1) c.requires.ready.runs);
+        runs = rw (sym c.hear.ensures.heard) at (made_runs run s t old new next.0 next.1 c.in_ok-outcome.outcome (c.in_ok-outcome.ensures.runs next.0 next.1) c.requires.ready.runs);
       };
       less = c.hear.ensures.less c.requires.going;
       disk = c.in_ok-outcome.ensures.disk;

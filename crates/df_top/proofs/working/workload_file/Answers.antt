@@ -1,5 +1,5 @@
 -- The open answers of the file that the disk shows, and the run is carried out on what it found.
-use Rattle.std.proofs.Common.{◌≡◌, ℕ, true, false, inr, refl, sym, subst, ◌∙◌, ap}
+use Rattle.std.proofs.Common.{◌≡◌, ℕ, true, false, inr, refl, sym, ◌∙◌, ap}
 use Rattle.df_base.specs.Causes.{IsBlamed}
 use Rattle.df_layout.specs.declared.layout.Layout.{Layout}
 use Rattle.df_model.specs.declared.answers.Summary.{Summary}
@@ -22,7 +22,7 @@ returns-in-Ok-clause-works g c = λ left t told whole.
     let new : Outside = record { told = g.D.Disk.told c.work-worked.new.disk; left = left; written = g.W.Sink.written c.tell.new.sink } in
     let clients : c.summary.result.layout.clients ≡ layout.clients = ap (λ (x : Summary). x.layout.clients) c.summary.ensures ∙ ap (λ (l : Layout). l.clients) c.in-Ok.ensures.kept in
     let begins : c.new-generator.result ≡ start c.args.seed c.args.count layout.clients = c.new-generator.ensures ∙ ap (λ (n : ℕ). start c.args.seed c.args.count n) clients in
-    let comes = subst (λ (r : Run). Comes r s (g.D.Disk.told c.open.new.disk) c.work-worked.new.run.generator c.work-worked.new.run.replica (g.D.Disk.told c.work-worked.new.disk) c.work-worked.result) begins c.work-worked.ensures.comes in (
+    let comes = rw begins at c.work-worked.ensures.comes in (
       tt,
       inr (inr (works_through c.args.seed c.args.count layout t old new status s (g.D.Disk.told c.open.new.disk) whole told refl c.in-Ok.ensures.live c.in-Ok.ensures.kept (c.in-Ok.ensures.opened t told) c.work-worked.new.run.generator c.work-worked.new.run.replica
           (ends_run (start c.args.seed c.args.count layout.clients) s (g.D.Disk.told c.open.new.disk) c.work-worked.new.run.generator c.work-worked.new.run.replica (g.D.Disk.told c.work-worked.new.disk) (g.W.Sink.written c.args.sink.now) (g.W.Sink.written c.tell.new.sink) status c.work-worked.result comes
@@ -38,7 +38,7 @@ returns-clause-works g c = λ left t told whole.
 pub returns-in-Ok-clause-causes : goal.returns-in-Ok-clause-causes
 returns-in-Ok-clause-causes g c = λ source.
     run_causes c.work-worked.new.run.generator c.work-worked.new.run.replica c.work-worked.result (g.D.Disk.faults c.args.disk.now) (g.D.Disk.faults c.work-worked.new.disk) source (g.W.Sink.faults c.args.sink.now) (g.W.Sink.faults c.tell.new.sink) (g.W.Sink.written c.args.sink.now) (g.W.Sink.written c.tell.new.sink)
-    c.tell.result c.tell.ensures.prints (subst (λ (n : ℕ). IsBlamed is_disk_fault n (g.D.Disk.faults c.work-worked.new.disk) c.work-worked.result) c.in-Ok.ensures.cause c.work-worked.ensures.disk) c.tell.ensures.sink
+    c.tell.result c.tell.ensures.prints (rw c.in-Ok.ensures.cause at c.work-worked.ensures.disk) c.tell.ensures.sink
 
 pub returns-clause-causes : goal.returns-clause-causes
 returns-clause-causes g c = λ source.

@@ -1,5 +1,5 @@
 -- What a run hears of an answer is what the call came to.
-use Rattle.std.proofs.Common.{subst, sym}
+use Rattle.std.proofs.Common.{sym}
 use Rattle.df_inspect.specs.Answers.{command_of}
 use Rattle.df_workload.specs.declared.outcome.Outcome.{Outcome}
 use Rattle.df_top.proofs.RunCalls.{Call, heard_call}
@@ -12,7 +12,7 @@ returns-in-Ok g c =
     let old = g.D.Disk.told c.args.disk.now in
     let new = g.D.Disk.told c.make.new.disk in
     let call =
-    subst (λ (o : Outcome). Call (command_of c.args.command) c.args.replica.now c.make.new.replica (g.D.Disk.told c.args.disk.now) (g.D.Disk.told c.make.new.disk) o) (sym c.outcome_in.ensures)
+    rw (sym c.outcome_in.ensures) at
     (heard_call (command_of c.args.command) s t old new c.in-Ok.answer c.in-Ok.ensures.makes) in
     record { makes = call.makes; runs = call.runs; steps = call.steps; disk = c.in-Ok.ensures.disk }
 

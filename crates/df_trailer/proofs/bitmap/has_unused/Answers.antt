@@ -1,4 +1,4 @@
-use Rattle.std.proofs.{Common.{◌≡◌, ◌-◌, ◌+◌, ◌*◌, ◌/◌, ◌^◌, ◌<◌, ◌∙◌, ℕ, List, length, sym, subst, arith}, lemmas.Bool.{le-leb, lt-leb, eqb-true}}
+use Rattle.std.proofs.{Common.{◌≡◌, ◌-◌, ◌+◌, ◌*◌, ◌/◌, ◌^◌, ◌<◌, ◌∙◌, ℕ, List, length, sym, arith}, lemmas.Bool.{le-leb, lt-leb, eqb-true}}
 use Rattle.df_trailer.{specs.{Rooms.{bits_in_words, byte_in_words}, Spelling.{listed}}, proofs.{OneBit.{clear_is_small, number_fits, set_is_large}, Blocks.{length_listed}, Words.{words_fit}}}
 use Rattle.df_trailer.proofs.bitmap.has_unused.Goals as goal
 
@@ -15,5 +15,5 @@ returns c =
     let x : ℕ = bits_in_words n c.args.words.now in
     let size : length bs ≡ n = length_listed (byte_in_words c.args.words.now) n in
     let all : 8 * length bs ≡ c.args.blocks + (8 * n - c.args.blocks) = omega arith in
-    let small : x < 2 ^ (c.args.blocks + (8 * n - c.args.blocks)) = subst (λ (m : ℕ). x < 2 ^ m) all (number_fits bs (words_fit c.args.words.now n)) in
+    let small : x < 2 ^ (c.args.blocks + (8 * n - c.args.blocks)) = rw all at (number_fits bs (words_fit c.args.words.now n)) in
     sym (lt-leb _ _ (clear_is_small (8 * n - c.args.blocks) x c.args.blocks small (λ k h g. c.loop-place.invariant k h (omega arith))))

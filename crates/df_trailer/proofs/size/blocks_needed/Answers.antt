@@ -1,4 +1,4 @@
-use Rattle.std.proofs.Common.{rules, ◌-◌, ℕ, subst, arith}
+use Rattle.std.proofs.Common.{rules, ◌-◌, ℕ, arith}
 use Rattle.df_theory.specs.Trailer.{IsCount}
 use Rattle.df_trailer.proofs.Sizes.{count_is}
 use Rattle.df_trailer.proofs.size.blocks_needed.Goals as goal
@@ -6,4 +6,4 @@ use Rattle.df_trailer.proofs.size.blocks_needed.Goals as goal
 pub returns-clause-count : goal.returns-clause-count
 returns-clause-count c =
     let room : ℕ = c.args.layout.now.block_size - 256 in
-    subst (λ (size : ℕ). IsCount room size c.div_ceil.result) c.trailer_size.ensures.value (count_is c.trailer_size.result room c.div_ceil.result (omega arith) (search rules))
+    rw c.trailer_size.ensures.value at (count_is c.trailer_size.result room c.div_ceil.result (omega arith) (search rules))

@@ -25,7 +25,7 @@ returns-in-Ok-upgrade_surveyed-clause-leaves g c =
           let s : Survey = c.in-Ok.surveyed in
           let es : List Event = upgrading_events s in
           let synced : g.D.Disk.told c.survey.new.disk ≡ Some (did Sync t) = c.in-Ok.ensures.barrier ∙ ap (after Sync) is in
-          let answer : TellsSurveyAs 1 c.args.rooms.layout (Some t) (Ok s.state) = subst (λ (o : Option Told). TellsSurveyAs 1 c.args.rooms.layout o (Ok s.state)) is c.in-Ok.ensures.answers.answer in
+          let answer : TellsSurveyAs 1 c.args.rooms.layout (Some t) (Ok s.state) = rw is at c.in-Ok.ensures.answers.answer in
           let plan = c.in-Ok.ensures.surveyed.planned (did Sync t) synced in
           record {
             found = s.state;
@@ -46,7 +46,7 @@ returns-in-Ok-upgrade_surveyed-clause-leaves g c =
 pub returns-in-Err-upgrade_surveyed-clause-answers : goal.returns-in-Err-upgrade_surveyed-clause-answers
 returns-in-Err-upgrade_surveyed-clause-answers g c =
     let tells =
-    subst (λ (e : OpenError). TellsSurveyAs 1 c.args.rooms.layout (g.D.Disk.told c.args.disk.now) (Err e)) (sym c.refusal_of.ensures)
+    rw (sym c.refusal_of.ensures) at
     (refused_tells _ 1 c.args.rooms.layout (g.D.Disk.told c.args.disk.now) (g.D.Disk.told c.survey.new.disk) (g.D.Disk.told c.upgrade_surveyed.new.disk) (upgrading_events c.in-Ok.surveyed) c.in-Err-upgrade_surveyed.error c.in-Ok.ensures.barrier c.in-Err-upgrade_surveyed.ensures.does.events c.in-Err-upgrade_surveyed.ensures.does.unharmed) in
     let both = answers_old c.args.rooms.layout (g.D.Disk.told c.args.disk.now) (Err c.refusal_of.result) tells in
     record { answer = both.answer; hurt = both.hurt }
@@ -56,7 +56,7 @@ returns-in-Err-clause-answers g c = record { answer = c.in-Err.ensures.answers.a
 
 pub returns-in-Err-upgrade_surveyed-clause-cause : goal.returns-in-Err-upgrade_surveyed-clause-cause
 returns-in-Err-upgrade_surveyed-clause-cause g c =
-    let rose = subst (λ (n : ℕ). Blamed (is_mend_fault c.in-Err-upgrade_surveyed.error) n (g.D.Disk.faults c.upgrade_surveyed.new.disk)) c.in-Ok.ensures.cause c.in-Err-upgrade_surveyed.ensures.cause in
+    let rose = rw c.in-Ok.ensures.cause at c.in-Err-upgrade_surveyed.ensures.cause in
     let blamed = blamed_open c.in-Err-upgrade_surveyed.error (g.D.Disk.faults c.args.disk.now) (g.D.Disk.faults c.upgrade_surveyed.new.disk) rose in
     subst (λ (e : OpenError). Blamed (is_open_fault e) (g.D.Disk.faults c.args.disk.now) (g.D.Disk.faults c.upgrade_surveyed.new.disk)) (sym c.refusal_of.ensures) blamed
 
@@ -73,7 +73,7 @@ returns-in-Err-upgrade_surveyed-clause-leaves g c = record {
       let part = mend_stops es (g.D.Disk.told c.survey.new.disk) (g.D.Disk.told c.upgrade_surveyed.new.disk) (did Sync t) synced adds in
       let done = part.steps (format s.state.file) (upgrading_steps s) c.in-Err-upgrade_surveyed.ensures.leaves.steps in
       let plan = c.in-Ok.ensures.surveyed.planned (did Sync t) synced in
-      let answer : TellsSurveyAs 1 c.args.rooms.layout (Some t) (Ok s.state) = subst (λ (o : Option Told). TellsSurveyAs 1 c.args.rooms.layout o (Ok s.state)) is c.in-Ok.ensures.answers.answer in
+      let answer : TellsSurveyAs 1 c.args.rooms.layout (Some t) (Ok s.state) = rw is at c.in-Ok.ensures.answers.answer in
       inr (inr (record {
         found = s.state;
         opened = answer whole;
@@ -81,7 +81,7 @@ returns-in-Err-upgrade_surveyed-clause-leaves g c = record {
         own = λ image. record {
           events = es;
           own = own_raising 1 (base_fields s.state) c.args.rooms.layout (g.D.Disk.told c.args.disk.now) t s is c.in-Ok.ensures.surveyed.kept c.in-Ok.ensures.answers.answer c.in-Ok.ensures.surveyed.mends image;
-          part = subst (λ (o : Option Told). AddsPart es o (g.D.Disk.told c.upgrade_surveyed.new.disk)) synced adds;
+          part = rw synced at adds;
         };
         anew = λ view image found distinct.
             let by = c.in-Err-upgrade_surveyed.ensures.leaves.anew t view (planned_same s.state.file s.state.headers s.mends s.state.fields s.chosen.members (did Sync t) (restarted t) refl plan) image found distinct

@@ -54,7 +54,7 @@ returns-in-Ok-upgrade_in-clause-does g c =
     let old = g.D.Disk.told c.args.disk.now in
     let mid = g.D.Disk.told c.restore.new.disk in
     let new = g.D.Disk.told c.upgrade_in.new.disk in
-    let does = subst (λ (f : SuperFields). AddsUpdating {T = Unit {0}} (update_events f) f mid new (Ok tt)) c.base-base.ensures.fields c.in-Ok-upgrade_in.ensures.does in
+    let does = rw c.base-base.ensures.fields at c.in-Ok-upgrade_in.ensures.does in
     updating_ok (upgrading_events s) (base_fields s.state) old new tt _ (updating_then {T = Unit {0}} (restoring_events s) (update_events (base_fields s.state)) (base_fields s.state) old mid new (Ok tt) c.in-Ok.ensures.does.events does)
 
 pub returns-in-Err-upgrade_in-clause-does : goal.returns-in-Err-upgrade_in-clause-does
@@ -64,5 +64,5 @@ returns-in-Err-upgrade_in-clause-does g c =
     let mid = g.D.Disk.told c.restore.new.disk in
     let new = g.D.Disk.told c.upgrade_in.new.disk in
     let error = c.in-Err-upgrade_in.error in
-    let does = subst (λ (f : SuperFields). AddsUpdating {T = Unit {0}} (update_events f) f mid new (Err error)) c.base-base.ensures.fields c.in-Err-upgrade_in.ensures.does in
+    let does = rw c.base-base.ensures.fields at c.in-Err-upgrade_in.ensures.does in
     updating_error (Unit {0}) _ (upgrading_events s) (base_fields s.state) old new error (updating_then {T = Unit {0}} (restoring_events s) (update_events (base_fields s.state)) (base_fields s.state) old mid new (Err error) c.in-Ok.ensures.does.events does)

@@ -22,7 +22,7 @@ pub returns-in_err-get-clause-none : goal.returns-in_err-get-clause-none
 returns-in_err-get-clause-none c =
     let s = c.self.inside in
     let w = c.in_ok-word.word in
-    let lowest : IsLowestZero s.summary.items w = subst (λ words. IsLowestZero words w) c.deref.ensures.value c.in_ok-word.ensures.lowest in
+    let lowest : IsLowestZero s.summary.items w = rw c.deref.ensures.value at c.in_ok-word.ensures.lowest in
     let beyond : length s.words.items ≤ w = (rw c.deref-2.ensures.value at (ltb-false w (length c.deref-2.result.now) (sym c.in_err-get.ensures.lookup.0))) in
     let all : AreAllTaken c.args.self.now = subst AreAllTaken c.self.view_is (summary_beyond s.words.items s.summary.items s.blocks w c.self.invariant lowest beyond) in
     let none : IsNone c.from_residual-in_err-get.result = search (rules, c.from_residual-in_err-get.ensures) in
@@ -36,7 +36,7 @@ returns-then-address-from c =
     (rw c.deref-2.ensures.value at c.in_ok-get.ensures.lookup.0) (rw c.deref-2.ensures.value at c.in_ok-get.ensures.lookup.1) (c.from.ensures ∙ c.trailing_ones-ones.ensures) in
     let within : bit + 1 ≤ s.blocks = omega (arith, c.from-2.ensures, c.if-address-from.true) in
     let least : IsLeastFree c.args.self.now (bit + 1) =
-    subst (λ taken. IsLeastFree taken (bit + 1)) c.self.view_is (zero_is_least s.words.items s.blocks bit (bit + 1) first refl within) in
+    rw c.self.view_is at (zero_is_least s.words.items s.blocks bit (bit + 1) first refl within) in
     record { none = (λ e. cc, λ all. absurd (not_both c.args.self.now _ least all)); least = least }
 
 pub returns-else-address-from-clause-none : goal.returns-else-address-from-clause-none

@@ -24,6 +24,6 @@ pub returns-clause-valid : goal.returns-clause-valid
 returns-clause-valid g c =
     let s = c.self.inside in
     let sum : sum_at c.args.address s.table.blocks.live ≡ Some (number_of c.in-Some.checksum) = sym c.live.ensures.checksum ∙ ap number_in c.in-Some.is in
-    subst (λ (v : GridState). IfOk c.load.result (λ wrong. HoldsKnown v.layout v.cluster c.args.address (sum_at c.args.address v.blocks.live) wrong c.load.new.self.held)) c.self.view_is
+    rw (← c.self.view_is)
     (holds_all s.layout s.cluster c.args.address c.in-Some.checksum c.known_at-identity.ensures.check (g.D.Disk.told c.args.disk.now) c.known_at-identity.result c.known_at-identity.ensures.identity (sum_at c.args.address s.table.blocks.live) sum
     c.load.result c.load.new.self.held c.load.ensures.holds)

@@ -1,5 +1,5 @@
 -- What was read into the room is what the machine reads.
-use Rattle.std.{proofs.Common.{◌≡◌, Some, refl, sym, ap, subst, ◌∙◌, arith}, specs.Prelude.{Ok, Err}}
+use Rattle.std.{proofs.Common.{◌≡◌, Some, refl, sym, ap, ◌∙◌, arith}, specs.Prelude.{Ok, Err}}
 use Rattle.df_format.specs.declared.kind.Kind.TheVariants.{Block}
 use Rattle.df_model.specs.Blocks.{sum_at}
 use Rattle.df_units.specs.Meaning.{block_of, number_of}
@@ -21,7 +21,7 @@ returns-in-Some-2 g c =
       record {
         after = tt;
         block = tt;
-        class = subst (λ (v : GridState). ReadsBlock v.layout v.cluster (g.D.Disk.told c.args.disk.now) c.args.address (sum_at c.args.address v.blocks.live) (Err c.in-Some-2.class)) c.self.view_is
+        class = rw (← c.self.view_is)
             (shows_other_block s.layout s.cluster c.args.address c.in-Some.checksum c.known_at-identity.ensures.check (g.D.Disk.told c.args.disk.now) c.known_at-identity.result c.known_at-identity.ensures.identity c.in_ok-class.field-0 c.load.new.self.held (sum_at c.args.address s.table.blocks.live) c.in-Some-2.class c.in-Some-2.is c.in_ok-class.ensures.read sum);
         valid = tt;
         same = c.load.ensures.same;
@@ -36,10 +36,10 @@ returns-in-None g c =
       (refl, (λ _. tt), c.self.view_is),
       record {
         after = tt;
-        block = subst (λ (v : GridState). ReadsBlock v.layout v.cluster (g.D.Disk.told c.args.disk.now) c.args.address (sum_at c.args.address v.blocks.live) (Ok (block_of c.unit.result.now.unit))) c.self.view_is
+        block = rw (← c.self.view_is)
             (shows_block s.layout s.cluster c.args.address c.in-Some.checksum c.known_at-identity.ensures.check (g.D.Disk.told c.args.disk.now) c.known_at-identity.result c.known_at-identity.ensures.identity c.in_ok-class.field-0 c.load.new.self.held (sum_at c.args.address s.table.blocks.live) c.unit.result.now c.in-None.is c.unit.ensures c.in_ok-class.ensures.holds c.in_ok-class.ensures.read sum);
         class = tt;
-        valid = subst (λ (v : GridState). IsKnownBlock Block v.layout v.cluster c.args.address (sum_at c.args.address v.blocks.live) c.unit.result.now.unit) c.self.view_is
+        valid = rw (← c.self.view_is)
             (shows_valid s.layout s.cluster c.args.address c.in-Some.checksum c.known_at-identity.ensures.check (g.D.Disk.told c.args.disk.now) c.known_at-identity.result c.known_at-identity.ensures.identity c.in_ok-class.field-0 c.load.new.self.held Block (sum_at c.args.address s.table.blocks.live) c.unit.result.now c.in-None.is c.unit.ensures c.in_ok-class.ensures.holds sum);
         same = c.load.ensures.same;
         cause = record { later = c.in_ok-class.ensures.cause.later; failed = tt; same = c.in_ok-class.ensures.cause.same };

@@ -1,5 +1,5 @@
 -- What was read into the room is what the machine reads.
-use Rattle.std.{proofs.Common.{Some, refl, subst}, specs.Prelude.{Ok, Err}}
+use Rattle.std.{proofs.Common.{Some, refl}, specs.Prelude.{Ok, Err}}
 use Rattle.df_format.specs.declared.kind.Kind.TheVariants.{Trailer}
 use Rattle.df_units.specs.Meaning.{block_of, number_of}
 use Rattle.df_grid.{specs.{Grid.{GridState, IsKnownBlock}, Reads.{ReadsTrailer}}, proofs.Reading.{shows_other_trailer, shows_trailer, shows_valid}}
@@ -12,7 +12,7 @@ returns-in-Some g c =
       record {
         after = tt;
         block = tt;
-        class = subst (λ (v : GridState). ReadsTrailer v.layout v.cluster (g.D.Disk.told c.args.disk.now) c.args.reference.address (number_of c.args.reference.checksum) (Err c.in-Some.class)) c.self.view_is
+        class = rw (← c.self.view_is)
             (shows_other_trailer s.layout s.cluster c.args.reference.address c.args.reference.checksum c.known_at-identity.ensures.check (g.D.Disk.told c.args.disk.now) c.known_at-identity.result c.known_at-identity.ensures.identity c.in_ok-class.field-0 c.load.new.self.held c.in-Some.class c.in-Some.is c.in_ok-class.ensures.read);
         valid = tt;
         same = c.load.ensures.same;
@@ -26,10 +26,10 @@ returns-in-None g c =
       (refl, (λ _. tt), c.self.view_is),
       record {
         after = tt;
-        block = subst (λ (v : GridState). ReadsTrailer v.layout v.cluster (g.D.Disk.told c.args.disk.now) c.args.reference.address (number_of c.args.reference.checksum) (Ok (block_of c.unit.result.now.unit))) c.self.view_is
+        block = rw (← c.self.view_is)
             (shows_trailer s.layout s.cluster c.args.reference.address c.args.reference.checksum c.known_at-identity.ensures.check (g.D.Disk.told c.args.disk.now) c.known_at-identity.result c.known_at-identity.ensures.identity c.in_ok-class.field-0 c.load.new.self.held c.unit.result.now c.in-None.is c.unit.ensures c.in_ok-class.ensures.holds c.in_ok-class.ensures.read);
         class = tt;
-        valid = subst (λ (v : GridState). IsKnownBlock Trailer v.layout v.cluster c.args.reference.address (Some (number_of c.args.reference.checksum)) c.unit.result.now.unit) c.self.view_is
+        valid = rw (← c.self.view_is)
             (shows_valid s.layout s.cluster c.args.reference.address c.args.reference.checksum c.known_at-identity.ensures.check (g.D.Disk.told c.args.disk.now) c.known_at-identity.result c.known_at-identity.ensures.identity c.in_ok-class.field-0 c.load.new.self.held Trailer (Some (number_of c.args.reference.checksum)) c.unit.result.now c.in-None.is c.unit.ensures c.in_ok-class.ensures.holds refl);
         same = c.load.ensures.same;
         cause = record { later = c.in_ok-class.ensures.cause.later; failed = tt; same = c.in_ok-class.ensures.cause.same };

@@ -9,7 +9,7 @@ use Rattle.df_grid.proofs.grid.Grid.test.Goals as goal
 pub returns-clause-tested : goal.returns-clause-tested
 returns-clause-tested g c =
     let s = c.self.inside in
-    subst (λ (v : GridState). Tests v.layout v.cluster (g.D.Disk.told c.args.disk.now) c.args.reference.address (number_of c.args.reference.checksum) c.fault_of.result) c.self.view_is
+    rw (← c.self.view_is)
     (tests s.layout s.cluster c.args.reference.address (g.D.Disk.told c.args.disk.now) c.args.reference.checksum c.in_ok-seen.seen c.fault_of.result c.fault_of.ensures
-    (subst (λ (p : Place). IsSeen s.layout s.cluster (g.D.Disk.told c.args.disk.now) p c.in_ok-seen.seen) c.grid_place-place.ensures
-    (subst (λ (l : Layout). IsSeen l s.cluster (g.D.Disk.told c.args.disk.now) c.grid_place-place.result c.in_ok-seen.seen) c.self.invariant.block c.in_ok-seen.ensures.seen)))
+    (rw c.grid_place-place.ensures at
+    (rw c.self.invariant.block at c.in_ok-seen.ensures.seen)))

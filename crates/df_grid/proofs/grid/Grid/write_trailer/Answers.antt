@@ -17,14 +17,14 @@ returns-in-Ok-clause-events g c =
     let s = c.self.inside in
     let header = header_next _ c.args.self.now c.args.sequence c.in-Some.address c.args.index c.trailer_header-header.result c.last_written-before.result c.self.view_is c.trailer_header-header.ensures.header c.in-Some.ensures.next c.requires.index c.last_written-before.ensures.pair c.trailer_header-header.ensures.parent in
     subst (λ (v : GridState). g.D.Disk.told c.put_made.new.disk ≡ after_all (made_events v.layout (next_unit v c.args.sequence c.args.piece.now)) (g.D.Disk.told c.args.disk.now)) c.self.view_is
-    (subst (λ (h : Header). g.D.Disk.told c.put_made.new.disk ≡ after_all (made_events s.layout (made h c.args.piece.now)) (g.D.Disk.told c.args.disk.now)) header c.in-Ok.ensures.events)
+    (rw header at c.in-Ok.ensures.events)
 
 pub returns-in-Err-clause-events : goal.returns-in-Err-clause-events
 returns-in-Err-clause-events g c =
     let s = c.self.inside in
     let header = header_next _ c.args.self.now c.args.sequence c.in-Some.address c.args.index c.trailer_header-header.result c.last_written-before.result c.self.view_is c.trailer_header-header.ensures.header c.in-Some.ensures.next c.requires.index c.last_written-before.ensures.pair c.trailer_header-header.ensures.parent in
     subst (λ (v : GridState). AddsPart (made_events v.layout (next_unit v c.args.sequence c.args.piece.now)) (g.D.Disk.told c.args.disk.now) (g.D.Disk.told c.put_made.new.disk)) c.self.view_is
-    (subst (λ (h : Header). AddsPart (made_events s.layout (made h c.args.piece.now)) (g.D.Disk.told c.args.disk.now) (g.D.Disk.told c.put_made.new.disk)) header c.in-Err.ensures.events)
+    (rw header at c.in-Err.ensures.events)
 
 pub returns-in-Ok-clause-steps : goal.returns-in-Ok-clause-steps
 returns-in-Ok-clause-steps g c =

@@ -1,9 +1,9 @@
 -- It is the table's.
-use Rattle.std.{proofs.Common.{◌≡◌, ◌*◌, subst}, specs.Prelude.{IfSome}}
+use Rattle.std.{proofs.Common.{◌≡◌, ◌*◌}, specs.Prelude.{IfSome}}
 use Rattle.df_model.specs.Blocks.{sum_at}
 use Rattle.df_trailer.specs.Writing.{referenced_among}
 use Rattle.df_grid.specs.Grid.{GridState}
 use Rattle.df_grid.proofs.grid.GridCapturedBlocks.counted.Goals as goal
 
 pub returns-clause-count : goal.returns-clause-count
-returns-clause-count c = subst (λ (v : GridState). IfSome c.counted.result (λ count. count ≡ referenced_among (λ a. sum_at a v.blocks.captured) (256 * c.args.groups))) c.self.view_is c.counted.ensures.count
+returns-clause-count c = rw (← c.self.view_is) c.counted.ensures.count

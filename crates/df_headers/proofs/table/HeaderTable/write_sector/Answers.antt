@@ -8,7 +8,7 @@ use Rattle.df_headers.proofs.table.HeaderTable.write_sector.Goals as goal
 pub put_all-requires-clause-sixteen : goal.put_all-requires-clause-sixteen
 put_all-requires-clause-sixteen g c =
     subst (λ (n : ℕ). AreSixteen (take n (drop (16 * c.args.sector) c.deref.result.now))) (let same : 16 ≡ 16 * c.args.sector + 16 - 16 * c.args.sector = omega arith in same)
-    (subst (λ (table : List Header). AreSixteen (in_sector c.args.sector table)) (sym (c.deref.ensures.value ∙ c.self.view_is)) c.requires.sealed)
+    (rw (sym (c.deref.ensures.value ∙ c.self.view_is)) at c.requires.sealed)
 
 pub put_all-requires-clause-room : goal.put_all-requires-clause-room
 put_all-requires-clause-room g c = one_sector c.args.room.now.layout _ c.bytes_mut-bytes.ensures.size

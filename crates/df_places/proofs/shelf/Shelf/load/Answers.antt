@@ -13,18 +13,18 @@ returns-in-Ok-prove-clause-read g c =
     let i = c.args.identity.now in
     let bytes = c.read_place.new.room.bytes in
     let layout : c.self.inside.layout ≡ i.layout = ap (λ (v : Shelved). v.layout) c.self.view_is ∙ sym c.requires.layout in
-    found_read g.K.UnitKind.KIND g.K.RoomKind.ZONE i bytes g.met.K.UnitKind.stands c.requires.zone (subst (λ (l : Layout). FillsRoom l g.K.RoomKind.ZONE bytes) layout c.in-Ok.ensures.fills) (g.D.Disk.told c.args.disk.now) c.in-Ok-prove.unit
+    found_read g.K.UnitKind.KIND g.K.RoomKind.ZONE i bytes g.met.K.UnitKind.stands c.requires.zone (rw layout at c.in-Ok.ensures.fills) (g.D.Disk.told c.args.disk.now) c.in-Ok-prove.unit
     (subst AreBytes c.bytes_mut.ensures.value c.are_bytes.ensures)
-    (subst (λ (l : Layout). Shows (g.D.Disk.told c.args.disk.now) (span_of l i.place).first bytes) layout c.in-Ok.ensures.bytes)
-    (subst (λ (b : List ℕ). FindsKind g.K.UnitKind.KIND i b c.in-Ok-prove.unit.unit) (unwritten c.bytes_mut.result.now bytes c.bytes_mut.ensures.value) c.in-Ok-prove.ensures.found)
+    (rw layout at c.in-Ok.ensures.bytes)
+    (rw (unwritten c.bytes_mut.result.now bytes c.bytes_mut.ensures.value) at c.in-Ok-prove.ensures.found)
 
 pub returns-in-Err-prove-clause-read : goal.returns-in-Err-prove-clause-read
 returns-in-Err-prove-clause-read g c =
     let i = c.args.identity.now in
     let bytes = c.read_place.new.room.bytes in
     let layout : c.self.inside.layout ≡ i.layout = ap (λ (v : Shelved). v.layout) c.self.view_is ∙ sym c.requires.layout in
-    lacks_read g.K.UnitKind.KIND g.K.RoomKind.ZONE i bytes g.met.K.UnitKind.stands c.requires.zone (subst (λ (l : Layout). FillsRoom l g.K.RoomKind.ZONE bytes) layout c.in-Ok.ensures.fills) (g.D.Disk.told c.args.disk.now) c.in-Err-prove.class c.take-2.new.self
+    lacks_read g.K.UnitKind.KIND g.K.RoomKind.ZONE i bytes g.met.K.UnitKind.stands c.requires.zone (rw layout at c.in-Ok.ensures.fills) (g.D.Disk.told c.args.disk.now) c.in-Err-prove.class c.take-2.new.self
     (subst AreBytes c.bytes_mut.ensures.value c.are_bytes.ensures)
-    (subst (λ (l : Layout). Shows (g.D.Disk.told c.args.disk.now) (span_of l i.place).first bytes) layout c.in-Ok.ensures.bytes)
-    (subst (λ (b : List ℕ). (u : Message) → FindsKind g.K.UnitKind.KIND i b u → ⊥) (unwritten c.bytes_mut.result.now bytes c.bytes_mut.ensures.value) c.in-Err-prove.ensures.unwanted)
+    (rw layout at c.in-Ok.ensures.bytes)
+    (rw (unwritten c.bytes_mut.result.now bytes c.bytes_mut.ensures.value) at c.in-Err-prove.ensures.unwanted)
     (c.in-Err-prove.ensures.class ∙ ap (class_for i) (unwritten c.bytes_mut.result.now bytes c.bytes_mut.ensures.value))

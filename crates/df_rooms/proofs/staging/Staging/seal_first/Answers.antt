@@ -1,5 +1,5 @@
 -- The first request's body is in the room that is sealed.
-use Rattle.std.proofs.Common.{◌≡◌, ◌<◌, ◌∷◌, [], ◌++◌, ℕ, List, length, take, sym, ◌∙◌, ap, subst}
+use Rattle.std.proofs.Common.{◌≡◌, ◌<◌, ◌∷◌, [], ◌++◌, ℕ, List, length, take, sym, ◌∙◌, ap}
 use Rattle.df_format.specs.{Making.{for_body}, Message.{Message, sectors_end}, Spelling.{sealed}}
 use Rattle.df_model.specs.Work.{Request}
 use Rattle.df_rooms.{specs.Stagings.{Staged, first_request}, proofs.Stagings.{first_body, first_fit}}
@@ -7,7 +7,7 @@ use Rattle.df_rooms.proofs.staging.Staging.seal_first.Goals as goal
 
 pub returns-clause-sealed : goal.returns-clause-sealed
 returns-clause-sealed c =
-    let some = subst (λ (rs : List Request). 0 < length rs) (sym (ap (λ (s : Staged). s.requests) c.self.view_is)) c.requires.some in
+    let some = rw (sym (ap (λ (s : Staged). s.requests) c.self.view_is)) at c.requires.some in
     let body : c.remove-held.result.room.body ≡ (first_request c.args.self.now.requests).body = first_body c.self.inside.staged.items c.remove-held.result some c.remove-held.ensures.value ∙ ap (λ (s : Staged). (first_request s.requests).body) c.self.view_is in
     record {
       held = c.seal-unit.result;

@@ -14,7 +14,7 @@ returns-then-not-take_row-clause-none c =
     let size : length row ≡ 64 = omega (arith, length-take (64 * (c.loop-k.k + 1) - 64 * c.loop-k.k) rest, length-drop (64 * c.loop-k.k) c.args.body.now, c.loop-k-test.true) in
     c.loop-k.invariant.none (λ more takes.
     refused_first c.loop-k.self row (drop (64 * (c.loop-k.k + 1)) c.args.body.now) more size c.if-not-take_row.ensures.refused
-    (subst (λ (l : List ℕ). TableTakes c.loop-k.self l more) (row_cut c.args.body.now c.loop-k.k) takes))
+    (rw (row_cut c.args.body.now c.loop-k.k) at takes))
 
 pub loop-k-preserved : goal.loop-k-preserved
 loop-k-preserved c =
@@ -23,10 +23,10 @@ loop-k-preserved c =
     let behind = drop (64 * (c.loop-k.k + 1)) c.args.body.now in
     subst (λ (x : Table). Carries c.args.self x c.args.body.now behind) (sym took.4)
     (carries_more c.args.self c.loop-k.self c.args.body.now row behind took.0 took.1 took.2 took.3
-    (subst (λ (l : List ℕ). Carries c.args.self c.loop-k.self c.args.body.now l) (row_cut c.args.body.now c.loop-k.k) c.loop-k.invariant))
+    (rw (row_cut c.args.body.now c.loop-k.k) at c.loop-k.invariant))
 
 pub returns-clause-taken : goal.returns-clause-taken
 returns-clause-taken c =
     let nothing : drop (64 * c.loop-k.k) c.args.body.now ≡ [] =
     drop_all (64 * c.loop-k.k) c.args.body.now (omega (arith, c.is_multiple_of.ensures.0 c.if-not-is_multiple_of.false, c.loop-k-test.false)) in
-    c.loop-k.invariant.whole [] (subst (λ (l : List ℕ). TableTakes c.loop-k.self l []) (sym nothing) (taken_none c.loop-k.self))
+    c.loop-k.invariant.whole [] (rw (sym nothing) at (taken_none c.loop-k.self))

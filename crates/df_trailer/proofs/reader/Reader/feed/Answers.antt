@@ -1,4 +1,4 @@
-use Rattle.std.proofs.{Common.{◌≡◌, Option, ap, ◌∙◌, arith, subst, ◌-◌, ◌+◌, ◌++◌, ℕ, List, take, drop, length, length-drop}, lemmas.List.{take_all}}
+use Rattle.std.proofs.{Common.{◌≡◌, Option, ap, ◌∙◌, arith, ◌-◌, ◌+◌, ◌++◌, ℕ, List, take, drop, length, length-drop}, lemmas.List.{take_all}}
 use Rattle.df_trailer.{specs.{declared.fault.Failing.{Failing}, Reading.{IsRestTaken}, Text.{answer, refusal_in}}, proofs.Fed.{IsFed, fails_as_read, read_more}}
 use Rattle.df_trailer.proofs.reader.Reader.feed.Goals as goal
 
@@ -18,7 +18,7 @@ fed c =
       stays = c.take-head.ensures.stays;
       whole = λ less. rw c.take_rest.ensures.front (c.take-head.ensures.whole less);
       size = c.take_rest.ensures.size ∙ ap (λ (k : ℕ). c.args.self.now.behind + k) (ap (λ (xs : List ℕ). length xs) all ∙ left);
-      rest = subst (λ (xs : List ℕ). IsRestTaken c.args.self.now c.take_rest.new.self xs) all rest;
+      rest = rw all at rest;
       layout = c.take_rest.ensures.layout;
       op = c.take_rest.ensures.op;
     }
