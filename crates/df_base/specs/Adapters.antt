@@ -1,7 +1,6 @@
 -- What contracts see of the adapters over std's readers and writers.
 use Rattle.std.specs.Prelude.{ℕ}
-use Rattle.df_base.specs.declared.adapters.FromRead.{FromRead}
-use Rattle.df_base.specs.declared.adapters.ToWrite.{ToWrite}
+use Rattle.df_base.specs.{declared.adapters.FromRead.{FromRead}, declared.adapters.ToWrite.{ToWrite}}
 
 -- the reader inside
 abbrev pub reader_of : {R : Type 0} → FromRead R → R

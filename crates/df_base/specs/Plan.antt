@@ -1,6 +1,5 @@
 -- Which calls of an object in memory are to fail, and how it counts them.
-use Rattle.std.specs.Prelude.{ℕ, ◌≡◌, ◌⊎◌, ◌==◌, Bool, true, List, Result, Ok, Err, IsErr, OnErr, OnOk}
-use Rattle.std.specs.List.{list_any}
+use Rattle.std.specs.{Prelude.{ℕ, ◌≡◌, ◌⊎◌, ◌==◌, Bool, true, List, Result, Ok, Err, IsErr, OnErr, OnOk}, List.{list_any}}
 use Rattle.df_base.specs.Causes.{counted}
 
 -- how many calls there were, the numbers of the calls that fail (counted from 1), and how many failed

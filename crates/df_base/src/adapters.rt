@@ -1,8 +1,6 @@
 // Std's readers and writers as a source and a sink. An interrupted call is made again; each other
 // error is one fault, which is counted once and never tried again.
-ghost use Rattle.std.specs.Prelude.{◌≡◌, ◌≤◌, ◌<◌, None, length, take, IfOk, OnErr, OnOk};
-ghost use Rattle.std.specs.Io.{ReadsAtMost, WritesAtMost};
-ghost use Rattle.std.specs.Io.KnownBytes.{Appends, Consumes, Keeps, IsAtEnd};
+ghost use Rattle.std.specs.{Prelude.{◌≡◌, ◌≤◌, ◌<◌, None, length, take, IfOk, OnErr, OnOk}, Io.{ReadsAtMost, WritesAtMost}, Io.KnownBytes.{Appends, Consumes, Keeps, IsAtEnd}};
 ghost use Rattle.df_base.specs.Streams.{HoldsFront};
 
 use crate::{Failed, Sink, Source};

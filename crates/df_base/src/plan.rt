@@ -1,8 +1,7 @@
 // Which calls of an object in memory are to fail. Sources, sinks and disks in memory count their
 // calls and faults by it, all in one way.
 ghost use Rattle.std.specs.Prelude.{◌≡◌, ◌≤◌};
-ghost use Rattle.df_base.specs.Causes.{counted};
-ghost use Rattle.df_base.specs.Plan.{new_plan, is_listed};
+ghost use Rattle.df_base.specs.{Causes.{counted}, Plan.{new_plan, is_listed}};
 
 use crate::Failed;
 use std::marker::Model;

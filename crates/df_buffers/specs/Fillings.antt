@@ -1,8 +1,7 @@
 -- Filled rooms: rooms with a body after the place of a header.
 use Rattle.std.specs.Prelude.{◌+◌, ◌≤◌, ℕ, List, take, drop}
 use Rattle.df_base.specs.declared.TheConstants.{HEADER}
-use Rattle.df_layout.specs.declared.layout.Layout.{Layout}
-use Rattle.df_layout.specs.declared.places.Zone.{Zone}
+use Rattle.df_layout.specs.{declared.layout.Layout.{Layout}, declared.places.Zone.{Zone}}
 use Rattle.df_format.specs.Whole.{greatest_size}
 use Rattle.df_buffers.specs.Rooms.{FillsRoom}
 

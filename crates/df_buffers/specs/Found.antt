@@ -1,15 +1,9 @@
 -- The unit that is wanted at a place, and the class of what is there in its stead.
 use Rattle.std.specs.Prelude.{◌≡◌, ℕ, List, Some, Result}
 use Rattle.df_layout.specs.declared.damage.Class.{Class}
-use Rattle.df_format.specs.declared.kind.Kind.{Kind}
-use Rattle.df_format.specs.Message.{Message}
-use Rattle.df_format.specs.declared.header.Header.{Header}
-use Rattle.df_format.specs.Shown.{unit_in, class_of, header_or_class}
-use Rattle.df_format.specs.Valid.{IsUnit}
+use Rattle.df_format.specs.{declared.kind.Kind.{Kind}, Message.{Message}, declared.header.Header.{Header}, Shown.{unit_in, class_of, header_or_class}, Valid.{IsUnit}}
 use Rattle.df_format.specs.Wanted.{IsWanted, Wanted as Words, Any as AnyOne, Op as WithOp, Checksum as WithChecksum, Answer as AnswerTo}
-use Rattle.df_buffers.specs.declared.identity.Identity.{Identity}
-use Rattle.df_buffers.specs.declared.identity.Wanted.{Wanted}
-use Rattle.df_buffers.specs.declared.identity.Wanted.TheVariants.{Any, Op, Checksum, Answer}
+use Rattle.df_buffers.specs.{declared.identity.Identity.{Identity}, declared.identity.Wanted.{Wanted}, declared.identity.Wanted.TheVariants.{Any, Op, Checksum, Answer}}
 
 -- what is wanted, in the words of the format
 abbrev pub wanted_words : Wanted → Words

@@ -1,12 +1,8 @@
 -- Rooms: the bytes of one place of a layout.
 use Rattle.std.specs.Prelude.{◌≡◌, ◌*◌, ℕ, List, length, take, drop}
 use Rattle.df_base.specs.declared.TheConstants.{HEADER, SECTOR}
-use Rattle.df_layout.specs.declared.layout.Layout.{Layout}
-use Rattle.df_layout.specs.declared.places.Zone.{Zone}
-use Rattle.df_layout.specs.declared.places.Zone.TheVariants.{WalPrepares, ClientReplies, Grid}
-use Rattle.df_layout.specs.Spans.{place_sectors}
-use Rattle.df_format.specs.declared.kind.Kind.{Kind}
-use Rattle.df_format.specs.declared.kind.Kind.TheVariants.{Prepare, Reply, Block, Trailer}
+use Rattle.df_layout.specs.{declared.layout.Layout.{Layout}, declared.places.Zone.{Zone}, declared.places.Zone.TheVariants.{WalPrepares, ClientReplies, Grid}, Spans.{place_sectors}}
+use Rattle.df_format.specs.{declared.kind.Kind.{Kind}, declared.kind.Kind.TheVariants.{Prepare, Reply, Block, Trailer}}
 
 -- the zone that has a whole slot for each unit of the kind
 abbrev pub StandsIn : Kind → Zone → Type 0

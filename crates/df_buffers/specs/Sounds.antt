@@ -1,15 +1,8 @@
 -- Sound rooms: rooms whose bytes are a unit that is valid at its own place.
 use Rattle.std.specs.Prelude.{◌≡◌, ◌-◌, ◌%◌, ◌<◌, ◌≤◌, ◌+◌, ℕ, List, length, replicate, take, drop, Some}
 use Rattle.df_base.specs.declared.TheConstants.{HEADER, SECTOR}
-use Rattle.df_layout.specs.declared.layout.Layout.{Layout}
-use Rattle.df_layout.specs.declared.places.Place.{Place}
-use Rattle.df_layout.specs.declared.places.Zone.{Zone}
-use Rattle.df_format.specs.declared.header.Header.{Header}
-use Rattle.df_format.specs.declared.kind.Kind.{Kind}
-use Rattle.df_format.specs.Message.{Message, sectors_end}
-use Rattle.df_format.specs.Shown.{unit_in}
-use Rattle.df_format.specs.Valid.{IsUnit}
-use Rattle.df_format.specs.Brings.{Brings}
+use Rattle.df_layout.specs.{declared.layout.Layout.{Layout}, declared.places.Place.{Place}, declared.places.Zone.{Zone}}
+use Rattle.df_format.specs.{declared.header.Header.{Header}, declared.kind.Kind.{Kind}, Message.{Message, sectors_end}, Shown.{unit_in}, Valid.{IsUnit}, Brings.{Brings}}
 use Rattle.df_buffers.specs.Rooms.{FillsRoom, room_size}
 
 -- what a sound room is seen as: the layout that it was reserved for, its unit, and its bytes

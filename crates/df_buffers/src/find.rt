@@ -1,9 +1,7 @@
 // Whether a room holds the unit that is wanted: tested on the bytes of its place.
 ghost use Rattle.std.specs.Prelude.{◌≡◌, ◌≢◌, ◌<◌, ◌↔◌, [], length, IsTrue, IfOk, IfErr};
 ghost use Rattle.df_base.specs.declared.TheConstants.{HEADER, SECTOR};
-ghost use Rattle.df_buffers.specs.Below.{Message, place_size, own_copy, IsWanted};
-ghost use Rattle.df_buffers.specs.Rooms.{header_bytes};
-ghost use Rattle.df_buffers.specs.Found.{wanted_words, FindsUnit, FindsKind, IsValidUnit, class_for, shown_in};
+ghost use Rattle.df_buffers.specs.{Below.{Message, place_size, own_copy, IsWanted}, Rooms.{header_bytes}, Found.{wanted_words, FindsUnit, FindsKind, IsValidUnit, class_for, shown_in}};
 
 use crate::{HeaderSector, Identity, Raw, Sound, SuperSector, UnitKind, Wanted};
 use df_base::HEADER;

@@ -1,8 +1,7 @@
 // The rooms that the superblock is read into before the layout of its file is known.
 ghost use Rattle.std.specs.Prelude.{◌≡◌, ◌<◌, Some, length, replicate, slice_get, All, IfOk};
 ghost use Rattle.df_base.specs.declared.TheConstants.{SECTOR};
-ghost use Rattle.df_buffers.specs.Below.{Superblock};
-ghost use Rattle.df_buffers.specs.Rooms.{room_size};
+ghost use Rattle.df_buffers.specs.{Below.{Superblock}, Rooms.{room_size}};
 
 use crate::{Raw, SuperSector};
 use df_base::OutOfMemory;

@@ -1,8 +1,6 @@
 // Raw rooms: buffers of the length of a kind's place, with any bytes.
-ghost use Rattle.std.specs.Prelude.{◌≡◌, ◌++◌, length, take, drop, replicate, IfOk};
-ghost use Rattle.std.specs.Borrow.{sem, Lends, Array, u8 as byte};
-ghost use Rattle.df_buffers.specs.Rooms.{FillsRoom, room_size};
-ghost use Rattle.df_buffers.specs.contracts.raw.Raw.{the_row};
+ghost use Rattle.std.specs.{Prelude.{◌≡◌, ◌++◌, length, take, drop, replicate, IfOk}, Borrow.{sem, Lends, Array, u8 as byte}};
+ghost use Rattle.df_buffers.specs.{Rooms.{FillsRoom, room_size}, contracts.raw.Raw.{the_row}};
 
 use crate::RoomKind;
 use df_base::{OutOfMemory, SECTOR};

@@ -1,8 +1,7 @@
 // Sound rooms: their bytes are a unit that is valid at its own place. They lend its parts without copying.
 ghost use Rattle.std.specs.Prelude.{◌≡◌, ◌≤◌, ◌-◌, ◌++◌, length, replicate, take, drop};
 ghost use Rattle.df_base.specs.declared.TheConstants.{HEADER};
-ghost use Rattle.df_buffers.specs.Below.{AreBytes, sectors_end};
-ghost use Rattle.df_buffers.specs.Sounds.{AreWholeSectors, BringsOwn, IsSound, IsTidy};
+ghost use Rattle.df_buffers.specs.{Below.{AreBytes, sectors_end}, Sounds.{AreWholeSectors, BringsOwn, IsSound, IsTidy}};
 
 use crate::{Raw, UnitKind};
 use df_base::{HEADER, SECTOR};

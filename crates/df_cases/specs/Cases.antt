@@ -2,9 +2,7 @@
 use Rattle.df_format.specs.Spelling.{IsCheck}
 use Rattle.df_theory.specs.Cases
 use Rattle.df_units.specs.Meaning.{number_of}
-use Rattle.df_cases.specs.declared.seen.Seen.{Seen}
-use Rattle.df_cases.specs.declared.seen.Seen.TheVariants.{Nothing, Old, Now, Far}
-use Rattle.df_cases.specs.declared.cases.Decision.{Decision}
+use Rattle.df_cases.specs.{declared.seen.Seen.{Seen}, declared.seen.Seen.TheVariants.{Nothing, Old, Now, Far}, declared.cases.Decision.{Decision}}
 use Rattle.df_cases.specs.declared.cases.Decision.TheVariants.{Behind, Take, Lost, Empty}
 
 -- what a ring shows, a checksum being the number that its bytes are

@@ -1,17 +1,11 @@
 -- What the grid holds of a checkpoint that was read.
-use Rattle.std.specs.Prelude.{◌≡◌, ◌+◌, ◌-◌, ◌<◌, ℕ, true, List, [], map, Option, Some, None, Result, Ok, Err}
-use Rattle.std.specs.List.{range_with_len}
+use Rattle.std.specs.{Prelude.{◌≡◌, ◌+◌, ◌-◌, ◌<◌, ℕ, true, List, [], map, Option, Some, None, Result, Ok, Err}, List.{range_with_len}}
 use Rattle.df_layout.specs.declared.fields.Field.TheVariants.{TrailerChain}
-use Rattle.df_model.specs.Blocks.{Blocks, entries}
-use Rattle.df_model.specs.Work.{is_known}
+use Rattle.df_model.specs.{Blocks.{Blocks, entries}, Work.{is_known}}
 use Rattle.df_units.specs.Meaning.{number_of}
-use Rattle.df_trailer.specs.declared.reader.Reader.{Reader}
-use Rattle.df_trailer.specs.Reading.{kept_at}
+use Rattle.df_trailer.specs.{declared.reader.Reader.{Reader}, Reading.{kept_at}}
 use Rattle.df_grid.specs.Grid.{GridState, HasAddress, with_blocks}
-use Rattle.df_checkpoint.specs.declared.links.Link.{Link}
-use Rattle.df_checkpoint.specs.declared.fault.TrailerFault.{TrailerFault}
-use Rattle.df_checkpoint.specs.declared.fault.TrailerFault.TheVariants.{Damaged, BadField, DiskFault}
-use Rattle.df_checkpoint.specs.Chain.{is_among}
+use Rattle.df_checkpoint.specs.{declared.links.Link.{Link}, declared.fault.TrailerFault.{TrailerFault}, declared.fault.TrailerFault.TheVariants.{Damaged, BadField, DiskFault}, Chain.{is_among}}
 
 -- the referenced blocks at the addresses below one are live and of the durable checkpoint
 abbrev pub blocks_to : (ℕ → Option ℕ) → ℕ → Blocks

@@ -1,31 +1,16 @@
 -- The chain of a checkpoint's trailer: what is asked for, what is shown of it, and where it breaks.
-use Rattle.std.specs.Prelude.{◌≡◌, ◌==◌, ◌&&◌, ◌||◌, ◌+◌, ◌-◌, ℕ, Bool, true, false, nat_le, List, [], ◌∷◌, length, Option, Some, None, Result, Ok, Err}
-use Rattle.std.specs.List.{list_any}
+use Rattle.std.specs.{Prelude.{◌≡◌, ◌==◌, ◌&&◌, ◌||◌, ◌+◌, ◌-◌, ℕ, Bool, true, false, nat_le, List, [], ◌∷◌, length, Option, Some, None, Result, Ok, Err}, List.{list_any}}
 use Rattle.df_base.specs.declared.TheConstants.{HEADER}
 use Rattle.arrayvec.specs.ArrayVec.{ArrayVec}
 use Rattle.df_disk.specs.Told.{Told}
-use Rattle.df_layout.specs.declared.damage.Class.{Class}
-use Rattle.df_layout.specs.declared.fields.Field.TheVariants.{TrailerChain}
-use Rattle.df_layout.specs.declared.layout.Layout.{Layout}
-use Rattle.df_format.specs.declared.header.Header.{Header}
-use Rattle.df_format.specs.declared.superblock.SuperFields.{SuperFields}
-use Rattle.df_format.specs.Copies.{content_with}
-use Rattle.df_format.specs.Message.{Message}
-use Rattle.df_theory.specs.Units.{Block, Content}
-use Rattle.df_theory.specs.Shape.{Shape}
-use Rattle.df_theory.specs.Trailer.{piece_size}
-use Rattle.df_theory.specs.Opens.{AreLinks, Arrives, IsLink, ReadsTo}
-use Rattle.df_format.specs.Own.{place_in}
-use Rattle.df_layout.specs.declared.places.Zone.TheVariants.{Grid}
-use Rattle.df_model.specs.declared.errors.OpenError.{OpenError}
+use Rattle.df_layout.specs.{declared.damage.Class.{Class}, declared.fields.Field.TheVariants.{TrailerChain}, declared.layout.Layout.{Layout}, declared.places.Zone.TheVariants.{Grid}}
+use Rattle.df_format.specs.{declared.header.Header.{Header}, declared.superblock.SuperFields.{SuperFields}, Copies.{content_with}, Message.{Message}, Own.{place_in}}
+use Rattle.df_theory.specs.{Units.{Block, Content}, Shape.{Shape}, Trailer.{piece_size}, Opens.{AreLinks, Arrives, IsLink, ReadsTo}}
+use Rattle.df_model.specs.{declared.errors.OpenError.{OpenError}, Supply.{Shown, block_at}}
 use Rattle.df_model.specs.declared.errors.OpenError.TheVariants as opens
-use Rattle.df_model.specs.Supply.{Shown, block_at}
 use Rattle.df_units.specs.Meaning.{block_of, content_of, layout_of, number_of}
-use Rattle.df_grid.specs.Grid.{GridState, HasAddress}
-use Rattle.df_grid.specs.Reads.{shown_of, trailer_alone}
-use Rattle.df_checkpoint.specs.declared.links.Link.{Link}
-use Rattle.df_checkpoint.specs.declared.fault.TrailerFault.{TrailerFault}
-use Rattle.df_checkpoint.specs.declared.fault.TrailerFault.TheVariants.{Damaged, BadField, DiskFault}
+use Rattle.df_grid.specs.{Grid.{GridState, HasAddress}, Reads.{shown_of, trailer_alone}}
+use Rattle.df_checkpoint.specs.{declared.links.Link.{Link}, declared.fault.TrailerFault.{TrailerFault}, declared.fault.TrailerFault.TheVariants.{Damaged, BadField, DiskFault}}
 
 -- a superblock of these fields, in the machine's words
 abbrev pub content_in : SuperFields → Content

@@ -1,18 +1,11 @@
 -- What a refusal of a trailer says of the theory's checkpoint.
 use Rattle.std.specs.Prelude.{◌≡◌, ◌<◌, ◌≤◌, ℕ, List}
 use Rattle.df_base.specs.declared.TheConstants.{GREATEST}
-use Rattle.df_layout.specs.declared.damage.Class.{Class}
-use Rattle.df_layout.specs.declared.fields.Field.{Field}
-use Rattle.df_theory.specs.Units.{Block, Content}
-use Rattle.df_theory.specs.Shape.{Shape}
-use Rattle.df_theory.specs.Opens.{IsReadable, IsShown, ReadsTo}
-use Rattle.df_theory.specs.View.{Checkpoint}
+use Rattle.df_layout.specs.{declared.damage.Class.{Class}, declared.fields.Field.{Field}}
+use Rattle.df_theory.specs.{Units.{Block, Content}, Shape.{Shape}, Opens.{IsReadable, IsShown, ReadsTo}, View.{Checkpoint}}
 use Rattle.df_model.specs.Supply.{Shown}
 use Rattle.df_trailer.specs.Text.{parse_of}
-use Rattle.df_checkpoint.specs.Chain.{IsBroken, IsLacking}
-use Rattle.df_checkpoint.specs.Reads.{IsBadText, IsReferenced, IsWholeChain}
-use Rattle.df_checkpoint.specs.Tests.{FailsTest}
-use Rattle.df_checkpoint.specs.Waiting.{IsUntracked}
+use Rattle.df_checkpoint.specs.{Chain.{IsBroken, IsLacking}, Reads.{IsBadText, IsReferenced, IsWholeChain}, Tests.{FailsTest}, Waiting.{IsUntracked}}
 
 -- a block that is wanted and not shown
 pub record IsMissed (sh : Shape) (shown : Shown) (c : Content) (a : ℕ) : Type 0 where

@@ -1,22 +1,13 @@
 -- What is read of a checkpoint's trailer: all of it, or where the reading ends.
 use Rattle.std.specs.Prelude.{◌≡◌, ◌⊎◌, ◌-◌, ◌<◌, ◌≤◌, ℕ, true, List, [], length, map, Some, None, Result, Ok, Err}
 use Rattle.df_base.specs.declared.TheConstants.{HEADER}
-use Rattle.df_layout.specs.declared.fields.Field.{Field}
-use Rattle.df_layout.specs.declared.fields.Field.TheVariants.{TrailerChain}
-use Rattle.df_theory.specs.Units.{Block, BlockPlace, BlockUnit, Content, Layout, Parts}
-use Rattle.df_theory.specs.Shape.{Shape}
-use Rattle.df_theory.specs.Trailer.{InChain, IsCount, IsTrailer, Links, text_of}
-use Rattle.df_model.specs.Blocks.{Blocks, addresses, entries, pair_of}
-use Rattle.df_model.specs.Supply.{Shown}
-use Rattle.df_model.specs.Work.{is_known}
+use Rattle.df_layout.specs.{declared.fields.Field.{Field}, declared.fields.Field.TheVariants.{TrailerChain}}
+use Rattle.df_theory.specs.{Units.{Block, BlockPlace, BlockUnit, Content, Layout, Parts}, Shape.{Shape}, Trailer.{InChain, IsCount, IsTrailer, Links, text_of}}
+use Rattle.df_model.specs.{Blocks.{Blocks, addresses, entries, pair_of}, Supply.{Shown}, Work.{is_known}}
 use Rattle.arrayvec.specs.ArrayVec.{ArrayVec}
-use Rattle.df_trailer.specs.declared.reader.Reader.{Reader}
-use Rattle.df_trailer.specs.Reading.{HasRead, failing_in}
-use Rattle.df_trailer.specs.Text.{fault, parts_of}
+use Rattle.df_trailer.specs.{declared.reader.Reader.{Reader}, Reading.{HasRead, failing_in}, Text.{fault, parts_of}}
 use Rattle.df_grid.specs.Grid.{GridState}
-use Rattle.df_checkpoint.specs.declared.links.Link.{Link}
-use Rattle.df_checkpoint.specs.declared.fault.TrailerFault.{TrailerFault}
-use Rattle.df_checkpoint.specs.declared.fault.TrailerFault.TheVariants.{Damaged, BadField, DiskFault}
+use Rattle.df_checkpoint.specs.{declared.links.Link.{Link}, declared.fault.TrailerFault.{TrailerFault}, declared.fault.TrailerFault.TheVariants.{Damaged, BadField, DiskFault}}
 use Rattle.df_checkpoint.specs.Chain.{IsBroken, IsLacking, Names}
 
 -- the chain that the superblock names is shown whole, each block a link of it

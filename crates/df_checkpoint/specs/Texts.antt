@@ -2,17 +2,11 @@
 use Rattle.std.specs.Prelude.{◌≡◌, ◌+◌, ◌-◌, ℕ, List, ◌++◌, length, drop, Option, Some, None, Result, Ok, Err}
 use Rattle.df_disk.specs.Told.{Told}
 use Rattle.df_layout.specs.declared.layout.Layout.{Layout}
-use Rattle.df_theory.specs.Units.{Block}
-use Rattle.df_theory.specs.Trailer.{text_of}
+use Rattle.df_theory.specs.{Units.{Block}, Trailer.{text_of}}
 use Rattle.df_units.specs.Meaning.{layout_of, number_of}
-use Rattle.df_trailer.specs.declared.fault.Fault.{Fault}
-use Rattle.df_trailer.specs.declared.reader.Reader.{Reader}
-use Rattle.df_trailer.specs.Reading.{HasRead, bytes_read, failing_in}
-use Rattle.df_trailer.specs.Text.{answer, fault, refusal}
+use Rattle.df_trailer.specs.{declared.fault.Fault.{Fault}, declared.reader.Reader.{Reader}, Reading.{HasRead, bytes_read, failing_in}, Text.{answer, fault, refusal}}
 use Rattle.df_grid.specs.Grid.{GridState}
-use Rattle.df_checkpoint.specs.declared.links.Link.{Link}
-use Rattle.df_checkpoint.specs.declared.fault.TrailerFault.{TrailerFault}
-use Rattle.df_checkpoint.specs.declared.fault.TrailerFault.TheVariants.{Damaged, BadField, DiskFault}
+use Rattle.df_checkpoint.specs.{declared.links.Link.{Link}, declared.fault.TrailerFault.{TrailerFault}, declared.fault.TrailerFault.TheVariants.{Damaged, BadField, DiskFault}}
 use Rattle.df_checkpoint.specs.Chain.{Names, OfTold, asked}
 
 -- what is refused of a text is a bad field

@@ -1,10 +1,6 @@
 -- The ops that wait for their replies: each has its session.
-use Rattle.std.specs.Prelude.{◌≡◌, ◌==◌, ◌<◌, ◌≤◌, ℕ, Bool, true, false, List, Option, Some, None}
-use Rattle.std.specs.List.{list_any}
-use Rattle.df_theory.specs.Units.{Block, Content, Parts}
-use Rattle.df_theory.specs.Sessions.{Has}
-use Rattle.df_theory.specs.Shape.{Shape}
-use Rattle.df_theory.specs.Trailer.{InChain, text_of}
+use Rattle.std.specs.{Prelude.{◌≡◌, ◌==◌, ◌<◌, ◌≤◌, ℕ, Bool, true, false, List, Option, Some, None}, List.{list_any}}
+use Rattle.df_theory.specs.{Units.{Block, Content, Parts}, Sessions.{Has}, Shape.{Shape}, Trailer.{InChain, text_of}}
 use Rattle.df_model.specs.Supply.{Shown}
 use Rattle.df_sessions.specs.declared.session.Session.{Session}
 use Rattle.df_checkpoint.specs.Reads.{IsWholeChain}

@@ -4,10 +4,8 @@ use Rattle.df_base.specs.declared.TheConstants.{HEADER}
 use Rattle.df_format.specs.Message.{Message}
 use Rattle.df_model.specs.Blocks.{sum_at}
 use Rattle.df_units.specs.Meaning.{layout_of}
-use Rattle.df_trailer.specs.Spelling.{spell}
-use Rattle.df_trailer.specs.Writing.{captured_parts, piece_of}
-use Rattle.df_grid.specs.Grid.{GridState}
-use Rattle.df_grid.specs.Writes.{next_unit}
+use Rattle.df_trailer.specs.{Spelling.{spell}, Writing.{captured_parts, piece_of}}
+use Rattle.df_grid.specs.{Grid.{GridState}, Writes.{next_unit}}
 use Rattle.df_checkpoint.specs.declared.capture.Capture.{Capture}
 
 -- the text of what was captured: of the grid's blocks those that are marked

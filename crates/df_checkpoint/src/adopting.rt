@@ -1,9 +1,7 @@
 // What the grid takes over of a checkpoint that was read: the blocks that it references, and those of its trailer. Before anything is taken
 // over, each address of the chain is tested: none of them may be referenced.
 ghost use Rattle.std.specs.Prelude.{◌≡◌, ◌+◌, ◌≤◌, ℕ, [], OnErr, false, length, true};
-ghost use Rattle.df_checkpoint.specs.Below.{is_held_in, HasBit, kept_at, with_blocks, no_blocks};
-ghost use Rattle.df_checkpoint.specs.Chain.{AreDistinctLinks, is_among};
-ghost use Rattle.df_checkpoint.specs.Adopting.{AdoptAnswer, FirstAnswer, blocks_to, chained};
+ghost use Rattle.df_checkpoint.specs.{Below.{is_held_in, HasBit, kept_at, with_blocks, no_blocks}, Chain.{AreDistinctLinks, is_among}, Adopting.{AdoptAnswer, FirstAnswer, blocks_to, chained}};
 
 use crate::TrailerFault;
 use crate::links::{Link, broken, link_after};

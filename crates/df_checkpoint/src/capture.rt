@@ -1,8 +1,7 @@
 // What a checkpoint captured, and how a piece of its trailer's text is written: one block, which refers to the one before.
 ghost use Rattle.std.specs.Prelude.{◌≡◌, ◌≢◌, ◌-◌, ◌≤◌, ◌<◌, [], length, OnErr, OnOk};
 ghost use Rattle.df_base.specs.declared.TheConstants.{GREATEST, HEADER};
-ghost use Rattle.df_checkpoint.specs.Below.{HasCause, Adds, AreSteps, format_of, block_of, number_of, with_blocks, next_written, block_steps, made_events, next_block};
-ghost use Rattle.df_checkpoint.specs.Writing.{piece_in, unit_in};
+ghost use Rattle.df_checkpoint.specs.{Below.{HasCause, Adds, AreSteps, format_of, block_of, number_of, with_blocks, next_written, block_steps, made_events, next_block}, Writing.{piece_in, unit_in}};
 
 use arrayvec::ArrayVec;
 use df_base::Failed;

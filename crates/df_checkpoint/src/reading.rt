@@ -2,11 +2,8 @@
 // what both name into the grid. Each op that the checkpoint reaches, and whose reply isn't stored, has its session.
 ghost use Rattle.std.specs.Prelude.{◌≡◌, ◌≢◌, ◌+◌, ◌-◌, ◌≤◌, ◌<◌, ◌^◌, [], ℕ, length, OnErr, OnOk};
 ghost use Rattle.df_base.specs.declared.TheConstants.{HEADER};
-ghost use Rattle.df_checkpoint.specs.Below.{IsBlamed, Shape, IsCount, layout_of, AreFieldsOf, HasAddress, HasRead, bytes_read, parse_of, IsIdle, no_blocks};
-ghost use Rattle.df_checkpoint.specs.Adopting.{SameFile};
-ghost use Rattle.df_checkpoint.specs.Chain.{AreDistinctLinks, OfTold, content_in, is_trailer_fault};
-ghost use Rattle.df_checkpoint.specs.Reads.{ChainAnswer, IsCompleteReader};
-ghost use Rattle.df_checkpoint.specs.Texts.{FeedAnswer, TextAnswer, bad_of};
+ghost use Rattle.df_checkpoint.specs.{Below.{IsBlamed, Shape, IsCount, layout_of, AreFieldsOf, HasAddress, HasRead, bytes_read, parse_of, IsIdle, no_blocks}, Adopting.{SameFile}};
+ghost use Rattle.df_checkpoint.specs.{Chain.{AreDistinctLinks, OfTold, content_in, is_trailer_fault}, Reads.{ChainAnswer, IsCompleteReader}, Texts.{FeedAnswer, TextAnswer, bad_of}};
 ghost use Rattle.df_checkpoint.specs.Waiting.{IsPendingReply, has_op};
 
 use crate::TrailerFault;

@@ -1,32 +1,15 @@
 -- What each act of a copy does: a reply or a block that is read and written, all of them, the trailer, and the superblock.
 use Rattle.std.specs.Prelude.{◌≡◌, ◌<◌, ◌≤◌, ◌+◌, ℕ, Bool, true, List, length, slice_get, slice_set, Option, None, Some, Result, Ok, Err, OnOk}
-use Rattle.df_base.specs.declared.TheConstants.{HEADER}
-use Rattle.df_base.specs.Causes.{IsBlamed}
-use Rattle.df_base.specs.Log.{Event}
-use Rattle.df_disk.specs.Told.{Told}
-use Rattle.df_disk.specs.Adds.{AddsPart, after_all}
-use Rattle.df_layout.specs.declared.layout.Layout.{Layout}
-use Rattle.df_layout.specs.declared.places.Zone.TheVariants.{ClientReplies, Grid}
-use Rattle.df_format.specs.declared.header.Header.{Header}
-use Rattle.df_format.specs.declared.kind.Kind.TheVariants.{Block, Reply}
-use Rattle.df_format.specs.Message.{Message}
-use Rattle.df_format.specs.Own.{place_in}
-use Rattle.df_format.specs.Valid.{IsUnit}
+use Rattle.df_base.specs.{declared.TheConstants.{HEADER}, Causes.{IsBlamed}, Log.{Event}}
+use Rattle.df_disk.specs.{Told.{Told}, Adds.{AddsPart, after_all}}
+use Rattle.df_layout.specs.{declared.layout.Layout.{Layout}, declared.places.Zone.TheVariants.{ClientReplies, Grid}}
+use Rattle.df_format.specs.{declared.header.Header.{Header}, declared.kind.Kind.TheVariants.{Block, Reply}, Message.{Message}, Own.{place_in}, Valid.{IsUnit}}
 use Rattle.df_units.specs.Meaning.{number_of}
-use Rattle.df_grid.specs.Grid.{GridState, with_blocks}
-use Rattle.df_grid.specs.Table.{last_trailer_block}
-use Rattle.df_grid.specs.Writes.{made_events}
-use Rattle.df_model.specs.Blocks.{block_written}
-use Rattle.df_model.specs.Commands.{ReadBlock}
-use Rattle.df_model.specs.Memory.{reply_sum}
-use Rattle.df_model.specs.Refusals.{first_refusal}
-use Rattle.df_model.specs.Supply.{Shown, block_read, reply_at}
+use Rattle.df_grid.specs.{Grid.{GridState, with_blocks}, Table.{last_trailer_block}, Writes.{made_events}}
+use Rattle.df_model.specs.{Blocks.{block_written}, Commands.{ReadBlock}, Memory.{reply_sum}, Refusals.{first_refusal}, Supply.{Shown, block_read, reply_at}}
 use Rattle.df_opening.specs.Below.{DataFile, State, memory}
-use Rattle.df_copy.specs.declared.ending.Ending.{Ending}
-use Rattle.df_copy.specs.declared.ending.Ending.TheVariants.{BlockTooLong, ReplyTooLong, Target as TargetFails}
-use Rattle.df_copy.specs.declared.target.Target.{Target}
-use Rattle.df_copy.specs.Statuses.{ByEnding, is_source, is_target}
-use Rattle.df_copy.specs.Targets.{IsTarget, checks_of, last_message as last_block, reference_pair, trailer_of}
+use Rattle.df_copy.specs.{declared.ending.Ending.{Ending}, declared.ending.Ending.TheVariants.{BlockTooLong, ReplyTooLong, Target as TargetFails}, declared.target.Target.{Target}}
+use Rattle.df_copy.specs.{Statuses.{ByEnding, is_source, is_target}, Targets.{IsTarget, checks_of, last_message as last_block, reference_pair, trailer_of}}
 use Rattle.df_copy.specs.Tests.{block_test, block_tests, is_at_rest, references, reply_test, reply_tests}
 use Rattle.df_copy.specs.Units.{AreLiveBlocks, AreReplies, IsBlockAt, IsReplyAt, OverShown, all_events, moved, moved_from, reply_events}
 

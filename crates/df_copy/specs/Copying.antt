@@ -1,23 +1,15 @@
 -- The whole of a copy, after the open of its source: what is written of the target, and which refusal it is.
 use Rattle.std.specs.Prelude.{◌≡◌, ◌⊎◌, ◌++◌, ℕ, List, [], length, Option, Some, None, Result, Ok, Err}
-use Rattle.df_base.specs.Image.{Image}
-use Rattle.df_base.specs.Log.{Event}
-use Rattle.df_disk.specs.Told.{Told}
-use Rattle.df_disk.specs.Adds.{Adds, AddsPart, after_all}
+use Rattle.df_base.specs.{Image.{Image}, Log.{Event}}
+use Rattle.df_disk.specs.{Told.{Told}, Adds.{Adds, AddsPart, after_all}}
 use Rattle.df_layout.specs.declared.layout.Layout.{Layout}
 use Rattle.df_format.specs.Message.{Message}
 use Rattle.df_grid.specs.Writes.{made_events}
-use Rattle.df_model.specs.Refusals.{first_refusal}
-use Rattle.df_model.specs.Supply.{Shown}
+use Rattle.df_model.specs.{Refusals.{first_refusal}, Supply.{Shown}}
 use Rattle.df_opening.specs.Below.{State, memory}
-use Rattle.df_copy.specs.declared.ending.Ending.{Ending}
-use Rattle.df_copy.specs.declared.ending.Ending.TheVariants.{Target}
-use Rattle.df_copy.specs.declared.target.Target.{Target as Copy}
-use Rattle.df_copy.specs.Acts.{FitBlocks, FitReplies, StopsBehind}
-use Rattle.df_copy.specs.Statuses.{ByEnding}
-use Rattle.df_copy.specs.Targets.{IsTarget, copy_events, events_before_trailer, ring_events, superblock_events, trailer_of}
-use Rattle.df_copy.specs.Tests.{blank_tests, references, rest_tests, tests, unit_tests}
-use Rattle.df_copy.specs.Units.{OverShown, all_events, moved_from, reply_events}
+use Rattle.df_copy.specs.{declared.ending.Ending.{Ending}, declared.ending.Ending.TheVariants.{Target}, declared.target.Target.{Target as Copy}, Acts.{FitBlocks, FitReplies, StopsBehind}}
+use Rattle.df_copy.specs.{Statuses.{ByEnding}, Targets.{IsTarget, copy_events, events_before_trailer, ring_events, superblock_events, trailer_of}}
+use Rattle.df_copy.specs.{Tests.{blank_tests, references, rest_tests, tests, unit_tests}, Units.{OverShown, all_events, moved_from, reply_events}}
 
 -- what is copied of a source: its replies and its blocks, whole or the first of them, and no block before all replies
 pub record Copied (layout : Layout) (s : State) (told : Option Told) : Type 0 where

@@ -1,10 +1,8 @@
 -- Where the life of a copied file begins: at an image that shows the copy.
 use Rattle.std.specs.Prelude.{◌≡◌}
-use Rattle.df_base.specs.declared.TheConstants.{VERSION}
-use Rattle.df_base.specs.Image.{Image}
+use Rattle.df_base.specs.{declared.TheConstants.{VERSION}, Image.{Image}}
 use Rattle.df_layout.specs.declared.layout.Layout.{Layout}
-use Rattle.df_theory.specs.Holds.{Stands}
-use Rattle.df_theory.specs.View.{View}
+use Rattle.df_theory.specs.{Holds.{Stands}, View.{View}}
 use Rattle.df_history.specs.OpenLaws.{BeginsHistory}
 use Rattle.df_units.specs.Bytes.{unit_at}
 use Rattle.df_damage.specs.Anew.{MayRestart}

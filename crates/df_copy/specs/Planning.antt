@@ -3,9 +3,7 @@ use Rattle.std.specs.Prelude.{◌≡◌, Some, None, Result, Ok, Err}
 use Rattle.df_layout.specs.declared.layout.Layout.{Layout}
 use Rattle.df_model.specs.Refusals.{first_refusal}
 use Rattle.df_opening.specs.Below.{State, memory}
-use Rattle.df_copy.specs.declared.ending.Ending.{Ending}
-use Rattle.df_copy.specs.declared.plan.Plan.{Plan}
-use Rattle.df_copy.specs.Tests.{rest_tests, trailer_blocks, trailer_size}
+use Rattle.df_copy.specs.{declared.ending.Ending.{Ending}, declared.plan.Plan.{Plan}, Tests.{rest_tests, trailer_blocks, trailer_size}}
 
 -- this many blocks, with a text of this many bytes
 pub record IsCopyPlan (layout : Layout) (s : State) (plan : Plan) : Type 0 where

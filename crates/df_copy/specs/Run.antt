@@ -1,32 +1,18 @@
 -- What the program promises of a copy.
 use Rattle.std.specs.Prelude.{◌≡◌, ◌≢◌, ◌⊎◌, ◌<◌, ◌++◌, ℕ, false, List, [], ◌∷◌, Option, Some, Result, Ok, Err}
-use Rattle.df_base.specs.Image.{IsImage}
-use Rattle.df_base.specs.Log.{Event, Log, Sync, Write, loose, now}
-use Rattle.df_base.specs.Moments.{EachMoment, adds}
-use Rattle.df_disk.specs.Told.{Told, did}
-use Rattle.df_disk.specs.Adds.{after_all}
+use Rattle.df_base.specs.{Image.{IsImage}, Log.{Event, Log, Sync, Write, loose, now}, Moments.{EachMoment, adds}}
+use Rattle.df_disk.specs.{Told.{Told, did}, Adds.{after_all}}
 use Rattle.df_inspect.specs.Opening.{open_refusal}
-use Rattle.df_layout.specs.declared.layout.Layout.{Layout}
-use Rattle.df_layout.specs.Zones.{file_sectors}
-use Rattle.df_model.specs.declared.errors.OpenError.{OpenError}
+use Rattle.df_layout.specs.{declared.layout.Layout.{Layout}, Zones.{file_sectors}}
+use Rattle.df_model.specs.{declared.errors.OpenError.{OpenError}, Work.{kept}}
 use Rattle.df_model.specs.declared.errors.OpenError.TheVariants as opens
-use Rattle.df_model.specs.Work.{kept}
-use Rattle.df_theory.specs.Found.{IsFound}
-use Rattle.df_theory.specs.View.{View}
+use Rattle.df_theory.specs.{Found.{IsFound}, View.{View}}
 use Rattle.df_units.specs.Bytes.{unit_at}
-use Rattle.df_opening.specs.Below.{IsLayoutShown, Refuses, State, Surveys, shape}
-use Rattle.df_opening.specs.Opened.{MendsAll, StopsOpening, begun_state}
-use Rattle.df_program.specs.Names.{NamesLayout}
-use Rattle.df_program.specs.Telling.{Writes}
-use Rattle.df_program.specs.Two.{Outside, TouchesNeither}
-use Rattle.df_copy.specs.declared.ending.Ending.{Ending}
-use Rattle.df_copy.specs.declared.ending.Ending.TheVariants.{Source, Target}
-use Rattle.df_copy.specs.declared.status.Status.{Status}
+use Rattle.df_opening.specs.{Below.{IsLayoutShown, Refuses, State, Surveys, shape}, Opened.{MendsAll, StopsOpening, begun_state}}
+use Rattle.df_program.specs.{Names.{NamesLayout}, Telling.{Writes}, Two.{Outside, TouchesNeither}}
+use Rattle.df_copy.specs.{declared.ending.Ending.{Ending}, declared.ending.Ending.TheVariants.{Source, Target}, declared.status.Status.{Status}, Copying.{CopiesInto}, Stops.{StopsCopy}}
+use Rattle.df_copy.specs.{Texts.{copied_text, ending_text}, Views.{HoldsCopy, IsEmptyImage}}
 use Rattle.df_copy.specs.declared.status.Status.TheVariants as ends
-use Rattle.df_copy.specs.Copying.{CopiesInto}
-use Rattle.df_copy.specs.Stops.{StopsCopy}
-use Rattle.df_copy.specs.Texts.{copied_text, ending_text}
-use Rattle.df_copy.specs.Views.{HoldsCopy, IsEmptyImage}
 
 -- ---- words
 

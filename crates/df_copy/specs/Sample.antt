@@ -1,13 +1,7 @@
 -- A history that begins with a copy and meets every premise: the copy of a file at rest, with a reply and a block, is damaged and opened.
 use Rattle.std.specs.Prelude.{◌≡◌, ◌+◌, ℕ, [], length, None}
-use Rattle.df_theory.specs.Found.{IsClean, IsFound}
-use Rattle.df_theory.specs.Holds.{IsWhole, Stands}
-use Rattle.df_theory.specs.Shape.{Shape}
-use Rattle.df_theory.specs.UnitLog.{UnitLog}
-use Rattle.df_theory.specs.Units.{CopyPlace, HeaderPlace, Units}
-use Rattle.df_theory.specs.View.{View, boot_of, head, sessions}
-use Rattle.df_history.specs.OpenLaws.{BeginsHistory}
-use Rattle.df_history.specs.Sample.{IsReopened}
+use Rattle.df_theory.specs.{Found.{IsClean, IsFound}, Holds.{IsWhole, Stands}, Shape.{Shape}, UnitLog.{UnitLog}, Units.{CopyPlace, HeaderPlace, Units}, View.{View, boot_of, head, sessions}}
+use Rattle.df_history.specs.{OpenLaws.{BeginsHistory}, Sample.{IsReopened}}
 use Rattle.df_copy.specs.Views.{IsCopyOf, IsOlder}
 
 -- The target shows the copy of the source's view, with a reply and a block, and a history begins there. Then two copies of the superblock and the whole header ring are lost: an open finds the copied view, and the history goes on with a raised boot.

@@ -1,15 +1,11 @@
 -- How a copy ends: the numbers of the statuses, and what each ending blames and prints.
 use Rattle.std.specs.Prelude.{◌≡◌, ℕ, Bool, true, false, ◌||◌, refl}
 use Rattle.df_program.specs.Ends.{Statuses}
-use Rattle.df_model.specs.declared.errors.FormatError.{FormatError}
+use Rattle.df_model.specs.{declared.errors.FormatError.{FormatError}, declared.reading.LookupError.{LookupError}, declared.reading.ReadError.{ReadError}}
 use Rattle.df_model.specs.declared.errors.FormatError.TheVariants as formats
-use Rattle.df_model.specs.declared.reading.LookupError.{LookupError}
 use Rattle.df_model.specs.declared.reading.LookupError.TheVariants as lookup
-use Rattle.df_model.specs.declared.reading.ReadError.{ReadError}
 use Rattle.df_model.specs.declared.reading.ReadError.TheVariants as read
-use Rattle.df_copy.specs.declared.ending.Ending.{Ending}
-use Rattle.df_copy.specs.declared.ending.Ending.TheVariants.{Damaged, NotBlank, Source, Target}
-use Rattle.df_copy.specs.declared.status.Status.{Status}
+use Rattle.df_copy.specs.{declared.ending.Ending.{Ending}, declared.ending.Ending.TheVariants.{Damaged, NotBlank, Source, Target}, declared.status.Status.{Status}}
 use Rattle.df_copy.specs.declared.status.Status.TheVariants as ends
 
 -- those of `datafile` that come

@@ -1,18 +1,10 @@
 -- What a stop leaves of a target within its copy.
 use Rattle.std.specs.Prelude.{◌≡◌, ◌⊎◌, if◌then◌else◌, ℕ, List, [], ◌∷◌, Option, Some}
-use Rattle.df_base.specs.Image.{Image}
-use Rattle.df_base.specs.Log.{Event, IsLeft, Log, loose, now}
-use Rattle.df_base.specs.Moments.{EachMoment}
-use Rattle.df_disk.specs.Told.{Told}
-use Rattle.df_disk.specs.Adds.{after_all}
-use Rattle.df_layout.specs.declared.damage.Class.{Class}
-use Rattle.df_layout.specs.declared.layout.Layout.{Layout}
+use Rattle.df_base.specs.{Image.{Image}, Log.{Event, IsLeft, Log, loose, now}, Moments.{EachMoment}}
+use Rattle.df_disk.specs.{Told.{Told}, Adds.{after_all}}
+use Rattle.df_layout.specs.{declared.damage.Class.{Class}, declared.layout.Layout.{Layout}}
 use Rattle.df_format.specs.Copies.{is_blank_copy}
-use Rattle.df_theory.specs.Copies.{IsSplit}
-use Rattle.df_theory.specs.Device.{NoChanceOf, units_log}
-use Rattle.df_theory.specs.UnitLog.{settled}
-use Rattle.df_theory.specs.Units.{Units}
-use Rattle.df_theory.specs.View.{View}
+use Rattle.df_theory.specs.{Copies.{IsSplit}, Device.{NoChanceOf, units_log}, UnitLog.{settled}, Units.{Units}, View.{View}}
 use Rattle.df_units.specs.Bytes.{unit_at}
 use Rattle.df_model.specs.declared.errors.OpenError.TheVariants.{NoQuorum, NotFormatted}
 use Rattle.df_opening.specs.Below.{AreDistinctUnits, DataFile, Refuses, format_of, restarted, told_after}

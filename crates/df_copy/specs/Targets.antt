@@ -1,33 +1,17 @@
 -- The target: what its grid knows of the blocks that were written, its trailer, its superblock, and all that is written of it, in order.
-use Rattle.std.specs.Prelude.{◌≡◌, ℕ, zero, suc, ◌+◌, ◌-◌, max, List, [], ◌∷◌, ◌++◌, length, map, slice_get, take, Option, Some, None}
-use Rattle.std.specs.List.{range_with_len}
-use Rattle.df_base.specs.declared.TheConstants.{HEADER}
-use Rattle.df_base.specs.Log.{Event, Sync}
+use Rattle.std.specs.{Prelude.{◌≡◌, ℕ, zero, suc, ◌+◌, ◌-◌, max, List, [], ◌∷◌, ◌++◌, length, map, slice_get, take, Option, Some, None}, List.{range_with_len}}
+use Rattle.df_base.specs.{declared.TheConstants.{HEADER}, Log.{Event, Sync}}
 use Rattle.df_layout.specs.declared.layout.Layout.{Layout}
-use Rattle.df_format.specs.declared.superblock.SuperFields.{SuperFields}
-use Rattle.df_format.specs.Message.{Message}
-use Rattle.df_format.specs.Spelling.{no_checksum}
-use Rattle.df_theory.specs.CopyPuts.{update_steps}
-use Rattle.df_theory.specs.MakingLaws.{all_puts}
-use Rattle.df_theory.specs.Runs.{Step, Syncs}
-use Rattle.df_theory.specs.Units.{ReplyPlace, ReplyUnit}
-use Rattle.df_units.specs.Making.{header_puts, header_writes}
-use Rattle.df_units.specs.Meaning.{layout_of, message_of, number_of}
-use Rattle.df_units.specs.Puts.{put_copies}
+use Rattle.df_format.specs.{declared.superblock.SuperFields.{SuperFields}, Message.{Message}, Spelling.{no_checksum}}
+use Rattle.df_theory.specs.{CopyPuts.{update_steps}, MakingLaws.{all_puts}, Runs.{Step, Syncs}, Units.{ReplyPlace, ReplyUnit}}
+use Rattle.df_units.specs.{Making.{header_puts, header_writes}, Meaning.{layout_of, message_of, number_of}, Puts.{put_copies}}
 use Rattle.df_places.specs.Units.{put_steps}
 use Rattle.df_superblock.specs.Events.{update_events}
-use Rattle.df_trailer.specs.Spelling.{spell}
-use Rattle.df_trailer.specs.Writing.{captured_parts, piece_of}
-use Rattle.df_grid.specs.Grid.{GridState, free_addresses, with_blocks, with_boot}
-use Rattle.df_grid.specs.Table.{next_written, no_blocks}
-use Rattle.df_grid.specs.Writes.{block_steps, made_events, next_unit}
-use Rattle.df_model.specs.Blocks.{Blocks, blocks_captured, sum_at}
-use Rattle.df_model.specs.Making.{named_places}
-use Rattle.df_opening.specs.Below.{State, memory}
-use Rattle.df_opening.specs.Making.{reserved_table, sectors_in}
-use Rattle.df_copy.specs.declared.target.Target.{Target}
-use Rattle.df_copy.specs.Tests.{trailer_blocks, trailer_size}
-use Rattle.df_copy.specs.Units.{all_events, moved_from, reply_events}
+use Rattle.df_trailer.specs.{Spelling.{spell}, Writing.{captured_parts, piece_of}}
+use Rattle.df_grid.specs.{Grid.{GridState, free_addresses, with_blocks, with_boot}, Table.{next_written, no_blocks}, Writes.{block_steps, made_events, next_unit}}
+use Rattle.df_model.specs.{Blocks.{Blocks, blocks_captured, sum_at}, Making.{named_places}}
+use Rattle.df_opening.specs.{Below.{State, memory}, Making.{reserved_table, sectors_in}}
+use Rattle.df_copy.specs.{declared.target.Target.{Target}, Tests.{trailer_blocks, trailer_size}, Units.{all_events, moved_from, reply_events}}
 
 -- ---- the grid
 

@@ -1,23 +1,13 @@
 -- What a copy is refused for, in this order, as one list of tests: over what is kept in memory of the source and what its disk shows, the layout, and what the target shows.
-use Rattle.std.specs.Prelude.{ℕ, ◌+◌, ◌-◌, ◌==◌, nat_lt, Bool, true, ◌&&◌, not, if◌then◌else◌, List, [], ◌∷◌, ◌++◌, length, map, Result, Ok, Err}
-use Rattle.std.specs.Int.{div_ceil}
-use Rattle.std.specs.List.{range_with_len}
-use Rattle.df_base.specs.declared.TheConstants.{HEADER}
-use Rattle.df_base.specs.Image.{Image}
-use Rattle.df_layout.specs.declared.damage.Class.{Class}
-use Rattle.df_layout.specs.declared.layout.Layout.{Layout}
-use Rattle.df_layout.specs.declared.places.Zone.TheVariants.{ClientReplies, Grid}
-use Rattle.df_format.specs.Copies.{is_blank_copy}
-use Rattle.df_format.specs.Own.{place_in}
+use Rattle.std.specs.{Prelude.{ℕ, ◌+◌, ◌-◌, ◌==◌, nat_lt, Bool, true, ◌&&◌, not, if◌then◌else◌, List, [], ◌∷◌, ◌++◌, length, map, Result, Ok, Err}, Int.{div_ceil}, List.{range_with_len}}
+use Rattle.df_base.specs.{declared.TheConstants.{HEADER}, Image.{Image}}
+use Rattle.df_layout.specs.{declared.damage.Class.{Class}, declared.layout.Layout.{Layout}, declared.places.Zone.TheVariants.{ClientReplies, Grid}}
+use Rattle.df_format.specs.{Copies.{is_blank_copy}, Own.{place_in}}
 use Rattle.df_theory.specs.Units.{Block, Message}
 use Rattle.df_units.specs.Meaning.{layout_of}
-use Rattle.df_model.specs.Blocks.{entries, sum_at}
-use Rattle.df_model.specs.Commands.{ReadBlock}
-use Rattle.df_model.specs.Memory.{Memory, reply_sum}
-use Rattle.df_model.specs.Supply.{Shown, block_read, reply_at}
+use Rattle.df_model.specs.{Blocks.{entries, sum_at}, Commands.{ReadBlock}, Memory.{Memory, reply_sum}, Supply.{Shown, block_read, reply_at}}
 use Rattle.df_trailer.specs.Spelling.{text_size}
-use Rattle.df_copy.specs.declared.ending.Ending.{Ending}
-use Rattle.df_copy.specs.declared.ending.Ending.TheVariants.{BlockTooLong, Damaged, NotAtRest, NotBlank, ReplyTooLong, TooFewBlocks, TooFewClients}
+use Rattle.df_copy.specs.{declared.ending.Ending.{Ending}, declared.ending.Ending.TheVariants.{BlockTooLong, Damaged, NotAtRest, NotBlank, ReplyTooLong, TooFewBlocks, TooFewClients}}
 
 -- ---- the source, by what is kept in memory of it
 

@@ -1,8 +1,7 @@
 -- The lines that a copy prints.
 use Rattle.std.specs.Prelude.{ℕ, List, [], codes}
 use Rattle.df_script_model.specs.Texts.{damaged_text, line_of, numbered, spaced}
-use Rattle.df_copy.specs.declared.ending.Ending.{Ending}
-use Rattle.df_copy.specs.declared.ending.Ending.TheVariants.{BlockTooLong, Damaged, NotAtRest, NotBlank, ReplyTooLong, Source, Target, TooFewBlocks, TooFewClients}
+use Rattle.df_copy.specs.{declared.ending.Ending.{Ending}, declared.ending.Ending.TheVariants.{BlockTooLong, Damaged, NotAtRest, NotBlank, ReplyTooLong, Source, Target, TooFewBlocks, TooFewClients}}
 
 abbrev pub copy_usage : List ℕ
 copy_usage = codes "usage: filecopy FROM TO LAYOUT\n"

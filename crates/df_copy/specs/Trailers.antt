@@ -1,22 +1,12 @@
 -- How a trailer is begun and written, block by block, and how the superblock names it.
 use Rattle.std.specs.Prelude.{◌≡◌, ◌≤◌, ℕ, List, [], length, Option, None, Some, Result, OnOk}
-use Rattle.df_disk.specs.Told.{Told}
-use Rattle.df_disk.specs.Adds.{Adds}
-use Rattle.df_format.specs.Message.{Message}
-use Rattle.df_format.specs.Spelling.{no_checksum}
-use Rattle.df_format.specs.declared.reference.Reference.{Reference}
-use Rattle.df_format.specs.declared.superblock.SuperFields.{SuperFields}
+use Rattle.df_disk.specs.{Told.{Told}, Adds.{Adds}}
+use Rattle.df_format.specs.{Message.{Message}, Spelling.{no_checksum}, declared.reference.Reference.{Reference}, declared.superblock.SuperFields.{SuperFields}}
 use Rattle.df_checkpoint.specs.declared.capture.Capture.{Capture}
 use Rattle.df_checkpoint.specs.Writing as checkpoint
-use Rattle.df_grid.specs.Grid.{GridState}
-use Rattle.df_grid.specs.Table.{last_trailer_block, pair_in}
-use Rattle.df_grid.specs.Writes.{made_events}
+use Rattle.df_grid.specs.{Grid.{GridState}, Table.{last_trailer_block, pair_in}, Writes.{made_events}}
 use Rattle.df_opening.specs.Below.{State}
-use Rattle.df_copy.specs.declared.ending.Ending.{Ending}
-use Rattle.df_copy.specs.declared.target.Target.{Target}
-use Rattle.df_copy.specs.Acts.{IsTrailerWritten}
-use Rattle.df_copy.specs.Targets.{named_with, trailer_of}
-use Rattle.df_copy.specs.Units.{all_events, moved_from}
+use Rattle.df_copy.specs.{declared.ending.Ending.{Ending}, declared.target.Target.{Target}, Acts.{IsTrailerWritten}, Targets.{named_with, trailer_of}, Units.{all_events, moved_from}}
 
 -- this many blocks of a trailer are to come, and none is written
 pub record IsBegunGrid (blocks : ℕ) (g : GridState) : Type 0 where

@@ -2,19 +2,12 @@
 use Rattle.std.specs.Prelude.{◌≡◌, ℕ, ◌+◌, List, [], ◌∷◌, ◌++◌, slice_get, Option, Some, None, Ok}
 use Rattle.df_base.specs.Log.{Event, Write}
 use Rattle.df_disk.specs.Told.{Told}
-use Rattle.df_layout.specs.declared.layout.Layout.{Layout}
-use Rattle.df_layout.specs.declared.places.Zone.TheVariants.{ClientReplies}
-use Rattle.df_layout.specs.Spans.{span_of}
-use Rattle.df_format.specs.declared.kind.Kind.TheVariants.{Block, Reply}
-use Rattle.df_format.specs.Message.{Message, sectors_of}
-use Rattle.df_format.specs.Own.{place_in}
+use Rattle.df_layout.specs.{declared.layout.Layout.{Layout}, declared.places.Zone.TheVariants.{ClientReplies}, Spans.{span_of}}
+use Rattle.df_format.specs.{declared.kind.Kind.TheVariants.{Block, Reply}, Message.{Message, sectors_of}, Own.{place_in}}
 use Rattle.df_units.specs.Meaning.{block_of, message_of}
 use Rattle.df_grid.specs.Grid as grid
 use Rattle.df_grid.specs.Writes.{made}
-use Rattle.df_model.specs.Blocks.{sum_at}
-use Rattle.df_model.specs.Commands.{ReadBlock}
-use Rattle.df_model.specs.Memory.{reply_sum}
-use Rattle.df_model.specs.Supply.{Shown, block_read, reply_at}
+use Rattle.df_model.specs.{Blocks.{sum_at}, Commands.{ReadBlock}, Memory.{reply_sum}, Supply.{Shown, block_read, reply_at}}
 use Rattle.df_opening.specs.Below.{DataFile, State, memory}
 use Rattle.df_replica.specs.Reading.{IsKnownUnit, shown_of}
 use Rattle.df_copy.specs.Tests.{references}

@@ -1,16 +1,11 @@
 -- The view of a copy, beside that of its source: the same state in another layout, with the k-th referenced block at address k.
 use Rattle.std.specs.Prelude.{◌≡◌, ◌↔◌, ◌<◌, ◌≤◌, ◌+◌, ℕ, List, [], length, map, slice_get, Some, None}
-use Rattle.df_base.specs.declared.TheConstants.{VERSION}
-use Rattle.df_base.specs.Image.{Image, IsImage, blank}
+use Rattle.df_base.specs.{declared.TheConstants.{VERSION}, Image.{Image, IsImage, blank}}
 use Rattle.df_layout.specs.declared.layout.Layout.{Layout}
-use Rattle.df_theory.specs.Found.{IsClean, IsFound}
-use Rattle.df_theory.specs.Holds.{IsWhole, Stands}
-use Rattle.df_theory.specs.Trailer.{InChain}
-use Rattle.df_theory.specs.Units as units
-use Rattle.df_theory.specs.Units.{Block, BlockPlace, BlockUnit, Content, Message, PreparePlace, ReplyPlace, ReplyUnit, Units}
+use Rattle.df_theory.specs.{Found.{IsClean, IsFound}, Holds.{IsWhole, Stands}, Trailer.{InChain}, Units.{Block, BlockPlace, BlockUnit, Content, Message, PreparePlace, ReplyPlace, ReplyUnit, Units}}
 use Rattle.df_theory.specs.View.{View, boot_of, head}
-use Rattle.df_units.specs.Bytes.{unit_at}
-use Rattle.df_units.specs.Meaning.{layout_of}
+use Rattle.df_theory.specs.Units as units
+use Rattle.df_units.specs.{Bytes.{unit_at}, Meaning.{layout_of}}
 use Rattle.df_model.specs.Sense.{RiseFrom}
 use Rattle.df_opening.specs.Below.{DataFile, shape}
 

@@ -4,13 +4,10 @@ ghost use Rattle.df_base.specs.Causes.{HasCause, IsBlamed};
 ghost use Rattle.df_disk.specs.Adds.{Adds};
 ghost use Rattle.df_format.specs.Message.{Message};
 ghost use Rattle.df_grid.specs.Writes.{made, made_events};
-ghost use Rattle.df_model.specs.Blocks.{sum_at};
-ghost use Rattle.df_model.specs.Work.{is_known};
+ghost use Rattle.df_model.specs.{Blocks.{sum_at}, Work.{is_known}};
 ghost use Rattle.df_opening.specs.Below.{memory};
 ghost use Rattle.df_replica.specs.Blocks.{MayPut};
-ghost use Rattle.df_copy.specs.Acts.{CopiesAt, CopiesBlocks, IsBlockOf, IsCopyBegun, LeavesSource, PutsBlock, beside, with_block};
-ghost use Rattle.df_copy.specs.Statuses.{copied_block_ending, is_target};
-ghost use Rattle.df_copy.specs.Targets.{IsTarget};
+ghost use Rattle.df_copy.specs.{Acts.{CopiesAt, CopiesBlocks, IsBlockOf, IsCopyBegun, LeavesSource, PutsBlock, beside, with_block}, Statuses.{copied_block_ending, is_target}, Targets.{IsTarget}};
 ghost use Rattle.df_copy.specs.Tests.{references};
 
 use crate::ending::Ending;

@@ -5,12 +5,8 @@ ghost use Rattle.df_disk.specs.Adds.{Adds};
 ghost use Rattle.df_format.specs.Message.{Message};
 ghost use Rattle.df_sessions.specs.Table.{AreDistinctClients};
 ghost use Rattle.df_opening.specs.Below.{memory};
-ghost use Rattle.df_copy.specs.Acts.{IsCopied, IsReadySource, LeavesSource, beside};
-ghost use Rattle.df_copy.specs.Copying.{BeginsTarget, CopiesInto, CopiesPlanned, CopiesUnits, Finishes};
-ghost use Rattle.df_copy.specs.Planning.{IsCopyPlan};
-ghost use Rattle.df_copy.specs.Statuses.{blank_ending, is_target};
-ghost use Rattle.df_copy.specs.Targets.{IsTarget, KeepsGrid, ring_events};
-ghost use Rattle.df_copy.specs.Tests.{needed, references};
+ghost use Rattle.df_copy.specs.{Acts.{IsCopied, IsReadySource, LeavesSource, beside}, Copying.{BeginsTarget, CopiesInto, CopiesPlanned, CopiesUnits, Finishes}, Planning.{IsCopyPlan}};
+ghost use Rattle.df_copy.specs.{Statuses.{blank_ending, is_target}, Targets.{IsTarget, KeepsGrid, ring_events}, Tests.{needed, references}};
 
 use crate::blocks::copy_blocks;
 use crate::ending::Ending;

@@ -4,11 +4,8 @@ ghost use Rattle.df_base.specs.Image.{IsImage};
 ghost use Rattle.df_disk.specs.Told.{Told};
 ghost use Rattle.df_layout.specs.declared.layout.Layout.{Layout as Shape};
 ghost use Rattle.df_opening.specs.Opened.{MendsAll};
-ghost use Rattle.df_program.specs.Telling.{Writes};
-ghost use Rattle.df_program.specs.Two.{HasCausesOfTwo, around, counts};
-ghost use Rattle.df_copy.specs.Run.{CopiesFile, DoesCopy, MeansLayout, MeansNoLayout, RunsCopy};
-ghost use Rattle.df_copy.specs.Statuses.{EndsWithFiles};
-ghost use Rattle.df_copy.specs.Texts.{copy_usage};
+ghost use Rattle.df_program.specs.{Telling.{Writes}, Two.{HasCausesOfTwo, around, counts}};
+ghost use Rattle.df_copy.specs.{Run.{CopiesFile, DoesCopy, MeansLayout, MeansNoLayout, RunsCopy}, Statuses.{EndsWithFiles}, Texts.{copy_usage}};
 
 use crate::copying::copy_into;
 use crate::status::Status;

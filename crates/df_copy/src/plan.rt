@@ -1,8 +1,7 @@
 // What is tested before the target is touched: the source is at rest, and the layout has room for its sessions and its blocks.
 ghost use Rattle.std.specs.Prelude.{◌≡◌, ◌<◌, ◌≤◌, ◌^◌, false, true, length, IfErr, IfOk};
 ghost use Rattle.df_opening.specs.Below.{memory};
-ghost use Rattle.df_copy.specs.Planning.{IsCopyPlan, IsCopyTested};
-ghost use Rattle.df_copy.specs.Tests.{is_at_rest, needed, references};
+ghost use Rattle.df_copy.specs.{Planning.{IsCopyPlan, IsCopyTested}, Tests.{is_at_rest, needed, references}};
 
 use crate::ending::Ending;
 use df_base::HEADER;

@@ -4,10 +4,8 @@ ghost use Rattle.df_sessions.specs.Table.{AreDistinctClients};
 ghost use Rattle.df_base.specs.Causes.{HasCause, IsBlamed};
 ghost use Rattle.df_disk.specs.Adds.{Adds};
 ghost use Rattle.df_format.specs.Message.{Message};
-ghost use Rattle.df_copy.specs.Acts.{CopiesReplies, CopiesReply, HasReplyPlace, IsReadySource, LeavesSource, MayPutReply, PutsReply, SetsCheck, beside};
-ghost use Rattle.df_copy.specs.Statuses.{is_target, reply_ending};
-ghost use Rattle.df_copy.specs.Targets.{IsTarget, KeepsGrid};
-ghost use Rattle.df_copy.specs.Units.{reply_events};
+ghost use Rattle.df_copy.specs.{Acts.{CopiesReplies, CopiesReply, HasReplyPlace, IsReadySource, LeavesSource, MayPutReply, PutsReply, SetsCheck, beside}, Statuses.{is_target, reply_ending}};
+ghost use Rattle.df_copy.specs.{Targets.{IsTarget, KeepsGrid}, Units.{reply_events}};
 
 use crate::ending::Ending;
 use crate::target::Target;

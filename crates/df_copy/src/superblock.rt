@@ -1,14 +1,8 @@
 // The copy's superblock: the source's, with the new layout and the new trailer.
 ghost use Rattle.std.specs.Prelude.{◌≡◌, ◌≤◌, List, true, length};
-ghost use Rattle.df_format.specs.Message.{Message};
-ghost use Rattle.df_format.specs.Spelling.{IsCheck};
-ghost use Rattle.df_format.specs.declared.reference.Reference.{Reference};
+ghost use Rattle.df_format.specs.{Message.{Message}, Spelling.{IsCheck}, declared.reference.Reference.{Reference}};
 ghost use Rattle.df_opening.specs.Below.{memory};
-ghost use Rattle.df_copy.specs.Acts.{IsTrailerWritten};
-ghost use Rattle.df_copy.specs.Planning.{IsCopyPlan};
-ghost use Rattle.df_copy.specs.Targets.{fields_in, superblock_of};
-ghost use Rattle.df_copy.specs.Tests.{is_at_rest, needed, references};
-ghost use Rattle.df_copy.specs.Trailers.{IsLastOf, with_trailer};
+ghost use Rattle.df_copy.specs.{Acts.{IsTrailerWritten}, Planning.{IsCopyPlan}, Targets.{fields_in, superblock_of}, Tests.{is_at_rest, needed, references}, Trailers.{IsLastOf, with_trailer}};
 
 use crate::plan::Plan;
 use crate::target::Target;

@@ -1,6 +1,5 @@
 // Where the life of a copied file begins.
-ghost use Rattle.df_copy.specs.Lives.{ShownCopyBegins};
-ghost use Rattle.df_copy.specs.Sample.{CopySampleLaw};
+ghost use Rattle.df_copy.specs.{Lives.{ShownCopyBegins}, Sample.{CopySampleLaw}};
 
 /// A file that was copied may be taken as it is, and a history begins there.
 pub fn a_copied_file_begins()

@@ -1,18 +1,12 @@
 // The trailer: what the source's says, with the new addresses and checksums, in blocks after the copied ones.
 ghost use Rattle.std.specs.Prelude.{◌≡◌, ◌<◌, ◌≤◌, ◌-◌, List, length, IfErr, OnOk};
-ghost use Rattle.df_base.specs.declared.TheConstants.{GREATEST, HEADER};
-ghost use Rattle.df_base.specs.Causes.{HasCause, IsBlamed};
+ghost use Rattle.df_base.specs.{declared.TheConstants.{GREATEST, HEADER}, Causes.{HasCause, IsBlamed}};
 ghost use Rattle.df_disk.specs.Adds.{Adds};
 ghost use Rattle.df_format.specs.Message.{Message};
 ghost use Rattle.df_grid.specs.Writes.{made_events};
 ghost use Rattle.df_opening.specs.Below.{memory};
-ghost use Rattle.df_copy.specs.Acts.{IsReadySource};
-ghost use Rattle.df_copy.specs.Planning.{IsCopyPlan};
-ghost use Rattle.df_copy.specs.Statuses.{is_target};
-ghost use Rattle.df_copy.specs.Targets.{IsTarget, grid_behind, pieces_from, sequence_of};
-ghost use Rattle.df_copy.specs.Tests.{needed, references};
-ghost use Rattle.df_copy.specs.Units.{all_events};
-ghost use Rattle.df_copy.specs.Trailers.{IsBegunGrid, text_in, AddsTrailer};
+ghost use Rattle.df_copy.specs.{Acts.{IsReadySource}, Planning.{IsCopyPlan}, Statuses.{is_target}, Targets.{IsTarget, grid_behind, pieces_from, sequence_of}, Tests.{needed, references}};
+ghost use Rattle.df_copy.specs.{Units.{all_events}, Trailers.{IsBegunGrid, text_in, AddsTrailer}};
 
 use crate::ending::Ending;
 use crate::plan::Plan;

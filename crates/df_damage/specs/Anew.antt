@@ -1,14 +1,10 @@
 -- A restarted log: what a disk shows at a moment is its start, and what happened before is forgotten. And on what image one may begin.
 use Rattle.std.specs.Prelude.{◌≡◌, ◌↔◌, ℕ, false, List, [], ◌∷◌, Some}
-use Rattle.df_base.specs.Image.{Image, IsImage}
-use Rattle.df_base.specs.Log.{AreLoose, Event, IsLeft, Log, Stop, Sync, loose}
-use Rattle.df_disk.specs.Told.{IsHonest, Told, did}
-use Rattle.df_disk.specs.Adds.{AddsPart, after_all}
-use Rattle.df_theory.specs.Found.{IsClean, IsFound}
-use Rattle.df_theory.specs.View.{View}
+use Rattle.df_base.specs.{Image.{Image, IsImage}, Log.{AreLoose, Event, IsLeft, Log, Stop, Sync, loose}}
+use Rattle.df_disk.specs.{Told.{IsHonest, Told, did}, Adds.{AddsPart, after_all}}
+use Rattle.df_theory.specs.{Found.{IsClean, IsFound}, View.{View}}
 use Rattle.df_units.specs.Bytes.{unit_at}
-use Rattle.df_recovery.specs.Below.{DataFile, shape}
-use Rattle.df_recovery.specs.Plan.{AreDistinctUnits}
+use Rattle.df_recovery.specs.{Below.{DataFile, shape}, Plan.{AreDistinctUnits}}
 use Rattle.df_damage.specs.Disks.{MayBeHurtAs}
 
 -- the log restarted now

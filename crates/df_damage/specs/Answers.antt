@@ -2,23 +2,13 @@
 use Rattle.std.specs.Prelude.{◌≡◌, ◌⊎◌, ℕ, Option, Some, Result, Ok, Err}
 use Rattle.df_base.specs.Log.{Sync, add}
 use Rattle.df_disk.specs.Told.{Told}
-use Rattle.df_layout.specs.declared.layout.Layout.{Layout}
-use Rattle.df_layout.specs.declared.places.Zone.TheVariants.{Superblock, WalHeaders}
-use Rattle.df_model.specs.Work.{opened}
-use Rattle.df_model.specs.declared.errors.OpenError.{OpenError}
-use Rattle.df_model.specs.declared.errors.OpenError.TheVariants.{DiskFault}
-use Rattle.df_theory.specs.Found.{IsFound}
-use Rattle.df_theory.specs.View.{View}
+use Rattle.df_layout.specs.{declared.layout.Layout.{Layout}, declared.places.Zone.TheVariants.{Superblock, WalHeaders}}
+use Rattle.df_model.specs.{Work.{opened}, declared.errors.OpenError.{OpenError}, declared.errors.OpenError.TheVariants.{DiskFault}}
+use Rattle.df_theory.specs.{Found.{IsFound}, View.{View}}
 use Rattle.df_units.specs.Bytes.{unit_at}
-use Rattle.df_recovery.specs.Surveys.{SurveysAs}
-use Rattle.df_recovery.specs.Below.{DataFile, Represents, State, shape}
-use Rattle.df_damage.specs.Anew.{MayRestart}
-use Rattle.df_damage.specs.Disks.{HasEqualCopies, MayBeHurt, MayBeHurtAs}
-use Rattle.df_damage.specs.Hurt.{HasTwoCopies, IsHurtFile, IsHurtInside, IsUnhurtZone}
-use Rattle.df_damage.specs.Openings.{HasEachHeader}
-use Rattle.df_damage.specs.Past.{WasHad}
-use Rattle.df_damage.specs.Refusals.{BlamesHurt, MayBeOfDamage}
-use Rattle.df_damage.specs.Versions.{IsUnspent}
+use Rattle.df_recovery.specs.{Surveys.{SurveysAs}, Below.{DataFile, Represents, State, shape}}
+use Rattle.df_damage.specs.{Anew.{MayRestart}, Disks.{HasEqualCopies, MayBeHurt, MayBeHurtAs}, Hurt.{HasTwoCopies, IsHurtFile, IsHurtInside, IsUnhurtZone}, Openings.{HasEachHeader}, Past.{WasHad}}
+use Rattle.df_damage.specs.{Refusals.{BlamesHurt, MayBeOfDamage}, Versions.{IsUnspent}}
 
 -- what is hurt isn't needed: copies, at most two of four equal ones, or header sectors
 abbrev pub IsNeedless : DataFile → Told → Type 0

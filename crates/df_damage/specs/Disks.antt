@@ -1,16 +1,9 @@
 -- A disk that may be hurt: what is known of it before an open.
 use Rattle.std.specs.Prelude.{◌≡◌, ◌<◌, ℕ, List, Some}
-use Rattle.df_base.specs.Image.{Image, IsImage, blank, changed}
-use Rattle.df_base.specs.Log.{AreLoose, IsLog, Log, Stop, Sync, add, now}
+use Rattle.df_base.specs.{Image.{Image, IsImage, blank, changed}, Log.{AreLoose, IsLog, Log, Stop, Sync, add, now}}
 use Rattle.df_disk.specs.Told.{Told}
-use Rattle.df_theory.specs.Device.{IsSafeDisk, NoChanceOf, units_log}
-use Rattle.df_theory.specs.Found.{IsFound}
-use Rattle.df_theory.specs.Holds.{Held, IsWhole}
-use Rattle.df_theory.specs.TidyLaws.{IsTidy}
-use Rattle.df_theory.specs.Units.{Content, CopyPlace, CopyUnit}
-use Rattle.df_theory.specs.View.{View}
-use Rattle.df_units.specs.Bytes.{unit_at}
-use Rattle.df_units.specs.Format.{format_of}
+use Rattle.df_theory.specs.{Device.{IsSafeDisk, NoChanceOf, units_log}, Found.{IsFound}, Holds.{Held, IsWhole}, TidyLaws.{IsTidy}, Units.{Content, CopyPlace, CopyUnit}, View.{View}}
+use Rattle.df_units.specs.{Bytes.{unit_at}, Format.{format_of}}
 use Rattle.df_recovery.specs.Below.{DataFile, shape}
 use Rattle.df_damage.specs.Versions.{IsKnownVersion}
 

@@ -1,26 +1,13 @@
 -- A file that was damaged before any number of opens: its logs, each restarted at what an open found, and what an open finds then.
 use Rattle.std.specs.Prelude.{◌≡◌, ℕ, List, [], ◌∷◌, Option, Some, Result, Ok, Err}
-use Rattle.df_base.specs.declared.TheConstants.{VERSION}
-use Rattle.df_base.specs.Image.{Image, IsImage, changed}
-use Rattle.df_base.specs.Log.{AreLoose, Log, Stop, Sync, add, now}
-use Rattle.df_base.specs.Moments.{EachMoment, Extends}
+use Rattle.df_base.specs.{declared.TheConstants.{VERSION}, Image.{Image, IsImage, changed}, Log.{AreLoose, Log, Stop, Sync, add, now}, Moments.{EachMoment, Extends}}
 use Rattle.df_disk.specs.Told.{Told}
 use Rattle.df_layout.specs.declared.layout.Layout.{Layout}
-use Rattle.df_model.specs.Work.{opened}
-use Rattle.df_model.specs.declared.errors.OpenError.{OpenError}
-use Rattle.df_theory.specs.Device.{IsSafeDisk, NoChanceOf, units_log}
-use Rattle.df_theory.specs.Found.{IsFound}
-use Rattle.df_theory.specs.Holds.{Held}
-use Rattle.df_theory.specs.UnitLog.{UnitLog}
-use Rattle.df_theory.specs.View.{View}
-use Rattle.df_history.specs.Awakened.{IsAwakened}
-use Rattle.df_history.specs.Histories.{IsLived, MayHurtCopies, NoChanceOver, WasSince}
-use Rattle.df_history.specs.OpenLaws.{BeginsHistory}
-use Rattle.df_units.specs.Bytes.{unit_at}
-use Rattle.df_units.specs.Format.{format_of}
-use Rattle.df_recovery.specs.Found.{IsLayoutShownAs}
-use Rattle.df_recovery.specs.Surveys.{IsOpenedAs}
-use Rattle.df_recovery.specs.Below.{DataFile, Represents, State, shape}
+use Rattle.df_model.specs.{Work.{opened}, declared.errors.OpenError.{OpenError}}
+use Rattle.df_theory.specs.{Device.{IsSafeDisk, NoChanceOf, units_log}, Found.{IsFound}, Holds.{Held}, UnitLog.{UnitLog}, View.{View}}
+use Rattle.df_history.specs.{Awakened.{IsAwakened}, Histories.{IsLived, MayHurtCopies, NoChanceOver, WasSince}, OpenLaws.{BeginsHistory}}
+use Rattle.df_units.specs.{Bytes.{unit_at}, Format.{format_of}}
+use Rattle.df_recovery.specs.{Found.{IsLayoutShownAs}, Surveys.{IsOpenedAs}, Below.{DataFile, Represents, State, shape}}
 use Rattle.df_damage.specs.Anew.{MayRestart}
 
 -- ---- histories

@@ -3,19 +3,10 @@ use Rattle.std.specs.Prelude.{◌≡◌, ◌<◌, ℕ, Some}
 use Rattle.df_base.specs.Log.{Sync, add, now}
 use Rattle.df_disk.specs.Told.{Told}
 use Rattle.df_layout.specs.declared.places.Zone.TheVariants.{Superblock, WalHeaders}
-use Rattle.df_theory.specs.Found.{IsFound}
-use Rattle.df_theory.specs.Holds.{IsWhole}
-use Rattle.df_theory.specs.Tails.{In}
-use Rattle.df_theory.specs.Units.{Header, HeaderPlace, HeaderUnit, Message}
-use Rattle.df_theory.specs.View.{View}
+use Rattle.df_theory.specs.{Found.{IsFound}, Holds.{IsWhole}, Tails.{In}, Units.{Header, HeaderPlace, HeaderUnit, Message}, View.{View}}
 use Rattle.df_units.specs.Bytes.{unit_at}
-use Rattle.df_recovery.specs.Surveys.{IsOpenedAs}
-use Rattle.df_recovery.specs.Below.{DataFile, State, shape}
-use Rattle.df_damage.specs.Disks.{HasEqualCopies, MayBeHurtAs}
-use Rattle.df_damage.specs.Hurt.{HasTwoCopies, IsHurtInside, IsUnhurtZone}
-use Rattle.df_damage.specs.Past.{WasHad}
-use Rattle.df_damage.specs.Unrefused.{IsNotRefusedAs}
-use Rattle.df_damage.specs.Versions.{IsUnspent}
+use Rattle.df_recovery.specs.{Surveys.{IsOpenedAs}, Below.{DataFile, State, shape}}
+use Rattle.df_damage.specs.{Disks.{HasEqualCopies, MayBeHurtAs}, Hurt.{HasTwoCopies, IsHurtInside, IsUnhurtZone}, Past.{WasHad}, Unrefused.{IsNotRefusedAs}, Versions.{IsUnspent}}
 
 -- what is found is of this file, and the file had it
 abbrev pub FoundWasHad : Type 0

@@ -1,9 +1,7 @@
 -- The views that a file had: those of the images that its log settled.
 use Rattle.std.specs.Prelude.{◌≡◌, ◌⊎◌, List, [], ◌∷◌}
-use Rattle.df_base.specs.Image.{Image}
-use Rattle.df_base.specs.Log.{Log, settled}
-use Rattle.df_theory.specs.Holds.{Holds}
-use Rattle.df_theory.specs.View.{View}
+use Rattle.df_base.specs.{Image.{Image}, Log.{Log, settled}}
+use Rattle.df_theory.specs.{Holds.{Holds}, View.{View}}
 use Rattle.df_units.specs.Bytes.{unit_at}
 use Rattle.df_recovery.specs.Below.{DataFile, shape}
 

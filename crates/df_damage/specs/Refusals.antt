@@ -1,25 +1,13 @@
 -- Why an open refuses a disk that may be hurt.
-use Rattle.std.specs.Prelude.{◌≡◌, ◌⊎◌, ◌<◌, ◌+◌, ◌%◌, ℕ, List, length, Some, Err}
-use Rattle.std.specs.List.{slice_get}
+use Rattle.std.specs.{Prelude.{◌≡◌, ◌⊎◌, ◌<◌, ◌+◌, ◌%◌, ℕ, List, length, Some, Err}, List.{slice_get}}
 use Rattle.df_base.specs.declared.TheConstants.{FIRST_VERSION, GREATEST}
 use Rattle.df_disk.specs.Told.{Told}
-use Rattle.df_layout.specs.declared.layout.Layout.{Layout}
-use Rattle.df_layout.specs.declared.places.Zone.{Zone}
-use Rattle.df_layout.specs.declared.places.Zone.TheVariants.{ClientReplies, Grid, Superblock, WalHeaders, WalPrepares}
-use Rattle.df_model.specs.declared.errors.OpenError.{OpenError}
-use Rattle.df_model.specs.declared.errors.OpenError.TheVariants.{BadField, BootSpent, Damaged, DiskFault, LayoutDiffers, NoQuorum, NotFormatted, Version}
-use Rattle.df_theory.specs.Found.{IsTail}
-use Rattle.df_theory.specs.Tails.{In}
-use Rattle.df_theory.specs.Units.{BlockPlace, CopyPlace, Message, PreparePlace, ReplyPlace, Session}
-use Rattle.df_theory.specs.View.{View, boot_of, sessions}
+use Rattle.df_layout.specs.{declared.layout.Layout.{Layout}, declared.places.Zone.{Zone}, declared.places.Zone.TheVariants.{ClientReplies, Grid, Superblock, WalHeaders, WalPrepares}}
+use Rattle.df_model.specs.{declared.errors.OpenError.{OpenError}, declared.errors.OpenError.TheVariants.{BadField, BootSpent, Damaged, DiskFault, LayoutDiffers, NoQuorum, NotFormatted, Version}}
+use Rattle.df_theory.specs.{Found.{IsTail}, Tails.{In}, Units.{BlockPlace, CopyPlace, Message, PreparePlace, ReplyPlace, Session}, View.{View, boot_of, sessions}}
 use Rattle.df_units.specs.Bytes.{unit_at}
-use Rattle.df_recovery.specs.Found.{IsLayoutShownAs}
-use Rattle.df_recovery.specs.Opening.{RefusesAs}
-use Rattle.df_recovery.specs.Surveys.{SurveysAs}
-use Rattle.df_recovery.specs.Below.{DataFile, shape}
-use Rattle.df_damage.specs.Disks.{HasEqualCopies, MayBeHurtAs}
-use Rattle.df_damage.specs.Hurt.{HasTwoCopies, IsHurtFile, IsHurtPlace}
-use Rattle.df_damage.specs.Versions.{IsUnspent}
+use Rattle.df_recovery.specs.{Found.{IsLayoutShownAs}, Opening.{RefusesAs}, Surveys.{SurveysAs}, Below.{DataFile, shape}}
+use Rattle.df_damage.specs.{Disks.{HasEqualCopies, MayBeHurtAs}, Hurt.{HasTwoCopies, IsHurtFile, IsHurtPlace}, Versions.{IsUnspent}}
 
 -- the refusals of a file that damage explains: no copies, no two that agree, or a place that is named; a version, a field, a layout or a spent boot never
 abbrev pub MayBeOfDamage : OpenError → Type 0

@@ -2,14 +2,9 @@
 use Rattle.std.specs.Prelude.{◌≡◌, ℕ, Err}
 use Rattle.df_base.specs.Image.{Image, IsImage}
 use Rattle.df_layout.specs.declared.layout.Layout.{Layout}
-use Rattle.df_model.specs.declared.errors.OpenError.{OpenError}
-use Rattle.df_model.specs.declared.errors.OpenError.TheVariants.{DiskFault}
-use Rattle.df_recovery.specs.Found.{IsLayoutShownAs}
-use Rattle.df_recovery.specs.Opening.{RefusesAs}
-use Rattle.df_recovery.specs.Surveys.{SurveysAs}
-use Rattle.df_recovery.specs.Below.{shape, DataFile}
-use Rattle.df_theory.specs.Found.{IsFound}
-use Rattle.df_theory.specs.View.{View}
+use Rattle.df_model.specs.{declared.errors.OpenError.{OpenError}, declared.errors.OpenError.TheVariants.{DiskFault}}
+use Rattle.df_recovery.specs.{Found.{IsLayoutShownAs}, Opening.{RefusesAs}, Surveys.{SurveysAs}, Below.{shape, DataFile}}
+use Rattle.df_theory.specs.{Found.{IsFound}, View.{View}}
 use Rattle.df_units.specs.Bytes.{unit_at}
 use Rattle.df_damage.specs.Versions.{IsKnownVersion, IsUnspent}
 

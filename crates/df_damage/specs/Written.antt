@@ -1,20 +1,11 @@
 -- What was written at a place, and what a view needs of it.
 use Rattle.std.specs.Prelude.{ℕ}
-use Rattle.df_base.specs.Log.{Log, Sync, add}
-use Rattle.df_base.specs.Moments.{Extends}
+use Rattle.df_base.specs.{Log.{Log, Sync, add}, Moments.{Extends}}
 use Rattle.df_disk.specs.Told.{Told}
-use Rattle.df_theory.specs.Chance.{Distinct, InPool, InPools}
-use Rattle.df_theory.specs.Device.{units_log}
-use Rattle.df_theory.specs.Holds.{Sound}
-use Rattle.df_theory.specs.Shows.{Needs}
-use Rattle.df_theory.specs.UnitLog.{UnitLog}
-use Rattle.df_theory.specs.Units.{AnyUnit, Place}
-use Rattle.df_theory.specs.View.{View}
+use Rattle.df_theory.specs.{Chance.{Distinct, InPool, InPools}, Device.{units_log}, Holds.{Sound}, Shows.{Needs}, UnitLog.{UnitLog}, Units.{AnyUnit, Place}, View.{View}}
 use Rattle.df_units.specs.Format.{format_of}
-use Rattle.df_recovery.specs.Surveys.{IsOpenedAs}
-use Rattle.df_recovery.specs.Below.{DataFile, State, shape}
-use Rattle.df_damage.specs.Disks.{MayBeHurtAs}
-use Rattle.df_damage.specs.Past.{WasHad}
+use Rattle.df_recovery.specs.{Surveys.{IsOpenedAs}, Below.{DataFile, State, shape}}
+use Rattle.df_damage.specs.{Disks.{MayBeHurtAs}, Past.{WasHad}}
 
 -- the unit was written at its place: it was settled there, or stood whole in a write, now or at an earlier moment of the log
 abbrev pub IsWritten : UnitLog → Place → AnyUnit → Type 0

@@ -1,6 +1,5 @@
 // What an open finds on a disk that may be hurt: laws, each the clause of a function that does nothing.
-ghost use Rattle.df_damage.specs.Answers.{AnswerIsOfHurt};
-ghost use Rattle.df_damage.specs.Openings.{CheckpointStays, FoundWasHad, HeadersMayBeHurt, HeadersTell, TwoCopiesAreEnough, WholeTailIsFound};
+ghost use Rattle.df_damage.specs.{Answers.{AnswerIsOfHurt}, Openings.{CheckpointStays, FoundWasHad, HeadersMayBeHurt, HeadersTell, TwoCopiesAreEnough, WholeTailIsFound}};
 
 /// Whatever was damaged, lost or swapped, a state that an open finds is one that the file really had.
 pub fn found_state_was_had()

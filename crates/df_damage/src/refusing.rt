@@ -1,6 +1,5 @@
 // Why an open refuses a disk that may be hurt: laws, each the clause of a function that does nothing.
-ghost use Rattle.df_damage.specs.Refusals.{ProbeIsOfHurt, RefusalsAreOfDamage, RefusalsBlameHurt, SpentIsTheFiles, SuperblockIsHurt};
-ghost use Rattle.df_damage.specs.Unrefused.{FoundIsNotRefused};
+ghost use Rattle.df_damage.specs.{Refusals.{ProbeIsOfHurt, RefusalsAreOfDamage, RefusalsBlameHurt, SpentIsTheFiles, SuperblockIsHurt}, Unrefused.{FoundIsNotRefused}};
 
 /// With rooms of the file's layout a file is refused for its superblock copies or for a place that is named, and only where some
 /// sector of it is hurt. For its boot it is refused only where the file's own is spent.

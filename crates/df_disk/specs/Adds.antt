@@ -1,7 +1,6 @@
 -- Which events a call adds to the log, and what it says of its moments.
 use Rattle.std.specs.Prelude.{◌≡◌, ◌⊎◌, List, [], ◌∷◌, Option, Some, None, Result, Ok, Err}
-use Rattle.df_base.specs.Log.{Event, Log}
-use Rattle.df_base.specs.Moments.{Passed}
+use Rattle.df_base.specs.{Log.{Event, Log}, Moments.{Passed}}
 use Rattle.df_disk.specs.Told.{Told, after}
 
 -- what is told after these events, in order

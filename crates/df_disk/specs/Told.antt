@@ -1,8 +1,6 @@
 -- What a disk tells: its log, and what a read gives.
 use Rattle.std.specs.Prelude.{◌≡◌, ◌≤◌, ◌<◌, ◌+◌, ◌/◌, ◌%◌, ◌^◌, ℕ, List, length, Option, Some, None}
-use Rattle.df_base.specs.declared.TheConstants.{SECTOR}
-use Rattle.df_base.specs.Image.{Image, bytes_at}
-use Rattle.df_base.specs.Log.{Event, Log, add, now, after_event}
+use Rattle.df_base.specs.{declared.TheConstants.{SECTOR}, Image.{Image, bytes_at}, Log.{Event, Log, add, now, after_event}}
 
 pub record Told : Type 0 where
   pub log : Log

@@ -1,7 +1,6 @@
 // The device: reads and writes of whole sectors, and the barrier between writes.
 ghost use Rattle.std.specs.Prelude.{◌≡◌, ◌⊎◌, Option, ℕ, length, OnErr, OnOk};
-ghost use Rattle.df_base.specs.Causes.{HasCause};
-ghost use Rattle.df_base.specs.Log.{Write, Sync};
+ghost use Rattle.df_base.specs.{Causes.{HasCause}, Log.{Write, Sync}};
 ghost use Rattle.df_disk.specs.Told.{Told, after, AreSectors, Shows};
 
 use df_base::Failed;

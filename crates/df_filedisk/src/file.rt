@@ -1,8 +1,7 @@
 // The disk over a file. It counts its faults and tells nothing else, since no contract can say what
 // a file holds.
 ghost use Rattle.std.specs.Prelude.{◌≡◌, ◌⊎◌, length, OnErr, OnOk};
-ghost use Rattle.df_base.specs.Causes.{HasCause};
-ghost use Rattle.df_base.specs.Log.{Write, Sync};
+ghost use Rattle.df_base.specs.{Causes.{HasCause}, Log.{Write, Sync}};
 ghost use Rattle.df_disk.specs.Told.{AreSectors, Shows, after};
 ghost use Rattle.df_filedisk.specs.Tells.{tells};
 

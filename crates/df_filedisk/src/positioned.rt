@@ -1,7 +1,6 @@
 // Reads and writes of whole buffers at an offset of a file, one system call where it does all. No
 // offset lies after the last of 2^40 sectors of 4096 bytes.
-ghost use Rattle.std.specs.Prelude.{◌+◌, ◌≤◌, ◌^◌, length};
-ghost use Rattle.std.specs.Io.{ReadsAtMost};
+ghost use Rattle.std.specs.{Prelude.{◌+◌, ◌≤◌, ◌^◌, length}, Io.{ReadsAtMost}};
 
 use std::io::{self, ErrorKind};
 use std::os::unix::fs::FileExt;

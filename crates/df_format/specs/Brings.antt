@@ -1,12 +1,7 @@
 -- Bytes that bring a unit to a place: whatever follows them there, the place is read as that unit.
 use Rattle.std.specs.Prelude.{◌≡◌, ◌≢◌, ◌≤◌, ℕ, List, ◌++◌, length, take, Some}
-use Rattle.df_layout.specs.declared.layout.Layout.{Layout}
-use Rattle.df_layout.specs.declared.places.Place.{Place}
-use Rattle.df_layout.specs.declared.places.Zone.TheVariants.{WalHeaders}
-use Rattle.df_format.specs.Message.{Message, sectors_of}
-use Rattle.df_format.specs.Shown.{unit_in}
-use Rattle.df_format.specs.Valid.{IsUnit}
-use Rattle.df_format.specs.UnitLaws.{AreForPlace}
+use Rattle.df_layout.specs.{declared.layout.Layout.{Layout}, declared.places.Place.{Place}, declared.places.Zone.TheVariants.{WalHeaders}}
+use Rattle.df_format.specs.{Message.{Message, sectors_of}, Shown.{unit_in}, Valid.{IsUnit}, UnitLaws.{AreForPlace}}
 
 pub record Brings (layout : Layout) (cluster : ℕ) (place : Place) (u : Message) (bytes : List ℕ) : Type 0 where
   pub for : AreForPlace layout place bytes

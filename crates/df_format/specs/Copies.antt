@@ -1,17 +1,9 @@
 -- The copy of the superblock that a sector is, and what the four sectors of an image say.
 use Rattle.std.specs.Prelude.{◌+◌, ◌-◌, ◌*◌, ◌==◌, ◌&&◌, ℕ, zero, suc, Bool, not, nat_lt, if◌then◌else◌, List, [], ◌∷◌, take, drop, replicate, position, option_map, Option, Some, None, Result, Ok, Err}
-use Rattle.std.specs.Option.{option_or}
-use Rattle.std.specs.Str.{bytes_eq}
-use Rattle.df_base.specs.declared.TheConstants.{SECTOR, VERSION}
-use Rattle.df_base.specs.Fields.{field_at, check_of}
-use Rattle.df_base.specs.Image.{Image}
-use Rattle.df_layout.specs.declared.damage.Class.{Class}
-use Rattle.df_layout.specs.declared.damage.Class.TheVariants.{Blank, Garbled, Elsewhere, Stale}
-use Rattle.df_layout.specs.declared.places.Zone.TheVariants.{Superblock}
-use Rattle.df_format.specs.Own.{place_in}
-use Rattle.df_format.specs.Super.{covered_bytes}
-use Rattle.df_format.specs.declared.superblock.SuperFields.{SuperFields}
-use Rattle.df_format.specs.declared.superblock.SuperCopy.{SuperCopy}
+use Rattle.std.specs.{Option.{option_or}, Str.{bytes_eq}}
+use Rattle.df_base.specs.{declared.TheConstants.{SECTOR, VERSION}, Fields.{field_at, check_of}, Image.{Image}}
+use Rattle.df_layout.specs.{declared.damage.Class.{Class}, declared.damage.Class.TheVariants.{Blank, Garbled, Elsewhere, Stale}, declared.places.Zone.TheVariants.{Superblock}}
+use Rattle.df_format.specs.{Own.{place_in}, Super.{covered_bytes}, declared.superblock.SuperFields.{SuperFields}, declared.superblock.SuperCopy.{SuperCopy}}
 
 -- the offset of the first byte from one offset up to another that isn't zero
 abbrev pub nonzero_between : ℕ → ℕ → List ℕ → Option ℕ

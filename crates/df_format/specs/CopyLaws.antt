@@ -1,14 +1,9 @@
 -- What holds of every copy of the superblock, sector and image: what the layers above rest on.
 use Rattle.std.specs.Prelude.{◌≡◌, ◌≢◌, ◌↔◌, ◌<◌, ℕ, List, replicate, Some, None}
-use Rattle.df_base.specs.declared.TheConstants.{VERSION}
-use Rattle.df_base.specs.Fields.{check_of}
-use Rattle.df_base.specs.Image.{Image, IsSector, IsPiece, blank, written}
+use Rattle.df_base.specs.{declared.TheConstants.{VERSION}, Fields.{check_of}, Image.{Image, IsSector, IsPiece, blank, written}}
 use Rattle.df_layout.specs.declared.damage.Class.TheVariants.{Stale}
-use Rattle.df_format.specs.Super.{FitsSuper, NamesNone, covered_bytes, copy_bytes, named_bytes}
-use Rattle.df_format.specs.SuperRules.{IsUsable}
-use Rattle.df_format.specs.Copies.{copy_in, copy_at, content_at, content_with, class_of_copy}
-use Rattle.df_format.specs.declared.superblock.SuperFields.{SuperFields}
-use Rattle.df_format.specs.declared.superblock.SuperCopy.{SuperCopy}
+use Rattle.df_format.specs.{Super.{FitsSuper, NamesNone, covered_bytes, copy_bytes, named_bytes}, SuperRules.{IsUsable}, Copies.{copy_in, copy_at, content_at, content_with, class_of_copy}}
+use Rattle.df_format.specs.{declared.superblock.SuperFields.{SuperFields}, declared.superblock.SuperCopy.{SuperCopy}}
 
 -- a copy as it is written: one of the four, with the checksum that its fields give, and zeros where its version has no fields
 pub record IsWrittenCopy (copy : SuperCopy) : Type 0 where

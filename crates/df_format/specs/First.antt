@@ -2,10 +2,7 @@
 use Rattle.std.specs.Prelude.{ℕ, None}
 use Rattle.df_base.specs.declared.TheConstants.{VERSION}
 use Rattle.df_layout.specs.declared.layout.Layout.{Layout}
-use Rattle.df_format.specs.Spelling.{no_checksum}
-use Rattle.df_format.specs.Super.{no_checksums}
-use Rattle.df_format.specs.Copies.{Content, content_with}
-use Rattle.df_format.specs.declared.superblock.SuperFields.{SuperFields}
+use Rattle.df_format.specs.{Spelling.{no_checksum}, Super.{no_checksums}, Copies.{Content, content_with}, declared.superblock.SuperFields.{SuperFields}}
 
 -- the fields of a file of this layout and cluster, of version 2 and with nothing else
 abbrev pub blank_super : Layout → ℕ → SuperFields

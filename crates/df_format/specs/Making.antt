@@ -1,11 +1,7 @@
 -- What the maker of a unit says of it: what its kind names, and nothing else; and what follows from the body.
 use Rattle.std.specs.Prelude.{◌+◌, ℕ, List, length}
-use Rattle.df_base.specs.declared.TheConstants.{FIRST_VERSION, HEADER}
-use Rattle.df_base.specs.Fields.{check_of}
-use Rattle.df_format.specs.declared.header.Header.{Header}
-use Rattle.df_format.specs.declared.kind.Kind.{Kind}
-use Rattle.df_format.specs.declared.kind.Kind.TheVariants.{Reserved, Prepare, Reply, Block, Trailer}
-use Rattle.df_format.specs.Spelling.{no_checksum}
+use Rattle.df_base.specs.{declared.TheConstants.{FIRST_VERSION, HEADER}, Fields.{check_of}}
+use Rattle.df_format.specs.{declared.header.Header.{Header}, declared.kind.Kind.{Kind}, declared.kind.Kind.TheVariants.{Reserved, Prepare, Reply, Block, Trailer}, Spelling.{no_checksum}}
 
 -- a header of version 1, this kind and this cluster that says nothing else: all other fields are zero
 abbrev pub blank_header : Kind → ℕ → Header

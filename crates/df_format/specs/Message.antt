@@ -1,8 +1,7 @@
 -- A unit of the file, and the bytes that it is written as.
 use Rattle.std.specs.Prelude.{◌+◌, ◌-◌, ◌*◌, ◌/◌, ℕ, List, ◌++◌, length, replicate}
 use Rattle.df_base.specs.declared.TheConstants.{HEADER, SECTOR}
-use Rattle.df_format.specs.declared.header.Header.{Header}
-use Rattle.df_format.specs.Spelling.{spelling}
+use Rattle.df_format.specs.{declared.header.Header.{Header}, Spelling.{spelling}}
 
 -- a unit of any kind: a header, and the body that follows it
 pub record Message : Type 0 where

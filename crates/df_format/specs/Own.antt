@@ -1,12 +1,8 @@
 -- The place that a unit belongs at: what its header names, by where it is read, if the layout has that place.
 use Rattle.std.specs.Prelude.{◌%◌, ◌==◌, ℕ, Bool, true, ◌&&◌, nat_lt, nat_le, if◌then◌else◌, Option, Some, None}
-use Rattle.df_layout.specs.declared.layout.Layout.{Layout}
-use Rattle.df_layout.specs.declared.places.Place.{Place}
-use Rattle.df_layout.specs.declared.places.Zone.{Zone}
+use Rattle.df_layout.specs.{declared.layout.Layout.{Layout}, declared.places.Place.{Place}, declared.places.Zone.{Zone}}
 use Rattle.df_layout.specs.declared.places.Zone.TheVariants.{Superblock, WalHeaders, WalPrepares, ClientReplies, Grid}
-use Rattle.df_format.specs.declared.header.Header.{Header}
-use Rattle.df_format.specs.declared.kind.Kind.{Kind}
-use Rattle.df_format.specs.declared.kind.Kind.TheVariants.{Reserved, Prepare, Reply, Block, Trailer}
+use Rattle.df_format.specs.{declared.header.Header.{Header}, declared.kind.Kind.{Kind}, declared.kind.Kind.TheVariants.{Reserved, Prepare, Reply, Block, Trailer}}
 
 -- the place of a zone with this number
 abbrev pub place_in : Zone → ℕ → Place

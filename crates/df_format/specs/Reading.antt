@@ -1,12 +1,7 @@
 -- The fields of a header at their offsets, and the tests that its bytes have to pass.
-use Rattle.std.specs.Prelude.{◌+◌, ◌==◌, ℕ, List, [], Bool, ◌&&◌, ◌||◌, not, nat_lt, nat_le, if◌then◌else◌, take, drop, replicate, slice_index, Option, Some, None}
-use Rattle.std.specs.Str.{bytes_eq}
-use Rattle.df_base.specs.declared.TheConstants.{FIRST_VERSION, GREATEST, HEADER, VERSION}
-use Rattle.df_base.specs.Fields.{field_at, check_of}
-use Rattle.df_format.specs.declared.header.Header.{Header}
-use Rattle.df_format.specs.declared.kind.Kind.{Kind}
-use Rattle.df_format.specs.declared.kind.Kind.TheVariants.{Reserved, Prepare, Reply, Block, Trailer}
-use Rattle.df_format.specs.Spelling.{no_checksum}
+use Rattle.std.specs.{Prelude.{◌+◌, ◌==◌, ℕ, List, [], Bool, ◌&&◌, ◌||◌, not, nat_lt, nat_le, if◌then◌else◌, take, drop, replicate, slice_index, Option, Some, None}, Str.{bytes_eq}}
+use Rattle.df_base.specs.{declared.TheConstants.{FIRST_VERSION, GREATEST, HEADER, VERSION}, Fields.{field_at, check_of}}
+use Rattle.df_format.specs.{declared.header.Header.{Header}, declared.kind.Kind.{Kind}, declared.kind.Kind.TheVariants.{Reserved, Prepare, Reply, Block, Trailer}, Spelling.{no_checksum}}
 
 -- the kind of a code
 unfoldable pub kind_of : ℕ → Option Kind

@@ -1,10 +1,7 @@
 -- The rules of each kind's header that need no layout, and those of its version. A field that kind and version don't name is zero.
 use Rattle.std.specs.Prelude.{◌≡◌, ◌↔◌, ◌⊎◌, ◌<◌, ◌≤◌, ◌+◌, ◌^◌, ℕ, []}
-use Rattle.df_base.specs.declared.TheConstants.{FIRST_VERSION, GREATEST, HEADER, VERSION}
-use Rattle.df_base.specs.Fields.{check_of}
-use Rattle.df_format.specs.declared.header.Header.{Header}
-use Rattle.df_format.specs.declared.kind.Kind.{Kind}
-use Rattle.df_format.specs.declared.kind.Kind.TheVariants.{Reserved, Prepare, Reply, Block, Trailer}
+use Rattle.df_base.specs.{declared.TheConstants.{FIRST_VERSION, GREATEST, HEADER, VERSION}, Fields.{check_of}}
+use Rattle.df_format.specs.{declared.header.Header.{Header}, declared.kind.Kind.{Kind}, declared.kind.Kind.TheVariants.{Reserved, Prepare, Reply, Block, Trailer}}
 use Rattle.df_format.specs.Spelling.{IsCheck, no_checksum, spelling_rest}
 
 -- ops, requests and sequences count from 1

@@ -1,19 +1,10 @@
 -- The unit that a place shows, and the class of what it shows in place of the unit wanted. The copies of the superblock
 -- are no messages: a place of that zone shows no unit here, and its class isn't said here.
-use Rattle.std.specs.Prelude.{◌%◌, ◌*◌, ◌==◌, ℕ, List, Bool, true, false, ◌&&◌, if◌then◌else◌, take, drop, replicate, Option, Some, None, Result, Ok, Err}
-use Rattle.std.specs.Str.{bytes_eq}
-use Rattle.df_base.specs.declared.TheConstants.{HEADER}
-use Rattle.df_base.specs.Image.{Image, bytes_at}
-use Rattle.df_layout.specs.declared.layout.Layout.{Layout}
-use Rattle.df_layout.specs.declared.damage.Class.{Class}
-use Rattle.df_layout.specs.declared.damage.Class.TheVariants.{Blank, Garbled, Elsewhere, Stale}
-use Rattle.df_layout.specs.declared.places.Place.{Place}
-use Rattle.df_layout.specs.declared.places.Zone.{Zone}
-use Rattle.df_layout.specs.declared.places.Zone.TheVariants.{Superblock, WalHeaders, WalPrepares, ClientReplies, Grid}
-use Rattle.df_layout.specs.Spans.{span_of}
-use Rattle.df_format.specs.declared.header.Header.{Header}
-use Rattle.df_format.specs.Message.{Message}
-use Rattle.df_format.specs.Whole.{Whole, whole_in}
+use Rattle.std.specs.{Prelude.{◌%◌, ◌*◌, ◌==◌, ℕ, List, Bool, true, false, ◌&&◌, if◌then◌else◌, take, drop, replicate, Option, Some, None, Result, Ok, Err}, Str.{bytes_eq}}
+use Rattle.df_base.specs.{declared.TheConstants.{HEADER}, Image.{Image, bytes_at}}
+use Rattle.df_layout.specs.{declared.layout.Layout.{Layout}, declared.damage.Class.{Class}, declared.damage.Class.TheVariants.{Blank, Garbled, Elsewhere, Stale}, declared.places.Place.{Place}}
+use Rattle.df_layout.specs.{declared.places.Zone.{Zone}, declared.places.Zone.TheVariants.{Superblock, WalHeaders, WalPrepares, ClientReplies, Grid}, Spans.{span_of}}
+use Rattle.df_format.specs.{declared.header.Header.{Header}, Message.{Message}, Whole.{Whole, whole_in}}
 
 -- one zone
 abbrev pub same_zone : Zone → Zone → Bool

@@ -1,11 +1,7 @@
 -- The one spelling of a header, field by field.
 use Rattle.std.specs.Prelude.{ℕ, List, [], ◌∷◌, ◌++◌, replicate}
-use Rattle.df_base.specs.Fields.{check_of}
-use Rattle.df_base.specs.Text.{Piece, AreSo, zeros, text}
-use Rattle.df_base.specs.Text.Piece.{Byte, Number, Bytes}
-use Rattle.df_format.specs.declared.header.Header.{Header}
-use Rattle.df_format.specs.declared.kind.Kind.{Kind}
-use Rattle.df_format.specs.declared.kind.Kind.TheVariants.{Reserved, Prepare, Reply, Block, Trailer}
+use Rattle.df_base.specs.{Fields.{check_of}, Text.{Piece, AreSo, zeros, text}, Text.Piece.{Byte, Number, Bytes}}
+use Rattle.df_format.specs.{declared.header.Header.{Header}, declared.kind.Kind.{Kind}, declared.kind.Kind.TheVariants.{Reserved, Prepare, Reply, Block, Trailer}}
 
 -- sixteen zeros, where a checksum would stand
 unfoldable pub no_checksum : List ℕ

@@ -1,11 +1,7 @@
 -- The one spelling of a copy of the superblock, field by field.
 use Rattle.std.specs.Prelude.{◌≡◌, ◌<◌, ◌^◌, ℕ, List, [], ◌∷◌, ◌++◌, All, length, replicate}
-use Rattle.df_base.specs.Fields.{check_of}
-use Rattle.df_base.specs.Text.{Piece, zeros, text}
-use Rattle.df_base.specs.Text.Piece.{Number, Bytes}
-use Rattle.df_format.specs.Spelling.{IsCheck, no_checksum}
-use Rattle.df_format.specs.declared.superblock.SuperFields.{SuperFields}
-use Rattle.df_format.specs.declared.superblock.SuperCopy.{SuperCopy}
+use Rattle.df_base.specs.{Fields.{check_of}, Text.{Piece, zeros, text}, Text.Piece.{Number, Bytes}}
+use Rattle.df_format.specs.{Spelling.{IsCheck, no_checksum}, declared.superblock.SuperFields.{SuperFields}, declared.superblock.SuperCopy.{SuperCopy}}
 
 -- a checksum for each of the 64 places that sessions can have
 pub record AreChecks (checks : List (List ℕ)) : Type 0 where

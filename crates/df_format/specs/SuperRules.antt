@@ -1,15 +1,10 @@
 -- The rules of a superblock's fields, and which of them is the first that is broken.
 use Rattle.std.specs.Prelude.{◌≡◌, ◌≢◌, ◌↔◌, ◌⊎◌, ◌<◌, ◌≤◌, ◌+◌, ◌*◌, ◌/◌, ◌%◌, ◌==◌, ◌&&◌, ◌||◌, ℕ, Bool, not, nat_le, nat_lt, is_none, if◌then◌else◌, List, [], ◌∷◌, ◌++◌, drop, position, option_map, Option, Some, None}
 use Rattle.std.specs.Str.{bytes_eq}
-use Rattle.df_base.specs.declared.TheConstants.{FIRST_VERSION, GREATEST, SECTOR, VERSION}
-use Rattle.df_base.specs.Fields.{field_at}
-use Rattle.df_layout.specs.Limits.{AreWithinLimits}
-use Rattle.df_layout.specs.declared.fields.Field.{Field}
+use Rattle.df_base.specs.{declared.TheConstants.{FIRST_VERSION, GREATEST, SECTOR, VERSION}, Fields.{field_at}}
+use Rattle.df_layout.specs.{Limits.{AreWithinLimits}, declared.fields.Field.{Field}}
 use Rattle.df_layout.specs.declared.fields.Field.TheVariants.{Slots, MessageSize, Clients, BlockSize, Blocks, Cluster, Sequence, Op, OpChecksum, Head, Replies, TrailerAddress, TrailerChecksum, TrailerSize, Boot, Zero}
-use Rattle.df_format.specs.Spelling.{no_checksum}
-use Rattle.df_format.specs.Super.{AreNone, FitsSuper, NamesNone}
-use Rattle.df_format.specs.declared.superblock.SuperFields.{SuperFields}
-use Rattle.df_format.specs.declared.superblock.SuperFault.{SuperFault}
+use Rattle.df_format.specs.{Spelling.{no_checksum}, Super.{AreNone, FitsSuper, NamesNone}, declared.superblock.SuperFields.{SuperFields}, declared.superblock.SuperFault.{SuperFault}}
 use Rattle.df_format.specs.declared.superblock.SuperFault.TheVariants.{Version, BadField}
 
 -- bytes of the longest text that a trailer can have: root, sessions, bits and checksums

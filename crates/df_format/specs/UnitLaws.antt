@@ -1,25 +1,10 @@
 -- What holds of every header, and of every unit, place and image of a layout: what the layers above rest on.
 use Rattle.std.specs.Prelude.{◌≡◌, ◌≢◌, ◌↔◌, ◌<◌, ◌≤◌, ◌+◌, ◌-◌, ◌*◌, ◌/◌, ◌%◌, ℕ, false, List, [], ◌∷◌, ◌++◌, length, take, drop, replicate, slice_get, Some, None}
-use Rattle.df_base.specs.declared.TheConstants.{HEADER, SECTOR}
-use Rattle.df_base.specs.Fields.{AreBytes, spelled}
-use Rattle.df_base.specs.Image.{Image, IsImage, IsPiece, blank, bytes_at, written}
-use Rattle.df_base.specs.Log.{Log, Write, IsLeft, add, loose, now}
-use Rattle.df_layout.specs.declared.damage.Class.TheVariants.{Blank, Elsewhere, Stale}
-use Rattle.df_layout.specs.declared.layout.Layout.{Layout}
-use Rattle.df_layout.specs.declared.places.Place.{Place}
-use Rattle.df_layout.specs.declared.places.Zone.{Zone}
-use Rattle.df_layout.specs.declared.places.Zone.TheVariants.{WalHeaders}
-use Rattle.df_layout.specs.Spans.{HasPlace, place_sectors, span_of}
-use Rattle.df_layout.specs.Order.{ShareHeaderSector}
-use Rattle.df_format.specs.declared.header.Header.{Header}
-use Rattle.df_format.specs.Spelling.{spelling, tail_of}
-use Rattle.df_format.specs.Rules.{IsSealed, ObeysFirst}
-use Rattle.df_format.specs.Reading.{header_in}
-use Rattle.df_format.specs.Message.{Message, sectors_of}
-use Rattle.df_format.specs.Own.{place_in, own_place}
-use Rattle.df_format.specs.Whole.{greatest_size}
-use Rattle.df_format.specs.Shown.{part_in, unit_in, class_of, unit_at, class_at}
-use Rattle.df_format.specs.Valid.{IsUnit, BeginsWithUnit, Belongs}
+use Rattle.df_base.specs.{declared.TheConstants.{HEADER, SECTOR}, Fields.{AreBytes, spelled}, Image.{Image, IsImage, IsPiece, blank, bytes_at, written}, Log.{Log, Write, IsLeft, add, loose, now}}
+use Rattle.df_layout.specs.{declared.damage.Class.TheVariants.{Blank, Elsewhere, Stale}, declared.layout.Layout.{Layout}, declared.places.Place.{Place}, declared.places.Zone.{Zone}}
+use Rattle.df_layout.specs.{declared.places.Zone.TheVariants.{WalHeaders}, Spans.{HasPlace, place_sectors, span_of}, Order.{ShareHeaderSector}}
+use Rattle.df_format.specs.{declared.header.Header.{Header}, Spelling.{spelling, tail_of}, Rules.{IsSealed, ObeysFirst}, Reading.{header_in}, Message.{Message, sectors_of}, Own.{place_in, own_place}}
+use Rattle.df_format.specs.{Whole.{greatest_size}, Shown.{part_in, unit_in, class_of, unit_at, class_at}, Valid.{IsUnit, BeginsWithUnit, Belongs}}
 
 -- 256 bytes are read as a header exactly where it is sealed and they are its spelling
 abbrev pub HeadersHaveOneSpelling : Type 0

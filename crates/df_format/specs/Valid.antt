@@ -1,17 +1,10 @@
 -- What a unit valid at a place is, said of the unit and not of bytes; and which bytes show it.
 use Rattle.std.specs.Prelude.{◌≡◌, ◌⊎◌, ◌≤◌, ◌+◌, ◌%◌, ℕ, List, [], ◌++◌, length, Some}
-use Rattle.df_base.specs.declared.TheConstants.{HEADER}
-use Rattle.df_base.specs.Fields.{AreBytes, check_of}
-use Rattle.df_layout.specs.declared.layout.Layout.{Layout}
-use Rattle.df_layout.specs.declared.places.Place.{Place}
-use Rattle.df_layout.specs.declared.places.Zone.{Zone}
+use Rattle.df_base.specs.{declared.TheConstants.{HEADER}, Fields.{AreBytes, check_of}}
+use Rattle.df_layout.specs.{declared.layout.Layout.{Layout}, declared.places.Place.{Place}, declared.places.Zone.{Zone}}
 use Rattle.df_layout.specs.declared.places.Zone.TheVariants.{Superblock, WalHeaders, WalPrepares, ClientReplies, Grid}
-use Rattle.df_format.specs.declared.header.Header.{Header}
-use Rattle.df_format.specs.declared.kind.Kind.TheVariants.{Reserved, Prepare, Reply, Block, Trailer}
-use Rattle.df_format.specs.Rules.{IsSealed}
-use Rattle.df_format.specs.Message.{Message, unit_bytes}
-use Rattle.df_format.specs.Own.{own_place}
-use Rattle.df_format.specs.Whole.{greatest_size}
+use Rattle.df_format.specs.{declared.header.Header.{Header}, declared.kind.Kind.TheVariants.{Reserved, Prepare, Reply, Block, Trailer}, Rules.{IsSealed}, Message.{Message, unit_bytes}}
+use Rattle.df_format.specs.{Own.{own_place}, Whole.{greatest_size}}
 
 -- the body is bytes, of the length and with the checksum that the header says
 pub record IsBodyOf (h : Header) (body : List ℕ) : Type 0 where

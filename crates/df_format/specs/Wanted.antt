@@ -1,7 +1,6 @@
 -- Which of the units that are valid at a place is the one wanted.
 use Rattle.std.specs.Prelude.{◌≡◌, ℕ, List, ⊤}
-use Rattle.df_format.specs.declared.kind.Kind.TheVariants.{Prepare, Reply}
-use Rattle.df_format.specs.Message.{Message}
+use Rattle.df_format.specs.{declared.kind.Kind.TheVariants.{Prepare, Reply}, Message.{Message}}
 
 -- any unit, a prepare with an op, the unit with a checksum, or the reply to a request of a client
 pub data Wanted : Type 0 where

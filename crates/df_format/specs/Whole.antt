@@ -1,16 +1,9 @@
 -- The whole unit that the bytes of a place are, wherever it belongs.
-use Rattle.std.specs.Prelude.{◌-◌, ◌==◌, ℕ, List, [], Bool, true, ◌&&◌, nat_le, if◌then◌else◌, take, drop, Option, Some, None}
-use Rattle.std.specs.Str.{bytes_eq}
-use Rattle.df_base.specs.declared.TheConstants.{HEADER}
-use Rattle.df_base.specs.Fields.{check_of}
-use Rattle.df_layout.specs.declared.layout.Layout.{Layout}
-use Rattle.df_layout.specs.declared.places.Place.{Place}
-use Rattle.df_layout.specs.declared.places.Zone.{Zone}
+use Rattle.std.specs.{Prelude.{◌-◌, ◌==◌, ℕ, List, [], Bool, true, ◌&&◌, nat_le, if◌then◌else◌, take, drop, Option, Some, None}, Str.{bytes_eq}}
+use Rattle.df_base.specs.{declared.TheConstants.{HEADER}, Fields.{check_of}}
+use Rattle.df_layout.specs.{declared.layout.Layout.{Layout}, declared.places.Place.{Place}, declared.places.Zone.{Zone}}
 use Rattle.df_layout.specs.declared.places.Zone.TheVariants.{Superblock, WalHeaders, WalPrepares, ClientReplies, Grid}
-use Rattle.df_format.specs.declared.header.Header.{Header}
-use Rattle.df_format.specs.Reading.{header_in}
-use Rattle.df_format.specs.Message.{Message}
-use Rattle.df_format.specs.Own.{own_place}
+use Rattle.df_format.specs.{declared.header.Header.{Header}, Reading.{header_in}, Message.{Message}, Own.{own_place}}
 
 -- a unit, and the place that it belongs at
 pub record Whole : Type 0 where

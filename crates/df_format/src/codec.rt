@@ -1,9 +1,7 @@
 // The 256 bytes of a header: how they are written, and how they are tested and read. A header has one spelling.
 ghost use Rattle.std.specs.Prelude.{◌≡◌, ◌+◌, ◌-◌, ◌≤◌, ◌++◌, length, take, drop, replicate};
 ghost use Rattle.df_base.specs.declared.TheConstants.{HEADER};
-ghost use Rattle.df_format.specs.Spelling.{sealed, spelling, spelling_rest, code_of, tail_of};
-ghost use Rattle.df_format.specs.Rules.{ObeysRules, IsSealed};
-ghost use Rattle.df_format.specs.Reading.{kind_of, fields_of, is_spelled, header_in};
+ghost use Rattle.df_format.specs.{Spelling.{sealed, spelling, spelling_rest, code_of, tail_of}, Rules.{ObeysRules, IsSealed}, Reading.{kind_of, fields_of, is_spelled, header_in}};
 
 use crate::rules::has_numbers;
 use crate::{Header, Kind};

@@ -1,10 +1,7 @@
 // The unit that the bytes of a place show, or the class of what stands there; and the place that a unit belongs at.
 ghost use Rattle.std.specs.Prelude.{◌≡◌, ◌≢◌, ◌≤◌, length};
 ghost use Rattle.df_base.specs.declared.TheConstants.{HEADER};
-ghost use Rattle.df_format.specs.Own.{has_op_of_slot, own_place};
-ghost use Rattle.df_format.specs.Whole.{greatest_size, has_body, whole_in, owner_of};
-ghost use Rattle.df_format.specs.Shown.{unit_in, class_of, header_or_class};
-ghost use Rattle.df_format.specs.UnitLaws.{place_size};
+ghost use Rattle.df_format.specs.{Own.{has_op_of_slot, own_place}, Whole.{greatest_size, has_body, whole_in, owner_of}, Shown.{unit_in, class_of, header_or_class}, UnitLaws.{place_size}};
 
 use crate::{Header, Kind, decode_header};
 use df_base::{HEADER, check};

@@ -1,12 +1,7 @@
 // Units as they are made at the front of a buffer: header, body, and zeros up to the last whole sector.
 ghost use Rattle.std.specs.Prelude.{◌≡◌, ◌+◌, ◌-◌, ◌*◌, ◌/◌, ◌≤◌, length, take, drop};
-ghost use Rattle.df_base.specs.declared.TheConstants.{HEADER};
-ghost use Rattle.df_base.specs.Fields.{AreBytes};
-ghost use Rattle.df_format.specs.Spelling.{spelling, sealed};
-ghost use Rattle.df_format.specs.Rules.{IsSealed, ObeysRules};
-ghost use Rattle.df_format.specs.Message.{sectors_end, sectors_of};
-ghost use Rattle.df_format.specs.Making.{for_body};
-ghost use Rattle.df_format.specs.UnitLaws.{MadeIsUnit};
+ghost use Rattle.df_base.specs.{declared.TheConstants.{HEADER}, Fields.{AreBytes}};
+ghost use Rattle.df_format.specs.{Spelling.{spelling, sealed}, Rules.{IsSealed, ObeysRules}, Message.{sectors_end, sectors_of}, Making.{for_body}, UnitLaws.{MadeIsUnit}};
 
 use crate::codec::{put_bytes, put_zeros};
 use crate::{Header, encode_header, seal_header};

@@ -1,10 +1,7 @@
 // The sector of a copy of the superblock: how it is written, and how it is tested and read.
 ghost use Rattle.std.specs.Prelude.{◌≡◌, ◌<◌, ◌≤◌, ◌+◌, ◌++◌, ◌==◌, not, length, take, drop, replicate, position, IfSome, IsTrue};
-ghost use Rattle.df_base.specs.declared.TheConstants.{SECTOR};
-ghost use Rattle.df_base.specs.Fields.{field_at, spelled};
-ghost use Rattle.df_format.specs.Super.{checks_bytes, fields_bytes, named_bytes, copy_bytes};
-ghost use Rattle.df_format.specs.SuperRules.{IsUsable};
-ghost use Rattle.df_format.specs.Own.{place_in};
+ghost use Rattle.df_base.specs.{declared.TheConstants.{SECTOR}, Fields.{field_at, spelled}};
+ghost use Rattle.df_format.specs.{Super.{checks_bytes, fields_bytes, named_bytes, copy_bytes}, SuperRules.{IsUsable}, Own.{place_in}};
 ghost use Rattle.df_format.specs.Copies.{nonzero_between, first_nonzero_of, checks_at, super_fields_of, has_checksum, has_zeros, is_copy, copy_in, is_blank_copy, class_of_no_copy, own_copy};
 
 use crate::codec::{check_at, put_check, put_zeros};

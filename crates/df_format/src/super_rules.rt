@@ -1,8 +1,6 @@
 // The rules of a superblock's fields: whether it can be used, or which field is the first that breaks its rule.
-ghost use Rattle.std.specs.Prelude.{◌≡◌, ◌==◌, ◌<◌, [], ◌∷◌, length, if◌then◌else◌, IfOk, IfErr, IfSome, None, Some};
-ghost use Rattle.std.specs.Result.{result_err};
-ghost use Rattle.df_format.specs.Spelling.{IsCheck};
-ghost use Rattle.df_format.specs.Super.{AreChecks};
+ghost use Rattle.std.specs.{Prelude.{◌≡◌, ◌==◌, ◌<◌, [], ◌∷◌, length, if◌then◌else◌, IfOk, IfErr, IfSome, None, Some}, Result.{result_err}};
+ghost use Rattle.df_format.specs.{Spelling.{IsCheck}, Super.{AreChecks}};
 ghost use Rattle.df_format.specs.SuperRules.{IsSuper, IsUsable, FaultsAreBrokenRules, is_whole_between, is_zero_check, greatest_trailer, has_trailer_size, test, size_tests, checkpoint_tests, progress_tests, trailer_tests, first_named, first_spare, first_tests, second_tests, field_tests, first_failing, is_known_version, fault_of};
 
 use crate::{NO_CHECKSUM, SuperFault, SuperFields};
@@ -24,8 +22,7 @@ pub struct Super {
 }
 
 impl Model for Super {
-    ghost use Rattle.df_format.specs.declared.superblock.SuperFields.{SuperFields};
-    ghost use Rattle.df_format.specs.SuperRules.{IsUsable};
+    ghost use Rattle.df_format.specs.{declared.superblock.SuperFields.{SuperFields}, SuperRules.{IsUsable}};
 
     ghost Value = { SuperFields };
 

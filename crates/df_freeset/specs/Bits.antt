@@ -1,6 +1,5 @@
 -- Bits in words of 64, from the lowest bit of the first word on.
-use Rattle.std.specs.Prelude.{◌≡◌, ℕ, ◌+◌, ◌/◌, ◌%◌, ◌^◌, ◌*◌, ◌<◌, ◌≤◌, Bool, true, false, ◌==◌, List, length, map, slice_index, slice_set, not, bit_and, bit_or}
-use Rattle.std.specs.Int.{bit_at, bit_not, w64}
+use Rattle.std.specs.{Prelude.{◌≡◌, ℕ, ◌+◌, ◌/◌, ◌%◌, ◌^◌, ◌*◌, ◌<◌, ◌≤◌, Bool, true, false, ◌==◌, List, length, map, slice_index, slice_set, not, bit_and, bit_or}, Int.{bit_at, bit_not, w64}}
 use Rattle.std.specs.List.{range_with_len}
 
 -- the word has a zero

@@ -1,6 +1,5 @@
 // Bits in words of 64, from the lowest bit of the first word on.
-ghost use Rattle.std.specs.Prelude.{◌≡◌, ◌/◌, ◌^◌, ◌<◌, ◌↔◌, length, sum_by, count_ones, IsNone, IfSome};
-ghost use Rattle.std.specs.List.{position};
+ghost use Rattle.std.specs.{Prelude.{◌≡◌, ◌/◌, ◌^◌, ◌<◌, ◌↔◌, length, sum_by, count_ones, IsNone, IfSome}, List.{position}};
 ghost use Rattle.df_freeset.specs.Bits.{is_open, setting, clearing, AreWords, AreFull, IsLowestZero};
 
 /// Bits of a word.

@@ -1,12 +1,8 @@
 -- The grid as its callers see it: the file's layout and cluster, the boot, and what the machine knows of the blocks.
 use Rattle.std.specs.Prelude.{◌≡◌, ◌<◌, ◌≤◌, ◌^◌, ℕ, false, Option, Some, List}
 use Rattle.df_base.specs.declared.TheConstants.{GREATEST}
-use Rattle.df_layout.specs.declared.layout.Layout.{Layout}
-use Rattle.df_layout.specs.declared.places.Zone.TheVariants.{Grid}
-use Rattle.df_format.specs.declared.kind.Kind.{Kind}
-use Rattle.df_format.specs.Message.{Message}
-use Rattle.df_format.specs.Own.{place_in}
-use Rattle.df_format.specs.Valid.{IsUnit}
+use Rattle.df_layout.specs.{declared.layout.Layout.{Layout}, declared.places.Zone.TheVariants.{Grid}}
+use Rattle.df_format.specs.{declared.kind.Kind.{Kind}, Message.{Message}, Own.{place_in}, Valid.{IsUnit}}
 use Rattle.df_model.specs.Blocks.{Blocks, free_in, is_held_in, referenced_in}
 use Rattle.df_units.specs.Meaning.{layout_of, number_of}
 

@@ -2,15 +2,10 @@
 -- addresses are free.
 use Rattle.std.specs.Prelude.{◌≡◌, ℕ, zero, suc, ◌+◌, ◌*◌, ◌/◌, ◌<◌, ◌≤◌, Bool, true, false, ◌||◌, not, if◌then◌else◌, List, [], ◌∷◌, ◌++◌, length, map, take, drop, slice_get, Option, Some, None}
 use Rattle.std.specs.List.{count_by, filter, range_with_len}
-use Rattle.df_model.specs.Work.{is_in}
-use Rattle.df_model.specs.Blocks.{Blocks, is_held_in, trailer_written, with_entry}
-use Rattle.df_model.specs.Sense.{RiseFrom}
+use Rattle.df_model.specs.{Work.{is_in}, Blocks.{Blocks, is_held_in, trailer_written, with_entry}, Sense.{RiseFrom}}
 use Rattle.df_format.specs.declared.reference.Reference.{Reference}
 use Rattle.df_units.specs.Meaning.{number_of}
-use Rattle.df_grid.specs.declared.entry.Entry.{Entry}
-use Rattle.df_grid.specs.declared.entry.Reason.{Reason}
-use Rattle.df_grid.specs.declared.entry.Reason.TheVariants.{Live, Durable, Any}
-use Rattle.df_grid.specs.Entries.{HasEntry, is_marked}
+use Rattle.df_grid.specs.{declared.entry.Entry.{Entry}, declared.entry.Reason.{Reason}, declared.entry.Reason.TheVariants.{Live, Durable, Any}, Entries.{HasEntry, is_marked}}
 
 -- how many addresses the table has, and what it says of their blocks
 pub record TableState : Type 0 where

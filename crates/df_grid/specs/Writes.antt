@@ -1,23 +1,13 @@
 -- What is written of a block: one write into its place, which is the machine's put of one unit.
 use Rattle.std.specs.Prelude.{◌≡◌, ◌==◌, ◌<◌, ℕ, if◌then◌else◌, List, [], ◌∷◌, length, Option, Some, None}
-use Rattle.df_base.specs.Fields.{spelled}
-use Rattle.df_base.specs.Log.{Event, Write}
-use Rattle.df_layout.specs.declared.layout.Layout.{Layout}
-use Rattle.df_layout.specs.declared.places.Zone.TheVariants.{Grid}
-use Rattle.df_layout.specs.Spans.{span_of}
-use Rattle.df_format.specs.declared.header.Header.{Header}
-use Rattle.df_format.specs.declared.kind.Kind.TheVariants.{Trailer}
-use Rattle.df_format.specs.declared.reference.Reference.{Reference}
-use Rattle.df_format.specs.Making.{blank_header, for_body}
-use Rattle.df_format.specs.Message.{Message, sectors_of}
-use Rattle.df_format.specs.Own.{place_in}
-use Rattle.df_format.specs.Spelling.{no_checksum, sealed}
+use Rattle.df_base.specs.{Fields.{spelled}, Log.{Event, Write}}
+use Rattle.df_layout.specs.{declared.layout.Layout.{Layout}, declared.places.Zone.TheVariants.{Grid}, Spans.{span_of}}
+use Rattle.df_format.specs.{declared.header.Header.{Header}, declared.kind.Kind.TheVariants.{Trailer}, declared.reference.Reference.{Reference}, Making.{blank_header, for_body}}
+use Rattle.df_format.specs.{Message.{Message, sectors_of}, Own.{place_in}, Spelling.{no_checksum, sealed}}
 use Rattle.df_buffers.specs.Sounds.{Holding}
-use Rattle.df_theory.specs.Runs.{Step}
+use Rattle.df_theory.specs.{Runs.{Step}, Units.{BlockPlace, BlockUnit}}
 use Rattle.df_theory.specs.Units
-use Rattle.df_theory.specs.Units.{BlockPlace, BlockUnit}
-use Rattle.df_model.specs.Blocks.{Blocks}
-use Rattle.df_model.specs.Making.{first_of}
+use Rattle.df_model.specs.{Blocks.{Blocks}, Making.{first_of}}
 use Rattle.df_units.specs.Meaning.{block_of}
 use Rattle.df_places.specs.Units.{put_events, put_steps}
 use Rattle.df_grid.specs.Grid.{GridState}

@@ -1,9 +1,6 @@
 // How entries and the free set change together: one address, all of them for a capture or its end, and the least free ones.
 ghost use Rattle.std.specs.Prelude.{◌≡◌, ◌-◌, ◌≤◌, length, map, slice_get, slice_set, Some};
-ghost use Rattle.df_grid.specs.Below.{count_free};
-ghost use Rattle.df_grid.specs.declared.entry.Entry.{Entry as AnyEntry};
-ghost use Rattle.df_grid.specs.Entries.{HasEntry, is_marked};
-ghost use Rattle.df_grid.specs.Table.{AreFinished, AreTaken, capturing, finishing};
+ghost use Rattle.df_grid.specs.{Below.{count_free}, declared.entry.Entry.{Entry as AnyEntry}, Entries.{HasEntry, is_marked}, Table.{AreFinished, AreTaken, capturing, finishing}};
 
 use crate::entry::{Entries, Entry, is_marked};
 use arrayvec::ArrayVec;

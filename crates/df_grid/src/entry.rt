@@ -1,8 +1,6 @@
 // What is known of the block at each address: kept as a checksum and a byte of marks, looked up, and counted.
-ghost use Rattle.std.specs.Prelude.{◌≡◌, ◌-◌, ◌≤◌, List, Some, length, nat_lt, slice_get, slice_set};
-ghost use Rattle.std.specs.List.{filter};
-ghost use Rattle.df_grid.specs.Entries.{HasEntry, entries_of, is_marked};
-ghost use Rattle.df_grid.specs.Table.{AreCounts, entry_at, is_held_for, pair_in, picked};
+ghost use Rattle.std.specs.{Prelude.{◌≡◌, ◌-◌, ◌≤◌, List, Some, length, nat_lt, slice_get, slice_set}, List.{filter}};
+ghost use Rattle.df_grid.specs.{Entries.{HasEntry, entries_of, is_marked}, Table.{AreCounts, entry_at, is_held_for, pair_in, picked}};
 
 use arrayvec::ArrayVec;
 use df_base::Check;
@@ -61,8 +59,7 @@ pub struct Entries {
 
 impl Model for Entries {
     ghost use Rattle.std.specs.Prelude.{◌≡◌, List, length};
-    ghost use Rattle.df_grid.specs.declared.entry.Entry.{Entry};
-    ghost use Rattle.df_grid.specs.Entries.{entries_of};
+    ghost use Rattle.df_grid.specs.{declared.entry.Entry.{Entry}, Entries.{entries_of}};
 
     ghost Value = { List Entry };
 

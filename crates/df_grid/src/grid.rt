@@ -1,10 +1,8 @@
 // The grid: which addresses are held and why, and what a new block, a release and a checkpoint make of that.
-ghost use Rattle.std.specs.Prelude.{◌≡◌, ◌≢◌, ◌*◌, ◌<◌, ◌≤◌, false, [], length, map, take, replicate, slice_get, All, IfSome, IsSome, nat_lt};
-ghost use Rattle.std.specs.List.{filter};
+ghost use Rattle.std.specs.{Prelude.{◌≡◌, ◌≢◌, ◌*◌, ◌<◌, ◌≤◌, false, [], length, map, take, replicate, slice_get, All, IfSome, IsSome, nat_lt}, List.{filter}};
 ghost use Rattle.df_base.specs.declared.TheConstants.{GREATEST};
 ghost use Rattle.df_grid.specs.Below.{block_released, blocks_captured, capture_finished, sum_at, is_known, number_in, is_referenced, ones, captured_blocks, referenced_among, number_of};
-ghost use Rattle.df_grid.specs.Grid.{GridState, HasAddress, IsUnheld, free_addresses, referenced_of, with_blocks, with_boot};
-ghost use Rattle.df_grid.specs.Laws.{ChainsHaveRoom};
+ghost use Rattle.df_grid.specs.{Grid.{GridState, HasAddress, IsUnheld, free_addresses, referenced_of, with_blocks, with_boot}, Laws.{ChainsHaveRoom}};
 ghost use Rattle.df_grid.specs.Table.{IsIdle, adopted, last_trailer_block, no_blocks, pair_in};
 
 use crate::table::Table;

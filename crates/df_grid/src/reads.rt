@@ -1,11 +1,7 @@
 // Reads of blocks: each is one read of its place, and is proved against the checksum that is known.
-ghost use Rattle.std.specs.Prelude.{◌≡◌, ◌==◌, true, IfErr, IfOk, Ok, Err, Some};
-ghost use Rattle.std.specs.Borrow.{sem};
-ghost use Rattle.std.specs.Io.BufRead.{Rests};
-ghost use Rattle.df_grid.specs.Below.{HasCause, place_in, IsCheck, Block as AsBlock, Trailer as AsTrailer, Grid as InGrid, sum_at, is_known, block_of, number_of};
-ghost use Rattle.df_grid.specs.Grid.{HasAddress, IsKnownBlock};
-ghost use Rattle.df_grid.specs.Reads.{HoldsKnown, Loads, ReadsBlock, ReadsTrailer, Tests, IsFaultOf, at_address, differs};
-ghost use Rattle.df_grid.specs.contracts.grid.Grid.{the_row};
+ghost use Rattle.std.specs.{Prelude.{◌≡◌, ◌==◌, true, IfErr, IfOk, Ok, Err, Some}, Borrow.{sem}, Io.BufRead.{Rests}};
+ghost use Rattle.df_grid.specs.{Below.{HasCause, place_in, IsCheck, Block as AsBlock, Trailer as AsTrailer, Grid as InGrid, sum_at, is_known, block_of, number_of}, Grid.{HasAddress, IsKnownBlock}};
+ghost use Rattle.df_grid.specs.{Reads.{HoldsKnown, Loads, ReadsBlock, ReadsTrailer, Tests, IsFaultOf, at_address, differs}, contracts.grid.Grid.{the_row}};
 
 use crate::Grid;
 use df_base::{Check, Failed};

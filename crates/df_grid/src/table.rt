@@ -1,6 +1,5 @@
 // The block table with the free set and the chains of both checkpoints: what the grid knows, and how that changes.
-ghost use Rattle.std.specs.Prelude.{◌≡◌, ◌≢◌, ◌-◌, ◌*◌, ◌<◌, ◌≤◌, true, false, [], Some, None, length, map, take, replicate, slice_get, All, IfSome, IsSome, nat_lt};
-ghost use Rattle.std.specs.List.{filter, range_with_len};
+ghost use Rattle.std.specs.{Prelude.{◌≡◌, ◌≢◌, ◌-◌, ◌*◌, ◌<◌, ◌≤◌, true, false, [], Some, None, length, map, take, replicate, slice_get, All, IfSome, IsSome, nat_lt}, List.{filter, range_with_len}};
 ghost use Rattle.df_grid.specs.Below.{block_released, block_written, blocks_captured, capture_finished, entries, is_held_in, reference_in, sum_at, is_known, number_in, is_referenced, ones, captured_blocks, referenced_among, number_of};
 ghost use Rattle.df_grid.specs.Table.{IsIdle, TableState, adopted, last_trailer_block, next_written, no_blocks, pair_in, unheld};
 

@@ -2,8 +2,7 @@
 ghost use Rattle.std.specs.Prelude.{◌≡◌, ◌≢◌, ◌+◌, ◌≤◌, ◌<◌, ◌^◌, false, [], length, IfOk, IsSome, OnErr, OnOk};
 ghost use Rattle.df_base.specs.declared.TheConstants.{GREATEST, HEADER};
 ghost use Rattle.df_grid.specs.Below.{HasCause, Adds, for_body, own_place, ObeysRules, IsCheck, greatest_size, block_written, is_held_in, AreSteps, format_of, block_of, number_of};
-ghost use Rattle.df_grid.specs.Grid.{HasAddress, with_blocks};
-ghost use Rattle.df_grid.specs.Table.{next_written};
+ghost use Rattle.df_grid.specs.{Grid.{HasAddress, with_blocks}, Table.{next_written}};
 ghost use Rattle.df_grid.specs.Writes.{IsBefore, address_in, block_events, block_steps, checksum_in, header_with, made, made_events, next_block, next_unit, version_in};
 
 use crate::Grid;

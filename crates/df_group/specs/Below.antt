@@ -1,6 +1,4 @@
 -- What the contracts here cite of the crates below this one.
 pub use Rattle.df_units.specs.Meaning.{header_of, number_of, number_or}
 pub use Rattle.df_sessions.specs.Requests.{sessions_of}
-pub use Rattle.df_theory.specs.GroupLaws.{GroupRuleLaw, LostLaw}
-pub use Rattle.df_theory.specs.Tails.{BindsHead, Fits, FitsGroup}
-pub use Rattle.df_theory.specs.Sessions.{MayAsk}
+pub use Rattle.df_theory.specs.{GroupLaws.{GroupRuleLaw, LostLaw}, Tails.{BindsHead, Fits, FitsGroup}, Sessions.{MayAsk}}

@@ -1,12 +1,10 @@
 -- Which prepare fits where a walk along prepares stands, by its header.
 use Rattle.std.specs.Prelude.{◌≡◌, ◌≤◌, ◌+◌, ℕ, List}
 use Rattle.df_format.specs.declared.header.Header.{Header}
-use Rattle.df_sessions.specs.declared.session.Session.{Session}
-use Rattle.df_sessions.specs.Requests.{sessions_of}
+use Rattle.df_sessions.specs.{declared.session.Session.{Session}, Requests.{sessions_of}}
 use Rattle.df_theory.specs.Tails.{Fits, FitsGroup}
 use Rattle.df_units.specs.Meaning.{header_of, number_of}
-use Rattle.df_group.specs.declared.groups.Tail.{Tail}
-use Rattle.df_group.specs.declared.groups.Position.{Position}
+use Rattle.df_group.specs.{declared.groups.Tail.{Tail}, declared.groups.Position.{Position}}
 
 -- the end of a tail whose last prepare has this header
 abbrev pub tail_to : Header → Tail

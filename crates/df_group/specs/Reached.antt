@@ -1,11 +1,7 @@
 -- Where a walk along prepares begins after a checkpoint, and where prepares end.
 use Rattle.std.specs.Prelude.{◌≡◌, ◌+◌, ℕ, List, length}
-use Rattle.df_sessions.specs.declared.session.Session.{Session}
-use Rattle.df_sessions.specs.Requests.{sessions_of}
-use Rattle.df_theory.specs.Sessions.{sessions_after}
-use Rattle.df_theory.specs.Tails.{last_checksum, last_mark}
-use Rattle.df_theory.specs.Units.{Message}
-use Rattle.df_theory.specs.View.{Checkpoint}
+use Rattle.df_sessions.specs.{declared.session.Session.{Session}, Requests.{sessions_of}}
+use Rattle.df_theory.specs.{Sessions.{sessions_after}, Tails.{last_checksum, last_mark}, Units.{Message}, View.{Checkpoint}}
 use Rattle.df_units.specs.Meaning.{number_of}
 use Rattle.df_group.specs.declared.groups.Tail.{Tail}
 

@@ -1,11 +1,7 @@
 -- The same rules case by case, as an open is told of: by the prepare that is reached last, and by the headers that are shown of its group.
 use Rattle.std.specs.Prelude.{◌≡◌, ◌⊎◌, ◌↔◌, ◌<◌, ◌≤◌, ◌+◌, ℕ, List, [], ◌∷◌, ◌++◌, length, Option, Some, None}
-use Rattle.df_theory.specs.Units.{Content, Header, HeaderPlace, HeaderUnit, Message, PreparePlace, PrepareUnit, ReplyPlace, ReplyUnit, Units}
-use Rattle.df_theory.specs.Shape.{Shape}
-use Rattle.df_theory.specs.Tails.{IsCutOff}
-use Rattle.df_theory.specs.View.{Checkpoint}
-use Rattle.df_theory.specs.Found.{NotLost}
-use Rattle.df_theory.specs.GroupLaws.{HaveGroups, IsSurvivorOf, ShowsGroup, Walks}
+use Rattle.df_theory.specs.{Units.{Content, Header, HeaderPlace, HeaderUnit, Message, PreparePlace, PrepareUnit, ReplyPlace, ReplyUnit, Units}, Shape.{Shape}, Tails.{IsCutOff}, View.{Checkpoint}}
+use Rattle.df_theory.specs.{Found.{NotLost}, GroupLaws.{HaveGroups, IsSurvivorOf, ShowsGroup, Walks}}
 
 -- no header of this boot has an op above the head
 abbrev pub NoHeaderAbove : Units → Content → ℕ → Type 0

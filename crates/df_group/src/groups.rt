@@ -1,9 +1,7 @@
 // Where a walk along prepares stands, which prepare fits there, and its group: one is begun where the group before it is over, and counts
 // as a whole. A prepare tells of the head by its op, but where it is of a group that was cut off there.
 ghost use Rattle.std.specs.Prelude.{◌≡◌, ◌↔◌, ◌<◌, ◌≤◌, ◌+◌, ◌^◌, IsTrue};
-ghost use Rattle.df_group.specs.Below.{BindsHead, Fits, FitsGroup, MayAsk, header_of, number_of, number_or, sessions_of};
-ghost use Rattle.df_group.specs.Cut.{binding_op, is_cut_off};
-ghost use Rattle.df_group.specs.Fitting.{FitsAt, position_of};
+ghost use Rattle.df_group.specs.{Below.{BindsHead, Fits, FitsGroup, MayAsk, header_of, number_of, number_or, sessions_of}, Cut.{binding_op, is_cut_off}, Fitting.{FitsAt, position_of}};
 
 use df_base::Check;
 use df_format::Header;

@@ -1,6 +1,5 @@
 // The same rules as they are told case by case: laws, each the clause of a function that does nothing.
-ghost use Rattle.df_group.specs.Below.{GroupRuleLaw, LostLaw};
-ghost use Rattle.df_group.specs.Words.{HeadLaw, SurvivorLaw};
+ghost use Rattle.df_group.specs.{Below.{GroupRuleLaw, LostLaw}, Words.{HeadLaw, SurvivorLaw}};
 
 /// A prepare fits its group by what is over so far, and by the prepare before: it begins a group after the checkpoint, after the head
 /// that the superblock names, or after the last one of a group; else it goes on with the group of the one before, which isn't the last.

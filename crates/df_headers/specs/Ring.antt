@@ -1,17 +1,10 @@
 -- The table of the header ring, and what writes of its sectors do.
 use Rattle.std.specs.Prelude.{◌≡◌, ◌<◌, ◌*◌, ◌/◌, ◌^◌, ℕ, List, [], ◌∷◌, ◌++◌, length, take, drop, slice_get, slice_set, Some}
 use Rattle.df_base.specs.Log.{Event, Write}
-use Rattle.df_layout.specs.declared.layout.Layout.{Layout}
-use Rattle.df_layout.specs.declared.places.Zone.TheVariants.{WalHeaders}
-use Rattle.df_format.specs.declared.header.Header.{Header}
-use Rattle.df_format.specs.Own.{place_in}
-use Rattle.df_format.specs.UnitLaws.{headers_bytes}
-use Rattle.df_format.specs.Valid.{IsUnit}
-use Rattle.df_theory.specs.Units.{HeaderPlace}
-use Rattle.df_theory.specs.Runs.{Puts, Step}
-use Rattle.df_units.specs.Bytes.{first_at}
-use Rattle.df_units.specs.Sample.{reserved_header}
-use Rattle.df_units.specs.Puts.{AreHeaders, put_headers}
+use Rattle.df_layout.specs.{declared.layout.Layout.{Layout}, declared.places.Zone.TheVariants.{WalHeaders}}
+use Rattle.df_format.specs.{declared.header.Header.{Header}, Own.{place_in}, UnitLaws.{headers_bytes}, Valid.{IsUnit}}
+use Rattle.df_theory.specs.{Units.{HeaderPlace}, Runs.{Puts, Step}}
+use Rattle.df_units.specs.{Bytes.{first_at}, Sample.{reserved_header}, Puts.{AreHeaders, put_headers}}
 
 -- the header is valid in the slot of the header ring
 abbrev pub IsHeader : Layout → ℕ → ℕ → Header → Type 0

@@ -1,16 +1,7 @@
 -- A log that was restarted, from its open on: the open raises its boot, and after that the history stays lived however the log grows.
 use Rattle.std.specs.Prelude.{◌≡◌, ◌<◌, ℕ, List, ◌∷◌, ◌++◌}
-use Rattle.df_theory.specs.CopyPuts.{PutsCopies}
-use Rattle.df_theory.specs.Units.{Content, Header, Units}
-use Rattle.df_theory.specs.Shape.{Shape}
-use Rattle.df_theory.specs.View.{View, boot_of}
-use Rattle.df_theory.specs.Next.{MayBoot}
-use Rattle.df_theory.specs.UnitLog.{UnitEvent, UnitLog}
-use Rattle.df_theory.specs.Grown.{Grown, IsSafe}
-use Rattle.df_theory.specs.Rests.{IsDry}
-use Rattle.df_theory.specs.Runs.{AtEach, after_steps}
-use Rattle.df_theory.specs.MendLaws.{MayMend}
-use Rattle.df_theory.specs.Upgrades.{raise_steps}
+use Rattle.df_theory.specs.{CopyPuts.{PutsCopies}, Units.{Content, Header, Units}, Shape.{Shape}, View.{View, boot_of}, Next.{MayBoot}, UnitLog.{UnitEvent, UnitLog}, Grown.{Grown, IsSafe}}
+use Rattle.df_theory.specs.{Rests.{IsDry}, Runs.{AtEach, after_steps}, MendLaws.{MayMend}, Upgrades.{raise_steps}}
 use Rattle.df_history.specs.Histories.{IsBegunAnew, IsLived, IsLivedMoment}
 
 -- the log was restarted after these logs, and its boot was raised since

@@ -1,13 +1,7 @@
 -- Histories: a list of logs, the newest first, each restarted at the image that an open found.
 use Rattle.std.specs.Prelude.{◌≡◌, ◌⊎◌, ◌<◌, ℕ, List, [], ◌∷◌, ◌++◌, Some, None}
-use Rattle.df_theory.specs.Units.{AnyUnit, Content, CopyPlace, CopyUnit, Place, Units}
-use Rattle.df_theory.specs.Shape.{Shape}
-use Rattle.df_theory.specs.Copies.{Agree}
-use Rattle.df_theory.specs.View.{View, boot_of}
-use Rattle.df_theory.specs.Holds.{Holds}
-use Rattle.df_theory.specs.Next.{IsSameBare}
-use Rattle.df_theory.specs.UnitLog.{IsLeftBy, Stopped, Synced, UnitLog, add, now, settled}
-use Rattle.df_theory.specs.Chance.{AreFair, Distinct, InPool, InPools, InWrites, NoChance}
+use Rattle.df_theory.specs.{Units.{AnyUnit, Content, CopyPlace, CopyUnit, Place, Units}, Shape.{Shape}, Copies.{Agree}, View.{View, boot_of}, Holds.{Holds}, Next.{IsSameBare}}
+use Rattle.df_theory.specs.{UnitLog.{IsLeftBy, Stopped, Synced, UnitLog, add, now, settled}, Chance.{AreFair, Distinct, InPool, InPools, InWrites, NoChance}}
 use Rattle.df_theory.specs.Grown.{AllInHistory, GoesOn, Grown, HasGrown}
 use Rattle.df_history.specs.Lives.{Starts}
 

@@ -1,12 +1,7 @@
 -- What holds of all that a history of several logs ever settled.
 use Rattle.std.specs.Prelude.{◌≡◌, ◌≤◌, ℕ, List}
-use Rattle.df_theory.specs.Units.{Content, CopyPlace, CopyUnit, Message, PreparePlace, PrepareUnit, ReplyPlace, ReplyUnit, Units}
-use Rattle.df_theory.specs.Shape.{Shape}
-use Rattle.df_theory.specs.Copies.{rank_of}
-use Rattle.df_theory.specs.View.{View, boot_of}
-use Rattle.df_theory.specs.Chance.{InImages}
-use Rattle.df_theory.specs.HistoryLaws.{AreDistinct, ShowsSettled}
-use Rattle.df_theory.specs.Found.{IsFound}
+use Rattle.df_theory.specs.{Units.{Content, CopyPlace, CopyUnit, Message, PreparePlace, PrepareUnit, ReplyPlace, ReplyUnit, Units}, Shape.{Shape}, Copies.{rank_of}, View.{View, boot_of}}
+use Rattle.df_theory.specs.{Chance.{InImages}, HistoryLaws.{AreDistinct, ShowsSettled}, Found.{IsFound}}
 use Rattle.df_history.specs.Lives.{Awake, Lived, Lives, Turn, first_view_of}
 
 -- the settled prepares of one op and one boot are one

@@ -1,15 +1,8 @@
 -- Settled images of several logs, one after the other. Each has a view; a log that was restarted sleeps until its boot is raised.
 use Rattle.std.specs.Prelude.{◌≡◌, ◌⊎◌, ◌<◌, ℕ, List, [], ◌∷◌}
 use Rattle.std.proofs.Common.{inl, inr}
-use Rattle.df_theory.specs.Units.{Content, CopyPlace, CopyUnit, Message, PreparePlace, PrepareUnit, ReplyPlace, ReplyUnit, Units}
-use Rattle.df_theory.specs.Shape.{Shape}
-use Rattle.df_theory.specs.Copies.{rank_of}
-use Rattle.df_theory.specs.View.{View, boot_of, head}
-use Rattle.df_theory.specs.Holds.{Holds}
-use Rattle.df_theory.specs.Next.{IsBoot, booted}
-use Rattle.df_theory.specs.Chance.{InImages}
-use Rattle.df_theory.specs.Grown.{AllInHistory, GoesOn}
-use Rattle.df_theory.specs.HistoryLaws.{ShowsSettled}
+use Rattle.df_theory.specs.{Units.{Content, CopyPlace, CopyUnit, Message, PreparePlace, PrepareUnit, ReplyPlace, ReplyUnit, Units}, Shape.{Shape}, Copies.{rank_of}, View.{View, boot_of, head}}
+use Rattle.df_theory.specs.{Holds.{Holds}, Next.{IsBoot, booted}, Chance.{InImages}, Grown.{AllInHistory, GoesOn}, HistoryLaws.{ShowsSettled}}
 
 -- a log that was restarted sleeps: its view stays until its boot is raised. From then on it is awake
 pub data Turn : Type 0 where

@@ -1,21 +1,9 @@
 -- What an open gives after damage before any number of opens, and that the history goes on.
 use Rattle.std.specs.Prelude.{◌≡◌, ◌⊎◌, ◌<◌, ℕ, List, [], ◌∷◌, ◌++◌, Some, None}
-use Rattle.df_theory.specs.CopyPuts.{PutsCopies, update_steps}
-use Rattle.df_theory.specs.Units.{AnyUnit, Content, CopyPlace, CopyUnit, Header, Place, Units}
-use Rattle.df_theory.specs.Shape.{Shape}
-use Rattle.df_theory.specs.Copies.{IsChosen}
-use Rattle.df_theory.specs.View.{View, boot_of}
-use Rattle.df_theory.specs.Holds.{Holds}
-use Rattle.df_theory.specs.Next.{IsSameBare, MayBoot, booted}
-use Rattle.df_theory.specs.UnitLog.{UnitLog, now}
-use Rattle.df_theory.specs.Chance.{Distinct}
-use Rattle.df_theory.specs.Grown.{Grown, IsSafe}
-use Rattle.df_theory.specs.Rests.{IsDry, RestsOn}
-use Rattle.df_theory.specs.Runs.{AtEach, Step, after_steps}
-use Rattle.df_theory.specs.MendLaws.{MayMend, mend_steps}
-use Rattle.df_theory.specs.Found.{AreOfPlaces, IsClean, IsFound}
-use Rattle.df_history.specs.Lives.{Starts}
-use Rattle.df_history.specs.Histories.{IsBegunAnew, IsLived, IsLivedMoment, MayStart, WasSince}
+use Rattle.df_theory.specs.{CopyPuts.{PutsCopies, update_steps}, Units.{AnyUnit, Content, CopyPlace, CopyUnit, Header, Place, Units}, Shape.{Shape}, Copies.{IsChosen}, View.{View, boot_of}}
+use Rattle.df_theory.specs.{Holds.{Holds}, Next.{IsSameBare, MayBoot, booted}, UnitLog.{UnitLog, now}, Chance.{Distinct}, Grown.{Grown, IsSafe}, Rests.{IsDry, RestsOn}}
+use Rattle.df_theory.specs.{Runs.{AtEach, Step, after_steps}, MendLaws.{MayMend, mend_steps}, Found.{AreOfPlaces, IsClean, IsFound}}
+use Rattle.df_history.specs.{Lives.{Starts}, Histories.{IsBegunAnew, IsLived, IsLivedMoment, MayStart, WasSince}}
 
 -- an open finds a view that the file had since the last open that raised its boot
 abbrev pub FoundSinceLaw : Type 0

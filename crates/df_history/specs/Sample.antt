@@ -1,18 +1,9 @@
 -- A history that meets every premise: a file is made and opened, a prepare is appended, its every trace is lost, and the file is opened again.
 use Rattle.std.specs.Prelude.{◌≡◌, ◌<◌, ◌+◌, ℕ, List, [], ◌∷◌, ◌++◌, Some, None}
-use Rattle.df_theory.specs.CopyPuts.{PutsCopies, update_steps}
-use Rattle.df_theory.specs.Units.{Content, CopyPlace, CopyUnit, Header, HeaderPlace, HeaderUnit, Message, PreparePlace, PrepareUnit, Units}
-use Rattle.df_theory.specs.Tails.{In}
-use Rattle.df_theory.specs.Shape.{Shape}
-use Rattle.df_theory.specs.View.{View, boot_of, head}
-use Rattle.df_theory.specs.UnitLog.{UnitLog, now}
-use Rattle.df_theory.specs.Grown.{IsSafe}
-use Rattle.df_theory.specs.Rests.{RestsOn}
-use Rattle.df_theory.specs.Runs.{AtEach, Step, after_steps}
-use Rattle.df_theory.specs.MendLaws.{mend_steps}
+use Rattle.df_theory.specs.{CopyPuts.{PutsCopies, update_steps}, Units.{Content, CopyPlace, CopyUnit, Header, HeaderPlace, HeaderUnit, Message, PreparePlace, PrepareUnit, Units}, Tails.{In}}
+use Rattle.df_theory.specs.{Shape.{Shape}, View.{View, boot_of, head}, UnitLog.{UnitLog, now}, Grown.{IsSafe}, Rests.{RestsOn}, Runs.{AtEach, Step, after_steps}, MendLaws.{mend_steps}}
 use Rattle.df_theory.specs.Found.{AreOfPlaces, IsFound}
-use Rattle.df_history.specs.Histories.{IsLived, MayStart, WasSince}
-use Rattle.df_history.specs.OpenLaws.{IsOpening}
+use Rattle.df_history.specs.{Histories.{IsLived, MayStart, WasSince}, OpenLaws.{IsOpening}}
 
 pub record HistorySampleLaw : Type 0 where
   pub shape : Shape

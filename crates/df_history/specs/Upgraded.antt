@@ -1,17 +1,7 @@
 -- Where a history of version 2 begins: at the image that an upgrade left.
 use Rattle.std.specs.Prelude.{◌⊎◌, ℕ, List, []}
-use Rattle.df_theory.specs.CopyPuts.{PutsCopies}
-use Rattle.df_theory.specs.Units.{Content, Header, Units}
-use Rattle.df_theory.specs.Shape.{Shape}
-use Rattle.df_theory.specs.View.{View}
-use Rattle.df_theory.specs.Holds.{Holds}
-use Rattle.df_theory.specs.Next.{booted}
-use Rattle.df_theory.specs.UnitLog.{now}
-use Rattle.df_theory.specs.Chance.{EachLeft}
-use Rattle.df_theory.specs.Rests.{RestsOn}
-use Rattle.df_theory.specs.Runs.{AtEach, after_steps}
-use Rattle.df_theory.specs.Found.{IsClean}
-use Rattle.df_theory.specs.Upgrades.{IsCleanBeyond, MayRaise, of_version, raise_steps, restarted_at}
+use Rattle.df_theory.specs.{CopyPuts.{PutsCopies}, Units.{Content, Header, Units}, Shape.{Shape}, View.{View}, Holds.{Holds}, Next.{booted}, UnitLog.{now}, Chance.{EachLeft}, Rests.{RestsOn}}
+use Rattle.df_theory.specs.{Runs.{AtEach, after_steps}, Found.{IsClean}, Upgrades.{IsCleanBeyond, MayRaise, of_version, raise_steps, restarted_at}}
 use Rattle.df_history.specs.Histories.{IsLivedMoment}
 
 -- the log that is begun at the image left at the end is the first of a history, and rests on the view with the new superblock

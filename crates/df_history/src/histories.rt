@@ -1,8 +1,7 @@
 // What holds of all that the logs of a history ever settled.
 
 ghost use Rattle.df_theory.specs.HistoryLaws.{FoundWasLaw};
-ghost use Rattle.df_history.specs.Sample.{HistorySampleLaw, PassedSampleLaw, ThriceSampleLaw};
-ghost use Rattle.df_history.specs.Laws.{FoundLivedLaw, OneContentLaw, OnePrepareLaw, OneReplyLaw};
+ghost use Rattle.df_history.specs.{Sample.{HistorySampleLaw, PassedSampleLaw, ThriceSampleLaw}, Laws.{FoundLivedLaw, OneContentLaw, OnePrepareLaw, OneReplyLaw}};
 
 /// All settled prepares of one op and one boot are equal, over all logs of a history.
 pub fn one_prepare_an_op_and_boot()

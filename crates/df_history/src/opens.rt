@@ -1,7 +1,6 @@
 // What an open gives after damage before any number of opens, and that the history goes on.
 
-ghost use Rattle.df_history.specs.Upgraded.{StoppedUpgradeLaw, UpgradedLaw};
-ghost use Rattle.df_history.specs.Awakened.{GrownLivedLaw, RaiseLivedLaw, SafeLivedLaw};
+ghost use Rattle.df_history.specs.{Upgraded.{StoppedUpgradeLaw, UpgradedLaw}, Awakened.{GrownLivedLaw, RaiseLivedLaw, SafeLivedLaw}};
 ghost use Rattle.df_history.specs.OpenLaws.{AwakeLivedLaw, BeginsLaw, BootLivedLaw, ChoiceStaysLaw, FirstGrownLaw, FirstLivedLaw, FoundSinceLaw, MendLivedLaw, OpenLivedLaw, RestLivedLaw};
 
 /// What an open finds was had since the last log that raised its boot.

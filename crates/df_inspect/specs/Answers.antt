@@ -1,8 +1,7 @@
 -- The line that the answer of a call prints, by the answer as the call gives it.
 use Rattle.std.specs.Prelude.{ℕ, List, [], codes}
-use Rattle.df_model.specs.Commands.{Command}
+use Rattle.df_model.specs.{Commands.{Command}, declared.commands.Answer.{Answer}}
 pub use Rattle.df_model.specs.Called.{command_of}
-use Rattle.df_model.specs.declared.commands.Answer.{Answer}
 use Rattle.df_model.specs.declared.commands.Answer.TheVariants as answers
 use Rattle.df_script_model.specs.Script.{address_named, op_in}
 use Rattle.df_script_model.specs.Texts.{append_refusal, begin_refusal_line, block_refusal, flush_refusal, line_of, lookup_refusal, numbered, prepare_refusal, progress_text, read_refusal, reply_refusal, scrubbed_text, step_refusal, text_or}

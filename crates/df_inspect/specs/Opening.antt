@@ -1,12 +1,10 @@
 -- The lines that say why a file can't be made or opened, that one was made or upgraded, and which line of a script is none.
 use Rattle.std.specs.Prelude.{ℕ, List, [], ◌∷◌, ◌++◌, codes, decimal}
-use Rattle.df_layout.specs.declared.damage.Class.{Class}
-use Rattle.df_layout.specs.declared.fields.Field.{Field}
+use Rattle.df_layout.specs.{declared.damage.Class.{Class}, declared.fields.Field.{Field}}
 use Rattle.df_layout.specs.declared.fields.Field.TheVariants.{Slots, MessageSize, Clients, BlockSize, Blocks, Cluster, Sequence, Op, OpChecksum, Head, Replies, TrailerAddress, TrailerChecksum, TrailerSize, Boot, Zero, TrailerChain, TrailerRoot, TrailerSessions, TrailerBits, TrailerEnd, Pending}
 use Rattle.df_layout.specs.declared.layout.Layout.{Layout}
-use Rattle.df_model.specs.declared.errors.FormatError.{FormatError}
+use Rattle.df_model.specs.{declared.errors.FormatError.{FormatError}, declared.errors.OpenError.{OpenError}}
 use Rattle.df_model.specs.declared.errors.FormatError.TheVariants as formats
-use Rattle.df_model.specs.declared.errors.OpenError.{OpenError}
 use Rattle.df_model.specs.declared.errors.OpenError.TheVariants as opens
 use Rattle.df_script_model.specs.Texts.{class_text, damaged_text, line_of, numbered, spaced}
 

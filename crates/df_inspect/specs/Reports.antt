@@ -1,12 +1,10 @@
 -- The reports: an open file in numbers, what a survey found, what a tour of the scrubber found, and what a generated run did.
 use Rattle.std.specs.Prelude.{ℕ, List, [], ◌∷◌, ◌++◌, ◌+◌, length, codes, decimal, Option, None, Some}
-use Rattle.df_layout.specs.declared.damage.Finding.{Finding}
-use Rattle.df_layout.specs.declared.damage.Mend.{Mend}
+use Rattle.df_layout.specs.{declared.damage.Finding.{Finding}, declared.damage.Mend.{Mend}}
 use Rattle.df_model.specs.declared.answers.Summary.{Summary}
 use Rattle.df_sessions.specs.declared.session.Session.{Session}
 use Rattle.df_script_model.specs.Texts.{body_text, class_text, line_of, numbered, place_text, spaced}
-use Rattle.df_inspect.specs.declared.counts.Workload.{Workload}
-use Rattle.df_inspect.specs.Opening.{layout_text}
+use Rattle.df_inspect.specs.{declared.counts.Workload.{Workload}, Opening.{layout_text}}
 
 -- a line of a word and a number
 abbrev pub row_text : List ℕ → ℕ → List ℕ

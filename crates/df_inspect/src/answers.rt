@@ -2,11 +2,9 @@
 ghost use Rattle.std.specs.Prelude.{◌≡◌};
 ghost use Rattle.df_base.specs.Causes.{HasCause};
 ghost use Rattle.df_model.specs.declared.commands.Answer.TheVariants as answers;
-ghost use Rattle.df_script_model.specs.Script.{address_named, op_in};
+ghost use Rattle.df_script_model.specs.{Script.{address_named, op_in}, Texts.{progress_text}};
 ghost use Rattle.df_model.specs.Commands.{Command as Asked};
-ghost use Rattle.df_script_model.specs.Texts.{progress_text};
-ghost use Rattle.df_inspect.specs.Answers.{command_of, line_of_answer};
-ghost use Rattle.df_inspect.specs.Prints.{Prints};
+ghost use Rattle.df_inspect.specs.{Answers.{command_of, line_of_answer}, Prints.{Prints}};
 
 use crate::blocks::scrubbed_line;
 use crate::line::{Line, number_line, text_line, write_line};

@@ -3,8 +3,7 @@ ghost use Rattle.std.specs.Prelude.{◌≡◌, ◌≤◌, ◌+◌, ◌++◌, len
 ghost use Rattle.df_base.specs.Causes.{HasCause};
 ghost use Rattle.df_model.specs.declared.answers.Scrubbed.TheVariants as scrubs;
 ghost use Rattle.df_script_model.specs.Texts.{scrubbed_text, verdict_text};
-ghost use Rattle.df_inspect.specs.Messages.{block_front, shown_block};
-ghost use Rattle.df_inspect.specs.Prints.{Prints};
+ghost use Rattle.df_inspect.specs.{Messages.{block_front, shown_block}, Prints.{Prints}};
 
 use crate::line::{Line, put, put_class, put_field, put_number, put_numbered, write_line};
 use crate::messages::print_body;

@@ -1,8 +1,7 @@
 // The reports that are numbers alone: an open file, and what a generated run did. Each is written by one call of the sink.
 ghost use Rattle.std.specs.Prelude.{◌≡◌};
 ghost use Rattle.df_base.specs.Causes.{HasCause};
-ghost use Rattle.df_inspect.specs.Prints.{Prints};
-ghost use Rattle.df_inspect.specs.Reports.{summary_text, workload_text};
+ghost use Rattle.df_inspect.specs.{Prints.{Prints}, Reports.{summary_text, workload_text}};
 
 use crate::line::{Line, put, put_row, write_line};
 use crate::opening::put_layout;

@@ -3,8 +3,7 @@ ghost use Rattle.std.specs.Prelude.{codes};
 ghost use Rattle.df_base.specs.Causes.{HasCause};
 ghost use Rattle.df_model.specs.declared.answers.Scrubbed.TheVariants as scrubs;
 ghost use Rattle.df_script_model.specs.Texts.{numbered, recent_text, scrubbed_text};
-ghost use Rattle.df_inspect.specs.Prints.{Prints};
-ghost use Rattle.df_inspect.specs.Reports.{each_text, failing_text, finding_text};
+ghost use Rattle.df_inspect.specs.{Prints.{Prints}, Reports.{each_text, failing_text, finding_text}};
 
 use crate::blocks::tour_line;
 use crate::line::{put, put_class, put_number, put_numbered, write_line};

@@ -2,8 +2,7 @@
 ghost use Rattle.std.specs.Prelude.{◌≡◌, codes};
 ghost use Rattle.df_base.specs.Causes.{HasCause};
 ghost use Rattle.df_script_model.specs.Texts.{body_text, line_of, spaced};
-ghost use Rattle.df_inspect.specs.Prints.{Prints};
-ghost use Rattle.df_inspect.specs.Reports.{each_text, inspection_text, mend_text, row_text, session_text};
+ghost use Rattle.df_inspect.specs.{Prints.{Prints}, Reports.{each_text, inspection_text, mend_text, row_text, session_text}};
 
 use crate::counts::print_summary;
 use crate::line::{

@@ -3,8 +3,7 @@ ghost use Rattle.std.specs.Prelude.{◌≡◌, ◌≤◌, length, codes};
 ghost use Rattle.hex.specs.Hex.{encode_lower};
 ghost use Rattle.df_base.specs.Causes.{HasCause};
 ghost use Rattle.df_script_model.specs.Texts.{body_text, line_of};
-ghost use Rattle.df_inspect.specs.Messages.{message_front, shown_text};
-ghost use Rattle.df_inspect.specs.Prints.{Prints};
+ghost use Rattle.df_inspect.specs.{Messages.{message_front, shown_text}, Prints.{Prints}};
 
 use crate::line::{Line, put, put_field, put_numbered, write_line};
 use arrayvec::ArrayVec;

@@ -2,8 +2,7 @@
 ghost use Rattle.std.specs.Prelude.{◌≡◌, ◌≤◌, ◌+◌, ◌++◌, length};
 ghost use Rattle.df_base.specs.Causes.{HasCause};
 ghost use Rattle.df_model.specs.declared.errors.OpenError.TheVariants as opens;
-ghost use Rattle.df_inspect.specs.Opening.{field_name, format_refusal, formatted_text, layout_text, open_refusal, script_text, upgraded_text};
-ghost use Rattle.df_inspect.specs.Prints.{Prints};
+ghost use Rattle.df_inspect.specs.{Opening.{field_name, format_refusal, formatted_text, layout_text, open_refusal, script_text, upgraded_text}, Prints.{Prints}};
 
 use crate::line::{
     Line, damaged_line, number_line, put, put_class, put_number, put_numbered, text_line,

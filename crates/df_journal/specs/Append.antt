@@ -1,26 +1,15 @@
 -- An append, which is a put and a settling: its device calls, what they are in the words of the theory, and what a stop at any moment of it leaves.
 use Rattle.std.specs.Prelude.{◌≡◌, ◌<◌, ◌≤◌, ◌+◌, ◌/◌, ℕ, List, [], ◌∷◌, ◌++◌, slice_get, slice_set, Option, Some}
-use Rattle.df_base.specs.Image.{Image}
+use Rattle.df_base.specs.{Image.{Image}, Log.{Event, IsLeft, IsLog, Sync}}
 use Rattle.df_base.specs.Log
-use Rattle.df_base.specs.Log.{Event, IsLeft, IsLog, Sync}
 use Rattle.df_disk.specs.Told.{Told}
 use Rattle.df_layout.specs.declared.layout.Layout.{Layout}
-use Rattle.df_format.specs.declared.header.Header.{Header}
-use Rattle.df_format.specs.Message.{Message}
+use Rattle.df_format.specs.{declared.header.Header.{Header}, Message.{Message}}
 use Rattle.df_buffers.specs.Sounds.{Holding}
 use Rattle.df_theory.specs.Units
-use Rattle.df_theory.specs.Units.{HeaderPlace, HeaderUnit}
-use Rattle.df_theory.specs.Cases.{IsEmpty, Takes, decided}
-use Rattle.df_theory.specs.Device.{IsGoodDisk, NoChanceOf, units_log}
-use Rattle.df_theory.specs.Next.{MayAppend, appended}
-use Rattle.df_theory.specs.Runs.{Step, Syncs}
-use Rattle.df_theory.specs.Shape.{Shape, slots}
-use Rattle.df_theory.specs.Tails.{In}
-use Rattle.df_theory.specs.TidyLaws.{IsTidy}
-use Rattle.df_theory.specs.View.{View, boot_of, head}
-use Rattle.df_units.specs.Meaning.{header_of, message_of}
-use Rattle.df_units.specs.Bytes.{unit_at}
-use Rattle.df_units.specs.Format.{format_of, shape_of}
+use Rattle.df_theory.specs.{Units.{HeaderPlace, HeaderUnit}, Cases.{IsEmpty, Takes, decided}, Device.{IsGoodDisk, NoChanceOf, units_log}, Next.{MayAppend, appended}, Runs.{Step, Syncs}}
+use Rattle.df_theory.specs.{Shape.{Shape, slots}, Tails.{In}, TidyLaws.{IsTidy}, View.{View, boot_of, head}}
+use Rattle.df_units.specs.{Meaning.{header_of, message_of}, Bytes.{unit_at}, Format.{format_of, shape_of}}
 use Rattle.df_headers.specs.Ring.{header_write_steps, in_sector, sector_writes}
 use Rattle.df_prepares.specs.Slots.{prepare_put_events, put_steps}
 

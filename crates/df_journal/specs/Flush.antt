@@ -1,23 +1,14 @@
 -- A flush of a group of prepares, which is a put of each and one settling: its device calls, what they are in the words of the theory, and what a stop at any moment of it leaves.
 use Rattle.std.specs.Prelude.{◌≡◌, ◌<◌, ◌/◌, ◌==◌, ℕ, if◌then◌else◌, List, [], ◌∷◌, ◌++◌, length, slice_get, take, Option, Some}
-use Rattle.df_base.specs.Image.{Image}
+use Rattle.df_base.specs.{Image.{Image}, Log.{Event, IsLeft, IsLog}}
 use Rattle.df_base.specs.Log
-use Rattle.df_base.specs.Log.{Event, IsLeft, IsLog}
 use Rattle.df_disk.specs.Told.{Told}
 use Rattle.df_layout.specs.declared.layout.Layout.{Layout}
-use Rattle.df_format.specs.Brings.{Brings}
-use Rattle.df_format.specs.declared.header.Header.{Header}
-use Rattle.df_format.specs.Message.{Message, sectors_end}
+use Rattle.df_format.specs.{Brings.{Brings}, declared.header.Header.{Header}, Message.{Message, sectors_end}}
 use Rattle.df_buffers.specs.Sounds.{Holding}
 use Rattle.df_theory.specs.Units
-use Rattle.df_theory.specs.Device.{IsGoodDisk, NoChanceOf, units_log}
-use Rattle.df_theory.specs.Next.{MayAppend, appended}
-use Rattle.df_theory.specs.Runs.{Step}
-use Rattle.df_theory.specs.TidyLaws.{IsTidy}
-use Rattle.df_theory.specs.View.{View, boot_of}
-use Rattle.df_units.specs.Meaning.{message_of}
-use Rattle.df_units.specs.Bytes.{unit_at}
-use Rattle.df_units.specs.Format.{format_of, shape_of}
+use Rattle.df_theory.specs.{Device.{IsGoodDisk, NoChanceOf, units_log}, Next.{MayAppend, appended}, Runs.{Step}, TidyLaws.{IsTidy}, View.{View, boot_of}}
+use Rattle.df_units.specs.{Meaning.{message_of}, Bytes.{unit_at}, Format.{format_of, shape_of}}
 use Rattle.df_headers.specs.Ring.{IsHeaderTable}
 use Rattle.df_prepares.specs.Slots.{IsInOwnSlot, prepare_put_events, put_steps, slot_place}
 use Rattle.df_journal.specs.Append.{OthersStay, ShowsRing, settle_events, settle_steps, with_header}

@@ -2,9 +2,7 @@
 use Rattle.std.specs.Prelude.{◌≡◌, ◌≤◌, ◌+◌, ℕ, List, length, Option, Some, None, Ok}
 use Rattle.df_layout.specs.declared.layout.Layout.{Layout}
 use Rattle.df_format.specs.declared.header.Header.{Header}
-use Rattle.df_theory.specs.Units.{Content, Message, Units}
-use Rattle.df_theory.specs.Shape.{Shape, slots}
-use Rattle.df_theory.specs.Opens.{AreKnown, LacksKnown}
+use Rattle.df_theory.specs.{Units.{Content, Message, Units}, Shape.{Shape, slots}, Opens.{AreKnown, LacksKnown}}
 use Rattle.df_units.specs.Meaning.{number_of}
 use Rattle.df_buffers.specs.declared.slots.SlotSeen.{SlotSeen}
 use Rattle.df_journal.specs.declared.table.Start.{Start}

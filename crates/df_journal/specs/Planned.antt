@@ -2,12 +2,10 @@
 use Rattle.std.specs.Prelude.{◌==◌, ◌%◌, nat_le, nat_lt, ℕ, Bool, false, not, if◌then◌else◌, List, Option, Some, Result, Ok, Err}
 use Rattle.df_layout.specs.declared.damage.Class.{Class}
 use Rattle.df_format.specs.declared.header.Header.{Header}
-use Rattle.df_theory.specs.Units.{AnyUnit, HeaderPlace, HeaderUnit, PreparePlace, PrepareUnit, Units}
-use Rattle.df_theory.specs.Cases.{Decision, Lost, Take, cut, decided}
+use Rattle.df_theory.specs.{Units.{AnyUnit, HeaderPlace, HeaderUnit, PreparePlace, PrepareUnit, Units}, Cases.{Decision, Lost, Take, cut, decided}}
 use Rattle.df_units.specs.Meaning.{number_of}
 use Rattle.df_buffers.specs.declared.slots.SlotSeen.{SlotSeen}
-use Rattle.df_journal.specs.declared.table.Start.{Start}
-use Rattle.df_journal.specs.Seen.{decision_on, seen_in}
+use Rattle.df_journal.specs.{declared.table.Start.{Start}, Seen.{decision_on, seen_in}}
 
 -- the header ring shows the header with this checksum
 abbrev pub shows_header : ℕ → Option AnyUnit → Bool

@@ -1,19 +1,13 @@
 -- The table of slots as a disk shows them.
 use Rattle.std.specs.Prelude.{◌≡◌, ◌<◌, ◌%◌, ℕ, List, length, slice_get, Option, Some, None}
-use Rattle.df_base.specs.declared.TheConstants.{SECTOR}
-use Rattle.df_base.specs.Image.{Image}
+use Rattle.df_base.specs.{declared.TheConstants.{SECTOR}, Image.{Image}}
 use Rattle.df_disk.specs.Told.{Shows, Told}
-use Rattle.df_layout.specs.declared.layout.Layout.{Layout}
-use Rattle.df_layout.specs.declared.places.Zone.TheVariants.{WalHeaders, WalPrepares}
-use Rattle.df_layout.specs.Spans.{span_of}
-use Rattle.df_format.specs.Own.{place_in}
-use Rattle.df_format.specs.Shown.{class_at}
+use Rattle.df_layout.specs.{declared.layout.Layout.{Layout}, declared.places.Zone.TheVariants.{WalHeaders, WalPrepares}, Spans.{span_of}}
+use Rattle.df_format.specs.{Own.{place_in}, Shown.{class_at}}
 use Rattle.df_units.specs.Bytes
 use Rattle.df_buffers.specs.declared.slots.SlotSeen.{SlotSeen}
 use Rattle.df_places.specs.Units.{header_at}
-use Rattle.df_journal.specs.Scan.{Scan, entry}
-use Rattle.df_journal.specs.Seen.{class_of}
-use Rattle.df_journal.specs.Shows.{IsSeenTable, IsSlot, TellsRings}
+use Rattle.df_journal.specs.{Scan.{Scan, entry}, Seen.{class_of}, Shows.{IsSeenTable, IsSlot, TellsRings}}
 
 -- what an image shows at a slot
 abbrev pub seen_at : Layout → ℕ → Image → ℕ → SlotSeen

@@ -1,9 +1,7 @@
 -- What is decided of a slot by what the table of slots says of it.
 use Rattle.std.specs.Prelude.{◌≡◌, ◌<◌, ◌≤◌, ◌+◌, ◌%◌, ℕ, Option, Some, None, Result, Ok, Err}
-use Rattle.df_layout.specs.declared.damage.Class.{Class}
-use Rattle.df_layout.specs.declared.damage.Class.TheVariants.{Stale}
-use Rattle.df_format.specs.declared.header.Header.{Header}
-use Rattle.df_format.specs.Spelling.{IsCheck}
+use Rattle.df_layout.specs.{declared.damage.Class.{Class}, declared.damage.Class.TheVariants.{Stale}}
+use Rattle.df_format.specs.{declared.header.Header.{Header}, Spelling.{IsCheck}}
 use Rattle.df_theory.specs.Cases.{Decision, IsTake, Nothing, Seen, case, seen as seen_of_header}
 use Rattle.df_units.specs.Meaning.{header_of}
 use Rattle.df_buffers.specs.declared.slots.SlotSeen.{SlotSeen}

@@ -2,24 +2,16 @@
 use Rattle.std.specs.Prelude.{◌≡◌, ◌≢◌, ◌⊎◌, ◌<◌, ◌≤◌, ◌+◌, ◌%◌, ℕ, List, length, slice_get, Option, Some, None}
 use Rattle.df_base.specs.declared.TheConstants.{GREATEST}
 use Rattle.df_layout.specs.declared.layout.Layout.{Layout}
-use Rattle.df_format.specs.declared.header.Header.{Header}
-use Rattle.df_format.specs.Spelling.{IsCheck}
-use Rattle.df_sessions.specs.declared.session.Session.{Session}
-use Rattle.df_sessions.specs.Requests.{sessions_of}
-use Rattle.df_sessions.specs.Table.{IsKnownClient, Table}
+use Rattle.df_format.specs.{declared.header.Header.{Header}, Spelling.{IsCheck}}
+use Rattle.df_sessions.specs.{declared.session.Session.{Session}, Requests.{sessions_of}, Table.{IsKnownClient, Table}}
 use Rattle.df_theory.specs.Units
-use Rattle.df_theory.specs.Shape.{Shape, clients, slots}
-use Rattle.df_theory.specs.View.{Checkpoint}
+use Rattle.df_theory.specs.{Shape.{Shape, clients, slots}, View.{Checkpoint}, Opens.{IsUnfit}}
 use Rattle.df_theory.specs.Found
-use Rattle.df_theory.specs.Opens.{IsUnfit}
 use Rattle.df_units.specs.Meaning.{number_of}
-pub use Rattle.df_group.specs.Fitting.{FitsAt, position_of, tail_to}
-pub use Rattle.df_group.specs.Reached.{BeginsBehind, EndsAt}
-use Rattle.df_group.specs.declared.groups.Position.{Position}
-use Rattle.df_group.specs.declared.reach.Reach.{Reach}
+pub use Rattle.df_group.specs.{Fitting.{FitsAt, position_of, tail_to}, Reached.{BeginsBehind, EndsAt}}
+use Rattle.df_group.specs.{declared.groups.Position.{Position}, declared.reach.Reach.{Reach}}
 use Rattle.df_buffers.specs.declared.slots.SlotSeen.{SlotSeen}
-use Rattle.df_journal.specs.declared.table.Start.{Start}
-use Rattle.df_journal.specs.Seen.{IsTakenPrepare}
+use Rattle.df_journal.specs.{declared.table.Start.{Start}, Seen.{IsTakenPrepare}}
 
 -- the checkpoint that the walk starts from, and what its superblock says of the prepares that it names
 pub record BeginsAt (sh : Shape) (b : Checkpoint) (layout : Layout) (start : Start) (checksum : List ℕ) (sessions : List Session) : Type 0 where

@@ -1,9 +1,7 @@
 // The greatest numbers of the units in the two rings, and what they say of a state with those of the replies.
-ghost use Rattle.std.specs.Prelude.{◌≡◌, ◌↔◌, ◌<◌, ◌^◌, IsTrue, IsFalse};
-ghost use Rattle.std.specs.Bool.{OnFalse};
+ghost use Rattle.std.specs.{Prelude.{◌≡◌, ◌↔◌, ◌<◌, ◌^◌, IsTrue, IsFalse}, Bool.{OnFalse}};
 ghost use Rattle.df_stamps.specs.Evidence.{IsComplete};
-ghost use Rattle.df_journal.specs.Below.{Content, Units, Shape, slots as shape_slots, NotBehind, NotLost};
-ghost use Rattle.df_journal.specs.Shows.{ShowsTable};
+ghost use Rattle.df_journal.specs.{Below.{Content, Units, Shape, slots as shape_slots, NotBehind, NotLost}, Shows.{ShowsTable}};
 ghost use Rattle.df_journal.specs.Counts.{CountsAll, CountsBinding, CountsBound, CountsRings, binding_op, in_boot, number_in, with_unit};
 
 use crate::SlotTable;

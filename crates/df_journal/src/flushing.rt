@@ -2,8 +2,7 @@
 // prepare of its group is durable, so that a stop leaves the whole group or none of it.
 ghost use Rattle.std.specs.Prelude.{◌≡◌, ◌<◌, ◌/◌, ℕ, length, slice_get, Some, OnOk};
 ghost use Rattle.df_buffers.specs.Sounds.{Holding};
-ghost use Rattle.df_journal.specs.Below.{HasCause, EachMoment, Told, Adds, AreSteps, format_of, AreOfRing, IsHeaderTable};
-ghost use Rattle.df_journal.specs.Append.{settle_events};
+ghost use Rattle.df_journal.specs.{Below.{HasCause, EachMoment, Told, Adds, AreSteps, format_of, AreOfRing, IsHeaderTable}, Append.{settle_events}};
 ghost use Rattle.df_journal.specs.Flush.{AreOwn, EndsFlushed, LeavesGroup, MayFlushOn, MayPutGroup, first_slot, flush_events, flush_steps, group_puts, held_prepares, last_slot, sectors_between, with_headers};
 
 use crate::appends::put;

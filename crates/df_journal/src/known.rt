@@ -1,9 +1,7 @@
 // The prepares that a superblock of version 2 names: its head by a checksum, and each one below it by its parent. No memory is
 // needed, since each of them has a slot of its own.
 ghost use Rattle.std.specs.Prelude.{◌≡◌, ◌≤◌, ◌<◌, ◌%◌, IfSome};
-ghost use Rattle.df_journal.specs.Below.{Content, IsCheck, Shape, Units};
-ghost use Rattle.df_journal.specs.Known.{NamesFrom, TellsKnown};
-ghost use Rattle.df_journal.specs.Shows.{IsSeenTable, TellsRings};
+ghost use Rattle.df_journal.specs.{Below.{Content, IsCheck, Shape, Units}, Known.{NamesFrom, TellsKnown}, Shows.{IsSeenTable, TellsRings}};
 
 use crate::SlotTable;
 use df_base::Check;

@@ -2,9 +2,7 @@
 // fits what precedes it. The tail ends where the last whole group does.
 ghost use Rattle.std.specs.Prelude.{◌≡◌, ◌≤◌, ◌<◌, ◌+◌, ◌^◌, IfSome};
 ghost use Rattle.df_base.specs.declared.TheConstants.{GREATEST};
-ghost use Rattle.df_journal.specs.Below.{IsCheck, Units, Shape, Checkpoint};
-ghost use Rattle.df_journal.specs.Known.{AllKnown};
-ghost use Rattle.df_journal.specs.Shows.{IsSeenTable, TellsRings};
+ghost use Rattle.df_journal.specs.{Below.{IsCheck, Units, Shape, Checkpoint}, Known.{AllKnown}, Shows.{IsSeenTable, TellsRings}};
 ghost use Rattle.df_journal.specs.Tail.{BeginsAt, CanBeNoted, FindsReach, IsWithinRing, KeepsRules, TailWalkGoesOn};
 
 use crate::seen::taken;

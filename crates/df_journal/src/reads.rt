@@ -1,9 +1,7 @@
 // The scan: each sector of the header ring and each slot of the ring of prepares is read once, into one room each, which are lent.
 ghost use Rattle.std.specs.Prelude.{◌≡◌, ◌<◌, ◌≤◌, length, IfOk, OnOk};
 ghost use Rattle.df_base.specs.declared.TheConstants.{GREATEST};
-ghost use Rattle.df_journal.specs.Below.{HasCause, place_in};
-ghost use Rattle.df_journal.specs.Shows.{IsSlot};
-ghost use Rattle.df_journal.specs.Scanned.{ClassIsShown, HoldsSector, IsHeld, IsScanned, IsSlotSeen, RingsAreShown};
+ghost use Rattle.df_journal.specs.{Below.{HasCause, place_in}, Shows.{IsSlot}, Scanned.{ClassIsShown, HoldsSector, IsHeld, IsScanned, IsSlotSeen, RingsAreShown}};
 
 use crate::{SlotTable, Start};
 use df_base::Failed;

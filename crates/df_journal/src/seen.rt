@@ -1,10 +1,8 @@
 // What is decided of a slot where an op is wanted there, in a boot: a unit of an earlier one proves nothing. And which prepare is
 // taken from it, up to the superblock's head and above it; and what is planned once the head is known.
 ghost use Rattle.std.specs.Prelude.{◌≡◌};
-ghost use Rattle.df_journal.specs.Below.{IsCheck, HasCheck, decision_of, seen_of};
+ghost use Rattle.df_journal.specs.{Below.{IsCheck, HasCheck, decision_of, seen_of}, Planned.{has_header_of, planned_on}, Seen.{decision_on, seen_in, HasChecks, IsOfCheck, TakesNow}};
 ghost use Rattle.df_theory.specs.Cases.{cut};
-ghost use Rattle.df_journal.specs.Planned.{has_header_of, planned_on};
-ghost use Rattle.df_journal.specs.Seen.{decision_on, seen_in, HasChecks, IsOfCheck, TakesNow};
 
 use crate::Start;
 use df_base::Check;

@@ -1,7 +1,6 @@
 // The settling of what was put: a sync, so that a header never stands before its prepare, then the header sectors, and a sync.
 ghost use Rattle.std.specs.Prelude.{◌≡◌, ℕ};
-ghost use Rattle.df_journal.specs.Below.{HasCause, Adds, AreSteps, format_of, AreOfRing, IsHeaderTable, sector_writes};
-ghost use Rattle.df_journal.specs.Append.{settle_events, settle_steps};
+ghost use Rattle.df_journal.specs.{Below.{HasCause, Adds, AreSteps, format_of, AreOfRing, IsHeaderTable, sector_writes}, Append.{settle_events, settle_steps}};
 
 use df_base::Failed;
 use df_buffers::{HeaderSector, Raw};

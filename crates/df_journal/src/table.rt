@@ -1,12 +1,8 @@
 // The table of slots: what the two rings show, slot by slot, and what is decided of each.
 ghost use Rattle.std.specs.Prelude.{◌≡◌, ◌<◌, ◌≤◌, ℕ, length, slice_get};
 ghost use Rattle.df_base.specs.declared.TheConstants.{GREATEST};
-ghost use Rattle.df_journal.specs.Below.{Layout as AnyLayout, Units, decision as decided, decision_of, pin_of};
-ghost use Rattle.df_journal.specs.Scan.{entry, with_slot};
-ghost use Rattle.df_journal.specs.Seen.{IsOpOf, class_of, header_of_seen};
-ghost use Rattle.df_journal.specs.Planned.{planned};
-ghost use Rattle.df_journal.specs.Shows.{TellsRings};
-ghost use Rattle.df_journal.specs.Starting.{start_of};
+ghost use Rattle.df_journal.specs.{Below.{Layout as AnyLayout, Units, decision as decided, decision_of, pin_of}, Scan.{entry, with_slot}, Seen.{IsOpOf, class_of, header_of_seen}, Planned.{planned}};
+ghost use Rattle.df_journal.specs.{Shows.{TellsRings}, Starting.{start_of}};
 
 use crate::seen::{decision_on, planned_of};
 use df_base::VERSION;

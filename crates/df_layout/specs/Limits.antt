@@ -1,8 +1,6 @@
 -- The limits of the five numbers of a layout.
 use Rattle.std.specs.Prelude.{◌≡◌, ℕ, ◌≤◌, ◌%◌}
-use Rattle.df_layout.specs.declared.layout.TheConstants.{SECTOR}
-use Rattle.df_layout.specs.declared.fields.Field.{Field}
-use Rattle.df_layout.specs.declared.fields.Field.TheVariants.{Slots, MessageSize, Clients, BlockSize, Blocks}
+use Rattle.df_layout.specs.{declared.layout.TheConstants.{SECTOR}, declared.fields.Field.{Field}, declared.fields.Field.TheVariants.{Slots, MessageSize, Clients, BlockSize, Blocks}}
 
 -- slots of each ring, in whole sectors of sixteen headers
 abbrev pub AreSlots : ℕ → Type 0

@@ -1,11 +1,7 @@
 -- How zones and spans lie in the file.
 use Rattle.std.specs.Prelude.{◌≡◌, ℕ, ◌+◌, ◌/◌, ◌%◌, ◌^◌, ◌≤◌, ◌<◌, ◌⊎◌}
-use Rattle.df_layout.specs.declared.layout.Layout.{Layout}
-use Rattle.df_layout.specs.declared.places.Place.{Place}
-use Rattle.df_layout.specs.declared.places.Span.{Span}
-use Rattle.df_layout.specs.declared.places.Zone.TheVariants.{Superblock, WalHeaders, WalPrepares, ClientReplies, Grid}
-use Rattle.df_layout.specs.Zones.{block_sectors, first_sector, end_sector, file_sectors}
-use Rattle.df_layout.specs.Spans.{span_of}
+use Rattle.df_layout.specs.{declared.layout.Layout.{Layout}, declared.places.Place.{Place}, declared.places.Span.{Span}}
+use Rattle.df_layout.specs.{declared.places.Zone.TheVariants.{Superblock, WalHeaders, WalPrepares, ClientReplies, Grid}, Zones.{block_sectors, first_sector, end_sector, file_sectors}, Spans.{span_of}}
 
 -- Each zone begins where the one before ends; the grid begins at the next whole number of blocks.
 pub record ZonesFollow (layout : Layout) : Type 0 where

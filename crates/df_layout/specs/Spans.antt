@@ -1,11 +1,7 @@
 -- The places of a layout, and the sectors of each.
 use Rattle.std.specs.Prelude.{ℕ, ◌+◌, ◌-◌, ◌*◌, ◌/◌, ◌≤◌, ◌<◌}
-use Rattle.df_layout.specs.declared.layout.Layout.{Layout}
-use Rattle.df_layout.specs.declared.places.Place.{Place}
-use Rattle.df_layout.specs.declared.places.Span.{Span}
-use Rattle.df_layout.specs.declared.places.Zone.{Zone}
-use Rattle.df_layout.specs.declared.places.Zone.TheVariants.{Superblock, WalHeaders, WalPrepares, ClientReplies, Grid}
-use Rattle.df_layout.specs.Zones.{message_sectors, block_sectors, first_sector}
+use Rattle.df_layout.specs.{declared.layout.Layout.{Layout}, declared.places.Place.{Place}, declared.places.Span.{Span}, declared.places.Zone.{Zone}}
+use Rattle.df_layout.specs.{declared.places.Zone.TheVariants.{Superblock, WalHeaders, WalPrepares, ClientReplies, Grid}, Zones.{message_sectors, block_sectors, first_sector}}
 
 -- the zone has a place of this number: a copy, a slot, a session's place, a block's address
 abbrev pub HasIndex : Layout → Zone → ℕ → Type 0

@@ -1,9 +1,6 @@
 -- How many sectors each zone has, and where it begins.
-use Rattle.std.specs.Prelude.{ℕ, ◌+◌, ◌*◌, ◌/◌}
-use Rattle.std.specs.Int.{div_ceil}
-use Rattle.df_layout.specs.declared.layout.TheConstants.{SECTOR}
-use Rattle.df_layout.specs.declared.layout.Layout.{Layout}
-use Rattle.df_layout.specs.declared.places.Zone.{Zone}
+use Rattle.std.specs.{Prelude.{ℕ, ◌+◌, ◌*◌, ◌/◌}, Int.{div_ceil}}
+use Rattle.df_layout.specs.{declared.layout.TheConstants.{SECTOR}, declared.layout.Layout.{Layout}, declared.places.Zone.{Zone}}
 use Rattle.df_layout.specs.declared.places.Zone.TheVariants.{Superblock, WalHeaders, WalPrepares, ClientReplies, Grid}
 
 -- sectors of a prepare slot and of a reply slot

@@ -107,8 +107,7 @@ impl Layout {
 }
 
 impl Layout {
-    ghost use Rattle.df_layout.specs.Zones.{message_sectors, block_sectors, first_sector, file_sectors};
-    ghost use Rattle.df_layout.specs.Spans.{HasPlace, span_of};
+    ghost use Rattle.df_layout.specs.{Zones.{message_sectors, block_sectors, first_sector, file_sectors}, Spans.{HasPlace, span_of}};
 
     /// Whether the layout has the place: a copy 0 to 3, a slot below `slots`, a session's place below `clients`, or a
     /// block's address from 1 to `blocks`.

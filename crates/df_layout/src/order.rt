@@ -1,9 +1,6 @@
 // What the layers above rest on: how zones and spans lie in the file, and when two layouts are one.
 ghost use Rattle.std.specs.Prelude.{◌≡◌, ◌⊎◌};
-ghost use Rattle.df_layout.specs.Order.{ZonesFollow, IsInside, AreApart, ShareHeaderSector};
-ghost use Rattle.df_layout.specs.Spans.{HasPlace, span_of};
-ghost use Rattle.df_layout.specs.declared.layout.Layout.{Layout};
-ghost use Rattle.df_layout.specs.declared.places.Place.{Place};
+ghost use Rattle.df_layout.specs.{Order.{ZonesFollow, IsInside, AreApart, ShareHeaderSector}, Spans.{HasPlace, span_of}, declared.layout.Layout.{Layout}, declared.places.Place.{Place}};
 
 /// The zones follow one another with no gap, but for less than a block of padding before the grid.
 pub fn zones_in_order()

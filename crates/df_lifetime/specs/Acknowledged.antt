@@ -2,15 +2,10 @@
 use Rattle.std.specs.Prelude.{List, [], ◌∷◌}
 use Rattle.df_base.specs.Log.{now}
 use Rattle.df_disk.specs.Told.{Told}
-use Rattle.df_theory.specs.Device.{NoChanceOf}
-use Rattle.df_theory.specs.Found.{IsFound}
-use Rattle.df_theory.specs.View.{View}
+use Rattle.df_theory.specs.{Device.{NoChanceOf}, Found.{IsFound}, View.{View}}
 use Rattle.df_units.specs.Bytes.{unit_at}
-use Rattle.df_session.specs.Below.{shape, DataFile}
-use Rattle.df_session.specs.Serving.{format}
-use Rattle.df_lifetime.specs.Life.{Chapter, Life}
-use Rattle.df_lifetime.specs.There.{IsAnswerThere, Promised, promised_by}
-use Rattle.df_session.specs.Session.{Exchange}
+use Rattle.df_session.specs.{Below.{shape, DataFile}, Serving.{format}, Session.{Exchange}}
+use Rattle.df_lifetime.specs.{Life.{Chapter, Life}, There.{IsAnswerThere, Promised, promised_by}}
 
 -- what each of these calls was answered is there, where these requests are staged before the first of them
 abbrev pub AreThere : View → List Promised → List Exchange → Type 0

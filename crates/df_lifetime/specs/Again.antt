@@ -1,35 +1,17 @@
 -- A life with damage: before any number of opens sectors of the file may be damaged, lost or swapped, and the machine may stop at any time.
 use Rattle.std.specs.Prelude.{◌≡◌, ℕ, List, [], ◌∷◌, Some}
-use Rattle.df_base.specs.declared.TheConstants.{VERSION}
-use Rattle.df_base.specs.Image.{Image, IsImage, changed}
-use Rattle.df_base.specs.Log.{AreLoose, Log, Stop, Sync, add, now}
-use Rattle.df_base.specs.Moments.{Extends}
-use Rattle.df_disk.specs.Adds.{AddsPart}
-use Rattle.df_disk.specs.Told.{IsHonest, Told, did}
+use Rattle.df_base.specs.{declared.TheConstants.{VERSION}, Image.{Image, IsImage, changed}, Log.{AreLoose, Log, Stop, Sync, add, now}, Moments.{Extends}}
+use Rattle.df_disk.specs.{Adds.{AddsPart}, Told.{IsHonest, Told, did}}
 use Rattle.df_layout.specs.declared.layout.Layout.{Layout}
-use Rattle.df_history.specs.Histories.{MayHurtCopies, NoChanceOver}
-use Rattle.df_history.specs.OpenLaws.{BeginsHistory}
-use Rattle.df_theory.specs.Device.{NoChanceOf}
-use Rattle.df_theory.specs.Holds.{Stands}
-use Rattle.df_theory.specs.View.{View}
+use Rattle.df_history.specs.{Histories.{MayHurtCopies, NoChanceOver}, OpenLaws.{BeginsHistory}}
+use Rattle.df_theory.specs.{Device.{NoChanceOf}, Holds.{Stands}, View.{View}}
 use Rattle.df_units.specs.Bytes.{unit_at}
-use Rattle.df_session.specs.Below.{DataFile, FindsSince, IsOpened, State as Replica, restarted, shape, units_logs}
-use Rattle.df_session.specs.Serving.{Firm, Grade, StandsFor, format}
+use Rattle.df_session.specs.{Below.{DataFile, FindsSince, IsOpened, State as Replica, restarted, shape, units_logs}, Serving.{Firm, Grade, StandsFor, format}, Begun.{begun_work}, Anew.{begun_after}}
+use Rattle.df_session.specs.{Found.{FoundFile}, Laws.{CallsKeep}, Links.{CallsMade}, Programs.{FileRun, ServedFile}}
 use Rattle.df_upgrade.specs.Upgrading.{second}
-use Rattle.df_session.specs.Begun.{begun_work}
-use Rattle.df_session.specs.Anew.{begun_after}
-use Rattle.df_session.specs.Found.{FoundFile}
-use Rattle.df_session.specs.Laws.{CallsKeep}
-use Rattle.df_session.specs.Links.{CallsMade}
-use Rattle.df_session.specs.Programs.{FileRun, ServedFile}
 use Rattle.df_top.specs.Reopening.{IsLivedFile}
-use Rattle.df_mirror.specs.Outside.{Outside}
-use Rattle.df_mirror.specs.Run.{MirrorOutcome}
-use Rattle.df_mirror.specs.declared.status.Status.{Status}
-use Rattle.df_lifetime.specs.Hurt.{KeepsOn, began_with}
-use Rattle.df_lifetime.specs.Life.{AreMade, Chapter, Extent, GoesAlong, Life, ShowsFile}
-use Rattle.df_lifetime.specs.Upgraded.{IsUpgraded}
-use Rattle.df_lifetime.specs.Words.{OtherWord}
+use Rattle.df_mirror.specs.{Outside.{Outside}, Run.{MirrorOutcome}, declared.status.Status.{Status}}
+use Rattle.df_lifetime.specs.{Hurt.{KeepsOn, began_with}, Life.{AreMade, Chapter, Extent, GoesAlong, Life, ShowsFile}, Upgraded.{IsUpgraded}, Words.{OtherWord}}
 
 -- What a disk shows after these logs of a file, whatever was done to its sectors: no unit came about by chance, and at most two superblock copies are hurt, none where the four weren't equal.
 pub record IsSpared (file : DataFile) (log : Log) (older : List Log) (image : Image) : Type 0 where

@@ -1,27 +1,15 @@
 -- A copied file goes on: where a copy was made on a target on which nothing had been written, a life begins, and one with damage. Where it is stopped, one begins, or no two copies of the superblock agree, so that the target is refused.
 use Rattle.std.specs.Prelude.{◌≡◌, ◌⊎◌, [], Some, Ok}
-use Rattle.df_base.specs.Image.{Image}
-use Rattle.df_base.specs.Log.{IsLeft, now}
-use Rattle.df_base.specs.Moments.{Extends}
+use Rattle.df_base.specs.{Image.{Image}, Log.{IsLeft, now}, Moments.{Extends}}
 use Rattle.df_disk.specs.Told.{IsHonest, Told}
 use Rattle.df_layout.specs.declared.layout.Layout.{Layout}
-use Rattle.df_theory.specs.Copies.{IsSplit}
-use Rattle.df_theory.specs.Device.{NoChanceOf, units_log}
-use Rattle.df_theory.specs.Found.{IsFound}
-use Rattle.df_theory.specs.UnitLog.{settled}
-use Rattle.df_theory.specs.View.{View}
+use Rattle.df_theory.specs.{Copies.{IsSplit}, Device.{NoChanceOf, units_log}, Found.{IsFound}, UnitLog.{settled}, View.{View}}
 use Rattle.df_history.specs.OpenLaws.{BeginsHistory}
-use Rattle.df_units.specs.Bytes.{unit_at}
-use Rattle.df_units.specs.Meaning.{layout_of}
-use Rattle.df_session.specs.Below.{AreDistinctUnits, DataFile, restarted, shape}
-use Rattle.df_session.specs.Serving.{format}
+use Rattle.df_units.specs.{Bytes.{unit_at}, Meaning.{layout_of}}
+use Rattle.df_session.specs.{Below.{AreDistinctUnits, DataFile, restarted, shape}, Serving.{format}}
 use Rattle.df_program.specs.Two.{Outside}
-use Rattle.df_copy.specs.Run.{CopiesFile, source_view}
-use Rattle.df_copy.specs.Stops.{AreSplit}
-use Rattle.df_copy.specs.Views.{IsCopyOf, IsEmptyImage, file_in}
-use Rattle.df_copy.specs.declared.status.Status.{Status}
-use Rattle.df_lifetime.specs.Again.{Again}
-use Rattle.df_lifetime.specs.Life.{GoesAlong, Life, MayTake}
+use Rattle.df_copy.specs.{Run.{CopiesFile, source_view}, Stops.{AreSplit}, Views.{IsCopyOf, IsEmptyImage, file_in}, declared.status.Status.{Status}}
+use Rattle.df_lifetime.specs.{Again.{Again}, Life.{GoesAlong, Life, MayTake}}
 
 -- a copy, whatever it came to: of a source that told this at first and that after its open, in which a view was found, on a target that told this before it and that after it
 pub record CopyRun (layout : Layout) (t read o n : Told) : Type 0 where

@@ -1,32 +1,16 @@
 -- What a run of any program keeps by any log by which its file may be opened: on a hurt disk by the one that is restarted at what its open found. So sessions compose there, too. And that
 -- whatever life a file has had, it may be hurt.
 use Rattle.std.specs.Prelude.{◌≡◌, ℕ, zero, suc, List, [], ◌++◌, take, drop, Some}
-use Rattle.df_base.specs.Image.{Image, IsImage, blank, changed}
-use Rattle.df_base.specs.Log.{AreLoose, Event, IsLeft, Log, Stop, Sync, add, now}
-use Rattle.df_base.specs.Moments.{IsMoment}
+use Rattle.df_base.specs.{Image.{Image, IsImage, blank, changed}, Log.{AreLoose, Event, IsLeft, Log, Stop, Sync, add, now}, Moments.{IsMoment}}
 use Rattle.df_disk.specs.Told.{IsHonest, Told, did}
 use Rattle.df_layout.specs.declared.layout.Layout.{Layout}
-use Rattle.df_theory.specs.Device.{NoChanceOf}
-use Rattle.df_theory.specs.View.{View}
+use Rattle.df_theory.specs.{Device.{NoChanceOf}, View.{View}}
 use Rattle.df_units.specs.Bytes.{unit_at}
-use Rattle.df_model.specs.Views.{SomeKeeps}
-use Rattle.df_model.specs.Work.{Work, kept}
-use Rattle.df_session.specs.Below.{DataFile, FindsHad, MayBeHurt, restarted, told_after}
-use Rattle.df_session.specs.Following.{MayOpen}
-use Rattle.df_session.specs.Serving.{Grade, StandsFor, format}
-use Rattle.df_session.specs.Session.{Act, Exchange, acts_in, work_after}
-use Rattle.df_session.specs.Begun.{begun_work}
-use Rattle.df_session.specs.Anew.{begun_after}
-use Rattle.df_session.specs.Found.{FoundFile}
-use Rattle.df_session.specs.Laws.{CallsKeep}
-use Rattle.df_session.specs.Links.{CallsMade, events_made, list_of}
-use Rattle.df_session.specs.Acknowledging.{KeepsAnswered, WereAnswered}
-use Rattle.df_session.specs.Keeping.{KeepsFile, over}
-use Rattle.df_session.specs.Programs.{ServedFile}
-use Rattle.df_lifetime.specs.Acknowledged.{AreThere}
-use Rattle.df_lifetime.specs.Life.{Chapter, Life, MayHave, ShowsFile}
-use Rattle.df_lifetime.specs.There.{promised_in}
-use Rattle.df_lifetime.specs.Life.Life.{Begun, Ended, Made, Opened, Ran, Spared, Stopped, Taken}
+use Rattle.df_model.specs.{Views.{SomeKeeps}, Work.{Work, kept}}
+use Rattle.df_session.specs.{Below.{DataFile, FindsHad, MayBeHurt, restarted, told_after}, Following.{MayOpen}, Serving.{Grade, StandsFor, format}, Session.{Act, Exchange, acts_in, work_after}}
+use Rattle.df_session.specs.{Begun.{begun_work}, Anew.{begun_after}, Found.{FoundFile}, Laws.{CallsKeep}, Links.{CallsMade, events_made, list_of}, Acknowledging.{KeepsAnswered, WereAnswered}}
+use Rattle.df_session.specs.{Keeping.{KeepsFile, over}, Programs.{ServedFile}}
+use Rattle.df_lifetime.specs.{Acknowledged.{AreThere}, Life.{Chapter, Life, MayHave, ShowsFile}, There.{promised_in}, Life.Life.{Begun, Ended, Made, Opened, Ran, Spared, Stopped, Taken}}
 
 -- The next open finds the view after all of these calls, and perhaps some of the acts after them, from the first of these on: the file may be opened by
 -- this log, what was answered is there, and at the higher grade so is each block that is referenced.

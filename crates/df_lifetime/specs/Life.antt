@@ -1,35 +1,14 @@
 -- The life of a file: it is made, or taken as it is found, programs are run over it one after the other, whichever they are, each to its end or up to a moment, and the machine may stop at any time.
 use Rattle.std.specs.Prelude.{◌≡◌, ◌⊎◌, ◌<◌, ℕ, zero, suc, List, [], ◌∷◌, ◌++◌, take, drop, Option, Some, None, Result, Ok}
-use Rattle.df_base.specs.declared.TheConstants.{GREATEST, VERSION}
-use Rattle.df_base.specs.Image.{Image, IsImage, changed}
-use Rattle.df_base.specs.Log.{AreLoose, Event, IsLeft, Log, Stop, Sync, now}
-use Rattle.df_base.specs.Moments.{Extends, IsMoment}
+use Rattle.df_base.specs.{declared.TheConstants.{GREATEST, VERSION}, Image.{Image, IsImage, changed}, Log.{AreLoose, Event, IsLeft, Log, Stop, Sync, now}, Moments.{Extends, IsMoment}}
 use Rattle.df_disk.specs.Told.{IsHonest, Told, did}
 use Rattle.df_layout.specs.declared.layout.Layout.{Layout}
-use Rattle.df_theory.specs.Device.{IsSafeDisk, NoChanceOf}
-use Rattle.df_theory.specs.Found.{IsFound}
-use Rattle.df_theory.specs.Holds.{Held, Stands}
-use Rattle.df_theory.specs.View.{View, boot_of}
-use Rattle.df_units.specs.Bytes.{unit_at}
-use Rattle.df_units.specs.Format.{format_of}
-use Rattle.df_units.specs.Making.{first_view}
-use Rattle.df_model.specs.Views.{KeepsView}
-use Rattle.df_model.specs.Work.{kept}
-use Rattle.df_model.specs.declared.errors.FormatError.{FormatError}
-use Rattle.df_session.specs.Below.{AreDistinctUnits, DataFile, restarted, shape, told_after}
-use Rattle.df_session.specs.Following.{MayOpen}
-use Rattle.df_session.specs.HeldBlocks.{AreInputs}
-use Rattle.df_session.specs.Making.{MakingLeaves, MayMakeOn, file_of}
-use Rattle.df_session.specs.Serving.{Grade, StandsFor, Whole, format}
-use Rattle.df_session.specs.Session.{Act, Exchange, acts_in, answers_in, answers_of, work_after}
-use Rattle.df_session.specs.Begun.{begun_work}
-use Rattle.df_session.specs.Anew.{begun_after}
-use Rattle.df_session.specs.Found.{FoundFile}
-use Rattle.df_session.specs.Keeping.{over}
-use Rattle.df_session.specs.Laws.{CallsKeep}
-use Rattle.df_session.specs.Links.{CallsMade, events_made, list_of}
-use Rattle.df_session.specs.Acknowledging.{WereAnswered}
-use Rattle.df_session.specs.Programs.{FileRun, ServedFile, calls_in_run}
+use Rattle.df_theory.specs.{Device.{IsSafeDisk, NoChanceOf}, Found.{IsFound}, Holds.{Held, Stands}, View.{View, boot_of}}
+use Rattle.df_units.specs.{Bytes.{unit_at}, Format.{format_of}, Making.{first_view}}
+use Rattle.df_model.specs.{Views.{KeepsView}, Work.{kept}, declared.errors.FormatError.{FormatError}}
+use Rattle.df_session.specs.{Below.{AreDistinctUnits, DataFile, restarted, shape, told_after}, Following.{MayOpen}, HeldBlocks.{AreInputs}, Making.{MakingLeaves, MayMakeOn, file_of}}
+use Rattle.df_session.specs.{Serving.{Grade, StandsFor, Whole, format}, Session.{Act, Exchange, acts_in, answers_in, answers_of, work_after}, Begun.{begun_work}, Anew.{begun_after}, Found.{FoundFile}}
+use Rattle.df_session.specs.{Keeping.{over}, Laws.{CallsKeep}, Links.{CallsMade, events_made, list_of}, Acknowledging.{WereAnswered}, Programs.{FileRun, ServedFile, calls_in_run}}
 use Rattle.df_upgrade.specs.Below.{MayRestart}
 use Rattle.df_lifetime.specs.Words.{OtherWord}
 

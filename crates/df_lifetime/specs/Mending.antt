@@ -1,26 +1,13 @@
 -- A mending in the life of a file: what a life had come to before its file was damaged is found again where known units alone were hurt, and a second file had them.
 use Rattle.std.specs.Prelude.{◌≡◌, ◌⊎◌, ◌<◌, List, Some}
-use Rattle.df_base.specs.declared.TheConstants.{GREATEST}
-use Rattle.df_base.specs.Image.{Image}
-use Rattle.df_base.specs.Log.{Log, now}
+use Rattle.df_base.specs.{declared.TheConstants.{GREATEST}, Image.{Image}, Log.{Log, now}}
 use Rattle.df_disk.specs.Told.{Told}
-use Rattle.df_theory.specs.Device.{NoChanceOf}
-use Rattle.df_theory.specs.Found.{IsFound}
-use Rattle.df_theory.specs.Units.{Content}
-use Rattle.df_theory.specs.View.{View, boot_of}
+use Rattle.df_theory.specs.{Device.{NoChanceOf}, Found.{IsFound}, Units.{Content}, View.{View, boot_of}}
 use Rattle.df_units.specs.Bytes.{unit_at}
-use Rattle.df_session.specs.Below.{DataFile, IsNotRefused, shape}
-use Rattle.df_session.specs.Serving.{format}
-use Rattle.df_mirror.specs.Known.{AllShown}
-use Rattle.df_mirror.specs.Laws.{HasWoken, IsHurtKnown, NoneCameBack}
-use Rattle.df_mirror.specs.Outside.{Outside, Tell}
-use Rattle.df_mirror.specs.Run.{Mirrors}
-use Rattle.df_mirror.specs.Walks.{content_of_superblock}
-use Rattle.df_mirror.specs.declared.status.Status.{Status}
+use Rattle.df_session.specs.{Below.{DataFile, IsNotRefused, shape}, Serving.{format}}
+use Rattle.df_mirror.specs.{Known.{AllShown}, Laws.{HasWoken, IsHurtKnown, NoneCameBack}, Outside.{Outside, Tell}, Run.{Mirrors}, Walks.{content_of_superblock}, declared.status.Status.{Status}}
 use Rattle.df_mirror.specs.declared.status.Status.TheVariants.{Done, Found}
-use Rattle.df_lifetime.specs.Acknowledged.{AllThere}
-use Rattle.df_lifetime.specs.Again.{Again, IsSpared}
-use Rattle.df_lifetime.specs.Life.{Chapter, Life, MayHave}
+use Rattle.df_lifetime.specs.{Acknowledged.{AllThere}, Again.{Again, IsSpared}, Life.{Chapter, Life, MayHave}}
 
 -- A file was damaged within known units, and two superblock copies were spared, after the life by which its newest log began had come to this view. The last open came to its end, or no reply came back.
 pub record IsMendable (file : DataFile) (older : List Log) (b : Told) (view : View) (hurt mended : Image) : Type 0 where

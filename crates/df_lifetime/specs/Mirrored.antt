@@ -1,30 +1,14 @@
 -- What `filemirror` does to a sound file: each unit that is known of it is shown, so it only looks.
-use Rattle.std.specs.Prelude.{◌≡◌, ◌⊎◌, ◌<◌, ◌≤◌, ℕ, List, [], ◌∷◌, slice_index, Some}
-use Rattle.std.specs.List.{slice_get}
-use Rattle.df_base.specs.Image.{Image}
-use Rattle.df_base.specs.Log.{Sync, now}
-use Rattle.df_disk.specs.Adds.{AddsPart}
-use Rattle.df_disk.specs.Told.{Told}
+use Rattle.std.specs.{Prelude.{◌≡◌, ◌⊎◌, ◌<◌, ◌≤◌, ℕ, List, [], ◌∷◌, slice_index, Some}, List.{slice_get}}
+use Rattle.df_base.specs.{Image.{Image}, Log.{Sync, now}}
+use Rattle.df_disk.specs.{Adds.{AddsPart}, Told.{Told}}
 use Rattle.df_layout.specs.declared.layout.Layout.{Layout}
-use Rattle.df_theory.specs.Device.{NoChanceOf}
-use Rattle.df_theory.specs.Found.{IsFound}
-use Rattle.df_theory.specs.Units.{Session}
-use Rattle.df_theory.specs.View.{View, sessions}
+use Rattle.df_theory.specs.{Device.{NoChanceOf}, Found.{IsFound}, Units.{Session}, View.{View, sessions}}
 use Rattle.df_units.specs.Bytes.{unit_at}
-use Rattle.df_session.specs.Anew.{begun_after}
-use Rattle.df_session.specs.Below.{DataFile, shape}
-use Rattle.df_session.specs.Found.{FoundFile}
-use Rattle.df_session.specs.Laws.{CallsKeep}
-use Rattle.df_session.specs.Links.{CallsMade}
-use Rattle.df_session.specs.Making.{MayMakeOn, file_of}
-use Rattle.df_session.specs.Programs.{FileRun}
+use Rattle.df_session.specs.{Anew.{begun_after}, Below.{DataFile, shape}, Found.{FoundFile}, Laws.{CallsKeep}, Links.{CallsMade}, Making.{MayMakeOn, file_of}, Programs.{FileRun}}
 use Rattle.df_session.specs.Serving.{Whole, format}
-use Rattle.df_mirror.specs.Outside.{Outside, Tell}
-use Rattle.df_mirror.specs.Run.{RunsMirror}
-use Rattle.df_mirror.specs.declared.status.Status.{Status}
-use Rattle.df_lifetime.specs.Hurt.{began_with}
-use Rattle.df_lifetime.specs.Life.{Chapter, Life, ShowsFile}
-use Rattle.df_lifetime.specs.Words.{IsQuiet}
+use Rattle.df_mirror.specs.{Outside.{Outside, Tell}, Run.{RunsMirror}, declared.status.Status.{Status}}
+use Rattle.df_lifetime.specs.{Hurt.{began_with}, Life.{Chapter, Life, ShowsFile}, Words.{IsQuiet}}
 
 -- `filemirror` was run over a file whose disk told this before and that after it, with a second one, and did what it promises
 pub record MirrorRun (t n : Told) : Type 0 where

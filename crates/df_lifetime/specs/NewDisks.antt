@@ -1,7 +1,6 @@
 -- Where a life begins.
 use Rattle.std.specs.Prelude.{◌≡◌, ◌<◌, ◌^◌, ℕ}
-use Rattle.df_base.specs.Image.{blank}
-use Rattle.df_base.specs.Log.{AreSyncs}
+use Rattle.df_base.specs.{Image.{blank}, Log.{AreSyncs}}
 use Rattle.df_disk.specs.Told.{Told}
 use Rattle.df_layout.specs.declared.layout.Layout.{Layout}
 use Rattle.df_session.specs.Making.{MayMakeOn}

@@ -1,40 +1,19 @@
 -- What is printed is a function of what the disk shows at first: of `recover`, `scrub` and `workload`, as `df_top` says it of a script and of `inspect`. And whatever fails in
 -- a session, what is written is a front of the text that its script has.
 use Rattle.std.specs.Prelude.{◌≡◌, ◌+◌, ℕ, List, length, None, Some}
-use Rattle.df_base.specs.Image.{Image, IsImage}
-use Rattle.df_base.specs.Streams.{Appends, AppendsPart}
+use Rattle.df_base.specs.{Image.{Image, IsImage}, Streams.{Appends, AppendsPart}}
 use Rattle.df_disk.specs.Told.{Told}
-use Rattle.df_inspect.specs.Reports.{workload_text}
-use Rattle.df_inspect.specs.declared.counts.Workload.{Workload}
+use Rattle.df_inspect.specs.{Reports.{workload_text}, declared.counts.Workload.{Workload}}
 use Rattle.df_layout.specs.declared.layout.Layout.{Layout}
-use Rattle.df_lines.specs.Grammar.{Said}
-use Rattle.df_lines.specs.Room.{line_bound}
-use Rattle.df_lines.specs.Script.{IsScript}
-use Rattle.df_theory.specs.Found.{IsFound}
-use Rattle.df_theory.specs.View.{View, head, sequence}
+use Rattle.df_lines.specs.{Grammar.{Said}, Room.{line_bound}, Script.{IsScript}}
+use Rattle.df_theory.specs.{Found.{IsFound}, View.{View, head, sequence}}
 use Rattle.df_units.specs.Bytes.{unit_at}
-use Rattle.df_model.specs.Commands.{Command}
-use Rattle.df_model.specs.Supply.{result}
-use Rattle.df_session.specs.Below.{DataFile, shape}
-use Rattle.df_session.specs.Reading.{shown_of}
-use Rattle.df_session.specs.Begun.{begun_work}
-use Rattle.df_session.specs.Codec.{codec}
-use Rattle.df_session.specs.Found.{FoundFile}
-use Rattle.df_workload.specs.Asking.{asks}
-use Rattle.df_workload.specs.Following.{Follows}
-use Rattle.df_workload.specs.Rounds.{start}
-use Rattle.df_workload.specs.declared.state.State.{State as Run}
-use Rattle.df_top.specs.Works.{workload_with}
-use Rattle.df_top.specs.OneText.{ShowSame, text_by}
-use Rattle.df_top.specs.Outside.{Outside}
-use Rattle.df_top.specs.Reporting.{Recovers}
+use Rattle.df_model.specs.{Commands.{Command}, Supply.{result}}
+use Rattle.df_session.specs.{Below.{DataFile, shape}, Reading.{shown_of}, Begun.{begun_work}, Codec.{codec}, Found.{FoundFile}}
+use Rattle.df_workload.specs.{Asking.{asks}, Following.{Follows}, Rounds.{start}, declared.state.State.{State as Run}}
+use Rattle.df_top.specs.{Works.{workload_with}, OneText.{ShowSame, text_by}, Outside.{Outside}, Reporting.{Recovers}, Resulting.{script_text_of}, Run.{ServesScript, script_budget}}
+use Rattle.df_top.specs.{Scrubs.{ScrubsFile}, Working.{WorksThrough}, declared.status.Status.{Status}, declared.status.Status.TheVariants.{Done, Found}}
 use Rattle.df_pace.specs.declared.pace.Pace.{Pace}
-use Rattle.df_top.specs.Resulting.{script_text_of}
-use Rattle.df_top.specs.Run.{ServesScript, script_budget}
-use Rattle.df_top.specs.Scrubs.{ScrubsFile}
-use Rattle.df_top.specs.Working.{WorksThrough}
-use Rattle.df_top.specs.declared.status.Status.{Status}
-use Rattle.df_top.specs.declared.status.Status.TheVariants.{Done, Found}
 
 -- ---- a word that is carried out twice
 

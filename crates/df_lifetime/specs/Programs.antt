@@ -1,29 +1,21 @@
 -- What each program does to a file is a run over it: one of the table, a copy of which the file is the source, one of notes. And what makes a file.
 use Rattle.std.specs.Prelude.{◌≡◌, ◌⊎◌, ℕ, List, Some, Result, Ok, Err}
 use Rattle.std.proofs.Common.{inl, inr}
-use Rattle.df_base.specs.Image.{IsImage}
-use Rattle.df_base.specs.Log.{Sync}
+use Rattle.df_base.specs.{Image.{IsImage}, Log.{Sync}}
 use Rattle.df_disk.specs.Told.{IsHonest, Told, did}
 use Rattle.df_layout.specs.declared.layout.Layout.{Layout}
-use Rattle.df_model.specs.declared.errors.FormatError.{FormatError}
-use Rattle.df_model.specs.declared.errors.FormatError.TheVariants.{DiskFault}
-use Rattle.df_session.specs.Below.{IsUnformatted}
-use Rattle.df_session.specs.Found.{FoundFile, no_calls}
-use Rattle.df_session.specs.Making.{FormatsFile, MayMakeOn}
-use Rattle.df_session.specs.Programs.{FileRun, IsSession}
+use Rattle.df_model.specs.{declared.errors.FormatError.{FormatError}, declared.errors.FormatError.TheVariants.{DiskFault}}
+use Rattle.df_session.specs.{Below.{IsUnformatted}, Found.{FoundFile, no_calls}, Making.{FormatsFile, MayMakeOn}, Programs.{FileRun, IsSession}}
 use Rattle.df_program.specs.Two as two
 use Rattle.df_table.specs.Outside as table
 use Rattle.df_table.specs.Run.{DoesTable, RunsTable, TableOutcome}
 use Rattle.df_table.specs.declared.status.Status as table_status
-use Rattle.df_notes.specs.Run.{FindsNotes, MakesFirst, NotesOutcome, RunsNotes, notes_cluster}
+use Rattle.df_notes.specs.{Run.{FindsNotes, MakesFirst, NotesOutcome, RunsNotes, notes_cluster}, declared.ended.Ended.{Ended}}
 use Rattle.df_notes.specs.Serving as noted
-use Rattle.df_notes.specs.declared.ended.Ended.{Ended}
 use Rattle.df_copy.specs.Run.{CopyOutcome, DoesCopy, RunsCopy}
 use Rattle.df_copy.specs.declared.status.Status as copy_status
-use Rattle.df_top.specs.declared.status.Status.{Status}
-use Rattle.df_top.specs.declared.status.Status.TheVariants.{Done, Memory}
-use Rattle.df_lifetime.specs.Life.{MadeOn}
-use Rattle.df_lifetime.specs.Words.{FormatWord, IsQuiet}
+use Rattle.df_top.specs.{declared.status.Status.{Status}, declared.status.Status.TheVariants.{Done, Memory}}
+use Rattle.df_lifetime.specs.{Life.{MadeOn}, Words.{FormatWord, IsQuiet}}
 
 -- ---- a table
 

@@ -1,12 +1,8 @@
 -- Each read of what a file holds is Ok: no prepare, reply or block that is kept is refused or found damaged on a disk that is honest over the log by which it is kept.
-use Rattle.std.specs.Prelude.{◌≡◌, ◌<◌, ◌≤◌, ℕ, Ok, Option, Some}
-use Rattle.std.specs.List.{slice_get}
+use Rattle.std.specs.{Prelude.{◌≡◌, ◌<◌, ◌≤◌, ℕ, Ok, Option, Some}, List.{slice_get}}
 use Rattle.df_disk.specs.Told.{IsHonest, Told}
-use Rattle.df_theory.specs.Tails.{In}
-use Rattle.df_theory.specs.Units.{Block, Message, Session}
-use Rattle.df_theory.specs.View.{head, sessions}
-use Rattle.df_model.specs.Commands.{Answer, Command, Given, ReadBlock, ReadPrepare, ReadReply, ToReadBlock, ToReadPrepare, ToReadReply}
-use Rattle.df_model.specs.Work.{Work}
+use Rattle.df_theory.specs.{Tails.{In}, Units.{Block, Message, Session}, View.{head, sessions}}
+use Rattle.df_model.specs.{Commands.{Answer, Command, Given, ReadBlock, ReadPrepare, ReadReply, ToReadBlock, ToReadPrepare, ToReadReply}, Work.{Work}}
 use Rattle.df_session.specs.Below.{State}
 use Rattle.df_session.specs.Serving.{Grade, IsCall, IsKept, Whole}
 

@@ -4,20 +4,11 @@ use Rattle.df_base.specs.Log.{Log, Sync, add}
 use Rattle.df_disk.specs.Told.{Told}
 use Rattle.df_history.specs.Histories.{Among, InHistoryPools, all_settled}
 use Rattle.df_layout.specs.declared.layout.Layout.{Layout}
-use Rattle.df_theory.specs.Holds.{Stands}
-use Rattle.df_theory.specs.Units.{Units}
-use Rattle.df_theory.specs.View.{View}
+use Rattle.df_theory.specs.{Holds.{Stands}, Units.{Units}, View.{View}}
 use Rattle.df_rows.specs.Tables.{Table}
-use Rattle.df_session.specs.Below.{DataFile, FindsSince, units_logs}
-use Rattle.df_session.specs.Found.{FoundFile}
-use Rattle.df_session.specs.Serving.{Firm}
-use Rattle.df_table.specs.declared.status.Status.{Status}
-use Rattle.df_table.specs.Outside.{Outside}
-use Rattle.df_table.specs.Run.{ServesTable}
-use Rattle.df_table.specs.Table.{IsObjectTable, IsTableBy}
-use Rattle.df_lifetime.specs.Again.{Again, IsSpared}
-use Rattle.df_lifetime.specs.Life.{Life, ShowsFile, ToItsEnd, chapter_of}
-use Rattle.df_lifetime.specs.Tables.{IsTableLife, TableChapter}
+use Rattle.df_session.specs.{Below.{DataFile, FindsSince, units_logs}, Found.{FoundFile}, Serving.{Firm}}
+use Rattle.df_table.specs.{declared.status.Status.{Status}, Outside.{Outside}, Run.{ServesTable}, Table.{IsObjectTable, IsTableBy}}
+use Rattle.df_lifetime.specs.{Again.{Again, IsSpared}, Life.{Life, ShowsFile, ToItsEnd, chapter_of}, Tables.{IsTableLife, TableChapter}}
 
 -- The one table of a view, by the logs of a file: each of its blocks was written at its address in one of them, and each settled image of them that shows each block which the view references has it.
 pub record IsTableOfLogs (file : DataFile) (logs : List Log) (view : View) (table : Table) : Type 0 where

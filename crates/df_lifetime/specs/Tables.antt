@@ -3,33 +3,18 @@ use Rattle.std.specs.Prelude.{◌≡◌, ◌⊎◌, ℕ, zero, suc, List, [], �
 use Rattle.df_base.specs.Log.{now}
 use Rattle.df_disk.specs.Told.{Told}
 use Rattle.df_layout.specs.declared.layout.Layout.{Layout}
-use Rattle.df_theory.specs.Device.{NoChanceOf}
-use Rattle.df_theory.specs.View.{View}
+use Rattle.df_theory.specs.{Device.{NoChanceOf}, View.{View}}
 use Rattle.df_units.specs.Bytes.{unit_at}
-use Rattle.df_rows.specs.declared.command.Command.{Command as Change}
-use Rattle.df_rows.specs.Tables.{Table, with_commands}
-use Rattle.df_session.specs.Below.{DataFile}
-use Rattle.df_session.specs.Following.{MayOpen}
-use Rattle.df_session.specs.Found.{FoundFile, no_calls}
-use Rattle.df_session.specs.Links.{CallsMade, list_of}
-use Rattle.df_session.specs.Programs.{FileRun, IsSession, LooksOnly, Serves, StopsInOpen}
-use Rattle.df_session.specs.Serving.{format}
-use Rattle.df_session.specs.Session.{acts_in}
+use Rattle.df_rows.specs.{declared.command.Command.{Command as Change}, Tables.{Table, with_commands}}
+use Rattle.df_session.specs.{Below.{DataFile}, Following.{MayOpen}, Found.{FoundFile, no_calls}, Links.{CallsMade, list_of}, Programs.{FileRun, IsSession, LooksOnly, Serves, StopsInOpen}}
+use Rattle.df_session.specs.{Serving.{format}, Session.{acts_in}}
 use Rattle.df_program.specs.Two as two
 use Rattle.df_copy.specs.Run.{CopyOutcome}
 use Rattle.df_copy.specs.declared.status.Status as copy_status
-use Rattle.df_top.specs.declared.mode.Mode.{Mode}
-use Rattle.df_top.specs.declared.mode.Mode.TheVariants.{Inspect, Recover, Scrub}
-use Rattle.df_table.specs.declared.ending.Ending.TheVariants.{Disk}
-use Rattle.df_table.specs.declared.status.Status.{Status}
-use Rattle.df_table.specs.Keeping.{AreChanges, KeepsTable, LeaveTable}
-use Rattle.df_table.specs.Laws.{FindsIn}
-use Rattle.df_table.specs.Outside.{Outside}
-use Rattle.df_table.specs.Run.{ServesTable}
-use Rattle.df_table.specs.Table.{IsObjectTable, empty_table}
-use Rattle.df_lifetime.specs.Life.{Chapter, Extent, Life, ToAMoment, ToItsEnd}
-use Rattle.df_lifetime.specs.Life.Life.{Begun, Ended, Made, Opened, Ran, Spared, Stopped, Taken}
-use Rattle.df_lifetime.specs.Programs.{CopyGoesAs, TableGoesAs, TableRun}
+use Rattle.df_top.specs.{declared.mode.Mode.{Mode}, declared.mode.Mode.TheVariants.{Inspect, Recover, Scrub}}
+use Rattle.df_table.specs.{declared.ending.Ending.TheVariants.{Disk}, declared.status.Status.{Status}, Keeping.{AreChanges, KeepsTable, LeaveTable}, Laws.{FindsIn}, Outside.{Outside}}
+use Rattle.df_table.specs.{Run.{ServesTable}, Table.{IsObjectTable, empty_table}}
+use Rattle.df_lifetime.specs.{Life.{Chapter, Extent, Life, ToAMoment, ToItsEnd}, Life.Life.{Begun, Ended, Made, Opened, Ran, Spared, Stopped, Taken}, Programs.{CopyGoesAs, TableGoesAs, TableRun}}
 use Rattle.df_lifetime.specs.Words.{GoesAs, IsQuiet, Word, outcome_of}
 
 -- ---- what a session does to the table

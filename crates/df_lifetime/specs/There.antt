@@ -1,13 +1,8 @@
 -- What was acknowledged is in a view: prepares, alone or in groups, replies and checkpoints.
-use Rattle.std.specs.Prelude.{◌≡◌, ◌<◌, ◌≤◌, ◌+◌, ℕ, List, [], ◌∷◌, ◌++◌, drop, length, Ok, Some}
-use Rattle.std.specs.List.{slice_get}
-use Rattle.df_theory.specs.Tails.{In}
-use Rattle.df_theory.specs.Units.{Message, Session}
-use Rattle.df_theory.specs.View.{View, head, sequence, sessions}
-use Rattle.df_model.specs.Commands.{Advance, Answer, Append, Command, Flush, Given, Reply, Stage, ToAdvance, ToAppend, ToFlush, ToReply, ToStage, supplied_sums}
-use Rattle.df_model.specs.Making.{first_of}
-use Rattle.df_model.specs.Work.{Request, Work}
-use Rattle.df_model.specs.declared.answers.Progress.TheVariants.{Done}
+use Rattle.std.specs.{Prelude.{◌≡◌, ◌<◌, ◌≤◌, ◌+◌, ℕ, List, [], ◌∷◌, ◌++◌, drop, length, Ok, Some}, List.{slice_get}}
+use Rattle.df_theory.specs.{Tails.{In}, Units.{Message, Session}, View.{View, head, sequence, sessions}}
+use Rattle.df_model.specs.{Commands.{Advance, Answer, Append, Command, Flush, Given, Reply, Stage, ToAdvance, ToAppend, ToFlush, ToReply, ToStage, supplied_sums}, Making.{first_of}}
+use Rattle.df_model.specs.{Work.{Request, Work}, declared.answers.Progress.TheVariants.{Done}}
 
 -- the prepare that was appended with this op and checksum is in the view: a checkpoint has reached its op, or it stands in the tail
 pub record HasPrepare (v : View) (op sum client request : ℕ) (body : List ℕ) : Type 0 where

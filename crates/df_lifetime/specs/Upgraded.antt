@@ -1,25 +1,14 @@
 -- A file of version 1 goes on: where the word `upgrade` ends, a life begins; and where it is stopped, one begins, or the file is as it was and the word may be run again.
 use Rattle.std.specs.Prelude.{◌≡◌, ◌⊎◌, []}
-use Rattle.df_base.specs.declared.TheConstants.{FIRST_VERSION, VERSION}
-use Rattle.df_base.specs.Image.{Image, IsImage}
-use Rattle.df_base.specs.Log.{IsLeft, Sync}
-use Rattle.df_base.specs.Moments.{Extends}
+use Rattle.df_base.specs.{declared.TheConstants.{FIRST_VERSION, VERSION}, Image.{Image, IsImage}, Log.{IsLeft, Sync}, Moments.{Extends}}
 use Rattle.df_disk.specs.Told.{Told, did}
-use Rattle.df_theory.specs.Device.{NoChanceOf}
-use Rattle.df_theory.specs.Found.{IsClean, IsFound}
-use Rattle.df_theory.specs.Holds.{Stands}
-use Rattle.df_theory.specs.Next.{IsSameBare}
-use Rattle.df_theory.specs.Upgrades.{as_version}
-use Rattle.df_theory.specs.View.{View}
+use Rattle.df_theory.specs.{Device.{NoChanceOf}, Found.{IsClean, IsFound}, Holds.{Stands}, Next.{IsSameBare}, Upgrades.{as_version}, View.{View}}
 use Rattle.df_history.specs.OpenLaws.{BeginsHistory}
 use Rattle.df_units.specs.Bytes.{unit_at}
-use Rattle.df_session.specs.Below.{AreDistinctUnits, DataFile, restarted, shape}
-use Rattle.df_session.specs.Serving.{format}
+use Rattle.df_session.specs.{Below.{AreDistinctUnits, DataFile, restarted, shape}, Serving.{format}}
 use Rattle.df_upgrade.specs.Upgrading.{second}
-use Rattle.df_top.specs.declared.status.Status.{Status}
-use Rattle.df_top.specs.declared.status.Status.TheVariants.{Done}
-use Rattle.df_lifetime.specs.Life.{GoesAlong, Life, MayTake}
-use Rattle.df_lifetime.specs.Words.{UpgradeWord}
+use Rattle.df_top.specs.{declared.status.Status.{Status}, declared.status.Status.TheVariants.{Done}}
+use Rattle.df_lifetime.specs.{Life.{GoesAlong, Life, MayTake}, Words.{UpgradeWord}}
 
 -- A file of version 1: an open that asks for that finds this view in the image, each block is there that it references, and no two units have one checksum.
 pub record IsOld (file : DataFile) (view : View) (image : Image) : Type 0 where

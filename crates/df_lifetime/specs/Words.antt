@@ -4,16 +4,10 @@ use Rattle.std.proofs.Common.{inl, inr}
 use Rattle.df_base.specs.Image.{IsImage}
 use Rattle.df_disk.specs.Told.{Told}
 use Rattle.df_layout.specs.declared.layout.Layout.{Layout}
-use Rattle.df_session.specs.Found.{FoundFile, no_calls}
-use Rattle.df_session.specs.Programs.{FileRun, IsSession, calls_in_run}
-use Rattle.df_top.specs.Acknowledging.{run_calls, script_calls}
-use Rattle.df_top.specs.Formats.{Formats, MakesFile}
-use Rattle.df_top.specs.Outside.{Outside}
-use Rattle.df_top.specs.Upgrading.{RunsUpgrade}
-use Rattle.df_top.specs.Run.{ComesTo, DidNothing, Does, RefusesSuperblock, Runs, ServesIn, ServesOwn, Works}
-use Rattle.df_top.specs.declared.mode.Mode.{Mode}
-use Rattle.df_top.specs.declared.mode.Mode.TheVariants.{Paced, Recover, Run, Scrub, Workload}
-use Rattle.df_top.specs.declared.status.Status.{Status}
+use Rattle.df_session.specs.{Found.{FoundFile, no_calls}, Programs.{FileRun, IsSession, calls_in_run}}
+use Rattle.df_top.specs.{Acknowledging.{run_calls, script_calls}, Formats.{Formats, MakesFile}, Outside.{Outside}, Upgrading.{RunsUpgrade}}
+use Rattle.df_top.specs.{Run.{ComesTo, DidNothing, Does, RefusesSuperblock, Runs, ServesIn, ServesOwn, Works}, declared.mode.Mode.{Mode}}
+use Rattle.df_top.specs.{declared.mode.Mode.TheVariants.{Paced, Recover, Run, Scrub, Workload}, declared.status.Status.{Status}}
 
 -- ---- a word on a file
 

@@ -1,6 +1,5 @@
 // What is found after damage before any number of opens: laws, each the clause of a function that does nothing.
-ghost use Rattle.df_lifetime.specs.Again.{EveryLifeIsLived, EveryOpenFindsSince, LifeBeginsAnew, OtherWordsLeaveIt, RunsKeepSince, UpgradedMayBeDamaged};
-ghost use Rattle.df_lifetime.specs.Mending.{MendedLifeGoesOn};
+ghost use Rattle.df_lifetime.specs.{Again.{EveryLifeIsLived, EveryOpenFindsSince, LifeBeginsAnew, OtherWordsLeaveIt, RunsKeepSince, UpgradedMayBeDamaged}, Mending.{MendedLifeGoesOn}};
 
 /// Whatever sessions, stops and damage a file has had, while two superblock copies were spared before each open, and all four after
 /// an update that was stopped: an open that finds a state finds one that the file had since the last open that raised its boot. From

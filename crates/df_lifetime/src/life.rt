@@ -1,9 +1,6 @@
 // The laws by which sessions compose, and where a life begins.
-ghost use Rattle.df_lifetime.specs.Life.{EveryLifeGoesOn, EveryLifeIsInOrder, EveryOpenBegins, EveryRunGoesAlong, IdleSessionsLeaveIt};
-ghost use Rattle.df_lifetime.specs.Acknowledged.{AcknowledgedIsFound};
-ghost use Rattle.df_lifetime.specs.Copied.{CopiedBegins, MadeIsCopied, StoppedIsCopied};
-ghost use Rattle.df_lifetime.specs.Upgraded.{DoneIsUpgraded, StoppedIsUpgraded, UpgradedBegins};
-ghost use Rattle.df_lifetime.specs.NewDisks.{NewDisksAreMadeOn};
+ghost use Rattle.df_lifetime.specs.{Life.{EveryLifeGoesOn, EveryLifeIsInOrder, EveryOpenBegins, EveryRunGoesAlong, IdleSessionsLeaveIt}, Acknowledged.{AcknowledgedIsFound}};
+ghost use Rattle.df_lifetime.specs.{Copied.{CopiedBegins, MadeIsCopied, StoppedIsCopied}, Upgraded.{DoneIsUpgraded, StoppedIsUpgraded, UpgradedBegins}, NewDisks.{NewDisksAreMadeOn}};
 
 /// A life begins on a disk that was never written; and at the end of any open that answered, whatever was done to the disk before. Whatever life a file has had, of runs of any programs, it is in order, and the next open finds what it has
 /// come to: in it is all that was acknowledged in any session of any program. Its log goes along with what the disk tells of each run, also

@@ -1,6 +1,5 @@
 // What is printed is a function of what the disk shows and of the words: laws, each the clause of a function that does nothing.
-ghost use Rattle.df_lifetime.specs.Printed.{FrontIsWritten, OneRun, RunTextIsResult};
-ghost use Rattle.df_lifetime.specs.Printed.{RecoverHasOneText, ScrubHasOneText, WorkloadHasOneText};
+ghost use Rattle.df_lifetime.specs.{Printed.{FrontIsWritten, OneRun, RunTextIsResult}, Printed.{RecoverHasOneText, ScrubHasOneText, WorkloadHasOneText}};
 
 /// A word has one text and one status over what a disk shows: carried out over two disks that show the same place by place, where no
 /// call of the disk or of the sink failed, it prints the same and ends with the same status.

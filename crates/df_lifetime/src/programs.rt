@@ -1,6 +1,5 @@
 // What each program does to a file, as a life has it: laws, each the clause of a function that does nothing.
-ghost use Rattle.df_lifetime.specs.Mirrored.{MadeShowsRecords, MirrorIsRun, OpenedShowsRecords};
-ghost use Rattle.df_lifetime.specs.Programs.{CallIsMaking, NotesBegin, NotesIsRun, SourceIsRun, TableIsRun, WordIsMaking};
+ghost use Rattle.df_lifetime.specs.{Mirrored.{MadeShowsRecords, MirrorIsRun, OpenedShowsRecords}, Programs.{CallIsMaking, NotesBegin, NotesIsRun, SourceIsRun, TableIsRun, WordIsMaking}};
 ghost use Rattle.df_lifetime.specs.Words.{WordIsRun};
 
 /// Each word of `datafile` that works on a file, each run of `objecttable` and of `notes`, and each of `filecopy` over its source, is a run

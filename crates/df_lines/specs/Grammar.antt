@@ -1,8 +1,7 @@
 -- What one line of a script says.
 use Rattle.std.specs.Prelude.{◌≡◌, ◌⊎◌, ◌<◌, ◌≤◌, ◌^◌, ℕ, List, [], ◌∷◌, ◌++◌, length, take, codes, decimal, Ok, ⊤}
 use Rattle.hex.specs.Hex.{decode_of}
-use Rattle.df_lines.specs.Kind.{Grammar}
-use Rattle.df_lines.specs.declared.line.Line.{Line}
+use Rattle.df_lines.specs.{Kind.{Grammar}, declared.line.Line.{Line}}
 use Rattle.df_lines.specs.declared.line.Line.TheVariants as lines
 
 -- a line, with its body

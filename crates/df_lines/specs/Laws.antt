@@ -1,7 +1,6 @@
 -- What a text says is determined.
 use Rattle.std.specs.Prelude.{◌≡◌, ℕ, List, []}
-use Rattle.df_lines.specs.Grammar.{Said, SaysLine}
-use Rattle.df_lines.specs.Script.{AreLines, BeginsWithLines, IsScript}
+use Rattle.df_lines.specs.{Grammar.{Said, SaysLine}, Script.{AreLines, BeginsWithLines, IsScript}}
 
 -- a line says one thing
 abbrev pub OneLineMeaning : Type 0

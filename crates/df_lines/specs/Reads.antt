@@ -1,11 +1,7 @@
 -- What a reader gives for the next line, of a grammar.
 use Rattle.std.specs.Prelude.{◌≡◌, ◌⊎◌, ◌<◌, ◌≤◌, ◌-◌, ℕ, List, [], length, take, drop, Option, Some, Result, Ok, Err}
-use Rattle.df_lines.specs.declared.next.Next.{Next}
+use Rattle.df_lines.specs.{declared.next.Next.{Next}, Kind.{Grammar}, Lines.{IsLine, IsRefused}, Text.{Reading, line_of, after_line, taken, unread}, Room.{Contents, ReaderParts}}
 use Rattle.df_lines.specs.declared.next.Next.TheVariants as nexts
-use Rattle.df_lines.specs.Kind.{Grammar}
-use Rattle.df_lines.specs.Lines.{IsLine, IsRefused}
-use Rattle.df_lines.specs.Text.{Reading, line_of, after_line, taken, unread}
-use Rattle.df_lines.specs.Room.{Contents, ReaderParts}
 
 -- The text is at its end, and the source was read to its end.
 pub record EndsReading (text : List ℕ) (after left : Option (List ℕ)) : Type 0 where

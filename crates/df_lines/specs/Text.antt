@@ -1,6 +1,5 @@
 -- The lines of a script's text, from the first on.
-use Rattle.std.specs.Prelude.{◌≤◌, ◌-◌, ◌==◌, ℕ, List, ◌++◌, length, Option, Some, None}
-use Rattle.std.specs.List.{before_first, after_first}
+use Rattle.std.specs.{Prelude.{◌≤◌, ◌-◌, ◌==◌, ℕ, List, ◌++◌, length, Option, Some, None}, List.{before_first, after_first}}
 
 -- the first line of a text, up to its byte 10 or the text's end
 abbrev pub line_of : List ℕ → List ℕ

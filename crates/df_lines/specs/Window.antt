@@ -1,9 +1,7 @@
 -- The bytes that were read of a source and are still to be taken.
-use Rattle.std.specs.Prelude.{◌≡◌, ◌<◌, ◌≤◌, ◌+◌, ◌==◌, ◌⊎◌, ℕ, Bool, IsTrue, List, [], length}
-use Rattle.std.specs.List.{position_or_len}
-use Rattle.df_lines.specs.declared.window.Found.{Found}
+use Rattle.std.specs.{Prelude.{◌≡◌, ◌<◌, ◌≤◌, ◌+◌, ◌==◌, ◌⊎◌, ℕ, Bool, IsTrue, List, [], length}, List.{position_or_len}}
+use Rattle.df_lines.specs.{declared.window.Found.{Found}, Room.{Contents}}
 use Rattle.df_lines.specs.declared.window.Found.TheVariants as founds
-use Rattle.df_lines.specs.Room.{Contents}
 
 -- the byte 10 ends a line
 abbrev pub is_feed : ℕ → Bool

@@ -1,6 +1,5 @@
 -- The words of a line.
-use Rattle.std.specs.Prelude.{◌≡◌, ◌==◌, ℕ, Bool, List, ◌∷◌, ◌++◌, length, Option, position}
-use Rattle.std.specs.List.{before_first, after_first, position_or_len}
+use Rattle.std.specs.{Prelude.{◌≡◌, ◌==◌, ℕ, Bool, List, ◌∷◌, ◌++◌, length, Option, position}, List.{before_first, after_first, position_or_len}}
 
 -- a space, the byte 32
 abbrev pub is_space : ℕ → Bool

@@ -1,6 +1,5 @@
 // Decimal numbers in their one spelling: digits with no zero before them, `0` itself aside.
-ghost use Rattle.std.specs.Prelude.{◌≡◌, ◌<◌, ◌≤◌, ◌^◌, ℕ, List, [], ◌∷◌, ◌++◌};
-ghost use Rattle.std.specs.Prelude.{decimal, IfSome, IfNone};
+ghost use Rattle.std.specs.{Prelude.{◌≡◌, ◌<◌, ◌≤◌, ◌^◌, ℕ, List, [], ◌∷◌, ◌++◌}, Prelude.{decimal, IfSome, IfNone}};
 
 /// The number that the bytes spell, or None where they spell none below 2^32.
 pub fn u32_of(digits: &[u8]) -> Option<u32>

@@ -1,7 +1,6 @@
 // What a line of a script says, by cases of its first word. The grammar has one meaning for a line at most.
 ghost use Rattle.std.specs.Prelude.{◌≡◌, List, ℕ, IfSome, IfNone};
-ghost use Rattle.df_lines.specs.Grammar.{Said, SaysLine, said_with, body_length, script_lines};
-ghost use Rattle.df_lines.specs.Words.{HasNoSpace};
+ghost use Rattle.df_lines.specs.{Grammar.{Said, SaysLine, said_with, body_length, script_lines}, Words.{HasNoSpace}};
 
 use crate::arguments::{decode, request, sized};
 use crate::kind::LineKind;

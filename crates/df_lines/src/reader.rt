@@ -1,10 +1,7 @@
 // The reader of a script: one line after the other, through one buffer for lines and one for bodies.
-ghost use Rattle.std.specs.Prelude.{◌≡◌, ◌<◌, ◌≤◌, ◌*◌, ◌^◌, List, ℕ, length, take, vec_len};
-ghost use Rattle.std.specs.Prelude.{IsTrue, IfOk, OnErr};
+ghost use Rattle.std.specs.{Prelude.{◌≡◌, ◌<◌, ◌≤◌, ◌*◌, ◌^◌, List, ℕ, length, take, vec_len}, Prelude.{IsTrue, IfOk, OnErr}};
 ghost use Rattle.df_base.specs.Causes.{HasCause};
-ghost use Rattle.df_lines.specs.Room.{HasTextToCome, IsAtEnd, IsFresh, line_bound};
-ghost use Rattle.df_lines.specs.Reads.{GivesNext, Spends, Takes, text_after};
-ghost use Rattle.df_lines.specs.Text.{unread};
+ghost use Rattle.df_lines.specs.{Room.{HasTextToCome, IsAtEnd, IsFresh, line_bound}, Reads.{GivesNext, Spends, Takes, text_after}, Text.{unread}};
 
 use crate::kind::LineKind;
 use crate::next::Next;

@@ -1,11 +1,7 @@
 // The bytes that were read of a source and are still to be taken, in one buffer.
-ghost use Rattle.std.specs.Prelude.{◌≡◌, ◌<◌, ◌≤◌, ◌+◌, ◌-◌, ◌↔◌, ◌⊎◌, [], length, take, drop, false, position};
-ghost use Rattle.std.specs.Prelude.{vec_len, IsTrue, IfOk, IfSome, IfNone, OnOk, OnErr};
-ghost use Rattle.df_base.specs.Causes.{HasCause};
-ghost use Rattle.df_base.specs.Streams.{Gives};
-ghost use Rattle.df_lines.specs.Room.{Contents, IsAtEnd};
-ghost use Rattle.df_lines.specs.Text.{unread};
-ghost use Rattle.df_lines.specs.Window.{FindsLine, is_feed, line_end};
+ghost use Rattle.std.specs.{Prelude.{◌≡◌, ◌<◌, ◌≤◌, ◌+◌, ◌-◌, ◌↔◌, ◌⊎◌, [], length, take, drop, false, position}, Prelude.{vec_len, IsTrue, IfOk, IfSome, IfNone, OnOk, OnErr}};
+ghost use Rattle.df_base.specs.{Causes.{HasCause}, Streams.{Gives}};
+ghost use Rattle.df_lines.specs.{Room.{Contents, IsAtEnd}, Text.{unread}, Window.{FindsLine, is_feed, line_end}};
 
 use df_base::{Failed, OutOfMemory, Source};
 use memchr::memchr;

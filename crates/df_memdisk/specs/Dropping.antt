@@ -1,8 +1,6 @@
 -- What contracts see of a disk that loses writes.
-use Rattle.std.specs.Prelude.{◌≡◌, ℕ, Bool, true, false, ◌==◌, List, Option, None, Result, IsOk}
-use Rattle.std.specs.List.{list_any}
-use Rattle.df_base.specs.Causes.{counted}
-use Rattle.df_base.specs.Log.{Event}
+use Rattle.std.specs.{Prelude.{◌≡◌, ℕ, Bool, true, false, ◌==◌, List, Option, None, Result, IsOk}, List.{list_any}}
+use Rattle.df_base.specs.{Causes.{counted}, Log.{Event}}
 use Rattle.df_disk.specs.Told.{Told}
 use Rattle.df_memdisk.specs.State.{DiskState, WritesEvent}
 

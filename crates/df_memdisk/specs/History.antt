@@ -1,9 +1,7 @@
 -- What a disk in memory keeps of its past, as the events of a log.
 use Rattle.std.specs.Prelude.{ℕ, List, map, reverse}
 use Rattle.df_base.specs.Log.{Event, Write, Sync, Stop}
-use Rattle.df_memdisk.specs.declared.change.Change.{Change}
-use Rattle.df_memdisk.specs.declared.history.Happened.{Happened}
-use Rattle.df_memdisk.specs.declared.history.Happened.TheVariants.{Wrote, Synced, Stopped}
+use Rattle.df_memdisk.specs.{declared.change.Change.{Change}, declared.history.Happened.{Happened}, declared.history.Happened.TheVariants.{Wrote, Synced, Stopped}}
 
 -- sectors with the bytes that a stop leaves there
 abbrev pub changes_of : List Change → List (ℕ × List ℕ)

@@ -1,8 +1,6 @@
 -- The newest bytes that events gave a sector, which is what a read of the sector shows.
 use Rattle.std.specs.Prelude.{ℕ, ◌==◌, ◌-◌, ◌*◌, List, [], ◌∷◌, take, drop, Option, Some, None, if◌then◌else◌}
-use Rattle.df_base.specs.declared.TheConstants.{SECTOR}
-use Rattle.df_base.specs.Image.{covers}
-use Rattle.df_base.specs.Log.{Event, Write, Sync, Stop}
+use Rattle.df_base.specs.{declared.TheConstants.{SECTOR}, Image.{covers}, Log.{Event, Write, Sync, Stop}}
 
 -- the one, and where it is missing the other
 abbrev pub first_some : Option (List ℕ) → Option (List ℕ) → Option (List ℕ)

@@ -1,14 +1,8 @@
 -- What contracts see of a disk in memory.
 use Rattle.std.specs.Prelude.{◌≡◌, ◌⊎◌, ℕ, true, not, List, ◌∷◌, length, map, reverse, find, Option, Result, OnErr, OnOk}
-use Rattle.df_base.specs.Causes.{counted}
-use Rattle.df_base.specs.Image.{blank}
-use Rattle.df_base.specs.Log.{Event, Log, Sync, AreEvents, loose_of}
-use Rattle.df_base.specs.Plan.{FailsExactly, Plan, after_call, is_listed}
+use Rattle.df_base.specs.{Causes.{counted}, Image.{blank}, Log.{Event, Log, Sync, AreEvents, loose_of}, Plan.{FailsExactly, Plan, after_call, is_listed}}
 use Rattle.df_disk.specs.Told.{Told, did}
-use Rattle.df_memdisk.specs.Struck.{shown_after, AreBehind}
-use Rattle.df_memdisk.specs.declared.shown.Struck.{Struck}
-use Rattle.df_memdisk.specs.History.{events_of}
-use Rattle.df_memdisk.specs.declared.history.Happened.{Happened}
+use Rattle.df_memdisk.specs.{Struck.{shown_after, AreBehind}, declared.shown.Struck.{Struck}, History.{events_of}, declared.history.Happened.{Happened}}
 
 -- the events since the disk was blank, the newest first; the strikes, likewise; which calls fail; how many growths were refused
 pub record DiskState : Type 0 where

@@ -1,12 +1,8 @@
 -- What a strike makes of what a disk tells.
 use Rattle.std.specs.Prelude.{ℕ, ◌≤◌, List, [], ◌∷◌, length, replicate}
-use Rattle.df_base.specs.declared.TheConstants.{SECTOR}
-use Rattle.df_base.specs.Image.{changed}
-use Rattle.df_base.specs.Log.{Event, now_of}
+use Rattle.df_base.specs.{declared.TheConstants.{SECTOR}, Image.{changed}, Log.{Event, now_of}}
 use Rattle.df_disk.specs.Told.{Told}
-use Rattle.df_memdisk.specs.Struck.{first_events}
-use Rattle.df_memdisk.specs.declared.strike.Strike.{Strike}
-use Rattle.df_memdisk.specs.declared.strike.Strike.TheVariants.{Fill, Earlier, Like}
+use Rattle.df_memdisk.specs.{Struck.{first_events}, declared.strike.Strike.{Strike}, declared.strike.Strike.TheVariants.{Fill, Earlier, Like}}
 
 -- a sector of equal bytes
 unfoldable pub filled : ℕ → List ℕ

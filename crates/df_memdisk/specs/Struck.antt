@@ -1,7 +1,6 @@
 -- What a disk shows once sectors were struck.
 use Rattle.std.specs.Prelude.{ℕ, ◌==◌, ◌≤◌, List, [], ◌∷◌, take, drop, reverse, find, Option, Some, None}
-use Rattle.df_base.specs.Image.{Image, blank}
-use Rattle.df_base.specs.Log.{Event, now_of}
+use Rattle.df_base.specs.{Image.{Image, blank}, Log.{Event, now_of}}
 use Rattle.df_memdisk.specs.declared.shown.Struck.{Struck}
 
 -- a log lists its newest event first: its first n events, and all of them where there are fewer

@@ -1,7 +1,6 @@
 // What a stop changes on a disk, and why it is refused.
 ghost use Rattle.std.specs.Prelude.{◌≡◌, length};
-ghost use Rattle.df_base.specs.declared.TheConstants.{SECTOR};
-ghost use Rattle.df_base.specs.Image.{IsSector};
+ghost use Rattle.df_base.specs.{declared.TheConstants.{SECTOR}, Image.{IsSector}};
 
 use df_base::SECTOR;
 

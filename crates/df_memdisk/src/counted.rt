@@ -1,9 +1,7 @@
 // What a test that goes on with a disk asks of it: calls that are counted anew, and how many of its events are durable.
 ghost use Rattle.std.specs.Prelude.{◌≡◌, length};
-ghost use Rattle.df_base.specs.Log.{loose_of};
-ghost use Rattle.df_base.specs.Plan.{new_plan};
-ghost use Rattle.df_memdisk.specs.History.{events_of};
-ghost use Rattle.df_memdisk.specs.Settled.{durable};
+ghost use Rattle.df_base.specs.{Log.{loose_of}, Plan.{new_plan}};
+ghost use Rattle.df_memdisk.specs.{History.{events_of}, Settled.{durable}};
 
 use crate::MemoryDisk;
 use crate::history::{Happened, is_loose};

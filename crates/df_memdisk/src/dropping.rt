@@ -1,11 +1,8 @@
 // A disk that loses writes: it answers Ok to some without doing them, as a device does whose writes are misdirected or lost.
 ghost use Rattle.std.specs.Prelude.{◌≡◌, ◌⊎◌, length, is_err, Some, OnOk, OnErr};
-ghost use Rattle.df_base.specs.Causes.{HasCause, counted};
-ghost use Rattle.df_base.specs.Log.{Write, Sync};
-ghost use Rattle.df_base.specs.Plan.{is_listed, after_call};
+ghost use Rattle.df_base.specs.{Causes.{HasCause, counted}, Log.{Write, Sync}, Plan.{is_listed, after_call}};
 ghost use Rattle.df_disk.specs.Told.{AreSectors, IsHonest, Shows, after};
-ghost use Rattle.df_memdisk.specs.State.{SyncsEvents, told_of};
-ghost use Rattle.df_memdisk.specs.Dropping.{WritesUnlessDropped, is_dropped, tells_nothing};
+ghost use Rattle.df_memdisk.specs.{State.{SyncsEvents, told_of}, Dropping.{WritesUnlessDropped, is_dropped, tells_nothing}};
 
 use crate::MemoryDisk;
 use df_base::Failed;

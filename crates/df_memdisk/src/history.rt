@@ -1,9 +1,7 @@
 // The past of a disk, the oldest event first: what it left in a sector, and which sectors are loose.
 ghost use Rattle.std.specs.Prelude.{◌≡◌, length, option_copied, IfSome};
-ghost use Rattle.df_base.specs.declared.TheConstants.{SECTOR};
-ghost use Rattle.df_base.specs.Log.{loose_of, now_of};
-ghost use Rattle.df_memdisk.specs.History.{changes_of, event_of, events_of};
-ghost use Rattle.df_memdisk.specs.Newest.{last_change, given_by, newest_of};
+ghost use Rattle.df_base.specs.{declared.TheConstants.{SECTOR}, Log.{loose_of, now_of}};
+ghost use Rattle.df_memdisk.specs.{History.{changes_of, event_of, events_of}, Newest.{last_change, given_by, newest_of}};
 
 use crate::change::Change;
 use crate::written::Written;

@@ -1,10 +1,7 @@
 // The disk itself: it keeps each event, so that its log is real, and shows what the log leaves, but
 // for sectors that were struck.
 ghost use Rattle.std.specs.Prelude.{◌≡◌, ◌≤◌, ◌⊎◌, [], ◌∷◌, length, true, is_err, Some, OnOk, OnErr};
-ghost use Rattle.df_base.specs.Causes.{HasCause, counted};
-ghost use Rattle.df_base.specs.Image.{blank};
-ghost use Rattle.df_base.specs.Log.{new_log, Write, Sync, AreEvents, IsLog};
-ghost use Rattle.df_base.specs.Plan.{new_plan, is_listed, after_call};
+ghost use Rattle.df_base.specs.{Causes.{HasCause, counted}, Image.{blank}, Log.{new_log, Write, Sync, AreEvents, IsLog}, Plan.{new_plan, is_listed, after_call}};
 ghost use Rattle.df_disk.specs.Told.{AreSectors, IsHonest, Shows, after, did};
 ghost use Rattle.df_memdisk.specs.State.{SyncsEvents, WritesEvent, log_of, told_of};
 

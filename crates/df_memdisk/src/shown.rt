@@ -1,10 +1,8 @@
 // What a disk shows: what its log left, but for sectors that were struck.
 ghost use Rattle.std.specs.Prelude.{◌≡◌, ◌≤◌, ◌+◌, ◌*◌, ◌/◌, length, reverse, option_copied};
-ghost use Rattle.df_base.specs.declared.TheConstants.{SECTOR};
-ghost use Rattle.df_base.specs.Image.{bytes_at};
+ghost use Rattle.df_base.specs.{declared.TheConstants.{SECTOR}, Image.{bytes_at}};
 ghost use Rattle.df_disk.specs.Told.{AreSectors};
-ghost use Rattle.df_memdisk.specs.History.{events_of};
-ghost use Rattle.df_memdisk.specs.Struck.{AreBehind, events_since, shown_after, strike_of};
+ghost use Rattle.df_memdisk.specs.{History.{events_of}, Struck.{AreBehind, events_since, shown_after, strike_of}};
 
 use crate::history::{Happened, left_in_sector};
 use df_base::SECTOR;

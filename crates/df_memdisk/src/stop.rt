@@ -2,9 +2,7 @@
 ghost use Rattle.std.specs.Prelude.{◌≡◌, ◌∷◌, None, Some, OnOk, IfOk, IfErr, IfNone};
 ghost use Rattle.df_base.specs.Log.{Stop, AreLoose};
 ghost use Rattle.df_disk.specs.Told.{IsHonest, did};
-ghost use Rattle.df_memdisk.specs.History.{changes_of, events_of};
-ghost use Rattle.df_memdisk.specs.Refusals.{IsFirstFirm};
-ghost use Rattle.df_memdisk.specs.State.{first_firm, told_of};
+ghost use Rattle.df_memdisk.specs.{History.{changes_of, events_of}, Refusals.{IsFirstFirm}, State.{first_firm, told_of}};
 
 use crate::history::{Happened, is_loose};
 use crate::{Change, MemoryDisk, StopError};

@@ -2,10 +2,7 @@
 // misdirected one.
 ghost use Rattle.std.specs.Prelude.{◌≡◌, length, reverse, OnOk, OnErr};
 ghost use Rattle.df_base.specs.Log.{now};
-ghost use Rattle.df_memdisk.specs.History.{events_of};
-ghost use Rattle.df_memdisk.specs.State.{log_of, told_of, told_by};
-ghost use Rattle.df_memdisk.specs.Strikes.{bytes_by, hit, StrikeShowsLog};
-ghost use Rattle.df_memdisk.specs.Struck.{AreBehind, first_events};
+ghost use Rattle.df_memdisk.specs.{History.{events_of}, State.{log_of, told_of, told_by}, Strikes.{bytes_by, hit, StrikeShowsLog}, Struck.{AreBehind, first_events}};
 
 use crate::MemoryDisk;
 use crate::history::{Happened, left_in_sector};

@@ -1,8 +1,6 @@
 // One write in the past of a disk: whole sectors, from a sector on.
 ghost use Rattle.std.specs.Prelude.{◌≡◌, ◌≤◌, ◌+◌, ◌-◌, ◌*◌, ◌%◌, length, option_copied, IfSome, IsTrue};
-ghost use Rattle.df_base.specs.declared.TheConstants.{SECTOR};
-ghost use Rattle.df_base.specs.Image.{covers};
-ghost use Rattle.df_base.specs.Log.{Write};
+ghost use Rattle.df_base.specs.{declared.TheConstants.{SECTOR}, Image.{covers}, Log.{Write}};
 ghost use Rattle.df_memdisk.specs.Newest.{given_by};
 
 use df_base::SECTOR;

@@ -1,12 +1,7 @@
 -- Known units: those whose checksum the chosen superblock fixes, by itself or through known units that the image shows.
-use Rattle.std.specs.Prelude.{◌≡◌, ◌<◌, ◌≤◌, ◌+◌, ◌%◌, ℕ, List, length, slice_index, Some}
-use Rattle.std.specs.List.{slice_get}
-use Rattle.df_format.specs.declared.kind.Kind.{Kind}
-use Rattle.df_format.specs.declared.kind.Kind.TheVariants.{Block as AsBlock, Prepare as AsPrepare, Reply as AsReply, Reserved, Trailer as AsTrailer}
-use Rattle.df_theory.specs.Opens.{AreKnown, ReadsTo, named_by}
-use Rattle.df_theory.specs.Sessions.{Has, sessions_after}
-use Rattle.df_theory.specs.Shape.{Shape, slots}
-use Rattle.df_theory.specs.Trailer.{InChain, IsTrailer}
+use Rattle.std.specs.{Prelude.{◌≡◌, ◌<◌, ◌≤◌, ◌+◌, ◌%◌, ℕ, List, length, slice_index, Some}, List.{slice_get}}
+use Rattle.df_format.specs.{declared.kind.Kind.{Kind}, declared.kind.Kind.TheVariants.{Block as AsBlock, Prepare as AsPrepare, Reply as AsReply, Reserved, Trailer as AsTrailer}}
+use Rattle.df_theory.specs.{Opens.{AreKnown, ReadsTo, named_by}, Sessions.{Has, sessions_after}, Shape.{Shape, slots}, Trailer.{InChain, IsTrailer}}
 use Rattle.df_theory.specs.Units.{AnyUnit, Block, BlockPlace, BlockUnit, Content, Message, Parts, Place, PreparePlace, PrepareUnit, ReplyPlace, ReplyUnit, Session, Units}
 use Rattle.df_units.specs.Wanted.{IsOfKind, checksum_of}
 

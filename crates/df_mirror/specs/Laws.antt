@@ -1,32 +1,15 @@
 -- What a list of mends leaves true of the first file, whatever it is and wherever a stop falls.
 use Rattle.std.specs.Prelude.{◌≡◌, ◌⊎◌, ◌<◌, ◌≤◌, ◌++◌, ℕ, true, List, [], ◌∷◌, Option, Some}
-use Rattle.df_base.specs.Image.{Image, IsImage}
-use Rattle.df_base.specs.Log.{Event, IsLeft, Log, Sync, now}
-use Rattle.df_base.specs.Moments.{EachMoment}
-use Rattle.df_disk.specs.Adds.{after_all}
-use Rattle.df_disk.specs.Told.{IsHonest, Told, did}
+use Rattle.df_base.specs.{Image.{Image, IsImage}, Log.{Event, IsLeft, Log, Sync, now}, Moments.{EachMoment}}
+use Rattle.df_disk.specs.{Adds.{after_all}, Told.{IsHonest, Told, did}}
 use Rattle.df_format.specs.declared.kind.Kind.{Kind}
-use Rattle.df_theory.specs.Chance.{Distinct}
-use Rattle.df_theory.specs.Copies.{IsChosen}
-use Rattle.df_theory.specs.Found.{IsFound}
-use Rattle.df_theory.specs.Shape.{Shape}
-use Rattle.df_theory.specs.Units.{AnyUnit, Content, Message, Place, ReplyPlace, ReplyUnit, Units}
-use Rattle.df_theory.specs.View.{View, boot_of, head}
+use Rattle.df_theory.specs.{Chance.{Distinct}, Copies.{IsChosen}, Found.{IsFound}, Shape.{Shape}, Units.{AnyUnit, Content, Message, Place, ReplyPlace, ReplyUnit, Units}, View.{View, boot_of, head}}
 use Rattle.df_history.specs.Histories.{InHistoryPool, InHistoryPools, NoChanceOver}
 use Rattle.df_units.specs.Bytes.{has}
-use Rattle.df_damage.specs.Anew.{IsStill, restarted, told_after}
-use Rattle.df_damage.specs.Histories.{HasRaised, MayReopen, units_logs}
-use Rattle.df_damage.specs.Hurt.{IsUnhurt}
-use Rattle.df_damage.specs.Unrefused.{IsNotRefused}
-use Rattle.df_damage.specs.Versions.{IsUnspent}
+use Rattle.df_damage.specs.{Anew.{IsStill, restarted, told_after}, Histories.{HasRaised, MayReopen, units_logs}, Hurt.{IsUnhurt}, Unrefused.{IsNotRefused}, Versions.{IsUnspent}}
 use Rattle.df_opening.specs.Below.{DataFile, shape}
-use Rattle.df_mirror.specs.declared.status.Status.{Status}
-use Rattle.df_mirror.specs.declared.status.Status.TheVariants.{Done, Found}
-use Rattle.df_mirror.specs.Known.{AllShown, IsKnownAt, IsShownAs, rank_of_kind}
-use Rattle.df_mirror.specs.Mends.{AreInOrder, AreMends, IsMend, Mend, mirrored_events, units_shown}
-use Rattle.df_mirror.specs.Outside.{Outside, Tell}
-use Rattle.df_mirror.specs.Run.{Mirrors}
-use Rattle.df_mirror.specs.Walks.{content_of_superblock}
+use Rattle.df_mirror.specs.{declared.status.Status.{Status}, declared.status.Status.TheVariants.{Done, Found}, Known.{AllShown, IsKnownAt, IsShownAs, rank_of_kind}}
+use Rattle.df_mirror.specs.{Mends.{AreInOrder, AreMends, IsMend, Mend, mirrored_events, units_shown}, Outside.{Outside, Tell}, Run.{Mirrors}, Walks.{content_of_superblock}}
 
 -- mends of what mends left go on with them
 abbrev pub MendsGoOn : Type 0

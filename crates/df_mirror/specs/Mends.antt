@@ -1,29 +1,15 @@
 -- Units that are mended one after the other, what that writes and prints, and how it ends.
 use Rattle.std.specs.Prelude.{◌≡◌, ◌≤◌, ℕ, List, [], ◌∷◌, ◌++◌, length, Option, Some, None, Result, Ok, Err}
-use Rattle.df_base.specs.Image.{Image}
-use Rattle.df_base.specs.Log.{Event, Sync, Write}
-use Rattle.df_base.specs.Streams.{Appends, AppendsPart}
-use Rattle.df_disk.specs.Adds.{AddsPart}
-use Rattle.df_disk.specs.Told.{Told}
-use Rattle.df_format.specs.declared.kind.Kind.{Kind}
-use Rattle.df_format.specs.declared.kind.Kind.TheVariants.{Trailer}
-use Rattle.df_format.specs.Message.{Message, sectors_of}
+use Rattle.df_base.specs.{Image.{Image}, Log.{Event, Sync, Write}, Streams.{Appends, AppendsPart}}
+use Rattle.df_disk.specs.{Adds.{AddsPart}, Told.{Told}}
+use Rattle.df_format.specs.{declared.kind.Kind.{Kind}, declared.kind.Kind.TheVariants.{Trailer}, Message.{Message, sectors_of}}
 use Rattle.df_format.specs.Shown
-use Rattle.df_layout.specs.declared.damage.Class.{Class}
-use Rattle.df_layout.specs.declared.places.Place.{Place as FilePlace}
-use Rattle.df_theory.specs.Device.{IsPut}
-use Rattle.df_theory.specs.UnitLog.{put_one}
-use Rattle.df_theory.specs.Units.{AnyUnit, Content, Place, Units}
-use Rattle.df_units.specs.Bytes.{first_at, unit_at}
-use Rattle.df_units.specs.Format.{format_of}
-use Rattle.df_units.specs.Meaning.{place_of, unit_of}
-use Rattle.df_units.specs.Wanted.{IsOfKind, checksum_of, class_at}
+use Rattle.df_layout.specs.{declared.damage.Class.{Class}, declared.places.Place.{Place as FilePlace}}
+use Rattle.df_theory.specs.{Device.{IsPut}, UnitLog.{put_one}, Units.{AnyUnit, Content, Place, Units}}
+use Rattle.df_units.specs.{Bytes.{first_at, unit_at}, Format.{format_of}, Meaning.{place_of, unit_of}, Wanted.{IsOfKind, checksum_of, class_at}}
 use Rattle.df_damage.specs.Anew.{told_after}
 use Rattle.df_opening.specs.Below.{DataFile, shape}
-use Rattle.df_mirror.specs.Known.{IsNext, IsShownAs, IsSparePlace, rank_of_kind}
-use Rattle.df_mirror.specs.Refusals.{RefusesFirstTrailer}
-use Rattle.df_mirror.specs.Texts.{mended_text}
-use Rattle.df_mirror.specs.declared.ending.Ending.{Ending}
+use Rattle.df_mirror.specs.{Known.{IsNext, IsShownAs, IsSparePlace, rank_of_kind}, Refusals.{RefusesFirstTrailer}, Texts.{mended_text}, declared.ending.Ending.{Ending}}
 use Rattle.df_mirror.specs.declared.ending.Ending.TheVariants.{First, Neither, Second, Sink, Unopened}
 
 -- what an image of the file shows

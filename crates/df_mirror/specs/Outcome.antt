@@ -1,20 +1,13 @@
 -- What a run does where no call fails: one outcome of what both files show; and what a run does that a failing call ends.
 use Rattle.std.specs.Prelude.{◌≡◌, ◌⊎◌, ℕ, List, [], ◌∷◌, ◌++◌, Option, Some}
-use Rattle.df_base.specs.Log.{Sync}
-use Rattle.df_base.specs.Streams.{Appends, AppendsPart}
-use Rattle.df_disk.specs.Adds.{AddsPart}
-use Rattle.df_disk.specs.Told.{Told, did}
+use Rattle.df_base.specs.{Log.{Sync}, Streams.{Appends, AppendsPart}}
+use Rattle.df_disk.specs.{Adds.{AddsPart}, Told.{Told, did}}
 use Rattle.df_theory.specs.Units.{Content}
 use Rattle.df_units.specs.Meaning.{place_of}
 use Rattle.df_damage.specs.Anew.{told_after}
 use Rattle.df_opening.specs.Below.{DataFile}
-use Rattle.df_mirror.specs.declared.status.Status.{Status}
-use Rattle.df_mirror.specs.declared.status.Status.TheVariants.{DiskFault, Done, Found, Refused, WriteFault}
-use Rattle.df_mirror.specs.Mends.{AreMends, Mend, lines_of, mirrored_events}
-use Rattle.df_mirror.specs.Outside.{Outside, Tell}
-use Rattle.df_mirror.specs.Run.{Mirrors}
-use Rattle.df_mirror.specs.Texts.{mended_text}
-use Rattle.df_mirror.specs.Walks.{content_of_superblock}
+use Rattle.df_mirror.specs.{declared.status.Status.{Status}, declared.status.Status.TheVariants.{DiskFault, Done, Found, Refused, WriteFault}, Mends.{AreMends, Mend, lines_of, mirrored_events}}
+use Rattle.df_mirror.specs.{Outside.{Outside, Tell}, Run.{Mirrors}, Texts.{mended_text}, Walks.{content_of_superblock}}
 
 -- what is mended, the line that is printed last, and the status
 pub record Outcome : Type 0 where

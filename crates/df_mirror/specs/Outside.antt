@@ -1,12 +1,9 @@
 -- What a mending has around it, and how it ends: that of any program over two files, with this one's statuses.
-use Rattle.std.specs.Prelude.{◌≡◌, ◌==◌, ℕ, if◌then◌else◌}
+use Rattle.std.specs.{Prelude.{◌≡◌, ◌==◌, ℕ, if◌then◌else◌}, Prelude.{Some}}
 use Rattle.df_base.specs.Image.{IsImage}
 use Rattle.df_disk.specs.Told.{Told}
-use Rattle.std.specs.Prelude.{Some}
-use Rattle.df_mirror.specs.declared.status.Status.{Status}
-use Rattle.df_mirror.specs.declared.status.Status.TheVariants.{Done, Found}
-pub use Rattle.df_program.specs.Telling.{Blames, PrintsError, Writes}
-pub use Rattle.df_program.specs.Two.{Faults, HasCausesOfTwo, Outside, around, counts}
+use Rattle.df_mirror.specs.{declared.status.Status.{Status}, declared.status.Status.TheVariants.{Done, Found}}
+pub use Rattle.df_program.specs.{Telling.{Blames, PrintsError, Writes}, Two.{Faults, HasCausesOfTwo, Outside, around, counts}}
 use Rattle.df_program.specs.Two.{Outside}
 
 -- both files tell what they show, in whole sectors

@@ -2,12 +2,8 @@
 use Rattle.std.specs.Prelude.{◌≡◌, ◌≢◌, ◌⊎◌, ◌<◌, ℕ}
 use Rattle.df_base.specs.Image.{Image}
 use Rattle.df_layout.specs.declared.fields.Field.TheVariants.{TrailerChain}
-use Rattle.df_model.specs.declared.errors.OpenError.{OpenError}
-use Rattle.df_model.specs.declared.errors.OpenError.TheVariants.{BadField}
-use Rattle.df_theory.specs.Opens.{ReadsTo}
-use Rattle.df_theory.specs.Shape.{Shape}
-use Rattle.df_theory.specs.Trailer.{InChain}
-use Rattle.df_theory.specs.Units.{Block, Content, Units}
+use Rattle.df_model.specs.{declared.errors.OpenError.{OpenError}, declared.errors.OpenError.TheVariants.{BadField}}
+use Rattle.df_theory.specs.{Opens.{ReadsTo}, Shape.{Shape}, Trailer.{InChain}, Units.{Block, Content, Units}}
 use Rattle.df_units.specs.Bytes.{unit_at}
 use Rattle.df_grid.specs.Reads.{shown_of}
 use Rattle.df_checkpoint.specs.Tests.{FailsTest}

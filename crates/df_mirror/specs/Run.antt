@@ -6,16 +6,10 @@ use Rattle.df_inspect.specs.Opening.{open_refusal}
 use Rattle.df_model.specs.declared.errors.OpenError.{OpenError}
 use Rattle.df_damage.specs.Surveys.{HasFile}
 use Rattle.df_opening.specs.Below.{Refuses, shape}
-use Rattle.df_mirror.specs.declared.ending.Ending.{Ending}
-use Rattle.df_mirror.specs.declared.ending.Ending.TheVariants.{First, Neither, Second, Sink, Unopened}
-use Rattle.df_mirror.specs.declared.status.Status.{Status}
-use Rattle.df_mirror.specs.declared.superblock.Superblock.{Superblock}
+use Rattle.df_mirror.specs.{declared.ending.Ending.{Ending}, declared.ending.Ending.TheVariants.{First, Neither, Second, Sink, Unopened}, declared.status.Status.{Status}}
+use Rattle.df_mirror.specs.{declared.superblock.Superblock.{Superblock}, Known.{AllShown, PassesTrailer}, Mends.{AnswersMending, AreInOrder}, Outside.{Outside, PrintsError, Tell, Writes, ended}}
+use Rattle.df_mirror.specs.{Texts.{count_text, neither_text}, Walks.{content_of_superblock, superblock_units}}
 use Rattle.df_mirror.specs.declared.status.Status.TheVariants as ends
-use Rattle.df_mirror.specs.Known.{AllShown, PassesTrailer}
-use Rattle.df_mirror.specs.Mends.{AnswersMending, AreInOrder}
-use Rattle.df_mirror.specs.Outside.{Outside, PrintsError, Tell, Writes, ended}
-use Rattle.df_mirror.specs.Texts.{count_text, neither_text}
-use Rattle.df_mirror.specs.Walks.{content_of_superblock, superblock_units}
 
 -- ---- a file that isn't mended
 

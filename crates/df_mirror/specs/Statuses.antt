@@ -1,12 +1,9 @@
 -- How a run ends: the numbers of the statuses, and what each ending blames.
 use Rattle.std.specs.Prelude.{◌≡◌, ℕ, Bool, true, false, Result, refl}
-use Rattle.df_program.specs.Ends.{Statuses}
+use Rattle.df_program.specs.{Ends.{Statuses}, Two.{Faults}}
 use Rattle.df_base.specs.Causes.{IsBlamed}
-use Rattle.df_program.specs.Two.{Faults}
 use Rattle.df_model.specs.declared.errors.OpenError.TheVariants.{DiskFault}
-use Rattle.df_mirror.specs.declared.ending.Ending.{Ending}
-use Rattle.df_mirror.specs.declared.ending.Ending.TheVariants.{First, Second, Sink, Unopened}
-use Rattle.df_mirror.specs.declared.status.Status.{Status}
+use Rattle.df_mirror.specs.{declared.ending.Ending.{Ending}, declared.ending.Ending.TheVariants.{First, Second, Sink, Unopened}, declared.status.Status.{Status}}
 use Rattle.df_mirror.specs.declared.status.Status.TheVariants as ends
 
 -- those of `datafile` that come

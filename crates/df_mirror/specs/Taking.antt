@@ -1,33 +1,15 @@
 -- What it does to mend one unit, by what a room holds of each file.
 use Rattle.std.specs.Prelude.{◌≡◌, ℕ, List, take, Option, Some, None, Result, Ok, Err}
-use Rattle.df_base.specs.Image.{Image, IsImage}
-use Rattle.df_base.specs.Streams.{Appends, AppendsPart}
-use Rattle.df_disk.specs.Adds.{AddsPart, after_all}
-use Rattle.df_disk.specs.Told.{Told}
-use Rattle.df_format.specs.declared.kind.Kind.{Kind}
-use Rattle.df_format.specs.Brings.{Brings}
-use Rattle.df_format.specs.Message.{Message, sectors_end}
-use Rattle.df_format.specs.Spelling.{IsCheck}
-use Rattle.df_layout.specs.declared.damage.Class.{Class}
-use Rattle.df_layout.specs.declared.layout.Layout.{Layout}
-use Rattle.df_layout.specs.declared.places.Place.{Place as FilePlace}
-use Rattle.df_buffers.specs.declared.identity.Identity.{Identity}
-use Rattle.df_buffers.specs.declared.identity.Wanted.TheVariants.{Checksum}
-use Rattle.df_buffers.specs.Rooms.{StandsIn}
-use Rattle.df_buffers.specs.Sounds.{Holding, IsTidy}
-use Rattle.df_places.specs.Shelves.{IsFoundUnit, IsRead}
-use Rattle.df_places.specs.Units.{unit_events, unit_steps}
-use Rattle.df_theory.specs.Device.{AreSteps}
-use Rattle.df_theory.specs.Units.{AnyUnit, Content, Place}
-use Rattle.df_units.specs.Format.{format_of}
-use Rattle.df_units.specs.Meaning.{number_of, place_of, unit_of}
-use Rattle.df_units.specs.Wanted.{IsOfKind, checksum_of}
+use Rattle.df_base.specs.{Image.{Image, IsImage}, Streams.{Appends, AppendsPart}}
+use Rattle.df_disk.specs.{Adds.{AddsPart, after_all}, Told.{Told}}
+use Rattle.df_format.specs.{declared.kind.Kind.{Kind}, Brings.{Brings}, Message.{Message, sectors_end}, Spelling.{IsCheck}}
+use Rattle.df_layout.specs.{declared.damage.Class.{Class}, declared.layout.Layout.{Layout}, declared.places.Place.{Place as FilePlace}}
+use Rattle.df_buffers.specs.{declared.identity.Identity.{Identity}, declared.identity.Wanted.TheVariants.{Checksum}, Rooms.{StandsIn}, Sounds.{Holding, IsTidy}}
+use Rattle.df_places.specs.{Shelves.{IsFoundUnit, IsRead}, Units.{unit_events, unit_steps}}
+use Rattle.df_theory.specs.{Device.{AreSteps}, Units.{AnyUnit, Content, Place}}
+use Rattle.df_units.specs.{Format.{format_of}, Meaning.{number_of, place_of, unit_of}, Wanted.{IsOfKind, checksum_of}}
 use Rattle.df_opening.specs.Below.{DataFile, shape}
-use Rattle.df_mirror.specs.Known.{IsDue}
-use Rattle.df_mirror.specs.Mends.{AnswersMending, AreAt, units_shown}
-use Rattle.df_mirror.specs.Outside.{Outside, Tell}
-use Rattle.df_mirror.specs.Texts.{mended_text}
-use Rattle.df_mirror.specs.declared.ending.Ending.{Ending}
+use Rattle.df_mirror.specs.{Known.{IsDue}, Mends.{AnswersMending, AreAt, units_shown}, Outside.{Outside, Tell}, Texts.{mended_text}, declared.ending.Ending.{Ending}}
 use Rattle.df_mirror.specs.declared.ending.Ending.TheVariants.{First, Neither, Second, Sink, Unopened}
 
 -- ---- a write

@@ -1,7 +1,6 @@
 -- The lines that are printed.
 use Rattle.std.specs.Prelude.{ℕ, List, codes}
-use Rattle.df_layout.specs.declared.damage.Class.{Class}
-use Rattle.df_layout.specs.declared.places.Place.{Place}
+use Rattle.df_layout.specs.{declared.damage.Class.{Class}, declared.places.Place.{Place}}
 use Rattle.df_script_model.specs.Texts.{class_text, line_of, numbered, place_text, spaced}
 
 abbrev pub mirror_usage : List ℕ

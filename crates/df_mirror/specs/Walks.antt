@@ -4,30 +4,18 @@ use Rattle.df_base.specs.Image.{Image}
 use Rattle.df_disk.specs.Told.{Told}
 use Rattle.df_format.specs.declared.kind.Kind.TheVariants.{Block as AsBlock, Prepare, Reply, Trailer}
 use Rattle.df_layout.specs.declared.fields.Field.TheVariants.{TrailerChain}
-use Rattle.df_model.specs.Blocks.{sum_at}
-use Rattle.df_model.specs.declared.errors.OpenError.TheVariants.{BadField}
-use Rattle.df_theory.specs.Opens.{AreKnown, AreLinks, Arrives, named_by}
-use Rattle.df_theory.specs.Sessions.{Has}
+use Rattle.df_model.specs.{Blocks.{sum_at}, declared.errors.OpenError.TheVariants.{BadField}}
+use Rattle.df_theory.specs.{Opens.{AreKnown, AreLinks, Arrives, named_by}, Sessions.{Has}, Units.{Block, BlockPlace, Content, Message, PreparePlace, PrepareUnit, ReplyPlace, Units}}
 use Rattle.df_theory.specs.Units
-use Rattle.df_theory.specs.Units.{Block, BlockPlace, Content, Message, PreparePlace, PrepareUnit, ReplyPlace, Units}
 use Rattle.df_units.specs.Meaning.{number_of}
-use Rattle.df_sessions.specs.declared.session.Session.{Session}
-use Rattle.df_sessions.specs.Requests.{sessions_of}
-use Rattle.df_sessions.specs.Table.{Table}
-use Rattle.df_journal.specs.Scan.{Scan}
-use Rattle.df_journal.specs.Shows.{TellsRings}
+use Rattle.df_sessions.specs.{declared.session.Session.{Session}, Requests.{sessions_of}, Table.{Table}}
+use Rattle.df_journal.specs.{Scan.{Scan}, Shows.{TellsRings}}
 use Rattle.df_grid.specs.Grid.{GridState}
 use Rattle.df_checkpoint.specs.Chain.{content_in}
 use Rattle.df_opening.specs.Below.{shape}
-use Rattle.df_mirror.specs.declared.trailer.Walk.{Walk}
-use Rattle.df_mirror.specs.declared.ending.Ending.{Ending}
-use Rattle.df_mirror.specs.declared.ending.Ending.TheVariants.{First, Unopened}
-use Rattle.df_mirror.specs.declared.superblock.Superblock.{Superblock}
-use Rattle.df_mirror.specs.declared.trailer.Text.{Text}
-use Rattle.df_mirror.specs.Known.{AllShown, AreShown, HasSessions, IsRecordedReply, IsShownAs, PassesTrailer, ShowsTrailer}
-use Rattle.df_mirror.specs.Mends.{AnswersMending, Mend, units_shown}
-use Rattle.df_mirror.specs.Outside.{Outside}
-use Rattle.df_mirror.specs.Refusals.{RefusesFirstTrailer}
+use Rattle.df_mirror.specs.{declared.trailer.Walk.{Walk}, declared.ending.Ending.{Ending}, declared.ending.Ending.TheVariants.{First, Unopened}, declared.superblock.Superblock.{Superblock}}
+use Rattle.df_mirror.specs.{declared.trailer.Text.{Text}, Known.{AllShown, AreShown, HasSessions, IsRecordedReply, IsShownAs, PassesTrailer, ShowsTrailer}, Mends.{AnswersMending, Mend, units_shown}}
+use Rattle.df_mirror.specs.{Outside.{Outside}, Refusals.{RefusesFirstTrailer}}
 
 -- what the superblock says, in the words of the theory
 abbrev pub content_of_superblock : Superblock → Content

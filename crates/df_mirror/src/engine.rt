@@ -1,8 +1,6 @@
 // The program: it has no words, and takes its memory once the first file's layout is known.
 ghost use Rattle.std.specs.Prelude.{◌≡◌, [], map, string_bytes, Err, IfOk};
-ghost use Rattle.df_mirror.specs.Outside.{Blames, HasCausesOfTwo, Writes, around, counts};
-ghost use Rattle.df_mirror.specs.Run.{IsUndone, RunsMirror, TellsEnd};
-ghost use Rattle.df_mirror.specs.Texts.{mirror_usage};
+ghost use Rattle.df_mirror.specs.{Outside.{Blames, HasCausesOfTwo, Writes, around, counts}, Run.{IsUndone, RunsMirror, TellsEnd}, Texts.{mirror_usage}};
 
 use crate::ending::Ending;
 use crate::mending::{Reserved, mend_all};

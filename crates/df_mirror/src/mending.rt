@@ -3,12 +3,8 @@ ghost use Rattle.std.specs.Prelude.{◌≡◌, ◌≤◌, ◌+◌, List, length,
 ghost use Rattle.df_disk.specs.Told.{Told};
 ghost use Rattle.df_format.specs.declared.kind.Kind.TheVariants.{Block as AsBlock, Prepare as AsPrepare};
 ghost use Rattle.df_opening.specs.Below.{shape};
-ghost use Rattle.df_sessions.specs.Requests.{sessions_of};
-ghost use Rattle.df_sessions.specs.declared.session.Session.{Session};
-ghost use Rattle.df_mirror.specs.Known.{ShowsTrailer};
-ghost use Rattle.df_mirror.specs.Mends.{AreInOrder, AreLate, AreOfKind, IsRefusal};
-ghost use Rattle.df_mirror.specs.Outside.{Tell, around, counts};
-ghost use Rattle.df_mirror.specs.Statuses.{AreBlamed};
+ghost use Rattle.df_sessions.specs.{Requests.{sessions_of}, declared.session.Session.{Session}};
+ghost use Rattle.df_mirror.specs.{Known.{ShowsTrailer}, Mends.{AreInOrder, AreLate, AreOfKind, IsRefusal}, Outside.{Tell, around, counts}, Statuses.{AreBlamed}};
 ghost use Rattle.df_mirror.specs.Walks.{HasTrailerText, HasWaiting, Mended, ShowsAll, ShowsBlocks, ShowsGrid, ShowsLog, ShowsNamed, content_of_superblock, superblock_units};
 
 use crate::ending::Ending;

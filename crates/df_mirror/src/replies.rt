@@ -5,13 +5,8 @@ ghost use Rattle.df_format.specs.declared.kind.Kind.TheVariants.{Reply as AsRepl
 ghost use Rattle.df_journal.specs.Shows.{IsSeenTable, TellsRings};
 ghost use Rattle.df_opening.specs.Below.{shape};
 ghost use Rattle.df_sessions.specs.Requests.{sessions_of};
-ghost use Rattle.df_theory.specs.Opens.{AreKnown};
-ghost use Rattle.df_theory.specs.Sessions.{sessions_after};
-ghost use Rattle.df_theory.specs.Units.{Message, Units};
-ghost use Rattle.df_mirror.specs.Known.{AreShown};
-ghost use Rattle.df_mirror.specs.Mends.{AreOfKind, IsRefusal};
-ghost use Rattle.df_mirror.specs.Outside.{Tell, around, counts};
-ghost use Rattle.df_mirror.specs.Statuses.{AreBlamed};
+ghost use Rattle.df_theory.specs.{Opens.{AreKnown}, Sessions.{sessions_after}, Units.{Message, Units}};
+ghost use Rattle.df_mirror.specs.{Known.{AreShown}, Mends.{AreOfKind, IsRefusal}, Outside.{Tell, around, counts}, Statuses.{AreBlamed}};
 ghost use Rattle.df_mirror.specs.Walks.{HasHead, HasLater, Mended, ShowsKnownReplies, content_of_superblock, superblock_units};
 
 use crate::ending::Ending;

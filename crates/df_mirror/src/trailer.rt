@@ -1,18 +1,13 @@
 // The trailer of the first file: the chain of its blocks is mended, from the last to the first, each before the one that it names is known; then it is read, for what it references and the sessions.
 ghost use Rattle.std.specs.Prelude.{◌≡◌, ◌+◌, ◌-◌, ◌<◌, ◌≤◌, ℕ, [], length, Some, IfErr, IfOk};
-ghost use Rattle.df_base.specs.Causes.{IsBlamed};
-ghost use Rattle.df_base.specs.Image.{IsImage};
-ghost use Rattle.df_base.specs.declared.TheConstants.{HEADER};
+ghost use Rattle.df_base.specs.{Causes.{IsBlamed}, Image.{IsImage}, declared.TheConstants.{HEADER}};
 ghost use Rattle.arrayvec.specs.ArrayVec.{array_vec_len};
 ghost use Rattle.df_disk.specs.Told.{Told};
 ghost use Rattle.df_format.specs.declared.kind.Kind.TheVariants.{Trailer as AsTrailer};
 ghost use Rattle.df_opening.specs.Below.{shape};
 ghost use Rattle.df_theory.specs.Trailer.{IsCount};
 ghost use Rattle.df_trailer.specs.Reading.{HasRead};
-ghost use Rattle.df_mirror.specs.Known.{AreShown};
-ghost use Rattle.df_mirror.specs.Mends.{AreOfKind};
-ghost use Rattle.df_mirror.specs.Outside.{Tell, around, counts};
-ghost use Rattle.df_mirror.specs.Statuses.{AreBlamed, IsOfFirst, is_first};
+ghost use Rattle.df_mirror.specs.{Known.{AreShown}, Mends.{AreOfKind}, Outside.{Tell, around, counts}, Statuses.{AreBlamed, IsOfFirst, is_first}};
 ghost use Rattle.df_mirror.specs.Walks.{HasWalkedChain, IsInsideGrid, IsOfChain, Mended, ReadsChainText, WalksTo, content_of_superblock, counted_in, superblock_units};
 
 use crate::ending::Ending;

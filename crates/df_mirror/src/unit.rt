@@ -2,10 +2,7 @@
 ghost use Rattle.std.specs.Prelude.{◌≡◌, ◌≤◌, None, IfOk};
 ghost use Rattle.df_layout.specs.Spans.{HasPlace};
 ghost use Rattle.df_places.specs.Shelves.{HoldsFound};
-ghost use Rattle.df_mirror.specs.Mends.{IsRefusal};
-ghost use Rattle.df_mirror.specs.Outside.{around, counts};
-ghost use Rattle.df_mirror.specs.Statuses.{AreBlamed};
-ghost use Rattle.df_mirror.specs.Taking.{HoldsShown, MendsUnit, TakesUnit};
+ghost use Rattle.df_mirror.specs.{Mends.{IsRefusal}, Outside.{around, counts}, Statuses.{AreBlamed}, Taking.{HoldsShown, MendsUnit, TakesUnit}};
 
 use crate::ending::Ending;
 use df_base::Sink;

@@ -1,37 +1,18 @@
 -- What each call answers, and the state that it leads to.
-use Rattle.std.specs.Prelude.{ℕ, suc, ◌+◌, ◌-◌, ◌%◌, ◌==◌, nat_lt, if◌then◌else◌, List, [], ◌∷◌, ◌++◌, length, map, take, drop, Option, Some, None, Result, Ok, Err}
-use Rattle.std.specs.List.{filter}
-use Rattle.df_layout.specs.declared.damage.Class.{Class}
-use Rattle.df_layout.specs.declared.damage.Finding.{Finding}
-use Rattle.df_layout.specs.declared.places.Zone.TheVariants.{WalPrepares, ClientReplies, Grid}
-use Rattle.df_theory.specs.Units.{Block, Message, Parts, Session}
-use Rattle.df_theory.specs.Shape.{Shape}
-use Rattle.df_theory.specs.View.{Checkpoint, sequence}
-use Rattle.df_theory.specs.Next.{appended, checkpointed, replied}
-use Rattle.df_model.specs.Work.{Request, Running, Work, first_tour}
-use Rattle.df_model.specs.Memory.{Memory, free_of, referenced_of, course, memory_of, sum_of_message}
+use Rattle.std.specs.{Prelude.{ℕ, suc, ◌+◌, ◌-◌, ◌%◌, ◌==◌, nat_lt, if◌then◌else◌, List, [], ◌∷◌, ◌++◌, length, map, take, drop, Option, Some, None, Result, Ok, Err}, List.{filter}}
+use Rattle.df_layout.specs.{declared.damage.Class.{Class}, declared.damage.Finding.{Finding}, declared.places.Zone.TheVariants.{WalPrepares, ClientReplies, Grid}}
+use Rattle.df_theory.specs.{Units.{Block, Message, Parts, Session}, Shape.{Shape}, View.{Checkpoint, sequence}, Next.{appended, checkpointed, replied}}
+use Rattle.df_model.specs.{Work.{Request, Running, Work, first_tour}, Memory.{Memory, free_of, referenced_of, course, memory_of, sum_of_message}}
 use Rattle.df_model.specs.Refusals.{append_refusals, begin_refusals, block_refusals, first_refusal, flush_refusals, lookup_refusals, prepare_refusals, read_refusals, release_refusals, reply_refusals, stage_refusals}
-use Rattle.df_model.specs.Making.{finishing_content, group_of, needed_of, next_address, parts_of, place_of_reply, prepare_of, reply_of, trailer_block}
-use Rattle.df_model.specs.declared.errors.AppendError.{AppendError}
-use Rattle.df_model.specs.declared.errors.FlushError.{FlushError}
-use Rattle.df_model.specs.declared.errors.ReplyError.{ReplyError}
-use Rattle.df_model.specs.declared.errors.BlockError.{BlockError}
-use Rattle.df_model.specs.declared.errors.NotLive.{NotLive}
-use Rattle.df_model.specs.declared.errors.BeginError.{BeginError}
-use Rattle.df_model.specs.declared.errors.StepError.{StepError}
-use Rattle.df_model.specs.declared.errors.StepError.TheVariants.{NotRunning}
-use Rattle.df_model.specs.declared.answers.Progress.{Progress}
-use Rattle.df_model.specs.declared.answers.Progress.TheVariants.{Working, Done}
-use Rattle.df_model.specs.declared.reading.PrepareError.{PrepareError}
-use Rattle.df_model.specs.declared.reading.PrepareError.TheVariants as prepare
-use Rattle.df_model.specs.declared.reading.LookupError.{LookupError}
-use Rattle.df_model.specs.declared.reading.LookupError.TheVariants as lookup
-use Rattle.df_model.specs.declared.reading.ReadError.{ReadError}
-use Rattle.df_model.specs.declared.reading.ReadError.TheVariants as read
-use Rattle.df_model.specs.declared.answers.Verdict.{Verdict}
-use Rattle.df_model.specs.declared.answers.Verdict.TheVariants.{Sound, Failing}
-use Rattle.df_model.specs.declared.answers.Scrubbed.{Scrubbed}
+use Rattle.df_model.specs.{Making.{finishing_content, group_of, needed_of, next_address, parts_of, place_of_reply, prepare_of, reply_of, trailer_block}, declared.errors.AppendError.{AppendError}}
+use Rattle.df_model.specs.{declared.errors.FlushError.{FlushError}, declared.errors.ReplyError.{ReplyError}, declared.errors.BlockError.{BlockError}, declared.errors.NotLive.{NotLive}}
+use Rattle.df_model.specs.{declared.errors.BeginError.{BeginError}, declared.errors.StepError.{StepError}, declared.errors.StepError.TheVariants.{NotRunning}, declared.answers.Progress.{Progress}}
+use Rattle.df_model.specs.{declared.answers.Progress.TheVariants.{Working, Done}, declared.reading.PrepareError.{PrepareError}, declared.reading.LookupError.{LookupError}}
+use Rattle.df_model.specs.{declared.reading.ReadError.{ReadError}, declared.answers.Verdict.{Verdict}, declared.answers.Verdict.TheVariants.{Sound, Failing}, declared.answers.Scrubbed.{Scrubbed}}
 use Rattle.df_model.specs.declared.answers.Scrubbed.TheVariants.{Checked, TourEnd}
+use Rattle.df_model.specs.declared.reading.PrepareError.TheVariants as prepare
+use Rattle.df_model.specs.declared.reading.LookupError.TheVariants as lookup
+use Rattle.df_model.specs.declared.reading.ReadError.TheVariants as read
 
 -- the answer of a call, and the state after it: a refused call leaves the state as it was
 abbrev pub outcome : {E A : Type 0} → Option E → Work → Work → A → Work × Result A E

@@ -1,19 +1,9 @@
 -- Answers: they depend on what is in memory alone, and where several tests hold the first of the order is answered.
 use Rattle.std.specs.Prelude.{◌≡◌, ◌<◌, ◌≤◌, ◌+◌, ℕ, false, List, [], ◌∷◌, length, Some, None}
-use Rattle.df_theory.specs.Units.{Block, Message, Parts, Session}
-use Rattle.df_theory.specs.Tails.{In}
-use Rattle.df_theory.specs.Trailer.{InChain, text_of}
-use Rattle.df_theory.specs.Shape.{Shape}
-use Rattle.df_theory.specs.View.{Checkpoint}
-use Rattle.df_theory.specs.Next.{MayFinish}
-use Rattle.df_model.specs.Work.{Work, is_held, kept}
-use Rattle.df_model.specs.Codec.{AreBytes}
-use Rattle.df_model.specs.Memory.{Course, Memory, memory_of, message_room}
+use Rattle.df_theory.specs.{Units.{Block, Message, Parts, Session}, Tails.{In}, Trailer.{InChain, text_of}, Shape.{Shape}, View.{Checkpoint}, Next.{MayFinish}}
+use Rattle.df_model.specs.{Work.{Work, is_held, kept}, Codec.{AreBytes}, Memory.{Course, Memory, memory_of, message_room}}
 use Rattle.df_model.specs.Refusals.{append_refusals, begin_refusals, block_refusals, first_refusal, flush_refusals, lookup_refusals, reply_refusals, request_refusals, session_of_client}
-use Rattle.df_model.specs.Making.{needed_of, parts_of, reply_of}
-use Rattle.df_model.specs.Commands.{Command, Given, after}
-use Rattle.df_model.specs.Sense.{IsWork}
-use Rattle.df_model.specs.declared.errors.AppendError.{AppendError}
+use Rattle.df_model.specs.{Making.{needed_of, parts_of, reply_of}, Commands.{Command, Given, after}, Sense.{IsWork}, declared.errors.AppendError.{AppendError}}
 use Rattle.df_model.specs.declared.errors.AppendError.TheVariants as append
 use Rattle.df_model.specs.declared.errors.FlushError.TheVariants as flush
 use Rattle.df_model.specs.declared.errors.ReplyError.TheVariants as reply

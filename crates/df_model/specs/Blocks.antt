@@ -1,8 +1,6 @@
 -- What a replica keeps of the grid: live blocks, what the running and the durable checkpoint hold, and so which addresses are free.
-use Rattle.std.specs.Prelude.{ℕ, ◌==◌, Bool, ◌||◌, nat_lt, not, if◌then◌else◌, List, [], ◌∷◌, map, Option, Some, None}
-use Rattle.std.specs.List.{filter, range_with_len}
-use Rattle.df_theory.specs.Units.{Block, Layout}
-use Rattle.df_theory.specs.Shape.{Shape}
+use Rattle.std.specs.{Prelude.{ℕ, ◌==◌, Bool, ◌||◌, nat_lt, not, if◌then◌else◌, List, [], ◌∷◌, map, Option, Some, None}, List.{filter, range_with_len}}
+use Rattle.df_theory.specs.{Units.{Block, Layout}, Shape.{Shape}}
 use Rattle.df_model.specs.Work.{Running, Work, is_in, is_known, or_known}
 
 -- maps of addresses to checksums as lists of their entries, in order of address; chains from the last block to the first

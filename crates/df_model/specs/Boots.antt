@@ -1,28 +1,11 @@
 -- The boot update of an open: what may be raised, the state after it, and what it does to the device.
 use Rattle.std.specs.Prelude.{◌≡◌, ◌<◌, ◌≤◌, ℕ, List}
-use Rattle.df_base.specs.declared.TheConstants.{GREATEST, VERSION}
-use Rattle.df_base.specs.Log.{Event, IsLog, Log}
-use Rattle.df_theory.specs.Units.{Content, Header, Parts, Units}
-use Rattle.df_theory.specs.Shape.{Shape, clients}
-use Rattle.df_theory.specs.View.{View, boot_of}
-use Rattle.df_theory.specs.Holds.{Stands}
-use Rattle.df_theory.specs.Next.{IsSameBare, MayBoot}
-use Rattle.df_theory.specs.UnitLog.{UnitLog, now}
-use Rattle.df_theory.specs.Rests.{IsDry}
-use Rattle.df_theory.specs.Found.{AreOfPlaces, IsFound}
-use Rattle.df_theory.specs.Runs.{Step, after_steps}
-use Rattle.df_theory.specs.CopyPuts.{PutsCopies, update_steps}
-use Rattle.df_theory.specs.GroupLaws.{IsMendedLog}
-use Rattle.df_theory.specs.MendLaws.{MayMend}
-use Rattle.df_theory.specs.Upgrades.{IsCleanBeyond, MayRaise, as_version, raise_steps, restarted_at}
-use Rattle.df_theory.specs.Device.{AreSteps, Format, IsFormat, units_log}
-use Rattle.df_model.specs.Work.{Work, kept, opened, raised}
-use Rattle.df_model.specs.Codec.{IsCodec}
-use Rattle.df_model.specs.Memory.{memory_of}
-use Rattle.df_model.specs.Making.{boot_content, named_places}
-use Rattle.df_model.specs.Sense.{IsBacked, IsVersionTwo, IsWork, ShowsWritten}
-use Rattle.df_model.specs.Laws.{BacksOn, IsKeptBy, LeadsOn}
-use Rattle.df_model.specs.OnDisk.{BacksOnDisk, LeadsOnDisk}
+use Rattle.df_base.specs.{declared.TheConstants.{GREATEST, VERSION}, Log.{Event, IsLog, Log}}
+use Rattle.df_theory.specs.{Units.{Content, Header, Parts, Units}, Shape.{Shape, clients}, View.{View, boot_of}, Holds.{Stands}, Next.{IsSameBare, MayBoot}, UnitLog.{UnitLog, now}, Rests.{IsDry}}
+use Rattle.df_theory.specs.{Found.{AreOfPlaces, IsFound}, Runs.{Step, after_steps}, CopyPuts.{PutsCopies, update_steps}, GroupLaws.{IsMendedLog}, MendLaws.{MayMend}}
+use Rattle.df_theory.specs.{Upgrades.{IsCleanBeyond, MayRaise, as_version, raise_steps, restarted_at}, Device.{AreSteps, Format, IsFormat, units_log}}
+use Rattle.df_model.specs.{Work.{Work, kept, opened, raised}, Codec.{IsCodec}, Memory.{memory_of}, Making.{boot_content, named_places}, Sense.{IsBacked, IsVersionTwo, IsWork, ShowsWritten}}
+use Rattle.df_model.specs.{Laws.{BacksOn, IsKeptBy, LeadsOn}, OnDisk.{BacksOnDisk, LeadsOnDisk}}
 
 -- ---- what may be raised
 

@@ -1,10 +1,7 @@
 -- What a command does to the state: it leaves it, or one thing happens. As `Next` is for a view, so is this for the machine.
 use Rattle.std.specs.Prelude.{◌≡◌, ℕ, List, [], ◌∷◌, Some, None}
-use Rattle.df_theory.specs.Units.{Message, Parts, Units}
-use Rattle.df_theory.specs.Shape.{Shape}
-use Rattle.df_theory.specs.Runs.{Step}
-use Rattle.df_model.specs.Work.{Running, Work, first_tour}
-use Rattle.df_model.specs.Memory.{Memory, memory_of}
+use Rattle.df_theory.specs.{Units.{Message, Parts, Units}, Shape.{Shape}, Runs.{Step}}
+use Rattle.df_model.specs.{Work.{Running, Work, first_tour}, Memory.{Memory, memory_of}}
 use Rattle.df_model.specs.Refusals.{append_refusals, begin_refusals, block_refusals, first_refusal, flush_refusals, release_refusals, reply_refusals, stage_refusals}
 use Rattle.df_model.specs.Making.{group_of, needed_of, next_address, place_of_reply, prepare_of, reply_of}
 use Rattle.df_model.specs.After.{begun, finished, next_trailer, to_check, with_group, with_live, with_reply, with_running, with_staged, with_trailer_block, with_verdict}

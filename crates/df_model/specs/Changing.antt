@@ -1,19 +1,12 @@
 -- How a command changes what is in memory: a function of it.
 use Rattle.std.specs.Prelude.{◌≡◌, ℕ, ◌+◌, ◌-◌, ◌==◌, if◌then◌else◌, List, [], ◌∷◌, ◌++◌, length, map, take, drop, slice_set, Option, Some, None}
-use Rattle.df_theory.specs.Units.{Message, Parts, Session}
-use Rattle.df_theory.specs.Sessions.{noted, sessions_after}
-use Rattle.df_theory.specs.Tails.{last_checksum}
-use Rattle.df_theory.specs.Shape.{Shape}
+use Rattle.df_theory.specs.{Units.{Message, Parts, Session}, Sessions.{noted, sessions_after}, Tails.{last_checksum}, Shape.{Shape}}
 use Rattle.df_model.specs.Work.{Request, Work, first_tour, is_held, reference_of}
 use Rattle.df_model.specs.Blocks.{Blocks, block_released, block_written, blocks_captured, blocks_of, capture_finished, is_held_in, reference_in, trailer_written}
 use Rattle.df_model.specs.Memory.{Course, Memory, free_of, memory_of, sum_of_message}
 use Rattle.df_model.specs.Refusals.{append_refusals, begin_refusals, block_refusals, first_refusal, flush_refusals, release_refusals, reply_refusals, stage_refusals}
-use Rattle.df_model.specs.Making.{finishing_content, group_of, needed_of, next_address, parts_of, place_of_reply, prepare_of}
-use Rattle.df_model.specs.After.{newest, to_check}
-use Rattle.df_model.specs.Codec.{InGrid}
-use Rattle.df_model.specs.Sense.{IsWork}
-use Rattle.df_model.specs.declared.answers.Verdict.{Verdict}
-use Rattle.df_model.specs.declared.answers.Verdict.TheVariants.{Sound, Failing}
+use Rattle.df_model.specs.{Making.{finishing_content, group_of, needed_of, next_address, parts_of, place_of_reply, prepare_of}, After.{newest, to_check}, Codec.{InGrid}, Sense.{IsWork}}
+use Rattle.df_model.specs.{declared.answers.Verdict.{Verdict}, declared.answers.Verdict.TheVariants.{Sound, Failing}}
 use Rattle.df_model.specs.Commands.{Advance, Append, Begin, Command, Flush, Given, Release, Reply, Scrub, Stage, WriteBlock, after, supplied_sum, supplied_sums, supplied_verdict}
 
 -- ---- what is kept of the grid

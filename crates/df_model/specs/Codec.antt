@@ -1,11 +1,8 @@
 -- What a trailer may say, and how it is spelled.
-use Rattle.std.specs.Prelude.{◌≡◌, ◌<◌, ◌≤◌, ◌^◌, ℕ, List, [], ◌∷◌, length, Some}
-use Rattle.std.specs.List.{slice_get}
+use Rattle.std.specs.{Prelude.{◌≡◌, ◌<◌, ◌≤◌, ◌^◌, ℕ, List, [], ◌∷◌, length, Some}, List.{slice_get}}
 use Rattle.df_base.specs.declared.TheConstants.{GREATEST, HEADER}
 pub use Rattle.df_base.specs.Fields.{AreBytes}
-use Rattle.df_theory.specs.Units.{Layout, Parts, Session}
-use Rattle.df_theory.specs.Shape.{Shape}
-use Rattle.df_theory.specs.Trailer.{greatest_trailer}
+use Rattle.df_theory.specs.{Units.{Layout, Parts, Session}, Shape.{Shape}, Trailer.{greatest_trailer}}
 
 -- an address of the grid
 abbrev pub InGrid : Layout → ℕ → Type 0

@@ -1,29 +1,13 @@
 -- Commands, what is supplied to them and what they answer, and the machine: one function for all.
 use Rattle.std.specs.Prelude.{ℕ, ◌<◌, ◌^◌, List, [], Result, Err}
-use Rattle.df_layout.specs.declared.damage.Class.{Class}
-use Rattle.df_layout.specs.declared.damage.Class.TheVariants.{Blank}
-use Rattle.df_layout.specs.declared.damage.Finding.{Finding}
-use Rattle.df_theory.specs.Units.{Block, Message, Parts}
-use Rattle.df_theory.specs.Shape.{Shape}
-use Rattle.df_model.specs.Work.{Work}
-use Rattle.df_model.specs.Memory.{memory_of}
-use Rattle.df_model.specs.Codec.{AreBytes, AreChecksums}
-use Rattle.df_model.specs.Making.{first_of}
+use Rattle.df_layout.specs.{declared.damage.Class.{Class}, declared.damage.Class.TheVariants.{Blank}, declared.damage.Finding.{Finding}}
+use Rattle.df_theory.specs.{Units.{Block, Message, Parts}, Shape.{Shape}}
+use Rattle.df_model.specs.{Work.{Work}, Memory.{memory_of}, Codec.{AreBytes, AreChecksums}, Making.{first_of}}
 use Rattle.df_model.specs.After.{after_advance, after_append, after_begin, after_block, after_flush, after_release, after_reply, after_scrub, after_stage, lookup_answer, prepare_answer, read_answer}
-use Rattle.df_model.specs.declared.errors.AppendError.{AppendError}
-use Rattle.df_model.specs.declared.errors.FlushError.{FlushError}
-use Rattle.df_model.specs.declared.errors.ReplyError.{ReplyError}
-use Rattle.df_model.specs.declared.errors.BlockError.{BlockError}
-use Rattle.df_model.specs.declared.errors.NotLive.{NotLive}
-use Rattle.df_model.specs.declared.errors.BeginError.{BeginError}
-use Rattle.df_model.specs.declared.errors.StepError.{StepError}
-use Rattle.df_model.specs.declared.answers.Progress.{Progress}
-use Rattle.df_model.specs.declared.reading.PrepareError.{PrepareError}
-use Rattle.df_model.specs.declared.reading.LookupError.{LookupError}
-use Rattle.df_model.specs.declared.reading.ReadError.{ReadError}
-use Rattle.df_model.specs.declared.answers.Verdict.{Verdict}
-use Rattle.df_model.specs.declared.answers.Verdict.TheVariants.{Sound}
-use Rattle.df_model.specs.declared.answers.Scrubbed.{Scrubbed}
+use Rattle.df_model.specs.{declared.errors.AppendError.{AppendError}, declared.errors.FlushError.{FlushError}, declared.errors.ReplyError.{ReplyError}, declared.errors.BlockError.{BlockError}}
+use Rattle.df_model.specs.{declared.errors.NotLive.{NotLive}, declared.errors.BeginError.{BeginError}, declared.errors.StepError.{StepError}, declared.answers.Progress.{Progress}}
+use Rattle.df_model.specs.{declared.reading.PrepareError.{PrepareError}, declared.reading.LookupError.{LookupError}, declared.reading.ReadError.{ReadError}, declared.answers.Verdict.{Verdict}}
+use Rattle.df_model.specs.{declared.answers.Verdict.TheVariants.{Sound}, declared.answers.Scrubbed.{Scrubbed}}
 
 pub data Command : Type 0 where
   Append : (client request : ℕ) (body : List ℕ) → Command

@@ -2,29 +2,13 @@
 use Rattle.std.specs.Prelude.{◌≡◌, ◌+◌, ◌%◌, ◌<◌, ◌≤◌, ℕ, length, true, false, List, [], ◌∷◌, Option, Some, None}
 use Rattle.df_base.specs.declared.TheConstants.{GREATEST}
 use Rattle.df_theory.specs.Units.{Block, BlockPlace, BlockUnit, Header, HeaderPlace, HeaderUnit, Message, PreparePlace, PrepareUnit, ReplyPlace, ReplyUnit, Units, Parts, overlay}
-use Rattle.df_theory.specs.Sessions.{session_of_header}
-use Rattle.df_theory.specs.Tails.{In}
-use Rattle.df_theory.specs.Trailer.{InChain, text_of}
-use Rattle.df_theory.specs.Shape.{Shape, slots}
-use Rattle.df_theory.specs.View.{Checkpoint, View, boot_of}
-use Rattle.df_theory.specs.Found.{AreOfPlaces, IsFound}
-use Rattle.df_theory.specs.Holds.{Holds, Sound, Stands}
-use Rattle.df_theory.specs.Next.{MayAppend, MayFinish, MayReply, Next}
-use Rattle.df_theory.specs.UnitLog.{PutsOne, UnitLog, now}
-use Rattle.df_theory.specs.Runs.{Step, after_steps}
-use Rattle.df_theory.specs.WriterLaws.{AllPutPrepare, IsHeaderSector}
-use Rattle.df_theory.specs.MendLaws.{AllPutTable}
-use Rattle.df_theory.specs.GroupLaws.{IsGroupTable, flush_command}
-use Rattle.df_theory.specs.TidyLaws.{IsTidy, KeepsStanding, LeadsTidily}
-use Rattle.df_theory.specs.Commands.{append_command, block_command, finish_command, reply_command}
-use Rattle.df_theory.specs.CopyPuts.{PutsCopies}
-use Rattle.df_model.specs.Work.{Running, Work, is_held, kept, opened}
-use Rattle.df_model.specs.Codec.{AreBytes, InGrid, IsCodec, IsLawfulSession}
-use Rattle.df_model.specs.Refusals.{append_refusals, block_refusals, first_refusal, flush_refusals, reply_refusals, stage_refusals}
-use Rattle.df_model.specs.After.{next_trailer, checkpoint_of, with_staged}
-use Rattle.df_model.specs.Sense.{IsBacked, IsVersionTwo, IsWork, ShowsWritten}
-use Rattle.df_model.specs.Memory.{memory_of, message_room}
-use Rattle.df_model.specs.Making.{block_of, group_of, next_address, place_of_reply, prepare_of, reply_of}
+use Rattle.df_theory.specs.{Sessions.{session_of_header}, Tails.{In}, Trailer.{InChain, text_of}, Shape.{Shape, slots}, View.{Checkpoint, View, boot_of}, Found.{AreOfPlaces, IsFound}}
+use Rattle.df_theory.specs.{Holds.{Holds, Sound, Stands}, Next.{MayAppend, MayFinish, MayReply, Next}, UnitLog.{PutsOne, UnitLog, now}, Runs.{Step, after_steps}}
+use Rattle.df_theory.specs.{WriterLaws.{AllPutPrepare, IsHeaderSector}, MendLaws.{AllPutTable}, GroupLaws.{IsGroupTable, flush_command}, TidyLaws.{IsTidy, KeepsStanding, LeadsTidily}}
+use Rattle.df_theory.specs.{Commands.{append_command, block_command, finish_command, reply_command}, CopyPuts.{PutsCopies}}
+use Rattle.df_model.specs.{Work.{Running, Work, is_held, kept, opened}, Codec.{AreBytes, InGrid, IsCodec, IsLawfulSession}}
+use Rattle.df_model.specs.{Refusals.{append_refusals, block_refusals, first_refusal, flush_refusals, reply_refusals, stage_refusals}, After.{next_trailer, checkpoint_of, with_staged}}
+use Rattle.df_model.specs.{Sense.{IsBacked, IsVersionTwo, IsWork, ShowsWritten}, Memory.{memory_of, message_room}, Making.{block_of, group_of, next_address, place_of_reply, prepare_of, reply_of}}
 use Rattle.df_model.specs.Commands.{Advance, Append, Begin, Command, Flush, Given, IsInput, ReadBlock, ReadPrepare, ReadReply, Recent, Release, Reply, Scrub, Stage, WriteBlock, after, supplied_sum, supplied_sums}
 
 -- ---- the state keeps its sense

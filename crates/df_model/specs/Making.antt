@@ -1,10 +1,7 @@
 -- The units that commands make, and what a checkpoint captures: functions of what is in memory.
-use Rattle.std.specs.Prelude.{ℕ, suc, ◌+◌, ◌-◌, ◌*◌, ◌/◌, ◌==◌, if◌then◌else◌, List, [], ◌∷◌, length, map, take, drop, Option, Some, None}
-use Rattle.std.specs.List.{range_with_len, slice_get}
+use Rattle.std.specs.{Prelude.{ℕ, suc, ◌+◌, ◌-◌, ◌*◌, ◌/◌, ◌==◌, if◌then◌else◌, List, [], ◌∷◌, length, map, take, drop, Option, Some, None}, List.{range_with_len, slice_get}}
 use Rattle.df_theory.specs.Units.{Block, Content, Message, Parts, Session}
-use Rattle.df_model.specs.Work.{Request}
-use Rattle.df_model.specs.Memory.{Course, Memory, block_room, free_of, reply_sum}
-use Rattle.df_model.specs.Blocks.{sum_at}
+use Rattle.df_model.specs.{Work.{Request}, Memory.{Course, Memory, block_room, free_of, reply_sum}, Blocks.{sum_at}}
 
 abbrev pub first_of : List ℕ → ℕ
 first_of [] = 0

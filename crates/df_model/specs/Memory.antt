@@ -1,14 +1,9 @@
 -- What a replica keeps in memory of its state: refusals, new units and what reads want are functions of it alone.
-use Rattle.std.specs.Prelude.{ℕ, ◌-◌, List, [], ◌∷◌, length, map, Option, Some, None}
-use Rattle.std.specs.List.{range_with_len, slice_get}
+use Rattle.std.specs.{Prelude.{ℕ, ◌-◌, List, [], ◌∷◌, length, map, Option, Some, None}, List.{range_with_len, slice_get}}
 use Rattle.df_base.specs.declared.TheConstants.{HEADER}
 use Rattle.df_layout.specs.declared.damage.Finding.{Finding}
-use Rattle.df_theory.specs.Units.{Block, Content, Layout, Message, Parts, Session}
-use Rattle.df_theory.specs.Shape.{Shape}
-use Rattle.df_theory.specs.Tails.{last_checksum}
-use Rattle.df_theory.specs.View.{head, sessions}
-use Rattle.df_model.specs.Work.{Request, Running, Tour, Work}
-use Rattle.df_model.specs.Blocks.{Blocks, blocks_of, free_in, referenced_in}
+use Rattle.df_theory.specs.{Units.{Block, Content, Layout, Message, Parts, Session}, Shape.{Shape}, Tails.{last_checksum}, View.{head, sessions}}
+use Rattle.df_model.specs.{Work.{Request, Running, Tour, Work}, Blocks.{Blocks, blocks_of, free_in, referenced_in}}
 
 -- the running checkpoint: what it captured, its trailer's text, and of the trailer's blocks those that are written, the last one first, and the addresses of those to come
 pub record Course : Type 0 where

@@ -1,15 +1,8 @@
 -- The device calls of a command: what a call of the replica owes, and what it then has.
 use Rattle.std.specs.Prelude.{ℕ, List}
-use Rattle.df_base.specs.Log.{Event, IsLog, Log, now}
-use Rattle.df_base.specs.Moments.{EachMoment, adds}
-use Rattle.df_theory.specs.Units.{Parts}
-use Rattle.df_theory.specs.Shape.{Shape}
-use Rattle.df_theory.specs.Runs.{Step}
-use Rattle.df_theory.specs.Device.{AreSteps, Format, IsFormat, IsGoodDisk, IsGoodWholeDisk, units_log}
-use Rattle.df_model.specs.Work.{Work, kept}
-use Rattle.df_model.specs.Laws.{DoesCommand, IsKeptBy}
-use Rattle.df_model.specs.Sense.{IsBacked}
-use Rattle.df_model.specs.Commands.{Command, Given, IsInput, after}
+use Rattle.df_base.specs.{Log.{Event, IsLog, Log, now}, Moments.{EachMoment, adds}}
+use Rattle.df_theory.specs.{Units.{Parts}, Shape.{Shape}, Runs.{Step}, Device.{AreSteps, Format, IsFormat, IsGoodDisk, IsGoodWholeDisk, units_log}}
+use Rattle.df_model.specs.{Work.{Work, kept}, Laws.{DoesCommand, IsKeptBy}, Sense.{IsBacked}, Commands.{Command, Given, IsInput, after}}
 
 -- these device calls, in order, are the steps of the command, over the image that the log leaves
 pub record DoesOnDisk (f : Format) (sh : Shape) (spell : Parts → List ℕ) (log : Log) (w : Work) (given : Given) (command : Command) (events : List Event) : Type 0 where

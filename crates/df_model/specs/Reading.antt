@@ -1,26 +1,11 @@
 -- What reads give on a file that is kept, and what a tour lists.
-use Rattle.std.specs.Prelude.{◌≡◌, ◌⊎◌, ◌≤◌, ℕ, suc, zero, List, [], ◌∷◌, ◌++◌, length, map, Some, None, Ok}
-use Rattle.std.specs.List.{slice_get}
-use Rattle.df_layout.specs.declared.damage.Class.{Class}
-use Rattle.df_layout.specs.declared.damage.Finding.{Finding}
-use Rattle.df_theory.specs.Units.{Block, BlockPlace, BlockUnit, Message, Place, Session}
-use Rattle.df_theory.specs.Sessions.{Answers}
-use Rattle.df_theory.specs.Tails.{In}
-use Rattle.df_theory.specs.Shape.{Shape}
-use Rattle.df_theory.specs.View.{sessions}
-use Rattle.df_theory.specs.UnitLog.{UnitLog, now}
-use Rattle.df_model.specs.Work.{Work, first_tour, reference_of}
-use Rattle.df_model.specs.Codec.{InGrid}
-use Rattle.df_model.specs.Memory.{memory_of, referenced_of}
-use Rattle.df_model.specs.Refusals.{first_refusal, lookup_refusals, prepare_refusals}
-use Rattle.df_model.specs.After.{newest, to_check}
-use Rattle.df_model.specs.Commands.{Answer, Command, ReadBlock, ReadPrepare, ReadReply, Scrub, ToReadBlock, ToReadPrepare, ToReadReply, ToScrub}
-use Rattle.df_model.specs.Supply.{Codec, Shown, check_of, class_at, last_work, next, result}
-use Rattle.df_model.specs.Sense.{IsBacked, RiseFrom, ShowsBlock}
-use Rattle.df_model.specs.Laws.{IsKeptBy}
-use Rattle.df_model.specs.declared.answers.Verdict.{Verdict}
-use Rattle.df_model.specs.declared.answers.Verdict.TheVariants.{Sound, Failing}
-use Rattle.df_model.specs.declared.answers.Scrubbed.TheVariants.{Checked, TourEnd}
+use Rattle.std.specs.{Prelude.{◌≡◌, ◌⊎◌, ◌≤◌, ℕ, suc, zero, List, [], ◌∷◌, ◌++◌, length, map, Some, None, Ok}, List.{slice_get}}
+use Rattle.df_layout.specs.{declared.damage.Class.{Class}, declared.damage.Finding.{Finding}}
+use Rattle.df_theory.specs.{Units.{Block, BlockPlace, BlockUnit, Message, Place, Session}, Sessions.{Answers}, Tails.{In}, Shape.{Shape}, View.{sessions}, UnitLog.{UnitLog, now}}
+use Rattle.df_model.specs.{Work.{Work, first_tour, reference_of}, Codec.{InGrid}, Memory.{memory_of, referenced_of}, Refusals.{first_refusal, lookup_refusals, prepare_refusals}}
+use Rattle.df_model.specs.{After.{newest, to_check}, Commands.{Answer, Command, ReadBlock, ReadPrepare, ReadReply, Scrub, ToReadBlock, ToReadPrepare, ToReadReply, ToScrub}}
+use Rattle.df_model.specs.{Supply.{Codec, Shown, check_of, class_at, last_work, next, result}, Sense.{IsBacked, RiseFrom, ShowsBlock}, Laws.{IsKeptBy}, declared.answers.Verdict.{Verdict}}
+use Rattle.df_model.specs.{declared.answers.Verdict.TheVariants.{Sound, Failing}, declared.answers.Scrubbed.TheVariants.{Checked, TourEnd}}
 
 abbrev pub shown_by : UnitLog → (Place → Class) → Shown
 shown_by log damage = record { units = now log; damage = damage }

@@ -1,28 +1,17 @@
 -- Why a call is refused: its tests in their order, each with its answer, over what is in memory. The first that holds is answered.
 use Rattle.std.specs.Prelude.{ℕ, ◌+◌, ◌-◌, ◌==◌, Bool, true, false, ◌&&◌, ◌||◌, nat_lt, nat_le, not, if◌then◌else◌, List, [], ◌∷◌, ◌++◌, length, Option, Some, None}
 use Rattle.df_base.specs.declared.TheConstants.{GREATEST}
-use Rattle.df_theory.specs.Units.{Session}
-use Rattle.df_theory.specs.Sessions.{sessions_after}
-use Rattle.df_model.specs.Work.{is_known}
-use Rattle.df_model.specs.Memory.{Course, Memory, block_room, free_of, message_room}
-use Rattle.df_model.specs.Blocks.{sum_at}
-use Rattle.df_model.specs.Making.{group_of}
-use Rattle.df_model.specs.declared.errors.AppendError.{AppendError}
+use Rattle.df_theory.specs.{Units.{Session}, Sessions.{sessions_after}}
+use Rattle.df_model.specs.{Work.{is_known}, Memory.{Course, Memory, block_room, free_of, message_room}, Blocks.{sum_at}, Making.{group_of}, declared.errors.AppendError.{AppendError}}
+use Rattle.df_model.specs.{declared.errors.FlushError.{FlushError}, declared.errors.ReplyError.{ReplyError}, declared.errors.BlockError.{BlockError}, declared.errors.NotLive.{NotLive}}
+use Rattle.df_model.specs.{declared.errors.BeginError.{BeginError}, declared.reading.PrepareError.{PrepareError}, declared.reading.LookupError.{LookupError}, declared.reading.ReadError.{ReadError}}
 use Rattle.df_model.specs.declared.errors.AppendError.TheVariants as append
-use Rattle.df_model.specs.declared.errors.FlushError.{FlushError}
 use Rattle.df_model.specs.declared.errors.FlushError.TheVariants as flush
-use Rattle.df_model.specs.declared.errors.ReplyError.{ReplyError}
 use Rattle.df_model.specs.declared.errors.ReplyError.TheVariants as reply
-use Rattle.df_model.specs.declared.errors.BlockError.{BlockError}
 use Rattle.df_model.specs.declared.errors.BlockError.TheVariants as block
-use Rattle.df_model.specs.declared.errors.NotLive.{NotLive}
-use Rattle.df_model.specs.declared.errors.BeginError.{BeginError}
 use Rattle.df_model.specs.declared.errors.BeginError.TheVariants as begin
-use Rattle.df_model.specs.declared.reading.PrepareError.{PrepareError}
 use Rattle.df_model.specs.declared.reading.PrepareError.TheVariants as prepare
-use Rattle.df_model.specs.declared.reading.LookupError.{LookupError}
 use Rattle.df_model.specs.declared.reading.LookupError.TheVariants as lookup
-use Rattle.df_model.specs.declared.reading.ReadError.{ReadError}
 use Rattle.df_model.specs.declared.reading.ReadError.TheVariants as read
 
 -- the answer of the first test that holds

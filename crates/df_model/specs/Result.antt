@@ -1,16 +1,8 @@
 -- The answers of calls over a device are the result: the fold of the machine over what the device shows at first.
 use Rattle.std.specs.Prelude.{◌≡◌, ℕ, List, [], ◌∷◌, map}
 use Rattle.df_layout.specs.declared.damage.Class.{Class}
-use Rattle.df_theory.specs.Units.{BlockPlace, Parts, Place, PreparePlace, ReplyPlace, Units, overlay}
-use Rattle.df_theory.specs.Shape.{Shape}
-use Rattle.df_theory.specs.UnitLog.{UnitLog, now}
-use Rattle.df_theory.specs.Runs.{Step, after_steps}
-use Rattle.df_model.specs.Work.{Work}
-use Rattle.df_model.specs.Memory.{memory_of}
-use Rattle.df_model.specs.Commands.{Command, Given, after, supplied_sums}
-use Rattle.df_model.specs.Supply.{Codec, result, supplied, puts_of}
-use Rattle.df_model.specs.Laws.{DoesCommand}
-use Rattle.df_model.specs.Reading.{shown_by}
+use Rattle.df_theory.specs.{Units.{BlockPlace, Parts, Place, PreparePlace, ReplyPlace, Units, overlay}, Shape.{Shape}, UnitLog.{UnitLog, now}, Runs.{Step, after_steps}}
+use Rattle.df_model.specs.{Work.{Work}, Memory.{memory_of}, Commands.{Command, Given, after, supplied_sums}, Supply.{Codec, result, supplied, puts_of}, Laws.{DoesCommand}, Reading.{shown_by}}
 use Rattle.df_model.specs.Runs.{Stepped, act_of, command_in, run_answers}
 
 -- two images show the same at each place that a command reads

@@ -1,20 +1,8 @@
 -- Runs of commands.
 use Rattle.std.specs.Prelude.{ℕ, List, [], ◌∷◌, map}
-use Rattle.df_theory.specs.Units.{Parts}
-use Rattle.df_theory.specs.Shape.{Shape}
-use Rattle.df_theory.specs.View.{View}
-use Rattle.df_theory.specs.UnitLog.{UnitLog, now}
-use Rattle.df_theory.specs.First.{IsFirst}
-use Rattle.df_theory.specs.Runs.{Command as Led, Step, after_steps, steps_of}
-use Rattle.df_theory.specs.TidyLaws.{IsTidy, LeadTidily, SurvivesWholeEach}
-use Rattle.df_theory.specs.HeadlineLaws.{SurvivesEach}
-use Rattle.df_theory.specs.WholeLaws.{IsStanding}
-use Rattle.df_theory.specs.Found.{AreOfPlaces}
-use Rattle.df_model.specs.Work.{Work, kept, opened}
-use Rattle.df_model.specs.Codec.{IsCodec}
-use Rattle.df_model.specs.Sense.{IsBacked, IsVersionTwo}
-use Rattle.df_model.specs.Laws.{DoesCommand, IsKeptBy}
-use Rattle.df_model.specs.Commands.{Answer, Command, Given, IsInput, after}
+use Rattle.df_theory.specs.{Units.{Parts}, Shape.{Shape}, View.{View}, UnitLog.{UnitLog, now}, First.{IsFirst}, Runs.{Command as Led, Step, after_steps, steps_of}}
+use Rattle.df_theory.specs.{TidyLaws.{IsTidy, LeadTidily, SurvivesWholeEach}, HeadlineLaws.{SurvivesEach}, WholeLaws.{IsStanding}, Found.{AreOfPlaces}}
+use Rattle.df_model.specs.{Work.{Work, kept, opened}, Codec.{IsCodec}, Sense.{IsBacked, IsVersionTwo}, Laws.{DoesCommand, IsKeptBy}, Commands.{Answer, Command, Given, IsInput, after}}
 
 -- a command with what it was supplied with
 pub record Act : Type 0 where

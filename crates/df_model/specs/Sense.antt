@@ -1,20 +1,10 @@
 -- A state that makes sense: what each call may rely on, and keeps.
-use Rattle.std.specs.Prelude.{◌≡◌, ◌<◌, ◌≤◌, ◌+◌, ◌-◌, ◌*◌, ℕ, true, List, [], ◌∷◌, length, take, Option, Some, None}
-use Rattle.std.specs.List.{slice_get}
+use Rattle.std.specs.{Prelude.{◌≡◌, ◌<◌, ◌≤◌, ◌+◌, ◌-◌, ◌*◌, ℕ, true, List, [], ◌∷◌, length, take, Option, Some, None}, List.{slice_get}}
 use Rattle.df_base.specs.declared.TheConstants.{GREATEST, VERSION}
-use Rattle.df_theory.specs.Units.{Block, BlockPlace, BlockUnit, Content, Message, Units, Parts}
-use Rattle.df_theory.specs.Sessions.{sessions_after}
-use Rattle.df_theory.specs.Tails.{EndsAt, In, last_checksum}
-use Rattle.df_theory.specs.Trailer.{InChain, IsCount, Links, text_of}
-use Rattle.df_theory.specs.Shape.{Shape, clients, slots}
-use Rattle.df_theory.specs.View.{Checkpoint, View, head, sequence, sessions}
-use Rattle.df_theory.specs.Holds.{Sound}
-use Rattle.df_theory.specs.Next.{MayAskInTurn}
-use Rattle.df_theory.specs.UnitLog.{UnitLog, now}
-use Rattle.df_theory.specs.WholeLaws.{IsStanding}
-use Rattle.df_model.specs.Work.{Running, Work, is_held}
-use Rattle.df_model.specs.Codec.{AreLawful, InGrid, IsChecksum, IsCodec, IsLawful}
-use Rattle.df_model.specs.Memory.{block_room, last_address, last_sum, memory_of}
+use Rattle.df_theory.specs.{Units.{Block, BlockPlace, BlockUnit, Content, Message, Units, Parts}, Sessions.{sessions_after}, Tails.{EndsAt, In, last_checksum}}
+use Rattle.df_theory.specs.{Trailer.{InChain, IsCount, Links, text_of}, Shape.{Shape, clients, slots}, View.{Checkpoint, View, head, sequence, sessions}, Holds.{Sound}, Next.{MayAskInTurn}}
+use Rattle.df_theory.specs.{UnitLog.{UnitLog, now}, WholeLaws.{IsStanding}}
+use Rattle.df_model.specs.{Work.{Running, Work, is_held}, Codec.{AreLawful, InGrid, IsChecksum, IsCodec, IsLawful}, Memory.{block_room, last_address, last_sum, memory_of}}
 use Rattle.df_model.specs.Making.{group_of, named_places}
 
 -- addresses that rise, from this one on

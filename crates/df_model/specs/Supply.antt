@@ -1,19 +1,14 @@
 -- What the device and the codecs supply to a command: a function of what is in memory and of what is shown. So a session is a list of commands, and its result a fold.
 use Rattle.std.specs.Prelude.{ℕ, ◌+◌, ◌%◌, ◌==◌, nat_lt, Bool, true, false, not, if◌then◌else◌, List, [], ◌∷◌, length, Option, Some, None, Result, Ok, Err}
-use Rattle.df_layout.specs.declared.damage.Class.{Class}
-use Rattle.df_layout.specs.declared.damage.Class.TheVariants.{Blank, Stale}
+use Rattle.df_layout.specs.{declared.damage.Class.{Class}, declared.damage.Class.TheVariants.{Blank, Stale}}
 use Rattle.df_theory.specs.Units.{AnyUnit, Block, BlockPlace, BlockUnit, Content, CopyPlace, CopyUnit, Message, Parts, Place, PreparePlace, PrepareUnit, ReplyPlace, ReplyUnit, Units, overlay}
-use Rattle.df_theory.specs.Shape.{Shape}
-use Rattle.df_theory.specs.UnitLog.{put_one}
-use Rattle.df_model.specs.Work.{Request, Work, raised}
-use Rattle.df_model.specs.Memory.{Course, Memory, memory_of, prepare_sum, reply_sum}
-use Rattle.df_model.specs.Blocks.{sum_at}
+use Rattle.df_theory.specs.{Shape.{Shape}, UnitLog.{put_one}}
+use Rattle.df_model.specs.{Work.{Request, Work, raised}, Memory.{Course, Memory, memory_of, prepare_sum, reply_sum}, Blocks.{sum_at}}
 use Rattle.df_model.specs.Refusals.{append_refusals, block_refusals, first_refusal, flush_refusals, reply_refusals}
 use Rattle.df_model.specs.Making.{block_of, boot_content, finishing_content, first_of, group_of, next_address, place_of_reply, prepare_in, prepare_of, reply_of, trailer_block}
 use Rattle.df_model.specs.After.{place_of_client, to_check}
 use Rattle.df_model.specs.Commands.{Advance, Answer, Append, Begin, Command, Flush, ForAdvance, ForAppend, ForBegin, ForFlush, ForReadBlock, ForReadPrepare, ForReadReply, ForRecent, ForRelease, ForReply, ForScrub, ForStage, ForWriteBlock, Given, ReadBlock, ReadPrepare, ReadReply, Recent, Release, Reply, Scrub, Stage, WriteBlock, after}
-use Rattle.df_model.specs.declared.answers.Verdict.{Verdict}
-use Rattle.df_model.specs.declared.answers.Verdict.TheVariants.{Sound, Failing}
+use Rattle.df_model.specs.{declared.answers.Verdict.{Verdict}, declared.answers.Verdict.TheVariants.{Sound, Failing}}
 
 -- how a trailer is spelled, and the checksum that each kind of unit gets, whatever stands in its own field: a reply's and a block's header names its place, too
 pub record Codec : Type 0 where

@@ -1,10 +1,7 @@
 -- The replica's state: the view of the file, and what it knows beside.
-use Rattle.std.specs.Prelude.{ℕ, ◌+◌, ◌-◌, ◌%◌, ◌==◌, Bool, true, false, ◌||◌, nat_lt, if◌then◌else◌, List, [], ◌∷◌, map, Option, Some, None}
-use Rattle.std.specs.List.{range_with_len, slice_get}
+use Rattle.std.specs.{Prelude.{ℕ, ◌+◌, ◌-◌, ◌%◌, ◌==◌, Bool, true, false, ◌||◌, nat_lt, if◌then◌else◌, List, [], ◌∷◌, map, Option, Some, None}, List.{range_with_len, slice_get}}
 use Rattle.df_layout.specs.declared.damage.Finding.{Finding}
-use Rattle.df_theory.specs.Units.{AnyUnit, Block, BlockUnit, Content, CopyUnit, HeaderUnit, Message, Parts, PreparePlace, PrepareUnit, ReplyUnit, Units}
-use Rattle.df_theory.specs.Shape.{Shape, slots}
-use Rattle.df_theory.specs.View.{View, head}
+use Rattle.df_theory.specs.{Units.{AnyUnit, Block, BlockUnit, Content, CopyUnit, HeaderUnit, Message, Parts, PreparePlace, PrepareUnit, ReplyUnit, Units}, Shape.{Shape, slots}, View.{View, head}}
 use Rattle.df_theory.specs.Next.{booted}
 
 -- a checkpoint that was begun: the op that it reaches with that prepare's checksum, what its trailer is to say, the trailer's blocks so far from the last to the first, and the addresses of those to come

@@ -1,12 +1,8 @@
 // What the machine keeps, and what a call that is not refused may do.
 
 ghost use Rattle.df_model.specs.Laws.{AppendExactLaw, AppendMayLaw, BlockAsideLaw, BlockMayLaw, CommandLaw, FinishExactLaw, FinishMayLaw, FlushMayLaw, FoundStateLaw, NextLaw, OpenedLaw, ReplyExactLaw, ReplyMayLaw, SenseLaw, StageExactLaw};
-ghost use Rattle.df_model.specs.Answering.{BeginExactLaw, MemoryLaw, OrderLaw, ReplyParentLaw};
-ghost use Rattle.df_model.specs.Change.{OneThingLaw};
-ghost use Rattle.df_model.specs.Changing.{BlocksLaw, ChangeLaw, ListsLaw};
-ghost use Rattle.df_model.specs.Runs.{FirstKeptLaw, OpenedKeptLaw, RunLaw};
-ghost use Rattle.df_model.specs.Reading.{BlockReadLaw, FailingLaw, PrepareReadLaw, ReplyReadLaw, ScrubLaw, TourLaw};
-ghost use Rattle.df_model.specs.OnDisk.{DiskCommandLaw};
+ghost use Rattle.df_model.specs.{Answering.{BeginExactLaw, MemoryLaw, OrderLaw, ReplyParentLaw}, Change.{OneThingLaw}, Changing.{BlocksLaw, ChangeLaw, ListsLaw}};
+ghost use Rattle.df_model.specs.{Runs.{FirstKeptLaw, OpenedKeptLaw, RunLaw}, Reading.{BlockReadLaw, FailingLaw, PrepareReadLaw, ReplyReadLaw, ScrubLaw, TourLaw}, OnDisk.{DiskCommandLaw}};
 ghost use Rattle.df_model.specs.Result.{ResultLaw, WritesLaw};
 
 /// The state after an open makes sense, of an image that holds its view and of any one in which it is found.

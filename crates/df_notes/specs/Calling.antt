@@ -2,11 +2,8 @@
 use Rattle.std.specs.Prelude.{List, [], ◌∷◌, ◌++◌, Option, Some, None, Err}
 use Rattle.df_disk.specs.Told.{Told}
 use Rattle.df_model.specs.Commands.{Answer, Command, ToAppend, ToReadPrepare, ToReply}
-use Rattle.df_session.specs.Below.{State as Replica}
-use Rattle.df_session.specs.Links.{Makes}
-use Rattle.df_session.specs.Session.{Act, Exchange}
-use Rattle.df_notes.specs.declared.ended.Ended.{Ended}
-use Rattle.df_notes.specs.declared.ended.Ended.TheVariants.{DiskFault, Refused}
+use Rattle.df_session.specs.{Below.{State as Replica}, Links.{Makes}, Session.{Act, Exchange}}
+use Rattle.df_notes.specs.{declared.ended.Ended.{Ended}, declared.ended.Ended.TheVariants.{DiskFault, Refused}}
 
 -- an append, a reply or a read is refused
 abbrev pub IsRefused : Answer → Type 0

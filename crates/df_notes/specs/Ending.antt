@@ -3,8 +3,7 @@ use Rattle.std.specs.Prelude.{ℕ, Bool, true, false, refl}
 use Rattle.df_program.specs.Ends.{Statuses}
 use Rattle.df_session.specs.declared.hearing.Fault.{Fault}
 use Rattle.df_session.specs.declared.hearing.Fault.TheVariants as faults
-use Rattle.df_notes.specs.declared.ended.Ended.{Ended}
-use Rattle.df_notes.specs.declared.ended.Ended.TheVariants.{Refused, DiskFault, ReadFault, WriteFault, Memory}
+use Rattle.df_notes.specs.{declared.ended.Ended.{Ended}, declared.ended.Ended.TheVariants.{Refused, DiskFault, ReadFault, WriteFault, Memory}}
 
 -- the status of the exit
 abbrev pub notes_exit_number : (ended : Ended) → ℕ

@@ -2,18 +2,11 @@
 use Rattle.std.specs.Prelude.{◌≡◌, ◌+◌, ◌<◌, ◌≤◌, ℕ, List, [], ◌∷◌, ◌++◌, codes, Option, Some, Result, Ok, Err}
 use Rattle.df_base.specs.Streams.{Appends, AppendsPart}
 use Rattle.df_disk.specs.Told.{Told}
-use Rattle.df_model.specs.Commands.{Append, Reply}
-use Rattle.df_model.specs.declared.answers.Receipt.{Receipt}
-use Rattle.df_model.specs.declared.commands.Answer.{Answer}
+use Rattle.df_model.specs.{Commands.{Append, Reply}, declared.answers.Receipt.{Receipt}, declared.commands.Answer.{Answer}}
 use Rattle.df_model.specs.declared.commands.Answer.TheVariants as answers
 use Rattle.df_script_model.specs.Texts.{line_of, numbered}
-use Rattle.df_session.specs.Answering.{as_append, as_reply}
-use Rattle.df_session.specs.Below.{State as Replica}
-use Rattle.df_session.specs.Links.{Makes}
-use Rattle.df_session.specs.Session.{Exchange}
-use Rattle.df_notes.specs.Calling.{EndsIn, Made, answered, exchange, made_in, then_made}
-use Rattle.df_notes.specs.declared.ended.Ended.{Ended}
-use Rattle.df_notes.specs.declared.ended.Ended.TheVariants.{Refused, WriteFault}
+use Rattle.df_session.specs.{Answering.{as_append, as_reply}, Below.{State as Replica}, Links.{Makes}, Session.{Exchange}}
+use Rattle.df_notes.specs.{Calling.{EndsIn, Made, answered, exchange, made_in, then_made}, declared.ended.Ended.{Ended}, declared.ended.Ended.TheVariants.{Refused, WriteFault}}
 
 -- what the program has around it at one moment: the replica, what the disk tells, and what the sink has taken
 pub record Moment : Type 0 where

@@ -1,21 +1,13 @@
 -- What a run of the program promises of the file.
 use Rattle.std.specs.Prelude.{◌≡◌, ◌≢◌, ◌⊎◌, ℕ, List, Some, Result, Ok, Err}
-use Rattle.df_base.specs.Image.{IsImage}
-use Rattle.df_base.specs.Log.{Sync}
+use Rattle.df_base.specs.{Image.{IsImage}, Log.{Sync}}
 use Rattle.df_disk.specs.Told.{Told, did}
 use Rattle.df_layout.specs.declared.layout.Layout.{Layout}
 use Rattle.df_model.specs.declared.errors.FormatError.TheVariants as formats
 use Rattle.df_model.specs.declared.errors.OpenError.{OpenError}
 use Rattle.df_model.specs.declared.errors.OpenError.TheVariants as opens
-use Rattle.df_session.specs.Below.{IsUnformatted, Surveys}
-use Rattle.df_session.specs.Found.{FoundFile}
-use Rattle.df_session.specs.Laws.{CallsKeep}
-use Rattle.df_session.specs.Links.{CallsMade}
-use Rattle.df_session.specs.Making.{FormatsFile}
-use Rattle.df_session.specs.Opened.{StopsOpening}
-use Rattle.df_notes.specs.Serving.{AreCallsOf, Outside, ServesNotes, around}
-use Rattle.df_notes.specs.declared.ended.Ended.{Ended}
-use Rattle.df_notes.specs.declared.ended.Ended.TheVariants.{DiskFault, Memory, Refused}
+use Rattle.df_session.specs.{Below.{IsUnformatted, Surveys}, Found.{FoundFile}, Laws.{CallsKeep}, Links.{CallsMade}, Making.{FormatsFile}, Opened.{StopsOpening}}
+use Rattle.df_notes.specs.{Serving.{AreCallsOf, Outside, ServesNotes, around}, declared.ended.Ended.{Ended}, declared.ended.Ended.TheVariants.{DiskFault, Memory, Refused}}
 
 -- the layout of a file of notes
 pub record IsSmall (layout : Layout) : Type 0 where

@@ -1,11 +1,8 @@
 -- A run over a file that was opened: the reply that waits, the notes, and what is printed at the end; and all its calls.
 use Rattle.std.specs.Prelude.{◌≡◌, ℕ, List, ◌++◌, Option, Result, Ok, Err}
 use Rattle.df_disk.specs.Told.{Told}
-use Rattle.df_session.specs.Below.{State as Replica}
-use Rattle.df_session.specs.Links.{CallsMade}
-use Rattle.df_notes.specs.Calling.{Made, made_in, then_made}
-use Rattle.df_notes.specs.Keeping.{CatchesUp, HasCaughtUp, KeepsNotes, caught_exchanges, kept_exchanges, made_keeping, moment}
-use Rattle.df_notes.specs.Showing.{ShowsNotes, made_showing}
+use Rattle.df_session.specs.{Below.{State as Replica}, Links.{CallsMade}}
+use Rattle.df_notes.specs.{Calling.{Made, made_in, then_made}, Keeping.{CatchesUp, HasCaughtUp, KeepsNotes, caught_exchanges, kept_exchanges, made_keeping, moment}, Showing.{ShowsNotes, made_showing}}
 use Rattle.df_notes.specs.declared.ended.Ended.{Ended}
 
 -- what a run has around it: what the disk tells, and what the sink has taken

@@ -4,14 +4,9 @@ use Rattle.df_base.specs.Streams.{Appends, AppendsPart}
 use Rattle.df_disk.specs.Told.{Told}
 use Rattle.df_model.specs.Commands.{ReadPrepare, ToReadPrepare}
 use Rattle.df_script_model.specs.Texts.{line_of}
-use Rattle.df_session.specs.Below.{State as Replica}
-use Rattle.df_session.specs.Links.{Makes}
-use Rattle.df_session.specs.Reading.{IsReadPrepare}
-use Rattle.df_session.specs.Session.{Exchange}
+use Rattle.df_session.specs.{Below.{State as Replica}, Links.{Makes}, Reading.{IsReadPrepare}, Session.{Exchange}}
 use Rattle.df_theory.specs.Units.{Message}
-use Rattle.df_notes.specs.Calling.{EndsIn, Made, answered, exchange, made_in, then_made}
-use Rattle.df_notes.specs.declared.ended.Ended.{Ended}
-use Rattle.df_notes.specs.declared.ended.Ended.TheVariants.{WriteFault}
+use Rattle.df_notes.specs.{Calling.{EndsIn, Made, answered, exchange, made_in, then_made}, declared.ended.Ended.{Ended}, declared.ended.Ended.TheVariants.{WriteFault}}
 
 -- the prepare of this op was read, which changed nothing
 pub record IsNoteRead (op : ℕ) (s : Replica) (told : Option Told) : Type 0 where

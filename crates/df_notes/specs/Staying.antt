@@ -1,12 +1,9 @@
 -- What was printed is there: the notes that were kept are calls of the replica that were served, and a stop after them, before the next call, loses none.
 use Rattle.std.specs.Prelude.{◌≡◌, ℕ, true, List, [], ◌∷◌, ◌++◌, Option}
 use Rattle.df_base.specs.Log.{Event}
-use Rattle.df_disk.specs.Adds.{after_all}
-use Rattle.df_disk.specs.Told.{Told}
-use Rattle.df_model.specs.Commands.{Append, Command}
-use Rattle.df_model.specs.Work.{Work}
-use Rattle.df_session.specs.Serving.{Grade, Keeps}
-use Rattle.df_session.specs.Session.{Act, LeavesView, work_after}
+use Rattle.df_disk.specs.{Adds.{after_all}, Told.{Told}}
+use Rattle.df_model.specs.{Commands.{Append, Command}, Work.{Work}}
+use Rattle.df_session.specs.{Serving.{Grade, Keeps}, Session.{Act, LeavesView, work_after}}
 use Rattle.df_notes.specs.Keeping.{AreKept, Moment}
 
 -- the note of an append; no other call has one

@@ -2,8 +2,7 @@
 ghost use Rattle.std.specs.Prelude.{◌≡◌, true, map, string_bytes, OnOk};
 ghost use Rattle.df_base.specs.Causes.{HasCause, IsBlamed};
 ghost use Rattle.df_inspect.specs.Prints.{Prints};
-ghost use Rattle.df_notes.specs.Ending.{is_disk_at_fault, is_sink};
-ghost use Rattle.df_notes.specs.Keeping.{AppendsNote, CatchesUp, KeepsNote, KeepsNotes, StoresReply, moment, op_line, receipt_in, stored_in};
+ghost use Rattle.df_notes.specs.{Ending.{is_disk_at_fault, is_sink}, Keeping.{AppendsNote, CatchesUp, KeepsNote, KeepsNotes, StoresReply, moment, op_line, receipt_in, stored_in}};
 
 use crate::ended::{Ended, ended_at};
 use df_base::{Failed, Sink};

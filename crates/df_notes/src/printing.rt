@@ -3,8 +3,7 @@ ghost use Rattle.std.specs.Prelude.{◌≡◌, true};
 ghost use Rattle.df_base.specs.Causes.{HasCause, IsBlamed};
 ghost use Rattle.df_inspect.specs.Prints.{Prints};
 ghost use Rattle.df_script_model.specs.Texts.{line_of};
-ghost use Rattle.df_notes.specs.Ending.{is_disk_at_fault, is_sink};
-ghost use Rattle.df_notes.specs.Showing.{ShowsNote, ShowsNotes};
+ghost use Rattle.df_notes.specs.{Ending.{is_disk_at_fault, is_sink}, Showing.{ShowsNote, ShowsNotes}};
 
 use crate::ended::{Ended, why_ended};
 use df_base::{Failed, Sink};

@@ -1,10 +1,8 @@
 -- A file on which a disk may be opened is refused for no reason, while boots are left: what is left is that the disk fails.
 use Rattle.std.specs.Prelude.{◌<◌}
-use Rattle.df_base.specs.declared.TheConstants.{GREATEST}
-use Rattle.df_base.specs.Image.{IsImage}
+use Rattle.df_base.specs.{declared.TheConstants.{GREATEST}, Image.{IsImage}}
 use Rattle.df_disk.specs.Told.{Told}
-use Rattle.df_damage.specs.Unrefused.{IsNotRefused}
-use Rattle.df_damage.specs.Below.{DataFile}
+use Rattle.df_damage.specs.{Unrefused.{IsNotRefused}, Below.{DataFile}}
 use Rattle.df_theory.specs.View.{View, boot_of}
 use Rattle.df_opening.specs.Following.{MayOpen}
 

@@ -1,17 +1,10 @@
 -- What an open asks of a disk is left by a making, by calls, and by a stop at any moment of them: sessions follow one another.
 use Rattle.std.specs.Prelude.{◌≡◌, ℕ, List}
-use Rattle.df_base.specs.declared.TheConstants.{VERSION}
-use Rattle.df_base.specs.Image.{changed}
-use Rattle.df_base.specs.Log.{AreLoose, IsLeft, IsLog, Stop, now}
+use Rattle.df_base.specs.{declared.TheConstants.{VERSION}, Image.{changed}, Log.{AreLoose, IsLeft, IsLog, Stop, now}}
 use Rattle.df_disk.specs.Told.{IsHonest, Told, did}
-use Rattle.df_damage.specs.Anew.{MayRestart, restarted}
-use Rattle.df_theory.specs.Device.{IsSafeDisk, NoChanceOf, units_log}
-use Rattle.df_theory.specs.Found.{IsFound}
-use Rattle.df_theory.specs.Holds.{Held}
-use Rattle.df_theory.specs.TidyLaws.{IsTidy}
-use Rattle.df_theory.specs.View.{View}
+use Rattle.df_damage.specs.{Anew.{MayRestart, restarted}, Below.{DataFile, shape}}
+use Rattle.df_theory.specs.{Device.{IsSafeDisk, NoChanceOf, units_log}, Found.{IsFound}, Holds.{Held}, TidyLaws.{IsTidy}, View.{View}}
 use Rattle.df_units.specs.Bytes.{unit_at}
-use Rattle.df_damage.specs.Below.{DataFile, shape}
 use Rattle.df_opening.specs.Keeping.{format}
 
 -- a disk that is safe to open, with a file of version 2: this view is found in what its log leaves, it shows that, and none of its units came about by chance

@@ -1,13 +1,10 @@
 -- What the making of a file answers, and what it does to the disk.
 use Rattle.std.specs.Prelude.{◌≡◌, ◌⊎◌, ◌<◌, ℕ, true, false, List, Option, Some, None, Result, Ok, Err}
-use Rattle.df_base.specs.Image.{Image}
-use Rattle.df_base.specs.Log.{Event}
-use Rattle.df_disk.specs.Told.{Told}
-use Rattle.df_disk.specs.Adds.{AddsPart, after_all}
+use Rattle.df_base.specs.{Image.{Image}, Log.{Event}}
+use Rattle.df_disk.specs.{Told.{Told}, Adds.{AddsPart, after_all}}
 use Rattle.df_format.specs.Copies.{is_blank_copy}
 use Rattle.df_superblock.specs.Blank.{IsUnformatted}
-use Rattle.df_model.specs.declared.errors.FormatError.{FormatError}
-use Rattle.df_model.specs.declared.errors.FormatError.TheVariants.{ClusterZero, NotBlank, DiskFault}
+use Rattle.df_model.specs.{declared.errors.FormatError.{FormatError}, declared.errors.FormatError.TheVariants.{ClusterZero, NotBlank, DiskFault}}
 
 -- the first copy whose sector holds a byte other than zero
 pub record IsFirstWritten (image : Image) (copy : ℕ) : Type 0 where

@@ -2,18 +2,10 @@
 use Rattle.std.specs.Prelude.{ℕ, List, Option, Some, None}
 use Rattle.df_base.specs.Log.{IsLog, Log, now}
 use Rattle.df_disk.specs.Told.{Told}
-use Rattle.df_theory.specs.Units.{Parts, Units}
-use Rattle.df_theory.specs.Shape.{Shape}
-use Rattle.df_theory.specs.UnitLog.{UnitLog}
-use Rattle.df_theory.specs.View.{View}
-use Rattle.df_theory.specs.Holds.{Stands}
-use Rattle.df_theory.specs.WholeLaws.{IsStanding}
-use Rattle.df_theory.specs.Device.{Format, IsGoodDisk, IsGoodWholeDisk, units_log}
+use Rattle.df_theory.specs.{Units.{Parts, Units}, Shape.{Shape}, UnitLog.{UnitLog}, View.{View}, Holds.{Stands}, WholeLaws.{IsStanding}, Device.{Format, IsGoodDisk, IsGoodWholeDisk, units_log}}
 use Rattle.df_units.specs.Format.{format_of}
 use Rattle.df_journal.specs.Append.{ShowsRing}
-use Rattle.df_model.specs.Laws.{IsKeptBy}
-use Rattle.df_model.specs.Sense.{IsBacked, IsWork}
-use Rattle.df_model.specs.Work.{Work}
+use Rattle.df_model.specs.{Laws.{IsKeptBy}, Sense.{IsBacked, IsWork}, Work.{Work}}
 use Rattle.df_damage.specs.Below.{DataFile, Represents, State, shape, spelling}
 
 -- how much holds of a file: that nothing is to be mended, or that each block that it references is shown, too

@@ -1,24 +1,12 @@
 -- The making of a whole file: its device calls, what they are in the words of the theory, and on what disk a file may be made.
-use Rattle.std.specs.Prelude.{◌≡◌, ◌<◌, ◌+◌, ◌/◌, ℕ, zero, suc, List, [], ◌∷◌, ◌++◌, map, Option, Some, Result, OnOk}
-use Rattle.std.specs.List.{range_with_len}
-use Rattle.df_base.specs.declared.TheConstants.{VERSION}
-use Rattle.df_base.specs.Log.{Event, IsLog, Sync}
-use Rattle.df_base.specs.Moments.{EachMoment}
+use Rattle.std.specs.{Prelude.{◌≡◌, ◌<◌, ◌+◌, ◌/◌, ℕ, zero, suc, List, [], ◌∷◌, ◌++◌, map, Option, Some, Result, OnOk}, List.{range_with_len}}
+use Rattle.df_base.specs.{declared.TheConstants.{VERSION}, Log.{Event, IsLog, Sync}, Moments.{EachMoment}}
 use Rattle.df_disk.specs.Told.{Told}
 use Rattle.df_layout.specs.declared.layout.Layout.{Layout}
-use Rattle.df_format.specs.declared.header.Header.{Header}
-use Rattle.df_format.specs.declared.superblock.SuperFields.{SuperFields}
-use Rattle.df_format.specs.First.{first_content, first_super}
-use Rattle.df_format.specs.UnitLaws.{AreSixteen}
+use Rattle.df_format.specs.{declared.header.Header.{Header}, declared.superblock.SuperFields.{SuperFields}, First.{first_content, first_super}, UnitLaws.{AreSixteen}}
 use Rattle.df_superblock.specs.Events.{update_events}
-use Rattle.df_theory.specs.Runs.{Step}
-use Rattle.df_theory.specs.Device.{AreSteps, IsSafeDisk, units_log}
-use Rattle.df_theory.specs.MakingLaws.{IsMaking, format_steps}
-use Rattle.df_units.specs.Format.{format_of}
-use Rattle.df_units.specs.Making.{IsMadeOnDisk, first_view, header_puts, header_writes}
-use Rattle.df_units.specs.Meaning.{content_of}
-use Rattle.df_units.specs.Puts.{put_copies}
-use Rattle.df_units.specs.Sample.{reserved_header}
+use Rattle.df_theory.specs.{Runs.{Step}, Device.{AreSteps, IsSafeDisk, units_log}, MakingLaws.{IsMaking, format_steps}}
+use Rattle.df_units.specs.{Format.{format_of}, Making.{IsMadeOnDisk, first_view, header_puts, header_writes}, Meaning.{content_of}, Puts.{put_copies}, Sample.{reserved_header}}
 use Rattle.df_headers.specs.Ring.{in_sector}
 use Rattle.df_model.specs.declared.errors.FormatError.{FormatError}
 use Rattle.df_damage.specs.Below.{DataFile, shape}

@@ -1,51 +1,20 @@
 -- The mending of a file: which sectors of the header ring are written, its device calls, what they are in the words of the theory, and what they leave.
-use Rattle.std.specs.Prelude.{◌≡◌, ◌⊎◌, ◌+◌, ◌/◌, ◌==◌, ◌&&◌, ℕ, Bool, true, false, List, [], ◌∷◌, ◌++◌, length, map, Option, Some, Result, Ok, Err}
-use Rattle.std.specs.List.{filter, list_any, range_with_len}
-use Rattle.df_base.specs.declared.TheConstants.{VERSION}
-use Rattle.df_base.specs.Image.{Image, IsImage}
-use Rattle.df_base.specs.Log.{Event, IsLeft, IsLog, Log, Sync, now}
-use Rattle.df_disk.specs.Told.{IsHonest, Told, did}
-use Rattle.df_disk.specs.Adds.{Adds, AddsPart, after_all}
-use Rattle.df_layout.specs.declared.damage.Mend.{Mend}
-use Rattle.df_layout.specs.declared.layout.Layout.{Layout}
-use Rattle.df_layout.specs.declared.places.Zone.{Zone}
-use Rattle.df_layout.specs.declared.places.Zone.TheVariants.{WalHeaders}
-use Rattle.df_format.specs.declared.header.Header.{Header}
-use Rattle.df_format.specs.Copies.{content_at, content_with}
-use Rattle.df_format.specs.declared.superblock.SuperFields.{SuperFields}
-use Rattle.df_quorum.specs.declared.slot.Slot.{Slot}
-use Rattle.df_quorum.specs.Quorum.{AreMembers}
-use Rattle.df_theory.specs.Units.{Units}
-use Rattle.df_theory.specs.Found.{IsFound}
-use Rattle.df_theory.specs.Rests.{IsDry, RestsOn}
-use Rattle.df_theory.specs.View.{View, head}
-use Rattle.df_theory.specs.Next.{booted}
-use Rattle.df_theory.specs.Upgrades.{raise_steps}
-use Rattle.df_theory.specs.Device.{AreSteps, Format, NoChanceOf, units_log}
-use Rattle.df_theory.specs.MendLaws.{MayMend, mend_steps}
-use Rattle.df_theory.specs.Runs.{Step}
-use Rattle.df_theory.specs.TidyLaws.{IsTidy}
-use Rattle.df_units.specs.Bytes.{unit_at}
-use Rattle.df_units.specs.Meaning.{content_of}
-use Rattle.df_units.specs.Puts.{put_copies, put_headers}
+use Rattle.std.specs.{Prelude.{◌≡◌, ◌⊎◌, ◌+◌, ◌/◌, ◌==◌, ◌&&◌, ℕ, Bool, true, false, List, [], ◌∷◌, ◌++◌, length, map, Option, Some, Result, Ok, Err}, List.{filter, list_any, range_with_len}}
+use Rattle.df_base.specs.{declared.TheConstants.{VERSION}, Image.{Image, IsImage}, Log.{Event, IsLeft, IsLog, Log, Sync, now}}
+use Rattle.df_disk.specs.{Told.{IsHonest, Told, did}, Adds.{Adds, AddsPart, after_all}}
+use Rattle.df_layout.specs.{declared.damage.Mend.{Mend}, declared.layout.Layout.{Layout}, declared.places.Zone.{Zone}, declared.places.Zone.TheVariants.{WalHeaders}}
+use Rattle.df_format.specs.{declared.header.Header.{Header}, Copies.{content_at, content_with}, declared.superblock.SuperFields.{SuperFields}}
+use Rattle.df_quorum.specs.{declared.slot.Slot.{Slot}, Quorum.{AreMembers}}
+use Rattle.df_theory.specs.{Units.{Units}, Found.{IsFound}, Rests.{IsDry, RestsOn}, View.{View, head}, Next.{booted}, Upgrades.{raise_steps}, Device.{AreSteps, Format, NoChanceOf, units_log}}
+use Rattle.df_theory.specs.{MendLaws.{MayMend, mend_steps}, Runs.{Step}, TidyLaws.{IsTidy}}
+use Rattle.df_units.specs.{Bytes.{unit_at}, Meaning.{content_of}, Puts.{put_copies, put_headers}}
 use Rattle.df_headers.specs.Ring.{in_sector, sector_writes}
-use Rattle.df_journal.specs.Scan.{Scan}
-use Rattle.df_journal.specs.Shows.{TellsRings}
-use Rattle.df_journal.specs.Append.{ShowsRing}
-use Rattle.df_model.specs.Work.{Work, opened, raised}
-use Rattle.df_model.specs.declared.errors.MendError.{MendError}
-use Rattle.df_model.specs.declared.errors.MendError.TheVariants.{Damaged, DiskFault}
-use Rattle.df_superblock.specs.Calls.{IsJudged}
-use Rattle.df_superblock.specs.Events.{repair_events, update_events}
+use Rattle.df_journal.specs.{Scan.{Scan}, Shows.{TellsRings}, Append.{ShowsRing}, Starting.{start_of}}
+use Rattle.df_model.specs.{Work.{Work, opened, raised}, declared.errors.MendError.{MendError}, declared.errors.MendError.TheVariants.{Damaged, DiskFault}}
+use Rattle.df_superblock.specs.{Calls.{IsJudged}, Events.{repair_events, update_events}, Steps.{repaired}}
 use Rattle.df_superblock.specs.declared.updates.UpdateError.TheVariants as superblock
-use Rattle.df_superblock.specs.Steps.{repaired}
-use Rattle.df_damage.specs.Below.{DataFile, State, boot_fields, shape}
-use Rattle.df_damage.specs.Opening.{HasSuperAs}
-use Rattle.df_damage.specs.Plan.{headers_in, if_wanted}
-use Rattle.df_journal.specs.Starting.{start_of}
-use Rattle.df_damage.specs.Surveying.{ArePlannedFrom}
-use Rattle.df_opening.specs.Following.{MayOpen}
-use Rattle.df_opening.specs.Keeping.{Grade, StandingFor, StandsFor, format}
+use Rattle.df_damage.specs.{Below.{DataFile, State, boot_fields, shape}, Opening.{HasSuperAs}, Plan.{headers_in, if_wanted}, Surveying.{ArePlannedFrom}}
+use Rattle.df_opening.specs.{Following.{MayOpen}, Keeping.{Grade, StandingFor, StandsFor, format}}
 
 -- ---- sectors
 

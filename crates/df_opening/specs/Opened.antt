@@ -1,41 +1,22 @@
 -- What an open leaves of a file, and what it leaves where the disk failed in it.
 use Rattle.std.specs.Prelude.{◌≡◌, ◌⊎◌, ◌<◌, ℕ, true, List, ◌∷◌, ◌++◌, Option, Some, Result, Ok, Err}
-use Rattle.df_base.specs.Image.{Image, IsImage}
-use Rattle.df_base.specs.Log.{Event, Log, Sync, add}
-use Rattle.df_base.specs.Moments.{EachMoment}
-use Rattle.df_disk.specs.Told.{Told, after, did}
-use Rattle.df_disk.specs.Adds.{AddsPart, after_all}
-use Rattle.df_layout.specs.declared.damage.Mend.{Mend}
-use Rattle.df_layout.specs.declared.layout.Layout.{Layout}
+use Rattle.df_base.specs.{Image.{Image, IsImage}, Log.{Event, Log, Sync, add}, Moments.{EachMoment}}
+use Rattle.df_disk.specs.{Told.{Told, after, did}, Adds.{AddsPart, after_all}}
+use Rattle.df_layout.specs.{declared.damage.Mend.{Mend}, declared.layout.Layout.{Layout}}
 use Rattle.df_quorum.specs.declared.choice.Chosen.{Chosen}
-use Rattle.df_format.specs.Copies.{content_with}
-use Rattle.df_format.specs.declared.superblock.SuperFields.{SuperFields}
-use Rattle.df_damage.specs.Anew.{restarted, told_after}
-use Rattle.df_damage.specs.Answers.{TellsHurt}
-use Rattle.df_damage.specs.Histories.{IsLivedDisk, LivesOn, MayReopen, TellsLived}
+use Rattle.df_format.specs.{Copies.{content_with}, declared.superblock.SuperFields.{SuperFields}}
+use Rattle.df_damage.specs.{Anew.{restarted, told_after}, Answers.{TellsHurt}, Histories.{IsLivedDisk, LivesOn, MayReopen, TellsLived}}
+use Rattle.df_damage.specs.{Below.{AreWhole, DataFile, Parts, State, boot_fields, shape, state_in}, Plan.{AreDistinctUnits}, Surveys.{IsOpenedAs}}
 use Rattle.df_history.specs.OpenLaws.{BeginsHistory}
-use Rattle.df_theory.specs.Found.{IsFound}
-use Rattle.df_theory.specs.Units.{CopyPlace, CopyUnit}
-use Rattle.df_theory.specs.Next.{IsSameBare}
-use Rattle.df_theory.specs.View.{View}
-use Rattle.df_units.specs.Bytes.{unit_at}
-use Rattle.df_units.specs.Within.{AreWithin}
-use Rattle.df_units.specs.Meaning.{content_of}
+use Rattle.df_theory.specs.{Found.{IsFound}, Units.{CopyPlace, CopyUnit}, Next.{IsSameBare}, View.{View}}
+use Rattle.df_units.specs.{Bytes.{unit_at}, Within.{AreWithin}, Meaning.{content_of}}
 use Rattle.df_superblock.specs.Events.{update_events}
-use Rattle.df_model.specs.Work.{kept}
-use Rattle.df_model.specs.declared.errors.MendError.{MendError}
+use Rattle.df_model.specs.{Work.{kept}, declared.errors.MendError.{MendError}, declared.errors.OpenError.{OpenError}}
 use Rattle.df_model.specs.declared.errors.MendError.TheVariants as mend
-use Rattle.df_model.specs.declared.errors.OpenError.{OpenError}
 use Rattle.df_model.specs.declared.errors.OpenError.TheVariants as opens
-use Rattle.df_damage.specs.Below.{AreWhole, DataFile, Parts, State, boot_fields, shape, state_in}
-use Rattle.df_damage.specs.Plan.{AreDistinctUnits}
-use Rattle.df_damage.specs.Surveys.{IsOpenedAs}
-use Rattle.df_opening.specs.Following.{MayOpen}
-use Rattle.df_opening.specs.Sparing.{AreSettled, SparesReads, image_after}
-use Rattle.df_opening.specs.Mending.{IsMended, raising_events}
-pub use Rattle.df_opening.specs.Mending.{StaysFound, begun_state, first_state, raised_state}
-use Rattle.df_opening.specs.Keeping.{Grade, IsGoodFor, IsKept, StandsFor, format}
+use Rattle.df_opening.specs.{Following.{MayOpen}, Sparing.{AreSettled, SparesReads, image_after}, Mending.{IsMended, raising_events}, Keeping.{Grade, IsGoodFor, IsKept, StandsFor, format}}
 use Rattle.df_opening.specs.Surveying.{IsMendable, TellsSurvey}
+pub use Rattle.df_opening.specs.Mending.{StaysFound, begun_state, first_state, raised_state}
 
 -- what the disk tells changed by events alone
 abbrev pub ToldBy : (old new : Option Told) → Type 0

@@ -1,26 +1,14 @@
 -- What an open does after its survey: it mends, and raises the boot; and what it leaves at each moment of that, by each log on which the plan rests.
 use Rattle.std.specs.Prelude.{◌≡◌, List, ◌∷◌}
-use Rattle.df_base.specs.Image.{IsImage}
-use Rattle.df_base.specs.Log.{Event, Log}
-use Rattle.df_base.specs.Moments.{EachMoment}
+use Rattle.df_base.specs.{Image.{IsImage}, Log.{Event, Log}, Moments.{EachMoment}}
 use Rattle.df_disk.specs.Told.{Told}
 use Rattle.df_format.specs.Copies.{content_with}
-use Rattle.df_theory.specs.Device.{AreSteps}
-use Rattle.df_theory.specs.Found.{IsFound}
-use Rattle.df_theory.specs.Next.{IsSameBare, booted}
-use Rattle.df_theory.specs.Runs.{Step}
-use Rattle.df_theory.specs.Units.{Content}
-use Rattle.df_theory.specs.View.{View}
+use Rattle.df_theory.specs.{Device.{AreSteps}, Found.{IsFound}, Next.{IsSameBare, booted}, Runs.{Step}, Units.{Content}, View.{View}}
 use Rattle.df_history.specs.OpenLaws.{BeginsHistory}
-use Rattle.df_units.specs.Bytes.{unit_at}
-use Rattle.df_units.specs.Meaning.{content_of}
-use Rattle.df_damage.specs.Anew.{restarted, told_after}
-use Rattle.df_damage.specs.Histories.{HasLived, LivesOn}
-use Rattle.df_damage.specs.Plan.{AreDistinctUnits}
-use Rattle.df_damage.specs.Below.{AreWhole, Parts, Represents, State, boot_fields, shape, state_in}
+use Rattle.df_units.specs.{Bytes.{unit_at}, Meaning.{content_of}}
+use Rattle.df_damage.specs.{Anew.{restarted, told_after}, Histories.{HasLived, LivesOn}, Plan.{AreDistinctUnits}, Below.{AreWhole, Parts, Represents, State, boot_fields, shape, state_in}}
 use Rattle.df_opening.specs.Keeping.{Grade, IsGoodFor, IsKept, StandsFor, format}
-use Rattle.df_opening.specs.Mending.{IsMended, IsPlanned, RestsOnDisk, StaysFound, begun_state, first_state, raised_state, raising_events, raising_steps}
-use Rattle.df_opening.specs.Survey.{Survey}
+use Rattle.df_opening.specs.{Mending.{IsMended, IsPlanned, RestsOnDisk, StaysFound, begun_state, first_state, raised_state, raising_events, raising_steps}, Survey.{Survey}}
 
 -- the superblock that an open writes of a state that was found
 abbrev pub raised_content : State → Content

@@ -1,13 +1,10 @@
 -- What device calls leave of the sectors of a file, whatever command made them: what is shown then, which sectors are written, and which blocks no stop may change.
 use Rattle.std.specs.Prelude.{◌≡◌, ◌||◌, ℕ, Bool, true, false, List, [], ◌∷◌}
-use Rattle.df_base.specs.Image.{Image, IsImage, covers}
-use Rattle.df_base.specs.Log.{Event, Log, Stop, Sync, Write, after_event, loose}
+use Rattle.df_base.specs.{Image.{Image, IsImage, covers}, Log.{Event, Log, Stop, Sync, Write, after_event, loose}}
 use Rattle.df_layout.specs.declared.layout.Layout.{Layout}
 use Rattle.df_theory.specs.Units.{BlockPlace, Place, PreparePlace, ReplyPlace}
-use Rattle.df_units.specs.Bytes.{has, has_place, unit_at}
-use Rattle.df_units.specs.Wanted.{class_at}
-use Rattle.df_model.specs.Result.{AgreeReads}
-use Rattle.df_model.specs.Work.{Work, is_known, is_of}
+use Rattle.df_units.specs.{Bytes.{has, has_place, unit_at}, Wanted.{class_at}}
+use Rattle.df_model.specs.{Result.{AgreeReads}, Work.{Work, is_known, is_of}}
 use Rattle.df_damage.specs.Below.{DataFile}
 
 -- ---- what is shown

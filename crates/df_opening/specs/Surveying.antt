@@ -4,15 +4,9 @@ use Rattle.df_base.specs.Image.{Image, IsImage}
 use Rattle.df_disk.specs.Told.{Told}
 use Rattle.df_layout.specs.declared.layout.Layout.{Layout}
 use Rattle.df_model.specs.declared.errors.OpenError.{OpenError}
-use Rattle.df_damage.specs.Answers.{TellsHurt}
-use Rattle.df_damage.specs.Below.{State}
-use Rattle.df_damage.specs.Found.{IsChoiceOf}
-use Rattle.df_damage.specs.Histories.{TellsLived}
-use Rattle.df_damage.specs.Surveying.{TellsSurveyAs, state_found}
+use Rattle.df_damage.specs.{Answers.{TellsHurt}, Below.{State}, Found.{IsChoiceOf}, Histories.{TellsLived}, Surveying.{TellsSurveyAs, state_found}, Types.{Surveyed}}
 pub use Rattle.df_damage.specs.Surveying.{copy_mend_at, headers_of, mends_of}
-use Rattle.df_damage.specs.Types.{Surveyed}
-use Rattle.df_opening.specs.Raising.{IsPlannedOf}
-use Rattle.df_opening.specs.Survey.{Survey}
+use Rattle.df_opening.specs.{Raising.{IsPlannedOf}, Survey.{Survey}}
 
 -- the survey of a file that was read, whose state was found
 abbrev pub survey_found : Surveyed → Survey

@@ -1,8 +1,7 @@
 // How a file is made: reserved headers in each sector of the header ring, a sync, and the four copies of the first superblock, on
 // a disk that is blank where the copies stand. A header ring without a superblock is no file, so the copies come last.
 ghost use Rattle.std.specs.Prelude.{◌≡◌, ◌<◌, ◌∷◌, length};
-ghost use Rattle.df_opening.specs.Below.{HasCause, IsBlamed, Sync, Adds, first_super, IsUsable, update_events, header_writes, is_format_fault};
-ghost use Rattle.df_opening.specs.Formatting.{RefusesCluster, TellsBlank};
+ghost use Rattle.df_opening.specs.{Below.{HasCause, IsBlamed, Sync, Adds, first_super, IsUsable, update_events, header_writes, is_format_fault}, Formatting.{RefusesCluster, TellsBlank}};
 ghost use Rattle.df_opening.specs.Making.{AreWritable, FormatsFile, file_events, making_events, sectors_in};
 
 use crate::first::first_superblock;

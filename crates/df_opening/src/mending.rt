@@ -3,11 +3,9 @@
 ghost use Rattle.std.specs.Prelude.{◌≡◌, ◌<◌, ◌/◌, length, IfErr, IfOk, OnErr, OnOk};
 ghost use Rattle.df_base.specs.declared.TheConstants.{GREATEST};
 ghost use Rattle.df_headers.specs.Ring.{IsHeaderTable};
-ghost use Rattle.df_opening.specs.Below.{Adds, HasCause, IsBlamed, is_mend_fault, update_events, without_rooms};
-ghost use Rattle.df_opening.specs.Keeping.{format};
+ghost use Rattle.df_opening.specs.{Below.{Adds, HasCause, IsBlamed, is_mend_fault, update_events, without_rooms}, Keeping.{format}};
 ghost use Rattle.df_opening.specs.Mending.{AddsSteps, AddsUpdating, header_events, lies_in, mending_events, mending_steps, needs_sector, raised_state, sectors_of, wanted_writes};
-ghost use Rattle.df_opening.specs.Raising.{AreRaised, RaisesEach, opening_events};
-ghost use Rattle.df_opening.specs.Survey.{survey_in};
+ghost use Rattle.df_opening.specs.{Raising.{AreRaised, RaisesEach, opening_events}, Survey.{survey_in}};
 ghost use Rattle.df_damage.specs.Below.{AreFound, AreWhole, boot_fields, state_in};
 
 use crate::{DataFile, MendError, Parts, Rooms, SurveyedFile};

@@ -2,12 +2,9 @@
 // is a survey, the mending of what it lists, and the boot update.
 ghost use Rattle.std.specs.Prelude.{◌≡◌, IfOk, IfErr};
 ghost use Rattle.df_base.specs.declared.TheConstants.{VERSION};
-ghost use Rattle.df_opening.specs.Below.{IsBlamed, Syncs, is_open_fault, without_rooms};
-ghost use Rattle.df_damage.specs.Below.{AreFound};
-ghost use Rattle.df_damage.specs.Surveying.{IsPlannedFor, IsWellFound};
-ghost use Rattle.df_opening.specs.Opened.{AnswersOpen, AreOpened, LeavesOpen, refusal_of};
-ghost use Rattle.df_opening.specs.Survey.{opened_of, survey_in, survey_of};
+ghost use Rattle.df_opening.specs.{Below.{IsBlamed, Syncs, is_open_fault, without_rooms}, Opened.{AnswersOpen, AreOpened, LeavesOpen, refusal_of}, Survey.{opened_of, survey_in, survey_of}};
 ghost use Rattle.df_opening.specs.Surveying.{AnswersSurvey, IsSurveyed, state_of, survey_found};
+ghost use Rattle.df_damage.specs.{Below.{AreFound}, Surveying.{IsPlannedFor, IsWellFound}};
 
 use crate::{MendError, OpenError, Parts, Rooms, mend_file};
 use df_damage::{Surveyed, survey_version};

@@ -1,17 +1,10 @@
 -- The loop's work piece by piece: what is next of what is due after a line, and what is left then.
 use Rattle.std.specs.Prelude.{◌≡◌, ◌<◌, ℕ, ◌+◌, ◌-◌, Bool, true, false, ◌&&◌, nat_lt, if◌then◌else◌, min, List, [], ◌∷◌, ◌++◌, replicate, Option, Some, None, Ok}
-use Rattle.df_theory.specs.Shape.{Shape}
-use Rattle.df_theory.specs.View.{head}
-use Rattle.df_model.specs.Refusals.{is_running, steps_left}
-use Rattle.df_model.specs.Commands.{Advance, Answer, Begin, Command, Scrub, ToBegin}
-use Rattle.df_model.specs.Sense.{IsWork}
-use Rattle.df_model.specs.Supply.{Codec}
-use Rattle.df_pace.specs.declared.beat.Beat.{Beat}
-use Rattle.df_pace.specs.declared.beat.Piece.{Piece}
-use Rattle.df_pace.specs.declared.beat.Piece.TheVariants as piece
-use Rattle.df_pace.specs.declared.pace.Due.{Due}
-use Rattle.df_pace.specs.declared.pace.Pace.{Pace}
+use Rattle.df_theory.specs.{Shape.{Shape}, View.{head}}
+use Rattle.df_model.specs.{Refusals.{is_running, steps_left}, Commands.{Advance, Answer, Begin, Command, Scrub, ToBegin}, Sense.{IsWork}, Supply.{Codec}}
+use Rattle.df_pace.specs.{declared.beat.Beat.{Beat}, declared.beat.Piece.{Piece}, declared.pace.Due.{Due}, declared.pace.Pace.{Pace}}
 use Rattle.df_pace.specs.Loop.{Stand, all_by_loop, answer_at, begin_if, by_loop, by_script, commands_due, course_at, is_begin_due}
+use Rattle.df_pace.specs.declared.beat.Piece.TheVariants as piece
 
 -- ---- what is left
 

@@ -1,15 +1,11 @@
 -- What the work beside a script leaves as it was.
 use Rattle.std.specs.Prelude.{◌≡◌, ℕ, Bool, true, false, List, [], ◌∷◌, map, None, Ok, Err}
-use Rattle.df_theory.specs.Shape.{Shape}
-use Rattle.df_theory.specs.View.{head, sessions}
-use Rattle.df_model.specs.Work.{Work}
-use Rattle.df_model.specs.Commands.{Answer, Append, Command, Flush, ReadReply, Recent, Reply, Scrub, Stage, ToAppend, ToReadReply, ToStage}
-use Rattle.df_model.specs.Supply.{Codec, Shown, last_shown, last_work}
+use Rattle.df_theory.specs.{Shape.{Shape}, View.{head, sessions}}
+use Rattle.df_model.specs.{Work.{Work}, Commands.{Answer, Append, Command, Flush, ReadReply, Recent, Reply, Scrub, Stage, ToAppend, ToReadReply, ToStage}, Supply.{Codec, Shown, last_shown, last_work}}
 use Rattle.df_model.specs.declared.errors.AppendError.{AppendError}
 use Rattle.df_model.specs.declared.errors.AppendError.TheVariants as append
 use Rattle.df_script_model.specs.Script.{printed, texts}
-use Rattle.df_pace.specs.declared.pace.Pace.{Pace}
-use Rattle.df_pace.specs.Loop.{Stand, all_commands, answered, ended, paced, start}
+use Rattle.df_pace.specs.{declared.pace.Pace.{Pace}, Loop.{Stand, all_commands, answered, ended, paced, start}}
 
 -- ---- what a paced script is
 

@@ -1,10 +1,7 @@
 -- The paced loop: a script of which each line is followed by a bounded piece of work. What is due is a list of commands, which the machine does as it does those of the script.
 use Rattle.std.specs.Prelude.{ℕ, ◌+◌, ◌==◌, Bool, true, false, ◌&&◌, nat_le, not, min, List, [], ◌∷◌, ◌++◌, replicate, Option, Ok}
 use Rattle.df_theory.specs.Shape.{Shape}
-use Rattle.df_model.specs.Work.{Work}
-use Rattle.df_model.specs.Memory.{Course, memory_of}
-use Rattle.df_model.specs.Refusals.{is_running, steps_left}
-use Rattle.df_model.specs.Commands.{Advance, Answer, Begin, Command, Scrub, ToAppend, ToBegin, ToFlush}
+use Rattle.df_model.specs.{Work.{Work}, Memory.{Course, memory_of}, Refusals.{is_running, steps_left}, Commands.{Advance, Answer, Begin, Command, Scrub, ToAppend, ToBegin, ToFlush}}
 use Rattle.df_model.specs.Supply.{Codec, Shown, next, shown_after}
 use Rattle.df_script_model.specs.Script.{answer_text}
 use Rattle.df_pace.specs.declared.pace.Pace.{Pace}

@@ -2,10 +2,8 @@
 use Rattle.std.specs.Prelude.{◌≡◌, ◌<◌, ◌+◌, ◌-◌, ◌/◌, ◌%◌, ℕ, zero, suc, List, [], ◌∷◌, ◌++◌, codes, drop}
 use Rattle.df_theory.specs.View.{View, head, sequence}
 use Rattle.df_model.specs.Commands.{Append, Begin, Command, Flush, Release, Reply, Stage}
-use Rattle.df_script_model.specs.Sessions.{blank, equal_blocks, first_work, plain, small}
-use Rattle.df_script_model.specs.Texts.{line_of, numbered}
-use Rattle.df_pace.specs.declared.pace.Pace.{Pace}
-use Rattle.df_pace.specs.Loop.{ended, paced, start}
+use Rattle.df_script_model.specs.{Sessions.{blank, equal_blocks, first_work, plain, small}, Texts.{line_of, numbered}}
+use Rattle.df_pace.specs.{declared.pace.Pace.{Pace}, Loop.{ended, paced, start}}
 
 abbrev pub pace_of : (scrub every steps : ℕ) → Pace
 pace_of scrub every steps = record { scrub = scrub; every = every; steps = steps }

@@ -1,7 +1,6 @@
 // What the loop's work beside a script leaves as it was.
 
-ghost use Rattle.df_pace.specs.Beats.{FewerDue, LineCounts, NothingDue, PieceCounts, PieceDue, StartsIdle, WholeDue};
-ghost use Rattle.df_pace.specs.Laws.{AnsweredLaw, IdleLaw, PacingLaw, ScrubbingLaw, SessionLaw};
+ghost use Rattle.df_pace.specs.{Beats.{FewerDue, LineCounts, NothingDue, PieceCounts, PieceDue, StartsIdle, WholeDue}, Laws.{AnsweredLaw, IdleLaw, PacingLaw, ScrubbingLaw, SessionLaw}};
 
 /// A script prints the texts of its answers, also with work beside it, and where nothing is due it prints what it prints
 /// alone. With the work beside it it is one session of the machine.

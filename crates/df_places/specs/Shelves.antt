@@ -1,22 +1,11 @@
 -- A shelf: the room of a kind of unit between two calls, and what is read into it.
 use Rattle.std.specs.Prelude.{◌≡◌, ◌+◌, ℕ, List, length, take, Option, Some, None}
-use Rattle.df_base.specs.declared.TheConstants.{HEADER}
-use Rattle.df_base.specs.Image.{Image}
+use Rattle.df_base.specs.{declared.TheConstants.{HEADER}, Image.{Image}}
 use Rattle.df_disk.specs.Told.{Told}
-use Rattle.df_layout.specs.declared.layout.Layout.{Layout}
-use Rattle.df_layout.specs.declared.damage.Class.{Class}
-use Rattle.df_format.specs.declared.header.Header.{Header}
-use Rattle.df_format.specs.declared.kind.Kind.{Kind}
-use Rattle.df_format.specs.Making.{for_body}
-use Rattle.df_format.specs.Message.{Message, sectors_end, sectors_of}
-use Rattle.df_format.specs.Shown.{class_at, unit_at}
-use Rattle.df_format.specs.Spelling.{sealed}
-use Rattle.df_format.specs.UnitLaws.{MadeIsUnit}
-use Rattle.df_format.specs.Wanted.{IsWanted}
-use Rattle.df_buffers.specs.declared.identity.Identity.{Identity}
-use Rattle.df_buffers.specs.Found.{IsValidUnit, wanted_words}
-use Rattle.df_buffers.specs.Rooms.{Room}
-use Rattle.df_buffers.specs.Sounds.{Holding, IsTidy}
+use Rattle.df_layout.specs.{declared.layout.Layout.{Layout}, declared.damage.Class.{Class}}
+use Rattle.df_format.specs.{declared.header.Header.{Header}, declared.kind.Kind.{Kind}, Making.{for_body}, Message.{Message, sectors_end, sectors_of}, Shown.{class_at, unit_at}, Spelling.{sealed}}
+use Rattle.df_format.specs.{UnitLaws.{MadeIsUnit}, Wanted.{IsWanted}}
+use Rattle.df_buffers.specs.{declared.identity.Identity.{Identity}, Found.{IsValidUnit, wanted_words}, Rooms.{Room}, Sounds.{Holding, IsTidy}}
 
 -- what a shelf is seen as: the layout of its room, and the sound unit in the room, if one is
 pub record Shelved : Type 0 where

@@ -1,21 +1,12 @@
 -- What a write of a unit into its place does, and what a place shows.
 use Rattle.std.specs.Prelude.{◌≡◌, ℕ, List, [], ◌∷◌, take, Option, Some, None, Result, Ok, Err}
-use Rattle.df_base.specs.Image.{Image}
-use Rattle.df_base.specs.Log.{Event, Write, Sync}
+use Rattle.df_base.specs.{Image.{Image}, Log.{Event, Write, Sync}}
 use Rattle.df_disk.specs.Told.{Told}
-use Rattle.df_layout.specs.declared.layout.Layout.{Layout}
-use Rattle.df_layout.specs.declared.damage.Class.{Class}
-use Rattle.df_layout.specs.declared.places.Place.{Place}
-use Rattle.df_layout.specs.Spans.{span_of}
-use Rattle.df_format.specs.declared.header.Header.{Header}
-use Rattle.df_format.specs.Message.{sectors_end}
-use Rattle.df_format.specs.Shown.{class_at, header_or_class, unit_at}
-use Rattle.df_format.specs.Valid.{IsUnit}
+use Rattle.df_layout.specs.{declared.layout.Layout.{Layout}, declared.damage.Class.{Class}, declared.places.Place.{Place}, Spans.{span_of}}
+use Rattle.df_format.specs.{declared.header.Header.{Header}, Message.{sectors_end}, Shown.{class_at, header_or_class, unit_at}, Valid.{IsUnit}}
 use Rattle.df_buffers.specs.Sounds.{Holding}
 use Rattle.df_theory.specs.Units
-use Rattle.df_theory.specs.Units.{AnyUnit}
-use Rattle.df_theory.specs.UnitLog.{put_one}
-use Rattle.df_theory.specs.Runs.{Puts, Step, Syncs}
+use Rattle.df_theory.specs.{Units.{AnyUnit}, UnitLog.{put_one}, Runs.{Puts, Step, Syncs}}
 
 -- the whole sectors that a unit covers go into its place
 abbrev pub put_events : Layout → Place → Holding → List Event

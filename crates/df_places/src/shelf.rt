@@ -1,8 +1,7 @@
 // The room of a kind of unit, as it lies between two calls: with any bytes, or with a sound unit in it, which it lends.
 ghost use Rattle.std.specs.Prelude.{◌≡◌, ◌≤◌, ◌+◌, None, Some, length, IfOk, IsSome};
 ghost use Rattle.df_base.specs.declared.TheConstants.{HEADER};
-ghost use Rattle.df_places.specs.Below.{HasCause, AreBytes, HasPlace, for_body, own_place, ObeysRules, greatest_size};
-ghost use Rattle.df_places.specs.Shelves.{HoldsBlanked, HoldsFound, HoldsMade, IsRead, IsShelf};
+ghost use Rattle.df_places.specs.{Below.{HasCause, AreBytes, HasPlace, for_body, own_place, ObeysRules, greatest_size}, Shelves.{HoldsBlanked, HoldsFound, HoldsMade, IsRead, IsShelf}};
 ghost use Rattle.df_places.specs.Units.{IsSeen, IsThere};
 
 use crate::read_place;

@@ -1,17 +1,11 @@
 -- Where the slots of the ring of prepares lie, and what a write of a unit into its slot does.
 use Rattle.std.specs.Prelude.{ℕ, List}
 use Rattle.df_base.specs.Log.{Event}
-use Rattle.df_layout.specs.declared.layout.Layout.{Layout}
-use Rattle.df_layout.specs.declared.places.Place.{Place}
-use Rattle.df_layout.specs.declared.places.Zone.TheVariants.{WalPrepares}
-use Rattle.df_format.specs.Message.{Message}
-use Rattle.df_format.specs.Own.{place_in}
-use Rattle.df_format.specs.Valid.{IsUnit}
+use Rattle.df_layout.specs.{declared.layout.Layout.{Layout}, declared.places.Place.{Place}, declared.places.Zone.TheVariants.{WalPrepares}}
+use Rattle.df_format.specs.{Message.{Message}, Own.{place_in}, Valid.{IsUnit}}
 use Rattle.df_buffers.specs.Sounds.{Holding}
-use Rattle.df_theory.specs.Units.{PreparePlace, PrepareUnit}
-use Rattle.df_theory.specs.Runs.{Step}
-use Rattle.df_places.specs.Below.{message_of}
-use Rattle.df_places.specs.Units.{put_events as put_unit_events, put_steps as put_unit_steps, unit_events, unit_steps}
+use Rattle.df_theory.specs.{Units.{PreparePlace, PrepareUnit}, Runs.{Step}}
+use Rattle.df_places.specs.{Below.{message_of}, Units.{put_events as put_unit_events, put_steps as put_unit_steps, unit_events, unit_steps}}
 
 -- the place of a slot
 abbrev pub slot_place : ℕ → Place

@@ -1,10 +1,8 @@
 -- What the end of a program says, for any type of statuses: the text, the status after it, and which fault it blames.
 use Rattle.std.specs.Prelude.{◌≡◌, ◌⊎◌, ℕ, List, Option, Result, Ok, Err}
-use Rattle.df_base.specs.Causes.{Rose}
-use Rattle.df_base.specs.Streams.{Appends, AppendsPart}
+use Rattle.df_base.specs.{Causes.{Rose}, Streams.{Appends, AppendsPart}}
 use Rattle.df_inspect.specs.Opening.{open_refusal}
-use Rattle.df_model.specs.declared.errors.OpenError.{OpenError}
-use Rattle.df_model.specs.declared.errors.OpenError.TheVariants.{DiskFault}
+use Rattle.df_model.specs.{declared.errors.OpenError.{OpenError}, declared.errors.OpenError.TheVariants.{DiskFault}}
 
 -- it ended with this fault only where the count rose, once, and else the count is as it was
 pub record Blames {S : Type 0} (fault : S) (before now : ℕ) (status : S) : Type 0 where

@@ -1,9 +1,7 @@
 -- What becomes of a session by one turn, for any type of statuses.
 use Rattle.std.specs.Prelude.{◌≡◌, ℕ, List, Option, Result, Ok, Err}
 use Rattle.df_base.specs.Streams.{Appends, AppendsPart}
-use Rattle.df_program.specs.declared.turn.Turn.{Turn}
-use Rattle.df_program.specs.declared.turn.Turn.TheVariants.{GoesOn, Ends}
-use Rattle.df_program.specs.Telling.{Blames}
+use Rattle.df_program.specs.{declared.turn.Turn.{Turn}, declared.turn.Turn.TheVariants.{GoesOn, Ends}, Telling.{Blames}}
 
 -- where the session goes on
 abbrev pub OnGoing : {S : Type 0} → Turn S → Type 0 → Type 0

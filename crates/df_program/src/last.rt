@@ -1,8 +1,7 @@
 // The last text of a program: its line, or why a file isn't opened or what stands in it is damaged. Where the sink fails, the status says so.
 ghost use Rattle.std.specs.Prelude.{◌≡◌, ◌<◌, ◌+◌, ◌^◌, ℕ, List, Option};
 ghost use Rattle.df_base.specs.Causes.{HasCause};
-ghost use Rattle.df_inspect.specs.Opening.{script_text};
-ghost use Rattle.df_inspect.specs.Prints.{Prints};
+ghost use Rattle.df_inspect.specs.{Opening.{script_text}, Prints.{Prints}};
 ghost use Rattle.df_script_model.specs.Texts.{damaged_text};
 ghost use Rattle.df_program.specs.Telling.{Blames, PrintsError, Writes, status_or};
 

@@ -1,6 +1,5 @@
 // The names of layouts: two of their own, and any five numbers that are within the limits.
-ghost use Rattle.std.specs.Prelude.{◌≡◌, ◌<◌, ◌^◌, ℕ, List, ◌∷◌, ◌++◌, decimal};
-ghost use Rattle.std.specs.Prelude.{IfSome, IfNone};
+ghost use Rattle.std.specs.{Prelude.{◌≡◌, ◌<◌, ◌^◌, ℕ, List, ◌∷◌, ◌++◌, decimal}, Prelude.{IfSome, IfNone}};
 ghost use Rattle.df_layout.specs.declared.layout.Layout.{Layout};
 ghost use Rattle.df_program.specs.Names.{NamesLayout, OneLayout, numbers_of};
 

@@ -1,12 +1,8 @@
 -- What the four copies of the superblock agree on, which of them say it, and of what class the others are.
 use Rattle.std.specs.Prelude.{◌≡◌, ◌<◌, ◌≤◌, ◌↔◌, ℕ, Bool, false, IsTrue, List, get_or, Option, Some, None}
-use Rattle.df_layout.specs.declared.damage.Class.{Class}
-use Rattle.df_layout.specs.declared.damage.Class.TheVariants.{Blank}
-use Rattle.df_format.specs.Copies.{Content, content_in_copy, if_here, rank_of_copy, class_of_sound}
-use Rattle.df_format.specs.declared.superblock.SuperCopy.{SuperCopy}
-use Rattle.df_format.specs.declared.superblock.SuperFields.{SuperFields}
-use Rattle.df_quorum.specs.declared.slot.Slot.{Slot}
-use Rattle.df_quorum.specs.declared.slot.Slot.TheVariants.{Sound, Bad}
+use Rattle.df_layout.specs.{declared.damage.Class.{Class}, declared.damage.Class.TheVariants.{Blank}}
+use Rattle.df_format.specs.{Copies.{Content, content_in_copy, if_here, rank_of_copy, class_of_sound}, declared.superblock.SuperCopy.{SuperCopy}, declared.superblock.SuperFields.{SuperFields}}
+use Rattle.df_quorum.specs.{declared.slot.Slot.{Slot}, declared.slot.Slot.TheVariants.{Sound, Bad}}
 
 -- which content each copy's place shows
 abbrev pub Copies : Type 0

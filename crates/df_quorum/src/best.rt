@@ -1,8 +1,7 @@
 // The best of the copies that another one agrees with.
 ghost use Rattle.std.specs.Prelude.{◌≡◌, nat_lt, option_copied};
 ghost use Rattle.df_format.specs.Copies.{content_in_copy, rank_of_copy};
-ghost use Rattle.df_quorum.specs.Quorum.{copies_of, content_of_copy, IfChosen};
-ghost use Rattle.df_quorum.specs.Best.{better_of, is_below};
+ghost use Rattle.df_quorum.specs.{Quorum.{copies_of, content_of_copy, IfChosen}, Best.{better_of, is_below}};
 
 use crate::Slot;
 use crate::votes::candidate;

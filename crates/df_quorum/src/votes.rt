@@ -1,8 +1,7 @@
 // Which copies show the same content.
 ghost use Rattle.std.specs.Prelude.{◌≡◌, ◌<◌, ◌↔◌, IsTrue, Some, option_copied};
 ghost use Rattle.df_format.specs.Copies.{content_in_copy};
-ghost use Rattle.df_quorum.specs.Quorum.{copies_of, content_of_copy, AreMembers};
-ghost use Rattle.df_quorum.specs.Best.{Votes, HasOtherCopy};
+ghost use Rattle.df_quorum.specs.{Quorum.{copies_of, content_of_copy, AreMembers}, Best.{Votes, HasOtherCopy}};
 
 use crate::Slot;
 use crate::slot::shown;

@@ -3,26 +3,15 @@ use Rattle.std.specs.Prelude.{◌≡◌, ◌<◌, ℕ, List, Option, Some, None,
 use Rattle.df_base.specs.Image.{Image}
 use Rattle.df_disk.specs.Told.{Told}
 use Rattle.df_layout.specs.declared.places.Zone.TheVariants.{Grid}
-use Rattle.df_format.specs.Own.{place_in}
-use Rattle.df_format.specs.declared.superblock.SuperFields.{SuperFields}
-use Rattle.df_sessions.specs.Requests.{sessions_of}
-use Rattle.df_sessions.specs.declared.session.Session.{Session}
-use Rattle.df_theory.specs.Units.{Block, BlockPlace, BlockUnit, Parts, Units}
-use Rattle.df_theory.specs.Sessions.{Tracks}
-use Rattle.df_theory.specs.Trailer.{InChain, IsTrailer}
-use Rattle.df_theory.specs.View.{Checkpoint}
-use Rattle.df_model.specs.Blocks.{Blocks}
-use Rattle.df_model.specs.declared.errors.OpenError.{OpenError}
-use Rattle.df_model.specs.declared.errors.OpenError.TheVariants.{BadField, Damaged, DiskFault}
-use Rattle.df_units.specs.Bytes.{unit_at}
-use Rattle.df_units.specs.Meaning.{layout_of}
+use Rattle.df_format.specs.{Own.{place_in}, declared.superblock.SuperFields.{SuperFields}}
+use Rattle.df_sessions.specs.{Requests.{sessions_of}, declared.session.Session.{Session}}
+use Rattle.df_theory.specs.{Units.{Block, BlockPlace, BlockUnit, Parts, Units}, Sessions.{Tracks}, Trailer.{InChain, IsTrailer}, View.{Checkpoint}}
+use Rattle.df_model.specs.{Blocks.{Blocks}, declared.errors.OpenError.{OpenError}, declared.errors.OpenError.TheVariants.{BadField, Damaged, DiskFault}}
+use Rattle.df_units.specs.{Bytes.{unit_at}, Meaning.{layout_of}}
 use Rattle.df_journal.specs.Tail.{AreNumbered, AreUnstored}
 use Rattle.df_grid.specs.Reads.{shown_of}
-use Rattle.df_checkpoint.specs.Chain.{IsLacking, content_in}
-use Rattle.df_checkpoint.specs.Reads.{blocks_read}
-use Rattle.df_checkpoint.specs.Tests.{FailsTest}
-use Rattle.df_rooms.specs.State.{AreAsked, shape}
-use Rattle.df_rooms.specs.declared.file.DataFile.{DataFile}
+use Rattle.df_checkpoint.specs.{Chain.{IsLacking, content_in}, Reads.{blocks_read}, Tests.{FailsTest}}
+use Rattle.df_rooms.specs.{State.{AreAsked, shape}, declared.file.DataFile.{DataFile}}
 
 -- what is kept of a checkpoint: its root, its sessions, and what the grid holds
 pub record Base : Type 0 where

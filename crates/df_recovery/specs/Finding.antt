@@ -1,46 +1,25 @@
 -- What an open finds after a superblock, by what a scan saw of the slots and of the replies: the state, or the first damage in the order of open.
-use Rattle.std.specs.Prelude.{◌≡◌, ◌+◌, ◌-◌, ◌<◌, ◌≤◌, ℕ, Bool, nat_le, if◌then◌else◌, List, [], length, map, slice_get, position, Option, Some, None, Result, Ok, Err}
-use Rattle.std.specs.List.{range_with_len}
-use Rattle.df_base.specs.declared.TheConstants.{GREATEST}
-use Rattle.df_base.specs.Image.{IsImage}
+use Rattle.std.specs.{Prelude.{◌≡◌, ◌+◌, ◌-◌, ◌<◌, ◌≤◌, ℕ, Bool, nat_le, if◌then◌else◌, List, [], length, map, slice_get, position, Option, Some, None, Result, Ok, Err}, List.{range_with_len}}
+use Rattle.df_base.specs.{declared.TheConstants.{GREATEST}, Image.{IsImage}}
 use Rattle.df_disk.specs.Told.{Told}
-use Rattle.df_layout.specs.declared.damage.Class.{Class}
-use Rattle.df_layout.specs.declared.layout.Layout.{Layout}
-use Rattle.df_layout.specs.declared.places.Place.{Place}
-use Rattle.df_format.specs.declared.header.Header.{Header}
-use Rattle.df_format.specs.Copies.{content_with}
-use Rattle.df_sessions.specs.declared.session.Session.{Session}
-use Rattle.df_sessions.specs.Requests.{sessions_of}
+use Rattle.df_layout.specs.{declared.damage.Class.{Class}, declared.layout.Layout.{Layout}, declared.places.Place.{Place}}
+use Rattle.df_format.specs.{declared.header.Header.{Header}, Copies.{content_with}}
+use Rattle.df_sessions.specs.{declared.session.Session.{Session}, Requests.{sessions_of}}
 use Rattle.df_theory.specs.Units
 use Rattle.df_theory.specs.Found
-use Rattle.df_theory.specs.Opens.{BootSpent as NoBoot, Damaged as Damages, IsLowest, IsReadable, Opens, Refusal, Refused}
-use Rattle.df_theory.specs.MendLaws.{IsSlotHeader}
-use Rattle.df_theory.specs.Shape.{Shape, clients, slots}
-use Rattle.df_theory.specs.Tails.{last_checksum}
-use Rattle.df_theory.specs.View.{Checkpoint, View, boot_of, head, sessions}
+use Rattle.df_theory.specs.{Opens.{BootSpent as NoBoot, Damaged as Damages, IsLowest, IsReadable, Opens, Refusal, Refused}, MendLaws.{IsSlotHeader}, Shape.{Shape, clients, slots}}
+use Rattle.df_theory.specs.{Tails.{last_checksum}, View.{Checkpoint, View, boot_of, head, sessions}}
 use Rattle.df_model.specs.Memory
-use Rattle.df_model.specs.Work.{first_tour, opened}
-use Rattle.df_model.specs.declared.errors.OpenError.{OpenError}
-use Rattle.df_model.specs.declared.errors.OpenError.TheVariants.{BootSpent, Damaged}
-use Rattle.df_units.specs.Bytes.{unit_at}
-use Rattle.df_units.specs.Meaning.{content_of, header_of, layout_of, number_of, place_of}
-use Rattle.df_journal.specs.Scan.{Scan}
+use Rattle.df_model.specs.{Work.{first_tour, opened}, declared.errors.OpenError.{OpenError}, declared.errors.OpenError.TheVariants.{BootSpent, Damaged}}
+use Rattle.df_units.specs.{Bytes.{unit_at}, Meaning.{content_of, header_of, layout_of, number_of, place_of}}
+use Rattle.df_journal.specs.{Scan.{Scan}, Shows.{TellsRings}, Tail.{AreUnstored, EndsAt}, Starting.{start_of}}
 use Rattle.df_journal.specs.Scanned as rings
-use Rattle.df_journal.specs.Shows.{TellsRings}
-use Rattle.df_journal.specs.Tail.{AreUnstored, EndsAt}
 use Rattle.df_replies.specs.Shown
 use Rattle.df_replies.specs.Shown.{ShowsReplies}
-use Rattle.df_rooms.specs.State.{Represents, State, shape, stored_sum}
+use Rattle.df_rooms.specs.{State.{Represents, State, shape, stored_sum}, declared.file.DataFile.{DataFile}}
 use Rattle.df_checkpoint.specs.Reads.{blocks_read}
-use Rattle.df_recovery.specs.Checkpoints.{Base, HasCheckpoint, base_of}
-use Rattle.df_recovery.specs.Waiting.{waiting_in, waiting_sum}
-use Rattle.df_recovery.specs.Found.{IsChoiceOf}
-use Rattle.df_journal.specs.Starting.{start_of}
-use Rattle.df_recovery.specs.Surveys.{HasFile, SurveysAs, class_there}
-use Rattle.df_rooms.specs.declared.file.DataFile.{DataFile}
-use Rattle.df_recovery.specs.declared.superblock.Found.{Found}
-use Rattle.df_recovery.specs.declared.finding.Traces.{Traces}
-use Rattle.df_recovery.specs.declared.scanned.Scanned.{Scanned}
+use Rattle.df_recovery.specs.{Checkpoints.{Base, HasCheckpoint, base_of}, Waiting.{waiting_in, waiting_sum}, Found.{IsChoiceOf}, Surveys.{HasFile, SurveysAs, class_there}}
+use Rattle.df_recovery.specs.{declared.superblock.Found.{Found}, declared.finding.Traces.{Traces}, declared.scanned.Scanned.{Scanned}}
 
 abbrev pub or_first : Option ℕ → ℕ
 or_first None = 0

@@ -1,18 +1,12 @@
 -- What the calls that look for a superblock answer.
 use Rattle.std.specs.Prelude.{◌≡◌, ℕ, [], ◌∷◌, Option, Some, None, Result, Ok, Err}
-use Rattle.df_base.specs.Image.{Image}
-use Rattle.df_base.specs.Log.{Sync}
-use Rattle.df_disk.specs.Told.{Told, after}
-use Rattle.df_disk.specs.Adds.{AddsPart}
+use Rattle.df_base.specs.{Image.{Image}, Log.{Sync}}
+use Rattle.df_disk.specs.{Told.{Told, after}, Adds.{AddsPart}}
 use Rattle.df_layout.specs.declared.layout.Layout.{Layout}
-use Rattle.df_format.specs.Copies.{Content, content_at}
-use Rattle.df_format.specs.declared.superblock.SuperFields.{SuperFields}
-use Rattle.df_quorum.specs.Quorum.{IsChosenContent, AreMembers}
-use Rattle.df_quorum.specs.declared.choice.Chosen.{Chosen}
-use Rattle.df_recovery.specs.Opening.{HasSuperAs, IsLayoutOf, RefusesAs}
-use Rattle.df_model.specs.declared.errors.OpenError.{OpenError}
-use Rattle.df_model.specs.declared.errors.OpenError.TheVariants.{NotFormatted, NoQuorum, Version, BadField, LayoutDiffers, Damaged, DiskFault, BootSpent}
-use Rattle.df_recovery.specs.declared.superblock.Found.{Found}
+use Rattle.df_format.specs.{Copies.{Content, content_at}, declared.superblock.SuperFields.{SuperFields}}
+use Rattle.df_quorum.specs.{Quorum.{IsChosenContent, AreMembers}, declared.choice.Chosen.{Chosen}}
+use Rattle.df_recovery.specs.{Opening.{HasSuperAs, IsLayoutOf, RefusesAs}, declared.superblock.Found.{Found}}
+use Rattle.df_model.specs.{declared.errors.OpenError.{OpenError}, declared.errors.OpenError.TheVariants.{NotFormatted, NoQuorum, Version, BadField, LayoutDiffers, Damaged, DiskFault, BootSpent}}
 
 -- the choice of an image: the content that is chosen, and which copies show it
 pub record IsChoiceOf (image : Image) (choice : Chosen) : Type 0 where

@@ -1,19 +1,12 @@
 -- The prepares that a superblock names, as an open finds them after its checkpoint: all of them fit, or one of them is blamed.
 use Rattle.std.specs.Prelude.{◌≡◌, ◌⊎◌, ◌<◌, ◌+◌, ◌%◌, ℕ, List, Result, Ok, Err, length}
 use Rattle.df_layout.specs.declared.layout.Layout.{Layout}
-use Rattle.df_format.specs.Copies.{content_with}
-use Rattle.df_format.specs.declared.superblock.SuperFields.{SuperFields}
-use Rattle.df_sessions.specs.declared.session.Session.{Session}
-use Rattle.df_sessions.specs.Requests.{sessions_of}
-use Rattle.df_theory.specs.Units.{Message, Units}
-use Rattle.df_theory.specs.Shape.{Shape, clients, slots}
-use Rattle.df_theory.specs.Opens.{IsUnfit, LacksKnown}
-use Rattle.df_theory.specs.View.{Checkpoint}
+use Rattle.df_format.specs.{Copies.{content_with}, declared.superblock.SuperFields.{SuperFields}}
+use Rattle.df_sessions.specs.{declared.session.Session.{Session}, Requests.{sessions_of}}
+use Rattle.df_theory.specs.{Units.{Message, Units}, Shape.{Shape, clients, slots}, Opens.{IsUnfit, LacksKnown}, View.{Checkpoint}}
 use Rattle.df_units.specs.Meaning.{content_of}
 use Rattle.df_group.specs.declared.reach.Reach.{Reach}
-use Rattle.df_journal.specs.Scan.{Scan}
-use Rattle.df_journal.specs.Shows.{TellsRings}
-use Rattle.df_journal.specs.Tail.{IsReached}
+use Rattle.df_journal.specs.{Scan.{Scan}, Shows.{TellsRings}, Tail.{IsReached}}
 
 -- the checkpoint of a superblock with these fields and sessions, in a file of this layout
 pub record IsBaseOf (sh : Shape) (b : Checkpoint) (layout : Layout) (f : SuperFields) (sessions : List Session) : Type 0 where

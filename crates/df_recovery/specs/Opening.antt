@@ -1,17 +1,12 @@
 -- What the superblock of an image says: whether the file can be opened, and if not, why.
 use Rattle.std.specs.Prelude.{◌≡◌, ◌==◌, if◌then◌else◌, ℕ, List, [], ◌∷◌, Option, None, Some}
 use Rattle.df_base.specs.Image.{Image}
-use Rattle.df_layout.specs.declared.damage.Class.{Class}
-use Rattle.df_layout.specs.declared.layout.Layout.{Layout}
-use Rattle.df_format.specs.Copies.{Content, content_at, class_of_copy}
-use Rattle.df_format.specs.SuperRules.{fault_of}
-use Rattle.df_format.specs.declared.superblock.SuperFault.{SuperFault}
-use Rattle.df_format.specs.declared.superblock.SuperFault.TheVariants.{Version as OtherVersion, BadField as BrokenField}
-use Rattle.df_format.specs.declared.superblock.SuperFields.{SuperFields}
+use Rattle.df_layout.specs.{declared.damage.Class.{Class}, declared.layout.Layout.{Layout}}
+use Rattle.df_format.specs.{Copies.{Content, content_at, class_of_copy}, SuperRules.{fault_of}, declared.superblock.SuperFault.{SuperFault}}
+use Rattle.df_format.specs.{declared.superblock.SuperFault.TheVariants.{Version as OtherVersion, BadField as BrokenField}, declared.superblock.SuperFields.{SuperFields}}
 use Rattle.df_quorum.specs.Quorum.{CopiesAreSplit, IsChosenContent}
-use Rattle.df_model.specs.declared.errors.OpenError.{OpenError}
+use Rattle.df_model.specs.{declared.errors.OpenError.{OpenError}, declared.errors.OpenError.TheVariants.{NotFormatted, NoQuorum, Version, BadField}}
 pub use Rattle.df_superblock.specs.Blank.{IsUnformatted}
-use Rattle.df_model.specs.declared.errors.OpenError.TheVariants.{NotFormatted, NoQuorum, Version, BadField}
 
 -- why an open that asks for a version refuses a superblock: any other version is refused as such before its fields are tested
 abbrev pub fault_as : ℕ → SuperFields → Option SuperFault

@@ -1,8 +1,7 @@
 -- An image says one thing: its superblock can be used, or there is one reason why not.
 use Rattle.std.specs.Prelude.{◌≡◌, ℕ}
 use Rattle.df_base.specs.Image.{Image, IsImage}
-use Rattle.df_format.specs.Copies.{content_at, content_with}
-use Rattle.df_format.specs.declared.superblock.SuperFields.{SuperFields}
+use Rattle.df_format.specs.{Copies.{content_at, content_with}, declared.superblock.SuperFields.{SuperFields}}
 use Rattle.df_quorum.specs.Quorum.{IsChosenContent}
 use Rattle.df_recovery.specs.Opening.{HasSuperAs, RefusesAs}
 use Rattle.df_model.specs.declared.errors.OpenError.{OpenError}

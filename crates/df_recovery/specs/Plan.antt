@@ -1,33 +1,16 @@
 -- What an open plans of a file that it finds: the header that each slot of the header ring is to have, and the list of what is to be written again.
-use Rattle.std.specs.Prelude.{◌≡◌, ◌<◌, ◌+◌, ◌-◌, ◌%◌, ℕ, Bool, true, false, not, List, [], ◌∷◌, ◌++◌, map, get_or, slice_get, slice_set, Option, Some, None}
-use Rattle.std.specs.List.{filter, range_with_len}
-use Rattle.df_layout.specs.declared.damage.Class.{Class}
-use Rattle.df_layout.specs.declared.damage.Class.TheVariants.{Stale}
-use Rattle.df_layout.specs.declared.damage.Mend.{Mend}
-use Rattle.df_layout.specs.declared.layout.Layout.{Layout}
+use Rattle.std.specs.{Prelude.{◌≡◌, ◌<◌, ◌+◌, ◌-◌, ◌%◌, ℕ, Bool, true, false, not, List, [], ◌∷◌, ◌++◌, map, get_or, slice_get, slice_set, Option, Some, None}, List.{filter, range_with_len}}
+use Rattle.df_layout.specs.{declared.damage.Class.{Class}, declared.damage.Class.TheVariants.{Stale}, declared.damage.Mend.{Mend}, declared.layout.Layout.{Layout}}
 use Rattle.df_layout.specs.declared.places.Zone.TheVariants.{Superblock, WalHeaders}
-use Rattle.df_format.specs.declared.header.Header.{Header}
-use Rattle.df_format.specs.Own.{place_in}
-use Rattle.df_quorum.specs.declared.slot.Slot.{Slot}
-use Rattle.df_quorum.specs.declared.slot.Slot.TheVariants.{Sound, Bad}
-use Rattle.df_quorum.specs.Quorum.{nothing}
-use Rattle.df_cases.specs.declared.cases.Decision.{Decision}
+use Rattle.df_format.specs.{declared.header.Header.{Header}, Own.{place_in}}
+use Rattle.df_quorum.specs.{declared.slot.Slot.{Slot}, declared.slot.Slot.TheVariants.{Sound, Bad}, Quorum.{nothing}}
+use Rattle.df_cases.specs.{declared.cases.Decision.{Decision}, Cases.{decision_of}}
 use Rattle.df_theory.specs.Units
-use Rattle.df_theory.specs.Units.{AnyUnit, HeaderPlace, HeaderUnit, Place}
+use Rattle.df_theory.specs.{Units.{AnyUnit, HeaderPlace, HeaderUnit, Place}, Chance.{Distinct}, Found.{IsFound}, Shape.{Shape, slots}, View.{View, boot_of, head}}
 use Rattle.df_theory.specs.Cases
-use Rattle.df_theory.specs.Chance.{Distinct}
-use Rattle.df_theory.specs.Found.{IsFound}
-use Rattle.df_theory.specs.Shape.{Shape, slots}
-use Rattle.df_theory.specs.View.{View, boot_of, head}
-use Rattle.df_units.specs.Meaning.{header_of}
-use Rattle.df_cases.specs.Cases.{decision_of}
-use Rattle.df_units.specs.Sample.{reserved_header}
+use Rattle.df_units.specs.{Meaning.{header_of}, Sample.{reserved_header}}
 use Rattle.df_buffers.specs.declared.slots.SlotSeen.{SlotSeen}
-use Rattle.df_journal.specs.declared.table.Start.{Start}
-use Rattle.df_journal.specs.Planned.{planned}
-use Rattle.df_journal.specs.Scan.{Scan, entry}
-use Rattle.df_journal.specs.Seen.{IsOpOf, class_of, header_of_seen}
-use Rattle.df_journal.specs.Shows.{TellsRings}
+use Rattle.df_journal.specs.{declared.table.Start.{Start}, Planned.{planned}, Scan.{Scan, entry}, Seen.{IsOpOf, class_of, header_of_seen}, Shows.{TellsRings}}
 
 -- ---- the decision on a slot
 

@@ -2,29 +2,18 @@
 use Rattle.std.specs.Prelude.{◌≡◌, ℕ, List, Option, Some, None, Result, Ok, Err}
 use Rattle.df_base.specs.Image.{Image, IsImage}
 use Rattle.df_disk.specs.Told.{Told}
-use Rattle.df_layout.specs.declared.damage.Class.{Class}
-use Rattle.df_layout.specs.declared.layout.Layout.{Layout}
-use Rattle.df_format.specs.declared.header.Header.{Header}
-use Rattle.df_format.specs.declared.superblock.SuperFields.{SuperFields}
-use Rattle.df_journal.specs.Scan.{Scan}
+use Rattle.df_layout.specs.{declared.damage.Class.{Class}, declared.layout.Layout.{Layout}}
+use Rattle.df_format.specs.{declared.header.Header.{Header}, declared.superblock.SuperFields.{SuperFields}}
+use Rattle.df_journal.specs.{Scan.{Scan}, Starting.{start_of}}
 use Rattle.df_journal.specs.Scanned
 use Rattle.df_model.specs.declared.errors.OpenError.{OpenError}
 use Rattle.df_replies.specs.Shown
-use Rattle.df_recovery.specs.Found.{IsFoundAs}
-use Rattle.df_recovery.specs.Opening.{IsLayoutOf}
-use Rattle.df_journal.specs.Starting.{start_of}
-use Rattle.df_recovery.specs.Surveys.{SurveysAs}
-use Rattle.df_recovery.specs.declared.superblock.Found.{Found}
-use Rattle.df_recovery.specs.declared.scanning.Copies.{Copies}
-use Rattle.df_recovery.specs.declared.scanned.Scanned.{Scanned}
-use Rattle.df_recovery.specs.declared.checkpoint.Checkpoint.{Checkpoint}
-use Rattle.df_recovery.specs.Checkpoints.{AreOfCheckpoint, Base, TellsCheckpoint, TellsText}
+use Rattle.df_recovery.specs.{Found.{IsFoundAs}, Opening.{IsLayoutOf}, Surveys.{SurveysAs}, declared.superblock.Found.{Found}, declared.scanning.Copies.{Copies}, declared.scanned.Scanned.{Scanned}}
+use Rattle.df_recovery.specs.{declared.checkpoint.Checkpoint.{Checkpoint}, Checkpoints.{AreOfCheckpoint, Base, TellsCheckpoint, TellsText}}
 use Rattle.df_superblock.specs.Calls.{ShowsCopies, ShowsSlots}
 use Rattle.df_trailer.specs.Sessions.{AreReadSessions}
-use Rattle.df_grid.specs.Grid.{GridState}
-use Rattle.df_grid.specs.Table.{IsIdle, no_blocks}
-use Rattle.df_rooms.specs.declared.file.DataFile.{DataFile}
-use Rattle.df_rooms.specs.declared.file_rooms.FileRooms.{FileRooms}
+use Rattle.df_grid.specs.{Grid.{GridState}, Table.{IsIdle, no_blocks}}
+use Rattle.df_rooms.specs.{declared.file.DataFile.{DataFile}, declared.file_rooms.FileRooms.{FileRooms}}
 
 -- the rooms of a layout serve the file of a superblock: it is of their layout
 pub record IsServed (layout : Layout) (f : SuperFields) : Type 0 where

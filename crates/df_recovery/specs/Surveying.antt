@@ -1,48 +1,23 @@
 -- What a survey of a file answers where a version is asked for, and what is to be mended.
-use Rattle.std.specs.Prelude.{◌≡◌, ◌<◌, ◌≤◌, ◌+◌, ℕ, Bool, false, not, List, [], ◌++◌, length, map, get_or, Option, Some, None, Result, Ok, Err}
-use Rattle.std.specs.List.{filter, range_with_len}
-use Rattle.df_base.specs.declared.TheConstants.{GREATEST}
-use Rattle.df_base.specs.Image.{Image, IsImage}
+use Rattle.std.specs.{Prelude.{◌≡◌, ◌<◌, ◌≤◌, ◌+◌, ℕ, Bool, false, not, List, [], ◌++◌, length, map, get_or, Option, Some, None, Result, Ok, Err}, List.{filter, range_with_len}}
+use Rattle.df_base.specs.{declared.TheConstants.{GREATEST}, Image.{Image, IsImage}}
 use Rattle.df_disk.specs.Told.{Told}
-use Rattle.df_layout.specs.declared.damage.Mend.{Mend}
-use Rattle.df_layout.specs.declared.layout.Layout.{Layout}
-use Rattle.df_layout.specs.declared.places.Zone.TheVariants.{Superblock, WalHeaders}
-use Rattle.df_format.specs.Own.{place_in}
-use Rattle.df_format.specs.Shown.{class_at}
-use Rattle.df_format.specs.declared.header.Header.{Header}
-use Rattle.df_format.specs.declared.superblock.SuperFields.{SuperFields}
-use Rattle.df_format.specs.Spelling.{IsCheck}
+use Rattle.df_layout.specs.{declared.damage.Mend.{Mend}, declared.layout.Layout.{Layout}, declared.places.Zone.TheVariants.{Superblock, WalHeaders}}
+use Rattle.df_format.specs.{Own.{place_in}, Shown.{class_at}, declared.header.Header.{Header}, declared.superblock.SuperFields.{SuperFields}, Spelling.{IsCheck}}
 use Rattle.df_quorum.specs.declared.slot.Slot.{Slot}
 use Rattle.df_headers.specs.Ring.{IsHeaderTable}
-use Rattle.df_journal.specs.Scan.{Scan}
+use Rattle.df_journal.specs.{Scan.{Scan}, Scanned.{seen_at}, Shows.{IsSeenTable as AreSlots, TellsRings}, Tail.{AreNumbered}, Starting.{start_of}}
 use Rattle.df_journal.specs.Scanned as rings
-use Rattle.df_journal.specs.Scanned.{seen_at}
-use Rattle.df_journal.specs.Shows.{IsSeenTable as AreSlots, TellsRings}
-use Rattle.df_journal.specs.Tail.{AreNumbered}
 use Rattle.df_grid.specs.Table.{IsIdle}
-use Rattle.df_model.specs.Work.{first_tour}
-use Rattle.df_model.specs.declared.errors.OpenError.{OpenError}
-use Rattle.df_sessions.specs.Requests.{sessions_of}
-use Rattle.df_sessions.specs.declared.session.Session.{Session}
+use Rattle.df_model.specs.{Work.{first_tour}, declared.errors.OpenError.{OpenError}}
+use Rattle.df_sessions.specs.{Requests.{sessions_of}, declared.session.Session.{Session}}
 use Rattle.df_superblock.specs.Calls.{slot_at}
-use Rattle.df_theory.specs.MendLaws.{IsTable as IsSlotTable}
-use Rattle.df_theory.specs.Sessions.{Tracks}
-use Rattle.df_theory.specs.Shape.{Shape}
-use Rattle.df_theory.specs.Units.{Units}
-use Rattle.df_theory.specs.View.{View}
-use Rattle.df_units.specs.Bytes.{unit_at}
-use Rattle.df_units.specs.Superblocks.{AreFieldsOf}
-use Rattle.df_rooms.specs.State.{AreAsked, State}
-use Rattle.df_rooms.specs.declared.file.DataFile.{DataFile}
-use Rattle.df_rooms.specs.declared.log_rooms.LogRooms.{LogRooms}
+use Rattle.df_theory.specs.{MendLaws.{IsTable as IsSlotTable}, Sessions.{Tracks}, Shape.{Shape}, Units.{Units}, View.{View}}
+use Rattle.df_units.specs.{Bytes.{unit_at}, Superblocks.{AreFieldsOf}}
+use Rattle.df_rooms.specs.{State.{AreAsked, State}, declared.file.DataFile.{DataFile}, declared.log_rooms.LogRooms.{LogRooms}}
 use Rattle.df_recovery.specs.Found.{IsChoiceOf, TellsFoundAs}
 use Rattle.df_recovery.specs.Plan.{AreDistinctUnits, ArePlanned, IsScanOf, OthersAreShown, class_of_slot, decision_at, header_by, headers_in, mend_list, needs_header, slot_mends}
-use Rattle.df_recovery.specs.Scanning.{AreCopies, IsFileOf}
-use Rattle.df_journal.specs.Starting.{start_of}
-use Rattle.df_recovery.specs.Surveys.{SurveysAs}
-use Rattle.df_recovery.specs.declared.finding.Traces.{Traces}
-use Rattle.df_recovery.specs.declared.scanned.Scanned.{Scanned}
-use Rattle.df_recovery.specs.declared.scanning.Copies.{Copies}
+use Rattle.df_recovery.specs.{Scanning.{AreCopies, IsFileOf}, Surveys.{SurveysAs}, declared.finding.Traces.{Traces}, declared.scanned.Scanned.{Scanned}, declared.scanning.Copies.{Copies}}
 use Rattle.df_recovery.specs.declared.surveying.Surveyed.{Surveyed}
 
 -- ---- what was read makes sense by itself, whatever the disk tells

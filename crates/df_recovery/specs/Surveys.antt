@@ -1,32 +1,18 @@
 -- What an image answers to an open with rooms of a layout: the first refusal of the order of open with all that is told of it, or the state, which
 -- is the machine's. The image is any one, whatever was done to the disk.
 use Rattle.std.specs.Prelude.{◌≡◌, ◌≢◌, ◌⊎◌, ◌<◌, ℕ, Result, Ok, Err}
-use Rattle.df_base.specs.declared.TheConstants.{GREATEST}
-use Rattle.df_base.specs.Image.{Image}
-use Rattle.df_layout.specs.declared.damage.Class.{Class}
-use Rattle.df_layout.specs.declared.damage.Class.TheVariants.{Stale}
-use Rattle.df_layout.specs.declared.fields.Field.{Field}
-use Rattle.df_layout.specs.declared.layout.Layout.{Layout}
-use Rattle.df_layout.specs.declared.places.Place.{Place}
-use Rattle.df_format.specs.declared.superblock.SuperFault.TheVariants.{BadField as BrokenField}
-use Rattle.df_format.specs.declared.superblock.SuperFields.{SuperFields}
+use Rattle.df_base.specs.{declared.TheConstants.{GREATEST}, Image.{Image}}
+use Rattle.df_layout.specs.{declared.damage.Class.{Class}, declared.damage.Class.TheVariants.{Stale}, declared.fields.Field.{Field}, declared.layout.Layout.{Layout}, declared.places.Place.{Place}}
+use Rattle.df_format.specs.{declared.superblock.SuperFault.TheVariants.{BadField as BrokenField}, declared.superblock.SuperFields.{SuperFields}}
 use Rattle.df_theory.specs.Units
-use Rattle.df_theory.specs.Units.{CopyPlace}
-use Rattle.df_theory.specs.Found.{IsFound}
-use Rattle.df_theory.specs.Opens.{BadField as BadTest, BootSpent as NoBoot, Damaged as Damages, Opens, Refused}
-use Rattle.df_theory.specs.View.{View, boot_of}
-use Rattle.df_model.specs.Work.{opened}
-use Rattle.df_model.specs.declared.errors.OpenError.{OpenError}
+use Rattle.df_theory.specs.{Units.{CopyPlace}, Found.{IsFound}, Opens.{BadField as BadTest, BootSpent as NoBoot, Damaged as Damages, Opens, Refused}, View.{View, boot_of}}
+use Rattle.df_model.specs.{Work.{opened}, declared.errors.OpenError.{OpenError}}
 use Rattle.df_model.specs.declared.errors.OpenError.TheVariants.{NotFormatted, NoQuorum, Version, BadField, LayoutDiffers, Damaged, DiskFault, BootSpent}
-use Rattle.df_units.specs.Bytes.{unit_at}
-use Rattle.df_units.specs.Meaning.{place_of}
-use Rattle.df_units.specs.Wanted.{class_at}
+use Rattle.df_units.specs.{Bytes.{unit_at}, Meaning.{place_of}, Wanted.{class_at}}
 use Rattle.df_grid.specs.Reads.{shown_of}
-use Rattle.df_checkpoint.specs.Chain.{content_in}
-use Rattle.df_checkpoint.specs.Tests.{FailsTest}
-use Rattle.df_rooms.specs.declared.file.DataFile.{DataFile}
+use Rattle.df_checkpoint.specs.{Chain.{content_in}, Tests.{FailsTest}}
+use Rattle.df_rooms.specs.{declared.file.DataFile.{DataFile}, State.{Represents, State, shape}}
 use Rattle.df_recovery.specs.Opening.{HasFaultAs, HasNoQuorum, HasSuperAs, IsLayoutOf, IsUnformatted, RefusesAs}
-use Rattle.df_rooms.specs.State.{Represents, State, shape}
 
 -- the image's superblock can be used, and is of a file of this version, layout and cluster
 pub record HasFile (image : Image) (file : DataFile) (f : SuperFields) : Type 0 where

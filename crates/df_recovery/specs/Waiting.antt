@@ -1,12 +1,9 @@
 -- The checksums of the prepares that wait for their replies, by the table of slots and the header table of an open.
-use Rattle.std.specs.Prelude.{◌+◌, ◌-◌, ◌%◌, ◌==◌, ℕ, nat_lt, if◌then◌else◌, List, [], map, slice_get, Option, Some, None}
-use Rattle.std.specs.List.{range_with_len}
-use Rattle.df_format.specs.Spelling.{no_checksum}
-use Rattle.df_format.specs.declared.header.Header.{Header}
+use Rattle.std.specs.{Prelude.{◌+◌, ◌-◌, ◌%◌, ◌==◌, ℕ, nat_lt, if◌then◌else◌, List, [], map, slice_get, Option, Some, None}, List.{range_with_len}}
+use Rattle.df_format.specs.{Spelling.{no_checksum}, declared.header.Header.{Header}}
 use Rattle.df_theory.specs.Units.{PreparePlace, Units}
 use Rattle.df_model.specs.Work.{checksum_of_op}
-use Rattle.df_journal.specs.Scan.{Scan, entry}
-use Rattle.df_journal.specs.Seen.{header_of_seen}
+use Rattle.df_journal.specs.{Scan.{Scan, entry}, Seen.{header_of_seen}}
 use Rattle.df_rooms.specs.State.{State, prepare_sum}
 
 -- the checksum of a header

@@ -1,6 +1,5 @@
 // The laws of what an image answers to an open, each the clause of a function that does nothing.
-ghost use Rattle.df_recovery.specs.OpeningLaws.{SuperOrRefusal, OneSuper, OneRefusal, SuperIsWritten};
-ghost use Rattle.df_recovery.specs.SurveyLaws.{OneSurvey};
+ghost use Rattle.df_recovery.specs.{OpeningLaws.{SuperOrRefusal, OneSuper, OneRefusal, SuperIsWritten}, SurveyLaws.{OneSurvey}};
 
 /// An image has one answer: a superblock that can be used, or one reason why not.
 pub fn one_answer()

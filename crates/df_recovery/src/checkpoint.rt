@@ -1,7 +1,6 @@
 // The checkpoint that a superblock names is read: its trailer's chain and text into the grid and the table of sessions.
 ghost use Rattle.std.specs.Prelude.{◌≡◌, ◌≢◌};
-ghost use Rattle.df_recovery.specs.Below.{IsBlamed, AreFieldsOf, is_open_fault};
-ghost use Rattle.df_recovery.specs.Scanning.{AreRoomsOf, FitsFile, ReadsCheckpoint, ReadsText};
+ghost use Rattle.df_recovery.specs.{Below.{IsBlamed, AreFieldsOf, is_open_fault}, Scanning.{AreRoomsOf, FitsFile, ReadsCheckpoint, ReadsText}};
 
 use crate::OpenError;
 use arrayvec::ArrayVec;

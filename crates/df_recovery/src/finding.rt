@@ -2,13 +2,10 @@
 // damage in the order of open.
 ghost use Rattle.std.specs.Prelude.{◌≡◌, ◌≢◌, ◌<◌, ℕ, Some, length, slice_get, IfOk, IfErr};
 ghost use Rattle.df_recovery.specs.Below.{CopyPlace, IsWithinRing, KeepsRules, PreparePlace, Session as AnySession, class_of, entry, pin_checksum_of, sessions_of};
-ghost use Rattle.df_format.specs.SuperRules.{IsUsable};
-ghost use Rattle.df_journal.specs.Shows.{IsSeenTable};
 ghost use Rattle.df_recovery.specs.Finding.{AnswersFinding, FileIsRead, IsDamage, KeptIsAnswer, RefusedIsAnswer, StateIsOpened, StoredIsKept, StoresTo, damage, lowest_of, with_stored};
-ghost use Rattle.df_recovery.specs.Checkpoints.{AreOfCheckpoint};
-ghost use Rattle.df_recovery.specs.Known.{AnswersKnown};
-ghost use Rattle.df_journal.specs.Starting.{start_of};
-ghost use Rattle.df_recovery.specs.Surveying.{AreAfter, EndsBehind};
+ghost use Rattle.df_recovery.specs.{Checkpoints.{AreOfCheckpoint}, Known.{AnswersKnown}, Surveying.{AreAfter, EndsBehind}};
+ghost use Rattle.df_format.specs.SuperRules.{IsUsable};
+ghost use Rattle.df_journal.specs.{Shows.{IsSeenTable}, Starting.{start_of}};
 
 use crate::{Found, OpenError};
 use df_base::{Check, GREATEST, VERSION};

@@ -1,8 +1,7 @@
 // What an open reads of a file: after the barrier the four copies of the superblock, the trailer, both rings and the reply slots.
 ghost use Rattle.std.specs.Prelude.{◌≡◌, ◌≤◌, IfOk, IfErr, OnOk};
 ghost use Rattle.df_base.specs.declared.TheConstants.{GREATEST};
-ghost use Rattle.df_recovery.specs.Below.{AreFieldsOf, HasCause, IsBlamed, is_open_fault};
-ghost use Rattle.df_recovery.specs.Found.{Syncs};
+ghost use Rattle.df_recovery.specs.{Below.{AreFieldsOf, HasCause, IsBlamed, is_open_fault}, Found.{Syncs}};
 ghost use Rattle.df_recovery.specs.Scanning.{AreCopies, AreRoomsOf, AreScanned, FitsFile, IsScanAs, IsServed, ReadsBehind, TellsReadAs, without_rooms};
 
 use crate::checkpoint::{Checkpoint, read_checkpoint};

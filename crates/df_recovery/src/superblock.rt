@@ -1,7 +1,6 @@
 // The superblock of a file: what its four copies say, and how it is found, with the barrier that an open begins with and without.
 ghost use Rattle.std.specs.Prelude.{◌≡◌, Option, IfOk, IfErr};
-ghost use Rattle.df_recovery.specs.Below.{IsBlamed, ShowsCopies, ShowsSlots, Told, is_open_fault};
-ghost use Rattle.df_recovery.specs.Found.{IsOfCopies, IsRefusal, Syncs, TellsFoundAs, TellsLayout, TellsLayoutAs};
+ghost use Rattle.df_recovery.specs.{Below.{IsBlamed, ShowsCopies, ShowsSlots, Told, is_open_fault}, Found.{IsOfCopies, IsRefusal, Syncs, TellsFoundAs, TellsLayout, TellsLayoutAs}};
 
 use crate::OpenError;
 use df_buffers::ProbeRoom;

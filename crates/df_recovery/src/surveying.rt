@@ -1,14 +1,9 @@
 // The survey of a file of either version: what it shows is read, its state is found, and what is to be mended is listed. Nothing is
 // written.
 ghost use Rattle.std.specs.Prelude.{◌≡◌, ◌≤◌, ◌+◌, length, IfOk, IfErr};
-ghost use Rattle.df_recovery.specs.Below.{IsBlamed, Told, is_open_fault};
-ghost use Rattle.df_recovery.specs.Checkpoints.{AreOfCheckpoint};
-ghost use Rattle.df_recovery.specs.Finding.{IsDamage, IsOfFile, read_of};
-ghost use Rattle.df_recovery.specs.Found.{Syncs};
-ghost use Rattle.df_recovery.specs.Scanning.{base_scanned, without_rooms};
+ghost use Rattle.df_recovery.specs.{Below.{IsBlamed, Told, is_open_fault}, Checkpoints.{AreOfCheckpoint}, Finding.{IsDamage, IsOfFile, read_of}, Found.{Syncs}, Scanning.{base_scanned, without_rooms}};
 ghost use Rattle.df_recovery.specs.Surveying.{AreAfter, EndsBehind, IsLawfulScan, IsPlannedFor, IsReadOf, IsWellFound, KeepsRead, KeepsScannedFile, TellsPlannedMends, TellsSurveyAs, found_or_refused};
-ghost use Rattle.df_recovery.specs.Surveys.{SurveysAs};
-ghost use Rattle.df_recovery.specs.Waiting.{waiting_at, waiting_in};
+ghost use Rattle.df_recovery.specs.{Surveys.{SurveysAs}, Waiting.{waiting_at, waiting_in}};
 
 use crate::finding::{Traces, find_state, store_replies};
 use crate::planning::plan;

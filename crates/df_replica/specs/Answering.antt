@@ -2,28 +2,17 @@
 use Rattle.std.specs.Prelude.{◌≡◌, List, ℕ, Bool, true, false, if◌then◌else◌, Option, Some, None, Result, Ok, Err}
 use Rattle.df_base.specs.declared.Failed.{Failed}
 use Rattle.df_disk.specs.Told.{Told}
-use Rattle.df_layout.specs.declared.damage.Class.{Class}
-use Rattle.df_layout.specs.declared.damage.Finding.{Finding}
+use Rattle.df_layout.specs.{declared.damage.Class.{Class}, declared.damage.Finding.{Finding}}
 use Rattle.df_theory.specs.Units
 use Rattle.df_units.specs.Meaning.{number_of}
 use Rattle.df_format.specs.declared.reference.Reference.{Reference}
 use Rattle.df_model.specs.Commands.{Answer, Command, Given, Scrub, ToAppend, ToBegin, ToFlush, ToRelease, ToReply, ToScrub, ToStage, ToWriteBlock, supplied_block, supplied_message, supplied_verdict}
-use Rattle.df_model.specs.declared.answers.Receipt.{Receipt}
-use Rattle.df_model.specs.declared.errors.AppendError.{AppendError}
-use Rattle.df_model.specs.declared.errors.BeginError.{BeginError}
-use Rattle.df_model.specs.declared.errors.FlushError.{FlushError}
-use Rattle.df_model.specs.declared.errors.ReplyError.{ReplyError}
-use Rattle.df_model.specs.declared.errors.BlockError.{BlockError}
-use Rattle.df_model.specs.declared.errors.NotLive.{NotLive}
-use Rattle.df_model.specs.declared.errors.StepError.{StepError}
+use Rattle.df_model.specs.{declared.answers.Receipt.{Receipt}, declared.errors.AppendError.{AppendError}, declared.errors.BeginError.{BeginError}, declared.errors.FlushError.{FlushError}}
+use Rattle.df_model.specs.{declared.errors.ReplyError.{ReplyError}, declared.errors.BlockError.{BlockError}, declared.errors.NotLive.{NotLive}, declared.errors.StepError.{StepError}}
+use Rattle.df_model.specs.{declared.answers.Scrubbed.{Scrubbed}, Work.{Work}}
 use Rattle.df_model.specs.declared.errors.StepError.TheVariants as step
-use Rattle.df_model.specs.declared.answers.Scrubbed.{Scrubbed}
-use Rattle.df_model.specs.Work.{Work}
 use Rattle.df_opening.specs.Below.{verdict_in, State}
-use Rattle.df_replica.specs.Scrubbing.{TellsTour, toured, work_toured}
-use Rattle.df_replica.specs.Serving.{Grade, IsCall, Keeps}
-use Rattle.df_replica.specs.Supply.{IsSupplied}
-use Rattle.df_replica.specs.WrittenFor.{WritesOn}
+use Rattle.df_replica.specs.{Scrubbing.{TellsTour, toured, work_toured}, Serving.{Grade, IsCall, Keeps}, Supply.{IsSupplied}, WrittenFor.{WritesOn}}
 
 -- the answer in the words of the machine; there is none where the call was stopped: by a fault of the disk, or, a step, by copies that were not read back
 abbrev pub answer_of : {T E : Type 0} → (unanswered : E → Bool) → (told : Result T E → Answer) → Result T E → Option Answer

@@ -1,32 +1,16 @@
 -- An append of a replica: what it makes, what it asks of the disk, and the state that it leads to. No state of the machine is in sight.
 use Rattle.std.specs.Prelude.{◌≡◌, ◌⊎◌, ◌<◌, ◌≤◌, ◌+◌, ◌/◌, ◌%◌, ℕ, List, [], ◌∷◌, ◌++◌, length, Option, Some, None, IsSome, Result, Ok, Err, IfOk, true}
-use Rattle.df_base.specs.declared.TheConstants.{GREATEST, HEADER, VERSION}
-use Rattle.df_base.specs.Log.{Event}
-use Rattle.df_base.specs.declared.Failed.{Failed}
-use Rattle.df_layout.specs.declared.layout.Layout.{Layout}
-use Rattle.df_layout.specs.declared.places.Place.{Place}
-use Rattle.df_layout.specs.declared.places.Zone.{Zone}
-use Rattle.df_disk.specs.Told.{Told}
-use Rattle.df_disk.specs.Adds.{AddsPart, after_all}
-use Rattle.df_format.specs.declared.header.Header.{Header}
-use Rattle.df_format.specs.declared.kind.Kind.{Kind}
-use Rattle.df_format.specs.declared.kind.Kind.TheVariants.{Prepare as AsPrepare}
-use Rattle.df_format.specs.Making.{blank_header, for_body}
-use Rattle.df_format.specs.Message.{Message, sectors_of}
-use Rattle.df_format.specs.Own.{own_place}
-use Rattle.df_format.specs.Rules.{ObeysRules}
-use Rattle.df_format.specs.Spelling.{no_checksum, sealed}
-use Rattle.df_format.specs.Valid.{IsUnit}
-use Rattle.df_format.specs.Whole.{greatest_size}
-use Rattle.df_sessions.specs.Requests.{sessions_of}
-use Rattle.df_sessions.specs.Table.{IsKnownClient, with_request}
+use Rattle.df_base.specs.{declared.TheConstants.{GREATEST, HEADER, VERSION}, Log.{Event}, declared.Failed.{Failed}}
+use Rattle.df_layout.specs.{declared.layout.Layout.{Layout}, declared.places.Place.{Place}, declared.places.Zone.{Zone}}
+use Rattle.df_disk.specs.{Told.{Told}, Adds.{AddsPart, after_all}}
+use Rattle.df_format.specs.{declared.header.Header.{Header}, declared.kind.Kind.{Kind}, declared.kind.Kind.TheVariants.{Prepare as AsPrepare}, Making.{blank_header, for_body}}
+use Rattle.df_format.specs.{Message.{Message, sectors_of}, Own.{own_place}, Rules.{ObeysRules}, Spelling.{no_checksum, sealed}, Valid.{IsUnit}, Whole.{greatest_size}}
+use Rattle.df_sessions.specs.{Requests.{sessions_of}, Table.{IsKnownClient, with_request}}
 use Rattle.df_theory.specs.Sessions.{MayAsk}
 use Rattle.df_theory.specs.Units
 use Rattle.df_units.specs.Append.{append_events as calls_of}
 use Rattle.df_journal.specs.Append as journal
-use Rattle.df_model.specs.Refusals.{append_refusals, first_refusal}
-use Rattle.df_model.specs.declared.answers.Receipt.{Receipt}
-use Rattle.df_model.specs.declared.errors.AppendError.{AppendError}
+use Rattle.df_model.specs.{Refusals.{append_refusals, first_refusal}, declared.answers.Receipt.{Receipt}, declared.errors.AppendError.{AppendError}}
 use Rattle.df_model.specs.declared.errors.AppendError.TheVariants as append
 use Rattle.df_opening.specs.Below.{State, memory}
 use Rattle.df_replica.specs.Stopping.{stopped}

@@ -3,11 +3,7 @@ use Rattle.std.specs.Prelude.{◌≡◌, ◌<◌, ◌≤◌, ◌+◌, ◌-◌, �
 use Rattle.df_base.specs.declared.TheConstants.{GREATEST, HEADER}
 use Rattle.df_theory.specs.Trailer.{IsCount, greatest_trailer}
 use Rattle.df_units.specs.Meaning.{layout_of}
-use Rattle.df_model.specs.Blocks.{blocks_captured}
-use Rattle.df_model.specs.Making.{needed_of, parts_of}
-use Rattle.df_model.specs.Memory.{free_of}
-use Rattle.df_model.specs.Refusals.{begin_refusals, first_refusal}
-use Rattle.df_model.specs.declared.errors.BeginError.{BeginError}
+use Rattle.df_model.specs.{Blocks.{blocks_captured}, Making.{needed_of, parts_of}, Memory.{free_of}, Refusals.{begin_refusals, first_refusal}, declared.errors.BeginError.{BeginError}}
 use Rattle.df_opening.specs.Below.{RunningState, State, memory, spelling}
 use Rattle.df_replica.specs.declared.begin.Plan.{Plan}
 

@@ -2,16 +2,11 @@
 use Rattle.std.specs.Prelude.{◌≡◌, ℕ, Option, Some, None, Result, Ok, Err}
 use Rattle.df_base.specs.Image.{Image}
 use Rattle.df_disk.specs.Told.{Told}
-use Rattle.df_layout.specs.declared.damage.Class.{Class}
-use Rattle.df_layout.specs.declared.places.Zone.TheVariants.{Grid}
-use Rattle.df_format.specs.Message.{Message}
-use Rattle.df_format.specs.Own.{place_in}
+use Rattle.df_layout.specs.{declared.damage.Class.{Class}, declared.places.Zone.TheVariants.{Grid}}
+use Rattle.df_format.specs.{Message.{Message}, Own.{place_in}}
 use Rattle.df_theory.specs.Units
 use Rattle.df_units.specs.Meaning.{block_of}
-use Rattle.df_model.specs.Commands.{ReadBlock}
-use Rattle.df_model.specs.Refusals.{first_refusal, read_refusals}
-use Rattle.df_model.specs.Supply.{block_read}
-use Rattle.df_model.specs.declared.reading.ReadError.{ReadError}
+use Rattle.df_model.specs.{Commands.{ReadBlock}, Refusals.{first_refusal, read_refusals}, Supply.{block_read}, declared.reading.ReadError.{ReadError}}
 use Rattle.df_model.specs.declared.reading.ReadError.TheVariants as read
 use Rattle.df_opening.specs.Below.{State, memory}
 use Rattle.df_replica.specs.Reading.{shown_of}

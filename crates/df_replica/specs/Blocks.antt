@@ -1,28 +1,16 @@
 -- The calls that write a block and let one go: what a write makes, what it asks of the disk, and the states that they lead to. No state of the machine is in sight.
 use Rattle.std.specs.Prelude.{◌≡◌, ◌<◌, ◌≤◌, ◌+◌, ℕ, false, List, Option, Some, None, Result, Ok, Err, true}
-use Rattle.df_base.specs.declared.TheConstants.{HEADER, VERSION}
-use Rattle.df_base.specs.Log.{Event}
-use Rattle.df_disk.specs.Told.{Told}
-use Rattle.df_disk.specs.Adds.{AddsPart, after_all}
-use Rattle.df_layout.specs.declared.layout.Layout.{Layout}
-use Rattle.df_layout.specs.declared.places.Zone.TheVariants.{Grid}
-use Rattle.df_format.specs.declared.header.Header.{Header}
-use Rattle.df_format.specs.declared.kind.Kind.TheVariants.{Block as AsBlock}
-use Rattle.df_format.specs.declared.reference.Reference.{Reference}
-use Rattle.df_format.specs.Making.{blank_header}
-use Rattle.df_format.specs.Message.{Message}
+use Rattle.df_base.specs.{declared.TheConstants.{HEADER, VERSION}, Log.{Event}}
+use Rattle.df_disk.specs.{Told.{Told}, Adds.{AddsPart, after_all}}
+use Rattle.df_layout.specs.{declared.layout.Layout.{Layout}, declared.places.Zone.TheVariants.{Grid}}
+use Rattle.df_format.specs.{declared.header.Header.{Header}, declared.kind.Kind.TheVariants.{Block as AsBlock}, declared.reference.Reference.{Reference}, Making.{blank_header}, Message.{Message}}
 use Rattle.df_units.specs.Meaning.{number_of}
-use Rattle.df_grid.specs.Grid.{GridState, IsUnheld}
-use Rattle.df_grid.specs.Writes.{made_events}
-use Rattle.df_model.specs.Blocks.{Blocks, block_released, block_written, is_held_in}
-use Rattle.df_model.specs.Making.{next_address}
-use Rattle.df_model.specs.Refusals.{block_refusals, first_refusal, release_refusals}
-use Rattle.df_model.specs.declared.errors.BlockError.{BlockError}
+use Rattle.df_grid.specs.{Grid.{GridState, IsUnheld}, Writes.{made_events}}
+use Rattle.df_model.specs.{Blocks.{Blocks, block_released, block_written, is_held_in}, Making.{next_address}, Refusals.{block_refusals, first_refusal, release_refusals}}
+use Rattle.df_model.specs.{declared.errors.BlockError.{BlockError}, declared.errors.NotLive.{NotLive}}
 use Rattle.df_model.specs.declared.errors.BlockError.TheVariants as block
-use Rattle.df_model.specs.declared.errors.NotLive.{NotLive}
 use Rattle.df_opening.specs.Below.{State, grid_with, memory}
-use Rattle.df_replica.specs.Appending.{MayBeMade, unit_made}
-use Rattle.df_replica.specs.Stopping.{stopped}
+use Rattle.df_replica.specs.{Appending.{MayBeMade, unit_made}, Stopping.{stopped}}
 
 -- ---- a write
 

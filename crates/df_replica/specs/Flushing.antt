@@ -1,35 +1,21 @@
 -- What `stage` and `flush` of a replica do: the prepares of a group, what it asks of the disk, and the state that it leads to. No state of the machine is in sight.
 use Rattle.std.specs.Prelude.{◌≡◌, ◌⊎◌, ◌<◌, ◌≤◌, ◌+◌, ◌%◌, ◌^◌, ℕ, List, [], ◌∷◌, ◌++◌, length, map, slice_get, take, Option, Some, None, Result, Ok, Err}
-use Rattle.df_base.specs.declared.TheConstants.{GREATEST, VERSION}
-use Rattle.df_base.specs.Log.{Event, Write}
-use Rattle.df_disk.specs.Told.{Told}
-use Rattle.df_disk.specs.Adds.{AddsPart, after_all}
+use Rattle.df_base.specs.{declared.TheConstants.{GREATEST, VERSION}, Log.{Event, Write}}
+use Rattle.df_disk.specs.{Told.{Told}, Adds.{AddsPart, after_all}}
 use Rattle.df_layout.specs.declared.layout.Layout.{Layout}
-use Rattle.df_format.specs.declared.header.Header.{Header}
-use Rattle.df_format.specs.declared.kind.Kind.TheVariants.{Prepare as AsPrepare}
-use Rattle.df_format.specs.Making.{blank_header}
-use Rattle.df_format.specs.Message.{Message, sectors_end, sectors_of}
+use Rattle.df_format.specs.{declared.header.Header.{Header}, declared.kind.Kind.TheVariants.{Prepare as AsPrepare}, Making.{blank_header}, Message.{Message, sectors_end, sectors_of}}
 use Rattle.df_format.specs.Spelling.{IsCheck, no_checksum}
 use Rattle.df_buffers.specs.Sounds.{Holding}
-use Rattle.df_sessions.specs.declared.session.Session.{Session}
-use Rattle.df_sessions.specs.Requests.{sessions_of}
-use Rattle.df_sessions.specs.Table.{IsKnownClient, with_request}
-use Rattle.df_theory.specs.Sessions.{sessions_after}
+use Rattle.df_sessions.specs.{declared.session.Session.{Session}, Requests.{sessions_of}, Table.{IsKnownClient, with_request}}
+use Rattle.df_theory.specs.{Sessions.{sessions_after}, Units.{PreparePlace}}
 use Rattle.df_theory.specs.Units
-use Rattle.df_theory.specs.Units.{PreparePlace}
-use Rattle.df_units.specs.Bytes.{first_at}
-use Rattle.df_units.specs.Meaning.{number_of}
+use Rattle.df_units.specs.{Bytes.{first_at}, Meaning.{number_of}}
 use Rattle.df_journal.specs.Append as settling
 use Rattle.df_journal.specs.Flush as journal
-use Rattle.df_model.specs.Refusals.{first_refusal, flush_refusals, stage_refusals}
-use Rattle.df_model.specs.Work.{Request}
-use Rattle.df_model.specs.declared.errors.AppendError.{AppendError}
-use Rattle.df_model.specs.declared.errors.FlushError.{FlushError}
+use Rattle.df_model.specs.{Refusals.{first_refusal, flush_refusals, stage_refusals}, Work.{Request}, declared.errors.AppendError.{AppendError}, declared.errors.FlushError.{FlushError}}
 use Rattle.df_model.specs.declared.errors.FlushError.TheVariants as flush
 use Rattle.df_opening.specs.Below.{DataFile, IsRequest, State, asks_of, memory}
-use Rattle.df_replica.specs.declared.flush.Group.{Group}
-use Rattle.df_replica.specs.Appending.{unit_made}
-use Rattle.df_replica.specs.Stopping.{stopped}
+use Rattle.df_replica.specs.{declared.flush.Group.{Group}, Appending.{unit_made}, Stopping.{stopped}}
 
 -- ---- the prepares of a group
 

@@ -1,16 +1,11 @@
 -- What becomes of a block over calls: as long as a reason holds its address, it is shown there, and a read by its checksum gives it.
 use Rattle.std.specs.Prelude.{◌≡◌, ◌<◌, ℕ, List, [], ◌∷◌, Option, Some, None, Ok}
 use Rattle.df_base.specs.Log.{Event}
-use Rattle.df_disk.specs.Told.{IsHonest, Told}
-use Rattle.df_disk.specs.Adds.{after_all}
+use Rattle.df_disk.specs.{Told.{IsHonest, Told}, Adds.{after_all}}
 use Rattle.df_theory.specs.Units.{Block, BlockPlace, BlockUnit}
-use Rattle.df_model.specs.Commands.{IsInput}
-use Rattle.df_model.specs.Supply.{block_at, no_trailer}
-use Rattle.df_model.specs.Work.{Running, Work}
+use Rattle.df_model.specs.{Commands.{IsInput}, Supply.{block_at, no_trailer}, Work.{Running, Work}}
 use Rattle.df_opening.specs.Below.{DataFile, State}
-use Rattle.df_replica.specs.Reading.{shown_of}
-use Rattle.df_replica.specs.Serving.{Keeps, Whole, format, next}
-use Rattle.df_replica.specs.Session.{Act, Exchange, IsServed, acts_in, work_after}
+use Rattle.df_replica.specs.{Reading.{shown_of}, Serving.{Keeps, Whole, format, next}, Session.{Act, Exchange, IsServed, acts_in, work_after}}
 
 -- a block with this checksum is held at the address: it is live, or the running or the durable checkpoint references it
 pub data HoldsBlock (w : Work) (a c : ℕ) : Type 0 where

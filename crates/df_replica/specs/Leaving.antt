@@ -1,15 +1,9 @@
 -- What the device calls of a command leave of the sectors of a file: what is shown then, and which blocks are spared.
 use Rattle.std.specs.Prelude.{◌≡◌, ℕ, true, false, List, ◌∷◌, Some, None}
-use Rattle.df_base.specs.Image.{Image, IsImage}
-use Rattle.df_base.specs.Log.{Event}
+use Rattle.df_base.specs.{Image.{Image, IsImage}, Log.{Event}}
 use Rattle.df_theory.specs.Units.{BlockPlace, CopyPlace, Place, overlay}
-use Rattle.df_units.specs.Bytes.{has, unit_at}
-use Rattle.df_units.specs.Wanted.{class_at}
-use Rattle.df_model.specs.Commands.{Advance, Command}
-use Rattle.df_model.specs.Memory.{Memory}
-use Rattle.df_model.specs.Result.{AgreeReads}
-use Rattle.df_model.specs.Supply.{puts_of}
-use Rattle.df_model.specs.Work.{Running, Work, is_held}
+use Rattle.df_units.specs.{Bytes.{has, unit_at}, Wanted.{class_at}}
+use Rattle.df_model.specs.{Commands.{Advance, Command}, Memory.{Memory}, Result.{AgreeReads}, Supply.{puts_of}, Work.{Running, Work, is_held}}
 use Rattle.df_opening.specs.Below.{DataFile}
 pub use Rattle.df_opening.specs.Sparing.{AreSettled, IsReadPlace, SparesReads, image_after, is_durable, writes_to}
 

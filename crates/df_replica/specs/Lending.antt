@@ -1,26 +1,14 @@
 -- What a read lends, whatever the disk shows as it reads: what was written there.
-use Rattle.std.specs.Prelude.{◌≡◌, ◌%◌, ℕ, Option, Some, None, Result, Ok, Err}
-use Rattle.std.specs.List.{slice_get}
-use Rattle.df_base.specs.Log.{Log, Sync, add}
-use Rattle.df_base.specs.Moments.{Extends}
+use Rattle.std.specs.{Prelude.{◌≡◌, ◌%◌, ℕ, Option, Some, None, Result, Ok, Err}, List.{slice_get}}
+use Rattle.df_base.specs.{Log.{Log, Sync, add}, Moments.{Extends}}
 use Rattle.df_disk.specs.Told.{Told}
 use Rattle.df_opening.specs.Below.{FindsHad, IsTheOne, WasWritten, DataFile, Represents, State, memory, shape, spelling}
-use Rattle.df_model.specs.Blocks.{sum_at}
-use Rattle.df_model.specs.Commands.{Answer, Command, Given, ReadBlock, ReadPrepare, ReadReply, ToReadBlock, ToReadPrepare, ToReadReply}
-use Rattle.df_model.specs.Memory.{prepare_sum, reply_sum}
-use Rattle.df_model.specs.Sense.{IsWork}
-use Rattle.df_model.specs.Work.{Work, kept, opened, raised}
-use Rattle.df_theory.specs.Device.{NoChanceOf, units_log}
-use Rattle.df_theory.specs.Sessions.{Answers}
-use Rattle.df_theory.specs.Tails.{In}
-use Rattle.df_theory.specs.Units.{Block, BlockPlace, BlockUnit, Content, Message, PreparePlace, PrepareUnit, ReplyPlace, ReplyUnit, Session}
-use Rattle.df_theory.specs.View.{View, sessions}
+use Rattle.df_model.specs.{Blocks.{sum_at}, Commands.{Answer, Command, Given, ReadBlock, ReadPrepare, ReadReply, ToReadBlock, ToReadPrepare, ToReadReply}, Memory.{prepare_sum, reply_sum}}
+use Rattle.df_model.specs.{Sense.{IsWork}, Work.{Work, kept, opened, raised}}
+use Rattle.df_theory.specs.{Device.{NoChanceOf, units_log}, Sessions.{Answers}, Tails.{In}}
+use Rattle.df_theory.specs.{Units.{Block, BlockPlace, BlockUnit, Content, Message, PreparePlace, PrepareUnit, ReplyPlace, ReplyUnit, Session}, View.{View, sessions}}
 use Rattle.df_units.specs.Bytes.{unit_at}
-use Rattle.df_replica.specs.BlockReads.{IsReadBlock}
-use Rattle.df_replica.specs.Lookups.{IsReadReply, place_for}
-use Rattle.df_replica.specs.Reading.{IsReadPrepare}
-use Rattle.df_replica.specs.Serving.{Firm, Grade, IsCall, IsKept, Keeps, format}
-use Rattle.df_replica.specs.WrittenFor.{IsWrittenFor}
+use Rattle.df_replica.specs.{BlockReads.{IsReadBlock}, Lookups.{IsReadReply, place_for}, Reading.{IsReadPrepare}, Serving.{Firm, Grade, IsCall, IsKept, Keeps, format}, WrittenFor.{IsWrittenFor}}
 
 -- ---- whatever is in memory: the one unit with the checksum that is known
 

@@ -2,24 +2,16 @@
 use Rattle.std.specs.Prelude.{◌≡◌, ◌<◌, ℕ, List, Option, Some, None, Result, Ok, Err}
 use Rattle.df_base.specs.Image.{Image}
 use Rattle.df_disk.specs.Told.{Told}
-use Rattle.df_layout.specs.declared.damage.Class.{Class}
-use Rattle.df_layout.specs.declared.places.Place.{Place}
-use Rattle.df_layout.specs.declared.places.Zone.TheVariants.{ClientReplies}
-use Rattle.df_format.specs.declared.kind.Kind.{Kind}
-use Rattle.df_format.specs.Own.{place_in}
+use Rattle.df_layout.specs.{declared.damage.Class.{Class}, declared.places.Place.{Place}, declared.places.Zone.TheVariants.{ClientReplies}}
+use Rattle.df_format.specs.{declared.kind.Kind.{Kind}, Own.{place_in}}
 use Rattle.df_buffers.specs.Sounds.{Holding}
 use Rattle.df_theory.specs.Units
 use Rattle.df_units.specs.Meaning.{message_of}
-use Rattle.df_model.specs.After.{place_of_client}
-use Rattle.df_model.specs.Commands.{ReadReply}
+use Rattle.df_model.specs.{After.{place_of_client}, Commands.{ReadReply}, Refusals.{first_refusal, lookup_refusals}, Supply.{reply_at}, declared.reading.LookupError.{LookupError}}
 use Rattle.df_model.specs.Memory as memory
-use Rattle.df_model.specs.Refusals.{first_refusal, lookup_refusals}
-use Rattle.df_model.specs.Supply.{reply_at}
-use Rattle.df_model.specs.declared.reading.LookupError.{LookupError}
 use Rattle.df_model.specs.declared.reading.LookupError.TheVariants as lookup
 use Rattle.df_opening.specs.Below.{DataFile, State, memory, reply_sum}
-use Rattle.df_replica.specs.declared.lookup.Stored.{Stored}
-use Rattle.df_replica.specs.Reading.{IsFoundBy, IsKnownUnit, shown_of}
+use Rattle.df_replica.specs.{declared.lookup.Stored.{Stored}, Reading.{IsFoundBy, IsKnownUnit, shown_of}}
 
 -- the place of a client's session
 abbrev pub place_for : State → (client : ℕ) → ℕ

@@ -1,17 +1,11 @@
 -- What a call asks of the disk: its own device calls, and no others.
 use Rattle.std.specs.Prelude.{◌≡◌, List, [], Option, Some, None}
 use Rattle.df_base.specs.Log.{Event}
-use Rattle.df_disk.specs.Adds.{AddsPart, after_all}
-use Rattle.df_disk.specs.Told.{Told}
-use Rattle.df_model.specs.Changing.{unless_refused}
-use Rattle.df_model.specs.Commands.{Advance, Answer, Append, Command, Flush, Reply, WriteBlock}
+use Rattle.df_disk.specs.{Adds.{AddsPart, after_all}, Told.{Told}}
+use Rattle.df_model.specs.{Changing.{unless_refused}, Commands.{Advance, Answer, Append, Command, Flush, Reply, WriteBlock}}
 use Rattle.df_model.specs.Refusals.{append_refusals, block_refusals, first_refusal, flush_refusals, reply_refusals}
 use Rattle.df_opening.specs.Below.{RunningState, State, memory}
-use Rattle.df_replica.specs.Appending.{append_events, next_unit}
-use Rattle.df_replica.specs.Blocks.{block_events, next_block}
-use Rattle.df_replica.specs.Flushing.{flush_events}
-use Rattle.df_replica.specs.Replying.{next_reply, reply_events}
-use Rattle.df_replica.specs.Stepping.{step_events}
+use Rattle.df_replica.specs.{Appending.{append_events, next_unit}, Blocks.{block_events, next_block}, Flushing.{flush_events}, Replying.{next_reply, reply_events}, Stepping.{step_events}}
 
 -- those of a step, where a checkpoint runs: the write of the trailer's next block, or at last a sync and the four copies of the superblock
 abbrev pub running_events : State → Option RunningState → List Event

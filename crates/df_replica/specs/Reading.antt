@@ -2,26 +2,13 @@
 use Rattle.std.specs.Prelude.{◌≡◌, ◌%◌, ℕ, List, [], slice_get, Option, Some, None, Result, Ok, Err}
 use Rattle.df_base.specs.Image.{Image}
 use Rattle.df_disk.specs.Told.{Told}
-use Rattle.df_layout.specs.declared.damage.Class.{Class}
-use Rattle.df_layout.specs.declared.places.Place.{Place}
-use Rattle.df_layout.specs.declared.places.Zone.TheVariants.{WalPrepares}
-use Rattle.df_format.specs.declared.header.Header.{Header}
-use Rattle.df_format.specs.declared.kind.Kind.{Kind}
-use Rattle.df_format.specs.Message.{Message}
-use Rattle.df_format.specs.Own.{place_in}
-use Rattle.df_format.specs.Valid.{IsUnit}
-use Rattle.df_buffers.specs.declared.identity.Identity.{Identity}
-use Rattle.df_buffers.specs.declared.identity.Wanted.TheVariants.{Checksum}
-use Rattle.df_buffers.specs.Sounds.{Holding}
+use Rattle.df_layout.specs.{declared.damage.Class.{Class}, declared.places.Place.{Place}, declared.places.Zone.TheVariants.{WalPrepares}}
+use Rattle.df_format.specs.{declared.header.Header.{Header}, declared.kind.Kind.{Kind}, Message.{Message}, Own.{place_in}, Valid.{IsUnit}}
+use Rattle.df_buffers.specs.{declared.identity.Identity.{Identity}, declared.identity.Wanted.TheVariants.{Checksum}, Sounds.{Holding}}
 use Rattle.df_theory.specs.Units
 use Rattle.df_places.specs.Shelves.{HoldsFound, IsRead}
-use Rattle.df_units.specs.Bytes.{unit_at}
-use Rattle.df_units.specs.Meaning.{message_of, number_of}
-use Rattle.df_units.specs.Wanted.{class_at}
-use Rattle.df_model.specs.Commands.{Command, ReadPrepare}
-use Rattle.df_model.specs.Refusals.{first_refusal, prepare_refusals}
-use Rattle.df_model.specs.Supply.{Shown, message_given}
-use Rattle.df_model.specs.declared.reading.PrepareError.{PrepareError}
+use Rattle.df_units.specs.{Bytes.{unit_at}, Meaning.{message_of, number_of}, Wanted.{class_at}}
+use Rattle.df_model.specs.{Commands.{Command, ReadPrepare}, Refusals.{first_refusal, prepare_refusals}, Supply.{Shown, message_given}, declared.reading.PrepareError.{PrepareError}}
 use Rattle.df_model.specs.declared.reading.PrepareError.TheVariants as prepare
 use Rattle.df_opening.specs.Below.{DataFile, State, memory}
 

@@ -1,3 +1,2 @@
 -- What a survey is seen as, and the numbers of a state, passed on.
-pub use Rattle.df_opening.specs.Below.{summary_of}
-pub use Rattle.df_opening.specs.Survey.{Survey}
+pub use Rattle.df_opening.specs.{Below.{summary_of}, Survey.{Survey}}

@@ -1,29 +1,16 @@
 -- A reply of a replica: what it makes, what it asks of the disk, and the state that it leads to. No state of the machine is in sight.
-use Rattle.std.specs.Prelude.{◌≡◌, ◌<◌, ◌≤◌, ◌+◌, ℕ, List, [], ◌∷◌, drop, Option, Some, None, Result, Ok, Err, true}
-use Rattle.std.specs.List.{slice_get}
-use Rattle.df_base.specs.declared.TheConstants.{HEADER, VERSION}
-use Rattle.df_base.specs.Log.{Event, Sync, Write}
-use Rattle.df_layout.specs.Spans.{span_of}
-use Rattle.df_layout.specs.declared.layout.Layout.{Layout}
-use Rattle.df_layout.specs.declared.places.Zone.TheVariants.{ClientReplies}
-use Rattle.df_disk.specs.Told.{Told}
-use Rattle.df_disk.specs.Adds.{AddsPart, after_all}
-use Rattle.df_format.specs.declared.header.Header.{Header}
-use Rattle.df_format.specs.declared.kind.Kind.TheVariants.{Reply as AsReply}
-use Rattle.df_format.specs.Making.{blank_header}
-use Rattle.df_format.specs.Message.{Message, sectors_of}
-use Rattle.df_format.specs.Own.{place_in}
+use Rattle.std.specs.{Prelude.{◌≡◌, ◌<◌, ◌≤◌, ◌+◌, ℕ, List, [], ◌∷◌, drop, Option, Some, None, Result, Ok, Err, true}, List.{slice_get}}
+use Rattle.df_base.specs.{declared.TheConstants.{HEADER, VERSION}, Log.{Event, Sync, Write}}
+use Rattle.df_layout.specs.{Spans.{span_of}, declared.layout.Layout.{Layout}, declared.places.Zone.TheVariants.{ClientReplies}}
+use Rattle.df_disk.specs.{Told.{Told}, Adds.{AddsPart, after_all}}
+use Rattle.df_format.specs.{declared.header.Header.{Header}, declared.kind.Kind.TheVariants.{Reply as AsReply}, Making.{blank_header}, Message.{Message, sectors_of}, Own.{place_in}}
 use Rattle.df_format.specs.Spelling.{no_checksum}
-use Rattle.df_sessions.specs.Requests.{sessions_of}
-use Rattle.df_sessions.specs.Table.{with_reply_stored}
+use Rattle.df_sessions.specs.{Requests.{sessions_of}, Table.{with_reply_stored}}
 use Rattle.df_theory.specs.Units.{Session}
-use Rattle.df_model.specs.Making.{client_of, place_of_op, request_of}
-use Rattle.df_model.specs.Refusals.{first_refusal, reply_refusals}
-use Rattle.df_model.specs.declared.errors.ReplyError.{ReplyError}
+use Rattle.df_model.specs.{Making.{client_of, place_of_op, request_of}, Refusals.{first_refusal, reply_refusals}, declared.errors.ReplyError.{ReplyError}}
 use Rattle.df_model.specs.declared.errors.ReplyError.TheVariants as reply
 use Rattle.df_opening.specs.Below.{State, memory}
-use Rattle.df_replica.specs.Appending.{unit_made}
-use Rattle.df_replica.specs.Stopping.{stopped}
+use Rattle.df_replica.specs.{Appending.{unit_made}, Stopping.{stopped}}
 
 -- the place of the session that waits for the next reply
 abbrev pub place_waiting : State → ℕ

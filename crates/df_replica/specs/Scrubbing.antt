@@ -1,20 +1,12 @@
 -- The calls of the scrubber: a step of its tour, a whole tour, and what it found last. They leave all else as it was.
 use Rattle.std.specs.Prelude.{◌≡◌, ◌++◌, List, Option, Some, None, Result, Ok, Err}
-use Rattle.df_base.specs.Image.{Image}
-use Rattle.df_base.specs.declared.Failed.{Failed}
+use Rattle.df_base.specs.{Image.{Image}, declared.Failed.{Failed}}
 use Rattle.df_disk.specs.Told.{Told}
 use Rattle.df_layout.specs.declared.damage.Finding.{Finding}
-use Rattle.df_model.specs.After.{newest, to_check}
-use Rattle.df_model.specs.Memory.{referenced_of}
-use Rattle.df_model.specs.Reading.{IsTour}
-use Rattle.df_model.specs.Sense.{IsWork}
-use Rattle.df_model.specs.Supply.{Codec, first_check}
-use Rattle.df_model.specs.Work.{Work, first_tour}
-use Rattle.df_model.specs.declared.answers.Scrubbed.{Scrubbed}
-use Rattle.df_model.specs.declared.answers.Verdict.{Verdict}
+use Rattle.df_model.specs.{After.{newest, to_check}, Memory.{referenced_of}, Reading.{IsTour}, Sense.{IsWork}, Supply.{Codec, first_check}, Work.{Work, first_tour}}
+use Rattle.df_model.specs.{declared.answers.Scrubbed.{Scrubbed}, declared.answers.Verdict.{Verdict}}
 use Rattle.df_opening.specs.Below.{IsStep, ScrubState, Represents, State, grid_with, memory, shape, spelling}
-use Rattle.df_replica.specs.Reading.{shown_of}
-use Rattle.df_replica.specs.Stopping.{stopped}
+use Rattle.df_replica.specs.{Reading.{shown_of}, Stopping.{stopped}}
 
 -- ---- a step
 

@@ -1,18 +1,12 @@
 -- What each call of a replica promises, whatever the state of the machine that it stands for.
 use Rattle.std.specs.Prelude.{◌≡◌, true, false, List, Option, Some, None}
-use Rattle.df_base.specs.Image.{Image, IsImage}
-use Rattle.df_base.specs.Log.{Event, Log}
-use Rattle.df_base.specs.Moments.{EachMoment, Extends, adds}
-use Rattle.df_disk.specs.Told.{Told}
-use Rattle.df_disk.specs.Adds.{after_all}
+use Rattle.df_base.specs.{Image.{Image, IsImage}, Log.{Event, Log}, Moments.{EachMoment, Extends, adds}}
+use Rattle.df_disk.specs.{Told.{Told}, Adds.{after_all}}
 use Rattle.df_theory.specs.View.{View}
 use Rattle.df_units.specs.Within.{AreWithin}
-use Rattle.df_model.specs.Commands.{Answer, Command, Given, IsInput, after, supplied_sums}
-use Rattle.df_model.specs.Work.{Work, kept}
+use Rattle.df_model.specs.{Commands.{Answer, Command, Given, IsInput, after, supplied_sums}, Work.{Work, kept}}
 use Rattle.df_opening.specs.Below.{DataFile, State, memory, shape, spelling}
-use Rattle.df_replica.specs.Leaving.{AreSettled, LeavesCopies, LeavesShown, SparesHeld, SparesOthers, image_after}
-use Rattle.df_replica.specs.Supply.{IsSupplied}
-use Rattle.df_replica.specs.WrittenFor.{WritesOn}
+use Rattle.df_replica.specs.{Leaving.{AreSettled, LeavesCopies, LeavesShown, SparesHeld, SparesOthers, image_after}, Supply.{IsSupplied}, WrittenFor.{WritesOn}}
 pub use Rattle.df_opening.specs.Keeping.{Firm, Grade, IsGoodFor, IsKept, Keeps, KeptFor, StandingFor, StandsFor, Whole, format}
 
 -- at each moment of a call, each image that a stop may leave holds one of two views

@@ -1,24 +1,13 @@
 -- Calls one after the other, from one state of the machine on: what they answered, what is kept after them, and what a stop at any moment leaves.
 use Rattle.std.specs.Prelude.{◌≡◌, ◌⊎◌, true, List, [], ◌∷◌, ◌++◌, Option, Some, None}
-use Rattle.df_base.specs.Image.{Image}
-use Rattle.df_base.specs.Log.{Event, IsLeft, Log}
-use Rattle.df_base.specs.Moments.{EachMoment, Extends, adds}
-use Rattle.df_disk.specs.Told.{Told}
-use Rattle.df_disk.specs.Adds.{after_all}
-use Rattle.df_theory.specs.Units.{Units}
-use Rattle.df_theory.specs.Shape.{Shape}
-use Rattle.df_theory.specs.View.{View}
-use Rattle.df_theory.specs.Holds.{Held, Stands}
-use Rattle.df_theory.specs.Device.{IsSafeDisk, NoChanceOf}
-use Rattle.df_model.specs.Commands.{Answer}
+use Rattle.df_base.specs.{Image.{Image}, Log.{Event, IsLeft, Log}, Moments.{EachMoment, Extends, adds}}
+use Rattle.df_disk.specs.{Told.{Told}, Adds.{after_all}}
+use Rattle.df_theory.specs.{Units.{Units}, Shape.{Shape}, View.{View}, Holds.{Held, Stands}, Device.{IsSafeDisk, NoChanceOf}}
+use Rattle.df_model.specs.{Commands.{Answer}, Views.{SomeKeeps}, Work.{Work, kept}}
 use Rattle.df_model.specs.Runs as machine
 pub use Rattle.df_model.specs.Runs.{Act, Exchange, act_in, acts_in, answer_in, answers_in, command_in}
-use Rattle.df_model.specs.Views.{SomeKeeps}
-use Rattle.df_model.specs.Work.{Work, kept}
 use Rattle.df_opening.specs.Below.{DataFile, State, shape, spelling}
-use Rattle.df_replica.specs.Leaving.{AreSettled}
-use Rattle.df_replica.specs.Serving.{Firm, Grade, IsCall, Keeps, Whole, format, next}
-use Rattle.df_replica.specs.WrittenFor.{WritesOn}
+use Rattle.df_replica.specs.{Leaving.{AreSettled}, Serving.{Firm, Grade, IsCall, Keeps, Whole, format, next}, WrittenFor.{WritesOn}}
 
 -- the state after these acts
 abbrev pub work_after : DataFile → Work → List Act → Work

@@ -1,27 +1,16 @@
 -- The steps of a running checkpoint: a trailer block each, and at last the superblock that ends it. No state of the machine is in sight.
 use Rattle.std.specs.Prelude.{◌≡◌, ◌≢◌, ◌+◌, ◌-◌, ℕ, List, [], ◌∷◌, length, Option, Some, None, Result, Ok, Err}
-use Rattle.df_base.specs.declared.TheConstants.{HEADER}
-use Rattle.df_base.specs.Fields.{spelled}
-use Rattle.df_base.specs.Log.{Event, Sync}
-use Rattle.df_disk.specs.Told.{Told}
-use Rattle.df_disk.specs.Adds.{AddsPart, after_all}
-use Rattle.df_layout.specs.declared.damage.Class.{Class}
-use Rattle.df_layout.specs.declared.places.Place.{Place}
-use Rattle.df_format.specs.declared.superblock.SuperFields.{SuperFields}
-use Rattle.df_format.specs.Copies.{content_with}
-use Rattle.df_format.specs.Message.{Message}
+use Rattle.df_base.specs.{declared.TheConstants.{HEADER}, Fields.{spelled}, Log.{Event, Sync}}
+use Rattle.df_disk.specs.{Told.{Told}, Adds.{AddsPart, after_all}}
+use Rattle.df_layout.specs.{declared.damage.Class.{Class}, declared.places.Place.{Place}}
+use Rattle.df_format.specs.{declared.superblock.SuperFields.{SuperFields}, Copies.{content_with}, Message.{Message}}
 use Rattle.df_theory.specs.Units
 use Rattle.df_units.specs.Meaning.{number_of}
-use Rattle.df_superblock.specs.Calls.{ReadsBack}
-use Rattle.df_superblock.specs.Events.{update_events}
+use Rattle.df_superblock.specs.{Calls.{ReadsBack}, Events.{update_events}}
 use Rattle.df_superblock.specs.declared.updates.UpdateError.TheVariants as update
 use Rattle.df_trailer.specs.Writing.{piece_of}
-use Rattle.df_grid.specs.Table.{next_written}
-use Rattle.df_grid.specs.Writes.{first_address, first_sum, made_events, next_block, next_unit}
-use Rattle.df_model.specs.Blocks.{capture_finished}
-use Rattle.df_model.specs.declared.answers.Progress.{Progress}
-use Rattle.df_model.specs.declared.answers.Progress.TheVariants.{Working, Done}
-use Rattle.df_model.specs.declared.errors.StepError.{StepError}
+use Rattle.df_grid.specs.{Table.{next_written}, Writes.{first_address, first_sum, made_events, next_block, next_unit}}
+use Rattle.df_model.specs.{Blocks.{capture_finished}, declared.answers.Progress.{Progress}, declared.answers.Progress.TheVariants.{Working, Done}, declared.errors.StepError.{StepError}}
 use Rattle.df_model.specs.declared.errors.StepError.TheVariants as step
 use Rattle.df_opening.specs.Below.{RunningState, State, captured_text, grid_with, recorded}
 use Rattle.df_replica.specs.Stopping.{stopped}

@@ -2,12 +2,9 @@
 use Rattle.std.specs.Prelude.{◌≡◌, List, [], ◌∷◌, Some, None}
 use Rattle.df_base.specs.Log.{Log}
 use Rattle.df_disk.specs.Told.{Told}
-use Rattle.df_model.specs.Commands.{Answer, Command, Given}
-use Rattle.df_model.specs.Work.{Work}
+use Rattle.df_model.specs.{Commands.{Answer, Command, Given}, Work.{Work}}
 use Rattle.df_opening.specs.Below.{State}
-use Rattle.df_replica.specs.Lending.{GivesOwn}
-use Rattle.df_replica.specs.Serving.{Firm, IsCall, Keeps, next}
-use Rattle.df_replica.specs.WrittenFor.{IsWrittenFor}
+use Rattle.df_replica.specs.{Lending.{GivesOwn}, Serving.{Firm, IsCall, Keeps, next}, WrittenFor.{IsWrittenFor}}
 
 -- a call that was answered: the command, what it was supplied with, and what the disk told before it
 pub record Called : Type 0 where

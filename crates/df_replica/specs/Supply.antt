@@ -4,14 +4,8 @@ use Rattle.df_disk.specs.Told.{Told}
 use Rattle.df_units.specs.Meaning.{number_of}
 use Rattle.df_model.specs.Commands.{Advance, Append, Begin, Command, Flush, ForAdvance, ForAppend, ForBegin, ForFlush, ForReadBlock, ForReadPrepare, ForReadReply, ForRecent, ForRelease, ForReply, ForScrub, ForStage, ForWriteBlock, Given, ReadBlock, ReadPrepare, ReadReply, Recent, Release, Reply, Scrub, Stage, WriteBlock, supplied_block, supplied_message, supplied_verdict}
 use Rattle.df_opening.specs.Below.{State}
-use Rattle.df_replica.specs.Appending.{next_unit}
-use Rattle.df_replica.specs.Blocks.{next_block}
-use Rattle.df_replica.specs.BlockReads.{IsBlockFound}
-use Rattle.df_replica.specs.Flushing.{flush_units, sums_of}
-use Rattle.df_replica.specs.Reading.{IsFoundBy}
-use Rattle.df_replica.specs.Replying.{next_reply}
-use Rattle.df_replica.specs.Scrubbing.{IsCheckFound}
-use Rattle.df_replica.specs.Stepping.{made_by}
+use Rattle.df_replica.specs.{Appending.{next_unit}, Blocks.{next_block}, BlockReads.{IsBlockFound}, Flushing.{flush_units, sums_of}, Reading.{IsFoundBy}, Replying.{next_reply}}
+use Rattle.df_replica.specs.{Scrubbing.{IsCheckFound}, Stepping.{made_by}}
 
 -- what is supplied is of the command's own case: the checksums are those of the units which the call makes; the message, or the block, is what a read finds at its place, and the verdict what a check finds
 abbrev pub IsSupplied : State → Option Told → Command → Given → Type 0

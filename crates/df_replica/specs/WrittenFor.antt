@@ -4,9 +4,7 @@ use Rattle.df_base.specs.Log.{Log}
 use Rattle.df_disk.specs.Told.{Told}
 use Rattle.df_opening.specs.Below.{IsWritten, WasWritten, DataFile}
 use Rattle.df_model.specs.Work.{Running, Work, kept}
-use Rattle.df_theory.specs.Device.{units_log}
-use Rattle.df_theory.specs.Trailer.{InChain}
-use Rattle.df_theory.specs.Units.{Block, BlockPlace, BlockUnit}
+use Rattle.df_theory.specs.{Device.{units_log}, Trailer.{InChain}, Units.{Block, BlockPlace, BlockUnit}}
 use Rattle.df_units.specs.Format.{format_of}
 
 -- each unit that its view needs was written at its place, and so was each block of the running trailer, as far as it is written

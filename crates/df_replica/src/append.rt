@@ -2,15 +2,12 @@
 // moves on.
 ghost use Rattle.std.specs.Prelude.{◌≡◌, ◌+◌, ℕ, List, length, true, IsSome, IfOk, OnErr, OnOk};
 ghost use Rattle.df_replica.specs.Below.{HasCause, IsBlamed, Adds, WalPrepares, Prepare as AsPrepare, for_body, own_place, place_in, ObeysRules};
-ghost use Rattle.df_replica.specs.Below.{IsCheck, with_header as table_with, Append, is_append_fault, append_refusals, first_refusal, IsState, memory};
+ghost use Rattle.df_replica.specs.{Below.{IsCheck, with_header as table_with, Append, is_append_fault, append_refusals, first_refusal, IsState, memory}, Answering.{Serves, answer_of, as_append}};
+ghost use Rattle.df_replica.specs.{Own.{AddsOwn}, Refusing.{AreCounters}, Appending.{IsAppendCall, IsMadeUnit, MayBeMade, MayNext, MayNote, append_events, header_given, next_unit}};
+ghost use Rattle.df_replica.specs.Appending.{noted, prepare_events, receipt_of, unit_made, with_header, with_prepare_appended};
 ghost use Rattle.df_journal.specs.Below.{IsInOwnSlot};
 ghost use Rattle.df_sessions.specs.Table.{IsSessionTable as IsSessions};
-ghost use Rattle.df_replica.specs.Answering.{Serves, answer_of, as_append};
 ghost use Rattle.df_opening.specs.Held.{AreLogRoomsOf};
-ghost use Rattle.df_replica.specs.Own.{AddsOwn};
-ghost use Rattle.df_replica.specs.Refusing.{AreCounters};
-ghost use Rattle.df_replica.specs.Appending.{IsAppendCall, IsMadeUnit, MayBeMade, MayNext, MayNote, append_events, header_given, next_unit};
-ghost use Rattle.df_replica.specs.Appending.{noted, prepare_events, receipt_of, unit_made, with_header, with_prepare_appended};
 
 use crate::refusing::{Counters, request_refusal, session_of, staged_refusal};
 use crate::{DataFile, Replica};

@@ -1,9 +1,7 @@
 // The begin of a checkpoint: the root, the sessions, the head and the live blocks are captured, and the addresses of the trailer's
 // blocks are set aside. It touches no disk.
 ghost use Rattle.std.specs.Prelude.{◌≡◌, ◌≤◌, ◌+◌, ◌-◌, true, Option, length};
-ghost use Rattle.df_replica.specs.Below.{AreBytes, Told, Begin, IsState};
-ghost use Rattle.df_replica.specs.Answering.{Serves, begin_answer};
-ghost use Rattle.df_replica.specs.Beginning.{IsBegin, IsPlan, IsTested, MayBeginCheckpoint, with_checkpoint_begun};
+ghost use Rattle.df_replica.specs.{Below.{AreBytes, Told, Begin, IsState}, Answering.{Serves, begin_answer}, Beginning.{IsBegin, IsPlan, IsTested, MayBeginCheckpoint, with_checkpoint_begun}};
 
 use crate::Replica;
 use df_base::GREATEST;

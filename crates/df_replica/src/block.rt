@@ -4,10 +4,8 @@ ghost use Rattle.std.specs.Prelude.{◌≡◌, ◌<◌, ℕ, List, Option, lengt
 ghost use Rattle.df_replica.specs.Below.{HasCause, IsBlamed, Adds, Told, Grid as InGrid, for_body, own_place, place_in, ObeysRules, number_of, number_in};
 ghost use Rattle.df_replica.specs.Below.{IsUnheld, with_blocks as grid_of, made_events, block_written, sum_at, Release, WriteBlock, is_block_fault};
 ghost use Rattle.df_replica.specs.Below.{next_address, Memory, block_room, free_of, block_refusals, first_refusal, IsState, grid_with, memory};
-ghost use Rattle.df_replica.specs.Answering.{Serves, answer_of, as_write_block, release_answer};
-ghost use Rattle.df_replica.specs.Appending.{IsMadeUnit, unit_made};
-ghost use Rattle.df_replica.specs.Blocks.{IsRelease, IsWriteBlock, MayPut, MayWriteNext, address_or, block_events, block_header_given, next_block, written};
-ghost use Rattle.df_replica.specs.Own.{AddsOwn};
+ghost use Rattle.df_replica.specs.{Answering.{Serves, answer_of, as_write_block, release_answer}, Appending.{IsMadeUnit, unit_made}};
+ghost use Rattle.df_replica.specs.{Blocks.{IsRelease, IsWriteBlock, MayPut, MayWriteNext, address_or, block_events, block_header_given, next_block, written}, Own.{AddsOwn}};
 
 use crate::Replica;
 use df_base::{Check, Failed, HEADER};

@@ -1,13 +1,7 @@
 // The read of a block: it is lent from the room that it was read into, exactly where its address shows the one that is known.
-ghost use Rattle.std.specs.Prelude.{◌≡◌, true, IfOk};
-ghost use Rattle.std.specs.Borrow.{sem};
-ghost use Rattle.std.specs.Io.BufRead.{Rests};
-ghost use Rattle.df_replica.specs.Below.{IsBlamed, Block as AsBlock, place_in, Grid as InGrid, IsKnownBlock, sum_at, ReadBlock, ToReadBlock, is_read_fault};
-ghost use Rattle.df_replica.specs.Answering.{ServesBlockRead, answer_of};
-ghost use Rattle.df_replica.specs.BlockReads.{IsReadBlock, block_words, what_block};
-ghost use Rattle.df_replica.specs.Lending.{LendsWrittenBlock};
-ghost use Rattle.df_replica.specs.contracts.replica.Replica.{the_row};
-ghost use Rattle.df_replica.specs.Stopping.{left_by};
+ghost use Rattle.std.specs.{Prelude.{◌≡◌, true, IfOk}, Borrow.{sem}, Io.BufRead.{Rests}};
+ghost use Rattle.df_replica.specs.{Below.{IsBlamed, Block as AsBlock, place_in, Grid as InGrid, IsKnownBlock, sum_at, ReadBlock, ToReadBlock, is_read_fault}, Answering.{ServesBlockRead, answer_of}};
+ghost use Rattle.df_replica.specs.{BlockReads.{IsReadBlock, block_words, what_block}, Lending.{LendsWrittenBlock}, contracts.replica.Replica.{the_row}, Stopping.{left_by}};
 
 use crate::Replica;
 use crate::replica::end_calls;

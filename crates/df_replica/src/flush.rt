@@ -3,17 +3,13 @@
 ghost use Rattle.std.specs.Prelude.{◌≡◌, ◌≤◌, ◌<◌, ◌+◌, ◌++◌, ℕ, List, [], length, option_map, true, Option, IfSome, IsSome, OnErr, OnOk};
 ghost use Rattle.df_base.specs.declared.TheConstants.{GREATEST, HEADER};
 ghost use Rattle.df_replica.specs.Below.{HasCause, IsBlamed, Adds, WalPrepares, for_body, own_place, ObeysRules, Stage, Flush, is_flush_fault};
-ghost use Rattle.df_replica.specs.Below.{stage_refusals, first_refusal, session_of_client, session_of, IsState, Told, memory, counted_staged};
-ghost use Rattle.df_opening.specs.Below.{AreStaging};
-ghost use Rattle.df_journal.specs.Flush.{AreOwn, held_prepares, with_headers};
-ghost use Rattle.df_journal.specs.Tail.{AreNumbered};
-ghost use Rattle.df_opening.specs.Held.{AreLogRoomsOf};
-ghost use Rattle.df_sessions.specs.Table.{IsSessionTable as IsSessions};
-ghost use Rattle.df_replica.specs.Answering.{Serves, answer_of, as_flush, stage_answer};
-ghost use Rattle.df_replica.specs.Own.{AddsOwn};
-ghost use Rattle.df_replica.specs.Refusing.{AreCounters};
+ghost use Rattle.df_replica.specs.{Below.{stage_refusals, first_refusal, session_of_client, session_of, IsState, Told, memory, counted_staged}, Answering.{Serves, answer_of, as_flush, stage_answer}};
+ghost use Rattle.df_replica.specs.{Own.{AddsOwn}, Refusing.{AreCounters}};
 ghost use Rattle.df_replica.specs.Flushing.{AreHeld, AreMadeFor, AreSmall, HavePlaces, IsFlush, IsStage, MayBeIn, MaySeal, checks_of, flush_events, flush_units, flushed};
 ghost use Rattle.df_replica.specs.Flushing.{group_events, group_in, group_prepares, header_in, last_check, request_made, sessions_staged, staged_with, with_requests};
+ghost use Rattle.df_opening.specs.{Below.{AreStaging}, Held.{AreLogRoomsOf}};
+ghost use Rattle.df_journal.specs.{Flush.{AreOwn, held_prepares, with_headers}, Tail.{AreNumbered}};
+ghost use Rattle.df_sessions.specs.Table.{IsSessionTable as IsSessions};
 
 use crate::refusing::{Counters, request_refusal, session_of};
 use crate::{DataFile, Replica};

@@ -1,6 +1,5 @@
 // What the calls of a replica lend is what was written: laws, each the clause of a function that does nothing.
-ghost use Rattle.df_replica.specs.Lending.{CallIsOwn, CallIsTheOne, KeptIsWritten, OpenedIsWrittenFor};
-ghost use Rattle.df_replica.specs.Striking.{StruckReadsAreOwn};
+ghost use Rattle.df_replica.specs.{Lending.{CallIsOwn, CallIsTheOne, KeptIsWritten, OpenedIsWrittenFor}, Striking.{StruckReadsAreOwn}};
 
 /// A read that a session makes, and that is Ok, gives the one unit that was ever written with the checksum that is known, over any
 /// image that came about without chance. Where all was written that the state of the machine has, it is that state's own; so it is of

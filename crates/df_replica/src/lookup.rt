@@ -1,17 +1,11 @@
 // The stored reply of a client: it is lent from its room, exactly where its session's place shows the one that is known.
-ghost use Rattle.std.specs.Prelude.{◌≡◌, ◌<◌, true, Option, None, Some, IfErr, IfOk};
-ghost use Rattle.std.specs.Borrow.{sem};
-ghost use Rattle.std.specs.Io.BufRead.{Rests};
+ghost use Rattle.std.specs.{Prelude.{◌≡◌, ◌<◌, true, Option, None, Some, IfErr, IfOk}, Borrow.{sem}, Io.BufRead.{Rests}};
 ghost use Rattle.df_replica.specs.Below.{HasCause, IsBlamed, ClientReplies, place_in, Holding, number_of, ReadReply, ToReadReply, is_lookup_fault, first_refusal, lookup_refusals, memory};
+ghost use Rattle.df_replica.specs.{Answering.{ServesRead, answer_of}, Lending.{LendsWrittenReply}, Lookups.{HoldsKnown, IsReadReply, IsStoredFor, TellsShown, place_for, reply_found, reply_shown}};
+ghost use Rattle.df_replica.specs.{Reading.{IsKnownUnit, in_words}, contracts.replica.Replica.{the_row}, Stopping.{left_by}};
 ghost use Rattle.df_format.specs.declared.kind.Kind.TheVariants.{Reply as AsReply};
 ghost use Rattle.df_model.specs.Memory.{reply_sum};
 ghost use Rattle.df_opening.specs.Below.{reply_sum as known_sum};
-ghost use Rattle.df_replica.specs.Answering.{ServesRead, answer_of};
-ghost use Rattle.df_replica.specs.Lending.{LendsWrittenReply};
-ghost use Rattle.df_replica.specs.Lookups.{HoldsKnown, IsReadReply, IsStoredFor, TellsShown, place_for, reply_found, reply_shown};
-ghost use Rattle.df_replica.specs.Reading.{IsKnownUnit, in_words};
-ghost use Rattle.df_replica.specs.contracts.replica.Replica.{the_row};
-ghost use Rattle.df_replica.specs.Stopping.{left_by};
 
 use crate::replica::end_calls;
 use crate::{DataFile, Replica};

@@ -1,16 +1,11 @@
 // The reads of a replica: a unit is lent from the room that it was read into, exactly where its place shows the one that is known.
-ghost use Rattle.std.specs.Prelude.{◌≡◌, ◌<◌, ◌%◌, true, slice_get, IfOk};
-ghost use Rattle.std.specs.Borrow.{sem};
-ghost use Rattle.std.specs.Io.BufRead.{Rests};
+ghost use Rattle.std.specs.{Prelude.{◌≡◌, ◌<◌, ◌%◌, true, slice_get, IfOk}, Borrow.{sem}, Io.BufRead.{Rests}};
 ghost use Rattle.df_replica.specs.Below.{HasCause, IsBlamed, WalPrepares, Prepare as AsPrepare, place_in, IsCheck, ReadPrepare};
-ghost use Rattle.df_replica.specs.Below.{ToReadPrepare, is_prepare_fault, prepare_sum, first_refusal, prepare_refusals, IsState, memory};
+ghost use Rattle.df_replica.specs.{Below.{ToReadPrepare, is_prepare_fault, prepare_sum, first_refusal, prepare_refusals, IsState, memory}, Answering.{ServesRead, answer_of}};
+ghost use Rattle.df_replica.specs.{Lending.{LendsWrittenPrepare}, Reading.{IsKnownUnit, IsLoaded, IsReadPrepare, check_in, in_words, prepare_found, prepare_wanted}};
+ghost use Rattle.df_replica.specs.{contracts.replica.Replica.{the_row}, Stopping.{left_by}};
 ghost use Rattle.df_headers.specs.Ring.{IsHeaderTable};
-ghost use Rattle.df_replica.specs.Answering.{ServesRead, answer_of};
 ghost use Rattle.df_opening.specs.Held.{AreAsBefore, AreLogRoomsOf};
-ghost use Rattle.df_replica.specs.Lending.{LendsWrittenPrepare};
-ghost use Rattle.df_replica.specs.Reading.{IsKnownUnit, IsLoaded, IsReadPrepare, check_in, in_words, prepare_found, prepare_wanted};
-ghost use Rattle.df_replica.specs.contracts.replica.Replica.{the_row};
-ghost use Rattle.df_replica.specs.Stopping.{left_by};
 
 use crate::refusing::prepare_refusal;
 use crate::replica::end_calls;

@@ -1,9 +1,7 @@
 // Why a call is refused, from the numbers of what is in memory; the first reason of the order is the answer.
-ghost use Rattle.std.specs.Prelude.{◌≡◌, ◌≤◌, ◌∷◌, ℕ, nat_lt, List, [], length, option_map, IfSome};
-ghost use Rattle.std.specs.List.{position};
+ghost use Rattle.std.specs.{Prelude.{◌≡◌, ◌≤◌, ◌∷◌, ℕ, nat_lt, List, [], length, option_map, IfSome}, List.{position}};
 ghost use Rattle.df_base.specs.declared.TheConstants.{GREATEST};
-ghost use Rattle.df_replica.specs.Below.{session_of, has_client, Memory, first_refusal, prepare_refusals, reply_refusals, request_refusals, session_of_client};
-ghost use Rattle.df_replica.specs.Refusing.{AreCounters, session_at};
+ghost use Rattle.df_replica.specs.{Below.{session_of, has_client, Memory, first_refusal, prepare_refusals, reply_refusals, request_refusals, session_of_client}, Refusing.{AreCounters, session_at}};
 
 use df_base::GREATEST;
 use df_model::{AppendError, PrepareError, ReplyError};

@@ -1,9 +1,7 @@
 // A replica: what it keeps in memory of the file that it works on, and what it tells of it.
 ghost use Rattle.std.specs.Prelude.{◌≡◌, ◌≤◌, false, length, slice_get};
 ghost use Rattle.df_opening.specs.Below.{IsUsable};
-ghost use Rattle.df_replica.specs.Below.{IsState, is_running, memory};
-ghost use Rattle.df_replica.specs.Replica.{summary_of};
-ghost use Rattle.df_replica.specs.Stopping.{stopped};
+ghost use Rattle.df_replica.specs.{Below.{IsState, is_running, memory}, Replica.{summary_of}, Stopping.{stopped}};
 
 use crate::Rooms;
 use df_format::SuperFields;

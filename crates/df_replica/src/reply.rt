@@ -2,15 +2,13 @@
 // moves on. Replies are stored in order of op.
 ghost use Rattle.std.specs.Prelude.{◌≡◌, ◌<◌, ◌+◌, ◌^◌, ℕ, List, length, slice_get, true, Some, IsSome, IfOk, OnErr, OnOk};
 ghost use Rattle.df_replica.specs.Below.{HasCause, IsBlamed, Adds, ClientReplies, for_body, own_place, place_in, ObeysRules, IsCheck};
-ghost use Rattle.df_replica.specs.Below.{sessions_of, is_reply_fault, place_of_op, first_refusal, reply_refusals, IsState, memory};
+ghost use Rattle.df_replica.specs.{Below.{sessions_of, is_reply_fault, place_of_op, first_refusal, reply_refusals, IsState, memory}, Answering.{Serves, answer_of, as_reply}};
+ghost use Rattle.df_replica.specs.{Appending.{IsMadeUnit, MayBeMade, unit_made}, Own.{AddsOwn}};
+ghost use Rattle.df_replica.specs.Replying.{IsReplyCall, MayReplyNext, first_check, next_reply, reply_calls, reply_events, reply_given, with_stored_reply};
 ghost use Rattle.df_format.specs.declared.kind.Kind.TheVariants.{Reply as AsReply};
 ghost use Rattle.df_replies.specs.Slots.{IsInReplySlot};
 ghost use Rattle.df_sessions.specs.Table.{IsSessionTable};
 ghost use Rattle.df_model.specs.Commands.{Reply as Replies};
-ghost use Rattle.df_replica.specs.Answering.{Serves, answer_of, as_reply};
-ghost use Rattle.df_replica.specs.Appending.{IsMadeUnit, MayBeMade, unit_made};
-ghost use Rattle.df_replica.specs.Own.{AddsOwn};
-ghost use Rattle.df_replica.specs.Replying.{IsReplyCall, MayReplyNext, first_check, next_reply, reply_calls, reply_events, reply_given, with_stored_reply};
 
 use crate::refusing::reply_refusal;
 use crate::{DataFile, Replica};

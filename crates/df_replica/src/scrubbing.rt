@@ -1,11 +1,7 @@
 // The calls of the scrubber: a step of its tour over the referenced blocks, a whole tour, and what it found last. They write nothing.
-ghost use Rattle.std.specs.Prelude.{◌≡◌, ◌≤◌, true, Option, Some, IfOk, length, slice_get};
-ghost use Rattle.std.specs.Borrow.{sem};
-ghost use Rattle.std.specs.Io.BufRead.{Rests};
-ghost use Rattle.df_replica.specs.Below.{HasCause, Told, Recent, ToRecent, referenced_of, ListsFailing, grid_with, memory};
-ghost use Rattle.df_replica.specs.Answering.{Serves, ServesScrub, ServesTour};
-ghost use Rattle.df_replica.specs.Scrubbing.{IsScrub, LeavesTour};
-ghost use Rattle.df_replica.specs.contracts.replica.Replica.{the_row};
+ghost use Rattle.std.specs.{Prelude.{◌≡◌, ◌≤◌, true, Option, Some, IfOk, length, slice_get}, Borrow.{sem}, Io.BufRead.{Rests}};
+ghost use Rattle.df_replica.specs.{Below.{HasCause, Told, Recent, ToRecent, referenced_of, ListsFailing, grid_with, memory}, Answering.{Serves, ServesScrub, ServesTour}};
+ghost use Rattle.df_replica.specs.{Scrubbing.{IsScrub, LeavesTour}, contracts.replica.Replica.{the_row}};
 
 use crate::Replica;
 use crate::replica::end_calls;

@@ -3,8 +3,7 @@
 ghost use Rattle.std.specs.Prelude.{◌≡◌, true, length, OnErr, OnOk};
 ghost use Rattle.df_replica.specs.Below.{HasCause, IsBlamed, spelled, Adds, IsCheck, fault_of, update_events, AreStepsOfCopies, update_steps, AreSteps, block_steps};
 ghost use Rattle.df_replica.specs.Below.{first_sum, format_of, block_of, number_of, put_copies, Advance, ToAdvance, is_step_fault, running_state, IsState};
-ghost use Rattle.df_replica.specs.Answering.{Serves, answer_of, is_step_unanswered};
-ghost use Rattle.df_replica.specs.Own.{AddsOwn};
+ghost use Rattle.df_replica.specs.{Answering.{Serves, answer_of, is_step_unanswered}, Own.{AddsOwn}};
 ghost use Rattle.df_replica.specs.Stepping.{IsMadeSuperblock, IsStepCall, MayAdvance, MayFinishCheckpoint, OfRunning, advanced, block_events};
 ghost use Rattle.df_replica.specs.Stepping.{block_sum, block_to_write, finished, trailer_unit, captured_fields, next_fields, pending};
 

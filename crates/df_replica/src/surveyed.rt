@@ -3,12 +3,9 @@ ghost use Rattle.std.specs.Prelude.{◌≡◌, IfOk, IfErr, Some, slice_get};
 ghost use Rattle.df_theory.specs.Found.{IsFound};
 ghost use Rattle.df_units.specs.Bytes.{unit_at};
 ghost use Rattle.df_replica.specs.Below.{AreDistinctUnits, AreSteps, IsBlamed, IsImage, Represents, Syncs, TellsHurt, TellsLived};
-ghost use Rattle.df_replica.specs.Below.{Told, View, boot_fields, is_mend_fault, is_open_fault, restarted, shape, without_rooms};
-ghost use Rattle.df_replica.specs.Replica.{summary_of};
+ghost use Rattle.df_replica.specs.{Below.{Told, View, boot_fields, is_mend_fault, is_open_fault, restarted, shape, without_rooms}, Replica.{summary_of}};
 ghost use Rattle.df_opening.specs.Mending.{AddsRaising, IsPlanned, IsReadBack, IsUnharmed, RestsOnDisk, first_state, raised_state};
-ghost use Rattle.df_opening.specs.Raising.{IsPlannedOf, RaisesAnew, RaisesOver, opening_events, opening_steps};
-ghost use Rattle.df_opening.specs.Keeping.{Grade, StandsFor, format};
-ghost use Rattle.df_opening.specs.Surveying.{TellsMends, TellsSurvey, state_of};
+ghost use Rattle.df_opening.specs.{Raising.{IsPlannedOf, RaisesAnew, RaisesOver, opening_events, opening_steps}, Keeping.{Grade, StandsFor, format}, Surveying.{TellsMends, TellsSurvey, state_of}};
 
 use crate::{MendError, OpenError, Replica, Rooms};
 use df_disk::Disk;
@@ -26,8 +23,7 @@ pub struct Surveyed {
 }
 
 impl Model for Surveyed {
-    ghost use Rattle.df_opening.specs.Survey.{Survey, survey_in};
-    ghost use Rattle.df_opening.specs.Below.{AreFound};
+    ghost use Rattle.df_opening.specs.{Survey.{Survey, survey_in}, Below.{AreFound}};
 
     ghost Value = { Survey };
 

@@ -1,22 +1,13 @@
 -- Which sessions lack their reply, and which replies are found stored.
 use Rattle.std.specs.Prelude.{◌≡◌, ◌<◌, ◌≤◌, ℕ, List, length, slice_get, if◌then◌else◌, nat_le, Option, Some, None, Result, Ok, Err}
 use Rattle.df_disk.specs.Told.{Told}
-use Rattle.df_layout.specs.declared.damage.Class.{Class}
-use Rattle.df_layout.specs.declared.damage.Class.TheVariants.{Stale}
-use Rattle.df_layout.specs.declared.layout.Layout.{Layout}
-use Rattle.df_format.specs.declared.header.Header.{Header}
-use Rattle.df_format.specs.declared.superblock.SuperFields.{SuperFields}
-use Rattle.df_sessions.specs.declared.session.Session.{Session}
-use Rattle.df_sessions.specs.Requests.{sessions_of}
+use Rattle.df_layout.specs.{declared.damage.Class.{Class}, declared.damage.Class.TheVariants.{Stale}, declared.layout.Layout.{Layout}}
+use Rattle.df_format.specs.{declared.header.Header.{Header}, declared.superblock.SuperFields.{SuperFields}}
+use Rattle.df_sessions.specs.{declared.session.Session.{Session}, Requests.{sessions_of}}
 use Rattle.df_theory.specs.Units
-use Rattle.df_theory.specs.Units.{AnyUnit, Content, Message, ReplyPlace, ReplyUnit}
-use Rattle.df_theory.specs.Opens.{IsAnswered, LacksReply}
-use Rattle.df_theory.specs.Found.{IsStored}
-use Rattle.df_theory.specs.View.{View, sessions}
+use Rattle.df_theory.specs.{Units.{AnyUnit, Content, Message, ReplyPlace, ReplyUnit}, Opens.{IsAnswered, LacksReply}, Found.{IsStored}, View.{View, sessions}}
 use Rattle.df_units.specs.Wanted.{class_at}
-use Rattle.df_replies.specs.declared.answers.Lacking.{Lacking}
-use Rattle.df_replies.specs.Named.{IsNamedBy}
-use Rattle.df_replies.specs.Shown.{AreRepliesScanned}
+use Rattle.df_replies.specs.{declared.answers.Lacking.{Lacking}, Named.{IsNamedBy}, Shown.{AreRepliesScanned}}
 
 -- ---- in the table
 

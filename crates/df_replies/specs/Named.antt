@@ -1,7 +1,6 @@
 -- Which reply a superblock takes in the slot of a place.
 use Rattle.std.specs.Prelude.{◌≡◌, ◌<◌, ◌≤◌, ℕ, slice_index}
-use Rattle.df_format.specs.declared.header.Header.{Header}
-use Rattle.df_format.specs.declared.superblock.SuperFields.{SuperFields}
+use Rattle.df_format.specs.{declared.header.Header.{Header}, declared.superblock.SuperFields.{SuperFields}}
 use Rattle.df_units.specs.Meaning.{answered_of, number_of, reply_checksums_of}
 
 -- one that it names by the checksum that it has for the place, and each later one of its boot

@@ -1,13 +1,11 @@
 -- What a table of replies says of a disk, and of the theory's image: the reply slots, place by place.
 use Rattle.std.specs.Prelude.{◌≡◌, ◌<◌, ◌≤◌, ℕ, List, length, slice_get, Option, Some, None, Result, Ok, Err}
 use Rattle.df_disk.specs.Told.{Told}
-use Rattle.df_layout.specs.declared.damage.Class.{Class}
-use Rattle.df_layout.specs.declared.layout.Layout.{Layout}
+use Rattle.df_layout.specs.{declared.damage.Class.{Class}, declared.layout.Layout.{Layout}}
 use Rattle.df_format.specs.declared.header.Header.{Header}
 use Rattle.df_theory.specs.Units
 use Rattle.df_theory.specs.Units.{AnyUnit, ReplyPlace, ReplyUnit}
-use Rattle.df_units.specs.Bytes.{unit_at}
-use Rattle.df_units.specs.Meaning.{header_of}
+use Rattle.df_units.specs.{Bytes.{unit_at}, Meaning.{header_of}}
 use Rattle.df_places.specs.Units.{IsSeen}
 use Rattle.df_replies.specs.Slots.{reply_place}
 

@@ -1,16 +1,10 @@
 -- Where the reply slots lie, and what a write of a reply into its slot does.
 use Rattle.std.specs.Prelude.{ℕ, List}
 use Rattle.df_base.specs.Log.{Event}
-use Rattle.df_layout.specs.declared.layout.Layout.{Layout}
-use Rattle.df_layout.specs.declared.places.Place.{Place}
-use Rattle.df_layout.specs.declared.places.Zone.TheVariants.{ClientReplies}
-use Rattle.df_layout.specs.Spans.{span_of}
-use Rattle.df_format.specs.Message.{Message}
-use Rattle.df_format.specs.Own.{place_in}
-use Rattle.df_format.specs.Valid.{IsUnit}
+use Rattle.df_layout.specs.{declared.layout.Layout.{Layout}, declared.places.Place.{Place}, declared.places.Zone.TheVariants.{ClientReplies}, Spans.{span_of}}
+use Rattle.df_format.specs.{Message.{Message}, Own.{place_in}, Valid.{IsUnit}}
 use Rattle.df_buffers.specs.Sounds.{Holding}
-use Rattle.df_theory.specs.Units.{ReplyPlace, ReplyUnit}
-use Rattle.df_theory.specs.Runs.{Step}
+use Rattle.df_theory.specs.{Units.{ReplyPlace, ReplyUnit}, Runs.{Step}}
 use Rattle.df_units.specs.Meaning.{message_of}
 use Rattle.df_places.specs.Units.{unit_events, unit_steps}
 

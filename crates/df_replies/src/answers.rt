@@ -1,10 +1,7 @@
 // What a reply that is shown counts for, and whether it answers its session: a superblock takes the replies that it names by their
 // checksums, and each later one of its boot.
 ghost use Rattle.std.specs.Prelude.{◌≡◌, ◌↔◌, ◌<◌, length, IsTrue};
-ghost use Rattle.df_replies.specs.Below.{number_of};
-ghost use Rattle.df_replies.specs.Answers.{TestsStored};
-ghost use Rattle.df_replies.specs.Counts.{counting_reply, op_of_reply};
-ghost use Rattle.df_replies.specs.Named.{IsNamedBy};
+ghost use Rattle.df_replies.specs.{Below.{number_of}, Answers.{TestsStored}, Counts.{counting_reply, op_of_reply}, Named.{IsNamedBy}};
 
 use df_base::{Check, VERSION};
 use df_format::{Header, SuperFields};

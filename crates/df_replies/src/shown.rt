@@ -1,6 +1,5 @@
 // What a table of replies says in the words of the theory: laws, each the clause of a function that does nothing.
-ghost use Rattle.df_replies.specs.Shown.{ScannedIsShown};
-ghost use Rattle.df_replies.specs.Answers.{FoundAreStored, StoredAreFound};
+ghost use Rattle.df_replies.specs.{Shown.{ScannedIsShown}, Answers.{FoundAreStored, StoredAreFound}};
 
 /// Replies that were scanned are those that the theory's image shows.
 pub fn scanned_replies_are_shown()

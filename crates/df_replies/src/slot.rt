@@ -1,7 +1,6 @@
 // Writes and reads of one reply slot. A reply is durable before its writer answers, and no other place is written.
 ghost use Rattle.std.specs.Prelude.{◌≡◌, ◌<◌, OnOk};
-ghost use Rattle.df_replies.specs.Below.{HasCause, Shows, Adds, FillsRoom, AreSteps, format_of};
-ghost use Rattle.df_replies.specs.Slots.{IsInReplySlot, reply_place, reply_write_steps, slot_first, write_events};
+ghost use Rattle.df_replies.specs.{Below.{HasCause, Shows, Adds, FillsRoom, AreSteps, format_of}, Slots.{IsInReplySlot, reply_place, reply_write_steps, slot_first, write_events}};
 
 use df_base::Failed;
 use df_buffers::{Raw, Reply, Sound};

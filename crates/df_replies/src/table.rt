@@ -1,8 +1,6 @@
 // The table of replies: what the slots show, place by place, for an open to look at.
 ghost use Rattle.std.specs.Prelude.{◌≡◌, ◌↔◌, ◌<◌, ◌≤◌, List, ℕ, Some, Err, length, replicate, slice_get, IfOk, IfSome, OnOk};
-ghost use Rattle.df_replies.specs.Below.{HasCause, Blank, IsReplies, last_mark, Content, Message, Units, content_of, content_with};
-ghost use Rattle.df_replies.specs.Answers.{HasClass, Lacks};
-ghost use Rattle.df_replies.specs.Counts.{RepliesWithin, in_boot};
+ghost use Rattle.df_replies.specs.{Below.{HasCause, Blank, IsReplies, last_mark, Content, Message, Units, content_of, content_with}, Answers.{HasClass, Lacks}, Counts.{RepliesWithin, in_boot}};
 ghost use Rattle.df_replies.specs.Shown.{AreRepliesScanned, AreSeenReplies, ShowsReplies};
 
 use crate::Lacking;

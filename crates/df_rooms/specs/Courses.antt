@@ -1,7 +1,6 @@
 -- What the captured checkpoint that a replica keeps is in the words of its state.
 use Rattle.std.specs.Prelude.{Option, Some, None}
-use Rattle.df_rooms.specs.State.{RunningState}
-use Rattle.df_rooms.specs.declared.running.RunningCheckpoint.{RunningCheckpoint}
+use Rattle.df_rooms.specs.{State.{RunningState}, declared.running.RunningCheckpoint.{RunningCheckpoint}}
 
 abbrev pub running_state : RunningCheckpoint → RunningState
 running_state c = record {

@@ -4,10 +4,7 @@ use Rattle.df_base.specs.declared.TheConstants.{GREATEST}
 use Rattle.df_layout.specs.declared.layout.Layout.{Layout}
 use Rattle.df_model.specs.declared.answers.Summary.{Summary}
 use Rattle.df_scrub.specs.Scrubber.{new_scrub}
-use Rattle.df_rooms.specs.Courses.{running_of}
-use Rattle.df_rooms.specs.State.{IsState, State}
-use Rattle.df_rooms.specs.declared.file.DataFile.{DataFile}
-use Rattle.df_rooms.specs.declared.parts.Parts.{Parts}
+use Rattle.df_rooms.specs.{Courses.{running_of}, State.{IsState, State}, declared.file.DataFile.{DataFile}, declared.parts.Parts.{Parts}}
 
 -- the state
 abbrev pub state_in : Parts → State

@@ -1,11 +1,8 @@
 -- What a superblock records of the state as it is: by the update that ends a checkpoint, and by that of an open.
-use Rattle.std.specs.Prelude.{◌≡◌, ◌≢◌, ◌<◌, ◌≤◌, ◌+◌, ℕ, List, map, slice_get, Option, Some, None}
-use Rattle.std.specs.List.{range_with_len}
+use Rattle.std.specs.{Prelude.{◌≡◌, ◌≢◌, ◌<◌, ◌≤◌, ◌+◌, ℕ, List, map, slice_get, Option, Some, None}, List.{range_with_len}}
 use Rattle.df_base.specs.declared.TheConstants.{GREATEST, VERSION}
 use Rattle.df_layout.specs.Limits.{AreWithinLimits}
-use Rattle.df_format.specs.Spelling.{no_checksum}
-use Rattle.df_format.specs.SuperRules.{greatest_trailer}
-use Rattle.df_format.specs.declared.superblock.SuperFields.{SuperFields}
+use Rattle.df_format.specs.{Spelling.{no_checksum}, SuperRules.{greatest_trailer}, declared.superblock.SuperFields.{SuperFields}}
 use Rattle.df_sessions.specs.declared.session.Session.{Session}
 use Rattle.df_model.specs.Making.{named_places}
 use Rattle.df_rooms.specs.State.{State}

@@ -1,12 +1,8 @@
 -- The requests that the next flush appends, each with its body in the room of its prepare, and the prepares that the last flush made.
 use Rattle.std.specs.Prelude.{◌≡◌, ◌+◌, ◌≤◌, ℕ, List, [], ◌∷◌, ◌++◌, length, map, take, All}
 use Rattle.df_layout.specs.declared.layout.Layout.{Layout}
-use Rattle.df_format.specs.declared.header.Header.{Header}
-use Rattle.df_format.specs.Making.{for_body}
-use Rattle.df_format.specs.Message.{sectors_end, sectors_of}
-use Rattle.df_format.specs.Spelling.{sealed}
-use Rattle.df_buffers.specs.Rooms.{Room}
-use Rattle.df_buffers.specs.Sounds.{Holding}
+use Rattle.df_format.specs.{declared.header.Header.{Header}, Making.{for_body}, Message.{sectors_end, sectors_of}, Spelling.{sealed}}
+use Rattle.df_buffers.specs.{Rooms.{Room}, Sounds.{Holding}}
 use Rattle.df_model.specs.Work.{Request}
 use Rattle.df_rooms.specs.declared.staging.Held.{Held}
 

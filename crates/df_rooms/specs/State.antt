@@ -1,34 +1,18 @@
 -- What a replica keeps in memory of its file, and what that is in the words of the machine.
-use Rattle.std.specs.Prelude.{◌≡◌, ◌<◌, ◌≤◌, ◌+◌, ◌-◌, ◌%◌, ◌^◌, ℕ, Bool, true, List, [], ◌∷◌, length, map, slice_get, Option, Some, None}
-use Rattle.std.specs.List.{range_with_len}
+use Rattle.std.specs.{Prelude.{◌≡◌, ◌<◌, ◌≤◌, ◌+◌, ◌-◌, ◌%◌, ◌^◌, ℕ, Bool, true, List, [], ◌∷◌, length, map, slice_get, Option, Some, None}, List.{range_with_len}}
 use Rattle.df_base.specs.declared.TheConstants.{GREATEST, HEADER}
-use Rattle.df_format.specs.Copies.{content_with}
-use Rattle.df_format.specs.Spelling.{IsCheck, no_checksum}
-use Rattle.df_format.specs.Super.{AreChecks}
-use Rattle.df_format.specs.SuperRules.{IsSecondSuper}
-use Rattle.df_format.specs.declared.header.Header.{Header}
+use Rattle.df_format.specs.{Copies.{content_with}, Spelling.{IsCheck, no_checksum}, Super.{AreChecks}, SuperRules.{IsSecondSuper}, declared.header.Header.{Header}}
 use Rattle.df_format.specs.declared.superblock.SuperFields.{SuperFields}
-use Rattle.df_layout.specs.declared.damage.Finding.{Finding}
-use Rattle.df_layout.specs.declared.layout.Layout.{Layout}
+use Rattle.df_layout.specs.{declared.damage.Finding.{Finding}, declared.layout.Layout.{Layout}}
 use Rattle.df_headers.specs.Ring.{IsHeaderTable}
 use Rattle.df_journal.specs.Tail.{AreNumbered}
-use Rattle.df_sessions.specs.Requests.{sessions_of}
-use Rattle.df_sessions.specs.declared.session.Session.{Session}
-use Rattle.df_sessions.specs.Table.{Table}
-use Rattle.df_theory.specs.Next.{MayAskInTurn}
-use Rattle.df_theory.specs.Sessions.{Tracks}
-use Rattle.df_theory.specs.Trailer.{IsCount, greatest_trailer}
+use Rattle.df_sessions.specs.{Requests.{sessions_of}, declared.session.Session.{Session}, Table.{Table}}
+use Rattle.df_theory.specs.{Next.{MayAskInTurn}, Sessions.{Tracks}, Trailer.{IsCount, greatest_trailer}, Units.{Parts}, Shape.{Shape}}
 use Rattle.df_theory.specs.Units
-use Rattle.df_theory.specs.Units.{Parts}
-use Rattle.df_theory.specs.Shape.{Shape}
 use Rattle.df_units.specs.Superblocks.{AreFieldsOf}
-use Rattle.df_model.specs.Blocks.{Blocks, sum_at}
-use Rattle.df_model.specs.Memory.{Course, Memory, memory_of}
-use Rattle.df_model.specs.Work.{Request, Tour, Work}
+use Rattle.df_model.specs.{Blocks.{Blocks, sum_at}, Memory.{Course, Memory, memory_of}, Work.{Request, Tour, Work}}
 use Rattle.df_checkpoint.specs.Below.{spell, parse_of, captured_parts, shape_as, content_of, layout_of, number_of}
-use Rattle.df_grid.specs.Grid.{GridState}
-use Rattle.df_grid.specs.Table.{IsIdle}
-use Rattle.df_grid.specs.Writes.{first_address, first_sum}
+use Rattle.df_grid.specs.{Grid.{GridState}, Table.{IsIdle}, Writes.{first_address, first_sum}}
 use Rattle.df_rooms.specs.declared.file.DataFile.{DataFile}
 
 -- what the running checkpoint captured, beside the blocks that the grid marks, and how far its trailer is written

@@ -1,7 +1,6 @@
 // What a superblock records of the state as it is: the update that ends a checkpoint writes it, and that of an open.
 ghost use Rattle.std.specs.Prelude.{◌≡◌};
-ghost use Rattle.df_rooms.specs.Parts.{state_in};
-ghost use Rattle.df_rooms.specs.Recorded.{recorded, stored_check, stored_checks};
+ghost use Rattle.df_rooms.specs.{Parts.{state_in}, Recorded.{recorded, stored_check, stored_checks}};
 
 use crate::Parts;
 use df_base::Check;

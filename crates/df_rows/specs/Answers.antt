@@ -3,14 +3,10 @@ use Rattle.std.specs.Prelude.{ℕ, Bool, ◌&&◌, not, nat_lt, nat_le, if◌the
 use Rattle.std.specs.FinMap as map
 use Rattle.df_layout.specs.declared.places.Place.{Place}
 use Rattle.df_script_model.specs.Texts.{body_text, line_of, numbered, place_text, spaced}
-use Rattle.df_rows.specs.declared.answer.Answer.{Answer}
+use Rattle.df_rows.specs.{declared.answer.Answer.{Answer}, declared.refusal.Refusal.{Refusal}, declared.refusal.Refusal.TheVariants.{ValueTooLong, TableFull, NoKey}, declared.line.Line.{Line}}
+use Rattle.df_rows.specs.{Rows.{longest_value}, Tables.{Table}}
 use Rattle.df_rows.specs.declared.answer.Answer.TheVariants as answers
-use Rattle.df_rows.specs.declared.refusal.Refusal.{Refusal}
-use Rattle.df_rows.specs.declared.refusal.Refusal.TheVariants.{ValueTooLong, TableFull, NoKey}
-use Rattle.df_rows.specs.declared.line.Line.{Line}
 use Rattle.df_rows.specs.declared.line.Line.TheVariants as lines
-use Rattle.df_rows.specs.Rows.{longest_value}
-use Rattle.df_rows.specs.Tables.{Table}
 
 -- a key that the table doesn't have, where it has as many rows as it may
 abbrev pub is_full_for : Table → ℕ → Bool

@@ -1,10 +1,6 @@
 -- The blocks of a table, and the table of blocks.
-use Rattle.std.specs.Prelude.{◌≡◌, ℕ, List, [], ◌∷◌, length, map, All}
-use Rattle.std.specs.Fork.{slice_chunk}
-use Rattle.std.specs.List.{range_with_len}
-use Rattle.df_rows.specs.Rows.{Entry, IsEntry, rows_of}
-use Rattle.df_rows.specs.Limits.{block_count}
-use Rattle.df_rows.specs.Tables.{Table, AreNew, with_rows}
+use Rattle.std.specs.{Prelude.{◌≡◌, ℕ, List, [], ◌∷◌, length, map, All}, Fork.{slice_chunk}, List.{range_with_len}}
+use Rattle.df_rows.specs.{Rows.{Entry, IsEntry, rows_of}, Limits.{block_count}, Tables.{Table, AreNew, with_rows}}
 
 -- rows in chunks of this many; the last may have fewer
 abbrev pub chunks_of : (per : ℕ) → List Entry → List (List Entry)

@@ -1,11 +1,8 @@
 -- The commands of a table as the bodies of prepares, and what they make of its map.
-use Rattle.std.specs.Prelude.{ℕ, ◌^◌, ◌<◌, List, [], ◌∷◌, ◌++◌}
-use Rattle.std.specs.Ordering.{nat_cmp}
+use Rattle.std.specs.{Prelude.{ℕ, ◌^◌, ◌<◌, List, [], ◌∷◌, ◌++◌}, Ordering.{nat_cmp}}
 use Rattle.std.specs.FinMap as map
 use Rattle.df_base.specs.Fields.{spelled}
-use Rattle.df_rows.specs.declared.command.Command.{Command}
-use Rattle.df_rows.specs.declared.command.Command.TheVariants.{Put, Drop}
-use Rattle.df_rows.specs.Rows.{IsEntry}
+use Rattle.df_rows.specs.{declared.command.Command.{Command}, declared.command.Command.TheVariants.{Put, Drop}, Rows.{IsEntry}}
 
 -- a put is 1, the key and the value; a drop is 2 and the key
 abbrev pub body_of : Command → List ℕ

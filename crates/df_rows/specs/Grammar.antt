@@ -1,7 +1,6 @@
 -- What one line of a table's script says.
 use Rattle.std.specs.Prelude.{◌≡◌, ℕ, ◌^◌, ◌<◌, List, [], ◌∷◌, take, codes, decimal, ⊤}
-use Rattle.df_lines.specs.Grammar.{IsBody, spaced}
-use Rattle.df_lines.specs.Kind.{Grammar}
+use Rattle.df_lines.specs.{Grammar.{IsBody, spaced}, Kind.{Grammar}}
 use Rattle.df_rows.specs.declared.line.Line.{Line}
 use Rattle.df_rows.specs.declared.line.Line.TheVariants as lines
 

@@ -2,13 +2,8 @@
 use Rattle.std.specs.Prelude.{◌≡◌, ℕ, ◌<◌, ◌≤◌, List, ◌++◌, All}
 use Rattle.std.specs.FinMap as map
 use Rattle.df_layout.specs.declared.layout.Layout.{Layout}
-use Rattle.df_rows.specs.declared.command.Command.{Command}
-use Rattle.df_rows.specs.Rows.{Entry, IsEntry, row_of}
-use Rattle.df_rows.specs.Commands.{IsCommand, Map, body_of, all_applied}
-use Rattle.df_rows.specs.Tables.{Table}
-use Rattle.df_rows.specs.Limits.{FitsLayout, most_rows}
-use Rattle.df_rows.specs.Blocks.{TakesAll, bodies_of}
-use Rattle.df_rows.specs.Grammar.{Said, SaysTableLine}
+use Rattle.df_rows.specs.{declared.command.Command.{Command}, Rows.{Entry, IsEntry, row_of}, Commands.{IsCommand, Map, body_of, all_applied}, Tables.{Table}, Limits.{FitsLayout, most_rows}}
+use Rattle.df_rows.specs.{Blocks.{TakesAll, bodies_of}, Grammar.{Said, SaysTableLine}}
 
 -- 64 bytes are one row, and a body is one command
 abbrev pub OneRow : Type 0

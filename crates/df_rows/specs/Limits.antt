@@ -1,6 +1,5 @@
 -- How many rows a table has at most, and how many blocks it takes.
-use Rattle.std.specs.Prelude.{ℕ, ◌+◌, ◌-◌, ◌*◌, ◌/◌, ◌≤◌, min}
-use Rattle.std.specs.Int.{div_ceil}
+use Rattle.std.specs.{Prelude.{ℕ, ◌+◌, ◌-◌, ◌*◌, ◌/◌, ◌≤◌, min}, Int.{div_ceil}}
 use Rattle.df_base.specs.declared.TheConstants.{HEADER}
 use Rattle.df_layout.specs.declared.layout.Layout.{Layout}
 

@@ -2,14 +2,10 @@
 use Rattle.std.specs.Prelude.{ℕ, ◌+◌, List, [], ◌∷◌, ◌++◌, length, codes, decimal, Option, Some, None}
 use Rattle.std.specs.FinMap as map
 use Rattle.df_script_model.specs.Texts.{body_text, line_of, numbered, spaced}
-use Rattle.df_rows.specs.declared.command.Command.{Command}
-use Rattle.df_rows.specs.declared.command.Command.TheVariants as commands
-use Rattle.df_rows.specs.declared.line.Line.{Line}
-use Rattle.df_rows.specs.declared.line.Line.TheVariants as lines
-use Rattle.df_rows.specs.declared.refusal.Refusal.{Refusal}
-use Rattle.df_rows.specs.Answers.{refusal_of, refusal_text}
-use Rattle.df_rows.specs.Grammar.{Said, Put, Drop, Get, Count}
+use Rattle.df_rows.specs.{declared.command.Command.{Command}, declared.line.Line.{Line}, declared.refusal.Refusal.{Refusal}, Answers.{refusal_of, refusal_text}, Grammar.{Said, Put, Drop, Get, Count}}
 use Rattle.df_rows.specs.Tables.{Table, with_commands}
+use Rattle.df_rows.specs.declared.command.Command.TheVariants as commands
+use Rattle.df_rows.specs.declared.line.Line.TheVariants as lines
 
 -- the line without its value's bytes
 abbrev pub line_in : Said → Line

@@ -1,8 +1,6 @@
 -- The bytes of a row of a table.
-use Rattle.std.specs.Prelude.{ℕ, ◌-◌, ◌^◌, ◌<◌, ◌≤◌, List, [], ◌∷◌, length, replicate}
-use Rattle.std.specs.List.{flat_map}
-use Rattle.df_base.specs.Text.{Piece, text}
-use Rattle.df_base.specs.Text.Piece.{Byte, Number, Bytes}
+use Rattle.std.specs.{Prelude.{ℕ, ◌-◌, ◌^◌, ◌<◌, ◌≤◌, List, [], ◌∷◌, length, replicate}, List.{flat_map}}
+use Rattle.df_base.specs.{Text.{Piece, text}, Text.Piece.{Byte, Number, Bytes}}
 
 -- a key and its value
 abbrev pub Entry : Type 0

@@ -1,11 +1,7 @@
 -- A table: the standard's map from keys to values, and how many rows it may have.
-use Rattle.std.specs.Prelude.{◌≡◌, ℕ, ◌<◌, ◌⊎◌, ⊤, List, [], ◌∷◌, IsTrue, None, refl}
-use Rattle.std.specs.Coded.{Coded, code_by, coded_ℕ, coded_list, coded×}
+use Rattle.std.specs.{Prelude.{◌≡◌, ℕ, ◌<◌, ◌⊎◌, ⊤, List, [], ◌∷◌, IsTrue, None, refl}, Coded.{Coded, code_by, coded_ℕ, coded_list, coded×}}
 use Rattle.std.specs.FinMap as map
-use Rattle.df_rows.specs.declared.command.Command.{Command}
-use Rattle.df_rows.specs.declared.command.Command.TheVariants.{Put, Drop}
-use Rattle.df_rows.specs.Commands.{Map, applied}
-use Rattle.df_rows.specs.Rows.{Entry}
+use Rattle.df_rows.specs.{declared.command.Command.{Command}, declared.command.Command.TheVariants.{Put, Drop}, Commands.{Map, applied}, Rows.{Entry}}
 
 pub record Table : Type 0 where
   pub max : ℕ

@@ -1,12 +1,8 @@
 // The blocks that hold a table, written and read.
-ghost use Rattle.std.specs.Prelude.{◌≡◌, ◌<◌, ◌≤◌, ◌+◌, ◌*◌, ◌++◌, List, length, take, IfSome, IfNone};
-ghost use Rattle.std.specs.Bool.{OnTrue, OnFalse};
+ghost use Rattle.std.specs.{Prelude.{◌≡◌, ◌<◌, ◌≤◌, ◌+◌, ◌*◌, ◌++◌, List, length, take, IfSome, IfNone}, Bool.{OnTrue, OnFalse}, Fork.{slice_chunk}};
 ghost use Rattle.std.specs.FinMap as map;
-ghost use Rattle.std.specs.Fork.{slice_chunk};
 ghost use Rattle.df_rows.specs.Limits as limits;
-ghost use Rattle.df_rows.specs.Rows.{Entry, IsEntry, row_of, rows_of};
-ghost use Rattle.df_rows.specs.Tables.{IsNew, with_row, with_rows};
-ghost use Rattle.df_rows.specs.Blocks.{TableTakes};
+ghost use Rattle.df_rows.specs.{Rows.{Entry, IsEntry, row_of, rows_of}, Tables.{IsNew, with_row, with_rows}, Blocks.{TableTakes}};
 
 use crate::bytes::ROW;
 use crate::limits::rows_in_block;

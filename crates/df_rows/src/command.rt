@@ -1,9 +1,7 @@
 // The two commands of a table, and the bodies of the prepares that hold them.
 ghost use Rattle.std.specs.Prelude.{◌≡◌, ◌^◌, ◌<◌, ◌∷◌, ◌++◌, ℕ, IfSome, IfNone};
 ghost use Rattle.df_base.specs.Fields.{spelled};
-ghost use Rattle.df_rows.specs.Commands.{IsCommand, body_of};
-ghost use Rattle.df_rows.specs.Rows.{Entry, IsEntry};
-ghost use Rattle.df_rows.specs.declared.command.Command.{Command as Asked};
+ghost use Rattle.df_rows.specs.{Commands.{IsCommand, body_of}, Rows.{Entry, IsEntry}, declared.command.Command.{Command as Asked}};
 
 use crate::bytes::{KEY, RowBytes, put, put_key};
 use crate::row::{LONGEST_VALUE, Row};

@@ -1,11 +1,9 @@
 // The table: a map from keys to small values, in one vector whose memory is taken in one call.
-ghost use Rattle.std.specs.Prelude.{◌≡◌, ◌↔◌, ◌≤◌, All, IsTrue, IfOk};
-ghost use Rattle.std.specs.Option.{option_copied};
+ghost use Rattle.std.specs.{Prelude.{◌≡◌, ◌↔◌, ◌≤◌, All, IsTrue, IfOk}, Option.{option_copied}};
 ghost use Rattle.std.specs.FinMap as map;
 ghost use Rattle.df_rows.specs.Commands as commands;
 ghost use Rattle.df_rows.specs.Limits as limits;
-ghost use Rattle.df_rows.specs.Rows.{IsEntry};
-ghost use Rattle.df_rows.specs.Tables.{CanApply, HasRoom, IsNew, with_row};
+ghost use Rattle.df_rows.specs.{Rows.{IsEntry}, Tables.{CanApply, HasRoom, IsNew, with_row}};
 
 use crate::command::Command;
 use crate::finding::find_key;
@@ -32,8 +30,7 @@ impl Drop for ObjectTable {
 impl Model for ObjectTable {
     ghost use Rattle.std.specs.Prelude.{vec_capacity};
     ghost use Rattle.std.specs.FinMap as map;
-    ghost use Rattle.df_rows.specs.Tables.{Table, table_code};
-    ghost use Rattle.df_rows.specs.Sorted.{AreRows};
+    ghost use Rattle.df_rows.specs.{Tables.{Table, table_code}, Sorted.{AreRows}};
 
     ghost Value = { Table };
 

@@ -1,8 +1,7 @@
 -- What a script prints: a fold of the machine over its lines.
 use Rattle.std.specs.Prelude.{◌≡◌, ℕ, List, [], ◌∷◌, codes}
 use Rattle.df_theory.specs.Shape.{Shape}
-use Rattle.df_model.specs.Work.{Work}
-use Rattle.df_model.specs.Memory.{memory_of}
+use Rattle.df_model.specs.{Work.{Work}, Memory.{memory_of}}
 use Rattle.df_model.specs.Commands.{Answer, Command, ReadBlock, Release, Reply, ToAdvance, ToAppend, ToBegin, ToFlush, ToReadBlock, ToReadPrepare, ToReadReply, ToRecent, ToRelease, ToReply, ToScrub, ToStage, ToWriteBlock}
 use Rattle.df_model.specs.Supply.{Codec, Shown, next, result, shown_after}
 use Rattle.df_script_model.specs.Texts.{append_refusal, begin_refusal_line, block_refusal, block_text, flush_refusal, line_of, lookup_refusal, message_text, numbered, prepare_refusal, progress_text, read_refusal, recent_text, reply_refusal, scrubbed_text, step_refusal, text_or}

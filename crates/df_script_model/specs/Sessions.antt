@@ -2,13 +2,8 @@
 use Rattle.std.specs.Prelude.{◌≡◌, ◌<◌, ◌≤◌, ◌+◌, ◌*◌, ◌/◌, ◌==◌, ◌&&◌, ◌||◌, nat_le, nat_lt, Bool, ℕ, zero, suc, if◌then◌else◌, List, [], ◌∷◌, ◌++◌, codes, decimal, drop, length, Some, None, replicate}
 use Rattle.std.specs.List.{range_with_len}
 use Rattle.df_layout.specs.declared.damage.Class.TheVariants.{Blank, Garbled}
-use Rattle.df_theory.specs.Units.{BlockPlace, BlockUnit, Parts, Units}
-use Rattle.df_theory.specs.Trailer.{no_parts}
-use Rattle.df_theory.specs.Shape.{Shape}
-use Rattle.df_theory.specs.View.{View}
-use Rattle.df_model.specs.Work.{Work, kept, opened}
-use Rattle.df_model.specs.Blocks.{entries}
-use Rattle.df_model.specs.Making.{block_of, named_places}
+use Rattle.df_theory.specs.{Units.{BlockPlace, BlockUnit, Parts, Units}, Trailer.{no_parts}, Shape.{Shape}, View.{View}}
+use Rattle.df_model.specs.{Work.{Work, kept, opened}, Blocks.{entries}, Making.{block_of, named_places}}
 use Rattle.df_model.specs.Commands.{Advance, Append, Begin, Command, Flush, ReadBlock, ReadPrepare, ReadReply, Recent, Release, Reply, Scrub, Stage, WriteBlock}
 use Rattle.df_model.specs.Supply.{Codec, Shown, begun_from, last_shown, last_work, nothing}
 use Rattle.df_script_model.specs.Script.{printed}

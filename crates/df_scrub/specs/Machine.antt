@@ -1,13 +1,8 @@
 -- A step of the scrubber in the words of the machine.
 use Rattle.std.specs.Prelude.{◌≡◌, Option}
 use Rattle.df_disk.specs.Told.{Told}
-use Rattle.df_grid.specs.Below.{layout_of}
-use Rattle.df_model.specs.Work.{Work}
-use Rattle.df_model.specs.Memory.{Memory}
-use Rattle.df_model.specs.After.{after_check, to_check}
-use Rattle.df_model.specs.Changing.{checked_in}
-use Rattle.df_model.specs.declared.answers.Scrubbed.{Scrubbed}
-use Rattle.df_grid.specs.Grid.{GridState}
+use Rattle.df_grid.specs.{Below.{layout_of}, Grid.{GridState}}
+use Rattle.df_model.specs.{Work.{Work}, Memory.{Memory}, After.{after_check, to_check}, Changing.{checked_in}, declared.answers.Scrubbed.{Scrubbed}}
 use Rattle.df_scrub.specs.Scrubber.{IsVerdict, ScrubState, verdict_in}
 
 -- what a machine has in memory over this grid, where its tour and its findings are the scrubber's

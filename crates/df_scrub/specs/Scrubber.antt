@@ -1,18 +1,10 @@
 -- The scrubber as its callers see it, and a step of its tour.
-use Rattle.std.specs.Prelude.{◌≡◌, ◌≤◌, ◌+◌, ℕ, nat_lt, List, [], ◌∷◌, ◌++◌, length, Option, Some, None}
-use Rattle.std.specs.List.{filter}
+use Rattle.std.specs.{Prelude.{◌≡◌, ◌≤◌, ◌+◌, ℕ, nat_lt, List, [], ◌∷◌, ◌++◌, length, Option, Some, None}, List.{filter}}
 use Rattle.df_disk.specs.Told.{Told}
-use Rattle.df_layout.specs.declared.damage.Class.{Class}
-use Rattle.df_layout.specs.declared.damage.Finding.{Finding}
-use Rattle.df_model.specs.Work.{Tour, first_tour}
-use Rattle.df_model.specs.After.{newest}
-use Rattle.df_model.specs.Supply.{first_check}
-use Rattle.df_model.specs.declared.answers.Scrubbed.{Scrubbed}
-use Rattle.df_model.specs.declared.answers.Scrubbed.TheVariants.{Checked, TourEnd}
-use Rattle.df_model.specs.declared.answers.Verdict.{Verdict}
-use Rattle.df_model.specs.declared.answers.Verdict.TheVariants.{Sound, Failing}
-use Rattle.df_grid.specs.Grid.{GridState, referenced_of}
-use Rattle.df_grid.specs.Reads.{shown_of}
+use Rattle.df_layout.specs.{declared.damage.Class.{Class}, declared.damage.Finding.{Finding}}
+use Rattle.df_model.specs.{Work.{Tour, first_tour}, After.{newest}, Supply.{first_check}, declared.answers.Scrubbed.{Scrubbed}, declared.answers.Scrubbed.TheVariants.{Checked, TourEnd}}
+use Rattle.df_model.specs.{declared.answers.Verdict.{Verdict}, declared.answers.Verdict.TheVariants.{Sound, Failing}}
+use Rattle.df_grid.specs.{Grid.{GridState, referenced_of}, Reads.{shown_of}}
 
 -- where the tour stands, and the newest findings
 pub record ScrubState : Type 0 where

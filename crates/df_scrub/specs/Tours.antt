@@ -4,8 +4,7 @@ use Rattle.df_base.specs.Image.{Image}
 use Rattle.df_disk.specs.Told.{Told}
 use Rattle.df_layout.specs.declared.damage.Finding.{Finding}
 use Rattle.df_model.specs.Reading.{failing}
-use Rattle.df_grid.specs.Grid.{GridState, referenced_of}
-use Rattle.df_grid.specs.Reads.{shown_of}
+use Rattle.df_grid.specs.{Grid.{GridState, referenced_of}, Reads.{shown_of}}
 use Rattle.df_scrub.specs.Scrubber.{ScrubState, left_in}
 
 -- the failing ones among these blocks over an image, each with the class of what is shown

@@ -1,7 +1,6 @@
 // Where the tour stands, and the ring of the newest 64 findings. What was found of a block is noted here.
 ghost use Rattle.std.specs.Prelude.{◌≡◌, ◌<◌, ◌≤◌, length, slice_get, IfOk};
-ghost use Rattle.df_scrub.specs.Below.{first_tour};
-ghost use Rattle.df_scrub.specs.Scrubber.{ScrubState, judged, new_scrub, with_check};
+ghost use Rattle.df_scrub.specs.{Below.{first_tour}, Scrubber.{ScrubState, judged, new_scrub, with_check}};
 
 use crate::{Finding, Scrubbed, Verdict};
 use circular_buffer::HeapCircularBuffer;

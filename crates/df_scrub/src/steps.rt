@@ -1,9 +1,6 @@
 // The scrubber over a grid: one block after the other, each tested by one read, and a whole tour.
 ghost use Rattle.std.specs.Prelude.{◌≡◌, ◌≤◌, ◌<◌, ◌+◌, ◌++◌, [], vec_len, vec_capacity, IfOk, OnOk, OnErr};
-ghost use Rattle.df_scrub.specs.Below.{HasCause, newest, with_finding, first_tour};
-ghost use Rattle.df_scrub.specs.Machine.{IsMachines};
-ghost use Rattle.df_scrub.specs.Scrubber.{IsStep};
-ghost use Rattle.df_scrub.specs.Tours.{ListsFailing, ListsSoFar};
+ghost use Rattle.df_scrub.specs.{Below.{HasCause, newest, with_finding, first_tour}, Machine.{IsMachines}, Scrubber.{IsStep}, Tours.{ListsFailing, ListsSoFar}};
 
 use crate::{Finding, Scrubbed, Scrubber, Verdict};
 use df_base::Failed;

@@ -1,13 +1,9 @@
 -- What was answered of a session by a moment of it, and that from then on it is there.
 use Rattle.std.specs.Prelude.{ℕ, zero, suc, List, ◌++◌, take, drop, Option, Some, None}
-use Rattle.df_base.specs.Log.{Log}
-use Rattle.df_base.specs.Moments.{Extends}
-use Rattle.df_disk.specs.Told.{Told}
-use Rattle.df_disk.specs.Adds.{after_all}
+use Rattle.df_base.specs.{Log.{Log}, Moments.{Extends}}
+use Rattle.df_disk.specs.{Told.{Told}, Adds.{after_all}}
 use Rattle.df_model.specs.Work.{Work}
-use Rattle.df_replica.specs.Below.{DataFile, State as Replica}
-use Rattle.df_replica.specs.Serving.{Grade}
-use Rattle.df_replica.specs.Session.{Act, Exchange, IsMidway, acts_in, work_after}
+use Rattle.df_replica.specs.{Below.{DataFile, State as Replica}, Serving.{Grade}, Session.{Act, Exchange, IsMidway, acts_in, work_after}}
 use Rattle.df_session.specs.Links.{AreCalls, CallsMade, NoCalls, More, EndsCalls, events_made, list_of}
 
 -- ---- what was answered by a moment, of the told log or of another base

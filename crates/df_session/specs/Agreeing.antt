@@ -4,9 +4,7 @@ use Rattle.df_layout.specs.declared.layout.Layout.{Layout}
 use Rattle.df_theory.specs.Units.{Place}
 use Rattle.df_model.specs.After.{to_check}
 use Rattle.df_model.specs.Commands.{Advance, Append, Command, Flush, Given, ReadBlock, ReadPrepare, ReadReply, Reply, Scrub, WriteBlock, supplied_block, supplied_message, supplied_verdict}
-use Rattle.df_model.specs.Memory.{Memory}
-use Rattle.df_model.specs.Refusals.{append_refusals, block_refusals, first_refusal, flush_refusals, reply_refusals}
-use Rattle.df_model.specs.Result.{AgreeReads}
+use Rattle.df_model.specs.{Memory.{Memory}, Refusals.{append_refusals, block_refusals, first_refusal, flush_refusals, reply_refusals}, Result.{AgreeReads}}
 use Rattle.df_model.specs.Supply.{Codec, Shown, block_read, checksums_given, first_check, message_given}
 use Rattle.df_replica.specs.Leaving.{IsReadPlace}
 

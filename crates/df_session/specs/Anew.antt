@@ -1,19 +1,12 @@
 -- What is kept by the logs that an open restarts, whatever was done to the disk before: of all that is answered after the open, and of a stop within it.
 use Rattle.std.specs.Prelude.{List, []}
-use Rattle.df_base.specs.Log.{Event, Sync}
-use Rattle.df_base.specs.Moments.{EachMoment}
+use Rattle.df_base.specs.{Log.{Event, Sync}, Moments.{EachMoment}}
 use Rattle.df_disk.specs.Told.{Told, did}
 use Rattle.df_format.specs.Copies.{content_with}
-use Rattle.df_theory.specs.Next.{IsSameBare, booted}
-use Rattle.df_theory.specs.View.{View}
+use Rattle.df_theory.specs.{Next.{IsSameBare, booted}, View.{View}}
 use Rattle.df_units.specs.Meaning.{content_of}
-use Rattle.df_session.specs.Begun.{begun_work}
-use Rattle.df_replica.specs.Below.{State as Replica, restarted, told_after}
-use Rattle.df_replica.specs.Opened.{HistoryBegins, StaysFound}
-use Rattle.df_replica.specs.Serving.{Grade, IsKept}
-use Rattle.df_session.specs.Acknowledging.{KeepsAnswered}
-use Rattle.df_session.specs.Keeping.{KeepsFile, over}
-use Rattle.df_session.specs.Links.{CallsMade, events_made}
+use Rattle.df_session.specs.{Begun.{begun_work}, Acknowledging.{KeepsAnswered}, Keeping.{KeepsFile, over}, Links.{CallsMade, events_made}}
+use Rattle.df_replica.specs.{Below.{State as Replica, restarted, told_after}, Opened.{HistoryBegins, StaysFound}, Serving.{Grade, IsKept}}
 
 -- the log that is restarted at the end of an open, by what the disk shows there: the last sync of the open is its barrier
 abbrev pub begun_after : List Event → Told → Told

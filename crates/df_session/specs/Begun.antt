@@ -2,13 +2,10 @@
 use Rattle.std.specs.Prelude.{◌≡◌, Option}
 use Rattle.df_base.specs.Image.{Image, IsImage}
 use Rattle.df_disk.specs.Told.{Told}
-use Rattle.df_theory.specs.Found.{IsFound}
-use Rattle.df_theory.specs.View.{View}
+use Rattle.df_theory.specs.{Found.{IsFound}, View.{View}}
 use Rattle.df_units.specs.Bytes.{unit_at}
-use Rattle.df_model.specs.Supply.{begun_from}
-use Rattle.df_model.specs.Work.{Work, opened}
-use Rattle.df_replica.specs.Below.{DataFile, State, shape}
-use Rattle.df_replica.specs.Opened.{MendsAll, begun_state}
+use Rattle.df_model.specs.{Supply.{begun_from}, Work.{Work, opened}}
+use Rattle.df_replica.specs.{Below.{DataFile, State, shape}, Opened.{MendsAll, begun_state}}
 use Rattle.df_session.specs.Codec.{codec}
 
 -- what calls begin with where an open finds this view in this image

@@ -3,27 +3,13 @@ use Rattle.std.specs.Prelude.{◌≡◌, ℕ, Bool, false, List, Option, Some, N
 use Rattle.df_disk.specs.Told.{Told}
 use Rattle.df_format.specs.declared.reference.Reference.{Reference}
 use Rattle.df_model.specs.Commands.{Advance, Answer as Answered, Append, Begin, Command, Flush, ReadBlock, ReadPrepare, ReadReply, Recent, Release, Reply, Scrub, Stage, ToAdvance, ToReadBlock, ToReadPrepare, ToReadReply, ToScrub, WriteBlock}
-use Rattle.df_model.specs.declared.answers.Progress.{Progress}
-use Rattle.df_model.specs.declared.answers.Receipt.{Receipt}
-use Rattle.df_model.specs.declared.answers.Scrubbed.{Scrubbed}
-use Rattle.df_model.specs.declared.commands.Answer.{Answer}
-use Rattle.df_model.specs.declared.commands.Answer.TheVariants as answers
-use Rattle.df_model.specs.declared.errors.AppendError.{AppendError}
-use Rattle.df_model.specs.declared.errors.BeginError.{BeginError}
-use Rattle.df_model.specs.declared.errors.BlockError.{BlockError}
-use Rattle.df_model.specs.declared.errors.FlushError.{FlushError}
-use Rattle.df_model.specs.declared.errors.NotLive.{NotLive}
-use Rattle.df_model.specs.declared.errors.ReplyError.{ReplyError}
-use Rattle.df_model.specs.declared.errors.StepError.{StepError}
+use Rattle.df_model.specs.{declared.answers.Progress.{Progress}, declared.answers.Receipt.{Receipt}, declared.answers.Scrubbed.{Scrubbed}, declared.commands.Answer.{Answer}}
+use Rattle.df_model.specs.{declared.errors.AppendError.{AppendError}, declared.errors.BeginError.{BeginError}, declared.errors.BlockError.{BlockError}, declared.errors.FlushError.{FlushError}}
+use Rattle.df_model.specs.{declared.errors.NotLive.{NotLive}, declared.errors.ReplyError.{ReplyError}, declared.errors.StepError.{StepError}}
 use Rattle.df_model.specs.Faults.{is_append_fault, is_block_fault, is_flush_fault, is_lookup_fault, is_prepare_fault, is_read_fault, is_reply_fault, is_step_fault}
-use Rattle.df_replica.specs.Answering.{answer_of, as_append, as_flush, as_reply, as_write_block, begin_answer, is_step_unanswered, release_answer, stage_answer}
-use Rattle.df_replica.specs.Appending.{IsAppendCall}
-use Rattle.df_replica.specs.Beginning.{IsBegin}
-use Rattle.df_replica.specs.Below.{State as Replica}
-use Rattle.df_replica.specs.Blocks.{IsRelease, IsWriteBlock}
-use Rattle.df_replica.specs.Flushing.{IsFlush, IsStage}
-use Rattle.df_replica.specs.Replying.{IsReplyCall}
-use Rattle.df_replica.specs.Scrubbing.{IsScrub}
+use Rattle.df_model.specs.declared.commands.Answer.TheVariants as answers
+use Rattle.df_replica.specs.{Answering.{answer_of, as_append, as_flush, as_reply, as_write_block, begin_answer, is_step_unanswered, release_answer, stage_answer}, Appending.{IsAppendCall}}
+use Rattle.df_replica.specs.{Beginning.{IsBegin}, Below.{State as Replica}, Blocks.{IsRelease, IsWriteBlock}, Flushing.{IsFlush, IsStage}, Replying.{IsReplyCall}, Scrubbing.{IsScrub}}
 use Rattle.df_replica.specs.Stepping.{IsStepCall}
 
 -- an answer tells all of it: a read lends its unit, and the ring its findings

@@ -1,22 +1,12 @@
 -- The checksum that each unit of a file gets, as a function of what it says in the words of the theory and of its place: the header, or the superblock, that has these
 -- words is built and sealed as the maker of a unit does. It is the dictionary of units and bytes, read the other way.
 use Rattle.std.specs.Prelude.{◌≡◌, ◌⊎◌, ◌%◌, ◌==◌, ℕ, if◌then◌else◌, List, map, Some, slice_index}
-use Rattle.df_base.specs.declared.TheConstants.{FIRST_VERSION, VERSION}
-use Rattle.df_base.specs.Fields.{spelled}
-use Rattle.df_base.specs.Image.{Image, IsImage}
-use Rattle.df_format.specs.declared.header.Header.{Header}
-use Rattle.df_format.specs.declared.kind.Kind.{Kind}
-use Rattle.df_format.specs.declared.kind.Kind.TheVariants.{Prepare, Reply, Block, Trailer}
-use Rattle.df_format.specs.declared.superblock.SuperFields.{SuperFields}
-use Rattle.df_format.specs.Copies.{content_with}
-use Rattle.df_format.specs.First.{blank_super}
-use Rattle.df_format.specs.Making.{blank_header, for_body}
-use Rattle.df_format.specs.Spelling.{no_checksum, sealed}
-use Rattle.df_format.specs.Super.{no_checksums}
+use Rattle.df_base.specs.{declared.TheConstants.{FIRST_VERSION, VERSION}, Fields.{spelled}, Image.{Image, IsImage}}
+use Rattle.df_format.specs.{declared.header.Header.{Header}, declared.kind.Kind.{Kind}, declared.kind.Kind.TheVariants.{Prepare, Reply, Block, Trailer}, declared.superblock.SuperFields.{SuperFields}}
+use Rattle.df_format.specs.{Copies.{content_with}, First.{blank_super}, Making.{blank_header, for_body}, Spelling.{no_checksum, sealed}, Super.{no_checksums}}
 use Rattle.df_theory.specs.Units
 use Rattle.df_theory.specs.Units.{AnyUnit, BlockPlace, BlockUnit, CopyPlace, CopyUnit, Place, PreparePlace, PrepareUnit, ReplyPlace, ReplyUnit}
-use Rattle.df_units.specs.Bytes.{unit_at}
-use Rattle.df_units.specs.Meaning.{layout_of, number_of}
+use Rattle.df_units.specs.{Bytes.{unit_at}, Meaning.{layout_of, number_of}}
 use Rattle.df_model.specs.Supply.{Codec}
 use Rattle.df_replica.specs.Below.{DataFile, spelling, version_in}
 

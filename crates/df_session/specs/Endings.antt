@@ -1,18 +1,12 @@
 -- What is heard of an answer, and why a list of calls may end before its last one was answered.
 use Rattle.std.specs.Prelude.{◌≡◌, Bool, true, false, if◌then◌else◌, Option, Some, None, Result, Ok, Err}
 use Rattle.df_disk.specs.Told.{Told}
-use Rattle.df_layout.specs.declared.damage.Class.{Class}
-use Rattle.df_layout.specs.declared.places.Place.{Place}
-use Rattle.df_layout.specs.declared.places.Zone.TheVariants.{Superblock}
-use Rattle.df_model.specs.Commands.{Advance, Answer as Answered, Command, Scrub}
-use Rattle.df_model.specs.declared.commands.Answer.{Answer}
+use Rattle.df_layout.specs.{declared.damage.Class.{Class}, declared.places.Place.{Place}, declared.places.Zone.TheVariants.{Superblock}}
+use Rattle.df_model.specs.{Commands.{Advance, Answer as Answered, Command, Scrub}, declared.commands.Answer.{Answer}}
 use Rattle.df_model.specs.declared.commands.Answer.TheVariants as answers
 use Rattle.df_model.specs.declared.errors.StepError.TheVariants as step
 use Rattle.df_replica.specs.Below.{State as Replica}
-use Rattle.df_session.specs.Calls.{IsExact, is_fault, machine_answer}
-use Rattle.df_session.specs.Links.{Makes}
-use Rattle.df_session.specs.declared.hearing.Fault.{Fault}
-use Rattle.df_session.specs.declared.hearing.Fault.TheVariants.{Disk, Damaged}
+use Rattle.df_session.specs.{Calls.{IsExact, is_fault, machine_answer}, Links.{Makes}, declared.hearing.Fault.{Fault}, declared.hearing.Fault.TheVariants.{Disk, Damaged}}
 
 -- ---- what is heard
 

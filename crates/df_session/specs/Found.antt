@@ -3,8 +3,7 @@ use Rattle.std.specs.Prelude.{◌≡◌, ◌⊎◌, [], Option, Some, None}
 use Rattle.df_base.specs.Log.{Sync}
 use Rattle.df_disk.specs.Told.{Told, did}
 use Rattle.df_layout.specs.declared.layout.Layout.{Layout}
-use Rattle.df_replica.specs.Below.{IsOpened, State as Replica}
-use Rattle.df_replica.specs.Opened.{Mends, raised_state}
+use Rattle.df_replica.specs.{Below.{IsOpened, State as Replica}, Opened.{Mends, raised_state}}
 use Rattle.df_session.specs.Links.{CallsMade, NoCalls}
 
 -- The file that the disk shows was found, with rooms of this layout. Between the barrier of its open and whatever is done then are its mending and its boot update alone, which leave each place that a

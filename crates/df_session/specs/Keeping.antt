@@ -1,14 +1,10 @@
 -- What is kept of a file after the barrier of an open, whatever is done with it.
 use Rattle.std.specs.Prelude.{◌≡◌, List, [], ◌∷◌, ◌++◌, Option, Some, None}
-use Rattle.df_base.specs.Log.{Event, Sync}
-use Rattle.df_base.specs.Moments.{EachMoment, Extends}
+use Rattle.df_base.specs.{Log.{Event, Sync}, Moments.{EachMoment, Extends}}
 use Rattle.df_disk.specs.Told.{IsHonest, Told, did}
-use Rattle.df_theory.specs.Device.{units_log}
-use Rattle.df_theory.specs.TidyLaws.{IsTidy}
+use Rattle.df_theory.specs.{Device.{units_log}, TidyLaws.{IsTidy}}
 use Rattle.df_model.specs.Work.{Work, kept}
-use Rattle.df_replica.specs.Below.{DataFile, shape, told_after}
-use Rattle.df_replica.specs.Leaving.{AreSettled}
-use Rattle.df_replica.specs.Serving.{Grade, format}
+use Rattle.df_replica.specs.{Below.{DataFile, shape, told_after}, Leaving.{AreSettled}, Serving.{Grade, format}}
 use Rattle.df_replica.specs.Session.{Act, Exchange, IsMidway, LeavesEither, LeavesView, acts_in, answers_in, answers_of, work_after}
 use Rattle.df_session.specs.Links.{list_of}
 

@@ -1,28 +1,14 @@
 -- What is promised of calls on a file that was opened, whatever they are.
 use Rattle.std.specs.Prelude.{◌≡◌, true, List, [], ◌∷◌, Option, None, Some}
-use Rattle.df_base.specs.Image.{IsImage}
-use Rattle.df_base.specs.Log.{Log, Sync, add}
-use Rattle.df_base.specs.Moments.{EachMoment}
-use Rattle.df_disk.specs.Adds.{after_all}
-use Rattle.df_disk.specs.Told.{Told, did}
-use Rattle.df_theory.specs.Found.{IsFound}
-use Rattle.df_theory.specs.View.{View}
+use Rattle.df_base.specs.{Image.{IsImage}, Log.{Log, Sync, add}, Moments.{EachMoment}}
+use Rattle.df_disk.specs.{Adds.{after_all}, Told.{Told, did}}
+use Rattle.df_theory.specs.{Found.{IsFound}, View.{View}}
 use Rattle.df_units.specs.Bytes.{unit_at}
 use Rattle.df_model.specs.Supply.{Shown}
-use Rattle.df_replica.specs.Below.{AreDistinctUnits, IsLivedDisk, MayReopen, State as Replica, restarted, shape, told_after}
-use Rattle.df_replica.specs.Following.{MayOpen}
-use Rattle.df_session.specs.Begun.{begun_work}
-use Rattle.df_replica.specs.Opened.{AreRaising, Mends, MendsAll, raised_state}
-use Rattle.df_replica.specs.Reading.{shown_of}
-use Rattle.df_replica.specs.Serving.{Firm, Grade, IsKept, Keeps, StandsFor}
-use Rattle.df_replica.specs.Session.{Act, Exchange, acts_in, answers_in, answers_of}
-use Rattle.df_session.specs.Agreeing.{AgreeShown}
-use Rattle.df_session.specs.Acknowledging.{KeepsAnswered}
-use Rattle.df_session.specs.Anew.{KeepsAnew}
-use Rattle.df_session.specs.Keeping.{KeepsFile, over}
-use Rattle.df_session.specs.Links.{CallsMade, EndsCalls, events_made}
-use Rattle.df_session.specs.Resulting.{AnswersResult}
-use Rattle.df_session.specs.Sparing.{SparesBlocks}
+use Rattle.df_replica.specs.{Below.{AreDistinctUnits, IsLivedDisk, MayReopen, State as Replica, restarted, shape, told_after}, Following.{MayOpen}, Opened.{AreRaising, Mends, MendsAll, raised_state}}
+use Rattle.df_replica.specs.{Reading.{shown_of}, Serving.{Firm, Grade, IsKept, Keeps, StandsFor}, Session.{Act, Exchange, acts_in, answers_in, answers_of}}
+use Rattle.df_session.specs.{Begun.{begun_work}, Agreeing.{AgreeShown}, Acknowledging.{KeepsAnswered}, Anew.{KeepsAnew}, Keeping.{KeepsFile, over}, Links.{CallsMade, EndsCalls, events_made}}
+use Rattle.df_session.specs.{Resulting.{AnswersResult}, Sparing.{SparesBlocks}}
 
 -- The calls were made on a file that was found in what the disk showed, mended and raised. On whatever image: the mending and the boot update are their own device calls alone, as each of the calls is; the answers
 -- are the machine's, from the state after the boot update on, for which the replica stands, and a function of what was shown; what is told is what the calls added; no call writes a sector of a block that is held, but a step those of the running trailer's next. By each log that shows what was shown, and by which

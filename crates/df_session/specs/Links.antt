@@ -3,9 +3,7 @@ use Rattle.std.specs.Prelude.{◌≡◌, List, [], ◌∷◌, ◌++◌, Option, 
 use Rattle.df_base.specs.Log.{Event}
 use Rattle.df_disk.specs.Told.{Told}
 use Rattle.df_model.specs.Commands.{Answer, Command}
-use Rattle.df_replica.specs.Below.{State as Replica}
-use Rattle.df_replica.specs.Serving.{IsCall}
-use Rattle.df_replica.specs.Session.{Act, Exchange}
+use Rattle.df_replica.specs.{Below.{State as Replica}, Serving.{IsCall}, Session.{Act, Exchange}}
 use Rattle.df_session.specs.Own.{AddsOwn}
 
 -- one call: what it was supplied with is right, and what the disk tells changed by its own device calls alone

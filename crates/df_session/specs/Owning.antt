@@ -2,10 +2,7 @@
 use Rattle.std.specs.Prelude.{List, [], ◌∷◌, Option, Some, None}
 use Rattle.df_disk.specs.Told.{Told}
 use Rattle.df_model.specs.Work.{Work}
-use Rattle.df_replica.specs.Below.{State as Replica}
-use Rattle.df_replica.specs.Lending.{GivesOwn}
-use Rattle.df_replica.specs.Serving.{next}
-use Rattle.df_replica.specs.Session.{Act, Exchange}
+use Rattle.df_replica.specs.{Below.{State as Replica}, Lending.{GivesOwn}, Serving.{next}, Session.{Act, Exchange}}
 use Rattle.df_session.specs.Links.{AreCalls, CallsMade, EndsCalls, More}
 
 -- each of these calls that is a read and Ok gives what is its own, over whatever is shown to it without chance, in the state of the machine that the calls before it lead to

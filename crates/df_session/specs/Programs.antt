@@ -1,13 +1,10 @@
 -- What a run of a program came to over a file, whichever program it is.
 use Rattle.std.specs.Prelude.{◌≡◌, [], ◌∷◌, Option, Some, None}
 use Rattle.df_base.specs.Log.{Sync}
-use Rattle.df_disk.specs.Adds.{AddsPart}
-use Rattle.df_disk.specs.Told.{Told}
+use Rattle.df_disk.specs.{Adds.{AddsPart}, Told.{Told}}
 use Rattle.df_layout.specs.declared.layout.Layout.{Layout}
 use Rattle.df_replica.specs.Opened.{StopsOpening}
-use Rattle.df_session.specs.Found.{FoundFile}
-use Rattle.df_session.specs.Laws.{CallsKeep}
-use Rattle.df_session.specs.Links.{CallsMade}
+use Rattle.df_session.specs.{Found.{FoundFile}, Laws.{CallsKeep}, Links.{CallsMade}}
 
 -- The file was found, mended and raised, on a disk that told t before it and n after it, and these calls were made on what was found, and no others; what is kept of them is what calls on an open file keep.
 pub record ServedFile (t n : Told) : Type 0 where

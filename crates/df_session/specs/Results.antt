@@ -2,17 +2,9 @@
 use Rattle.std.specs.Prelude.{◌≡◌, List, [], ◌∷◌, Option, Some, None}
 use Rattle.df_base.specs.Image.{IsImage}
 use Rattle.df_disk.specs.Told.{Told}
-use Rattle.df_model.specs.Commands.{Answer, Command, Given, IsCommandInRange, supplied_sums}
-use Rattle.df_model.specs.Memory.{memory_of}
-use Rattle.df_model.specs.Sense.{IsWork}
-use Rattle.df_model.specs.Supply.{Shown, next as over, result, shown_after}
-use Rattle.df_model.specs.Work.{Work}
-use Rattle.df_replica.specs.Below.{DataFile, Represents, State, memory, shape, spelling, told_after}
-use Rattle.df_replica.specs.Reading.{shown_of}
-use Rattle.df_replica.specs.Serving.{Firm, IsCall, Keeps, next}
-use Rattle.df_replica.specs.Supply.{IsSupplied}
-use Rattle.df_session.specs.Agreeing.{AgreeShown, AreSums}
-use Rattle.df_session.specs.Codec.{codec}
+use Rattle.df_model.specs.{Commands.{Answer, Command, Given, IsCommandInRange, supplied_sums}, Memory.{memory_of}, Sense.{IsWork}, Supply.{Shown, next as over, result, shown_after}, Work.{Work}}
+use Rattle.df_replica.specs.{Below.{DataFile, Represents, State, memory, shape, spelling, told_after}, Reading.{shown_of}, Serving.{Firm, IsCall, Keeps, next}, Supply.{IsSupplied}}
+use Rattle.df_session.specs.{Agreeing.{AgreeShown, AreSums}, Codec.{codec}}
 
 -- no command tells apart what agrees
 abbrev pub NextAgrees : Type 0

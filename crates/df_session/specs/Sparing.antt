@@ -2,10 +2,7 @@
 use Rattle.std.specs.Prelude.{List, [], ◌∷◌, Option, Some, None}
 use Rattle.df_disk.specs.Told.{Told}
 use Rattle.df_model.specs.Work.{Work}
-use Rattle.df_replica.specs.Below.{DataFile, State as Replica}
-use Rattle.df_replica.specs.Leaving.{SparesHeld}
-use Rattle.df_replica.specs.Serving.{next}
-use Rattle.df_replica.specs.Session.{Act, Exchange, acts_in, work_after}
+use Rattle.df_replica.specs.{Below.{DataFile, State as Replica}, Leaving.{SparesHeld}, Serving.{next}, Session.{Act, Exchange, acts_in, work_after}}
 use Rattle.df_session.specs.Links.{AreCalls, CallsMade, EndsCalls, More}
 
 -- each of these calls, by the events that it added, spares each block that was held before it, but the running trailer's next

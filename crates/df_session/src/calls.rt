@@ -1,10 +1,8 @@
 // The one call that a command asks for, and what is heard of it.
 ghost use Rattle.std.specs.Prelude.{◌≡◌, true, OnOk};
 ghost use Rattle.df_base.specs.Causes.{IsBlamed};
-ghost use Rattle.df_model.specs.Called.{command_of};
-ghost use Rattle.df_model.specs.Commands.{Scrub};
-ghost use Rattle.df_session.specs.Calls.{HasAnswer};
-ghost use Rattle.df_session.specs.Endings.{KeepsTour, MakesTo, is_disk_fault};
+ghost use Rattle.df_model.specs.{Called.{command_of}, Commands.{Scrub}};
+ghost use Rattle.df_session.specs.{Calls.{HasAnswer}, Endings.{KeepsTour, MakesTo, is_disk_fault}};
 
 use crate::hearing::{Fault, hear};
 use df_disk::Disk;

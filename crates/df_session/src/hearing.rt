@@ -1,7 +1,6 @@
 // What is heard of an answer: the answer itself, or why no call may follow it.
 ghost use Rattle.std.specs.Prelude.{◌≡◌};
-ghost use Rattle.df_session.specs.Calls.{blames, is_fault};
-ghost use Rattle.df_session.specs.Endings.{heard, unless_damaged};
+ghost use Rattle.df_session.specs.{Calls.{blames, is_fault}, Endings.{heard, unless_damaged}};
 
 use df_base::BlamesDisk;
 use df_layout::{Class, Place};

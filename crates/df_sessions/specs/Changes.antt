@@ -1,7 +1,6 @@
 -- The sessions after a list of requests and stored replies, from the first on.
 use Rattle.std.specs.Prelude.{ℕ, List, [], ◌∷◌}
-use Rattle.df_sessions.specs.declared.session.Session.{Session}
-use Rattle.df_sessions.specs.Table.{with_request, with_reply_stored}
+use Rattle.df_sessions.specs.{declared.session.Session.{Session}, Table.{with_request, with_reply_stored}}
 
 -- a client's request, or the checksum of the reply that was stored for a place
 pub data Change : Type 0 where

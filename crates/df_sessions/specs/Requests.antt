@@ -2,9 +2,7 @@
 use Rattle.std.specs.Prelude.{List, [], ◌∷◌, map}
 use Rattle.df_theory.specs.Units
 use Rattle.df_theory.specs.Sessions
-use Rattle.df_sessions.specs.declared.session.Session.{Session}
-use Rattle.df_sessions.specs.Changes.{Change}
-use Rattle.df_sessions.specs.Changes.Change.{Request, Reply}
+use Rattle.df_sessions.specs.{declared.session.Session.{Session}, Changes.{Change}, Changes.Change.{Request, Reply}}
 
 -- the theory's session
 abbrev pub session_of : Session → Units.Session

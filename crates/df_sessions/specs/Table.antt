@@ -1,6 +1,5 @@
 -- What a session table holds, and what a request and a stored reply make of it.
-use Rattle.std.specs.Prelude.{◌≡◌, ◌≢◌, ℕ, zero, suc, ◌≤◌, Bool, ◌==◌, nat_eq, if◌then◌else◌, List, [], ◌∷◌, length, map, slice_get, Some, None, IsSome}
-use Rattle.std.specs.List.{AllByRecursion, IsDistinct, position}
+use Rattle.std.specs.{Prelude.{◌≡◌, ◌≢◌, ℕ, zero, suc, ◌≤◌, Bool, ◌==◌, nat_eq, if◌then◌else◌, List, [], ◌∷◌, length, map, slice_get, Some, None, IsSome}, List.{AllByRecursion, IsDistinct, position}}
 use Rattle.df_sessions.specs.declared.session.Session.{Session}
 
 -- the sessions in order of their places, and how many there can be

@@ -1,12 +1,9 @@
 // What the layers above rest on: the table is the theory's list of sessions, and what stays so of each session.
-ghost use Rattle.std.specs.Prelude.{◌≡◌, ◌<◌, ℕ, Bool, [], List, nat_eq, Some, IsTrue};
-ghost use Rattle.std.specs.List.{AllByRecursion, IsDistinct, list_all};
-ghost use Rattle.df_sessions.specs.Changes.{Change, changed_by, sessions_after};
+ghost use Rattle.std.specs.{Prelude.{◌≡◌, ◌<◌, ℕ, Bool, [], List, nat_eq, Some, IsTrue}, List.{AllByRecursion, IsDistinct, list_all}};
+ghost use Rattle.df_sessions.specs.{Changes.{Change, changed_by, sessions_after}, Requests.{requests_in, requests_of, sessions_of}, Table.{ops_of, requested, with_request, with_reply_stored}};
+ghost use Rattle.df_sessions.specs.declared.session.Session.{Session};
 ghost use Rattle.df_theory.specs.Sessions;
 ghost use Rattle.df_theory.specs.Units.{Message};
-ghost use Rattle.df_sessions.specs.Requests.{requests_in, requests_of, sessions_of};
-ghost use Rattle.df_sessions.specs.Table.{ops_of, requested, with_request, with_reply_stored};
-ghost use Rattle.df_sessions.specs.declared.session.Session.{Session};
 
 /// After a list of changes the table is the theory's list of sessions after prepares that ask for the same, whatever replies were stored.
 pub fn requests_of_a_table()

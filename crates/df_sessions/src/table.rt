@@ -1,13 +1,9 @@
 // The table of sessions, in order of first request; it takes no memory.
-ghost use Rattle.std.specs.Prelude.{◌≡◌, ◌≢◌, ◌<◌, ◌≤◌, ◌⊎◌, ◌++◌, [], ◌∷◌, ℕ, List, Some, length, slice_get, slice_set};
+ghost use Rattle.std.specs.{Prelude.{◌≡◌, ◌≢◌, ◌<◌, ◌≤◌, ◌⊎◌, ◌++◌, [], ◌∷◌, ℕ, List, Some, length, slice_get, slice_set}, List.{position}};
 ghost use Rattle.arrayvec.specs.ArrayVec.{array_vec_len};
-ghost use Rattle.std.specs.List.{position};
-ghost use Rattle.df_sessions.specs.Table.{AreDistinctClients, AreNamed, IsSessionTable, IsKnownClient, has_client, requested, with_request, with_reply_stored};
-ghost use Rattle.df_sessions.specs.Changes.{Change, sessions_after};
-ghost use Rattle.df_sessions.specs.Changes.Change.{Request, Reply};
-ghost use Rattle.df_sessions.specs.Requests.{sessions_of};
-ghost use Rattle.df_theory.specs.Sessions.{noted, session_of_header};
-ghost use Rattle.df_theory.specs.Units.{Header};
+ghost use Rattle.df_sessions.specs.{Table.{AreDistinctClients, AreNamed, IsSessionTable, IsKnownClient, has_client, requested, with_request, with_reply_stored}, Changes.{Change, sessions_after}};
+ghost use Rattle.df_sessions.specs.{Changes.Change.{Request, Reply}, Requests.{sessions_of}};
+ghost use Rattle.df_theory.specs.{Sessions.{noted, session_of_header}, Units.{Header}};
 
 use crate::Session;
 use arrayvec::ArrayVec;

@@ -1,6 +1,5 @@
 // What all units of a file show of three counters, and what that says of the state that was found.
-ghost use Rattle.std.specs.Prelude.{◌↔◌, IsTrue};
-ghost use Rattle.std.specs.Bool.{OnFalse};
+ghost use Rattle.std.specs.{Prelude.{◌↔◌, IsTrue}, Bool.{OnFalse}};
 ghost use Rattle.df_stamps.specs.Evidence.{IsBehind, IsUpToDate, IsLost, IsComplete};
 
 /// The greatest numbers that were seen, zero where nothing was.

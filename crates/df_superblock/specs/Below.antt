@@ -1,6 +1,5 @@
 -- What the contracts here and above cite of the crates below this one.
-pub use Rattle.df_base.specs.Causes.{HasCause, IsBlamed}
-pub use Rattle.df_base.specs.Log.{Sync}
+pub use Rattle.df_base.specs.{Causes.{HasCause, IsBlamed}, Log.{Sync}}
 pub use Rattle.df_disk.specs.Adds.{Adds}
 pub use Rattle.df_format.specs.Copies.{own_copy}
 pub use Rattle.df_quorum.specs.Quorum.{nothing}

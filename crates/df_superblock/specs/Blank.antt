@@ -3,9 +3,7 @@ use Rattle.std.specs.Prelude.{◌≡◌, ◌<◌, ℕ, true, List, get_or}
 use Rattle.df_base.specs.Image.{Image}
 use Rattle.df_layout.specs.declared.damage.Class.TheVariants.{Blank}
 use Rattle.df_format.specs.Copies.{is_blank_copy}
-use Rattle.df_quorum.specs.declared.slot.Slot.{Slot}
-use Rattle.df_quorum.specs.declared.slot.Slot.TheVariants.{Bad}
-use Rattle.df_quorum.specs.Quorum.{nothing}
+use Rattle.df_quorum.specs.{declared.slot.Slot.{Slot}, declared.slot.Slot.TheVariants.{Bad}, Quorum.{nothing}}
 
 -- all four sectors of the superblock are zeros
 abbrev pub IsUnformatted : Image → Type 0

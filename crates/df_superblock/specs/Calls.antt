@@ -1,23 +1,12 @@
 -- What the calls on the copies answer, and what they say of the log that a disk tells.
 use Rattle.std.specs.Prelude.{◌≡◌, ◌≢◌, ◌<◌, ◌≤◌, ℕ, true, false, Bool, IsTrue, List, get_or, Option, Some, None, Result, Ok, Err}
-use Rattle.df_base.specs.Image.{Image}
-use Rattle.df_base.specs.Log.{Event, Log, IsLog, IsLeft, now}
-use Rattle.df_disk.specs.Told.{Told}
-use Rattle.df_disk.specs.Adds.{AddsPart, after_all, PassedTo}
-use Rattle.df_layout.specs.declared.damage.Class.{Class}
-use Rattle.df_layout.specs.declared.damage.Class.TheVariants.{Stale}
-use Rattle.df_layout.specs.declared.places.Place.{Place}
-use Rattle.df_layout.specs.declared.places.Zone.TheVariants.{Superblock}
-use Rattle.df_format.specs.Own.{place_in}
-use Rattle.df_format.specs.declared.superblock.SuperCopy.{SuperCopy}
-use Rattle.df_format.specs.declared.superblock.SuperFields.{SuperFields}
+use Rattle.df_base.specs.{Image.{Image}, Log.{Event, Log, IsLog, IsLeft, now}}
+use Rattle.df_disk.specs.{Told.{Told}, Adds.{AddsPart, after_all, PassedTo}}
+use Rattle.df_layout.specs.{declared.damage.Class.{Class}, declared.damage.Class.TheVariants.{Stale}, declared.places.Place.{Place}, declared.places.Zone.TheVariants.{Superblock}}
+use Rattle.df_format.specs.{Own.{place_in}, declared.superblock.SuperCopy.{SuperCopy}, declared.superblock.SuperFields.{SuperFields}}
 use Rattle.df_format.specs.Copies.{Content, content_at, content_in_copy, content_with, if_here, own_copy}
-use Rattle.df_quorum.specs.declared.slot.Slot.{Slot}
-use Rattle.df_quorum.specs.declared.slot.Slot.TheVariants.{Sound, Bad}
-use Rattle.df_quorum.specs.declared.choice.Chosen.{Chosen}
-use Rattle.df_quorum.specs.Quorum.{IsChosenContent, copies_of, copy_of, nothing}
-use Rattle.df_superblock.specs.Copies.{AreQuiet, AreEqual, IsMisled, IsOldOrNew, MayUpdate, IsChoice}
-use Rattle.df_superblock.specs.declared.updates.UpdateError.{UpdateError}
+use Rattle.df_quorum.specs.{declared.slot.Slot.{Slot}, declared.slot.Slot.TheVariants.{Sound, Bad}, declared.choice.Chosen.{Chosen}, Quorum.{IsChosenContent, copies_of, copy_of, nothing}}
+use Rattle.df_superblock.specs.{Copies.{AreQuiet, AreEqual, IsMisled, IsOldOrNew, MayUpdate, IsChoice}, declared.updates.UpdateError.{UpdateError}}
 use Rattle.df_superblock.specs.declared.updates.UpdateError.TheVariants.{Damaged, DiskFault}
 
 -- ---- reads

@@ -1,11 +1,8 @@
 -- The four copies of the superblock over a log: what a stop may leave of them at a moment of a call.
 use Rattle.std.specs.Prelude.{◌≡◌, ◌≢◌, ◌⊎◌, ◌<◌, ◌≤◌, ℕ, true, false, List, [], ◌∷◌, Some}
-use Rattle.df_base.specs.Image.{Image, covers}
-use Rattle.df_base.specs.Log.{Event, Write, Sync, Stop, Log, IsLeft, loose, now}
-use Rattle.df_base.specs.Moments.{Extends}
+use Rattle.df_base.specs.{Image.{Image, covers}, Log.{Event, Write, Sync, Stop, Log, IsLeft, loose, now}, Moments.{Extends}}
 use Rattle.df_format.specs.Copies.{Content, content_at, rank_of_copy}
-use Rattle.df_quorum.specs.declared.choice.Chosen.{Chosen}
-use Rattle.df_quorum.specs.Quorum.{Copies, IsChosenContent, AreMembers}
+use Rattle.df_quorum.specs.{declared.choice.Chosen.{Chosen}, Quorum.{Copies, IsChosenContent, AreMembers}}
 
 -- no copy's sector was written since the last sync or stop: the four copies are sectors 0 to 3
 abbrev pub AreQuiet : Log → Type 0

@@ -1,8 +1,7 @@
 -- Which events the writers of copies add.
 use Rattle.std.specs.Prelude.{◌+◌, ℕ, true, false, Bool, List, [], ◌∷◌, ◌++◌}
 use Rattle.df_base.specs.Log.{Event, Write, Sync}
-use Rattle.df_format.specs.Super.{copy_bytes}
-use Rattle.df_format.specs.declared.superblock.SuperFields.{SuperFields}
+use Rattle.df_format.specs.{Super.{copy_bytes}, declared.superblock.SuperFields.{SuperFields}}
 
 -- the write of a copy of these fields; copy n is sector n
 abbrev pub copy_written : ℕ → SuperFields → Event

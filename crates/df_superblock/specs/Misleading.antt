@@ -1,9 +1,6 @@
 -- Why a repair must be told of the history: copies that grew step by step from a chosen content, and whose repair a stop misleads.
 use Rattle.std.specs.Prelude.{◌≡◌, ◌⊎◌, ◌<◌, ℕ, false, List, [], ◌∷◌, ◌++◌, Some}
-use Rattle.df_theory.specs.Units.{CopyPlace, Content, CopyUnit, Units}
-use Rattle.df_theory.specs.Copies.{IsNextContent, IsChosen}
-use Rattle.df_theory.specs.UnitLog.{UnitLog, loose, now, settled, wrote, PutsOne}
-use Rattle.df_theory.specs.Chance.{InImages, InPool, InWrites}
+use Rattle.df_theory.specs.{Units.{CopyPlace, Content, CopyUnit, Units}, Copies.{IsNextContent, IsChosen}, UnitLog.{UnitLog, loose, now, settled, wrote, PutsOne}, Chance.{InImages, InPool, InWrites}}
 
 -- a stop now may leave these copies: any at the loose ones, and at all others what is shown now
 abbrev pub MayLeaveCopies : UnitLog → Units → Type 0

@@ -3,12 +3,8 @@ use Rattle.std.specs.Prelude.{◌+◌, ℕ, true, false, Bool, List, [], ◌∷�
 use Rattle.df_base.specs.Log.{Event}
 use Rattle.df_layout.specs.declared.layout.Layout.{Layout}
 use Rattle.df_format.specs.declared.superblock.SuperFields.{SuperFields}
-use Rattle.df_theory.specs.Units.{Units}
-use Rattle.df_theory.specs.Runs.{Puts, Step, Syncs}
-use Rattle.df_theory.specs.MendLaws.{copy_steps}
-use Rattle.df_theory.specs.Device.{AreSteps}
-use Rattle.df_units.specs.Format.{format_of}
-use Rattle.df_units.specs.Puts.{put_copy}
+use Rattle.df_theory.specs.{Units.{Units}, Runs.{Puts, Step, Syncs}, MendLaws.{copy_steps}, Device.{AreSteps}}
+use Rattle.df_units.specs.{Format.{format_of}, Puts.{put_copy}}
 
 -- a copy lies at the same sector in every layout, so that these are its steps in each
 abbrev pub AreStepsOfCopies : List Event → List Step → Type 0

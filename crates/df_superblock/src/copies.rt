@@ -1,11 +1,8 @@
 // Reads and writes of single copies, and which of the four places is written. A copy is durable before its writer answers.
 ghost use Rattle.std.specs.Prelude.{◌≡◌, ◌<◌, [], ◌∷◌, length, IfNone, IfOk, IfSome, OnOk};
 ghost use Rattle.df_base.specs.declared.TheConstants.{SECTOR};
-ghost use Rattle.df_superblock.specs.Below.{HasCause, Sync, Adds, own_copy};
-ghost use Rattle.df_superblock.specs.Blank.{AreBlank, IsFirstWrittenOf};
-ghost use Rattle.df_superblock.specs.Calls.{ShowsSector, ShowsCopySlot, ShowsSlots, ShowsCopies, slot_of};
-ghost use Rattle.df_superblock.specs.Events.{copy_written};
-ghost use Rattle.df_superblock.specs.Steps.{AreStepsOfCopies, copy_write_steps};
+ghost use Rattle.df_superblock.specs.{Below.{HasCause, Sync, Adds, own_copy}, Blank.{AreBlank, IsFirstWrittenOf}, Calls.{ShowsSector, ShowsCopySlot, ShowsSlots, ShowsCopies, slot_of}};
+ghost use Rattle.df_superblock.specs.{Events.{copy_written}, Steps.{AreStepsOfCopies, copy_write_steps}};
 
 use df_base::Failed;
 use df_buffers::{ProbeRoom, Raw, SuperSector};

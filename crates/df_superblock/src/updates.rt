@@ -3,8 +3,7 @@
 ghost use Rattle.std.specs.Prelude.{◌≡◌, ◌<◌, ◌≤◌, ℕ, IsTrue, ◌↔◌, length, IfSome, IfNone, OnOk};
 ghost use Rattle.df_superblock.specs.Below.{HasCause, IsBlamed, Adds, update_steps, put_copies};
 ghost use Rattle.df_superblock.specs.Calls.{SlotHolds, IsCopyRead, IsFirstMissing, IsUpdateVerdict, IsJudged, IsUndamaged, AddsUpdate, UpdatesSafely, ShowsEqual, EndsEqual, KeepsMembers, RepairsUnlessMisled, EndsRepaired, class_of_written_slot, is_update_fault};
-ghost use Rattle.df_superblock.specs.Events.{update_events, mend_events, repair_events};
-ghost use Rattle.df_superblock.specs.Steps.{AreStepsOfCopies, repair_steps};
+ghost use Rattle.df_superblock.specs.{Events.{update_events, mend_events, repair_events}, Steps.{AreStepsOfCopies, repair_steps}};
 
 use crate::copies::{read_all, write_copy};
 use df_base::{BlamesDisk, Failed};

@@ -2,26 +2,15 @@
 use Rattle.std.specs.Prelude.{◌≡◌, ◌≢◌, ◌⊎◌, ◌+◌, ℕ, Bool, true, false, List, [], ◌∷◌, ◌++◌, if◌then◌else◌, replicate, Option, Some, None, Result, Ok, Err, IfErr, IfOk, OnOk}
 use Rattle.df_disk.specs.Told.{Told}
 use Rattle.df_layout.specs.declared.layout.Layout.{Layout}
-use Rattle.df_model.specs.Commands.{Advance, Begin, Command}
-use Rattle.df_model.specs.Refusals.{append_refusals, first_refusal}
-use Rattle.df_model.specs.declared.answers.Progress.{Progress}
+use Rattle.df_model.specs.{Commands.{Advance, Begin, Command}, Refusals.{append_refusals, first_refusal}, declared.answers.Progress.{Progress}, declared.errors.StepError.{StepError}}
 use Rattle.df_model.specs.declared.answers.Progress.TheVariants as progress
 use Rattle.df_model.specs.declared.errors.AppendError.TheVariants as append
 use Rattle.df_model.specs.declared.errors.BeginError.TheVariants as begin
-use Rattle.df_model.specs.declared.errors.StepError.{StepError}
 use Rattle.df_model.specs.declared.errors.StepError.TheVariants as step
-use Rattle.df_rows.specs.declared.command.Command.{Command as Change}
-use Rattle.df_rows.specs.Commands.{Map}
-use Rattle.df_rows.specs.Tables.{with_command}
-use Rattle.df_session.specs.Beginning.{begin_refusal}
-use Rattle.df_session.specs.Below.{State as Replica, memory}
-use Rattle.df_session.specs.Stepping.{OfRunning, advanced, finished}
-use Rattle.df_table.specs.declared.ending.Ending.{Ending}
-use Rattle.df_table.specs.declared.ending.Ending.TheVariants.{Damaged, Disk, OpsSpent}
-use Rattle.df_table.specs.declared.session.Session.{Session}
-use Rattle.df_table.specs.Policy.{checkpoint, line_commands, opening, room_for, the_client, writes}
-use Rattle.df_table.specs.Ready.{IsReadyReplica}
-use Rattle.df_table.specs.Turns.{EndIn, IsOfCall, MakeAll}
+use Rattle.df_rows.specs.{declared.command.Command.{Command as Change}, Commands.{Map}, Tables.{with_command}}
+use Rattle.df_session.specs.{Beginning.{begin_refusal}, Below.{State as Replica, memory}, Stepping.{OfRunning, advanced, finished}}
+use Rattle.df_table.specs.{declared.ending.Ending.{Ending}, declared.ending.Ending.TheVariants.{Damaged, Disk, OpsSpent}, declared.session.Session.{Session}}
+use Rattle.df_table.specs.{Policy.{checkpoint, line_commands, opening, room_for, the_client, writes}, Ready.{IsReadyReplica}, Turns.{EndIn, IsOfCall, MakeAll}}
 
 -- all of these commands were made and accepted; or the first of them were made, and this ended them
 abbrev pub Comes : {T : Type 0} → List Command → (s t : Replica) → (old new : Option Told) → Result T Ending → Type 0

@@ -4,19 +4,11 @@ use Rattle.df_base.specs.declared.TheConstants.{GREATEST}
 use Rattle.df_disk.specs.Told.{Told}
 use Rattle.df_layout.specs.declared.layout.Layout.{Layout}
 use Rattle.df_theory.specs.View.{View, boot_of}
-use Rattle.df_lines.specs.Room.{line_bound}
-use Rattle.df_rows.specs.Grammar.{Said, SaysTableLine}
-use Rattle.df_lines.specs.Lines.{Begins}
-use Rattle.df_rows.specs.Tables.{Table}
-use Rattle.df_session.specs.Below.{DataFile, State as Replica}
-use Rattle.df_session.specs.Following.{MayOpen}
-use Rattle.df_table.specs.declared.ending.Ending.{Ending}
-use Rattle.df_table.specs.declared.ending.Ending.TheVariants.{OpsSpent, SequenceSpent}
-use Rattle.df_table.specs.declared.status.Status.{Status}
-use Rattle.df_table.specs.declared.status.Status.TheVariants.{Done, Memory}
-use Rattle.df_table.specs.Laws.{FindsIn}
-use Rattle.df_table.specs.Outside.{Faults, HasTableCauses, NoneFailed, Outside}
-use Rattle.df_table.specs.Run.{RunsTable}
+use Rattle.df_lines.specs.{Room.{line_bound}, Lines.{Begins}}
+use Rattle.df_rows.specs.{Grammar.{Said, SaysTableLine}, Tables.{Table}}
+use Rattle.df_session.specs.{Below.{DataFile, State as Replica}, Following.{MayOpen}}
+use Rattle.df_table.specs.{declared.ending.Ending.{Ending}, declared.ending.Ending.TheVariants.{OpsSpent, SequenceSpent}, declared.status.Status.{Status}}
+use Rattle.df_table.specs.{declared.status.Status.TheVariants.{Done, Memory}, Laws.{FindsIn}, Outside.{Faults, HasTableCauses, NoneFailed, Outside}, Run.{RunsTable}}
 use Rattle.df_table.specs.Session.{Halt, ServesLines, script_budget}
 
 -- each line of the text is one of a table's script, within the bound of a layout and the budget

@@ -1,27 +1,14 @@
 -- What is kept of the table of a file after the barrier of an open: the puts and drops that were answered are there from their answers on, wherever a stop falls.
 use Rattle.std.specs.Prelude.{◌≡◌, ℕ, List, [], ◌∷◌, ◌++◌, take, drop, Option, Some, None, Ok}
-use Rattle.df_base.specs.Image.{Image, IsImage}
-use Rattle.df_base.specs.Log.{Event, IsLeft, Log, Sync}
-use Rattle.df_base.specs.Moments.{EachMoment}
+use Rattle.df_base.specs.{Image.{Image, IsImage}, Log.{Event, IsLeft, Log, Sync}, Moments.{EachMoment}}
 use Rattle.df_disk.specs.Told.{Told, did}
-use Rattle.df_theory.specs.Device.{IsSafeDisk, NoChanceOf}
-use Rattle.df_theory.specs.Found.{IsFound}
-use Rattle.df_theory.specs.View.{View}
+use Rattle.df_theory.specs.{Device.{IsSafeDisk, NoChanceOf}, Found.{IsFound}, View.{View}}
 use Rattle.df_units.specs.Bytes.{unit_at}
 use Rattle.df_model.specs.Commands.{Advance, Answer, Append, Command, Flush, Stage, ToAppend}
-use Rattle.df_rows.specs.declared.command.Command.{Command as Change}
-use Rattle.df_rows.specs.Commands.{IsCommand, body_of}
-use Rattle.df_rows.specs.Tables.{Table, with_commands}
-use Rattle.df_session.specs.Acknowledging.{IsUntil, WereAnswered}
-use Rattle.df_session.specs.Anew.{begun_after}
-use Rattle.df_session.specs.Below.{AreDistinctUnits, DataFile, State as Replica, shape}
-use Rattle.df_session.specs.Following.{MayOpen}
-use Rattle.df_session.specs.Keeping.{over}
-use Rattle.df_session.specs.Links.{CallsMade, events_made, list_of}
-use Rattle.df_session.specs.Serving.{format}
-use Rattle.df_session.specs.Session.{Act, Exchange, acts_in}
-use Rattle.df_table.specs.Policy.{the_client}
-use Rattle.df_table.specs.Table.{HasTable, IsObjectTable}
+use Rattle.df_rows.specs.{declared.command.Command.{Command as Change}, Commands.{IsCommand, body_of}, Tables.{Table, with_commands}}
+use Rattle.df_session.specs.{Acknowledging.{IsUntil, WereAnswered}, Anew.{begun_after}, Below.{AreDistinctUnits, DataFile, State as Replica, shape}, Following.{MayOpen}, Keeping.{over}}
+use Rattle.df_session.specs.{Links.{CallsMade, events_made, list_of}, Serving.{format}, Session.{Act, Exchange, acts_in}}
+use Rattle.df_table.specs.{Policy.{the_client}, Table.{HasTable, IsObjectTable}}
 
 -- ---- puts and drops among calls
 

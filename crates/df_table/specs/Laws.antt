@@ -1,37 +1,17 @@
 -- What holds of tables of files: an image and a view have one, an opening finds one thing, a table that it finds is the file's, rows stand in their order in blocks, and a session that appends nothing leaves the table.
 use Rattle.std.specs.Prelude.{◌≡◌, ℕ, [], ◌++◌, Option, None, Some, Result, Ok}
 use Rattle.std.specs.FinMap as map
-use Rattle.df_base.specs.Image.{IsImage}
-use Rattle.df_base.specs.Log.{Sync}
+use Rattle.df_base.specs.{Image.{IsImage}, Log.{Sync}}
 use Rattle.df_disk.specs.Told.{Told, did}
 use Rattle.df_layout.specs.declared.layout.Layout.{Layout}
-use Rattle.df_theory.specs.Found.{IsFound}
-use Rattle.df_theory.specs.Units.{Units}
-use Rattle.df_theory.specs.View.{View}
-use Rattle.df_units.specs.Bytes.{unit_at}
-use Rattle.df_units.specs.Making.{first_view}
-use Rattle.df_rows.specs.Blocks.{bodies_of}
-use Rattle.df_rows.specs.Commands.{Map}
-use Rattle.df_rows.specs.Limits.{rows_in_block}
-use Rattle.df_rows.specs.Tables.{Table}
-use Rattle.df_model.specs.Memory.{Memory, memory_of}
-use Rattle.df_model.specs.Supply.{Shown}
-use Rattle.df_model.specs.Work.{Work, kept}
-use Rattle.df_session.specs.Begun.{begun_work}
-use Rattle.df_session.specs.Below.{DataFile, State as Replica, memory, shape, spelling}
-use Rattle.df_session.specs.Laws.{CallsKeep}
-use Rattle.df_session.specs.Links.{CallsMade, list_of}
-use Rattle.df_session.specs.Opened.{Mends}
-use Rattle.df_session.specs.Reading.{shown_of}
-use Rattle.df_session.specs.Serving.{Firm, Keeps}
-use Rattle.df_session.specs.Session.{acts_in}
-use Rattle.df_table.specs.declared.ending.Ending.{Ending}
-use Rattle.df_table.specs.Keeping.{KeepsTable, LeaveTable}
-use Rattle.df_table.specs.Opening.{FindsTable}
-use Rattle.df_table.specs.Policy.{checkpoint}
-use Rattle.df_table.specs.Ready.{IsReadyReplica}
-use Rattle.df_table.specs.Table.{IsObjectTable, ShowsBodies, empty_table, references_of}
-use Rattle.df_table.specs.Turns.{MakeAll}
+use Rattle.df_theory.specs.{Found.{IsFound}, Units.{Units}, View.{View}}
+use Rattle.df_units.specs.{Bytes.{unit_at}, Making.{first_view}}
+use Rattle.df_rows.specs.{Blocks.{bodies_of}, Commands.{Map}, Limits.{rows_in_block}, Tables.{Table}}
+use Rattle.df_model.specs.{Memory.{Memory, memory_of}, Supply.{Shown}, Work.{Work, kept}}
+use Rattle.df_session.specs.{Begun.{begun_work}, Below.{DataFile, State as Replica, memory, shape, spelling}, Laws.{CallsKeep}, Links.{CallsMade, list_of}, Opened.{Mends}, Reading.{shown_of}}
+use Rattle.df_session.specs.{Serving.{Firm, Keeps}, Session.{acts_in}}
+use Rattle.df_table.specs.{declared.ending.Ending.{Ending}, Keeping.{KeepsTable, LeaveTable}, Opening.{FindsTable}, Policy.{checkpoint}, Ready.{IsReadyReplica}}
+use Rattle.df_table.specs.{Table.{IsObjectTable, ShowsBodies, empty_table, references_of}, Turns.{MakeAll}}
 
 -- ---- one table
 

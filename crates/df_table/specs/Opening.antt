@@ -1,28 +1,14 @@
 -- What an opening finds in a file: its table, or the first thing that shows that the file has none.
-use Rattle.std.specs.Prelude.{◌≡◌, ◌⊎◌, ◌<◌, ◌≤◌, ◌%◌, ◌+◌, ℕ, List, [], ◌∷◌, ◌++◌, length, Option, Some, None, Result, Ok, Err}
-use Rattle.std.specs.List.{slice_get}
-use Rattle.df_layout.specs.declared.damage.Class.{Class}
-use Rattle.df_layout.specs.declared.layout.Layout.{Layout}
-use Rattle.df_layout.specs.declared.places.Place.{Place}
-use Rattle.df_layout.specs.declared.places.Zone.{Zone}
+use Rattle.std.specs.{Prelude.{◌≡◌, ◌⊎◌, ◌<◌, ◌≤◌, ◌%◌, ◌+◌, ℕ, List, [], ◌∷◌, ◌++◌, length, Option, Some, None, Result, Ok, Err}, List.{slice_get}}
+use Rattle.df_layout.specs.{declared.damage.Class.{Class}, declared.layout.Layout.{Layout}, declared.places.Place.{Place}, declared.places.Zone.{Zone}}
 use Rattle.df_layout.specs.declared.places.Zone.TheVariants.{ClientReplies, Grid, WalPrepares}
 use Rattle.df_theory.specs.Units.{Block, Message, Session}
-use Rattle.df_model.specs.Commands.{ReadBlock, ReadPrepare}
-use Rattle.df_model.specs.declared.reading.PrepareError.{PrepareError}
-use Rattle.df_model.specs.declared.reading.PrepareError.TheVariants as prepare
-use Rattle.df_model.specs.declared.reading.ReadError.{ReadError}
-use Rattle.df_model.specs.declared.reading.ReadError.TheVariants as read
-use Rattle.df_model.specs.Memory.{Memory}
+use Rattle.df_model.specs.{Commands.{ReadBlock, ReadPrepare}, declared.reading.PrepareError.{PrepareError}, declared.reading.ReadError.{ReadError}, Memory.{Memory}}
 use Rattle.df_model.specs.Supply.{Shown, block_read, message_given}
-use Rattle.df_rows.specs.declared.command.Command.{Command}
-use Rattle.df_rows.specs.Blocks.{TableTakes, TakesAll}
-use Rattle.df_rows.specs.Limits.{blocks_of_table}
-use Rattle.df_rows.specs.Rows.{Entry}
-use Rattle.df_rows.specs.Tables.{Table, with_command, with_commands, with_rows}
-use Rattle.df_table.specs.declared.ending.Ending.{Ending}
-use Rattle.df_table.specs.declared.ending.Ending.TheVariants.{Damaged, Disk, NotTable}
-use Rattle.df_table.specs.declared.opening.Taken.{Taken}
-use Rattle.df_table.specs.Policy.{the_client}
+use Rattle.df_model.specs.declared.reading.PrepareError.TheVariants as prepare
+use Rattle.df_model.specs.declared.reading.ReadError.TheVariants as read
+use Rattle.df_rows.specs.{declared.command.Command.{Command}, Blocks.{TableTakes, TakesAll}, Limits.{blocks_of_table}, Rows.{Entry}, Tables.{Table, with_command, with_commands, with_rows}}
+use Rattle.df_table.specs.{declared.ending.Ending.{Ending}, declared.ending.Ending.TheVariants.{Damaged, Disk, NotTable}, declared.opening.Taken.{Taken}, Policy.{the_client}}
 use Rattle.df_table.specs.Table.{CommandFollows, FollowAll, empty_table}
 
 abbrev pub place_at : Zone → ℕ → Place

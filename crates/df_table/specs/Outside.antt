@@ -5,10 +5,8 @@ use Rattle.df_program.specs.One as one
 use Rattle.df_program.specs.One.{Faults}
 use Rattle.df_program.specs.Telling as telling
 use Rattle.df_program.specs.declared.turn.Turn as turns
-use Rattle.df_table.specs.declared.status.Status.{Status}
-use Rattle.df_table.specs.declared.status.Status.TheVariants.{DiskFault, Memory, ReadFault, Refused, Words, WriteFault}
-pub use Rattle.df_program.specs.One.{Faults, NoneFailed, Outside, around, counts}
-pub use Rattle.df_program.specs.Telling.{Blames}
+use Rattle.df_table.specs.{declared.status.Status.{Status}, declared.status.Status.TheVariants.{DiskFault, Memory, ReadFault, Refused, Words, WriteFault}}
+pub use Rattle.df_program.specs.{One.{Faults, NoneFailed, Outside, around, counts}, Telling.{Blames}}
 
 -- each fault has its cause
 abbrev pub HasTableCauses : (before now : Faults) → Status → Type 0

@@ -1,18 +1,10 @@
 -- The machine's commands that a table's program asks for: all of a session is a list of them.
-use Rattle.std.specs.Prelude.{ℕ, ◌+◌, ◌-◌, Bool, nat_lt, if◌then◌else◌, List, [], ◌∷◌, ◌++◌, map, replicate}
-use Rattle.std.specs.Fork.{slice_chunk}
-use Rattle.std.specs.List.{range_with_len}
+use Rattle.std.specs.{Prelude.{ℕ, ◌+◌, ◌-◌, Bool, nat_lt, if◌then◌else◌, List, [], ◌∷◌, ◌++◌, map, replicate}, Fork.{slice_chunk}, List.{range_with_len}}
 use Rattle.std.specs.FinMap as maps
 use Rattle.df_layout.specs.declared.layout.Layout.{Layout}
-use Rattle.df_model.specs.Blocks.{entry, sum_at}
-use Rattle.df_model.specs.Commands.{Advance, Append, Begin, Command, ReadBlock, ReadPrepare, Release, Reply, WriteBlock}
-use Rattle.df_model.specs.Memory.{Memory}
+use Rattle.df_model.specs.{Blocks.{entry, sum_at}, Commands.{Advance, Append, Begin, Command, ReadBlock, ReadPrepare, Release, Reply, WriteBlock}, Memory.{Memory}}
 use Rattle.df_model.specs.Refusals.{next_request, session_of_client}
-use Rattle.df_rows.specs.declared.command.Command.{Command as Change}
-use Rattle.df_rows.specs.Blocks.{bodies_of}
-use Rattle.df_rows.specs.Commands.{Map, body_of}
-use Rattle.df_rows.specs.Limits.{rows_in_block}
-use Rattle.df_rows.specs.Rows.{rows_of}
+use Rattle.df_rows.specs.{declared.command.Command.{Command as Change}, Blocks.{bodies_of}, Commands.{Map, body_of}, Limits.{rows_in_block}, Rows.{rows_of}}
 
 -- the client whose requests the puts and drops are
 abbrev pub the_client : ℕ

@@ -1,19 +1,13 @@
 -- What is true of the replica of a table's file between two lines: so no call is refused but for want of ops or sequences.
-use Rattle.std.specs.Prelude.{◌≡◌, ◌≤◌, ◌+◌, ◌*◌, ℕ, true, false, List, [], length, map, vec_len, Some, None}
+use Rattle.std.specs.{Prelude.{◌≡◌, ◌≤◌, ◌+◌, ◌*◌, ℕ, true, false, List, [], length, map, vec_len, Some, None}, List.{slice_get}}
 use Rattle.std.specs.FinMap as maps
-use Rattle.std.specs.List.{slice_get}
 use Rattle.df_layout.specs.declared.layout.Layout.{Layout}
 use Rattle.df_sessions.specs.Requests.{sessions_of}
 use Rattle.df_theory.specs.Units.{Session}
-use Rattle.df_model.specs.Blocks.{Blocks}
-use Rattle.df_model.specs.Memory.{Memory}
-use Rattle.df_rows.specs.Limits.{blocks_of_table, most_rows}
-use Rattle.df_rows.specs.Tables.{Table}
-use Rattle.df_model.specs.Work.{Work}
-use Rattle.df_session.specs.Below.{RunningState, State as Replica, memory}
-use Rattle.df_session.specs.Serving.{Firm, Keeps}
-use Rattle.df_table.specs.Policy.{is_full, the_client}
-use Rattle.df_table.specs.declared.session.Session.{Session as Serving}
+use Rattle.df_model.specs.{Blocks.{Blocks}, Memory.{Memory}, Work.{Work}}
+use Rattle.df_rows.specs.{Limits.{blocks_of_table, most_rows}, Tables.{Table}}
+use Rattle.df_session.specs.{Below.{RunningState, State as Replica, memory}, Serving.{Firm, Keeps}}
+use Rattle.df_table.specs.{Policy.{is_full, the_client}, declared.session.Session.{Session as Serving}}
 
 -- what a session keeps of memory: no checkpoint runs, nothing waits for its reply or is staged, and all sessions are the one client's
 pub record IsOwnMemory (m : Memory) : Type 0 where

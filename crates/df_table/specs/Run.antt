@@ -1,26 +1,16 @@
 -- What the program promises of a table's file.
 use Rattle.std.specs.Prelude.{◌≡◌, ◌≢◌, ◌⊎◌, ℕ, List, [], ◌∷◌, codes, Some, Result, Err}
-use Rattle.df_base.specs.Image.{IsImage}
-use Rattle.df_base.specs.Log.{Sync}
+use Rattle.df_base.specs.{Image.{IsImage}, Log.{Sync}}
 use Rattle.df_disk.specs.Told.{Told, did}
 use Rattle.df_inspect.specs.Opening.{open_refusal}
 use Rattle.df_layout.specs.declared.layout.Layout.{Layout}
 use Rattle.df_model.specs.declared.errors.OpenError.{OpenError}
 use Rattle.df_model.specs.declared.errors.OpenError.TheVariants as opens
 use Rattle.df_rows.specs.Tables.{Table}
-use Rattle.df_session.specs.Below.{IsLayoutShown, Refuses, Surveys, memory}
-use Rattle.df_session.specs.Found.{FoundFile}
-use Rattle.df_session.specs.Laws.{CallsKeep}
-use Rattle.df_session.specs.Links.{CallsMade}
-use Rattle.df_session.specs.Opened.{StopsOpening}
-use Rattle.df_session.specs.Reading.{shown_of}
-use Rattle.df_table.specs.declared.ending.Ending.{Ending}
-use Rattle.df_table.specs.declared.status.Status.{Status}
-use Rattle.df_table.specs.declared.status.Status.TheVariants as ends
-use Rattle.df_table.specs.Keeping.{KeepsTable}
-use Rattle.df_table.specs.Opening.{FindsOf}
-use Rattle.df_table.specs.Outside.{Outside, WritesTableText}
+use Rattle.df_session.specs.{Below.{IsLayoutShown, Refuses, Surveys, memory}, Found.{FoundFile}, Laws.{CallsKeep}, Links.{CallsMade}, Opened.{StopsOpening}, Reading.{shown_of}}
+use Rattle.df_table.specs.{declared.ending.Ending.{Ending}, declared.status.Status.{Status}, Keeping.{KeepsTable}, Opening.{FindsOf}, Outside.{Outside, WritesTableText}}
 use Rattle.df_table.specs.Session.{AreCallsOf, ServesFoundTable}
+use Rattle.df_table.specs.declared.status.Status.TheVariants as ends
 
 -- ---- words
 

@@ -3,29 +3,14 @@ use Rattle.std.specs.Prelude.{◌≡◌, ◌⊎◌, ◌<◌, ◌≤◌, ◌+◌,
 use Rattle.df_base.specs.Streams.{Appends, AppendsPart}
 use Rattle.df_disk.specs.Told.{Told}
 use Rattle.df_layout.specs.declared.layout.Layout.{Layout}
-use Rattle.df_lines.specs.Room.{IsAtEnd, line_bound}
-use Rattle.df_lines.specs.Text.{unread}
-use Rattle.df_rows.specs.Grammar.{Said, SaysTableLine}
-use Rattle.df_rows.specs.Limits.{rows_in_block}
-use Rattle.df_rows.specs.Lines.{accepted as change_of, all_accepted, line_of_turn, map_text, table_after}
-use Rattle.df_lines.specs.Lines.{Begins}
-use Rattle.df_rows.specs.Tables.{Table}
-use Rattle.df_session.specs.Below.{State as Replica}
-use Rattle.df_session.specs.Links.{AreCalls}
-use Rattle.df_session.specs.Session.{Exchange, acts_in, command_in}
-use Rattle.df_table.specs.declared.ending.Ending.{Ending}
-use Rattle.df_table.specs.declared.session.Session.{Session}
-use Rattle.df_table.specs.declared.status.Status.{Status}
-use Rattle.df_table.specs.declared.status.Status.TheVariants.{DiskFault, Refused, WriteFault}
-use Rattle.df_table.specs.Outside.{Step}
-use Rattle.df_program.specs.declared.turn.Turn.TheVariants.{Ends, GoesOn as Goes}
-use Rattle.df_program.specs.Turns.{IsPrinted, OnGoing}
+use Rattle.df_lines.specs.{Room.{IsAtEnd, line_bound}, Text.{unread}, Lines.{Begins}}
+use Rattle.df_rows.specs.{Grammar.{Said, SaysTableLine}, Limits.{rows_in_block}, Lines.{accepted as change_of, all_accepted, line_of_turn, map_text, table_after}, Tables.{Table}}
+use Rattle.df_session.specs.{Below.{State as Replica}, Links.{AreCalls}, Session.{Exchange, acts_in, command_in}}
+use Rattle.df_table.specs.{declared.ending.Ending.{Ending}, declared.session.Session.{Session}, declared.status.Status.{Status}, declared.status.Status.TheVariants.{DiskFault, Refused, WriteFault}}
+use Rattle.df_table.specs.{Outside.{Step}, Outside.{EndsWithFile, Outside, WritesTableText}, Ready.{IsSteady, LeavesScript}, Session.{EndsTableText, Halt, HaltsIn, ServingEndsWith, closing, said_in}}
+use Rattle.df_table.specs.{Statuses.{ending_text, status_of}, Turns.{AreFit, AreTurns, EndIn, IsOfCall, TableTurn, WasAccepted, commands_of, table_said}}
+use Rattle.df_program.specs.{declared.turn.Turn.TheVariants.{Ends, GoesOn as Goes}, Turns.{IsPrinted, OnGoing}}
 pub use Rattle.df_program.specs.Turns.{BlamesIfEnds, OnGoing}
-use Rattle.df_table.specs.Outside.{EndsWithFile, Outside, WritesTableText}
-use Rattle.df_table.specs.Ready.{IsSteady, LeavesScript}
-use Rattle.df_table.specs.Session.{EndsTableText, Halt, HaltsIn, ServingEndsWith, closing, said_in}
-use Rattle.df_table.specs.Statuses.{ending_text, status_of}
-use Rattle.df_table.specs.Turns.{AreFit, AreTurns, EndIn, IsOfCall, TableTurn, WasAccepted, commands_of, table_said}
 
 -- ---- how far it has come
 

@@ -4,23 +4,11 @@ use Rattle.df_base.specs.Streams.{Appends, AppendsPart}
 use Rattle.df_disk.specs.Told.{Told}
 use Rattle.df_inspect.specs.Opening.{script_text}
 use Rattle.df_layout.specs.declared.layout.Layout.{Layout}
-use Rattle.df_lines.specs.Room.{line_bound}
-use Rattle.df_lines.specs.Text.{line_of}
-use Rattle.df_rows.specs.Grammar.{Said, SaysTableLine}
-use Rattle.df_lines.specs.Lines.{Begins, IsRefused}
-use Rattle.df_rows.specs.Tables.{Table}
-use Rattle.df_session.specs.Below.{State as Replica, memory}
-use Rattle.df_session.specs.Links.{CallsMade}
-use Rattle.df_session.specs.Session.{Act, Exchange}
-use Rattle.df_table.specs.declared.ending.Ending.{Ending}
-use Rattle.df_table.specs.declared.status.Status.{Status}
-use Rattle.df_table.specs.declared.status.Status.TheVariants.{Done, Script, ReadFault, WriteFault}
-use Rattle.df_rows.specs.Lines.{accepted, map_text}
-use Rattle.df_session.specs.Reading.{shown_of}
-use Rattle.df_table.specs.Opening.{FindsOf}
-use Rattle.df_table.specs.Outside.{Outside, WritesTableText}
-use Rattle.df_table.specs.Policy.{opening}
-use Rattle.df_table.specs.Statuses.{ending_text, status_of}
+use Rattle.df_lines.specs.{Room.{line_bound}, Text.{line_of}, Lines.{Begins, IsRefused}}
+use Rattle.df_rows.specs.{Grammar.{Said, SaysTableLine}, Tables.{Table}, Lines.{accepted, map_text}}
+use Rattle.df_session.specs.{Below.{State as Replica, memory}, Links.{CallsMade}, Session.{Act, Exchange}, Reading.{shown_of}}
+use Rattle.df_table.specs.{declared.ending.Ending.{Ending}, declared.status.Status.{Status}, declared.status.Status.TheVariants.{Done, Script, ReadFault, WriteFault}, Opening.{FindsOf}}
+use Rattle.df_table.specs.{Outside.{Outside, WritesTableText}, Policy.{opening}, Statuses.{ending_text, status_of}}
 use Rattle.df_table.specs.Turns.{AreFit, AreTurns, EndIn, IsOfCall, MakeAll, TableTurn, commands_of, table_exchanges, table_said}
 
 -- how many bytes a script may have

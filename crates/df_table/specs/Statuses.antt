@@ -5,9 +5,7 @@ use Rattle.df_script_model.specs.Texts.{damaged_text}
 use Rattle.df_rows.specs.Answers.{not_table_text}
 use Rattle.df_session.specs.declared.hearing.Fault.{Fault}
 use Rattle.df_session.specs.declared.hearing.Fault.TheVariants as faults
-use Rattle.df_table.specs.declared.ending.Ending.{Ending}
-use Rattle.df_table.specs.declared.ending.Ending.TheVariants.{Disk, Damaged, NotTable, OpsSpent, SequenceSpent}
-use Rattle.df_table.specs.declared.status.Status.{Status}
+use Rattle.df_table.specs.{declared.ending.Ending.{Ending}, declared.ending.Ending.TheVariants.{Disk, Damaged, NotTable, OpsSpent, SequenceSpent}, declared.status.Status.{Status}}
 use Rattle.df_table.specs.declared.status.Status.TheVariants as ends
 
 -- those of `datafile` that come

@@ -2,18 +2,12 @@
 use Rattle.std.specs.Prelude.{◌≡◌, ◌≤◌, ◌<◌, ℕ, List, [], ◌∷◌, length, Some}
 use Rattle.std.specs.FinMap as map
 use Rattle.df_layout.specs.declared.layout.Layout.{Layout}
-use Rattle.df_theory.specs.Units.{AnyUnit, Block, BlockPlace, BlockUnit, Message, Place, Units}
-use Rattle.df_theory.specs.View.{View}
-use Rattle.df_theory.specs.Holds.{Held}
+use Rattle.df_theory.specs.{Units.{AnyUnit, Block, BlockPlace, BlockUnit, Message, Place, Units}, View.{View}, Holds.{Held}}
 use Rattle.df_base.specs.Image.{Image}
 use Rattle.df_model.specs.Blocks.{addresses, entries}
-use Rattle.df_rows.specs.declared.command.Command.{Command}
-use Rattle.df_rows.specs.Blocks.{TakesAll}
-use Rattle.df_rows.specs.Commands.{IsCommand, body_of}
-use Rattle.df_rows.specs.Limits.{blocks_of_table, most_rows}
+use Rattle.df_rows.specs.{declared.command.Command.{Command}, Blocks.{TakesAll}, Commands.{IsCommand, body_of}, Limits.{blocks_of_table, most_rows}}
 use Rattle.df_rows.specs.Tables.{CanApply, Table, with_command, with_commands}
-use Rattle.df_session.specs.Below.{DataFile, shape}
-use Rattle.df_session.specs.Serving.{format}
+use Rattle.df_session.specs.{Below.{DataFile, shape}, Serving.{format}}
 
 -- ---- blocks
 

@@ -1,26 +1,15 @@
 -- The calls of a session: those of its opening, and then those of one line after the other, until one isn't answered, or the answer is a refusal that ends it.
 use Rattle.std.specs.Prelude.{◌≡◌, ◌⊎◌, ℕ, List, [], ◌∷◌, ◌++◌, map, All, Option, Some, None, Err}
 use Rattle.df_disk.specs.Told.{Told}
-use Rattle.df_layout.specs.declared.layout.Layout.{Layout}
+use Rattle.df_layout.specs.{declared.layout.Layout.{Layout}, declared.damage.Class.{Class}, declared.places.Place.{Place}}
 use Rattle.df_model.specs.Commands.{Answer, Command, ToAdvance, ToAppend, ToBegin, ToReadBlock, ToReadPrepare, ToFlush, ToReadReply, ToRelease, ToReply, ToStage, ToWriteBlock}
 use Rattle.df_model.specs.declared.errors.AppendError.TheVariants as append
 use Rattle.df_model.specs.declared.errors.BeginError.TheVariants as begin
 use Rattle.df_model.specs.declared.reading.PrepareError.TheVariants as prepare
 use Rattle.df_model.specs.declared.reading.ReadError.TheVariants as read
-use Rattle.df_layout.specs.declared.damage.Class.{Class}
-use Rattle.df_layout.specs.declared.places.Place.{Place}
-use Rattle.df_rows.specs.declared.command.Command.{Command as Change}
-use Rattle.df_rows.specs.Commands.{IsCommand}
-use Rattle.df_rows.specs.Grammar.{Said}
-use Rattle.df_rows.specs.Tables.{Table}
-use Rattle.df_session.specs.Below.{State as Replica, memory}
-use Rattle.df_session.specs.Endings.{IsDamagedStep}
-use Rattle.df_session.specs.Links.{AreCalls, EndsCalls, list_of}
-use Rattle.df_session.specs.Session.{Act, Exchange, acts_in, answers_in, command_in}
-use Rattle.df_table.specs.declared.ending.Ending.{Ending}
-use Rattle.df_table.specs.declared.ending.Ending.TheVariants.{Disk, Damaged, NotTable, OpsSpent, SequenceSpent}
-use Rattle.df_rows.specs.Lines.{accepted, table_after}
-use Rattle.df_table.specs.Policy.{line_commands}
+use Rattle.df_rows.specs.{declared.command.Command.{Command as Change}, Commands.{IsCommand}, Grammar.{Said}, Tables.{Table}, Lines.{accepted, table_after}}
+use Rattle.df_session.specs.{Below.{State as Replica, memory}, Endings.{IsDamagedStep}, Links.{AreCalls, EndsCalls, list_of}, Session.{Act, Exchange, acts_in, answers_in, command_in}}
+use Rattle.df_table.specs.{declared.ending.Ending.{Ending}, declared.ending.Ending.TheVariants.{Disk, Damaged, NotTable, OpsSpent, SequenceSpent}, Policy.{line_commands}}
 
 -- ---- commands
 

@@ -1,8 +1,7 @@
 -- The table of a view whose blocks were written in a log: what an image that is left shows, where it shows the blocks that the view references.
 use Rattle.std.specs.Prelude.{ℕ, List}
 use Rattle.df_damage.specs.Written.{IsWritten}
-use Rattle.df_theory.specs.UnitLog.{UnitLog}
-use Rattle.df_theory.specs.View.{View}
+use Rattle.df_theory.specs.{UnitLog.{UnitLog}, View.{View}}
 use Rattle.df_rows.specs.Tables.{Table}
 use Rattle.df_session.specs.Below.{DataFile}
 use Rattle.df_table.specs.Table.{HasBlockBody, HaveBodies, IsTableBy}

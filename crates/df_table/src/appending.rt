@@ -4,13 +4,10 @@ ghost use Rattle.std.specs.FinMap as map;
 ghost use Rattle.df_base.specs.Causes.{IsBlamed};
 ghost use Rattle.df_layout.specs.declared.layout.Layout.{Layout as Shape};
 ghost use Rattle.df_model.specs.Refusals.{next_request, session_of_client};
-ghost use Rattle.df_rows.specs.Commands.{IsCommand};
+ghost use Rattle.df_rows.specs.{Commands.{IsCommand}, Tables.{CanApply}};
 ghost use Rattle.df_rows.specs.Limits as limits;
-ghost use Rattle.df_rows.specs.Tables.{CanApply};
 ghost use Rattle.df_session.specs.Below.{memory};
-ghost use Rattle.df_table.specs.Calls.{Comes, GoesOrEnds, HasApplied, IsChanged, MakesRoom};
-ghost use Rattle.df_table.specs.Policy.{is_full, request, the_client};
-ghost use Rattle.df_table.specs.Ready.{HasRingRoom, IsReadyReplica, LeavesScript};
+ghost use Rattle.df_table.specs.{Calls.{Comes, GoesOrEnds, HasApplied, IsChanged, MakesRoom}, Policy.{is_full, request, the_client}, Ready.{HasRingRoom, IsReadyReplica, LeavesScript}};
 ghost use Rattle.df_table.specs.Statuses.{is_disk};
 
 use crate::calls::{append, reply};

@@ -2,18 +2,10 @@
 ghost use Rattle.std.specs.Prelude.{◌≡◌, ◌+◌, [], ◌∷◌, true, Option, None, IfErr, IfOk, OnOk};
 ghost use Rattle.df_base.specs.Causes.{IsBlamed};
 ghost use Rattle.df_disk.specs.Told.{Told};
-ghost use Rattle.df_model.specs.Blocks.{sum_at};
-ghost use Rattle.df_model.specs.Commands.{Advance, Append, Begin, Release, Reply, WriteBlock};
-ghost use Rattle.df_model.specs.Refusals.{block_refusals, first_refusal, reply_refusals};
-ghost use Rattle.df_model.specs.Work.{is_known};
-ghost use Rattle.df_session.specs.Appending.{next_unit, with_prepare_appended};
-ghost use Rattle.df_session.specs.Beginning.{with_checkpoint_begun};
-ghost use Rattle.df_session.specs.Below.{memory};
-ghost use Rattle.df_session.specs.Blocks.{next_block, released, written};
+ghost use Rattle.df_model.specs.{Blocks.{sum_at}, Commands.{Advance, Append, Begin, Release, Reply, WriteBlock}, Refusals.{block_refusals, first_refusal, reply_refusals}, Work.{is_known}};
+ghost use Rattle.df_session.specs.{Appending.{next_unit, with_prepare_appended}, Beginning.{with_checkpoint_begun}, Below.{memory}, Blocks.{next_block, released, written}};
 ghost use Rattle.df_session.specs.Replying.{next_reply, with_stored_reply};
-ghost use Rattle.df_table.specs.Calls.{CheckpointStepped, Comes, IsCheckpointing, MayAppendCommand, MayBegin, ended_or, stepped, taken};
-ghost use Rattle.df_table.specs.Policy.{the_client};
-ghost use Rattle.df_table.specs.Statuses.{is_disk};
+ghost use Rattle.df_table.specs.{Calls.{CheckpointStepped, Comes, IsCheckpointing, MayAppendCommand, MayBegin, ended_or, stepped, taken}, Policy.{the_client}, Statuses.{is_disk}};
 ghost use Rattle.df_table.specs.Turns.{IsOfCall, MakeAll};
 
 use crate::ending::Ending;

@@ -6,14 +6,9 @@ ghost use Rattle.df_disk.specs.Told.{Told};
 ghost use Rattle.df_layout.specs.declared.layout.Layout.{Layout as Shape};
 ghost use Rattle.df_model.specs.Commands.{WriteBlock};
 ghost use Rattle.df_rows.specs.Limits as limits;
-ghost use Rattle.df_session.specs.Beginning.{captured, with_checkpoint_begun};
-ghost use Rattle.df_session.specs.Below.{RunningState, State as Standing, memory};
-ghost use Rattle.df_session.specs.Blocks.{released};
-ghost use Rattle.df_table.specs.Calls.{Advances, Checkpoints, Comes, Concludes, Fills, GoesOrEnds, IsCheckpointing, MayBegin};
-ghost use Rattle.df_table.specs.Policy.{body_at, is_full, releases, releases_at, writes};
-ghost use Rattle.df_table.specs.Ready.{HasFree, HasRingRoom, IsEmptied, IsFinished, IsReadyReplica, WroteBlocks, without_live};
-ghost use Rattle.df_table.specs.Statuses.{is_disk};
-ghost use Rattle.df_table.specs.Turns.{IsOfCall, MakeAll};
+ghost use Rattle.df_session.specs.{Beginning.{captured, with_checkpoint_begun}, Below.{RunningState, State as Standing, memory}, Blocks.{released}};
+ghost use Rattle.df_table.specs.{Calls.{Advances, Checkpoints, Comes, Concludes, Fills, GoesOrEnds, IsCheckpointing, MayBegin}, Policy.{body_at, is_full, releases, releases_at, writes}};
+ghost use Rattle.df_table.specs.{Ready.{HasFree, HasRingRoom, IsEmptied, IsFinished, IsReadyReplica, WroteBlocks, without_live}, Statuses.{is_disk}, Turns.{IsOfCall, MakeAll}};
 
 use crate::calls::{begin, release, step, write};
 use crate::ending::Ending;

@@ -2,8 +2,7 @@
 ghost use Rattle.std.specs.Prelude.{◌≡◌};
 ghost use Rattle.df_base.specs.Causes.{HasCause};
 ghost use Rattle.df_inspect.specs.Prints.{Prints};
-ghost use Rattle.df_table.specs.Outside.{Blames, WritesTableText};
-ghost use Rattle.df_table.specs.Statuses.{ending_text, status_of};
+ghost use Rattle.df_table.specs.{Outside.{Blames, WritesTableText}, Statuses.{ending_text, status_of}};
 
 use crate::status::Status;
 use df_base::{Failed, Sink};

@@ -2,9 +2,7 @@
 ghost use Rattle.std.specs.Prelude.{◌≡◌, ◌↔◌, ◌*◌, ◌≤◌, codes, map, string_bytes, vec_len, IfOk, IsTrue};
 ghost use Rattle.df_lines.specs.Room.{IsFresh, line_bound};
 ghost use Rattle.df_rows.specs.Limits as limits;
-ghost use Rattle.df_table.specs.Outside.{HasTableCauses, WritesTableText, around, counts};
-ghost use Rattle.df_table.specs.Run.{IsTableWord, PrintsNothing, RunsTable, table_usage};
-ghost use Rattle.df_table.specs.Table.{empty_table};
+ghost use Rattle.df_table.specs.{Outside.{HasTableCauses, WritesTableText, around, counts}, Run.{IsTableWord, PrintsNothing, RunsTable, table_usage}, Table.{empty_table}};
 
 use crate::serving::{Reserved, serve_table};
 use crate::status::Status;

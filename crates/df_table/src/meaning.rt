@@ -1,6 +1,5 @@
 // What holds of the tables of files, whatever the code does. None of these does anything when it is called.
-ghost use Rattle.df_table.specs.Completeness.{SafeTableIsRun};
-ghost use Rattle.df_table.specs.Laws.{FindsOne, FirstIsEmpty, FoundIsTable, LeavingKeepsTable, RowsInOrder, TableIsOne};
+ghost use Rattle.df_table.specs.{Completeness.{SafeTableIsRun}, Laws.{FindsOne, FirstIsEmpty, FoundIsTable, LeavingKeepsTable, RowsInOrder, TableIsOne}};
 
 /// An image and a view have one table, and a file that was just made has the empty one.
 pub fn a_table_is_one()

@@ -2,18 +2,11 @@
 ghost use Rattle.std.specs.Prelude.{◌≡◌, ◌≤◌, ◌<◌, ◌↔◌, ◌+◌, ◌^◌, ℕ, [], ◌∷◌, ◌++◌, true, length, Some, Ok, IfErr, IfOk, IfSome, IfNone, IsTrue, OnOk};
 ghost use Rattle.df_base.specs.Causes.{IsBlamed};
 ghost use Rattle.df_disk.specs.Told.{Told};
-ghost use Rattle.df_model.specs.Blocks.{sum_at};
-ghost use Rattle.df_model.specs.Commands.{ReadBlock, ReadPrepare};
-ghost use Rattle.df_model.specs.Work.{Work, is_known};
-ghost use Rattle.df_session.specs.Below.{memory};
-ghost use Rattle.df_session.specs.Reading.{shown_of};
-ghost use Rattle.df_table.specs.Calls.{Comes, OpensTable};
-ghost use Rattle.df_table.specs.Opening.{FindsOf, IsOtherClient, NoneIsOther, ReadsNext, ReadsPrepare, ReadsTableBlock};
-ghost use Rattle.df_table.specs.Opening.{TakesBlocks, TakesCommand, TakesRows, TakesTail, block_ending, place_at, prepare_ending};
-ghost use Rattle.df_table.specs.Policy.{block_reads, prepare_reads, reads_at, replies};
-ghost use Rattle.df_table.specs.Ready.{HasCaughtUp, IsBegun, IsReadyReplica};
-ghost use Rattle.df_table.specs.Statuses.{is_disk};
-ghost use Rattle.df_table.specs.Table.{empty_table};
+ghost use Rattle.df_model.specs.{Blocks.{sum_at}, Commands.{ReadBlock, ReadPrepare}, Work.{Work, is_known}};
+ghost use Rattle.df_session.specs.{Below.{memory}, Reading.{shown_of}};
+ghost use Rattle.df_table.specs.{Calls.{Comes, OpensTable}, Opening.{FindsOf, IsOtherClient, NoneIsOther, ReadsNext, ReadsPrepare, ReadsTableBlock}};
+ghost use Rattle.df_table.specs.{Opening.{TakesBlocks, TakesCommand, TakesRows, TakesTail, block_ending, place_at, prepare_ending}, Policy.{block_reads, prepare_reads, reads_at, replies}};
+ghost use Rattle.df_table.specs.{Ready.{HasCaughtUp, IsBegun, IsReadyReplica}, Statuses.{is_disk}, Table.{empty_table}};
 
 use crate::calls::{CLIENT, reply};
 use crate::ending::Ending;

@@ -5,11 +5,7 @@ ghost use Rattle.df_disk.specs.Told.{Told};
 ghost use Rattle.df_lines.specs.Room.{IsFresh, line_bound};
 ghost use Rattle.df_model.specs.Work.{Work};
 ghost use Rattle.df_rows.specs.Limits as limits;
-ghost use Rattle.df_table.specs.Outside.{EndsWithFile, HasTableCauses, around, counts};
-ghost use Rattle.df_table.specs.Ready.{IsBegun};
-ghost use Rattle.df_table.specs.Run.{DoesTable};
-ghost use Rattle.df_table.specs.Session.{ServesOpened};
-ghost use Rattle.df_table.specs.Table.{empty_table};
+ghost use Rattle.df_table.specs.{Outside.{EndsWithFile, HasTableCauses, around, counts}, Ready.{IsBegun}, Run.{DoesTable}, Session.{ServesOpened}, Table.{empty_table}};
 
 use crate::ending::tell_ending;
 use crate::opening::open_table;

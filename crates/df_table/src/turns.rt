@@ -1,12 +1,9 @@
 // The session over a script: one turn for each line, until there is none, one is refused, or something ends it.
 ghost use Rattle.std.specs.Prelude.{◌≡◌, ◌<◌, ◌≤◌, ◌+◌, ℕ, List, Option, take, true, length, None};
 ghost use Rattle.std.specs.FinMap as map;
-ghost use Rattle.df_rows.specs.Answers.{refusal_of};
-ghost use Rattle.df_rows.specs.Lines.{done_text};
+ghost use Rattle.df_rows.specs.{Answers.{refusal_of}, Lines.{done_text}, Grammar.{Count, Drop, Get, Put, said_with, value_length}};
 ghost use Rattle.df_rows.specs.declared.line.Line.TheVariants as lines;
-ghost use Rattle.df_rows.specs.Grammar.{Count, Drop, Get, Put, said_with, value_length};
-ghost use Rattle.df_table.specs.Outside.{Blames, EndsWithFile, around};
-ghost use Rattle.df_table.specs.Ready.{IsSteady};
+ghost use Rattle.df_table.specs.{Outside.{Blames, EndsWithFile, around}, Ready.{IsSteady}};
 ghost use Rattle.df_table.specs.Serving.{BlamesIfEnds, EndsTurn, ExecutesLine, IsReadyForNext, IsServing, OnGoing, ServingEnded, TableTurns, TellsLine, state};
 
 use crate::appending::change;

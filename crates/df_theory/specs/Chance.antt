@@ -1,7 +1,6 @@
 -- What a torn sector may show: no valid unit but those that stood there or were being written.
 use Rattle.std.specs.Prelude.{◌≡◌, ◌⊎◌, List, [], ◌∷◌, Some}
-use Rattle.df_theory.specs.Units.{Place, AnyUnit, HeaderUnit, PrepareUnit, ReplyUnit, BlockUnit, Units, CopyUnit}
-use Rattle.df_theory.specs.UnitLog.{UnitLog, UnitEvent, Wrote, Synced, Stopped, settled, IsLeftBy}
+use Rattle.df_theory.specs.{Units.{Place, AnyUnit, HeaderUnit, PrepareUnit, ReplyUnit, BlockUnit, Units, CopyUnit}, UnitLog.{UnitLog, UnitEvent, Wrote, Synced, Stopped, settled, IsLeftBy}}
 
 -- one of the images shows this unit there
 abbrev pub InImages : List Units → Place → AnyUnit → Type 0

@@ -1,10 +1,6 @@
 -- The commands that a program carries out on a file: their steps, and the views that they lead to.
 use Rattle.std.specs.Prelude.{ℕ, List, [], ◌∷◌}
-use Rattle.df_theory.specs.Units.{Message, Units}
-use Rattle.df_theory.specs.View.{Checkpoint, View}
-use Rattle.df_theory.specs.Next.{appended, checkpointed, replied}
-use Rattle.df_theory.specs.Runs.{Command, Puts, Syncs}
-use Rattle.df_theory.specs.CopyPuts.{PutsCopies, update_steps}
+use Rattle.df_theory.specs.{Units.{Message, Units}, View.{Checkpoint, View}, Next.{appended, checkpointed, replied}, Runs.{Command, Puts, Syncs}, CopyPuts.{PutsCopies, update_steps}}
 use Rattle.df_theory.specs.MendLaws.{mend_steps}
 
 -- an append: the prepare, a sync, its header sector, a sync

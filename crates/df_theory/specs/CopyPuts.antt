@@ -1,8 +1,6 @@
 -- The four copies of a superblock, as they are written one after the other.
 use Rattle.std.specs.Prelude.{List, [], ◌∷◌}
-use Rattle.df_theory.specs.Units.{CopyPlace, Content, CopyUnit, Units}
-use Rattle.df_theory.specs.UnitLog.{PutsOne}
-use Rattle.df_theory.specs.Runs.{Puts, Step, Syncs}
+use Rattle.df_theory.specs.{Units.{CopyPlace, Content, CopyUnit, Units}, UnitLog.{PutsOne}, Runs.{Puts, Step, Syncs}}
 
 -- the writes of the four copies of a content
 pub record PutsCopies (c : Content) : Type 0 where

@@ -1,24 +1,11 @@
 -- What damage can do to a file whose log rests on a view: sectors hurt, lost or swapped, so long as no unit comes about by chance.
-use Rattle.std.specs.Prelude.{◌≡◌, ◌⊎◌, ◌<◌, ◌≤◌, ◌+◌, ◌-◌, ◌%◌, ℕ, length, List, ◌++◌, Some}
-use Rattle.std.specs.List.{slice_get}
+use Rattle.std.specs.{Prelude.{◌≡◌, ◌⊎◌, ◌<◌, ◌≤◌, ◌+◌, ◌-◌, ◌%◌, ℕ, length, List, ◌++◌, Some}, List.{slice_get}}
 use Rattle.df_base.specs.declared.TheConstants.{GREATEST, HEADER}
 use Rattle.df_theory.specs.Units.{AnyUnit, Block, BlockPlace, Content, CopyPlace, Header, HeaderPlace, HeaderUnit, Message, Place, PreparePlace, ReplyPlace, ReplyUnit, Session, Units}
-use Rattle.df_theory.specs.Sessions.{Answers, sessions_after}
-use Rattle.df_theory.specs.Tails.{In}
-use Rattle.df_theory.specs.Shape.{Shape, slots}
-use Rattle.df_theory.specs.Copies.{Agree, IsChosen}
-use Rattle.df_theory.specs.Trailer.{Links}
-use Rattle.df_theory.specs.View.{IsSoundCheckpoint, View, boot_of, sessions}
-use Rattle.df_theory.specs.Shows.{Needs}
-use Rattle.df_theory.specs.Holds.{Holds, IsNamed}
-use Rattle.df_theory.specs.UnitLog.{UnitLog, now}
-use Rattle.df_theory.specs.Chance.{Distinct, InPool, InPools, NoChance}
-use Rattle.df_theory.specs.Grown.{Grows}
-use Rattle.df_theory.specs.Rests.{RestsOn}
-use Rattle.df_theory.specs.Found.{AreOfPlaces, IsFound, IsReach, IsReplies, IsTail, NotBehind, NotLost, slot_behind}
-use Rattle.df_theory.specs.Opens.{Arrives, BadField, BootSpent, Damaged, NoQuorum, Opens, Refusal, Refused}
-use Rattle.df_theory.specs.Past.{FromEmpty, Was}
-use Rattle.df_theory.specs.HistoryLaws.{AreDistinct, ShowsSettled}
+use Rattle.df_theory.specs.{Sessions.{Answers, sessions_after}, Tails.{In}, Shape.{Shape, slots}, Copies.{Agree, IsChosen}, Trailer.{Links}, View.{IsSoundCheckpoint, View, boot_of, sessions}}
+use Rattle.df_theory.specs.{Shows.{Needs}, Holds.{Holds, IsNamed}, UnitLog.{UnitLog, now}, Chance.{Distinct, InPool, InPools, NoChance}, Grown.{Grows}, Rests.{RestsOn}}
+use Rattle.df_theory.specs.{Found.{AreOfPlaces, IsFound, IsReach, IsReplies, IsTail, NotBehind, NotLost, slot_behind}, Opens.{Arrives, BadField, BootSpent, Damaged, NoQuorum, Opens, Refusal, Refused}}
+use Rattle.df_theory.specs.{Past.{FromEmpty, Was}, HistoryLaws.{AreDistinct, ShowsSettled}}
 
 -- each unit shown is of the pool
 abbrev pub ShowsPool : UnitLog → Units → Type 0

@@ -1,15 +1,8 @@
 -- How units lie on the sectors of a disk, and a log of sectors read as a log of units.
 use Rattle.std.specs.Prelude.{◌≡◌, ◌⊎◌, ℕ, Bool, true, false, if◌then◌else◌, List, [], ◌∷◌, Option, None}
-use Rattle.df_theory.specs.Units.{AnyUnit, Place, Units, is_some, or_else}
-use Rattle.df_theory.specs.Shape.{Shape}
-use Rattle.df_theory.specs.View.{View}
-use Rattle.df_theory.specs.Holds.{Stands, Held}
-use Rattle.df_theory.specs.UnitLog.{Stopped, Synced, UnitEvent, UnitLog, Wrote}
-use Rattle.df_theory.specs.Chance.{NoChance}
-use Rattle.df_theory.specs.Grown.{Grown}
-use Rattle.df_theory.specs.Runs.{Command, HoldsPart, Puts, Step, Syncs}
-use Rattle.df_base.specs.Image.{Image, IsImage, IsPiece, blank, covers, written, changed}
-use Rattle.df_base.specs.Log.{Event, Write, Sync, Stop, Log, IsLog, add, now, now_of, IsLeft, AreLoose}
+use Rattle.df_theory.specs.{Units.{AnyUnit, Place, Units, is_some, or_else}, Shape.{Shape}, View.{View}, Holds.{Stands, Held}, UnitLog.{Stopped, Synced, UnitEvent, UnitLog, Wrote}, Chance.{NoChance}}
+use Rattle.df_theory.specs.{Grown.{Grown}, Runs.{Command, HoldsPart, Puts, Step, Syncs}}
+use Rattle.df_base.specs.{Image.{Image, IsImage, IsPiece, blank, covers, written, changed}, Log.{Event, Write, Sync, Stop, Log, IsLog, add, now, now_of, IsLeft, AreLoose}}
 
 -- the byte layer's side: which unit an image shows at a place, which places a write touches, and which sectors a place has
 pub record Format : Type 0 where

@@ -1,23 +1,12 @@
 -- What is proved of places holds of sectors.
 use Rattle.std.specs.Prelude.{◌≡◌, ℕ, List, ◌++◌, Some, None}
-use Rattle.df_theory.specs.Found.{IsFound}
-use Rattle.df_theory.specs.WholeLaws.{IsStanding}
-use Rattle.df_theory.specs.Units.{AnyUnit, Place, Units, is_some}
-use Rattle.df_theory.specs.Shape.{Shape}
-use Rattle.df_theory.specs.View.{View}
-use Rattle.df_theory.specs.UnitLog
-use Rattle.df_theory.specs.UnitLog.{wrote}
-use Rattle.df_theory.specs.Grown.{IsSafe}
-use Rattle.df_theory.specs.Holds.{Held}
-use Rattle.df_theory.specs.Rests.{IsGoodLog, RestsOn}
-use Rattle.df_theory.specs.Runs.{AtEach, Command, IsPartWay, Step, after_steps}
-use Rattle.df_theory.specs.MakingLaws.{blank_log}
+use Rattle.df_theory.specs.{Found.{IsFound}, WholeLaws.{IsStanding}, Units.{AnyUnit, Place, Units, is_some}, Shape.{Shape}, View.{View}, UnitLog.{wrote}, Grown.{IsSafe}, Holds.{Held}}
+use Rattle.df_theory.specs.{Rests.{IsGoodLog, RestsOn}, Runs.{AtEach, Command, IsPartWay, Step, after_steps}, MakingLaws.{blank_log}}
 use Rattle.df_theory.specs.Device.{AreSteps, Format, IsFormat, IsGoodDisk, IsGoodWholeDisk, IsPartWayDisk, IsPut, IsSafeDisk, LiesAtPlace, NoChanceOf, all_units, units_log}
 use Rattle.df_theory.specs.TidyLaws.{IsTidy, LeadsTidily, KeepsStanding}
-use Rattle.df_base.specs.Image.{Image, IsImage, IsPiece, blank, changed, written}
+use Rattle.df_theory.specs.UnitLog
+use Rattle.df_base.specs.{Image.{Image, IsImage, IsPiece, blank, changed, written}, Log.{AreLoose, Event, Write, Sync, Stop, Log, IsLog, add, new_log}, Moments.{EachMoment, adds}}
 use Rattle.df_base.specs.Log
-use Rattle.df_base.specs.Log.{AreLoose, Event, Write, Sync, Stop, Log, IsLog, add, new_log}
-use Rattle.df_base.specs.Moments.{EachMoment, adds}
 
 -- a good log of units is a good log of sectors
 abbrev pub DiskLaw : Type 0

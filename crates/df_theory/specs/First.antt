@@ -1,9 +1,6 @@
 -- A file as it is made: from the empty image to its first view.
 use Rattle.std.specs.Prelude.{◌≡◌, ℕ, List, [], ◌∷◌, slice_index, Some, None}
-use Rattle.df_theory.specs.Units.{Place, CopyPlace, HeaderPlace, Header, Content, AnyUnit, CopyUnit, HeaderUnit, Units, IsReserved}
-use Rattle.df_theory.specs.Shape.{Shape}
-use Rattle.df_theory.specs.Copies.{IsSplit}
-use Rattle.df_theory.specs.Trailer.{no_parts}
+use Rattle.df_theory.specs.{Units.{Place, CopyPlace, HeaderPlace, Header, Content, AnyUnit, CopyUnit, HeaderUnit, Units, IsReserved}, Shape.{Shape}, Copies.{IsSplit}, Trailer.{no_parts}}
 use Rattle.df_theory.specs.View.{View, PassesTests}
 
 -- the superblock of a file that was just made: sequence 1, and nothing else; no reply is named

@@ -1,19 +1,9 @@
 -- What an open finds in an image, whatever was done to it: the state, where no step refuses.
-use Rattle.std.specs.Prelude.{◌≡◌, ◌⊎◌, ◌<◌, ◌≤◌, ◌+◌, ◌-◌, ◌%◌, ◌^◌, ℕ, List, [], ◌∷◌, ◌++◌, length, take, Some}
-use Rattle.std.specs.List.{slice_get}
-use Rattle.df_base.specs.declared.TheConstants.{GREATEST}
-use Rattle.df_base.specs.Fields.{AreBytes}
+use Rattle.std.specs.{Prelude.{◌≡◌, ◌⊎◌, ◌<◌, ◌≤◌, ◌+◌, ◌-◌, ◌%◌, ◌^◌, ℕ, List, [], ◌∷◌, ◌++◌, length, take, Some}, List.{slice_get}}
+use Rattle.df_base.specs.{declared.TheConstants.{GREATEST}, Fields.{AreBytes}}
 use Rattle.df_theory.specs.Units.{Place, CopyPlace, HeaderPlace, PreparePlace, ReplyPlace, BlockPlace, Header, Message, Session, Content, Block, AnyUnit, CopyUnit, HeaderUnit, PrepareUnit, ReplyUnit, BlockUnit, Units, IsAlone}
-use Rattle.df_theory.specs.Sessions.{Answers}
-use Rattle.df_theory.specs.Tails.{In, Chain, last_mark, last_checksum, AreGroups, AreWholeGroups, BindsHead, EndsAt}
-use Rattle.df_theory.specs.Shape.{Shape, slots, clients}
-use Rattle.df_theory.specs.Copies.{IsChosen}
-use Rattle.df_theory.specs.Trailer.{InChain}
-use Rattle.df_theory.specs.View.{Checkpoint, View, head, sessions, IsSoundCheckpoint}
-use Rattle.df_theory.specs.Shows.{AgreesCopy}
-use Rattle.df_theory.specs.Holds.{IsNamed}
-use Rattle.df_theory.specs.Cases.{Takes}
-use Rattle.df_theory.specs.Groups.{AreBehind, AreMore}
+use Rattle.df_theory.specs.{Sessions.{Answers}, Tails.{In, Chain, last_mark, last_checksum, AreGroups, AreWholeGroups, BindsHead, EndsAt}, Shape.{Shape, slots, clients}, Copies.{IsChosen}}
+use Rattle.df_theory.specs.{Trailer.{InChain}, View.{Checkpoint, View, head, sessions, IsSoundCheckpoint}, Shows.{AgreesCopy}, Holds.{IsNamed}, Cases.{Takes}, Groups.{AreBehind, AreMore}}
 
 -- the fields of a prepare or of a reply are in their ranges
 pub record IsInRange (h : Header) : Type 0 where

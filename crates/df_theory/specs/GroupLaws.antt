@@ -1,23 +1,10 @@
 -- Groups: what the walk of an open finds of them, what nothing survives of, and how a group and a boot update lead from one tidy file to the next.
 use Rattle.std.specs.Prelude.{◌≡◌, ◌⊎◌, ◌↔◌, ◌<◌, ◌≤◌, ◌+◌, ◌-◌, ◌%◌, ℕ, length, List, [], ◌∷◌, take, Option, Some, None}
-use Rattle.df_theory.specs.Units.{Content, Header, HeaderPlace, HeaderUnit, Message, PreparePlace, PrepareUnit, ReplyPlace, ReplyUnit, Session, Units, IsAlone}
-use Rattle.df_theory.specs.Sessions.{sessions_after}
-use Rattle.df_theory.specs.Tails.{In, Chain, EndsAt, Fits, last_mark, last_checksum, AreGroups, AreWholeGroups}
-use Rattle.df_theory.specs.Shape.{Shape, slots, clients}
-use Rattle.df_theory.specs.View.{Checkpoint, View, boot_of, head}
-use Rattle.df_theory.specs.Holds.{IsWhole}
-use Rattle.df_theory.specs.Next.{MayAppend, MayBoot, appended, booted}
-use Rattle.df_theory.specs.UnitLog.{UnitLog, now, settled}
-use Rattle.df_theory.specs.Grown.{IsClear}
-use Rattle.df_theory.specs.Rests.{IsQuiet, RestsOn}
-use Rattle.df_theory.specs.Cases.{IsEmpty, Takes, decision}
-use Rattle.df_theory.specs.Found.{AreOfPlaces, IsFound, IsReach, IsTail, NotLost}
-use Rattle.df_theory.specs.Runs.{Command, Syncs, after_steps}
-use Rattle.df_theory.specs.CopyPuts.{PutsCopies, update_steps}
-use Rattle.df_theory.specs.WriterLaws.{AllPutPrepare, AreSame, flush_steps}
-use Rattle.df_theory.specs.MendLaws.{AllPutTable, Reaches}
-use Rattle.df_theory.specs.WholeLaws.{IsStanding}
-use Rattle.df_theory.specs.TidyLaws.{IsTidy, KeepsStanding, LeadsTidily}
+use Rattle.df_theory.specs.{Units.{Content, Header, HeaderPlace, HeaderUnit, Message, PreparePlace, PrepareUnit, ReplyPlace, ReplyUnit, Session, Units, IsAlone}, Sessions.{sessions_after}}
+use Rattle.df_theory.specs.{Tails.{In, Chain, EndsAt, Fits, last_mark, last_checksum, AreGroups, AreWholeGroups}, Shape.{Shape, slots, clients}, View.{Checkpoint, View, boot_of, head}}
+use Rattle.df_theory.specs.{Holds.{IsWhole}, Next.{MayAppend, MayBoot, appended, booted}, UnitLog.{UnitLog, now, settled}, Grown.{IsClear}, Rests.{IsQuiet, RestsOn}, Cases.{IsEmpty, Takes, decision}}
+use Rattle.df_theory.specs.{Found.{AreOfPlaces, IsFound, IsReach, IsTail, NotLost}, Runs.{Command, Syncs, after_steps}, CopyPuts.{PutsCopies, update_steps}}
+use Rattle.df_theory.specs.{WriterLaws.{AllPutPrepare, AreSame, flush_steps}, MendLaws.{AllPutTable, Reaches}, WholeLaws.{IsStanding}, TidyLaws.{IsTidy, KeepsStanding, LeadsTidily}}
 
 -- in a file without boots, as all of version 1, nothing ever survives
 abbrev pub ClearLaw : Type 0

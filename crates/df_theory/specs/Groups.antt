@@ -1,10 +1,7 @@
 -- Groups of prepares, of which a stop may leave a part.
 use Rattle.std.specs.Prelude.{◌≡◌, ◌<◌, ◌≤◌, ◌+◌, ◌%◌, ℕ, List, length, Some}
-use Rattle.df_theory.specs.Units.{PreparePlace, Content, Message, PrepareUnit, Units}
-use Rattle.df_theory.specs.Sessions.{sessions_after}
-use Rattle.df_theory.specs.Tails.{In, Chain, last_mark, last_checksum, AreGroups, AreWholeGroups}
-use Rattle.df_theory.specs.Shape.{Shape, slots, clients}
-use Rattle.df_theory.specs.View.{Checkpoint, View}
+use Rattle.df_theory.specs.{Units.{PreparePlace, Content, Message, PrepareUnit, Units}, Sessions.{sessions_after}, Tails.{In, Chain, last_mark, last_checksum, AreGroups, AreWholeGroups}}
+use Rattle.df_theory.specs.{Shape.{Shape, slots, clients}, View.{Checkpoint, View}}
 
 -- prepares after this tail, each of which is shown and fits what precedes it
 pub record AreBehind (sh : Shape) (Shown : Message → Type 0) (b : Checkpoint) (tail ps : List Message) : Type 0 where

@@ -1,15 +1,8 @@
 -- Histories that grew as they should, and logs that are safe wherever a stop falls.
 use Rattle.std.specs.Prelude.{◌≡◌, ◌⊎◌, ◌<◌, ◌≤◌, ℕ, List, [], ◌∷◌, Some}
 use Rattle.df_theory.specs.Units.{Place, CopyPlace, HeaderPlace, PreparePlace, ReplyPlace, BlockPlace, Header, Message, Content, AnyUnit, CopyUnit, HeaderUnit, PrepareUnit, ReplyUnit, Units}
-use Rattle.df_theory.specs.Shape.{Shape}
-use Rattle.df_theory.specs.Tails.{In, IsCutOff}
-use Rattle.df_theory.specs.Copies.{IsNextContent}
-use Rattle.df_theory.specs.View.{View, boot_of, head}
-use Rattle.df_theory.specs.Holds.{Holds}
-use Rattle.df_theory.specs.Next.{Next}
-use Rattle.df_theory.specs.UnitLog.{UnitLog, Synced, Stopped, add, settled, IsLeftBy}
-use Rattle.df_theory.specs.Chance.{InImages, NoChance, AreFair}
-use Rattle.df_theory.specs.First.{IsFirstContent, IsFirst, ShowsMade, AreMade}
+use Rattle.df_theory.specs.{Shape.{Shape}, Tails.{In, IsCutOff}, Copies.{IsNextContent}, View.{View, boot_of, head}, Holds.{Holds}, Next.{Next}}
+use Rattle.df_theory.specs.{UnitLog.{UnitLog, Synced, Stopped, add, settled, IsLeftBy}, Chance.{InImages, NoChance, AreFair}, First.{IsFirstContent, IsFirst, ShowsMade, AreMade}}
 
 -- a unit of this view: of its tail, a reserved header, a stored reply, a copy of its content, or a copy 0 of the next one
 abbrev pub InView : View → Place → AnyUnit → Type 0

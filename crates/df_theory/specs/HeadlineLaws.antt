@@ -1,14 +1,7 @@
 -- The promise of the honest half, over places: stop anywhere, and the next open finds the state after the commands that were answered, or after one more. And where a session begins.
 use Rattle.std.specs.Prelude.{◌⊎◌, List, [], ◌∷◌}
-use Rattle.df_theory.specs.Units.{Units}
-use Rattle.df_theory.specs.Shape.{Shape}
-use Rattle.df_theory.specs.View.{View}
-use Rattle.df_theory.specs.UnitLog.{Stopped, Synced, UnitLog, add, now}
-use Rattle.df_theory.specs.Chance.{EachLeft}
-use Rattle.df_theory.specs.Grown.{Grown}
-use Rattle.df_theory.specs.Rests.{RestsOn}
-use Rattle.df_theory.specs.Found.{AreOfPlaces, IsClean, IsFound}
-use Rattle.df_theory.specs.Runs.{AtEach, Command, LeadOn, after_steps}
+use Rattle.df_theory.specs.{Units.{Units}, Shape.{Shape}, View.{View}, UnitLog.{Stopped, Synced, UnitLog, add, now}, Chance.{EachLeft}, Grown.{Grown}, Rests.{RestsOn}}
+use Rattle.df_theory.specs.{Found.{AreOfPlaces, IsClean, IsFound}, Runs.{AtEach, Command, LeadOn, after_steps}}
 
 -- an open of this image finds this state, and the log with the stop that left it rests on it: the next session goes on from there
 pub record Survives (sh : Shape) (log : UnitLog) (image : Units) (w : View) : Type 0 where

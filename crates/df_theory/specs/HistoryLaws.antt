@@ -1,14 +1,7 @@
 -- What holds of all that a history ever settled, and so of an image that shows any of it.
 use Rattle.std.specs.Prelude.{◌≡◌, ◌≤◌, ℕ, List, Some}
-use Rattle.df_theory.specs.Units.{AnyUnit, Content, CopyPlace, CopyUnit, Message, Place, PreparePlace, PrepareUnit, ReplyPlace, ReplyUnit, Units}
-use Rattle.df_theory.specs.Shape.{Shape}
-use Rattle.df_theory.specs.Copies.{rank_of}
-use Rattle.df_theory.specs.View.{View, head}
-use Rattle.df_theory.specs.UnitLog.{UnitLog, settled}
-use Rattle.df_theory.specs.Chance.{Distinct, InImages, InWrites, NoChance}
-use Rattle.df_theory.specs.Grown.{Grows, HasGrown}
-use Rattle.df_theory.specs.Found.{IsFound}
-use Rattle.df_theory.specs.Past.{FromEmpty, Was}
+use Rattle.df_theory.specs.{Units.{AnyUnit, Content, CopyPlace, CopyUnit, Message, Place, PreparePlace, PrepareUnit, ReplyPlace, ReplyUnit, Units}, Shape.{Shape}, Copies.{rank_of}, View.{View, head}}
+use Rattle.df_theory.specs.{UnitLog.{UnitLog, settled}, Chance.{Distinct, InImages, InWrites, NoChance}, Grown.{Grows, HasGrown}, Found.{IsFound}, Past.{FromEmpty, Was}}
 
 -- the settled prepares of one op and one boot are one
 abbrev pub OnePrepareLaw : Type 0

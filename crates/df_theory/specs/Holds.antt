@@ -1,15 +1,9 @@
 -- When an image holds a view: what every image that a stop may leave has to do.
-use Rattle.std.specs.Prelude.{◌≡◌, ◌<◌, ◌≤◌, ◌+◌, ◌-◌, ◌%◌, ℕ, length, slice_index, take, Some}
-use Rattle.std.specs.List.{slice_get}
+use Rattle.std.specs.{Prelude.{◌≡◌, ◌<◌, ◌≤◌, ◌+◌, ◌-◌, ◌%◌, ℕ, length, slice_index, take, Some}, List.{slice_get}}
 use Rattle.df_base.specs.declared.TheConstants.{GREATEST}
-use Rattle.df_theory.specs.Units.{Place, CopyPlace, HeaderPlace, BlockPlace, Header, Message, Session, Content, Block, AnyUnit, CopyUnit, HeaderUnit, BlockUnit, Units}
-use Rattle.df_theory.specs.Sessions.{Answers}
-use Rattle.df_theory.specs.Tails.{In, Chain, last_checksum, last_mark, AreGroups, AreWholeGroups, EndsAt}
-use Rattle.df_theory.specs.Shape.{Shape, slots, clients}
-use Rattle.df_theory.specs.Copies.{IsChosen}
-use Rattle.df_theory.specs.View.{View, boot_of, head, sessions, IsSoundCheckpoint}
-use Rattle.df_theory.specs.Shows.{Needs, Agrees}
-use Rattle.df_theory.specs.Groups.{IsShort}
+use Rattle.df_theory.specs.{Units.{Place, CopyPlace, HeaderPlace, BlockPlace, Header, Message, Session, Content, Block, AnyUnit, CopyUnit, HeaderUnit, BlockUnit, Units}, Sessions.{Answers}}
+use Rattle.df_theory.specs.{Tails.{In, Chain, last_checksum, last_mark, AreGroups, AreWholeGroups, EndsAt}, Shape.{Shape, slots, clients}, Copies.{IsChosen}}
+use Rattle.df_theory.specs.{View.{View, boot_of, head, sessions, IsSoundCheckpoint}, Shows.{Needs, Agrees}, Groups.{IsShort}}
 
 -- a reply that the content names is the one with the named checksum; each later one is of this boot
 pub record IsNamed (c : Content) (k : ℕ) (r : Message) : Type 0 where

@@ -1,17 +1,8 @@
 -- How a file is made: from a blank disk to its first view.
 use Rattle.std.specs.Prelude.{◌≡◌, ◌⊎◌, ◌<◌, ℕ, false, List, [], ◌∷◌, ◌++◌, Some, None}
-use Rattle.df_theory.specs.CopyPuts.{PutsCopies, update_steps}
-use Rattle.df_theory.specs.Units.{AnyUnit, Content, CopyPlace, CopyUnit, Header, HeaderPlace, HeaderUnit, Place, Units, IsReserved}
-use Rattle.df_theory.specs.Shape.{Shape}
-use Rattle.df_theory.specs.Copies.{IsSplit}
-use Rattle.df_theory.specs.View.{View}
-use Rattle.df_theory.specs.Holds.{Held}
-use Rattle.df_theory.specs.UnitLog.{PutsOne, Synced, UnitLog, add, loose, now, wrote}
-use Rattle.df_theory.specs.Chance.{EachLeft, InWrites}
-use Rattle.df_theory.specs.First.{IsFirst, IsFirstContent, IsMade, ShowsMade}
-use Rattle.df_theory.specs.Grown.{HasMade, IsSafe}
-use Rattle.df_theory.specs.Rests.{IsDry, RestsOn}
-use Rattle.df_theory.specs.Runs.{AtEach, Puts, Step, Syncs, after_steps}
+use Rattle.df_theory.specs.{CopyPuts.{PutsCopies, update_steps}, Units.{AnyUnit, Content, CopyPlace, CopyUnit, Header, HeaderPlace, HeaderUnit, Place, Units, IsReserved}, Shape.{Shape}}
+use Rattle.df_theory.specs.{Copies.{IsSplit}, View.{View}, Holds.{Held}, UnitLog.{PutsOne, Synced, UnitLog, add, loose, now, wrote}, Chance.{EachLeft, InWrites}}
+use Rattle.df_theory.specs.{First.{IsFirst, IsFirstContent, IsMade, ShowsMade}, Grown.{HasMade, IsSafe}, Rests.{IsDry, RestsOn}, Runs.{AtEach, Puts, Step, Syncs, after_steps}}
 
 -- a new disk shows nothing, and nothing has happened
 abbrev pub blank_log : UnitLog

@@ -1,15 +1,7 @@
 -- How an open mends a file: header sectors, a sync, then the copies that aren't of the choice, a sync after each.
 use Rattle.std.specs.Prelude.{◌≡◌, ◌⊎◌, ◌<◌, ◌%◌, ℕ, List, [], ◌∷◌, ◌++◌, Some}
-use Rattle.df_theory.specs.Units.{AnyUnit, Content, CopyPlace, CopyUnit, Header, HeaderPlace, HeaderUnit, Message, Place, Units, IsReserved}
-use Rattle.df_theory.specs.Tails.{In}
-use Rattle.df_theory.specs.Shape.{Shape, slots}
-use Rattle.df_theory.specs.Copies.{Agree}
-use Rattle.df_theory.specs.View.{View}
-use Rattle.df_theory.specs.Holds.{IsWhole}
-use Rattle.df_theory.specs.UnitLog.{PutsOne, UnitLog, now}
-use Rattle.df_theory.specs.Rests.{IsGoodLog, IsQuiet, RestsOn}
-use Rattle.df_theory.specs.Runs.{AtEach, Puts, Step, Syncs, after_steps}
-use Rattle.df_theory.specs.MakingLaws.{all_puts}
+use Rattle.df_theory.specs.{Units.{AnyUnit, Content, CopyPlace, CopyUnit, Header, HeaderPlace, HeaderUnit, Message, Place, Units, IsReserved}, Tails.{In}, Shape.{Shape, slots}, Copies.{Agree}}
+use Rattle.df_theory.specs.{View.{View}, Holds.{IsWhole}, UnitLog.{PutsOne, UnitLog, now}, Rests.{IsGoodLog, IsQuiet, RestsOn}, Runs.{AtEach, Puts, Step, Syncs, after_steps}, MakingLaws.{all_puts}}
 
 -- where the header that a slot is to have comes from: it is shown there, it is that of a prepare of the tail, or it is a reserved one
 abbrev pub IsFromSlot : Shape → Units → View → ℕ → Header → Type 0

@@ -1,13 +1,8 @@
 -- How one view follows another: by an append, a reply, a finished checkpoint or a boot update.
-use Rattle.std.specs.Prelude.{◌≡◌, ◌<◌, ◌≤◌, ◌+◌, ◌-◌, ◌==◌, ℕ, nat_lt, if◌then◌else◌, List, [], ◌∷◌, ◌++◌, length, drop, slice_index, take, Option, Some, None}
-use Rattle.std.specs.List.{slice_get}
+use Rattle.std.specs.{Prelude.{◌≡◌, ◌<◌, ◌≤◌, ◌+◌, ◌-◌, ◌==◌, ℕ, nat_lt, if◌then◌else◌, List, [], ◌∷◌, ◌++◌, length, drop, slice_index, take, Option, Some, None}, List.{slice_get}}
 use Rattle.df_base.specs.declared.TheConstants.{GREATEST}
-use Rattle.df_theory.specs.Units.{Content, Header, Message, Session, IsAlone}
-use Rattle.df_theory.specs.Sessions.{noted, sessions_after, MayAsk, Answers}
-use Rattle.df_theory.specs.Tails.{EndsAt, In, last_checksum}
-use Rattle.df_theory.specs.Shape.{Shape, slots, clients}
-use Rattle.df_theory.specs.Trailer.{IsTrailer}
-use Rattle.df_theory.specs.View.{Checkpoint, IsOfVersion, View, boot_of, head, sequence, sessions}
+use Rattle.df_theory.specs.{Units.{Content, Header, Message, Session, IsAlone}, Sessions.{noted, sessions_after, MayAsk, Answers}, Tails.{EndsAt, In, last_checksum}, Shape.{Shape, slots, clients}}
+use Rattle.df_theory.specs.{Trailer.{IsTrailer}, View.{Checkpoint, IsOfVersion, View, boot_of, head, sequence, sessions}}
 
 -- what is stored for a session: nothing where its op is above this one
 abbrev pub kept : Option Session → ℕ → Option Message → Option Message

@@ -1,15 +1,9 @@
 -- The answer of an open: the first step that refuses, and what it names, or the state that is found.
-use Rattle.std.specs.Prelude.{◌≡◌, ◌<◌, ◌≤◌, ◌+◌, ◌-◌, ◌%◌, ℕ, List, [], ◌∷◌, ◌++◌, length, Some}
-use Rattle.std.specs.List.{slice_get}
+use Rattle.std.specs.{Prelude.{◌≡◌, ◌<◌, ◌≤◌, ◌+◌, ◌-◌, ◌%◌, ℕ, List, [], ◌∷◌, ◌++◌, length, Some}, List.{slice_get}}
 use Rattle.df_base.specs.declared.TheConstants.{GREATEST, HEADER}
 use Rattle.df_theory.specs.Units.{Block, BlockPlace, BlockUnit, Content, CopyPlace, CopyUnit, Message, Place, PreparePlace, PrepareUnit, ReplyPlace, ReplyUnit, Session, Units}
-use Rattle.df_theory.specs.Sessions.{Answers, sessions_after}
-use Rattle.df_theory.specs.Tails.{AreGroups, Chain, In}
-use Rattle.df_theory.specs.Shape.{Shape, slots, clients}
-use Rattle.df_theory.specs.Copies.{IsChosen, IsSplit}
-use Rattle.df_theory.specs.Trailer.{InChain, IsCount, IsReference, piece_size}
-use Rattle.df_theory.specs.View.{Checkpoint, IsSoundCheckpoint, PassesTests, View, boot_of}
-use Rattle.df_theory.specs.Holds.{IsNamed}
+use Rattle.df_theory.specs.{Sessions.{Answers, sessions_after}, Tails.{AreGroups, Chain, In}, Shape.{Shape, slots, clients}, Copies.{IsChosen, IsSplit}}
+use Rattle.df_theory.specs.{Trailer.{InChain, IsCount, IsReference, piece_size}, View.{Checkpoint, IsSoundCheckpoint, PassesTests, View, boot_of}, Holds.{IsNamed}}
 use Rattle.df_theory.specs.Found.{IsFound, IsReach, IsReplies, IsTail, NotBehind, NotLost, slot_behind}
 
 -- no two copies agree, as in a blank file; a test of the superblock, of its layout or of its trailer fails; a place is damaged or shows what cannot be; no boot is left

@@ -1,10 +1,7 @@
 -- The views that a history went through.
 use Rattle.std.specs.Prelude.{◌≡◌, ◌⊎◌, List, [], ◌∷◌}
 use Rattle.std.proofs.Common.{inl, inr}
-use Rattle.df_theory.specs.Units.{Units}
-use Rattle.df_theory.specs.Shape.{Shape}
-use Rattle.df_theory.specs.View.{View}
-use Rattle.df_theory.specs.Grown.{Grows}
+use Rattle.df_theory.specs.{Units.{Units}, Shape.{Shape}, View.{View}, Grown.{Grows}}
 
 -- one of the settled images had this view
 abbrev pub Was : (sh : Shape) (images : List Units) (v : View) → Grows sh images v → View → Type 0

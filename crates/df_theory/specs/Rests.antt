@@ -1,14 +1,7 @@
 -- Logs of which nothing that is loose matters to the view, and what a write makes of them.
 use Rattle.std.specs.Prelude.{◌≡◌, ◌⊎◌, ℕ, true, false, List, Some}
-use Rattle.df_theory.specs.Units.{Place, CopyPlace, PreparePlace, BlockPlace, Content, AnyUnit, Units}
-use Rattle.df_theory.specs.Shape.{Shape}
-use Rattle.df_theory.specs.View.{View}
-use Rattle.df_theory.specs.Shows.{Needs, Agrees}
-use Rattle.df_theory.specs.Copies.{Agree}
-use Rattle.df_theory.specs.Holds.{Holds, Held}
-use Rattle.df_theory.specs.UnitLog.{UnitLog, Synced, add, now, loose, settled, wrote}
-use Rattle.df_theory.specs.Chance.{InImages, InWrites, InPool, AreFair, EachLeft}
-use Rattle.df_theory.specs.Grown.{InHistory, Grows, IsSafe}
+use Rattle.df_theory.specs.{Units.{Place, CopyPlace, PreparePlace, BlockPlace, Content, AnyUnit, Units}, Shape.{Shape}, View.{View}, Shows.{Needs, Agrees}, Copies.{Agree}, Holds.{Holds, Held}}
+use Rattle.df_theory.specs.{UnitLog.{UnitLog, Synced, add, now, loose, settled, wrote}, Chance.{InImages, InWrites, InPool, AreFair, EachLeft}, Grown.{InHistory, Grows, IsSafe}}
 
 abbrev pub IsCopy : Place → Type 0
 IsCopy (CopyPlace n) = Unit {0}

@@ -1,13 +1,6 @@
 -- Runs of writes and syncs, and what holds at each moment of them.
 use Rattle.std.specs.Prelude.{◌⊎◌, List, [], ◌∷◌, ◌++◌}
-use Rattle.df_theory.specs.Units.{Units}
-use Rattle.df_theory.specs.Shape.{Shape}
-use Rattle.df_theory.specs.View.{View}
-use Rattle.df_theory.specs.Holds.{Held}
-use Rattle.df_theory.specs.UnitLog.{Synced, UnitLog, add, wrote}
-use Rattle.df_theory.specs.Chance.{EachLeft}
-use Rattle.df_theory.specs.Grown.{IsSafe}
-use Rattle.df_theory.specs.Rests.{IsGoodLog, RestsOn}
+use Rattle.df_theory.specs.{Units.{Units}, Shape.{Shape}, View.{View}, Holds.{Held}, UnitLog.{Synced, UnitLog, add, wrote}, Chance.{EachLeft}, Grown.{IsSafe}, Rests.{IsGoodLog, RestsOn}}
 
 -- what a program asks of the disk
 pub data Step : Type 0 where

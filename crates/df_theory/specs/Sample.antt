@@ -1,25 +1,10 @@
 -- Files that meet every premise: one is made and each kind of command done to it, one is stopped within an append, one within an update and mended, and one has a hurt place.
 use Rattle.std.specs.Prelude.{◌≡◌, ◌<◌, ◌+◌, ℕ, List, [], length, Some, None}
 use Rattle.df_base.specs.declared.TheConstants.{FIRST_VERSION}
-use Rattle.df_theory.specs.Units.{Units, Content, CopyPlace, CopyUnit, Header, Message, Place, PreparePlace, PrepareUnit}
-use Rattle.df_theory.specs.Tails.{In}
-use Rattle.df_theory.specs.Shape.{Shape}
-use Rattle.df_theory.specs.View.{View, head, sequence}
-use Rattle.df_theory.specs.Holds.{Holds}
-use Rattle.df_theory.specs.UnitLog.{IsLeftBy, UnitLog, add, Stopped, now}
-use Rattle.df_theory.specs.Chance.{NoChance}
-use Rattle.df_theory.specs.Grown.{IsSafe}
-use Rattle.df_theory.specs.Rests.{RestsOn}
-use Rattle.df_theory.specs.Runs.{AtEach, Command, Step, after_steps, view_after}
-use Rattle.df_theory.specs.Copies.{Agree, rank_of}
-use Rattle.df_theory.specs.Opens.{Damaged, Opens, Refused}
-use Rattle.df_theory.specs.MendLaws.{MayMend}
-use Rattle.df_theory.specs.MakingLaws.{blank_log}
-use Rattle.df_theory.specs.Next.{booted}
-use Rattle.df_theory.specs.Found.{IsClean, IsFound}
-use Rattle.df_theory.specs.Upgrades.{MayRaise, of_version}
-use Rattle.df_theory.specs.WholeLaws.{IsStanding}
-use Rattle.df_theory.specs.TidyLaws.{IsTidy, KeepStanding, LeadTidily}
+use Rattle.df_theory.specs.{Units.{Units, Content, CopyPlace, CopyUnit, Header, Message, Place, PreparePlace, PrepareUnit}, Tails.{In}, Shape.{Shape}, View.{View, head, sequence}, Holds.{Holds}}
+use Rattle.df_theory.specs.{UnitLog.{IsLeftBy, UnitLog, add, Stopped, now}, Chance.{NoChance}, Grown.{IsSafe}, Rests.{RestsOn}, Runs.{AtEach, Command, Step, after_steps, view_after}}
+use Rattle.df_theory.specs.{Copies.{Agree, rank_of}, Opens.{Damaged, Opens, Refused}, MendLaws.{MayMend}, MakingLaws.{blank_log}, Next.{booted}, Found.{IsClean, IsFound}}
+use Rattle.df_theory.specs.{Upgrades.{MayRaise, of_version}, WholeLaws.{IsStanding}, TidyLaws.{IsTidy, KeepStanding, LeadTidily}}
 
 -- a file is made, safe at each moment, and each kind of command is done to it, from one tidy state to the next, while the referenced blocks stand: it ends with a tail, a stored reply, a second checkpoint and a reference
 pub record SampleLaw : Type 0 where

@@ -1,6 +1,5 @@
 -- The table of sessions: each client's last request, in the order in which clients came.
-use Rattle.std.specs.Prelude.{◌≡◌, ◌⊎◌, ◌<◌, ◌≤◌, ◌+◌, ◌==◌, ℕ, if◌then◌else◌, List, [], ◌∷◌, Some}
-use Rattle.std.specs.List.{slice_get}
+use Rattle.std.specs.{Prelude.{◌≡◌, ◌⊎◌, ◌<◌, ◌≤◌, ◌+◌, ◌==◌, ℕ, if◌then◌else◌, List, [], ◌∷◌, Some}, List.{slice_get}}
 use Rattle.df_theory.specs.Units.{Header, Message, Session}
 
 abbrev pub session_of_header : Header → Session

@@ -1,11 +1,7 @@
 -- What an image with a view must show, and what it may show, place by place.
 use Rattle.std.specs.Prelude.{◌≡◌, ◌⊎◌, ◌<◌, ◌≤◌, ◌+◌, ◌%◌, ℕ, Some}
 use Rattle.df_theory.specs.Units.{Place, CopyPlace, HeaderPlace, PreparePlace, ReplyPlace, BlockPlace, Header, Message, Content, Block, AnyUnit, CopyUnit, HeaderUnit, PrepareUnit, ReplyUnit, BlockUnit, IsAlone}
-use Rattle.df_theory.specs.Shape.{Shape, slots}
-use Rattle.df_theory.specs.Tails.{In, BindsHead}
-use Rattle.df_theory.specs.Trailer.{InChain}
-use Rattle.df_theory.specs.Copies.{rank_of}
-use Rattle.df_theory.specs.View.{View, boot_of, head, sequence}
+use Rattle.df_theory.specs.{Shape.{Shape, slots}, Tails.{In, BindsHead}, Trailer.{InChain}, Copies.{rank_of}, View.{View, boot_of, head, sequence}}
 
 -- the units that must be shown: the tail, the stored replies and the trailer
 abbrev pub Needs : Shape → View → Place → AnyUnit → Type 0

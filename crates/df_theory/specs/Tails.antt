@@ -1,7 +1,6 @@
 -- Lists of prepares, each of which fits what precedes it.
 use Rattle.std.specs.Prelude.{◌≡◌, ◌⊎◌, ◌<◌, ◌≤◌, ◌+◌, ℕ, List, [], ◌∷◌}
-use Rattle.df_theory.specs.Units.{Header, Message, Session}
-use Rattle.df_theory.specs.Sessions.{noted, MayAsk}
+use Rattle.df_theory.specs.{Units.{Header, Message, Session}, Sessions.{noted, MayAsk}}
 
 abbrev pub In : Message → List Message → Type 0
 In p [] = ⊥

@@ -1,24 +1,11 @@
 -- The state of a file between two commands: nothing but blocks of the grid is loose, and nothing is to be mended. Each command begins and ends in it.
 -- Whether the referenced blocks stand is said beside it: a file with one hurt block is tidy too.
 use Rattle.std.specs.Prelude.{◌≡◌, ◌⊎◌, ◌<◌, ◌%◌, ℕ, List, [], ◌∷◌, Some}
-use Rattle.df_theory.specs.Units.{Block, BlockPlace, BlockUnit, Header, HeaderPlace, HeaderUnit, Message, PreparePlace, PrepareUnit, ReplyPlace, ReplyUnit, Units}
-use Rattle.df_theory.specs.Shape.{Shape, slots}
-use Rattle.df_theory.specs.Trailer.{InChain}
-use Rattle.df_theory.specs.View.{Checkpoint, View}
-use Rattle.df_theory.specs.Holds.{Held, IsWhole, Stands}
-use Rattle.df_theory.specs.Next.{MayAppend, MayFinish, MayReply, checkpointed}
-use Rattle.df_theory.specs.UnitLog.{PutsOne, UnitLog, now, settled}
-use Rattle.df_theory.specs.Chance.{EachLeft}
-use Rattle.df_theory.specs.First.{IsFirst}
-use Rattle.df_theory.specs.Grown.{IsClear, IsSafe}
-use Rattle.df_theory.specs.Rests.{IsQuiet, RestsOn}
-use Rattle.df_theory.specs.Runs.{AtEach, Command, Leads, after_steps, steps_of, view_after}
-use Rattle.df_theory.specs.CopyPuts.{PutsCopies}
-use Rattle.df_theory.specs.WriterLaws.{IsHeaderSector}
-use Rattle.df_theory.specs.MakingLaws.{AllReserved, IsMaking, format_steps}
-use Rattle.df_theory.specs.MendLaws.{MayMend, Reaches}
-use Rattle.df_theory.specs.Commands.{append_command, block_command, finish_command, idle_command, mend_command, reply_command, sync_command}
-use Rattle.df_theory.specs.WholeLaws.{IsStanding}
+use Rattle.df_theory.specs.{Units.{Block, BlockPlace, BlockUnit, Header, HeaderPlace, HeaderUnit, Message, PreparePlace, PrepareUnit, ReplyPlace, ReplyUnit, Units}, Shape.{Shape, slots}}
+use Rattle.df_theory.specs.{Trailer.{InChain}, View.{Checkpoint, View}, Holds.{Held, IsWhole, Stands}, Next.{MayAppend, MayFinish, MayReply, checkpointed}, UnitLog.{PutsOne, UnitLog, now, settled}}
+use Rattle.df_theory.specs.{Chance.{EachLeft}, First.{IsFirst}, Grown.{IsClear, IsSafe}, Rests.{IsQuiet, RestsOn}, Runs.{AtEach, Command, Leads, after_steps, steps_of, view_after}}
+use Rattle.df_theory.specs.{CopyPuts.{PutsCopies}, WriterLaws.{IsHeaderSector}, MakingLaws.{AllReserved, IsMaking, format_steps}, MendLaws.{MayMend, Reaches}}
+use Rattle.df_theory.specs.{Commands.{append_command, block_command, finish_command, idle_command, mend_command, reply_command, sync_command}, WholeLaws.{IsStanding}}
 use Rattle.df_theory.specs.HeadlineLaws.{Survives, SurvivesEach}
 
 -- the file is tidy, with this view: nothing of its boot survived above its head

@@ -1,8 +1,7 @@
 -- The trailer of a checkpoint: a chain of blocks, read from the last to the first.
 use Rattle.std.specs.Prelude.{◌≡◌, ◌⊎◌, ◌<◌, ◌≤◌, ◌+◌, ◌-◌, ◌*◌, ◌/◌, ℕ, List, [], ◌∷◌, ◌++◌, length, min, Some, None}
 use Rattle.df_base.specs.declared.TheConstants.{HEADER}
-use Rattle.df_theory.specs.Units.{Block, Content, Layout, Parts}
-use Rattle.df_theory.specs.Shape.{Shape}
+use Rattle.df_theory.specs.{Units.{Block, Content, Layout, Parts}, Shape.{Shape}}
 
 abbrev pub InChain : ℕ → Block → List (ℕ × Block) → Type 0
 InChain a b [] = ⊥

@@ -2,19 +2,9 @@
 use Rattle.std.specs.Prelude.{◌≡◌, ◌⊎◌, ◌<◌, ◌≤◌, ℕ, List, ◌++◌, Some, []}
 use Rattle.df_base.specs.declared.TheConstants.{FIRST_VERSION, VERSION}
 use Rattle.df_theory.specs.CopyPuts.{PutsCopies, update_steps}
-use Rattle.df_theory.specs.Units.{Content, CopyPlace, CopyUnit, Header, HeaderPlace, HeaderUnit, Message, PreparePlace, PrepareUnit, ReplyPlace, ReplyUnit, Units}
-use Rattle.df_theory.specs.Shape.{Shape, slots}
-use Rattle.df_theory.specs.Copies.{Agree}
-use Rattle.df_theory.specs.Shows.{AgreesCopy}
-use Rattle.df_theory.specs.View.{View, boot_of}
-use Rattle.df_theory.specs.Holds.{Holds, IsWhole}
-use Rattle.df_theory.specs.Next.{IsSameBare, MayBoot, booted}
-use Rattle.df_theory.specs.UnitLog.{UnitLog, now}
-use Rattle.df_theory.specs.Chance.{EachLeft}
-use Rattle.df_theory.specs.Rests.{IsDry, RestsOn}
-use Rattle.df_theory.specs.Runs.{AtEach, Step, after_steps}
-use Rattle.df_theory.specs.MendLaws.{AllPutCopy, AllPutTable, IsNumber, IsTable, Reaches, mend_steps}
-use Rattle.df_theory.specs.Found.{AreOfPlaces, IsClean, IsFound}
+use Rattle.df_theory.specs.{Units.{Content, CopyPlace, CopyUnit, Header, HeaderPlace, HeaderUnit, Message, PreparePlace, PrepareUnit, ReplyPlace, ReplyUnit, Units}, Shape.{Shape, slots}}
+use Rattle.df_theory.specs.{Copies.{Agree}, Shows.{AgreesCopy}, View.{View, boot_of}, Holds.{Holds, IsWhole}, Next.{IsSameBare, MayBoot, booted}, UnitLog.{UnitLog, now}, Chance.{EachLeft}}
+use Rattle.df_theory.specs.{Rests.{IsDry, RestsOn}, Runs.{AtEach, Step, after_steps}, MendLaws.{AllPutCopy, AllPutTable, IsNumber, IsTable, Reaches, mend_steps}, Found.{AreOfPlaces, IsClean, IsFound}}
 
 -- the same file, where another version is asked for
 abbrev pub of_version : ℕ → Shape → Shape

@@ -1,10 +1,7 @@
 -- What an image stands for.
 use Rattle.std.specs.Prelude.{◌≡◌, ◌≤◌, ◌<◌, ◌+◌, ℕ, List, length, Option, slice_index}
 use Rattle.df_base.specs.declared.TheConstants.{FIRST_VERSION, GREATEST, VERSION}
-use Rattle.df_theory.specs.Units.{Message, Session, Content, Block, Parts}
-use Rattle.df_theory.specs.Sessions.{sessions_after, Tracks}
-use Rattle.df_theory.specs.Shape.{Shape}
-use Rattle.df_theory.specs.Trailer.{IsTrailer}
+use Rattle.df_theory.specs.{Units.{Message, Session, Content, Block, Parts}, Sessions.{sessions_after, Tracks}, Shape.{Shape}, Trailer.{IsTrailer}}
 
 -- a checkpoint: the superblock's content, the trailer's blocks from the last to the first, and what they say
 pub record Checkpoint : Type 0 where

@@ -1,14 +1,8 @@
 -- An image and its view.
 use Rattle.std.specs.Prelude.{◌≡◌, ◌↔◌, ◌<◌, ◌≤◌, ◌+◌, ◌%◌, ℕ, List, length}
 use Rattle.df_base.specs.declared.TheConstants.{FIRST_VERSION, GREATEST}
-use Rattle.df_theory.specs.Units.{Content, Message, Units, HeaderPlace, PreparePlace}
-use Rattle.df_theory.specs.Tails.{last_checksum}
-use Rattle.df_theory.specs.Shape.{Shape, slots}
-use Rattle.df_theory.specs.Copies.{IsChosen}
-use Rattle.df_theory.specs.View.{Checkpoint, PassesTests, View, boot_of, head}
-use Rattle.df_theory.specs.Holds.{Holds}
-use Rattle.df_theory.specs.Cases.{SaysOfSlot, IsEmpty, IsTake, decided, decision}
-use Rattle.df_theory.specs.Found.{AreOfPlaces, IsClean, IsFound}
+use Rattle.df_theory.specs.{Units.{Content, Message, Units, HeaderPlace, PreparePlace}, Tails.{last_checksum}, Shape.{Shape, slots}, Copies.{IsChosen}}
+use Rattle.df_theory.specs.{View.{Checkpoint, PassesTests, View, boot_of, head}, Holds.{Holds}, Cases.{SaysOfSlot, IsEmpty, IsTake, decided, decision}, Found.{AreOfPlaces, IsClean, IsFound}}
 use Rattle.df_theory.specs.Opens.{AreKnown, BootSpent, Found, IsUnfit, LacksKnown, OpenAnswer, Opens, Refused}
 
 -- an image holds one view

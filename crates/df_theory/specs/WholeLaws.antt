@@ -1,15 +1,8 @@
 -- After each writer nothing is left to mend, and each referenced block still stands.
 use Rattle.std.specs.Prelude.{◌≡◌, ◌%◌, ℕ, false, List, [], ◌∷◌, Some, None}
-use Rattle.df_theory.specs.CopyPuts.{PutsCopies}
-use Rattle.df_theory.specs.Units.{Block, BlockPlace, BlockUnit, HeaderPlace, HeaderUnit, Message, PreparePlace, PrepareUnit, ReplyPlace, ReplyUnit, Units, overlay}
-use Rattle.df_theory.specs.Shape.{Shape, slots}
-use Rattle.df_theory.specs.View.{Checkpoint, View}
-use Rattle.df_theory.specs.Holds.{IsWhole, Sound, Stands}
-use Rattle.df_theory.specs.Next.{MayAppend, appended, checkpointed, replied}
-use Rattle.df_theory.specs.UnitLog.{PutsOne, UnitLog, loose, now}
-use Rattle.df_theory.specs.Chance.{EachLeft}
-use Rattle.df_theory.specs.Runs.{AtEach, Puts, Step, Syncs}
-use Rattle.df_theory.specs.WriterLaws.{IsHeaderSector}
+use Rattle.df_theory.specs.{CopyPuts.{PutsCopies}, Units.{Block, BlockPlace, BlockUnit, HeaderPlace, HeaderUnit, Message, PreparePlace, PrepareUnit, ReplyPlace, ReplyUnit, Units, overlay}}
+use Rattle.df_theory.specs.{Shape.{Shape, slots}, View.{Checkpoint, View}, Holds.{IsWhole, Sound, Stands}, Next.{MayAppend, appended, checkpointed, replied}, UnitLog.{PutsOne, UnitLog, loose, now}}
+use Rattle.df_theory.specs.{Chance.{EachLeft}, Runs.{AtEach, Puts, Step, Syncs}, WriterLaws.{IsHeaderSector}}
 
 -- an append with its header
 abbrev pub WholeAppendLaw : Type 0

@@ -2,18 +2,11 @@
 use Rattle.std.specs.Prelude.{◌≡◌, ◌⊎◌, ◌<◌, ◌%◌, ℕ, length, List, [], ◌∷◌, ◌++◌, Some}
 use Rattle.df_theory.specs.CopyPuts.{PutsCopies, update_steps}
 use Rattle.df_theory.specs.Units.{AnyUnit, Block, BlockPlace, BlockUnit, Content, CopyPlace, CopyUnit, Header, HeaderPlace, HeaderUnit, Message, Place, PreparePlace, PrepareUnit, ReplyPlace, ReplyUnit, Units, IsReserved}
-use Rattle.df_theory.specs.Tails.{In}
-use Rattle.df_theory.specs.Shape.{Shape, slots}
-use Rattle.df_theory.specs.Trailer.{InChain}
-use Rattle.df_theory.specs.View.{Checkpoint, View, boot_of}
-use Rattle.df_theory.specs.Holds.{Holds}
+use Rattle.df_theory.specs.{Tails.{In}, Shape.{Shape, slots}, Trailer.{InChain}, View.{Checkpoint, View, boot_of}, Holds.{Holds}}
 use Rattle.df_theory.specs.Next.{IsSameBare, MayAppend, MayBoot, MayFinish, MayReply, appended, booted, checkpointed, replied}
-use Rattle.df_theory.specs.UnitLog.{PutsOne, Stopped, Synced, UnitLog, add, now, put_one, settled, wrote}
-use Rattle.df_theory.specs.Chance.{EachLeft}
-use Rattle.df_theory.specs.Grown.{Grown, IsClear, IsSafe}
+use Rattle.df_theory.specs.{UnitLog.{PutsOne, Stopped, Synced, UnitLog, add, now, put_one, settled, wrote}, Chance.{EachLeft}, Grown.{Grown, IsClear, IsSafe}}
 use Rattle.df_theory.specs.Rests.{AgreeBeside, IsCalmPut, IsDry, IsGoodLog, IsQuiet, RestsOn, Stepped}
-use Rattle.df_theory.specs.Runs.{AtEach, Command, IsPartWay, LeadOn, Leads, Puts, Step, Syncs, after_steps, steps_of, view_after}
-use Rattle.df_theory.specs.MakingLaws.{all_puts}
+use Rattle.df_theory.specs.{Runs.{AtEach, Command, IsPartWay, LeadOn, Leads, Puts, Step, Syncs, after_steps, steps_of, view_after}, MakingLaws.{all_puts}}
 
 -- a log that rests on a view is safe, and each image that a stop leaves holds that view
 abbrev pub RestLaw : Type 0

@@ -2,14 +2,9 @@
 use Rattle.std.specs.Prelude.{ℕ, Option}
 use Rattle.df_disk.specs.Told.{Told}
 use Rattle.df_pace.specs.declared.pace.Pace.{Pace}
-use Rattle.df_session.specs.Below.{State as Replica}
-use Rattle.df_session.specs.Links.{CallsMade}
+use Rattle.df_session.specs.{Below.{State as Replica}, Links.{CallsMade}}
 use Rattle.df_workload.specs.declared.state.State.{State as Run}
-use Rattle.df_top.specs.Lines.{act_of, exchanges_in}
-use Rattle.df_top.specs.Pacing.{all_calls}
-use Rattle.df_top.specs.Session.{Ended, SessionState}
-use Rattle.df_top.specs.Works.{Worked}
-use Rattle.df_top.specs.declared.status.Status.{Status}
+use Rattle.df_top.specs.{Lines.{act_of, exchanges_in}, Pacing.{all_calls}, Session.{Ended, SessionState}, Works.{Worked}, declared.status.Status.{Status}}
 
 -- those of a script
 abbrev pub script_calls : {pace : Pace} {bound : ℕ} {origin now : SessionState} {status : Status} → Ended pace bound origin now status → CallsMade

@@ -1,25 +1,14 @@
 -- How a word ends where nothing fails: over a file that is safe to open, and `format` over a blank disk.
 use Rattle.std.specs.Prelude.{◌≡◌, ◌⊎◌, ◌<◌, ℕ, List, [], Option, Some}
-use Rattle.df_base.specs.declared.TheConstants.{FIRST_VERSION, GREATEST, VERSION}
-use Rattle.df_base.specs.Image.{IsImage}
+use Rattle.df_base.specs.{declared.TheConstants.{FIRST_VERSION, GREATEST, VERSION}, Image.{IsImage}}
 use Rattle.df_disk.specs.Told.{Told}
 use Rattle.df_layout.specs.declared.layout.Layout.{Layout}
-use Rattle.df_lines.specs.Grammar.{Said}
-use Rattle.df_lines.specs.Room.{line_bound}
-use Rattle.df_lines.specs.Script.{BeginsWithLines}
-use Rattle.df_session.specs.Below.{DataFile, IsUnformatted, shape}
-use Rattle.df_theory.specs.Found.{IsFound}
-use Rattle.df_theory.specs.View.{View, boot_of}
+use Rattle.df_lines.specs.{Grammar.{Said}, Room.{line_bound}, Script.{BeginsWithLines}}
+use Rattle.df_session.specs.{Below.{DataFile, IsUnformatted, shape}, Following.{MayOpen}}
+use Rattle.df_theory.specs.{Found.{IsFound}, View.{View, boot_of}}
 use Rattle.df_units.specs.Bytes.{unit_at}
-use Rattle.df_session.specs.Following.{MayOpen}
-use Rattle.df_top.specs.Formats.{Formats}
-use Rattle.df_top.specs.Mode.{AsksForFile}
-use Rattle.df_top.specs.Outside.{Faults, HasCauses, NoneFailed, Outside}
-use Rattle.df_top.specs.Run.{Runs, ServesIn, script_budget}
-use Rattle.df_top.specs.Upgrading.{RunsUpgrade}
-use Rattle.df_top.specs.declared.mode.Mode.{Mode}
-use Rattle.df_top.specs.declared.mode.Mode.TheVariants.{Format, Run, Recover, Inspect, Scrub, Workload, Upgrade, Paced}
-use Rattle.df_top.specs.declared.status.Status.{Status}
+use Rattle.df_top.specs.{Formats.{Formats}, Mode.{AsksForFile}, Outside.{Faults, HasCauses, NoneFailed, Outside}, Run.{Runs, ServesIn, script_budget}, Upgrading.{RunsUpgrade}}
+use Rattle.df_top.specs.{declared.mode.Mode.{Mode}, declared.mode.Mode.TheVariants.{Format, Run, Recover, Inspect, Scrub, Workload, Upgrade, Paced}, declared.status.Status.{Status}}
 use Rattle.df_top.specs.declared.status.Status.TheVariants.{Done, Found, Memory, Script}
 
 -- each line of the text is a line of a script, within the bound of a layout and the budget

@@ -1,23 +1,15 @@
 -- What the word `format` promises.
 use Rattle.std.specs.Prelude.{◌≡◌, ◌⊎◌, ◌<◌, ℕ, List, Option, Some}
-use Rattle.df_base.specs.Moments.{EachMoment}
-use Rattle.df_base.specs.Streams.{Appends, AppendsPart}
-use Rattle.df_disk.specs.Adds.{AddsPart, after_all}
-use Rattle.df_disk.specs.Told.{IsHonest, Told}
+use Rattle.df_base.specs.{Moments.{EachMoment}, Streams.{Appends, AppendsPart}}
+use Rattle.df_disk.specs.{Adds.{AddsPart, after_all}, Told.{IsHonest, Told}}
 use Rattle.df_inspect.specs.Opening.{format_refusal, formatted_text}
-use Rattle.df_layout.specs.Zones.{file_sectors}
-use Rattle.df_layout.specs.declared.layout.Layout.{Layout}
+use Rattle.df_layout.specs.{Zones.{file_sectors}, declared.layout.Layout.{Layout}}
 use Rattle.df_theory.specs.Device.{IsSafeDisk}
-use Rattle.df_units.specs.Format.{format_of}
-use Rattle.df_units.specs.Making.{IsMadeOnDisk, first_view}
-use Rattle.df_model.specs.declared.errors.FormatError.{FormatError}
-use Rattle.df_model.specs.declared.errors.FormatError.TheVariants.{ClusterZero, NotBlank}
+use Rattle.df_units.specs.{Format.{format_of}, Making.{IsMadeOnDisk, first_view}}
+use Rattle.df_model.specs.{declared.errors.FormatError.{FormatError}, declared.errors.FormatError.TheVariants.{ClusterZero, NotBlank}}
 use Rattle.df_model.specs.declared.errors.FormatError.TheVariants as formats
-use Rattle.df_session.specs.Below.{IsUnformatted, shape}
-use Rattle.df_session.specs.Formatting.{IsFirstWritten, OnlyOnBlank}
-use Rattle.df_session.specs.Making.{MayMakeOn, file_of, making_events}
-use Rattle.df_top.specs.declared.status.Status.{Status}
-use Rattle.df_top.specs.declared.status.Status.TheVariants.{Done, Refused, DiskFault, WriteFault, Memory}
+use Rattle.df_session.specs.{Below.{IsUnformatted, shape}, Formatting.{IsFirstWritten, OnlyOnBlank}, Making.{MayMakeOn, file_of, making_events}}
+use Rattle.df_top.specs.{declared.status.Status.{Status}, declared.status.Status.TheVariants.{Done, Refused, DiskFault, WriteFault, Memory}}
 
 -- why no file is made over what the disk shows
 abbrev pub RefusesFormat : (cluster : ℕ) → Option Told → FormatError → Type 0

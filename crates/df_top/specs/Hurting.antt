@@ -6,16 +6,10 @@ use Rattle.df_disk.specs.Told.{Told}
 use Rattle.df_layout.specs.declared.layout.Layout.{Layout}
 use Rattle.df_theory.specs.View.{View, boot_of}
 use Rattle.df_model.specs.Work.{Work}
-use Rattle.df_session.specs.Begun.{begun_work}
-use Rattle.df_session.specs.Below.{DataFile, FindsHad, IsNeedless, RefusesHurt, HasEqualCopies, MayBeHurt, HasTwoCopies, IsHurtFile, MayBeOfDamage}
-use Rattle.df_session.specs.Found.{FoundFile}
+use Rattle.df_session.specs.{Begun.{begun_work}, Below.{DataFile, FindsHad, IsNeedless, RefusesHurt, HasEqualCopies, MayBeHurt, HasTwoCopies, IsHurtFile, MayBeOfDamage}, Found.{FoundFile}}
 use Rattle.df_session.specs.Owning.{ReadsOwn}
-use Rattle.df_top.specs.Acknowledging.{run_calls, script_calls}
-use Rattle.df_top.specs.Outside.{Outside}
-use Rattle.df_top.specs.Run.{ComesTo, DidNothing, Does, RefusesSuperblockAs, Works}
-use Rattle.df_top.specs.declared.mode.Mode.{Mode}
-use Rattle.df_top.specs.declared.mode.Mode.TheVariants.{Run, Workload, Paced}
-use Rattle.df_top.specs.declared.status.Status.{Status}
+use Rattle.df_top.specs.{Acknowledging.{run_calls, script_calls}, Outside.{Outside}, Run.{ComesTo, DidNothing, Does, RefusesSuperblockAs, Works}, declared.mode.Mode.{Mode}}
+use Rattle.df_top.specs.{declared.mode.Mode.TheVariants.{Run, Workload, Paced}, declared.status.Status.{Status}}
 
 -- ---- a word
 

@@ -1,12 +1,9 @@
 -- What the words of the command line ask for.
 use Rattle.std.specs.Prelude.{◌≡◌, ◌<◌, ◌≤◌, ◌^◌, ℕ, List, [], ◌∷◌, codes, decimal}
 use Rattle.df_layout.specs.declared.layout.Layout.{Layout}
-use Rattle.df_pace.specs.Beats.{idle}
-use Rattle.df_pace.specs.declared.pace.Pace.{Pace}
+use Rattle.df_pace.specs.{Beats.{idle}, declared.pace.Pace.{Pace}}
 use Rattle.df_program.specs.Names.{NamesLayout}
-use Rattle.df_top.specs.declared.mode.Mode.{Mode}
-use Rattle.df_top.specs.declared.mode.Mode.TheVariants.{Format, Run, Recover, Inspect, Scrub, Workload, Upgrade, Paced}
-use Rattle.df_top.specs.declared.mode.Task.{Task}
+use Rattle.df_top.specs.{declared.mode.Mode.{Mode}, declared.mode.Mode.TheVariants.{Format, Run, Recover, Inspect, Scrub, Workload, Upgrade, Paced}, declared.mode.Task.{Task}}
 use Rattle.df_top.specs.declared.mode.Task.TheVariants.{Make, Open}
 use Rattle.df_top.specs.declared.mode.Task.TheVariants as task
 

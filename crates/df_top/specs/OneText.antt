@@ -1,28 +1,17 @@
 -- A script has one text and one status over what a disk shows: what a session prints where no call of the disk, of the source or of the sink failed.
 use Rattle.std.specs.Prelude.{◌≡◌, ◌⊎◌, ◌+◌, ℕ, List, ◌++◌, length, Some, None}
 use Rattle.std.proofs.Common.{inl, inr}
-use Rattle.df_base.specs.Image.{Image}
-use Rattle.df_base.specs.Streams.{Appends}
+use Rattle.df_base.specs.{Image.{Image}, Streams.{Appends}}
 use Rattle.df_disk.specs.Told.{Told}
 use Rattle.df_inspect.specs.Opening.{script_text}
 use Rattle.df_layout.specs.declared.layout.Layout.{Layout}
 use Rattle.df_format.specs.Copies.{content_at}
-use Rattle.df_lines.specs.Grammar.{Said}
-use Rattle.df_lines.specs.Room.{line_bound}
-use Rattle.df_lines.specs.Script.{IsScript}
-use Rattle.df_theory.specs.Found.{IsFound}
-use Rattle.df_theory.specs.Units.{Place}
-use Rattle.df_theory.specs.View.{View}
-use Rattle.df_units.specs.Bytes.{unit_at}
-use Rattle.df_units.specs.Wanted.{class_at}
+use Rattle.df_lines.specs.{Grammar.{Said}, Room.{line_bound}, Script.{IsScript}}
+use Rattle.df_theory.specs.{Found.{IsFound}, Units.{Place}, View.{View}}
+use Rattle.df_units.specs.{Bytes.{unit_at}, Wanted.{class_at}}
 use Rattle.df_pace.specs.declared.pace.Pace.{Pace}
-use Rattle.df_session.specs.Below.{shape}
-use Rattle.df_session.specs.Leaving.{IsReadPlace}
-use Rattle.df_session.specs.Found.{FoundFile}
-use Rattle.df_top.specs.Outside.{IsThrough, Outside}
-use Rattle.df_top.specs.Resulting.{script_text_of}
-use Rattle.df_top.specs.Run.{ServesScript, script_budget}
-use Rattle.df_top.specs.declared.status.Status.{Status}
+use Rattle.df_session.specs.{Below.{shape}, Leaving.{IsReadPlace}, Found.{FoundFile}}
+use Rattle.df_top.specs.{Outside.{IsThrough, Outside}, Resulting.{script_text_of}, Run.{ServesScript, script_budget}, declared.status.Status.{Status}}
 use Rattle.df_top.specs.declared.status.Status.TheVariants.{Done, Script}
 
 -- how the session of a script ends, by how its text ends after the lines: there is no more, or the next line is refused

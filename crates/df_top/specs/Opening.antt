@@ -1,19 +1,14 @@
 -- What becomes of a file on which no word is carried out: it is refused, or the disk fails before it is found.
 use Rattle.std.specs.Prelude.{◌≡◌, ◌≢◌, ℕ, [], ◌∷◌, Option, Some, Err}
-use Rattle.df_base.specs.Image.{Image}
-use Rattle.df_base.specs.Log.{Sync}
-use Rattle.df_disk.specs.Adds.{AddsPart}
-use Rattle.df_disk.specs.Told.{Told, did}
+use Rattle.df_base.specs.{Image.{Image}, Log.{Sync}}
+use Rattle.df_disk.specs.{Adds.{AddsPart}, Told.{Told, did}}
 use Rattle.df_inspect.specs.Opening.{open_refusal}
 use Rattle.df_layout.specs.declared.layout.Layout.{Layout}
 use Rattle.df_model.specs.declared.errors.OpenError.{OpenError}
 use Rattle.df_model.specs.declared.errors.OpenError.TheVariants as opens
 use Rattle.df_session.specs.Opened.{StopsOpening}
 use Rattle.df_upgrade.specs.Below.{SurveysAs}
-use Rattle.df_top.specs.Outside.{Outside, PrintsLine}
-use Rattle.df_top.specs.declared.mode.Mode.{Mode}
-use Rattle.df_top.specs.declared.mode.Mode.TheVariants.{Inspect}
-use Rattle.df_top.specs.declared.status.Status.{Status}
+use Rattle.df_top.specs.{Outside.{Outside, PrintsLine}, declared.mode.Mode.{Mode}, declared.mode.Mode.TheVariants.{Inspect}, declared.status.Status.{Status}}
 use Rattle.df_top.specs.declared.status.Status.TheVariants.{DiskFault, Refused}
 
 -- the first reason of the order of open why an image isn't opened with rooms of this layout, where the version is asked for

@@ -1,14 +1,11 @@
 -- What a run has around it: the disk, the source of the script and the sink of the answers; and which of them failed.
 use Rattle.std.specs.Prelude.{◌≡◌, ℕ, List, Option, Result}
 use Rattle.df_program.specs.One as one
-use Rattle.df_program.specs.One.{Faults}
+use Rattle.df_program.specs.{One.{Faults}, Telling.{Writes}}
 use Rattle.df_program.specs.Telling as telling
-use Rattle.df_program.specs.Telling.{Writes}
 use Rattle.df_program.specs.declared.turn.Turn as turns
-use Rattle.df_top.specs.declared.status.Status.{Status}
-use Rattle.df_top.specs.declared.status.Status.TheVariants.{Done, DiskFault, Memory, ReadFault, Script, Words, WriteFault}
-pub use Rattle.df_program.specs.One.{Faults, NoneFailed, Outside, around, counts}
-pub use Rattle.df_program.specs.Telling.{Blames}
+use Rattle.df_top.specs.{declared.status.Status.{Status}, declared.status.Status.TheVariants.{Done, DiskFault, Memory, ReadFault, Script, Words, WriteFault}}
+pub use Rattle.df_program.specs.{One.{Faults, NoneFailed, Outside, around, counts}, Telling.{Blames}}
 
 -- each fault has its cause
 abbrev pub HasCauses : (before now : Faults) → Status → Type 0

@@ -2,14 +2,9 @@
 use Rattle.std.specs.Prelude.{◌≡◌, Bool, List, [], ◌∷◌, Option, Some, None}
 use Rattle.df_disk.specs.Told.{Told}
 use Rattle.df_model.specs.Commands.{Answer, Command}
-use Rattle.df_pace.specs.Beats.{beat_after_line, beat_after_piece, command_of_piece as piece_command, is_begun, next_piece}
-use Rattle.df_pace.specs.declared.beat.Beat.{Beat}
-use Rattle.df_pace.specs.declared.pace.Pace.{Pace}
-use Rattle.df_session.specs.Below.{State as Replica, is_running, memory}
-use Rattle.df_session.specs.Links.{AreCalls, Calls, EndsCalls, More, NoCalls}
-use Rattle.df_top.specs.Lines.{Asker, ByLine, ByLoop, Failing, Turned, act_of, command_of_line, exchanges_in}
-use Rattle.df_top.specs.declared.status.Status.{Status}
-use Rattle.df_top.specs.declared.status.Status.TheVariants.{WriteFault}
+use Rattle.df_pace.specs.{Beats.{beat_after_line, beat_after_piece, command_of_piece as piece_command, is_begun, next_piece}, declared.beat.Beat.{Beat}, declared.pace.Pace.{Pace}}
+use Rattle.df_session.specs.{Below.{State as Replica, is_running, memory}, Links.{AreCalls, Calls, EndsCalls, More, NoCalls}}
+use Rattle.df_top.specs.{Lines.{Asker, ByLine, ByLoop, Failing, Turned, act_of, command_of_line, exchanges_in}, declared.status.Status.{Status}, declared.status.Status.TheVariants.{WriteFault}}
 
 -- ---- what is next
 

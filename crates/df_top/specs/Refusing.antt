@@ -1,16 +1,12 @@
 -- What is printed of a file that can't be opened or made, and of calls that end before the last one was answered.
 use Rattle.std.specs.Prelude.{◌≡◌, ℕ, List, Option}
 use Rattle.df_inspect.specs.Opening.{format_refusal}
-use Rattle.df_model.specs.declared.errors.FormatError.{FormatError}
+use Rattle.df_model.specs.{declared.errors.FormatError.{FormatError}, declared.errors.OpenError.{OpenError}}
 use Rattle.df_model.specs.declared.errors.FormatError.TheVariants as formats
-use Rattle.df_model.specs.declared.errors.OpenError.{OpenError}
 use Rattle.df_script_model.specs.Texts.{damaged_text}
-use Rattle.df_session.specs.declared.hearing.Fault.{Fault}
-use Rattle.df_session.specs.declared.hearing.Fault.TheVariants.{Disk, Damaged}
+use Rattle.df_session.specs.{declared.hearing.Fault.{Fault}, declared.hearing.Fault.TheVariants.{Disk, Damaged}}
 use Rattle.df_program.specs.Telling as telling
-use Rattle.df_top.specs.Outside.{PrintsLine}
-use Rattle.df_top.specs.declared.status.Status.{Status}
-use Rattle.df_top.specs.declared.status.Status.TheVariants.{DiskFault, Refused, WriteFault}
+use Rattle.df_top.specs.{Outside.{PrintsLine}, declared.status.Status.{Status}, declared.status.Status.TheVariants.{DiskFault, Refused, WriteFault}}
 
 -- the refusal's line is printed; a failing disk has none
 abbrev pub PrintsOpenError : OpenError → (old new : Option (List ℕ)) → Status → Type 0

@@ -1,21 +1,12 @@
 -- What a word does with a file that was damaged before any number of opens.
 use Rattle.std.proofs.Common.{inl, inr}
 use Rattle.std.specs.Prelude.{◌≡◌, ◌⊎◌, List, [], ◌∷◌, Option, Some}
-use Rattle.df_base.specs.Image.{Image}
-use Rattle.df_base.specs.Log.{Event, IsLeft, Log, Sync, add}
-use Rattle.df_base.specs.Moments.{EachMoment}
-use Rattle.df_disk.specs.Adds.{AddsPart, after_all}
-use Rattle.df_disk.specs.Told.{Told, did}
+use Rattle.df_base.specs.{Image.{Image}, Log.{Event, IsLeft, Log, Sync, add}, Moments.{EachMoment}}
+use Rattle.df_disk.specs.{Adds.{AddsPart, after_all}, Told.{Told, did}}
 use Rattle.df_layout.specs.declared.layout.Layout.{Layout}
-use Rattle.df_theory.specs.Device.{IsSafeDisk, NoChanceOf}
-use Rattle.df_theory.specs.Holds.{Held}
-use Rattle.df_theory.specs.View.{View}
-use Rattle.df_session.specs.Below.{DataFile, FindsSince, IsLivedDisk, MayReopen, restarted, shape, told_after}
-use Rattle.df_session.specs.Serving.{format}
-use Rattle.df_top.specs.Outside.{Outside}
-use Rattle.df_top.specs.Run.{ComesTo, DidNothing, Does, RefusesSuperblock}
-use Rattle.df_top.specs.declared.mode.Mode.{Mode}
-use Rattle.df_top.specs.declared.status.Status.{Status}
+use Rattle.df_theory.specs.{Device.{IsSafeDisk, NoChanceOf}, Holds.{Held}, View.{View}}
+use Rattle.df_session.specs.{Below.{DataFile, FindsSince, IsLivedDisk, MayReopen, restarted, shape, told_after}, Serving.{format}}
+use Rattle.df_top.specs.{Outside.{Outside}, Run.{ComesTo, DidNothing, Does, RefusesSuperblock}, declared.mode.Mode.{Mode}, declared.status.Status.{Status}}
 
 -- ---- the history goes on
 

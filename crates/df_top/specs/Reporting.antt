@@ -1,19 +1,11 @@
 -- What the words that print a report promise of a file.
 use Rattle.std.specs.Prelude.{◌≡◌, ℕ, List, [], ◌∷◌, Some}
-use Rattle.df_base.specs.Image.{Image}
-use Rattle.df_base.specs.Log.{Sync}
+use Rattle.df_base.specs.{Image.{Image}, Log.{Sync}}
 use Rattle.df_disk.specs.Told.{Told, did}
 use Rattle.df_inspect.specs.Reports.{inspection_text, summary_text}
-use Rattle.df_layout.specs.declared.damage.Mend.{Mend}
-use Rattle.df_layout.specs.declared.layout.Layout.{Layout}
-use Rattle.df_session.specs.Below.{IsOpened}
-use Rattle.df_session.specs.Replica.{Survey, summary_of}
-use Rattle.df_session.specs.Surveying.{IsMendable}
-use Rattle.df_session.specs.Found.{FoundFile, no_calls}
-use Rattle.df_session.specs.Laws.{CallsKeep}
-use Rattle.df_top.specs.Outside.{Outside, PrintsLine}
-use Rattle.df_top.specs.declared.status.Status.{Status}
-use Rattle.df_top.specs.declared.status.Status.TheVariants.{Done, Found}
+use Rattle.df_layout.specs.{declared.damage.Mend.{Mend}, declared.layout.Layout.{Layout}}
+use Rattle.df_session.specs.{Below.{IsOpened}, Replica.{Survey, summary_of}, Surveying.{IsMendable}, Found.{FoundFile, no_calls}, Laws.{CallsKeep}}
+use Rattle.df_top.specs.{Outside.{Outside, PrintsLine}, declared.status.Status.{Status}, declared.status.Status.TheVariants.{Done, Found}}
 
 -- ---- inspect
 

@@ -3,22 +3,11 @@ use Rattle.std.specs.Prelude.{◌≡◌, ℕ, List, [], ◌∷◌, ◌++◌, map
 use Rattle.df_base.specs.Image.{Image}
 use Rattle.df_lines.specs.Grammar.{Said}
 use Rattle.df_theory.specs.View.{View}
-use Rattle.df_model.specs.Commands.{Command}
-use Rattle.df_model.specs.Supply.{Shown}
-use Rattle.df_model.specs.Work.{Work}
-use Rattle.df_session.specs.Begun.{begun_work}
-use Rattle.df_session.specs.Below.{DataFile, shape}
-use Rattle.df_session.specs.Reading.{shown_of}
-use Rattle.df_session.specs.Codec.{codec}
-use Rattle.df_pace.specs.Beats.{idle}
-use Rattle.df_pace.specs.Loop.{all_commands, paced, start}
-use Rattle.df_pace.specs.declared.pace.Pace.{Pace}
+use Rattle.df_model.specs.{Commands.{Command}, Supply.{Shown}, Work.{Work}}
+use Rattle.df_session.specs.{Begun.{begun_work}, Below.{DataFile, shape}, Reading.{shown_of}, Codec.{codec}, Session.{acts_in, command_in}, Resulting.{AnswersResult}}
+use Rattle.df_pace.specs.{Beats.{idle}, Loop.{all_commands, paced, start}, declared.pace.Pace.{Pace}}
 use Rattle.df_script_model.specs.Script.{printed}
-use Rattle.df_session.specs.Session.{acts_in, command_in}
-use Rattle.df_session.specs.Resulting.{AnswersResult}
-use Rattle.df_top.specs.Lines.{Turned, all_said, all_text, command_of_line, exchanges_in}
-use Rattle.df_top.specs.Outside.{IsThrough}
-use Rattle.df_top.specs.declared.status.Status.{Status}
+use Rattle.df_top.specs.{Lines.{Turned, all_said, all_text, command_of_line, exchanges_in}, Outside.{IsThrough}, declared.status.Status.{Status}}
 
 -- one text after the other
 abbrev pub joined : List (List ℕ) → List ℕ

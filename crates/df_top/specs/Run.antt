@@ -1,38 +1,18 @@
 -- What the program promises of words that work on a file.
 use Rattle.std.specs.Prelude.{◌≡◌, ◌⊎◌, ◌^◌, ℕ, List, Option, Some}
 use Rattle.df_base.specs.Image.{IsImage}
-use Rattle.df_disk.specs.Adds.{after_all}
-use Rattle.df_disk.specs.Told.{Told}
+use Rattle.df_disk.specs.{Adds.{after_all}, Told.{Told}}
 use Rattle.df_layout.specs.declared.layout.Layout.{Layout}
 use Rattle.df_lines.specs.Room.{line_bound}
-use Rattle.df_theory.specs.Found.{IsFound}
-use Rattle.df_theory.specs.View.{View}
+use Rattle.df_theory.specs.{Found.{IsFound}, View.{View}}
 use Rattle.df_units.specs.Bytes.{unit_at}
-use Rattle.df_model.specs.Supply.{Shown}
-use Rattle.df_model.specs.declared.errors.OpenError.{OpenError}
-use Rattle.df_pace.specs.Beats.{idle, started}
-use Rattle.df_pace.specs.declared.pace.Pace.{Pace}
-use Rattle.df_session.specs.Begun.{begun_work}
-use Rattle.df_session.specs.Below.{IsLayoutShown, State as Replica, shape}
-use Rattle.df_session.specs.Reading.{shown_of}
-use Rattle.df_session.specs.Agreeing.{AgreeShown}
-use Rattle.df_session.specs.Found.{FoundFile}
-use Rattle.df_session.specs.Links.{events_made}
-use Rattle.df_session.specs.Laws.{CallsKeep}
+use Rattle.df_model.specs.{Supply.{Shown}, declared.errors.OpenError.{OpenError}}
+use Rattle.df_pace.specs.{Beats.{idle, started}, declared.pace.Pace.{Pace}}
+use Rattle.df_session.specs.{Begun.{begun_work}, Below.{IsLayoutShown, State as Replica, shape}, Reading.{shown_of}, Agreeing.{AgreeShown}, Found.{FoundFile}, Links.{events_made}, Laws.{CallsKeep}}
 use Rattle.df_upgrade.specs.Below.{RefusesAs}
-use Rattle.df_top.specs.Acknowledging.{script_calls}
-use Rattle.df_top.specs.Mode.{AsksForFile}
-use Rattle.df_top.specs.Opening.{FailsToFind, IsSilent, PrintsRefusal, RefusesFile}
-use Rattle.df_top.specs.Outside.{Outside, PrintsLine}
-use Rattle.df_top.specs.Reporting.{Inspects, Recovers}
-use Rattle.df_top.specs.Scrubs.{ScrubsFile}
-use Rattle.df_top.specs.Working.{WorksThrough}
-use Rattle.df_top.specs.Resulting.{IsResultOf}
-use Rattle.df_top.specs.Session.{Ended, SessionState}
-use Rattle.df_top.specs.Usage.{usage}
-use Rattle.df_top.specs.declared.mode.Mode.{Mode}
-use Rattle.df_top.specs.declared.mode.Mode.TheVariants.{Format, Run, Recover, Inspect, Scrub, Workload, Upgrade, Paced}
-use Rattle.df_top.specs.declared.status.Status.{Status}
+use Rattle.df_top.specs.{Acknowledging.{script_calls}, Mode.{AsksForFile}, Opening.{FailsToFind, IsSilent, PrintsRefusal, RefusesFile}, Outside.{Outside, PrintsLine}, Reporting.{Inspects, Recovers}}
+use Rattle.df_top.specs.{Scrubs.{ScrubsFile}, Working.{WorksThrough}, Resulting.{IsResultOf}, Session.{Ended, SessionState}, Usage.{usage}, declared.mode.Mode.{Mode}}
+use Rattle.df_top.specs.{declared.mode.Mode.TheVariants.{Format, Run, Recover, Inspect, Scrub, Workload, Upgrade, Paced}, declared.status.Status.{Status}}
 use Rattle.df_top.specs.declared.status.Status.TheVariants.{DiskFault, Memory, Refused, Words, WriteFault}
 
 -- all that other words do: the usage line is printed, or a front of it where the sink fails

@@ -1,22 +1,13 @@
 -- What the word `scrub` promises of a file.
 use Rattle.std.specs.Prelude.{◌≡◌, ◌⊎◌, ℕ, zero, suc, List, ◌++◌, length, Option, Some}
-use Rattle.df_base.specs.Image.{Image}
-use Rattle.df_base.specs.Streams.{Appends}
+use Rattle.df_base.specs.{Image.{Image}, Streams.{Appends}}
 use Rattle.df_disk.specs.Told.{Told}
 use Rattle.df_inspect.specs.Reports.{failing_texts}
-use Rattle.df_layout.specs.declared.damage.Finding.{Finding}
-use Rattle.df_layout.specs.declared.layout.Layout.{Layout}
-use Rattle.df_model.specs.Memory.{referenced_of}
-use Rattle.df_model.specs.declared.answers.Scrubbed.TheVariants.{TourEnd}
-use Rattle.df_session.specs.Below.{failing_in, State as Replica, grid_with, memory}
+use Rattle.df_layout.specs.{declared.damage.Finding.{Finding}, declared.layout.Layout.{Layout}}
+use Rattle.df_model.specs.{Memory.{referenced_of}, declared.answers.Scrubbed.TheVariants.{TourEnd}}
+use Rattle.df_session.specs.{Below.{failing_in, State as Replica, grid_with, memory}, Leaving.{SparesReads}, Scrubbing.{IsMachineTour}, Found.{FoundFile, no_calls}, Laws.{CallsKeep}}
 use Rattle.df_script_model.specs.Texts.{scrubbed_text}
-use Rattle.df_session.specs.Leaving.{SparesReads}
-use Rattle.df_session.specs.Scrubbing.{IsMachineTour}
-use Rattle.df_session.specs.Found.{FoundFile, no_calls}
-use Rattle.df_session.specs.Laws.{CallsKeep}
-use Rattle.df_top.specs.Outside.{Outside, PrintsLine}
-use Rattle.df_top.specs.declared.status.Status.{Status}
-use Rattle.df_top.specs.declared.status.Status.TheVariants.{DiskFault, Done, Found}
+use Rattle.df_top.specs.{Outside.{Outside, PrintsLine}, declared.status.Status.{Status}, declared.status.Status.TheVariants.{DiskFault, Done, Found}}
 
 -- ---- a whole tour
 

@@ -2,24 +2,14 @@
 use Rattle.std.specs.Prelude.{◌≡◌, ◌⊎◌, ◌<◌, ◌+◌, ℕ, Bool, true, false, IsTrue, List, [], ◌++◌, length, Option, Some, None}
 use Rattle.df_base.specs.Streams.{Appends, AppendsPart}
 use Rattle.df_disk.specs.Told.{Told}
-use Rattle.df_layout.specs.declared.damage.Class.{Class}
-use Rattle.df_layout.specs.declared.places.Place.{Place}
-use Rattle.df_lines.specs.Room.{IsAtEnd}
-use Rattle.df_lines.specs.Script.{BeginsWithLines, IsRefused}
-use Rattle.df_lines.specs.Text.{line_of, unread}
+use Rattle.df_layout.specs.{declared.damage.Class.{Class}, declared.places.Place.{Place}}
+use Rattle.df_lines.specs.{Room.{IsAtEnd}, Script.{BeginsWithLines, IsRefused}, Text.{line_of, unread}}
 use Rattle.df_model.specs.Commands.{Command}
-use Rattle.df_pace.specs.declared.beat.Beat.{Beat}
-use Rattle.df_pace.specs.declared.pace.Pace.{Pace}
-use Rattle.df_session.specs.Below.{State as Replica}
-use Rattle.df_session.specs.Session.{Act}
+use Rattle.df_pace.specs.{declared.beat.Beat.{Beat}, declared.pace.Pace.{Pace}}
+use Rattle.df_session.specs.{Below.{State as Replica}, Session.{Act}, Endings.{IsDamagedStep}}
 use Rattle.df_script_model.specs.Texts.{damaged_text}
-use Rattle.df_session.specs.Endings.{IsDamagedStep}
-use Rattle.df_top.specs.Lines.{Failing, Turned, act_of, all_said, printed, said_of}
-use Rattle.df_top.specs.Outside.{Outside}
-use Rattle.df_top.specs.Pacing.{AreTurns, EndTurns}
-use Rattle.df_top.specs.declared.session.Session.{Session}
-use Rattle.df_top.specs.declared.status.Status.{Status}
-use Rattle.df_top.specs.declared.status.Status.TheVariants.{Done, Script, Refused, DiskFault, ReadFault, WriteFault}
+use Rattle.df_top.specs.{Lines.{Failing, Turned, act_of, all_said, printed, said_of}, Outside.{Outside}, Pacing.{AreTurns, EndTurns}, declared.session.Session.{Session}}
+use Rattle.df_top.specs.{declared.status.Status.{Status}, declared.status.Status.TheVariants.{Done, Script, Refused, DiskFault, ReadFault, WriteFault}}
 
 -- What a session has before it: the outside, the text that is unread where the source tells it, how many bytes may still be taken, how many lines were
 -- executed, the replica, and where the loop beside the script stands.

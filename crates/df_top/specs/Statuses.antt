@@ -1,8 +1,7 @@
 -- The numbers of the statuses, as the program's exit gives them.
 use Rattle.std.specs.Prelude.{ℕ, refl}
 use Rattle.df_program.specs.Ends.{Statuses}
-use Rattle.df_top.specs.declared.status.Status.{Status}
-use Rattle.df_top.specs.declared.status.Status.TheVariants.{Done, Found, Words, Script, Refused, DiskFault, ReadFault, WriteFault, Memory}
+use Rattle.df_top.specs.{declared.status.Status.{Status}, declared.status.Status.TheVariants.{Done, Found, Words, Script, Refused, DiskFault, ReadFault, WriteFault, Memory}}
 
 abbrev pub exit_number : Status → ℕ
 exit_number Done = 0

@@ -3,23 +3,14 @@ use Rattle.std.specs.Prelude.{◌≡◌, ◌⊎◌, ◌+◌, ◌-◌, ℕ, List,
 use Rattle.df_base.specs.Streams.{Appends, AppendsPart}
 use Rattle.df_disk.specs.Told.{Told}
 use Rattle.df_inspect.specs.Opening.{script_text}
-use Rattle.df_lines.specs.Grammar.{Said}
-use Rattle.df_lines.specs.Script.{IsLine}
-use Rattle.df_lines.specs.Text.{after_line, taken}
+use Rattle.df_lines.specs.{Grammar.{Said}, Script.{IsLine}, Text.{after_line, taken}}
 use Rattle.df_model.specs.Commands.{Answer, Command}
-use Rattle.df_pace.specs.Beats.{beat_after_piece, is_begun}
-use Rattle.df_pace.specs.declared.beat.Beat.{Beat}
-use Rattle.df_pace.specs.declared.beat.Piece.{Piece}
-use Rattle.df_pace.specs.declared.pace.Pace.{Pace}
-use Rattle.df_session.specs.Below.{State as Replica}
+use Rattle.df_pace.specs.{Beats.{beat_after_piece, is_begun}, declared.beat.Beat.{Beat}, declared.beat.Piece.{Piece}, declared.pace.Pace.{Pace}}
+use Rattle.df_session.specs.{Below.{State as Replica}, Links.{Makes}}
 use Rattle.df_script_model.specs.Script.{answer_text}
-use Rattle.df_session.specs.Links.{Makes}
-use Rattle.df_top.specs.Lines.{Turned}
-use Rattle.df_top.specs.Session.{Ended, Executed, IsDamagedLine, SessionState}
-use Rattle.df_top.specs.Outside.{PrintsLine, Turn}
-use Rattle.df_program.specs.declared.turn.Turn.TheVariants.{GoesOn as Goes, Ends as EndsBy}
-use Rattle.df_top.specs.declared.status.Status.{Status}
+use Rattle.df_top.specs.{Lines.{Turned}, Session.{Ended, Executed, IsDamagedLine, SessionState}, Outside.{PrintsLine, Turn}, declared.status.Status.{Status}}
 use Rattle.df_top.specs.declared.status.Status.TheVariants.{Script, Refused, DiskFault, WriteFault}
+use Rattle.df_program.specs.declared.turn.Turn.TheVariants.{GoesOn as Goes, Ends as EndsBy}
 
 -- the call was made and was answered
 abbrev pub IsAnsweredCall : Command → (s t : Replica) → (old new : Option Told) → (List ℕ → Type 0) → Type 0

@@ -4,16 +4,10 @@ use Rattle.df_base.specs.Streams.{Appends, AppendsPart}
 use Rattle.df_disk.specs.Told.{Told}
 use Rattle.df_inspect.specs.Reports.{failing_texts}
 use Rattle.df_layout.specs.declared.damage.Finding.{Finding}
-use Rattle.df_model.specs.Reading.{with_finding}
-use Rattle.df_model.specs.declared.answers.Scrubbed.{Scrubbed}
-use Rattle.df_model.specs.declared.answers.Scrubbed.TheVariants.{Checked, TourEnd}
+use Rattle.df_model.specs.{Reading.{with_finding}, declared.answers.Scrubbed.{Scrubbed}, declared.answers.Scrubbed.TheVariants.{Checked, TourEnd}}
 use Rattle.df_script_model.specs.Texts.{scrubbed_text}
-use Rattle.df_session.specs.Below.{State as Replica}
-use Rattle.df_session.specs.Scrubbing.{IsScrub}
-use Rattle.df_top.specs.Scrubs.{tour_status}
-use Rattle.df_top.specs.declared.status.Status.{Status}
-use Rattle.df_top.specs.declared.status.Status.TheVariants.{DiskFault, Done, Found, WriteFault}
-use Rattle.df_top.specs.Outside.{Turn}
+use Rattle.df_session.specs.{Below.{State as Replica}, Scrubbing.{IsScrub}}
+use Rattle.df_top.specs.{Scrubs.{tour_status}, declared.status.Status.{Status}, declared.status.Status.TheVariants.{DiskFault, Done, Found, WriteFault}, Outside.{Turn}}
 use Rattle.df_program.specs.declared.turn.Turn.TheVariants.{Ends, GoesOn}
 
 -- what a step prints: the block, where it fails, or how many there are

@@ -2,22 +2,13 @@
 use Rattle.std.specs.Prelude.{◌≡◌, ◌<◌, ◌≤◌, ◌+◌, ◌^◌, ℕ, Bool, true, false, List, Option, Some, None, Result, Ok, Err}
 use Rattle.df_inspect.specs.Answers.{line_of_answer}
 use Rattle.df_disk.specs.Told.{Told}
-use Rattle.df_model.specs.Commands.{Answer as Said, Command, ReadBlock, ReadPrepare, ReadReply}
-use Rattle.df_model.specs.declared.commands.Answer.{Answer}
+use Rattle.df_model.specs.{Commands.{Answer as Said, Command, ReadBlock, ReadPrepare, ReadReply}, declared.commands.Answer.{Answer}}
 use Rattle.df_model.specs.declared.commands.Answer.TheVariants as answers
 use Rattle.df_pace.specs.Beats.{beat_after_line, is_begun, pieces_left}
-use Rattle.df_session.specs.Below.{State as Replica}
-use Rattle.df_session.specs.Endings.{EndsBy}
-use Rattle.df_session.specs.Links.{Makes}
-use Rattle.df_session.specs.declared.hearing.Fault.{Fault}
+use Rattle.df_session.specs.{Below.{State as Replica}, Endings.{EndsBy}, Links.{Makes}, declared.hearing.Fault.{Fault}}
 pub use Rattle.df_program.specs.Turns.{BlamesIfEnds, OnGoing}
 use Rattle.df_program.specs.Turns as turns
-use Rattle.df_top.specs.Pacing.{runs}
-use Rattle.df_top.specs.Refusing.{PrintsFault}
-use Rattle.df_top.specs.Session.{EndedIsEnd}
-use Rattle.df_top.specs.declared.session.Session.{Session}
-use Rattle.df_top.specs.declared.status.Status.TheVariants.{WriteFault}
-use Rattle.df_top.specs.Outside.{Turn}
+use Rattle.df_top.specs.{Pacing.{runs}, Refusing.{PrintsFault}, Session.{EndedIsEnd}, declared.session.Session.{Session}, declared.status.Status.TheVariants.{WriteFault}, Outside.{Turn}}
 use Rattle.df_program.specs.declared.turn.Turn.TheVariants.{GoesOn, Ends}
 
 -- what becomes of the session by the printing of an answer

@@ -7,13 +7,8 @@ use Rattle.df_inspect.specs.Opening.{upgraded_text}
 use Rattle.df_layout.specs.declared.layout.Layout.{Layout}
 use Rattle.df_session.specs.Below.{DataFile, FindsHad, RefusesHurt}
 use Rattle.df_theory.specs.View.{View}
-use Rattle.df_upgrade.specs.Below.{IsLayoutShownAs, MayBeHurtAs}
-use Rattle.df_upgrade.specs.Upgraded.{StopsUpgrading, UpgradesAll}
-use Rattle.df_top.specs.Hurting.{RefusesCopiesAs}
-use Rattle.df_top.specs.Opening.{IsSilent, RefusesFileAs}
-use Rattle.df_top.specs.Outside.{Outside, PrintsLine}
-use Rattle.df_top.specs.Run.{DidNothing, RefusesSuperblockAs}
-use Rattle.df_top.specs.declared.status.Status.{Status}
+use Rattle.df_upgrade.specs.{Below.{IsLayoutShownAs, MayBeHurtAs}, Upgraded.{StopsUpgrading, UpgradesAll}}
+use Rattle.df_top.specs.{Hurting.{RefusesCopiesAs}, Opening.{IsSilent, RefusesFileAs}, Outside.{Outside, PrintsLine}, Run.{DidNothing, RefusesSuperblockAs}, declared.status.Status.{Status}}
 use Rattle.df_top.specs.declared.status.Status.TheVariants.{DiskFault, Done}
 
 -- ---- in rooms of a layout

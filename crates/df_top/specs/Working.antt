@@ -2,16 +2,9 @@
 use Rattle.std.specs.Prelude.{◌≡◌, ℕ}
 use Rattle.df_disk.specs.Told.{Told}
 use Rattle.df_layout.specs.declared.layout.Layout.{Layout}
-use Rattle.df_session.specs.Below.{State as Replica}
-use Rattle.df_workload.specs.Rounds.{start}
-use Rattle.df_workload.specs.declared.state.State.{State as Run}
-use Rattle.df_session.specs.Found.{FoundFile}
-use Rattle.df_session.specs.Laws.{CallsKeep}
-use Rattle.df_top.specs.Acknowledging.{run_calls}
-use Rattle.df_top.specs.Outside.{Outside}
-use Rattle.df_top.specs.Works.{Worked, WritesReport}
-use Rattle.df_top.specs.declared.status.Status.{Status}
-use Rattle.df_top.specs.declared.status.Status.TheVariants.{Refused}
+use Rattle.df_session.specs.{Below.{State as Replica}, Found.{FoundFile}, Laws.{CallsKeep}}
+use Rattle.df_workload.specs.{Rounds.{start}, declared.state.State.{State as Run}}
+use Rattle.df_top.specs.{Acknowledging.{run_calls}, Outside.{Outside}, Works.{Worked, WritesReport}, declared.status.Status.{Status}, declared.status.Status.TheVariants.{Refused}}
 
 -- The run is carried out; what its calls keep is what calls on an open file keep. No step finds the superblock damaged that it wrote, since the disk tells what it shows.
 pub record WorksThrough (seed count : ℕ) (layout : Layout) (t : Told) (found : FoundFile layout t) (old new : Outside) (status : Status) : Type 0 where

@@ -2,26 +2,13 @@
 use Rattle.std.specs.Prelude.{◌≡◌, ◌<◌, ◌+◌, ℕ, Bool, true, List, [], length, map, Option, Some, None, Result, Ok, Err}
 use Rattle.df_base.specs.Streams.{Appends, AppendsPart}
 use Rattle.df_disk.specs.Told.{Told}
-use Rattle.df_inspect.specs.Reports.{workload_text}
-use Rattle.df_inspect.specs.declared.counts.Workload.{Workload}
+use Rattle.df_inspect.specs.{Reports.{workload_text}, declared.counts.Workload.{Workload}}
 use Rattle.df_model.specs.Commands.{Answer as Answered, Command}
-use Rattle.df_session.specs.Session.{Act, Exchange, acts_in, answers_in, command_in}
-use Rattle.df_session.specs.Stepping.{OfRunning}
-use Rattle.df_session.specs.Below.{State as Replica}
-use Rattle.df_workload.specs.Asking.{asks}
-use Rattle.df_workload.specs.Following.{Follows}
-use Rattle.df_workload.specs.Hearing.{outcome_of, runs_after}
-use Rattle.df_workload.specs.Sound.{flag}
-use Rattle.df_workload.specs.declared.outcome.Outcome.{Outcome}
-use Rattle.df_workload.specs.declared.outcome.Outcome.TheVariants.{Refused, Accepted, Wrote, Finished}
-use Rattle.df_workload.specs.declared.state.State.{State as Run}
-use Rattle.df_session.specs.Endings.{EndsBy}
-use Rattle.df_session.specs.Links.{AreCalls, Calls, EndsCalls, Makes}
+use Rattle.df_session.specs.{Session.{Act, Exchange, acts_in, answers_in, command_in}, Stepping.{OfRunning}, Below.{State as Replica}, Endings.{EndsBy}, Links.{AreCalls, Calls, EndsCalls, Makes}}
 use Rattle.df_session.specs.declared.hearing.Fault.{Fault}
-use Rattle.df_top.specs.Outside.{PrintsLine}
-use Rattle.df_top.specs.Refusing.{PrintsFault}
-use Rattle.df_top.specs.Session.{IsDamagedLine}
-use Rattle.df_top.specs.declared.status.Status.{Status}
+use Rattle.df_workload.specs.{Asking.{asks}, Following.{Follows}, Hearing.{outcome_of, runs_after}, Sound.{flag}, declared.outcome.Outcome.{Outcome}}
+use Rattle.df_workload.specs.{declared.outcome.Outcome.TheVariants.{Refused, Accepted, Wrote, Finished}, declared.state.State.{State as Run}}
+use Rattle.df_top.specs.{Outside.{PrintsLine}, Refusing.{PrintsFault}, Session.{IsDamagedLine}, declared.status.Status.{Status}}
 use Rattle.df_top.specs.declared.status.Status.TheVariants as ends
 
 -- ---- one command

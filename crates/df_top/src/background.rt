@@ -4,13 +4,8 @@ ghost use Rattle.df_base.specs.Causes.{IsBlamed};
 ghost use Rattle.df_inspect.specs.Answers.{command_of as call_of};
 ghost use Rattle.df_model.specs.Commands.{Begin};
 ghost use Rattle.df_pace.specs.Beats.{command_of_piece, is_begun, next_piece};
-ghost use Rattle.df_session.specs.Calls.{HasAnswer};
-ghost use Rattle.df_session.specs.Endings.{is_disk_fault};
-ghost use Rattle.df_top.specs.Outside.{around};
-ghost use Rattle.df_top.specs.Pacing.{IsIdleBeat, runs};
-ghost use Rattle.df_top.specs.Session.{state};
-ghost use Rattle.df_top.specs.Step.{Passes, Turns};
-ghost use Rattle.df_top.specs.Turning.{BlamesIfEnds, DoesNext, DoesPiece, LeavesReader, OnGoing, has_begun_in};
+ghost use Rattle.df_session.specs.{Calls.{HasAnswer}, Endings.{is_disk_fault}};
+ghost use Rattle.df_top.specs.{Outside.{around}, Pacing.{IsIdleBeat, runs}, Session.{state}, Step.{Passes, Turns}, Turning.{BlamesIfEnds, DoesNext, DoesPiece, LeavesReader, OnGoing, has_begun_in}};
 
 use crate::session::Session;
 use crate::status::Status;

@@ -5,14 +5,8 @@ ghost use Rattle.df_disk.specs.Adds.{AddsPart};
 ghost use Rattle.df_layout.specs.declared.layout.Layout.{Layout};
 ghost use Rattle.df_lines.specs.Room.{IsFresh, line_bound};
 ghost use Rattle.df_units.specs.Within.{AddsWithin};
-ghost use Rattle.df_top.specs.declared.mode.Mode.{Mode};
-ghost use Rattle.df_top.specs.Mode.{AsksForFile, AsksScript, IsRunnable, Means, MeansNothing, ReadsScript};
-ghost use Rattle.df_top.specs.Formats.{Formats, MakesFile};
-ghost use Rattle.df_top.specs.Hurting.{RunsOverHurt};
-ghost use Rattle.df_top.specs.Outside.{HasCauses, around, counts};
-ghost use Rattle.df_top.specs.Reopening.{RunsOverHistory};
-ghost use Rattle.df_top.specs.Run.{IsWithout, PrintsUsage, Runs};
-ghost use Rattle.df_top.specs.Upgrading.{RunsUpgrade, UpgradesOverHurt};
+ghost use Rattle.df_top.specs.{declared.mode.Mode.{Mode}, Mode.{AsksForFile, AsksScript, IsRunnable, Means, MeansNothing, ReadsScript}, Formats.{Formats, MakesFile}, Hurting.{RunsOverHurt}};
+ghost use Rattle.df_top.specs.{Outside.{HasCauses, around, counts}, Reopening.{RunsOverHistory}, Run.{IsWithout, PrintsUsage, Runs}, Upgrading.{RunsUpgrade, UpgradesOverHurt}};
 ghost use Rattle.df_top.specs.Within.{WritesOwn, WritesOwnAs};
 
 use crate::making::make_file;

@@ -1,8 +1,6 @@
 // What the words of the command line ask for, by rules that take no memory.
-ghost use Rattle.std.specs.Prelude.{◌≡◌, ◌≤◌, ℕ, [], ◌∷◌, map, codes, decimal, string_bytes};
-ghost use Rattle.std.specs.Prelude.{IfSome, IfNone};
-ghost use Rattle.df_top.specs.declared.mode.Mode.{Mode};
-ghost use Rattle.df_top.specs.Mode.{Means, OneMeaning, task_of};
+ghost use Rattle.std.specs.{Prelude.{◌≡◌, ◌≤◌, ℕ, [], ◌∷◌, map, codes, decimal, string_bytes}, Prelude.{IfSome, IfNone}};
+ghost use Rattle.df_top.specs.{declared.mode.Mode.{Mode}, Mode.{Means, OneMeaning, task_of}};
 
 use df_layout::Layout;
 use df_lines::{u64_of, u128_of};

@@ -1,8 +1,7 @@
 // The lines of a script that read: each call lends the unit that it read, and its line is printed from there.
 ghost use Rattle.std.specs.Prelude.{◌≡◌, true};
 ghost use Rattle.df_inspect.specs.Answers.{command_of};
-ghost use Rattle.df_top.specs.Step.{AnswersCommand};
-ghost use Rattle.df_top.specs.Turning.{BlamesIfEnds, LendsUnit};
+ghost use Rattle.df_top.specs.{Step.{AnswersCommand}, Turning.{BlamesIfEnds, LendsUnit}};
 
 use crate::status::Status;
 use crate::telling::tell;

@@ -4,10 +4,7 @@ ghost use Rattle.df_base.specs.Log.{Sync};
 ghost use Rattle.df_disk.specs.Adds.{AddsPart};
 ghost use Rattle.df_inspect.specs.Reports.{summary_text};
 ghost use Rattle.df_session.specs.Replica.{summary_of};
-ghost use Rattle.df_top.specs.declared.mode.Mode.{Mode};
-ghost use Rattle.df_top.specs.Outside.{Blames, EndsWithFile, HasCauses, PrintsLine, around, counts};
-ghost use Rattle.df_top.specs.Reporting.{OneReport, report_of, status_of};
-ghost use Rattle.df_top.specs.Run.{ServesIn};
+ghost use Rattle.df_top.specs.{declared.mode.Mode.{Mode}, Outside.{Blames, EndsWithFile, HasCauses, PrintsLine, around, counts}, Reporting.{OneReport, report_of, status_of}, Run.{ServesIn}};
 
 use crate::status::Status;
 use df_base::Sink;

@@ -5,12 +5,8 @@ ghost use Rattle.df_disk.specs.Told.{Told};
 ghost use Rattle.df_model.specs.Work.{first_tour};
 ghost use Rattle.df_model.specs.declared.answers.Scrubbed.TheVariants as scrubs;
 ghost use Rattle.df_script_model.specs.Texts.{scrubbed_text};
-ghost use Rattle.df_top.specs.declared.mode.Mode.{Mode};
-ghost use Rattle.df_top.specs.Outside.{Blames, EndsWithFile, HasCauses, PrintsLine, around, counts};
-ghost use Rattle.df_top.specs.Run.{ServesIn};
-ghost use Rattle.df_top.specs.Scrubs.{PrintsTour, tour_status};
-ghost use Rattle.df_top.specs.Touring.{EndsTour, TakesStep, TellsStep, TellsTourFound};
-ghost use Rattle.df_top.specs.Turning.{BlamesIfEnds};
+ghost use Rattle.df_top.specs.{declared.mode.Mode.{Mode}, Outside.{Blames, EndsWithFile, HasCauses, PrintsLine, around, counts}, Run.{ServesIn}, Scrubs.{PrintsTour, tour_status}};
+ghost use Rattle.df_top.specs.{Touring.{EndsTour, TakesStep, TellsStep, TellsTourFound}, Turning.{BlamesIfEnds}};
 
 use crate::status::Status;
 use df_base::Sink;

@@ -3,13 +3,8 @@ ghost use Rattle.std.specs.Prelude.{◌≡◌, ℕ, List, [], ◌∷◌, Option,
 ghost use Rattle.df_base.specs.Log.{Sync};
 ghost use Rattle.df_disk.specs.Adds.{AddsPart};
 ghost use Rattle.df_lines.specs.Room.{IsFresh, line_bound};
-ghost use Rattle.df_top.specs.Hurting.{ServesOverHurt};
-ghost use Rattle.df_top.specs.Reopening.{ServesOverHistory};
-ghost use Rattle.df_top.specs.declared.mode.Mode.{Mode};
-ghost use Rattle.df_top.specs.Mode.{AsksOfFile, AsksScript, Executes, IsRunnable, Means, ReadsScript};
-ghost use Rattle.df_top.specs.Outside.{EndsWithFile, HasCauses, around, counts};
-ghost use Rattle.df_top.specs.Run.{ServesIn};
-ghost use Rattle.df_top.specs.Within.{WritesIn};
+ghost use Rattle.df_top.specs.{Hurting.{ServesOverHurt}, Reopening.{ServesOverHistory}, declared.mode.Mode.{Mode}, Mode.{AsksOfFile, AsksScript, Executes, IsRunnable, Means, ReadsScript}};
+ghost use Rattle.df_top.specs.{Outside.{EndsWithFile, HasCauses, around, counts}, Run.{ServesIn}, Within.{WritesIn}};
 
 use crate::mode::{Mode, mode_of};
 use crate::reporting::{inspect_file, recover_file};

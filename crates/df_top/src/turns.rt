@@ -2,11 +2,7 @@
 ghost use Rattle.std.specs.Prelude.{◌≡◌, ◌<◌, ◌≤◌, ◌^◌, length, true};
 ghost use Rattle.df_lines.specs.Grammar.{body_length, said_with};
 ghost use Rattle.df_pace.specs.Beats.{beat_after_line};
-ghost use Rattle.df_top.specs.Lines.{command_of_line};
-ghost use Rattle.df_top.specs.Outside.{Blames, around};
-ghost use Rattle.df_top.specs.Pacing.{IsIdleBeat, runs};
-ghost use Rattle.df_top.specs.Session.{Ended, state};
-ghost use Rattle.df_top.specs.Step.{AnswersCommand, Turns};
+ghost use Rattle.df_top.specs.{Lines.{command_of_line}, Outside.{Blames, around}, Pacing.{IsIdleBeat, runs}, Session.{Ended, state}, Step.{AnswersCommand, Turns}};
 ghost use Rattle.df_top.specs.Turning.{BlamesIfEnds, IsReadySession, LeavesReader, ServesLine, TakesLine};
 
 use crate::background::work;

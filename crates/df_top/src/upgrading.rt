@@ -1,9 +1,7 @@
 // The word `upgrade`: a file of version 1 becomes one of version 2, and its sequence is printed.
 ghost use Rattle.std.specs.Prelude.{◌≡◌, ℕ, List, Option};
 ghost use Rattle.df_inspect.specs.Opening.{upgraded_text};
-ghost use Rattle.df_top.specs.Outside.{Blames, EndsWithFile, HasCauses, PrintsLine, around, counts};
-ghost use Rattle.df_top.specs.Run.{IsWithout};
-ghost use Rattle.df_top.specs.Upgrading.{RunsUpgrade, UpgradesIn};
+ghost use Rattle.df_top.specs.{Outside.{Blames, EndsWithFile, HasCauses, PrintsLine, around, counts}, Run.{IsWithout}, Upgrading.{RunsUpgrade, UpgradesIn}};
 
 use crate::status::Status;
 use df_base::Sink;

@@ -1,14 +1,9 @@
 // The word `workload`: a file is opened, a generated run is carried out on it, and what it did is printed.
 ghost use Rattle.std.specs.Prelude.{◌≡◌, ◌≤◌, ◌<◌, ℕ, List, None, Option, false, true, OnOk};
 ghost use Rattle.df_base.specs.Causes.{IsBlamed};
-ghost use Rattle.df_workload.specs.Asking.{asks};
-ghost use Rattle.df_workload.specs.Sound.{is_at_end, left};
-ghost use Rattle.df_workload.specs.declared.state.Point.{Point};
+ghost use Rattle.df_workload.specs.{Asking.{asks}, Sound.{is_at_end, left}, declared.state.Point.{Point}};
 ghost use Rattle.df_session.specs.Endings.{is_disk_fault};
-ghost use Rattle.df_top.specs.declared.mode.Mode.{Mode};
-ghost use Rattle.df_top.specs.Outside.{Blames, EndsWithFile, HasCauses, around, counts};
-ghost use Rattle.df_top.specs.Run.{ServesIn};
-ghost use Rattle.df_top.specs.Works.{CanGoOn, Comes, PrintsRun, steps_left, workload_of};
+ghost use Rattle.df_top.specs.{declared.mode.Mode.{Mode}, Outside.{Blames, EndsWithFile, HasCauses, around, counts}, Run.{ServesIn}, Works.{CanGoOn, Comes, PrintsRun, steps_left, workload_of}};
 
 use crate::status::Status;
 use crate::telling::tell_fault;

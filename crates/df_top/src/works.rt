@@ -4,8 +4,7 @@ ghost use Rattle.df_base.specs.Causes.{IsBlamed};
 ghost use Rattle.df_model.specs.Commands.{Advance, Command as Asks};
 ghost use Rattle.df_inspect.specs.Answers.{command_of};
 ghost use Rattle.df_workload.specs.Asking.{asks};
-ghost use Rattle.df_session.specs.Calls.{HasAnswer};
-ghost use Rattle.df_session.specs.Endings.{is_disk_fault};
+ghost use Rattle.df_session.specs.{Calls.{HasAnswer}, Endings.{is_disk_fault}};
 ghost use Rattle.df_top.specs.Works.{HearsOf, StepsOn, StillRuns};
 
 use df_disk::Disk;

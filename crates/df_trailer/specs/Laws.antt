@@ -1,13 +1,9 @@
 -- One list of lawful parts has one text, and one text has one list of parts.
 use Rattle.std.specs.Prelude.{◌≡◌, ◌≤◌, ◌<◌, ◌++◌, ℕ, List, Some, length, map}
-use Rattle.df_base.specs.declared.TheConstants.{GREATEST, HEADER}
-use Rattle.df_base.specs.Fields.{AreBytes}
-use Rattle.df_theory.specs.Units.{Layout, Parts}
-use Rattle.df_theory.specs.Shape.{Shape}
+use Rattle.df_base.specs.{declared.TheConstants.{GREATEST, HEADER}, Fields.{AreBytes}}
+use Rattle.df_theory.specs.{Units.{Layout, Parts}, Shape.{Shape}}
 use Rattle.df_model.specs.Codec.{IsLawful, IsCodec}
-use Rattle.df_trailer.specs.Spelling.{block_checksums, is_referenced, spell, text_size}
-use Rattle.df_trailer.specs.Text.{fault, ones, parse, parse_of, refusal}
-use Rattle.df_trailer.specs.declared.fault.Fault.{Fault}
+use Rattle.df_trailer.specs.{Spelling.{block_checksums, is_referenced, spell, text_size}, Text.{fault, ones, parse, parse_of, refusal}, declared.fault.Fault.{Fault}}
 
 -- numbers of sessions fit their fields
 abbrev pub HasLimits : Layout → Type 0

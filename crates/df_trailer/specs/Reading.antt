@@ -7,12 +7,8 @@ use Rattle.df_layout.specs.declared.fields.Field.TheVariants.{TrailerBits, Trail
 use Rattle.df_theory.specs.Units.{Layout}
 use Rattle.df_units.specs.Meaning.{layout_of}
 use Rattle.df_model.specs.Refusals.{first_refusal}
-use Rattle.df_trailer.specs.Rooms.{byte_in_checks, byte_in_words}
-use Rattle.df_trailer.specs.Spelling.{bits_size, listed}
-use Rattle.df_trailer.specs.Text.{bits_in, bits_of, fails, head_end, head_tests, is_whole, ones}
-use Rattle.df_trailer.specs.declared.fault.Failing.{Failing}
-use Rattle.df_trailer.specs.declared.fault.Cause.TheVariants.{Ends, Says}
-use Rattle.df_trailer.specs.declared.reader.Reader.{Reader}
+use Rattle.df_trailer.specs.{Rooms.{byte_in_checks, byte_in_words}, Spelling.{bits_size, listed}, Text.{bits_in, bits_of, fails, head_end, head_tests, is_whole, ones}}
+use Rattle.df_trailer.specs.{declared.fault.Failing.{Failing}, declared.fault.Cause.TheVariants.{Ends, Says}, declared.reader.Reader.{Reader}}
 
 -- a text whose head is this, with these bits after it as far as this many bytes go
 pub record IsTextFront (l : Layout) (text head bits : List ℕ) (behind : ℕ) : Type 0 where

@@ -1,12 +1,9 @@
 -- How bits and checksums stand in a reader's rooms, and what they say of the blocks.
-use Rattle.std.specs.Prelude.{◌≡◌, ℕ, ◌+◌, ◌-◌, ◌/◌, ◌%◌, ◌≤◌, ◌==◌, if◌then◌else◌, List, [], map, get_or, replicate, Option, Some, None, slice_index}
-use Rattle.std.specs.Int.{bit_at, to_le_bytes, w64}
+use Rattle.std.specs.{Prelude.{◌≡◌, ℕ, ◌+◌, ◌-◌, ◌/◌, ◌%◌, ◌≤◌, ◌==◌, if◌then◌else◌, List, [], map, get_or, replicate, Option, Some, None, slice_index}, Int.{bit_at, to_le_bytes, w64}}
 use Rattle.df_base.specs.Fields.{field_at}
 use Rattle.df_sessions.specs.declared.session.Session as table
 use Rattle.df_theory.specs.Units as model
-use Rattle.df_trailer.specs.declared.parts.Parts.{Parts}
-use Rattle.df_trailer.specs.Spelling.{listed}
-use Rattle.df_trailer.specs.Text.{bits_in}
+use Rattle.df_trailer.specs.{declared.parts.Parts.{Parts}, Spelling.{listed}, Text.{bits_in}}
 
 -- one of the eight bytes of a word
 abbrev pub byte_of_word : ℕ → ℕ → ℕ

@@ -1,8 +1,6 @@
 -- How the parts of a trailer are spelled: numbers with their lowest byte first, with nothing between them.
 use Rattle.std.specs.Prelude.{ℕ, zero, suc, ◌+◌, ◌*◌, ◌/◌, Bool, true, false, if◌then◌else◌, List, [], ◌∷◌, ◌++◌, length, map, Option, Some, None}
-use Rattle.df_base.specs.Fields.{spelled}
-use Rattle.df_base.specs.Text.{Piece, text}
-use Rattle.df_base.specs.Text.Piece.{Number, Bytes}
+use Rattle.df_base.specs.{Fields.{spelled}, Text.{Piece, text}, Text.Piece.{Number, Bytes}}
 use Rattle.df_theory.specs.Units.{Layout, Parts, Session}
 
 abbrev pub is_referenced : Option ℕ → Bool

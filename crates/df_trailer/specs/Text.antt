@@ -1,16 +1,10 @@
 -- How the text of a trailer is read: what stands where in it, and the first part of it that fails.
 use Rattle.std.specs.Prelude.{ℕ, zero, suc, ◌+◌, ◌-◌, ◌*◌, ◌/◌, ◌%◌, ◌^◌, ◌==◌, nat_lt, nat_le, Bool, true, false, ◌||◌, not, if◌then◌else◌, List, [], ◌∷◌, ◌++◌, length, take, drop, min, Option, Some, None, Result, Ok, Err}
-use Rattle.df_base.specs.declared.TheConstants.{GREATEST}
-use Rattle.df_base.specs.Fields.{field_at}
+use Rattle.df_base.specs.{declared.TheConstants.{GREATEST}, Fields.{field_at}}
 use Rattle.df_theory.specs.Units.{Layout, Parts, Session}
 use Rattle.df_model.specs.Refusals.{first_refusal}
-use Rattle.df_trailer.specs.Spelling.{bits_size}
-use Rattle.df_trailer.specs.declared.fault.Fault.{Fault}
-use Rattle.df_trailer.specs.declared.fault.Failing.{Failing}
-use Rattle.df_trailer.specs.declared.fault.Cause.{Cause}
-use Rattle.df_trailer.specs.declared.fault.Cause.TheVariants.{Ends, Says}
-use Rattle.df_layout.specs.declared.fields.Field.{Field}
-use Rattle.df_layout.specs.declared.fields.Field.TheVariants.{TrailerRoot, TrailerSessions, TrailerBits, TrailerEnd}
+use Rattle.df_trailer.specs.{Spelling.{bits_size}, declared.fault.Fault.{Fault}, declared.fault.Failing.{Failing}, declared.fault.Cause.{Cause}, declared.fault.Cause.TheVariants.{Ends, Says}}
+use Rattle.df_layout.specs.{declared.fields.Field.{Field}, declared.fields.Field.TheVariants.{TrailerRoot, TrailerSessions, TrailerBits, TrailerEnd}}
 
 -- ---- what stands where
 

@@ -2,9 +2,7 @@
 use Rattle.std.specs.Prelude.{◌≡◌, ℕ, suc, ◌+◌, ◌*◌, ◌<◌, List, length, take, drop, map, slice_index, Option}
 use Rattle.df_sessions.specs.declared.session.Session as table
 use Rattle.df_theory.specs.Units as model
-use Rattle.df_trailer.specs.Rooms.{trailer_session}
-use Rattle.df_trailer.specs.Spelling.{is_referenced, listed, number_of_bits}
-use Rattle.df_trailer.specs.Text.{ones}
+use Rattle.df_trailer.specs.{Rooms.{trailer_session}, Spelling.{is_referenced, listed, number_of_bits}, Text.{ones}}
 
 -- what a text has from an offset on stands at the front of a room
 abbrev pub IsPieceShown : List ℕ → ℕ → List ℕ → Type 0

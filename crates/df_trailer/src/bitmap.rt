@@ -1,11 +1,8 @@
 // Bits in words of 64, from the lowest bit of the first word on: as bytes, and counted; and what is told of a text by them.
-ghost use Rattle.std.specs.Prelude.{◌≡◌, ◌≢◌, ◌+◌, ◌*◌, ◌/◌, ◌^◌, ◌<◌, ◌≤◌, ◌==◌, ℕ, length, nat_le};
-ghost use Rattle.std.specs.Int.{bit_at};
+ghost use Rattle.std.specs.{Prelude.{◌≡◌, ◌≢◌, ◌+◌, ◌*◌, ◌/◌, ◌^◌, ◌<◌, ◌≤◌, ◌==◌, ℕ, length, nat_le}, Int.{bit_at}};
 ghost use Rattle.df_base.specs.declared.TheConstants.{GREATEST};
 ghost use Rattle.df_model.specs.Refusals.{first_refusal};
-ghost use Rattle.df_trailer.specs.Reading.{bits_tests, end_tests};
-ghost use Rattle.df_trailer.specs.Rooms.{bits_in_words, byte_in_words};
-ghost use Rattle.df_trailer.specs.Text.{bits_of, ones};
+ghost use Rattle.df_trailer.specs.{Reading.{bits_tests, end_tests}, Rooms.{bits_in_words, byte_in_words}, Text.{bits_of, ones}};
 
 use crate::fault::Failing;
 use crate::head::{ends, says};

@@ -1,7 +1,6 @@
 // What a checkpoint has captured of the grid, as the text asks for it.
 ghost use Rattle.std.specs.Prelude.{◌≡◌, ◌*◌, ℕ, Option, IfSome};
-ghost use Rattle.df_trailer.specs.Rooms.{number_in};
-ghost use Rattle.df_trailer.specs.Writing.{referenced_among};
+ghost use Rattle.df_trailer.specs.{Rooms.{number_in}, Writing.{referenced_among}};
 
 use df_base::Check;
 

@@ -2,8 +2,7 @@
 ghost use Rattle.std.specs.Prelude.{◌≡◌, ◌+◌, ◌*◌, ◌++◌, ◌<◌, ◌≤◌, Some, [], length, take, true};
 ghost use Rattle.df_base.specs.declared.TheConstants.{GREATEST};
 ghost use Rattle.df_model.specs.Refusals.{first_refusal};
-ghost use Rattle.df_trailer.specs.declared.fault.Cause.TheVariants.{Ends, Says};
-ghost use Rattle.df_trailer.specs.Text.{earlier, fails, head_end, head_tests, is_repeated, is_whole, is_wrong, session, wrong_place, read_sessions};
+ghost use Rattle.df_trailer.specs.{declared.fault.Cause.TheVariants.{Ends, Says}, Text.{earlier, fails, head_end, head_tests, is_repeated, is_whole, is_wrong, session, wrong_place, read_sessions}};
 
 use crate::fault::{Cause, Failing, Fault};
 use arrayvec::ArrayVec;

@@ -1,8 +1,6 @@
 // The parts of a trailer, as a reader gives them, in rooms that its caller gave.
-ghost use Rattle.std.specs.Prelude.{◌≡◌, ◌≢◌, ◌+◌, ◌*◌, ◌/◌, ◌≤◌, ◌<◌, ◌==◌, ℕ, [], length, take, drop, map, get_or, replicate, true, false};
-ghost use Rattle.std.specs.Int.{bit_at};
-ghost use Rattle.df_trailer.specs.Rooms.{bits_in_words, byte_in_checks, without_reply};
-ghost use Rattle.df_trailer.specs.Text.{bits_at, bits_of, count, count_at, ones, read_sessions, root_size, sessions_at};
+ghost use Rattle.std.specs.{Prelude.{◌≡◌, ◌≢◌, ◌+◌, ◌*◌, ◌/◌, ◌≤◌, ◌<◌, ◌==◌, ℕ, [], length, take, drop, map, get_or, replicate, true, false}, Int.{bit_at}};
+ghost use Rattle.df_trailer.specs.{Rooms.{bits_in_words, byte_in_checks, without_reply}, Text.{bits_at, bits_of, count, count_at, ones, read_sessions, root_size, sessions_at}};
 
 use crate::bitmap::{count_set, is_set};
 use arrayvec::ArrayVec;

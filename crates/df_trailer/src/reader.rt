@@ -3,8 +3,7 @@ ghost use Rattle.std.specs.Prelude.{◌≡◌, ◌≢◌, ◌↔◌, ◌++◌, I
 ghost use Rattle.df_base.specs.declared.TheConstants.{GREATEST};
 ghost use Rattle.df_layout.specs.declared.layout.Layout.{Layout as FileLayout};
 ghost use Rattle.df_units.specs.Meaning.{layout_of};
-ghost use Rattle.df_trailer.specs.Rooms.{byte_in_checks, byte_in_words};
-ghost use Rattle.df_trailer.specs.Text.{answer, refusal_in};
+ghost use Rattle.df_trailer.specs.{Rooms.{byte_in_checks, byte_in_words}, Text.{answer, refusal_in}};
 
 use crate::bitmap::{failing_bits, failing_end, is_set, put_byte};
 use crate::fault::{Cause, Failing};
@@ -28,12 +27,8 @@ pub struct Reader {
 }
 
 impl Reader {
-    ghost use Rattle.df_trailer.specs.Reading.{failing_before_end};
-    ghost use Rattle.df_trailer.specs.Rooms.{AreParts, number_in};
-    ghost use Rattle.df_trailer.specs.Text.{fault, parts_of, refusal};
-    ghost use Rattle.df_trailer.specs.Sessions.{AreReadSessions};
-    ghost use Rattle.df_trailer.specs.Reading.{HasBit, HasRead, IsRestTaken, bytes_read, failing_in, kept_at, referenced_below};
-    ghost use Rattle.df_trailer.specs.Spelling.{is_referenced};
+    ghost use Rattle.df_trailer.specs.{Reading.{failing_before_end}, Rooms.{AreParts, number_in}, Text.{fault, parts_of, refusal}, Sessions.{AreReadSessions}};
+    ghost use Rattle.df_trailer.specs.{Reading.{HasBit, HasRead, IsRestTaken, bytes_read, failing_in, kept_at, referenced_below}, Spelling.{is_referenced}};
 
     /// A reader that was fed nothing, of the trailer of a checkpoint of this op.
     pub fn new(layout: Layout, op: u64, parts: Parts) -> Reader

@@ -1,7 +1,6 @@
 // Items of a text, put one after the other into a room that shows a window of the text.
 ghost use Rattle.std.specs.Prelude.{◌≡◌, ◌+◌, ◌<◌, ◌++◌, List, ℕ, length};
-ghost use Rattle.df_base.specs.declared.TheConstants.{GREATEST};
-ghost use Rattle.df_base.specs.Fields.{spelled};
+ghost use Rattle.df_base.specs.{declared.TheConstants.{GREATEST}, Fields.{spelled}};
 ghost use Rattle.df_trailer.specs.Writing.{IsPieceShown};
 
 use byteorder::{ByteOrder, LittleEndian};

@@ -1,11 +1,8 @@
 // A piece of the text, made of what a checkpoint captured: no buffer of the whole text exists.
-ghost use Rattle.std.specs.Prelude.{◌≡◌, ◌+◌, ◌-◌, ◌*◌, ◌/◌, ◌<◌, ◌≤◌, ◌^◌, ◌++◌, ◌∷◌, ℕ, List, [], length, take, drop, min};
-ghost use Rattle.std.specs.Int.{bit_at, byte_at};
-ghost use Rattle.df_base.specs.declared.TheConstants.{GREATEST, HEADER};
-ghost use Rattle.df_base.specs.Fields.{spelled};
+ghost use Rattle.std.specs.{Prelude.{◌≡◌, ◌+◌, ◌-◌, ◌*◌, ◌/◌, ◌<◌, ◌≤◌, ◌^◌, ◌++◌, ◌∷◌, ℕ, List, [], length, take, drop, min}, Int.{bit_at, byte_at}};
+ghost use Rattle.df_base.specs.{declared.TheConstants.{GREATEST, HEADER}, Fields.{spelled}};
 ghost use Rattle.df_units.specs.Meaning.{layout_of};
-ghost use Rattle.df_trailer.specs.Rooms.{trailer_session};
-ghost use Rattle.df_trailer.specs.Spelling.{spell, spell_checks, spell_sessions};
+ghost use Rattle.df_trailer.specs.{Rooms.{trailer_session}, Spelling.{spell, spell_checks, spell_sessions}};
 ghost use Rattle.df_trailer.specs.Writing.{IsPieceShown, captured_bits, captured_blocks, captured_parts, piece_of, sessions_of};
 
 use crate::CapturedBlocks;

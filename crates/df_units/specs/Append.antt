@@ -2,27 +2,13 @@
 -- with it or without it.
 use Rattle.std.specs.Prelude.{◌<◌, ◌*◌, ℕ, List, [], ◌∷◌, Option}
 use Rattle.df_base.specs.Log
-use Rattle.df_base.specs.Log.{Event, IsLog, Sync, Write}
-use Rattle.df_base.specs.Moments.{EachMoment, adds}
-use Rattle.df_layout.specs.declared.layout.Layout.{Layout}
-use Rattle.df_layout.specs.declared.places.Zone.TheVariants.{WalPrepares}
-use Rattle.df_format.specs.declared.header.Header.{Header}
-use Rattle.df_format.specs.Message.{Message}
-use Rattle.df_format.specs.Own.{place_in}
-use Rattle.df_format.specs.Brings.{Brings}
-use Rattle.df_format.specs.UnitLaws.{headers_bytes}
+use Rattle.df_base.specs.{Log.{Event, IsLog, Sync, Write}, Moments.{EachMoment, adds}}
+use Rattle.df_layout.specs.{declared.layout.Layout.{Layout}, declared.places.Zone.TheVariants.{WalPrepares}}
+use Rattle.df_format.specs.{declared.header.Header.{Header}, Message.{Message}, Own.{place_in}, Brings.{Brings}, UnitLaws.{headers_bytes}}
 use Rattle.df_theory.specs.Units
-use Rattle.df_theory.specs.Units.{HeaderPlace, PreparePlace}
-use Rattle.df_theory.specs.View.{View}
-use Rattle.df_theory.specs.Next.{MayAppend, appended}
-use Rattle.df_theory.specs.Device.{Format, IsGoodDisk, IsGoodWholeDisk, units_log}
-use Rattle.df_theory.specs.TidyLaws.{IsTidy}
-use Rattle.df_theory.specs.WholeLaws.{IsStanding}
-use Rattle.df_theory.specs.Shape.{Shape}
-use Rattle.df_units.specs.Meaning.{message_of}
-use Rattle.df_units.specs.Bytes.{first_at}
-use Rattle.df_units.specs.Format.{format_of, shape_of}
-use Rattle.df_units.specs.Puts.{IsNextSector}
+use Rattle.df_theory.specs.{Units.{HeaderPlace, PreparePlace}, View.{View}, Next.{MayAppend, appended}, Device.{Format, IsGoodDisk, IsGoodWholeDisk, units_log}, TidyLaws.{IsTidy}}
+use Rattle.df_theory.specs.{WholeLaws.{IsStanding}, Shape.{Shape}}
+use Rattle.df_units.specs.{Meaning.{message_of}, Bytes.{first_at}, Format.{format_of, shape_of}, Puts.{IsNextSector}}
 
 -- the device calls of an append
 abbrev pub append_events : Layout → ℕ → List ℕ → ℕ → List Header → List Event

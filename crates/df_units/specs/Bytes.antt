@@ -1,15 +1,10 @@
 -- Which unit an image shows at each place, which sectors a place has, and which places a write touches. A place that the layout
 -- doesn't have shows nothing and is touched by nothing.
 use Rattle.std.specs.Prelude.{◌+◌, ◌-◌, ◌*◌, ◌&&◌, ℕ, Bool, nat_le, nat_lt, List, length, Option, Some, None}
-use Rattle.df_base.specs.declared.TheConstants.{SECTOR}
-use Rattle.df_base.specs.Image.{Image}
-use Rattle.df_layout.specs.declared.layout.Layout.{Layout}
-use Rattle.df_layout.specs.declared.places.Span.{Span}
-use Rattle.df_layout.specs.Spans.{span_of}
-use Rattle.df_format.specs.Message.{Message}
-use Rattle.df_format.specs.Own.{has_index}
+use Rattle.df_base.specs.{declared.TheConstants.{SECTOR}, Image.{Image}}
+use Rattle.df_layout.specs.{declared.layout.Layout.{Layout}, declared.places.Span.{Span}, Spans.{span_of}}
+use Rattle.df_format.specs.{Message.{Message}, Own.{has_index}, Copies.{Content, content_at}}
 use Rattle.df_format.specs.Shown
-use Rattle.df_format.specs.Copies.{Content, content_at}
 use Rattle.df_theory.specs.Units
 use Rattle.df_theory.specs.Units.{AnyUnit, CopyPlace, CopyUnit}
 use Rattle.df_units.specs.Meaning.{content_of, place_of, unit_of}

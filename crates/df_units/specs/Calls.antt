@@ -1,17 +1,10 @@
 -- A call whose events are steps of the theory has at each of its moments what the steps have, also where the disk fails midway and
 -- only a part of the events was added, from the first on.
 use Rattle.std.specs.Prelude.{◌≡◌, List, Some}
-use Rattle.df_base.specs.Log.{Event, IsLog}
-use Rattle.df_base.specs.Moments.{EachMoment}
-use Rattle.df_disk.specs.Told.{Told}
-use Rattle.df_disk.specs.Adds.{AddsPart, after_all}
-use Rattle.df_theory.specs.Shape.{Shape}
-use Rattle.df_theory.specs.View.{View}
-use Rattle.df_theory.specs.Grown.{IsSafe}
-use Rattle.df_theory.specs.Rests.{IsGoodLog}
-use Rattle.df_theory.specs.Runs.{AtEach, Command, Step, after_steps}
-use Rattle.df_theory.specs.Device.{AreSteps, Format, IsFormat, IsGoodDisk, IsGoodWholeDisk, IsSafeDisk, units_log}
-use Rattle.df_theory.specs.TidyLaws.{KeepsStanding}
+use Rattle.df_base.specs.{Log.{Event, IsLog}, Moments.{EachMoment}}
+use Rattle.df_disk.specs.{Told.{Told}, Adds.{AddsPart, after_all}}
+use Rattle.df_theory.specs.{Shape.{Shape}, View.{View}, Grown.{IsSafe}, Rests.{IsGoodLog}, Runs.{AtEach, Command, Step, after_steps}}
+use Rattle.df_theory.specs.{Device.{AreSteps, Format, IsFormat, IsGoodDisk, IsGoodWholeDisk, IsSafeDisk, units_log}, TidyLaws.{KeepsStanding}}
 
 -- a call on a disk's log that adds these events, or a part of them, and they are these steps
 pub record IsCall (f : Format) (es : List Event) (ss : List Step) (before after : Told) : Type 0 where

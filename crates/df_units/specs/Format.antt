@@ -3,10 +3,8 @@ use Rattle.std.specs.Prelude.{◌<◌, ℕ, List, Option}
 use Rattle.df_layout.specs.declared.layout.Layout.{Layout}
 use Rattle.df_layout.proofs.Laws.{some_slots}
 use Rattle.df_theory.specs.Units
-use Rattle.df_theory.specs.Shape.{Shape}
-use Rattle.df_theory.specs.Device.{Format}
-use Rattle.df_units.specs.Meaning.{layout_of}
-use Rattle.df_units.specs.Bytes.{has, touches, unit_at}
+use Rattle.df_theory.specs.{Shape.{Shape}, Device.{Format}}
+use Rattle.df_units.specs.{Meaning.{layout_of}, Bytes.{has, touches, unit_at}}
 
 -- how units lie on the sectors of a file of this layout and cluster
 abbrev pub format_of : Layout → ℕ → Format

@@ -1,30 +1,14 @@
 -- The making of a file on a disk that was never written, as its device calls: reserved headers, a sync, and four copies of the first superblock with
 -- a sync after each. A stop at any moment leaves a file with its first view, or none.
 use Rattle.std.specs.Prelude.{◌≡◌, ◌<◌, ◌+◌, ◌*◌, ◌/◌, ℕ, List, [], ◌∷◌, ◌++◌, length, slice_get, Option, Some, None}
-use Rattle.df_base.specs.Image.{blank}
-use Rattle.df_base.specs.Log.{AreSyncs, Event, IsLog, Log, Sync, Write}
-use Rattle.df_base.specs.Moments.{EachMoment, adds}
+use Rattle.df_base.specs.{Image.{blank}, Log.{AreSyncs, Event, IsLog, Log, Sync, Write}, Moments.{EachMoment, adds}}
 use Rattle.df_layout.specs.declared.layout.Layout.{Layout}
-use Rattle.df_format.specs.declared.header.Header.{Header}
-use Rattle.df_format.specs.declared.kind.Kind.TheVariants.{Reserved}
-use Rattle.df_format.specs.declared.superblock.SuperFields.{SuperFields}
-use Rattle.df_format.specs.Super.{copy_bytes}
-use Rattle.df_format.specs.SuperRules.{IsUsable}
-use Rattle.df_format.specs.First.{first_content, first_super}
-use Rattle.df_format.specs.UnitLaws.{headers_bytes}
+use Rattle.df_format.specs.{declared.header.Header.{Header}, declared.kind.Kind.TheVariants.{Reserved}, declared.superblock.SuperFields.{SuperFields}, Super.{copy_bytes}, SuperRules.{IsUsable}}
+use Rattle.df_format.specs.{First.{first_content, first_super}, UnitLaws.{headers_bytes}}
 use Rattle.df_theory.specs.Units
-use Rattle.df_theory.specs.Units.{HeaderPlace}
-use Rattle.df_theory.specs.Trailer.{no_parts}
-use Rattle.df_theory.specs.View.{View}
-use Rattle.df_theory.specs.Device.{Format, IsSafeDisk, units_log}
-use Rattle.df_theory.specs.TidyLaws.{IsTidy}
-use Rattle.df_theory.specs.WholeLaws.{IsStanding}
-use Rattle.df_theory.specs.MakingLaws.{IsMaking}
+use Rattle.df_theory.specs.{Units.{HeaderPlace}, Trailer.{no_parts}, View.{View}, Device.{Format, IsSafeDisk, units_log}, TidyLaws.{IsTidy}, WholeLaws.{IsStanding}, MakingLaws.{IsMaking}}
 use Rattle.df_theory.specs.Shape.{Shape}
-use Rattle.df_units.specs.Meaning.{content_of}
-use Rattle.df_units.specs.Bytes.{first_at}
-use Rattle.df_units.specs.Format.{format_of, shape_of}
-use Rattle.df_units.specs.Puts.{AreHeaders, put_headers}
+use Rattle.df_units.specs.{Meaning.{content_of}, Bytes.{first_at}, Format.{format_of, shape_of}, Puts.{AreHeaders, put_headers}}
 
 -- the writes of header sectors, from this sector of the ring on
 abbrev pub header_writes : Layout → ℕ → List (List Header) → List Event

@@ -2,27 +2,14 @@
 -- its own units and touches no other place, whatever fills the rest of its last sector.
 use Rattle.std.specs.Prelude.{◌≡◌, ◌⊎◌, ◌<◌, ◌+◌, ◌*◌, ◌/◌, ◌%◌, ◌==◌, ℕ, if◌then◌else◌, List, [], slice_get, Option, Some, None}
 use Rattle.df_base.specs.Image.{Image, IsImage, written}
-use Rattle.df_layout.specs.declared.layout.Layout.{Layout}
-use Rattle.df_layout.specs.declared.places.Zone.TheVariants.{WalHeaders, WalPrepares, ClientReplies, Grid}
-use Rattle.df_format.specs.declared.header.Header.{Header}
-use Rattle.df_format.specs.declared.superblock.SuperFields.{SuperFields}
-use Rattle.df_format.specs.Message.{Message}
-use Rattle.df_format.specs.Own.{place_in}
-use Rattle.df_format.specs.Super.{copy_bytes}
-use Rattle.df_format.specs.SuperRules.{IsUsable}
-use Rattle.df_format.specs.Copies.{content_with}
-use Rattle.df_format.specs.Valid.{IsUnit}
-use Rattle.df_format.specs.Brings.{Brings}
-use Rattle.df_format.specs.UnitLaws.{AreSixteen, headers_bytes}
+use Rattle.df_layout.specs.{declared.layout.Layout.{Layout}, declared.places.Zone.TheVariants.{WalHeaders, WalPrepares, ClientReplies, Grid}}
+use Rattle.df_format.specs.{declared.header.Header.{Header}, declared.superblock.SuperFields.{SuperFields}, Message.{Message}, Own.{place_in}, Super.{copy_bytes}, SuperRules.{IsUsable}}
+use Rattle.df_format.specs.{Copies.{content_with}, Valid.{IsUnit}, Brings.{Brings}, UnitLaws.{AreSixteen, headers_bytes}}
 use Rattle.df_theory.specs.Units
-use Rattle.df_theory.specs.Units.{AnyUnit, BlockPlace, BlockUnit, CopyPlace, CopyUnit, HeaderPlace, HeaderUnit, PreparePlace, PrepareUnit, ReplyPlace, ReplyUnit, or_else}
-use Rattle.df_theory.specs.UnitLog.{put_one}
-use Rattle.df_theory.specs.CopyPuts.{PutsCopies}
+use Rattle.df_theory.specs.{Units.{AnyUnit, BlockPlace, BlockUnit, CopyPlace, CopyUnit, HeaderPlace, HeaderUnit, PreparePlace, PrepareUnit, ReplyPlace, ReplyUnit, or_else}, UnitLog.{put_one}}
+use Rattle.df_theory.specs.{CopyPuts.{PutsCopies}, Device.{IsPut}}
 use Rattle.df_theory.proofs.Laws.{put_one_law}
-use Rattle.df_theory.specs.Device.{IsPut}
-use Rattle.df_units.specs.Meaning.{block_of, content_of, header_of, message_of}
-use Rattle.df_units.specs.Bytes.{first_at, unit_at}
-use Rattle.df_units.specs.Format.{format_of}
+use Rattle.df_units.specs.{Meaning.{block_of, content_of, header_of, message_of}, Bytes.{first_at, unit_at}, Format.{format_of}}
 
 -- the write of sectors that bring a prepare to its slot
 abbrev pub PrepareIsPut : Type 0

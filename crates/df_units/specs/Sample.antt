@@ -1,21 +1,12 @@
 -- A sample: a header sector of reserved headers, as a new file has it, and one header put into it. Sixteen headers lie in one sector,
 -- and the write of all sixteen changes one slot alone.
 use Rattle.std.specs.Prelude.{◌≡◌, ◌<◌, ◌+◌, ◌*◌, ◌/◌, ◌^◌, ◌==◌, ℕ, zero, suc, if◌then◌else◌, List, [], ◌∷◌, Some}
-use Rattle.df_base.specs.declared.TheConstants.{VERSION}
-use Rattle.df_base.specs.Image.{Image, blank, written}
-use Rattle.df_layout.specs.declared.layout.Layout.{Layout}
-use Rattle.df_layout.specs.declared.places.Zone.TheVariants.{WalHeaders}
-use Rattle.df_format.specs.declared.header.Header.{Header}
-use Rattle.df_format.specs.declared.kind.Kind.TheVariants.{Reserved}
-use Rattle.df_format.specs.Making.{blank_header, for_body}
-use Rattle.df_format.specs.Own.{place_in}
-use Rattle.df_format.specs.Spelling.{sealed}
-use Rattle.df_format.specs.Valid.{IsUnit}
+use Rattle.df_base.specs.{declared.TheConstants.{VERSION}, Image.{Image, blank, written}}
+use Rattle.df_layout.specs.{declared.layout.Layout.{Layout}, declared.places.Zone.TheVariants.{WalHeaders}}
+use Rattle.df_format.specs.{declared.header.Header.{Header}, declared.kind.Kind.TheVariants.{Reserved}, Making.{blank_header, for_body}, Own.{place_in}, Spelling.{sealed}, Valid.{IsUnit}}
 use Rattle.df_format.specs.UnitLaws.{headers_bytes}
 use Rattle.df_theory.specs.Units.{HeaderPlace, HeaderUnit}
-use Rattle.df_units.specs.Meaning.{header_of}
-use Rattle.df_units.specs.Bytes.{first_at, unit_at}
-use Rattle.df_units.specs.Puts.{AreHeaders}
+use Rattle.df_units.specs.{Meaning.{header_of}, Bytes.{first_at, unit_at}, Puts.{AreHeaders}}
 
 -- this many headers of a table, from a slot on
 abbrev pub headers_of : (ℕ → Header) → ℕ → ℕ → List Header

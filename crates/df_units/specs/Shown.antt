@@ -1,20 +1,11 @@
 -- What the code reads of a place is the unit that the theory sees there.
 use Rattle.std.specs.Prelude.{◌≡◌, ◌≢◌, ◌<◌, ℕ, List, Option, Some, None, Result, Ok, Err}
 use Rattle.df_base.specs.Image.{Image, IsImage, bytes_at}
-use Rattle.df_layout.specs.declared.layout.Layout.{Layout}
-use Rattle.df_layout.specs.declared.places.Zone.TheVariants.{Superblock, WalHeaders}
-use Rattle.df_layout.specs.Spans.{span_of}
-use Rattle.df_layout.specs.declared.damage.Class.{Class}
-use Rattle.df_format.specs.declared.superblock.SuperCopy.{SuperCopy}
-use Rattle.df_format.specs.Copies.{content_in_copy, own_copy}
-use Rattle.df_format.specs.Own.{place_in}
-use Rattle.df_format.specs.Shown.{part_in, unit_in}
+use Rattle.df_layout.specs.{declared.layout.Layout.{Layout}, declared.places.Zone.TheVariants.{Superblock, WalHeaders}, Spans.{span_of}, declared.damage.Class.{Class}}
+use Rattle.df_format.specs.{declared.superblock.SuperCopy.{SuperCopy}, Copies.{content_in_copy, own_copy}, Own.{place_in}, Shown.{part_in, unit_in}}
 use Rattle.df_theory.specs.Units
-use Rattle.df_theory.specs.Units.{AnyUnit, CopyPlace, HeaderPlace, IsAlone, PreparePlace, PrepareUnit}
-use Rattle.df_theory.specs.Found.{AreOfPlaces}
-use Rattle.df_units.specs.Meaning.{place_of}
-use Rattle.df_units.specs.Bytes.{copy_unit, message_unit, span_at, unit_at}
-use Rattle.df_units.specs.Format.{shape_of}
+use Rattle.df_theory.specs.{Units.{AnyUnit, CopyPlace, HeaderPlace, IsAlone, PreparePlace, PrepareUnit}, Found.{AreOfPlaces}}
+use Rattle.df_units.specs.{Meaning.{place_of}, Bytes.{copy_unit, message_unit, span_at, unit_at}, Format.{shape_of}}
 
 -- the sectors of a slot or of a block, as they are read, are the unit of the place
 abbrev pub ReadIsUnit : Type 0

@@ -1,21 +1,13 @@
 -- The choice among the four copies is the theory's, both ways, and a superblock can be used exactly where it passes the theory's tests.
 use Rattle.std.specs.Prelude.{◌≡◌, ◌⊎◌, ◌↔◌, ◌<◌, ℕ, List, Option, Some}
-use Rattle.df_base.specs.declared.TheConstants.{FIRST_VERSION, VERSION}
-use Rattle.df_base.specs.Image.{Image, IsImage}
+use Rattle.df_base.specs.{declared.TheConstants.{FIRST_VERSION, VERSION}, Image.{Image, IsImage}}
 use Rattle.df_layout.specs.declared.layout.Layout.{Layout}
-use Rattle.df_format.specs.declared.superblock.SuperFields.{SuperFields}
-use Rattle.df_format.specs.Spelling.{IsCheck}
-use Rattle.df_format.specs.Super.{AreChecks}
-use Rattle.df_format.specs.SuperRules.{IsSuper}
-use Rattle.df_format.specs.Copies.{Content, content_at}
+use Rattle.df_format.specs.{declared.superblock.SuperFields.{SuperFields}, Spelling.{IsCheck}, Super.{AreChecks}, SuperRules.{IsSuper}, Copies.{Content, content_at}}
 use Rattle.df_quorum.specs.Quorum
 use Rattle.df_theory.specs.Units
 use Rattle.df_theory.specs.Copies
-use Rattle.df_theory.specs.Trailer.{IsReference}
-use Rattle.df_theory.specs.View.{PassesTests}
-use Rattle.df_units.specs.Meaning.{content_of, layout_of}
-use Rattle.df_units.specs.Bytes.{unit_at}
-use Rattle.df_units.specs.Format.{shape_as}
+use Rattle.df_theory.specs.{Trailer.{IsReference}, View.{PassesTests}}
+use Rattle.df_units.specs.{Meaning.{content_of, layout_of}, Bytes.{unit_at}, Format.{shape_as}}
 
 -- the choice among the copies is the theory's
 abbrev pub ChoiceIsChosen : Type 0

@@ -1,20 +1,11 @@
 -- What the units of the theory tell of those of the file: their checksums, their kinds, and the headers of a sector.
 use Rattle.std.specs.Prelude.{◌≡◌, ◌↔◌, ◌<◌, ◌/◌, ◌%◌, ◌*◌, ◌+◌, ℕ, List, ◌∷◌, replicate, slice_get, Some}
-use Rattle.df_layout.specs.declared.layout.Layout.{Layout}
-use Rattle.df_layout.specs.declared.places.Zone.TheVariants.{Grid}
-use Rattle.df_format.specs.declared.header.Header.{Header}
-use Rattle.df_format.specs.declared.kind.Kind.TheVariants.{Reserved, Trailer}
-use Rattle.df_format.specs.Spelling.{IsCheck, no_checksum}
-use Rattle.df_format.specs.Message.{Message}
-use Rattle.df_format.specs.Own.{place_in}
-use Rattle.df_format.specs.Valid.{IsUnit}
+use Rattle.df_layout.specs.{declared.layout.Layout.{Layout}, declared.places.Zone.TheVariants.{Grid}}
+use Rattle.df_format.specs.{declared.header.Header.{Header}, declared.kind.Kind.TheVariants.{Reserved, Trailer}, Spelling.{IsCheck, no_checksum}, Message.{Message}, Own.{place_in}, Valid.{IsUnit}}
 use Rattle.df_format.specs.UnitLaws.{AreSixteen}
 use Rattle.df_theory.specs.Units
-use Rattle.df_theory.specs.Units.{AnyUnit, HeaderPlace, HeaderUnit}
-use Rattle.df_theory.specs.MakingLaws.{PutsReserved}
-use Rattle.df_theory.specs.MendLaws.{PutsTable}
-use Rattle.df_units.specs.Meaning.{block_of, header_of, number_of}
-use Rattle.df_units.specs.Puts.{put_headers}
+use Rattle.df_theory.specs.{Units.{AnyUnit, HeaderPlace, HeaderUnit}, MakingLaws.{PutsReserved}, MendLaws.{PutsTable}}
+use Rattle.df_units.specs.{Meaning.{block_of, header_of, number_of}, Puts.{put_headers}}
 
 -- checksums are equal exactly where their numbers are
 abbrev pub ChecksumsAreNumbers : Type 0

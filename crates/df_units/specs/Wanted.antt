@@ -1,22 +1,14 @@
 -- The unit that is wanted at a place: what the code answers of it, as a unit or as a class, is what the theory sees there.
 use Rattle.std.specs.Prelude.{◌≡◌, ◌≢◌, ◌↔◌, ◌<◌, ℕ, ⊤, Some, None}
 use Rattle.df_base.specs.Image.{Image, IsImage}
-use Rattle.df_layout.specs.declared.damage.Class.{Class}
-use Rattle.df_layout.specs.declared.damage.Class.TheVariants.{Stale}
-use Rattle.df_layout.specs.declared.layout.Layout.{Layout}
-use Rattle.df_format.specs.declared.kind.Kind.{Kind}
-use Rattle.df_format.specs.declared.kind.Kind.TheVariants.{Reserved, Prepare, Reply, Block, Trailer}
-use Rattle.df_format.specs.Copies.{class_of_copy}
-use Rattle.df_format.specs.Message.{Message}
+use Rattle.df_layout.specs.{declared.damage.Class.{Class}, declared.damage.Class.TheVariants.{Stale}, declared.layout.Layout.{Layout}}
+use Rattle.df_format.specs.{declared.kind.Kind.{Kind}, declared.kind.Kind.TheVariants.{Reserved, Prepare, Reply, Block, Trailer}, Copies.{class_of_copy}, Message.{Message}, Spelling.{IsCheck}}
+use Rattle.df_format.specs.{Valid.{IsUnit}, Wanted.{Any, Op, Checksum, Answer}}
 use Rattle.df_format.specs.Shown
-use Rattle.df_format.specs.Spelling.{IsCheck}
-use Rattle.df_format.specs.Valid.{IsUnit}
 use Rattle.df_format.specs.Wanted
-use Rattle.df_format.specs.Wanted.{Any, Op, Checksum, Answer}
 use Rattle.df_theory.specs.Units
 use Rattle.df_theory.specs.Units.{AnyUnit, BlockUnit, CopyPlace, CopyUnit, HeaderUnit, PrepareUnit, ReplyUnit}
-use Rattle.df_units.specs.Meaning.{number_of, place_of, unit_of}
-use Rattle.df_units.specs.Bytes.{unit_at}
+use Rattle.df_units.specs.{Meaning.{number_of, place_of, unit_of}, Bytes.{unit_at}}
 
 -- the class of what an image shows at a place that doesn't show the unit wanted
 abbrev pub class_at : Layout → ℕ → Image → Units.Place → Class

@@ -1,17 +1,10 @@
 -- Which device calls write nothing but the zones of a file: each write lies at the place of one unit.
 use Rattle.std.specs.Prelude.{◌≡◌, ◌≤◌, ◌<◌, ℕ, true, List, [], ◌∷◌, Option}
-use Rattle.df_base.specs.Image.{covers}
-use Rattle.df_base.specs.Log.{Event, Stop, Sync, Write}
-use Rattle.df_disk.specs.Adds.{after_all}
-use Rattle.df_disk.specs.Told.{Told}
-use Rattle.df_layout.specs.Zones.{end_sector, first_sector}
-use Rattle.df_layout.specs.declared.layout.Layout.{Layout}
-use Rattle.df_theory.specs.Device.{AreSteps}
-use Rattle.df_theory.specs.Runs.{Step}
-use Rattle.df_theory.specs.Units.{Place}
-use Rattle.df_units.specs.Bytes.{has}
-use Rattle.df_units.specs.Format.{format_of}
-use Rattle.df_units.specs.Meaning.{place_of}
+use Rattle.df_base.specs.{Image.{covers}, Log.{Event, Stop, Sync, Write}}
+use Rattle.df_disk.specs.{Adds.{after_all}, Told.{Told}}
+use Rattle.df_layout.specs.{Zones.{end_sector, first_sector}, declared.layout.Layout.{Layout}}
+use Rattle.df_theory.specs.{Device.{AreSteps}, Runs.{Step}, Units.{Place}}
+use Rattle.df_units.specs.{Bytes.{has}, Format.{format_of}, Meaning.{place_of}}
 
 -- A write has no sector beside those of one place of the layout: a copy of the superblock, a slot of the header ring, the slot of a prepare or of a reply, or a block. So it
 -- reaches neither the padding nor what stands after the file. A sync writes nothing, and a stop is no call.

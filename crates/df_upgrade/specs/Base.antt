@@ -1,11 +1,8 @@
 -- The superblock with which a file of version 1 becomes one of version 2.
 use Rattle.std.specs.Prelude.{◌≡◌, ◌<◌, Option, Some, None}
-use Rattle.df_base.specs.declared.TheConstants.{VERSION}
-use Rattle.df_base.specs.Image.{IsImage}
+use Rattle.df_base.specs.{declared.TheConstants.{VERSION}, Image.{IsImage}}
 use Rattle.df_disk.specs.Told.{Told}
-use Rattle.df_format.specs.SuperRules.{fault_of}
-use Rattle.df_format.specs.Copies.{Content, content_at, content_with, rank_of_copy}
-use Rattle.df_format.specs.declared.superblock.SuperFields.{SuperFields}
+use Rattle.df_format.specs.{SuperRules.{fault_of}, Copies.{Content, content_at, content_with, rank_of_copy}, declared.superblock.SuperFields.{SuperFields}}
 use Rattle.df_quorum.specs.Quorum.{IsChosenContent}
 use Rattle.df_damage.specs.Below.{State, recorded}
 

@@ -6,11 +6,8 @@ use Rattle.df_layout.specs.declared.layout.Layout.{Layout}
 use Rattle.df_format.specs.SuperRules.{IsUsable}
 use Rattle.df_model.specs.declared.errors.OpenError.{OpenError}
 use Rattle.df_theory.specs.View.{View}
-use Rattle.df_damage.specs.Answers.{AnswersHurt}
-use Rattle.df_damage.specs.Below.{DataFile, State}
+use Rattle.df_damage.specs.{Answers.{AnswersHurt}, Below.{DataFile, State}, Disks.{MayBeHurtAs}, Surveying.{IsPlannedFor, IsWellFound, TellsSurveyAs}}
 use Rattle.df_rooms.specs.declared.rooms.Rooms.{Rooms}
-use Rattle.df_damage.specs.Disks.{MayBeHurtAs}
-use Rattle.df_damage.specs.Surveying.{IsPlannedFor, IsWellFound, TellsSurveyAs}
 use Rattle.df_damage.specs.Types as found
 use Rattle.df_opening.specs.Survey.{Survey}
 

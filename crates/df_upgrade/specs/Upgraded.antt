@@ -1,29 +1,15 @@
 -- What the upgrade of a file answers, what it leaves of the file, and what it leaves where the disk failed in it.
 use Rattle.std.specs.Prelude.{◌≡◌, ◌⊎◌, ℕ, List, Option, Some, Result, Ok, Err}
-use Rattle.df_base.specs.declared.TheConstants.{VERSION}
-use Rattle.df_base.specs.Image.{IsImage}
-use Rattle.df_base.specs.Log.{Event, Sync}
-use Rattle.df_base.specs.Moments.{EachMoment}
+use Rattle.df_base.specs.{declared.TheConstants.{VERSION}, Image.{IsImage}, Log.{Event, Sync}, Moments.{EachMoment}}
 use Rattle.df_disk.specs.Told.{Told, after, did}
 use Rattle.df_layout.specs.declared.layout.Layout.{Layout}
-use Rattle.df_theory.specs.Found.{IsFound}
-use Rattle.df_theory.specs.Next.{IsSameBare}
-use Rattle.df_theory.specs.Upgrades.{as_version}
-use Rattle.df_theory.specs.View.{View}
+use Rattle.df_theory.specs.{Found.{IsFound}, Next.{IsSameBare}, Upgrades.{as_version}, View.{View}}
 use Rattle.df_units.specs.Bytes.{unit_at}
-use Rattle.df_model.specs.declared.errors.OpenError.{OpenError}
-use Rattle.df_model.specs.declared.errors.OpenError.TheVariants.{DiskFault}
-use Rattle.df_damage.specs.Anew.{restarted, told_after}
-use Rattle.df_damage.specs.Below.{State, shape}
+use Rattle.df_model.specs.{declared.errors.OpenError.{OpenError}, declared.errors.OpenError.TheVariants.{DiskFault}}
+use Rattle.df_damage.specs.{Anew.{restarted, told_after}, Below.{State, shape}, Plan.{AreDistinctUnits}, Surveying.{TellsSurveyAs}, Surveys.{IsOpenedAs}}
 use Rattle.df_rooms.specs.declared.rooms.Rooms.{Rooms}
-use Rattle.df_damage.specs.Plan.{AreDistinctUnits}
-use Rattle.df_damage.specs.Surveying.{TellsSurveyAs}
-use Rattle.df_damage.specs.Surveys.{IsOpenedAs}
 use Rattle.df_opening.specs.Opened.{AreRaisingTo, BeginsRaisingTo, Mends, ToldBy}
-use Rattle.df_upgrade.specs.Base.{base_fields}
-use Rattle.df_upgrade.specs.Old.{TellsHurtOld}
-use Rattle.df_upgrade.specs.Upgrading.{UpgradeStaysBare, UpgradesAnew, upgraded}
-use Rattle.df_upgrade.specs.declared.upgraded.Upgraded.{Upgraded}
+use Rattle.df_upgrade.specs.{Base.{base_fields}, Old.{TellsHurtOld}, Upgrading.{UpgradeStaysBare, UpgradesAnew, upgraded}, declared.upgraded.Upgraded.{Upgraded}}
 
 -- the sequence of the file, or the refusal
 abbrev pub sequence_of : {R : Type 0} → Result Upgraded (R × OpenError) → Result ℕ OpenError

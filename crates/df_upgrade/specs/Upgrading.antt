@@ -1,36 +1,16 @@
 -- What an upgrade does after its survey, and what it leaves at each moment of that and at its end: of a log that is restarted at the barrier, whatever the copies showed there.
 use Rattle.std.specs.Prelude.{◌≡◌, ◌⊎◌, List, Option, Result, OnOk}
-use Rattle.df_base.specs.declared.TheConstants.{VERSION}
-use Rattle.df_base.specs.Image.{Image, IsImage}
-use Rattle.df_base.specs.Log.{Event, IsLeft, Log, now}
-use Rattle.df_base.specs.Moments.{EachMoment}
+use Rattle.df_base.specs.{declared.TheConstants.{VERSION}, Image.{Image, IsImage}, Log.{Event, IsLeft, Log, now}, Moments.{EachMoment}}
 use Rattle.df_disk.specs.Told.{Told}
-use Rattle.df_format.specs.Copies.{content_with}
-use Rattle.df_format.specs.declared.superblock.SuperFields.{SuperFields}
-use Rattle.df_superblock.specs.Calls.{AddsUpdate, EndsEqual, IsJudged, IsUndamaged, ShowsEqual}
-use Rattle.df_superblock.specs.Copies.{AreEqual}
-use Rattle.df_superblock.specs.Events.{update_events}
-use Rattle.df_superblock.specs.Steps.{AreStepsOfCopies}
+use Rattle.df_format.specs.{Copies.{content_with}, declared.superblock.SuperFields.{SuperFields}}
+use Rattle.df_superblock.specs.{Calls.{AddsUpdate, EndsEqual, IsJudged, IsUndamaged, ShowsEqual}, Copies.{AreEqual}, Events.{update_events}, Steps.{AreStepsOfCopies}}
 use Rattle.df_superblock.specs.declared.updates.UpdateError.{UpdateError}
-use Rattle.df_theory.specs.CopyPuts.{update_steps}
-use Rattle.df_theory.specs.Device.{AreSteps, NoChanceOf}
-use Rattle.df_theory.specs.Found.{IsClean, IsFound}
-use Rattle.df_theory.specs.Holds.{IsWhole}
-use Rattle.df_theory.specs.Next.{IsSameBare, booted}
-use Rattle.df_theory.specs.Runs.{Step}
-use Rattle.df_theory.specs.Upgrades.{as_version}
+use Rattle.df_theory.specs.{CopyPuts.{update_steps}, Device.{AreSteps, NoChanceOf}, Found.{IsClean, IsFound}, Holds.{IsWhole}, Next.{IsSameBare, booted}, Runs.{Step}, Upgrades.{as_version}}
 use Rattle.df_theory.specs.View.{View}
 use Rattle.df_model.specs.Result.{AgreeReads}
-use Rattle.df_units.specs.Bytes.{unit_at}
-use Rattle.df_units.specs.Meaning.{content_of}
-use Rattle.df_units.specs.Puts.{put_copies}
-use Rattle.df_damage.specs.Anew.{IsStill, restarted, told_after}
-use Rattle.df_damage.specs.Below.{DataFile, Represents, State, shape}
-use Rattle.df_damage.specs.Plan.{AreDistinctUnits}
-use Rattle.df_opening.specs.Keeping.{format}
-use Rattle.df_opening.specs.Mending.{first_state, mending_events, mending_steps, raising_events, raising_steps}
-use Rattle.df_opening.specs.Raising.{IsPlannedOf}
-use Rattle.df_opening.specs.Survey.{Survey}
+use Rattle.df_units.specs.{Bytes.{unit_at}, Meaning.{content_of}, Puts.{put_copies}}
+use Rattle.df_damage.specs.{Anew.{IsStill, restarted, told_after}, Below.{DataFile, Represents, State, shape}, Plan.{AreDistinctUnits}}
+use Rattle.df_opening.specs.{Keeping.{format}, Mending.{first_state, mending_events, mending_steps, raising_events, raising_steps}, Raising.{IsPlannedOf}, Survey.{Survey}}
 use Rattle.df_upgrade.specs.Base.{base_fields}
 
 -- ---- device calls

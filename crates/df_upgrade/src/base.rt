@@ -1,9 +1,7 @@
 // The superblock with which a file of version 1 becomes one of version 2: it records the state as it was found.
 ghost use Rattle.std.specs.Prelude.{◌≡◌};
 ghost use Rattle.df_damage.specs.Surveying.{state_found};
-ghost use Rattle.df_upgrade.specs.Base.{base_fields};
-ghost use Rattle.df_upgrade.specs.Below.{IsUsable};
-ghost use Rattle.df_upgrade.specs.Old.{IsOldSurvey};
+ghost use Rattle.df_upgrade.specs.{Base.{base_fields}, Below.{IsUsable}, Old.{IsOldSurvey}};
 
 use df_base::VERSION;
 use df_damage::Surveyed;

@@ -1,9 +1,7 @@
 // What is listed of a surveyed file of version 1 is written again, as an open mends a file, and nothing else.
 ghost use Rattle.std.specs.Prelude.{◌≡◌, length};
 ghost use Rattle.df_opening.specs.Held.{AreLogRoomsOf};
-ghost use Rattle.df_upgrade.specs.Below.{AddsSteps, HasCause, IsUsable, format, mending_events, mending_steps};
-ghost use Rattle.df_upgrade.specs.Old.{IsSoundSurvey, rooms_in};
-ghost use Rattle.df_upgrade.specs.Upgrading.{restoring_events, restoring_steps};
+ghost use Rattle.df_upgrade.specs.{Below.{AddsSteps, HasCause, IsUsable, format, mending_events, mending_steps}, Old.{IsSoundSurvey, rooms_in}, Upgrading.{restoring_events, restoring_steps}};
 
 use crate::{Rooms, Surveyed};
 use df_base::Failed;

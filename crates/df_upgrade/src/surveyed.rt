@@ -2,9 +2,7 @@
 // is of version 2 alone, and so this is a type of its own.
 ghost use Rattle.std.specs.Prelude.{◌≡◌, IfOk, IfErr};
 ghost use Rattle.df_base.specs.declared.TheConstants.{FIRST_VERSION};
-ghost use Rattle.df_upgrade.specs.Base.{base_fields};
-ghost use Rattle.df_upgrade.specs.Below.{IsBlamed, IsSurveyed, IsUsable, Syncs, is_open_fault, state_of};
-ghost use Rattle.df_upgrade.specs.Old.{AnswersOld};
+ghost use Rattle.df_upgrade.specs.{Base.{base_fields}, Below.{IsBlamed, IsSurveyed, IsUsable, Syncs, is_open_fault, state_of}, Old.{AnswersOld}};
 
 use crate::base::base_of;
 use crate::{OpenError, Rooms};
@@ -25,8 +23,7 @@ pub struct Surveyed {
 }
 
 impl Model for Surveyed {
-    ghost use Rattle.df_opening.specs.Survey.{Survey};
-    ghost use Rattle.df_opening.specs.Surveying.{survey_found};
+    ghost use Rattle.df_opening.specs.{Survey.{Survey}, Surveying.{survey_found}};
     ghost use Rattle.df_upgrade.specs.Old.{IsOldSurvey};
 
     ghost Value = { Survey };

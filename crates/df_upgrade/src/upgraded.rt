@@ -1,11 +1,8 @@
 // A file of version 1 becomes one of version 2: it is surveyed, mended, and gets its superblock.
 ghost use Rattle.std.specs.Prelude.{◌≡◌, Some};
 ghost use Rattle.df_base.specs.declared.TheConstants.{FIRST_VERSION};
-ghost use Rattle.df_upgrade.specs.Base.{MayUpgradeTo, base_fields};
-ghost use Rattle.df_upgrade.specs.Below.{AddsUpdating, IsBlamed, IsPlannedOf, Told, is_mend_fault, is_open_fault, update_events, without_rooms};
-ghost use Rattle.df_upgrade.specs.Old.{rooms_in};
-ghost use Rattle.df_upgrade.specs.Upgraded.{AnswersUpgrade, LeavesUpgrade, rooms_of, sequence_of};
-ghost use Rattle.df_upgrade.specs.Upgrading.{UpgradesEach, upgrading_events};
+ghost use Rattle.df_upgrade.specs.{Base.{MayUpgradeTo, base_fields}, Below.{AddsUpdating, IsBlamed, IsPlannedOf, Told, is_mend_fault, is_open_fault, update_events, without_rooms}, Old.{rooms_in}};
+ghost use Rattle.df_upgrade.specs.{Upgraded.{AnswersUpgrade, LeavesUpgrade, rooms_of, sequence_of}, Upgrading.{UpgradesEach, upgrading_events}};
 
 use crate::{MendError, OpenError, Rooms, Surveyed, UpdateError, survey, upgrade};
 use df_damage::LogRooms;

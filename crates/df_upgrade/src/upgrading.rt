@@ -1,7 +1,5 @@
 // The four copies of version 2.
-ghost use Rattle.df_upgrade.specs.Base.{MayUpgradeTo};
-ghost use Rattle.df_upgrade.specs.Below.{IsBlamed, is_update_fault};
-ghost use Rattle.df_upgrade.specs.Upgrading.{UpdatesTo};
+ghost use Rattle.df_upgrade.specs.{Base.{MayUpgradeTo}, Below.{IsBlamed, is_update_fault}, Upgrading.{UpdatesTo}};
 
 use df_buffers::ProbeRoom;
 use df_disk::Disk;

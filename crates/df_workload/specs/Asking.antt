@@ -2,12 +2,9 @@
 use Rattle.std.specs.Prelude.{ℕ, ◌+◌, ◌-◌, ◌/◌, ◌%◌, if◌then◌else◌, List, slice_index, Option, Some, None}
 use Rattle.df_base.specs.Fields.{spelled}
 use Rattle.df_model.specs.Commands.{Advance, Append, Begin, Command, Release, Reply, WriteBlock}
-use Rattle.df_workload.specs.Draw.{drawn_body}
-use Rattle.df_workload.specs.declared.asked.Asked.{Asked}
+use Rattle.df_workload.specs.{Draw.{drawn_body}, declared.asked.Asked.{Asked}, declared.state.Point.{Point}}
+use Rattle.df_workload.specs.{declared.state.Point.TheVariants.{Appending, Replying, Stepping, Writing, Releasing, Beginning, Ending}, declared.state.State.{State}}
 use Rattle.df_workload.specs.declared.asked.Asked.TheVariants as asked
-use Rattle.df_workload.specs.declared.state.Point.{Point}
-use Rattle.df_workload.specs.declared.state.Point.TheVariants.{Appending, Replying, Stepping, Writing, Releasing, Beginning, Ending}
-use Rattle.df_workload.specs.declared.state.State.{State}
 
 -- a number as 8 bytes, the lowest byte first
 abbrev pub number_body : ℕ → List ℕ

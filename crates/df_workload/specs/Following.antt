@@ -1,9 +1,7 @@
 -- Commands and answers are those of a generated run.
 use Rattle.std.specs.Prelude.{◌≡◌, List, [], ◌∷◌, Some}
 use Rattle.df_model.specs.Commands.{Answer, Command}
-use Rattle.df_workload.specs.Asking.{asks}
-use Rattle.df_workload.specs.Hearing.{heard}
-use Rattle.df_workload.specs.declared.state.State.{State}
+use Rattle.df_workload.specs.{Asking.{asks}, Hearing.{heard}, declared.state.State.{State}}
 
 -- from the state s on these commands were asked for and got these answers, and then the state is end
 abbrev pub Follows : (s : State) → List Command → List Answer → (end : State) → Type 0

@@ -4,13 +4,9 @@ use Rattle.df_model.specs.Commands.{Advance, Answer, Begin, Command, ToAdvance, 
 use Rattle.df_model.specs.declared.answers.Progress.TheVariants as progress
 use Rattle.df_model.specs.declared.commands.Answer.{Answer as Called}
 use Rattle.df_model.specs.declared.commands.Answer.TheVariants as answers
-use Rattle.df_workload.specs.Draw.{body_length}
-use Rattle.df_workload.specs.Rounds.{after_reply, to_begin, to_block, to_next, to_release, to_replies}
-use Rattle.df_workload.specs.declared.outcome.Outcome.{Outcome}
-use Rattle.df_workload.specs.declared.outcome.Outcome.TheVariants.{Refused, Accepted, Wrote, Finished}
-use Rattle.df_workload.specs.declared.state.Point.{Point}
-use Rattle.df_workload.specs.declared.state.Point.TheVariants.{Appending, Replying, Stepping, Writing, Releasing, Beginning, Ending}
-use Rattle.df_workload.specs.declared.state.State.{State}
+use Rattle.df_workload.specs.{Draw.{body_length}, Rounds.{after_reply, to_begin, to_block, to_next, to_release, to_replies}, declared.outcome.Outcome.{Outcome}}
+use Rattle.df_workload.specs.{declared.outcome.Outcome.TheVariants.{Refused, Accepted, Wrote, Finished}, declared.state.Point.{Point}}
+use Rattle.df_workload.specs.{declared.state.Point.TheVariants.{Appending, Replying, Stepping, Writing, Releasing, Beginning, Ending}, declared.state.State.{State}}
 
 -- ---- what counts of an answer
 

@@ -1,10 +1,7 @@
 -- The rounds of a generated run: where each of them goes on, point by point.
 use Rattle.std.specs.Prelude.{ℕ, ◌+◌, ◌-◌, ◌%◌, ◌==◌, ◌||◌, Bool, false, nat_lt, min, if◌then◌else◌, [], length}
-use Rattle.df_workload.specs.Draw.{first_number, next_number}
-use Rattle.df_workload.specs.declared.counts.Counts.{Counts}
-use Rattle.df_workload.specs.declared.state.Point.{Point}
-use Rattle.df_workload.specs.declared.state.Point.TheVariants.{Appending, Replying, Stepping, Writing, Releasing, Beginning, Ending}
-use Rattle.df_workload.specs.declared.state.State.{State}
+use Rattle.df_workload.specs.{Draw.{first_number, next_number}, declared.counts.Counts.{Counts}, declared.state.Point.{Point}}
+use Rattle.df_workload.specs.{declared.state.Point.TheVariants.{Appending, Replying, Stepping, Writing, Releasing, Beginning, Ending}, declared.state.State.{State}}
 
 abbrev pub at : Point → State → State
 at point s = record s { point = point }

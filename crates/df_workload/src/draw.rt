@@ -1,7 +1,6 @@
 // The draw: one number after the other, each of which stands for a body.
 ghost use Rattle.std.specs.Prelude.{◌≡◌, ◌<◌, ◌^◌, take};
-ghost use Rattle.df_workload.specs.Asking.{number_body};
-ghost use Rattle.df_workload.specs.Draw.{body_length, drawn_body, first_number, next_number};
+ghost use Rattle.df_workload.specs.{Asking.{number_body}, Draw.{body_length, drawn_body, first_number, next_number}};
 
 use df_base::put_u64;
 

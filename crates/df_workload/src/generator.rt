@@ -1,10 +1,6 @@
 // The generator: the state of a run, and the room for the body that was drawn last.
 ghost use Rattle.std.specs.Prelude.{◌≡◌, ◌≤◌, ◌<◌, false, IfSome, IfNone, Some, None};
-ghost use Rattle.df_workload.specs.Asking.{asks, command_asked};
-ghost use Rattle.df_workload.specs.Draw.{drawn_body};
-ghost use Rattle.df_workload.specs.Hearing.{told};
-ghost use Rattle.df_workload.specs.Rounds.{start};
-ghost use Rattle.df_workload.specs.Sound.{MayBeTold, is_at_end, left};
+ghost use Rattle.df_workload.specs.{Asking.{asks, command_asked}, Draw.{drawn_body}, Hearing.{told}, Rounds.{start}, Sound.{MayBeTold, is_at_end, left}};
 
 use crate::draw::{ROOM, body_length, fill};
 use crate::rounds::start;

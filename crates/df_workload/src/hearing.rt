@@ -1,7 +1,6 @@
 // What an answer makes of a generated run.
 ghost use Rattle.std.specs.Prelude.{◌≡◌, ◌≤◌, ◌<◌, ◌+◌, ◌^◌, length};
-ghost use Rattle.df_workload.specs.Hearing.{append_heard, begin_heard, block_heard, refused, release_heard, reply_heard, stepped, told};
-ghost use Rattle.df_workload.specs.Sound.{IsSoundState, MayBeTold, counted_commands};
+ghost use Rattle.df_workload.specs.{Hearing.{append_heard, begin_heard, block_heard, refused, release_heard, reply_heard, stepped, told}, Sound.{IsSoundState, MayBeTold, counted_commands}};
 
 use crate::draw::body_length;
 use crate::{Outcome, Point, State};

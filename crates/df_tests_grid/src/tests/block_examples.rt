@@ -1,9 +1,7 @@
 // Blocks and checkpoints of a grid of cluster 7, as they are written over a disk in memory.
 ghost use Rattle.std.specs.Prelude.{◌≡◌, ◌≤◌, IsSome, OnOk, length};
 ghost use Rattle.df_layout.specs.declared.layout.Layout.{Layout as AnyLayout};
-ghost use Rattle.df_format.specs.Rules.{ObeysRules};
-ghost use Rattle.df_format.specs.Own.{own_place};
-ghost use Rattle.df_format.specs.Making.{for_body};
+ghost use Rattle.df_format.specs.{Rules.{ObeysRules}, Own.{own_place}, Making.{for_body}};
 ghost use Rattle.df_grid.specs.Table.{IsIdle, IsReadyTrailer};
 
 use df_base::{Failed, check};

@@ -1,7 +1,6 @@
 // Units of cluster 7 on layout small for the tests, as their makers give them.
 ghost use Rattle.std.specs.Prelude.{◌≡◌, ◌≢◌, ◌≤◌, length};
-ghost use Rattle.df_format.specs.Rules.{ObeysRules};
-ghost use Rattle.df_format.specs.Making.{for_body};
+ghost use Rattle.df_format.specs.{Rules.{ObeysRules}, Making.{for_body}};
 
 use df_base::check;
 use df_buffers::{Identity, Wanted};

@@ -1,8 +1,6 @@
 // Each public call on its happy path, at each kind.
 ghost use Rattle.std.specs.Prelude.{◌≡◌, ◌+◌, ◌≤◌, length};
-ghost use Rattle.df_format.specs.Rules.{ObeysRules};
-ghost use Rattle.df_format.specs.Whole.{greatest_size};
-ghost use Rattle.df_format.specs.Making.{for_body};
+ghost use Rattle.df_format.specs.{Rules.{ObeysRules}, Whole.{greatest_size}, Making.{for_body}};
 
 use crate::tests::room_examples::{header_of, identity_at};
 use df_buffers::{Block, Prepare, Raw, Reply, Trailer, UnitKind, Wanted};

@@ -2,9 +2,7 @@
 ghost use Rattle.std.specs.Prelude.{◌≡◌, ◌≤◌, ◌<◌, ◌+◌, ◌^◌, [], length, OnOk, IsSome};
 ghost use Rattle.df_layout.specs.declared.layout.Layout.{Layout as AnyLayout};
 ghost use Rattle.df_journal.specs.Shows.{IsSeenTable};
-ghost use Rattle.df_format.specs.Making.{for_body};
-ghost use Rattle.df_format.specs.Own.{own_place};
-ghost use Rattle.df_format.specs.Rules.{ObeysRules};
+ghost use Rattle.df_format.specs.{Making.{for_body}, Own.{own_place}, Rules.{ObeysRules}};
 
 use df_base::{Check, Failed, check};
 use df_buffers::{HeaderSector, Prepare, Raw, SlotSeen};

@@ -2,9 +2,7 @@
 ghost use Rattle.std.specs.Prelude.{◌≡◌, ◌≤◌, length, IsSome, None};
 ghost use Rattle.df_base.specs.Causes.{HasCause};
 ghost use Rattle.df_layout.specs.declared.layout.Layout.{Layout as AnyLayout};
-ghost use Rattle.df_format.specs.Rules.{ObeysRules};
-ghost use Rattle.df_format.specs.Own.{own_place};
-ghost use Rattle.df_format.specs.Making.{for_body};
+ghost use Rattle.df_format.specs.{Rules.{ObeysRules}, Own.{own_place}, Making.{for_body}};
 
 use df_base::{Failed, SECTOR, check};
 use df_buffers::{Raw, Reply};
