@@ -2,7 +2,7 @@
 use Rattle.std.{proofs.{Common.{◌≡◌, inl, inr, ℕ, zero, suc, ◌+◌, ◌-◌, ◌%◌, ◌^◌, ◌==◌, ◌<◌, ◌≤◌, Bool, true, false, if◌then◌else◌, List, [], ◌∷◌, drop, length, take, Some, refl, sym, ◌∙◌, ap, arith}, lemmas.Bool.{cases_lt}, lemmas.Bool.Decides.{nat_tests}, lemmas.List.{length-take}, lemmas.Option.{same_Some}}, specs.List.{slice_get}}
 use Rattle.df_format.specs.declared.kind.Kind.{Kind}
 use Rattle.df_format.specs.declared.kind.Kind.TheVariants as kinds
-use Rattle.df_theory.{specs.{Found.{IsFound}, Holds.{Stands}, Opens.{AreKnown, Found, IsReadable, IsUsableSuperblock, OpenAnswer, Opens, ReadsTo, Refused, BootSpent, Damaged, named_by}, Opens.Opens.{LacksBlock, Opened, Spent, Unknown}, Sessions.{noted, session_of_header, sessions_after}, Shape.{Shape, slots}, Tails.{Chain, In, last_checksum}, Trailer.{InChain, Links, Says}, Units.{Block, BlockPlace, BlockUnit, Content, CopyPlace, Header, HeaderPlace, Message, Parts, Place, PreparePlace, PrepareUnit, ReplyPlace, ReplyUnit, Session, Units}, View.{View, boot_of, sessions}}, proofs.Laws.{chain_ops, in_dropped, known_one, noted_get, one_answer_law, same_says, sessions-drop, take_boot}}
+use Rattle.df_theory.{specs.{Found.{IsFound}, Holds.{Stands}, Opens.{AreKnown, Found, IsReadable, IsUsableSuperblock, OpenAnswer, Opens, ReadsTo, Refused, BootSpent, Damaged, named_by}, Opens.Opens.{LacksBlock, Opened, Spent, Unknown}, Sessions.{noted, session_of_header, sessions_after}, Shape.{Shape, slots}, Tails.{Chain, In, last_checksum}, Trailer.{InChain, Links, Says}, Units.{Block, BlockPlace, BlockUnit, Content, Header, Message, Parts, Place, PreparePlace, PrepareUnit, ReplyPlace, ReplyUnit, Session, Units}, View.{View, boot_of, sessions}}, proofs.Laws.{chain_ops, in_dropped, known_one, noted_get, one_answer_law, same_says, sessions-drop, take_boot}}
 use Rattle.df_mirror.specs.Known.{IsKnownAt, IsNamedPrepare, IsRecordedReply, IsReferencedBlock, IsShownAs, ShowsTrailer}
 use Rattle.df_lifetime.specs.Mirrored.{RecordsReplies}
 
@@ -172,24 +172,8 @@ module _ (sh : Shape) (image : Units) (v : View) (second : sh.version ≡ 2) (fo
   -- ---- all of them
 
   pub none_lacks : (kind : Kind) (place : Place) (sum : ℕ) → IsKnownAt sh image c kind place sum → (IsShownAs image kind place sum → ⊥) → ⊥
-  none_lacks kinds.Reserved place sum known lacks = known
   none_lacks kinds.Trailer (BlockPlace a) sum known lacks = trailer_shown a sum known lacks
-  none_lacks kinds.Trailer (CopyPlace n) sum known lacks = known
-  none_lacks kinds.Trailer (HeaderPlace s) sum known lacks = known
-  none_lacks kinds.Trailer (PreparePlace s) sum known lacks = known
-  none_lacks kinds.Trailer (ReplyPlace k) sum known lacks = known
   none_lacks kinds.Block (BlockPlace a) sum known lacks = lacks (block_shown a sum known)
-  none_lacks kinds.Block (CopyPlace n) sum known lacks = known
-  none_lacks kinds.Block (HeaderPlace s) sum known lacks = known
-  none_lacks kinds.Block (PreparePlace s) sum known lacks = known
-  none_lacks kinds.Block (ReplyPlace k) sum known lacks = known
   none_lacks kinds.Prepare (PreparePlace s) sum known lacks = prepare_shown s sum known lacks
-  none_lacks kinds.Prepare (CopyPlace n) sum known lacks = known
-  none_lacks kinds.Prepare (HeaderPlace s) sum known lacks = known
-  none_lacks kinds.Prepare (ReplyPlace k) sum known lacks = known
-  none_lacks kinds.Prepare (BlockPlace a) sum known lacks = known
   none_lacks kinds.Reply (ReplyPlace k) sum known lacks = lacks (reply_shown k sum known)
-  none_lacks kinds.Reply (CopyPlace n) sum known lacks = known
-  none_lacks kinds.Reply (HeaderPlace s) sum known lacks = known
-  none_lacks kinds.Reply (PreparePlace s) sum known lacks = known
-  none_lacks kinds.Reply (BlockPlace a) sum known lacks = known
+  none_lacks kind place sum known lacks = known

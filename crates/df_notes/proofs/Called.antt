@@ -57,35 +57,11 @@ module _ (s t : Replica) (old new : Option Told) where
 
 pub receipt_blames : (a : Answer) (before now : ℕ) → now ≡ before → IsBlamed is_disk_at_fault before now (receipt_in a)
 receipt_blames (answers.Append (Ok receipt)) before now same = same
-receipt_blames (answers.Append (Err e)) before now same = same
-receipt_blames (answers.Stage r) before now same = same
-receipt_blames (answers.Flush r) before now same = same
-receipt_blames (answers.Reply r) before now same = same
-receipt_blames (answers.WriteBlock r) before now same = same
-receipt_blames (answers.Release r) before now same = same
-receipt_blames (answers.Begin r) before now same = same
-receipt_blames (answers.Advance r) before now same = same
-receipt_blames (answers.ReadPrepare r) before now same = same
-receipt_blames (answers.ReadReply r) before now same = same
-receipt_blames (answers.ReadBlock r) before now same = same
-receipt_blames (answers.Scrub r) before now same = same
-receipt_blames answers.Recent before now same = same
+receipt_blames a before now same = same
 
 pub stored_blames : (a : Answer) (before now : ℕ) → now ≡ before → IsBlamed is_disk_at_fault before now (stored_in a)
 stored_blames (answers.Reply (Ok check)) before now same = same
-stored_blames (answers.Reply (Err e)) before now same = same
-stored_blames (answers.Append r) before now same = same
-stored_blames (answers.Stage r) before now same = same
-stored_blames (answers.Flush r) before now same = same
-stored_blames (answers.WriteBlock r) before now same = same
-stored_blames (answers.Release r) before now same = same
-stored_blames (answers.Begin r) before now same = same
-stored_blames (answers.Advance r) before now same = same
-stored_blames (answers.ReadPrepare r) before now same = same
-stored_blames (answers.ReadReply r) before now same = same
-stored_blames (answers.ReadBlock r) before now same = same
-stored_blames (answers.Scrub r) before now same = same
-stored_blames answers.Recent before now same = same
+stored_blames a before now same = same
 
 -- ---- a read
 

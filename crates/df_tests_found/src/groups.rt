@@ -222,28 +222,16 @@ fn file_of(tail: u64, named: u64, boot: u64) -> File {
     File { tail, named, boot }
 }
 
-// Ops 5 to 7.
-#[test]
-fn a_group_with_its_headers_in_one_sector_is_found_whole_or_not_at_all(rt: HostRuntime) {
-    assert_groups(&rt, rt.alloc(), &file_of(4, 2, 3));
-}
+// Ends of a tail, with the head that the superblock names: after them a group lies in ops 5 to 7, with its headers in one sector; in ops
+// 15 to 17, with its headers in two; in ops 30 to 32, past the end of the ring, in slots 30, 31 and 0; and in ops 5 to 7, right after the
+// named head.
+const ENDS: [(u64, u64); 4] = [(4, 2), (14, 2), (29, 2), (4, 4)];
 
-// Ops 15 to 17.
 #[test]
-fn a_group_with_its_headers_in_two_sectors_is_one_like_others(rt: HostRuntime) {
-    assert_groups(&rt, rt.alloc(), &file_of(14, 2, 3));
-}
-
-// Ops 30 to 32, in slots 30, 31 and 0.
-#[test]
-fn a_group_past_the_end_of_the_ring_is_one_like_others(rt: HostRuntime) {
-    assert_groups(&rt, rt.alloc(), &file_of(29, 2, 3));
-}
-
-// Ops 5 to 7, after op 4, which is named.
-#[test]
-fn a_group_right_behind_the_named_head_is_one_like_others(rt: HostRuntime) {
-    assert_groups(&rt, rt.alloc(), &file_of(4, 4, 3));
+fn a_group_is_found_whole_or_not_at_all_wherever_it_lies(rt: HostRuntime) {
+    for (tail, named) in &ENDS {
+        assert_groups(&rt, rt.alloc(), &file_of(*tail, *named, 3));
+    }
 }
 
 // Whatever is left of it, the state before is found, and nothing is to be mended.

@@ -1,6 +1,6 @@
 // Copies of the superblock against values from outside: the bytes of the first one, and which sectors are a copy.
 use crate::tests::super_examples::{
-    FIRST, LATER, OF_PLACE_2, fields_in, number_in, sealed, used, written,
+    FIRST, LATER, OF_PLACE_2, changed, fields_in, number_in, sealed, used, written,
 };
 use df_format::{SuperCopy, SuperFields, decode_copy};
 use df_layout::{Class, Layout};
@@ -16,15 +16,6 @@ const FRONT: [u8; 80] = [
 fn example() -> [u8; 4096] {
     let mut bytes = [0; 4096];
     bytes[..80].copy_from_slice(&FRONT);
-    bytes
-}
-
-// The sector with one byte changed.
-fn with(at: usize, byte: u8) -> [u8; 4096] {
-    let mut bytes = example();
-    if at < bytes.len() {
-        bytes[at] = byte;
-    }
     bytes
 }
 
@@ -82,7 +73,7 @@ fn writes_each_field_at_its_offset(rt: HostRuntime) {
 
 // The first byte of the sector with one byte changed that should be zero and isn't, where that is a copy.
 fn first_nonzero(at: usize) -> Option<Option<u64>> {
-    match fields_in(&sealed(with(at, 1))) {
+    match fields_in(&sealed(changed(example(), at, 1))) {
         Some(fields) => Some(fields.first_nonzero),
         None => None,
     }
@@ -105,9 +96,12 @@ const CHANGES: [(usize, u8, bool); 10] = [
 #[test]
 fn tells_which_sectors_are_a_copy(rt: HostRuntime) {
     for (at, byte, is) in &CHANGES {
-        assert!(rt; fields_in(&with(*at, *byte)).is_some() == *is, "at {at}");
+        assert!(rt;
+            fields_in(&changed(example(), *at, *byte)).is_some() == *is,
+            "at {at}"
+        );
     }
-    assert!(rt; fields_in(&sealed(with(32, 2))).is_some());
+    assert!(rt; fields_in(&sealed(changed(example(), 32, 2))).is_some());
     assert!(rt; fields_in(&[0; 4096]).is_none());
     let first = (first_nonzero(4095), first_nonzero(160), first_nonzero(159));
     assert!(rt; first == (Some(Some(4095)), Some(Some(160)), Some(None)));
@@ -123,8 +117,8 @@ fn a_last_byte() -> [u8; 4096] {
 #[test]
 fn tells_the_class_of_a_sector(rt: HostRuntime) {
     assert!(rt; number_in(false, &[0; 4096]) == Err(Class::Blank));
-    assert!(rt; number_in(false, &with(25, 1)) == Err(Class::Garbled));
+    assert!(rt; number_in(false, &changed(example(), 25, 1)) == Err(Class::Garbled));
     assert!(rt; number_in(false, &a_last_byte()) == Err(Class::Garbled));
     assert!(rt; number_in(false, &example()) == Err(OF_PLACE_2));
-    assert!(rt; number_in(false, &with(16, 1)) == Ok(1));
+    assert!(rt; number_in(false, &changed(example(), 16, 1)) == Ok(1));
 }

@@ -1,6 +1,6 @@
 // Superblocks of version 2: their bytes against values from outside, and each of their own tests failing in turn.
 use crate::tests::super_examples::{
-    LATER, NEW, OF_PLACE_2, fields_in, judged, number_in, sealed, written,
+    LATER, NEW, OF_PLACE_2, changed, fields_in, judged, number_in, sealed, written,
 };
 use df_base::Check;
 use df_format::{NO_CHECKSUM, NO_CHECKSUMS, SuperFault, SuperFields};
@@ -149,23 +149,14 @@ fn a_version_that_is_not_known_is_refused_before_any_field(rt: HostRuntime) {
     }
 }
 
-// The sector of its copy 2 with one byte changed.
-fn with(at: usize, byte: u8) -> [u8; 4096] {
-    let mut bytes = written(&SECOND, 2);
-    if at < bytes.len() {
-        bytes[at] = byte;
-    }
-    bytes
-}
-
 #[test]
 fn tells_the_class_of_a_sector_of_version_2(rt: HostRuntime) {
     let sector = written(&SECOND, 2);
     assert!(rt; number_in(true, &sector) == Ok(2));
     assert!(rt; number_in(false, &sector) == Err(OF_PLACE_2));
     // The checksum covers what is named, and not the number.
-    assert!(rt; number_in(false, &with(16, 1)) == Ok(1));
-    assert!(rt; number_in(true, &with(192, 1)) == Err(Class::Garbled));
+    assert!(rt; number_in(false, &changed(sector, 16, 1)) == Ok(1));
+    assert!(rt; number_in(true, &changed(sector, 192, 1)) == Err(Class::Garbled));
 }
 
 #[test]

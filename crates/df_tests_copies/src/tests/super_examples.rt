@@ -55,6 +55,14 @@ pub(crate) const OF_PLACE_2: Class = Class::Elsewhere(Place {
     index: 2,
 });
 
+// The sector with one byte changed.
+pub(crate) fn changed(mut bytes: [u8; 4096], at: usize, byte: u8) -> [u8; 4096] {
+    if at < bytes.len() {
+        bytes[at] = byte;
+    }
+    bytes
+}
+
 // The sector with its checksum made right.
 pub(crate) fn sealed(mut bytes: [u8; 4096]) -> [u8; 4096] {
     let sum = check(&bytes[32..]);
