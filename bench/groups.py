@@ -1,19 +1,29 @@
-"""What a group costs: a `flush` of up to eight beside one append, and beside as many appends, in turn in one session, by the clock."""
+"""What a group costs by the clock: a `flush` of eight, and an append, each beside a yardstick that makes its device calls and its hashes and
+nothing else; and up to eight requests in one group beside as many appends. All in turn, each in a session of its own over a file that was
+written round."""
 
+import shutil
 import statistics
 from collections import Counter
+from contextlib import ExitStack
 from random import Random
+from typing import NamedTuple
 
-from asked import Asked
+from asked import Asked, Planned
+from calls import lines_of
 from common import Bench, Ground, digits, sectors_of, show, with_quartiles
+from tries.binary import Binary, expect
 from tries.form import Layout
+from yardstick import SYNC, answered, decoded, plan, unit, waited, write
 
-# As many clients as a group has prepares; and how many there are in turn, with all of them, for each round that is asked for.
+# As many clients as a group has prepares; and how many turns there are for each round that is asked for.
 CLIENTS, TURNS = 8, 10
 SLOTS = 1024
 SIZES = (0, 128, 3840, 7936)
-# The body whose groups of each size are told.
-TOLD = 128
+# The body whose groups of each size are told; and so long is a slot in which a short unit leaves the next sector free.
+TOLD, APART = 128, 8192
+# Of what is traced, so many groups go once round the ring; and an answer of the yardstick is as long as this one.
+ROUND, ANSWER = SLOTS // CLIENTS, b"appended 1025\n"
 
 
 class Requests:
@@ -56,25 +66,214 @@ class Requests:
             lines, answers = lines + b"checkpoint -\nstep\nstep\n", answers + b"begun 1\nworking 1\ndone %d\n" % self.sequence
         return self.session.want(lines, answers)
 
+    def go_round(self, size: int) -> None:
+        """Fills each slot once, but for the last one of the ring: the next eight prepares then have their headers in one sector."""
+        while self.head < self.slots - 1:
+            count = min(CLIENTS, self.slots - 1 - self.head)
+            self.appended([self.random.randbytes(size) for _ in range(count)])
+            self.replied(count)
+
+    def over(self, session: Asked) -> "Requests":
+        """The same, as it stands, in another session over a copy of the file."""
+        other = Requests(session, self.random, self.slots)
+        other.head, other.reached, other.sequence, other.asked = self.head, self.reached, self.sequence, Counter(self.asked)
+        return other
+
 
 def layout_of(size: int) -> Layout:
     """Messages as large as the bodies need."""
     return Layout(SLOTS, sectors_of(size), CLIENTS, 4096, 8)
 
 
-def measured(bench: Bench, ground: Ground, size: int) -> dict:
-    """Microseconds of this many appends, of this many stages, and of a flush of this many, all of one session over a file whose ring was
-    written round once."""
+class Case(NamedTuple):
+    """Bodies of one size in a layout, and a file whose ring was written round once, with where its requests stand."""
+
+    size: int
+    layout: Layout
+    path: str
+    requests: Requests
+
+    def copy(self, ground: Ground, name: str) -> str:
+        return shutil.copyfile(self.path, ground.path(name))
+
+    def bodies(self, count: int) -> list:
+        return [self.requests.random.randbytes(self.size) for _ in range(count)]
+
+
+def case_of(bench: Bench, ground: Ground, size: int, layout: Layout) -> Case:
+    path = bench.make(ground, layout, "round")
+    with Asked([bench.program, path, "run"]) as session:
+        requests = Requests(session, bench.random)
+        requests.go_round(size)
+        session.end()
+    return Case(size, layout, path, requests)
+
+
+class Listed:
+    """In place of a session: what would be asked, and what is to be answered."""
+
+    def __init__(self):
+        self.text, self.answers = b"", []
+
+    def want(self, lines: bytes, answers: bytes) -> float:
+        self.text += lines
+        self.answers += answers.splitlines(keepends=True)
+        return 0.0
+
+
+def traced(bench: Bench, ground: Ground, case: Case, group: bool) -> list:
+    """The device calls of each append, or of each flush of eight, once round the ring, as strace saw them."""
+    listed, at = Listed(), []
+    requests = case.requests.over(listed)
+    for _ in range(ROUND if group else SLOTS):
+        if group:
+            requests.staged(case.bodies(CLIENTS))
+            at.append(len(listed.answers))
+            requests.flushed(CLIENTS)
+            requests.replied(CLIENTS)
+        else:
+            at.append(len(listed.answers))
+            requests.appended(case.bodies(1))
+            requests.replied(1)
+    binary = Binary(bench.program, ground.folder)
+    binary.path = case.copy(ground, "traced")
+    result, calls = binary.trace(listed.text)
+    expect("the answers", b"".join(listed.answers), result.text)
+    calls = calls[next(at for at, call in enumerate(calls) if call.name == "read" and call.fd == 0) :]
+    lines = lines_of(calls, listed.answers)
+    return [[call for call in lines[one] if call.name in ("pwrite64", "fdatasync")] for one in at]
+
+
+def steps_of(calls: list) -> list:
+    """The same calls for the yardstick."""
+    return [SYNC if call.name == "fdatasync" else write(*reversed([int(word) for word in call.args[-2:]])) for call in calls]
+
+
+def plans(bench: Bench, ground: Ground, case: Case) -> dict:
+    """The yardstick's plans, and what each of them waits for: the calls of an append and of a flush with their hashes and without, and
+    those of an append after the line that feeds it, whose digits are decoded."""
+    append, flush = traced(bench, ground, case, False), traced(bench, ground, case, True)
+    expect("the calls of a flush", {CLIENTS + 3}, {len(calls) for calls in flush})
+    line, alone = b"append 1 1025 ", [[*unit(case.size), *steps_of(calls)] for calls in append]
+    what = {
+        "append": alone, "fed": [[decoded(len(line), 2 * case.size), *steps] for steps in alone], "bare append": [steps_of(calls) for calls in append],
+        "flush": [[*CLIENTS * unit(case.size), *steps_of(calls)] for calls in flush], "bare flush": [steps_of(calls) for calls in flush],
+    }
+    made = {**dict.fromkeys(("append", "bare append"), lambda: b"\n"), **dict.fromkeys(("flush", "bare flush"), lambda: b"flush\n")}
+    # Digits of equal bytes would be decoded faster: which comes next is then no surprise to the processor.
+    made["fed"] = lambda: b"%s%s\n" % (line, digits(bench.random.randbytes(case.size)))
+    for name, turns in what.items():
+        wait, answer = waited(len(made[name]())), answered(len(ANSWER))
+        plan(ground, "plan-" + name, [step for turn in range(TURNS * bench.rounds) for step in (wait, *turns[turn % len(turns)], answer)])
+    return made
+
+
+def turns_of(bench: Bench, ground: Ground, case: Case, stack: ExitStack) -> tuple:
+    """What is done in each turn, by name, each giving microseconds; and the sessions that are to end after them. A flush gives those of
+    its stages, too."""
+    def program(name: str) -> Requests:
+        return case.requests.over(stack.enter_context(Asked([bench.program, case.copy(ground, name), "run"])))
+
+    one, group = program("appends"), program("groups")
+
+    def appended(count: int) -> tuple:
+        spent = one.appended(case.bodies(count))
+        one.replied(count)
+        return (spent * 1e6,)
+
+    def flushed() -> tuple:
+        stages, flush = group.staged(case.bodies(CLIENTS)), group.flushed(CLIENTS)
+        group.replied(CLIENTS)
+        return flush * 1e6, (stages + flush) * 1e6
+
+    def alone(name: str, line):
+        session = stack.enter_context(Planned(bench.yardstick, ground, case.copy(ground, "alone-" + name), "plan-" + name))
+        return session, lambda: (session.passed(line(), len(ANSWER)) * 1e6,)
+
+    planned = {name: alone(name, line) for name, line in plans(bench, ground, case).items()}
+    turns = {"one": lambda: appended(1), "eight": lambda: appended(CLIENTS), "group": flushed, **{name: turn for name, (_, turn) in planned.items()}}
+    return turns, [one.session, group.session, *(session for session, _ in planned.values())]
+
+
+class Measured(NamedTuple):
+    """The microseconds of each turn, by what it was; `staged` is a flush with its stages."""
+
+    seen: dict
+
+    def middle(self, name: str) -> float:
+        return statistics.median(self.seen[name])
+
+    def tenth(self, name: str) -> float:
+        """What one in ten stays below: on a busy machine the rest waits for a processor now and then."""
+        return statistics.quantiles(self.seen[name], n=10)[0]
+
+    def time(self, name: str) -> str:
+        return f"{self.middle(name):,.0f} ({self.tenth(name):,.0f})"
+
+    def ratios(self, above, below) -> list:
+        """The ratio of the medians, and that of the tenths. Either is a name, or a sum of what a name gives."""
+        return [f"{above(by) / below(by):.3f}" for by in (self.middle, self.tenth)]
+
+
+def measured(bench: Bench, ground: Ground, size: int, layout: Layout) -> Measured:
+    case = case_of(bench, ground, size, layout)
+    with ExitStack() as stack:
+        turns, sessions = turns_of(bench, ground, case, stack)
+        seen: dict = {name: [] for name in (*turns, "staged")}
+        for _ in range(TURNS * bench.rounds):
+            for name in bench.random.sample(sorted(turns), len(turns)):
+                spent, *more = turns[name]()
+                seen[name].append(spent)
+                seen["staged"] += more
+        for session in sessions:
+            session.end()
+    return Measured(seen)
+
+
+def row_of_flush(size: int, of: Measured) -> list:
+    times = [of.time(name) for name in ("group", "flush")]
+    return [size, *times, *of.ratios(lambda by: by("group"), lambda by: by("flush")), of.time("staged"), of.time("eight"),
+            *of.ratios(lambda by: by("eight"), lambda by: by("staged"))]
+
+
+def row_of_append(size: int, of: Measured) -> list:
+    """An append beside what it can't avoid as it is fed, and so much more beside what it can't avoid where its body isn't given as digits."""
+    return [size, of.time("one"), of.time("fed"), *of.ratios(lambda by: by("one"), lambda by: by("fed")), of.time("append"),
+            *of.ratios(lambda by: by("append") + by("one") - by("fed"), lambda by: by("append"))]
+
+
+def row_of_calls(what: str, size: int, of: Measured) -> list:
+    return [what, size, of.time("bare append"), of.time("bare flush"), *of.ratios(lambda by: by("bare flush"), lambda by: by("bare append")),
+            of.time("one"), of.time("group"), *of.ratios(lambda by: by("group"), lambda by: by("one"))]
+
+
+def show_beside(bench: Bench, ground: Ground) -> None:
+    """The tables of eight requests, of one, and of their calls alone."""
+    found = {size: measured(bench, ground, size, layout_of(size)) for size in SIZES}
+    apart = measured(bench, ground, TOLD, Layout(SLOTS, APART, CLIENTS, 4096, 8))
+    turns = f"{ground.name}, {TURNS * bench.rounds} of each in turn, us by the clock, medians, and in brackets what the fastest tenth stays below"
+    show(f"A flush of eight beside its own calls and hashes, {turns}",
+         ["body", "`flush` of eight", "its calls and hashes", "ratio", "of the tenths", "with its eight `stage`", "eight appends",
+          "eight appends to this", "of the tenths"], [row_of_flush(size, of) for size, of in found.items()])
+    show(f"An append beside its own calls and hashes, {turns}",
+         ["body", "one append", "its calls, hashes and digits", "ratio", "of the tenths", "its calls and hashes", "ratio without digits",
+          "of the tenths"],
+         [row_of_append(size, of) for size, of in found.items()])
+    show(f"The calls alone of a flush of eight and of an append, {turns}",
+         ["slots", "body", "an append's calls", "a flush's calls", "ratio", "of the tenths", "one append", "`flush` of eight", "ratio", "of the tenths"],
+         [*(row_of_calls("neighbours", size, of) for size, of in found.items()), row_of_calls("two sectors apart", TOLD, apart)])
+
+
+def counted(bench: Bench, ground: Ground) -> dict:
+    """Microseconds of so many appends, of so many stages, and of a flush of so many, all of one session."""
     seen: dict = {(what, count): [] for what in ("append", "stage", "flush") for count in range(1, CLIENTS + 1)}
     turns = [(what, count) for what, count in seen if what != "stage"]
-    with Asked([bench.program, bench.make(ground, layout_of(size)), "run"]) as session:
-        requests = Requests(session, bench.random)
-        while requests.head < SLOTS:
-            requests.appended([bench.random.randbytes(size) for _ in range(CLIENTS)])
-            requests.replied(CLIENTS)
+    case = case_of(bench, ground, TOLD, layout_of(TOLD))
+    with Asked([bench.program, case.path, "run"]) as session:
+        requests = case.requests.over(session)
         for _ in range(TURNS * bench.rounds):
             for what, count in bench.random.sample(turns, len(turns)):
-                bodies = [bench.random.randbytes(size) for _ in range(count)]
+                bodies = case.bodies(count)
                 if what == "append":
                     seen[what, count].append(requests.appended(bodies) * 1e6)
                 else:
@@ -85,37 +284,16 @@ def measured(bench: Bench, ground: Ground, size: int) -> dict:
     return seen
 
 
-def both(seen: dict, count: int) -> list:
-    """A flush with its stages."""
-    return [one + two for one, two in zip(seen["stage", count], seen["flush", count])]
-
-
-def tenth(values: list) -> float:
-    """What one in ten stays below: on a busy machine the rest waits for a processor now and then."""
-    return statistics.quantiles(values, n=10)[0]
-
-
-def row_of_size(size: int, seen: dict) -> list:
-    """Eight of a size: medians, and the ratios of the medians and of the fastest tenths."""
-    columns = [seen["append", 1], seen["append", CLIENTS], seen["flush", CLIENTS], both(seen, CLIENTS)]
-    middles, tenths = [statistics.median(values) for values in columns], [tenth(values) for values in columns]
-    times = [f"{middle:,.0f} ({least:,.0f})" for middle, least in zip(middles, tenths)]
-    return [size, *times, *(f"{of[more] / of[less]:.2f}" for more, less in ((2, 0), (3, 0), (1, 3)) for of in (middles, tenths))]
-
-
 def row_of_count(count: int, seen: dict) -> list:
-    """This many of the size that is told."""
-    return [count, *(with_quartiles(values, 0) for values in (seen["append", count], seen["flush", count], both(seen, count)))]
+    """So many of the size that is told."""
+    both = [one + two for one, two in zip(seen["stage", count], seen["flush", count])]
+    return [count, *(with_quartiles(values, 0) for values in (seen["append", count], seen["flush", count], both))]
 
 
 def show_groups(bench: Bench, grounds: list) -> None:
-    """Two tables for each ground: by body, and by how many."""
+    """Four tables for each ground: of eight, of one, of their calls, and by how many."""
     for ground in grounds:
-        found = {size: measured(bench, ground, size) for size in SIZES}
-        turns = f"{ground.name}, {TURNS * bench.rounds} of each in turn, us by the clock"
-        ratios = [head for one in ("`flush` to one append", "with its `stage`, to that", "eight appends to this") for head in (one, "of the tenths")]
-        show(f"A group of eight, medians, and in brackets what the fastest tenth stays below, {turns}",
-             ["body", "one append", "eight appends", "`flush` of eight", "with its eight `stage`", *ratios],
-             [row_of_size(size, seen) for size, seen in found.items()])
-        show(f"Groups by how many, bodies of {TOLD} bytes, {turns}", ["how many", "appends", "`flush`", "with its `stage`"],
-             [row_of_count(count, found[TOLD]) for count in range(1, CLIENTS + 1)])
+        show_beside(bench, ground)
+        seen = counted(bench, ground)
+        show(f"Groups by how many, bodies of {TOLD} bytes, {ground.name}, {TURNS * bench.rounds} of each in turn, us by the clock",
+             ["how many", "appends", "`flush`", "with its `stage`"], [row_of_count(count, seen) for count in range(1, CLIENTS + 1)])

@@ -3,14 +3,16 @@
 
     /usr/bin/python3 bench/keeper.py sqlite|leveldb|write|nothing PATH
 
-Its first line is `ready` and the library's version. It opens PATH at the line `open`, and durable is what `put KEY BODY`, or `flush` after lines
-`stage KEY BODY`, answers. LevelDB wants Debian's package python3-plyvel, which is there for Debian's own Python alone.
+Its first line is `ready` and the library's version. It opens PATH at the line `open`, and durable is what `put KEY BODY`, `flush` after lines
+`stage KEY BODY`, or `batch ROWS` answers, whose rows of 64 bytes are those of the object table. LevelDB wants Debian's package python3-plyvel, which is there for Debian's own Python alone.
 """
 
 import os
 import sys
 
 SECTOR, SECTORS = 4096, 1024
+# A row: its key, how many bytes its value has, the value, and zeros.
+ROW, KEY = 64, 16
 
 
 class Sqlite:
@@ -118,6 +120,11 @@ def pair(words: list) -> tuple:
     return int(words[1]).to_bytes(16, "little"), bytes.fromhex(words[2].decode())
 
 
+def pairs(data: bytes) -> list:
+    """The keys and values of rows."""
+    return [(data[at : at + KEY], data[at + KEY + 1 : at + KEY + 1 + data[at + KEY]]) for at in range(0, len(data), ROW)]
+
+
 def main() -> None:
     keeper, path = KINDS[sys.argv[1]](), sys.argv[2]
     os.write(1, b"ready %s\n" % keeper.version.encode())
@@ -135,6 +142,11 @@ def main() -> None:
             keeper.put(staged)
             count += len(staged)
             answer, staged = b"flushed %d\n" % len(staged), []
+        elif words[0] == b"batch":
+            batch = pairs(bytes.fromhex(words[1].decode()))
+            keeper.put(batch)
+            count += len(batch)
+            answer = b"kept %d\n" % count
         elif words[0] == b"get":
             value = keeper.get(int(words[1]).to_bytes(16, "little"))
             answer = b"refused NoKey\n" if value is None else b"%s %s\n" % (words[1], value.hex().encode())

@@ -122,6 +122,15 @@ fn take(script: &mut File, rooms: &mut Rooms, length: u64) -> io::Result<u8> {
     Ok(0)
 }
 
+fn take_whole(script: &mut File, rooms: &mut Rooms, length: u64) -> io::Result<u8> {
+    let size = length as usize;
+    if size > rooms.bytes.len() {
+        return Err(past());
+    }
+    script.read_exact(&mut rooms.bytes[..size])?;
+    Ok(0)
+}
+
 fn answer(out: &mut Stdout, rooms: &Rooms, length: u64) -> io::Result<u8> {
     out.write_all(part(&rooms.bytes, 0, length)?)?;
     out.flush()?;
@@ -142,6 +151,7 @@ fn act(files: &mut Files, out: &mut Stdout, rooms: &mut Rooms, step: &[u8]) -> i
             Ok(0)
         }
         Some(b'i') => take(&mut files.script, rooms, length),
+        Some(b't') => take_whole(&mut files.script, rooms, length),
         Some(b'o') => answer(out, rooms, length),
         Some(b'h') => Ok(Sha256::digest(part(&rooms.bytes, first, length)?)[0]),
         Some(b'd') => decode(rooms, first, length),
@@ -202,6 +212,11 @@ SYNC = (b"s", 0, 0)
 def taken(length: int) -> tuple:
     """A read of the script that asks for this many bytes."""
     return b"i", 0, length
+
+
+def waited(length: int) -> tuple:
+    """Reads of the script until so many bytes of it are there, in as many calls as it takes."""
+    return b"t", 0, length
 
 
 def answered(length: int) -> tuple:
