@@ -6,7 +6,7 @@ Everything but the last column of parts is measured: the program, the same calls
 from typing import NamedTuple
 
 from common import Bench, Ground, Script, appends, put, quartiles, sectors_of, show, with_quartiles
-from tools import copied, has_valgrind, show_profile
+from tools import PARTS, copied, has_valgrind, instructions, parts_of, show_profile
 from tries.binary import Binary, expect, has_strace
 from tries.form import Layout
 from yardstick import SYNC, answered, decoded, plan, taken, unit, write
@@ -14,6 +14,8 @@ from yardstick import SYNC, answered, decoded, plan, taken, unit, write
 SIZES = (0, 128, 3840, 7936, 65280, 1048320)
 # Of the bodies of one run at most this many bytes in all, and on a disk this many appends, since each takes three syncs.
 BYTES, ON_DISK = 2**25, 32
+# Of the bodies up to this one instructions are counted, each over so many appends.
+COUNTED, COUNTS = 7936, 128
 
 
 class Case(NamedTuple):
@@ -112,6 +114,24 @@ def rows_of(bench: Bench, ground: Ground, size: int) -> tuple:
     return spent, [size, case.count, *(f"{quartiles(values)[0]:,.0f}" for values in clock), ratio]
 
 
+def show_instructions(bench: Bench, ground: Ground) -> None:
+    """The instructions of short and long bodies outside the kernel, and what they are made of."""
+    if not has_valgrind():
+        print("\nvalgrind isn't installed: instructions aren't counted")
+        return
+    rows = []
+    for size in (size for size in SIZES if size <= COUNTED):
+        case = case_of(bench, ground, size)
+        script = appends(bench.random, range(1, COUNTS + 1), size)
+        command = [bench.program, bench.make(ground, case.layout), "run"]
+        least = instructions(command)
+        command[1] = bench.make(ground, case.layout)
+        cells = parts_of(instructions(command, put(ground, "script", script.lines)), least, COUNTS)
+        rows.append([size, *cells, f"{100 * cells[-2] / cells[0]:.0f} %"])
+    show(f"Instructions of an append and its reply outside the kernel, {COUNTS} of each",
+         ["body", "program", *PARTS, "everything else", "most of that", "part of the program"], rows)
+
+
 def moved(bench: Bench, ground: Ground, case: Case) -> int:
     """The bytes that are moved to the front of the buffer for lines: each read asks for what is free after those that it holds."""
     calls = traced(bench, ground, case)
@@ -153,5 +173,6 @@ def show_appends(bench: Bench, grounds: list) -> None:
               "of what is beyond", "of the program"], [spent for spent, _ in both])
         show(f"By the clock, microseconds, {ground.name}", ["body", "appends", "program", "the calls alone", "ratio"],
              [clock for _, clock in both])
+    show_instructions(bench, grounds[0])
     show_copies(bench, grounds[0])
     show_profiles(bench, grounds[0])

@@ -15,6 +15,7 @@ import os
 import tempfile
 
 from common import CLUSTER, Ground, digits, quartiles, run, show, with_quartiles
+from tools import has_valgrind, instructions
 from tries import arguments, recovery, superblock
 from tries.form import COPIES, SECTOR, SMALL
 
@@ -76,6 +77,17 @@ def opened(program: str, ground: Ground, count: int) -> list:
     return [ground.name, count, *(with_quartiles(values, 0) for values in listed), f"{more:,.0f}"]
 
 
+def show_instructions(program: str, ground: Ground) -> None:
+    """Of an open and of a report, outside the kernel, after the program's start."""
+    if not has_valgrind():
+        print("\nvalgrind isn't installed: instructions aren't counted")
+        return
+    path = made(program, ground)
+    opened, report, start = (instructions([program, path, *words]).total() for words in (["recover"], ["inspect"], ["run", "walk"]))
+    show("Instructions of the same outside the kernel", ["an open", "a report", "the boot update"],
+         [[opened - start, report - start, opened - report]])
+
+
 def words() -> argparse.Namespace:
     parser = argparse.ArgumentParser(description="Opens one file many times in a row, and looks at its boot.")
     parser.add_argument("program", type=arguments.program, help="the built program datafile, or imitation.py")
@@ -96,6 +108,8 @@ def main() -> int:
                 return 1
     show("An open of a small file (`recover`), and a report of it (`inspect`), which raises no boot; microseconds by the clock after the "
          "program's start", ["where", "opens", "an open", "a report", "the boot update, between the medians"], rows)
+    with tempfile.TemporaryDirectory(dir=given.memory) as inner:
+        show_instructions(os.path.abspath(given.program), Ground("memory", inner, False))
     return 0
 
 

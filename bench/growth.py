@@ -7,7 +7,7 @@ processor's times beside them are medians of the rounds.
 from common import (
     Bench, Ground, Script, appends, begin, blocks, done, join, most_blocks, put, run, show, trailer_of, with_quartiles, working,
 )
-from tools import has_valgrind, instructions
+from tools import PARTS, has_valgrind, instructions, parts_of
 from tries.form import Layout
 
 RINGS = (16, 32, 64, 128, 256, 512, 1024)
@@ -23,7 +23,7 @@ class Growing:
         fresh = {name: self.timed(script) for name, script in scripts.items()}
         self.times = bench.rounds_of(fresh)
 
-    def count(self, script: Script) -> int:
+    def count(self, script: Script):
         path = self.bench.make(self.ground, self.layout)
         return instructions([self.bench.program, path, "run"], put(self.ground, "script", script.lines))
 
@@ -33,45 +33,67 @@ class Growing:
     def each(self, what: str, without: str, number: int) -> list:
         """What each of `number` lines costs that one run has and the other hasn't: instructions, and microseconds."""
         spent = [(one.processor - two.processor) / number * 1e6 for one, two in zip(self.times[what], self.times[without])]
-        return [round((self.counts[what] - self.counts[without]) / number), with_quartiles(spent)]
+        return [self.parts(what, without, number)[0], with_quartiles(spent)]
+
+    def parts(self, what: str, without: str, number: int) -> list:
+        return parts_of(self.counts[what], self.counts[without], number)
 
 
-def opened(bench: Bench, ground: Ground, layout: Layout, script: Script) -> list:
-    """What an open of the file costs that a script leaves: instructions, and microseconds; the program's start isn't counted."""
+def opened(bench: Bench, ground: Ground, layout: Layout, script: Script) -> tuple:
+    """What an open of the file costs that a script leaves: instructions, and microseconds; and the parts of the instructions. The program's
+    start isn't counted."""
     path = bench.make(ground, layout)
     bench.fill(ground, path, [script])
     program, start = [bench.program, path, "run"], [bench.program, path, "run", "walk"]
-    count = instructions(program) - instructions(start)
+    parts = parts_of(instructions(program), instructions(start), 1)
     seen = bench.rounds_of({"open": lambda: run(program), "start": lambda: run(start, wanted=None, status=2)})
     spent = [(one.processor - two.processor) * 1e6 for one, two in zip(seen["open"], seen["start"])]
-    return [count, with_quartiles(spent, 0)]
+    return [parts[0], with_quartiles(spent, 0)], parts
 
 
-def show_growth(bench: Bench, ground: Ground) -> None:
-    """The three tables."""
-    if not has_valgrind():
-        print("\nvalgrind isn't installed: growth isn't counted")
-        return
-    of_ring, of_grid, open_ring, open_grid = [], [], [], []
+def of_rings(bench: Bench, ground: Ground) -> tuple:
+    """Rows of an append, and of an open, by ring; and the parts of both over the greatest."""
+    of_append, of_open = [], []
     for slots in RINGS:
         layout = Layout(slots, 4096, 4, 4096, 8)
         script = appends(bench.random, range(1, slots + 1), 128)
         growing = Growing(bench, ground, layout, {"appends": script, "none": Script(b"", b"")})
-        of_ring.append([slots, *growing.each("appends", "none", slots)])
-        open_ring.append([slots, *opened(bench, ground, layout, script)])
+        of_append.append([slots, *growing.each("appends", "none", slots)])
+        row, parts = opened(bench, ground, layout, script)
+        of_open.append([slots, *row])
+    return of_append, of_open, [[f"an append and its reply, {slots:,} slots", *growing.parts("appends", "none", slots)],
+                                [f"an open, {slots:,} slots", *parts]]
+
+
+def of_grids(bench: Bench, ground: Ground) -> tuple:
+    """The same of blocks, a checkpoint and an open, by grid."""
+    rows, of_open = [], []
     for count in GRIDS:
         layout = Layout(16, 4096, 1, 4096, count)
         live = most_blocks(layout, 0)
         trailer = trailer_of(layout, 0, live)
-        parts = [blocks(bench.random, live, 0), begin(trailer), working(trailer), done()]
-        runs = {name: join(*parts[:upto]) for upto, name in enumerate(("blocks", "begun", "worked", "done"), 1)}
+        steps = [blocks(bench.random, live, 0), begin(trailer), working(trailer), done()]
+        runs = {name: join(*steps[:upto]) for upto, name in enumerate(("blocks", "begun", "worked", "done"), 1)}
         growing = Growing(bench, ground, layout, runs | {"none": Script(b"", b"")})
-        of_grid.append([count, live, trailer, *growing.each("blocks", "none", live), *growing.each("begun", "blocks", 1),
-                        *growing.each("worked", "begun", trailer), *growing.each("done", "worked", 1)])
-        open_grid.append([count, live, trailer, *opened(bench, ground, layout, runs["done"])])
+        kinds = (("a block", "blocks", "none", live), ("a begin", "begun", "blocks", 1), ("a step, answered `working`", "worked", "begun", trailer),
+                 ("the last step", "done", "worked", 1))
+        rows.append([count, live, trailer, *(cell for _, *kind in kinds for cell in growing.each(*kind))])
+        row, parts = opened(bench, ground, layout, runs["done"])
+        of_open.append([count, live, trailer, *row])
+    return rows, of_open, [*([f"{name}, {count:,} blocks", *growing.parts(*kind)] for name, *kind in kinds), [f"an open, {count:,} blocks", *parts]]
+
+
+def show_growth(bench: Bench, ground: Ground) -> None:
+    """The four tables of costs, and one of what they are made of."""
+    if not has_valgrind():
+        print("\nvalgrind isn't installed: growth isn't counted")
+        return
+    of_ring, open_ring, parts_ring = of_rings(bench, ground)
+    of_grid, open_grid, parts_grid = of_grids(bench, ground)
     title = f"in memory, instructions and microseconds of the processor, {bench.rounds} rounds"
     show(f"An append of 128 bytes and its reply by ring, {title}", ["slots", "instructions", "us"], of_ring)
-    show(f"A full grid, {title}", ["blocks", "live", "trailer blocks", "a block", "us", "a begin", "us", "a step, answered working", "us",
+    show(f"A full grid, {title}", ["blocks", "live", "trailer blocks", "a block", "us", "a begin", "us", "a step, answered `working`", "us",
          "the last step", "us"], of_grid)
     show(f"An open of a full ring, {title}", ["slots", "instructions", "us"], open_ring)
     show(f"An open of a checkpoint of a full grid, {title}", ["blocks", "live", "trailer blocks", "instructions", "us"], open_grid)
+    show("What they are made of, instructions", ["what", "in all", *PARTS, "everything else", "most of that"], [*parts_ring, *parts_grid])

@@ -5,17 +5,21 @@ import re
 import shutil
 import subprocess
 import tempfile
+from collections import Counter
 
 from common import show
 
 LINE = re.compile(r"^\s*(\d+\.\d+)%\s+\[(.)\]\s+(.*?)[\s-]*$")
 COLLECTED = re.compile(r"Collected : (\d+)")
 COPIED = re.compile(r"Total: +([\d,]+) bytes")
-CALLGRIND = ["--tool=callgrind", "--callgrind-out-file=/dev/null"]
+FUNCTION = re.compile(r"^\s*([\d,]+) \(\s*[\d.]+%\)\s+\S*?[^:]:(?!:)(\S+)", re.M)
+# What an append, a block or an open is made of: what it is called in tables, and how the names of its functions begin, in the last part
+# that isn't another crate's. The rest is the program's own.
+PARTS = {"SHA-256": ("sha2::",), "lines and digits": ("df_lines::",), "zeros": ("__memset",), "copies": ("__memcpy", "__memmove", "mempcpy")}
 COPIES = ["--tool=dhat", "--mode=copy", "--dhat-out-file=/dev/null"]
 
 
-def counted(tool: list, total: re.Pattern, command: list, source: str) -> int:
+def valgrind(tool: list, total: re.Pattern, command: list, source: str) -> int:
     """A total that a tool of valgrind tells at the end of a run."""
     with open(source, "rb") as stdin:
         ended = subprocess.run(["valgrind", *tool, *command], stdin=stdin, capture_output=True, text=True, check=False)
@@ -25,14 +29,34 @@ def counted(tool: list, total: re.Pattern, command: list, source: str) -> int:
     return int(found[1].replace(",", ""))
 
 
-def instructions(command: list, source: str = os.devnull) -> int:
-    """The instructions of a run outside the kernel."""
-    return counted(CALLGRIND, COLLECTED, command, source)
+def instructions(command: list, source: str = os.devnull) -> Counter:
+    """The instructions of a run outside the kernel, by function: their sum is that of the run."""
+    with tempfile.TemporaryDirectory() as folder:
+        data = os.path.join(folder, "counts")
+        total = valgrind(["--tool=callgrind", f"--callgrind-out-file={data}"], COLLECTED, command, source)
+        text = subprocess.run(["callgrind_annotate", "--threshold=100", data], capture_output=True, text=True, check=True).stdout
+    counts = Counter()
+    for count, name in FUNCTION.findall(text):
+        counts[name] += int(count.replace(",", ""))
+    counts["what is too small to be told"] += total - counts.total()
+    return counts
+
+
+def parts_of(more: Counter, less: Counter, number: int) -> list:
+    """Cells of what each of `number` things costs that one run has and the other hasn't: all its instructions, its parts, the rest, and of the
+    rest the function that has most of it."""
+    spent = Counter({name: (more[name] - less[name]) / number for name in more | less})
+    cells = [round(spent.total())]
+    for begins in PARTS.values():
+        names = [name for name in spent if name.startswith(begins)]
+        cells.append(round(sum(spent.pop(name) for name in names)))
+    name, most = max(spent.items(), key=lambda item: item[1])
+    return [*cells, round(spent.total()), f"`{name.split('::<')[0]}`: {most:,.0f}"]
 
 
 def copied(command: list, source: str = os.devnull) -> int:
     """The bytes that the functions of the C library that copy and move memory copied in a run."""
-    return counted(COPIES, COPIED, command, source)
+    return valgrind(COPIES, COPIED, command, source)
 
 
 def peak(command: list) -> object:
