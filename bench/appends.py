@@ -6,7 +6,7 @@ Everything but the last column of parts is measured: the program, the same calls
 from typing import NamedTuple
 
 from common import Bench, Ground, Script, appends, put, quartiles, sectors_of, show, with_quartiles
-from tools import PARTS, copied, has_valgrind, instructions, parts_of, show_profile
+from tools import KERNEL, PARTS, copied, has_perf, has_valgrind, instructions, parts_of, samples
 from tries.binary import Binary, expect, has_strace
 from tries.form import Layout
 from yardstick import SYNC, answered, decoded, plan, taken, unit, write
@@ -16,6 +16,7 @@ SIZES = (0, 128, 3840, 7936, 65280, 1048320)
 BYTES, ON_DISK = 2**25, 32
 # Of the bodies up to this one instructions are counted, each over so many appends.
 COUNTED, COUNTS = 7936, 128
+PROFILED = (128, 7936, 1048320)
 
 
 class Case(NamedTuple):
@@ -96,7 +97,7 @@ def beyond(seen: dict, what: str, start: str, count: int, by: str = "processor")
 
 
 def rows_of(bench: Bench, ground: Ground, size: int) -> tuple:
-    """One row of the table of the processor's time, and one of that by the clock."""
+    """One row of the table of the processor's time, and one of that by the clock, which has what is beyond the calls, too."""
     case = case_of(bench, ground, size)
     plans(bench, ground, case)
     seen = bench.rounds_of(runs_of(bench, ground, case))
@@ -104,14 +105,12 @@ def rows_of(bench: Bench, ground: Ground, size: int) -> tuple:
     sums, hexadecimal = beyond(seen, "hashes", "nothing", case.count), beyond(seen, "digits", "reads", case.count)
     more = [one - two for one, two in zip(whole, calls)]
     rest = [one - two - three for one, two, three in zip(more, sums, hexadecimal)]
-    middle, other = quartiles(more)[0], quartiles(rest)[0]
-    parts = [f"{quartiles(values)[0]:,.1f}" for values in (whole, calls)]
-    of_parts = [f"{quartiles(values)[0]:,.1f}" for values in (sums, hexadecimal)]
-    shares = [f"{100 * other / middle:.0f} %", f"{100 * other / quartiles(whole)[0]:.0f} %"]
-    spent = [size, case.count, *parts, with_quartiles(more), *of_parts, with_quartiles(rest), *shares]
+    cells = [f"{quartiles(values)[0]:,.1f}" for values in (whole, calls, sums, hexadecimal)]
+    share = 100 * quartiles(rest)[0] / quartiles(whole)[0]
+    spent = [size, *cells[:2], with_quartiles(more), *cells[2:], with_quartiles(rest), f"{share:.0f} %"]
     clock = [beyond(seen, one, two, case.count, "clock") for one, two in (("program", "open"), ("calls", "nothing"))]
     ratio = with_quartiles([one / two for one, two in zip(*clock)], 3)
-    return spent, [size, case.count, *(f"{quartiles(values)[0]:,.0f}" for values in clock), ratio]
+    return spent, [size, *(f"{quartiles(values)[0]:,.0f}" for values in clock), ratio, with_quartiles(more), with_quartiles(rest)]
 
 
 def show_instructions(bench: Bench, ground: Ground) -> None:
@@ -128,8 +127,8 @@ def show_instructions(bench: Bench, ground: Ground) -> None:
         command[1] = bench.make(ground, case.layout)
         cells = parts_of(instructions(command, put(ground, "script", script.lines)), least, COUNTS)
         rows.append([size, *cells, f"{100 * cells[-2] / cells[0]:.0f} %"])
-    show(f"Instructions of an append and its reply outside the kernel, {COUNTS} of each",
-         ["body", "program", *PARTS, "everything else", "most of that", "part of the program"], rows)
+    show(f"Instructions of an append and its reply outside the kernel, on average of {COUNTS}",
+         ["body", "program", *PARTS, "everything else", "most of that", "part of the program"], rows, "exact")
 
 
 def moved(bench: Bench, ground: Ground, case: Case) -> int:
@@ -150,29 +149,34 @@ def show_copies(bench: Bench, ground: Ground) -> None:
         least = copied([bench.program, path, "run"])
         number = copied([bench.program, path, "run"], put(ground, "script", case.script.lines)) - least
         digits = moved(bench, ground, case) / case.count
-        rows.append([size, case.count, round(number / case.count), round(digits), f"{digits / size / 2:.3f}"])
-    show("Bytes that an append and its reply copy in memory", ["body", "appends", "bytes copied by the C library's functions",
-         "bytes of lines moved to the buffer's front", "of a body's digits"], rows)
+        rows.append([size, round(number / case.count), round(digits), f"{100 * digits / size / 2:.1f} %"])
+    show("Bytes that an append and its reply copy in memory",
+         ["body", "copied in memory", "moved within the buffer for lines", "of the body's digits"], rows, "exact")
 
 
 def show_profiles(bench: Bench, ground: Ground) -> None:
-    """Where the time of a short, a long and the longest body goes."""
-    for size in (128, 7936, 1048320):
+    """Where the time of a short, a long and the longest body goes, by samples."""
+    if not has_perf():
+        print("\nperf isn't installed: no samples are taken")
+        return
+    found = []
+    for size in PROFILED:
         case = case_of(bench, ground, size)
-        source = put(ground, "script", case.script.lines)
-        title = f"Where the processor's time goes, {case.count:,} appends of {size:,} bytes and their replies"
-        show_profile(title, [bench.program, bench.make(ground, case.layout), "run"], source)
+        command = [bench.program, bench.make(ground, case.layout), "run"]
+        found.append(samples(command, put(ground, "script", case.script.lines)))
+    names = [name for name in dict.fromkeys(name for one in found for name in one) if any(one.get(name, 0) >= 1 for one in found)]
+    show("Where the processor's time of an append and its reply goes", ["percent of the samples, of a body of", *(f"{size:,}" for size in PROFILED)],
+         [[f"`{name}`" if name != KERNEL else name, *(f"{one.get(name, 0):.1f}" for one in found)] for name in names], "one run of each")
 
 
 def show_appends(bench: Bench, grounds: list) -> None:
-    """The tables of times on each ground, those of copies, and the profiles."""
-    for ground in grounds:
-        both = [rows_of(bench, ground, size) for size in SIZES]
-        show(f"Processor time of an append and its reply, microseconds, {ground.name}, {bench.rounds} rounds",
-             ["body", "appends", "program", "the calls alone", "beyond the calls", "of that SHA-256", "digits", "everything else",
-              "of what is beyond", "of the program"], [spent for spent, _ in both])
-        show(f"By the clock, microseconds, {ground.name}", ["body", "appends", "program", "the calls alone", "ratio"],
-             [clock for _, clock in both])
+    """The tables of times in memory and on a disk, of instructions, of copies, and of samples."""
+    memory, disk = ([rows_of(bench, ground, size) for size in SIZES] for ground in grounds)
+    show("Processor time of an append and its reply, microseconds, in memory",
+         ["body", "program", "the calls alone", "beyond the calls", "of that SHA-256", "digits", "everything else", "part of the program"],
+         [spent for spent, _ in memory], f"{bench.rounds} rounds")
+    show("The same on a disk, microseconds", ["body", "clock: program", "the calls alone", "ratio of the rounds", "processor: beyond the calls",
+         "everything else"], [clock for _, clock in disk], f"{bench.rounds} rounds of {ON_DISK} appends")
     show_instructions(bench, grounds[0])
     show_copies(bench, grounds[0])
     show_profiles(bench, grounds[0])

@@ -147,8 +147,9 @@ def show_batches(bench: Bench, ground: Ground, program: str, python: str, kinds:
             rates[group].append(sorted(found)[len(found) // 2])
             rows.append([group, store.name, with_quartiles(durable, 0), f"{durable[len(durable) * 99 // 100]:,.0f}", with_quartiles(found, 0),
                          f"{whole:,.0f}", *calls_of(bench, ground, store, COUNTED)])
-    show(f"Batches, {ground.name}, {bench.rounds} rounds of {', '.join(map(str, SIZES.values()))} bodies of each size, by the clock",
+    show(f"Batches, {ground.name}, by the clock",
          ["puts in a body", "what keeps them", "us until they are durable", "99th of a hundred", "puts a second, in all", "of all rounds together",
-          "syncs until they are durable", "bytes written until then", "syncs in all"], rows)
+          "syncs until they are durable", "bytes written until then", "syncs in all"], rows,
+         f"{bench.rounds} rounds of {', '.join(map(str, SIZES.values()))} bodies of each size")
     for which in (1, 2):
         print(f"\n{names[which]} is ahead of {' and '.join(names[3:])} {ahead(rates, which)}.")

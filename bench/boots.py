@@ -14,7 +14,7 @@ import argparse
 import os
 import tempfile
 
-from common import CLUSTER, Ground, digits, quartiles, run, show, with_quartiles
+from common import CLUSTER, Ground, Measured, digits, quartiles, run, show, with_quartiles
 from tools import has_valgrind, instructions
 from tries import arguments, recovery, superblock
 from tries.form import COPIES, SECTOR, SMALL
@@ -74,7 +74,7 @@ def opened(program: str, ground: Ground, count: int) -> list:
     start = quartiles(starts)[0]
     more = quartiles(opens)[0] - quartiles(reports)[0]
     listed = [[value - start for value in values] for values in (opens, reports)]
-    return [ground.name, count, *(with_quartiles(values, 0) for values in listed), f"{more:,.0f}"]
+    return [ground.name, *(with_quartiles(values, 0) for values in listed), f"{more:,.0f}"]
 
 
 def show_instructions(program: str, ground: Ground) -> None:
@@ -84,8 +84,8 @@ def show_instructions(program: str, ground: Ground) -> None:
         return
     path = made(program, ground)
     opened, report, start = (instructions([program, path, *words]).total() for words in (["recover"], ["inspect"], ["run", "walk"]))
-    show("Instructions of the same outside the kernel", ["an open", "a report", "the boot update"],
-         [[opened - start, report - start, opened - report]])
+    show("Instructions of the same outside the kernel", ["an open, instructions", "a report", "the boot update"],
+         [[opened - start, report - start, opened - report]], "exact")
 
 
 def words() -> argparse.Namespace:
@@ -99,6 +99,7 @@ def words() -> argparse.Namespace:
 
 def main() -> int:
     given, rows = words(), []
+    Measured.is_of(given.program)
     for name, folder in (("memory", given.memory), ("disk", given.disk)):
         with tempfile.TemporaryDirectory(dir=folder) as inner:
             try:
@@ -107,7 +108,7 @@ def main() -> int:
                 print(f"WRONG, in {name}: {error}")
                 return 1
     show("An open of a small file (`recover`), and a report of it (`inspect`), which raises no boot; microseconds by the clock after the "
-         "program's start", ["where", "opens", "an open", "a report", "the boot update, between the medians"], rows)
+         "program's start", ["where", "an open", "a report", "the boot update, between the medians"], rows, f"{given.opens} opens of each")
     with tempfile.TemporaryDirectory(dir=given.memory) as inner:
         show_instructions(os.path.abspath(given.program), Ground("memory", inner, False))
     return 0

@@ -20,8 +20,11 @@ SIZES = {"small": (0, 128, 3840, 7936), "large": (65280, 1048320)}
 BLOCKS = {"small": (0, 128, 3840, 16128), "large": (65280, 524032)}
 # How many prepares a group has, and the bodies of groups.
 GROUPS = {"small": (4, (128, 7936)), "large": (8, (128, 65280))}
-HEAD = ["line", "body", "lines", "writes", "syncs", "reads of the file", "bytes written", "sectors that no unit covers, in all",
-        "takes of memory, in all", "reads of the script, in all"]
+HEAD = ["line", "body", "writes", "syncs", "reads of the file", "bytes written", "sectors that no unit covers, in all", "takes of memory, in all"]
+# The lines in the table's order, and those that have no body.
+ORDER = ("`append`", "`stage`", "`flush`", "`reply`", "`block`", "`step`, answered `working`", "`step`, the last", "`checkpoint`", "`release`",
+         "`prepare`", "`read`", "`scrub`", "`lookup`")
+BARE = ORDER[5:]
 
 
 def parts_of(bench, word: str) -> list:
@@ -67,11 +70,11 @@ def kind_of(layout: form.Layout, line: bytes, before: bytes, answer: bytes, call
     """The words of a row: what the line is, and the bytes of its body; of a flush those of the line before, which staged the last one."""
     word = line.split()[0].decode()
     if word == "step":
-        return ("step, answered working" if answer.startswith(b"working") else "step, the last"), 0
+        return ("`step`, answered `working`" if answer.startswith(b"working") else "`step`, the last"), 0
     if word == "flush":
         sectors = sum(int(call.args[-1]) < layout.first() for call in named(calls, "pwrite64"))
-        return f"flush of {int(answer.split()[1])}" + (", over two sectors of headers" if sectors == 2 else ""), body_of(before)
-    return word, body_of(line)
+        return f"`flush` of {int(answer.split()[1])}" + (", over two sectors of headers" if sectors == 2 else ""), body_of(before)
+    return f"`{word}`", body_of(line)
 
 
 def lines_of(calls: list, answers: list) -> list:
@@ -120,8 +123,8 @@ def named(calls: list, *names: str) -> list:
     return [call for call in calls if call.name in names]
 
 
-def row_of(kind: tuple, lines: list) -> list:
-    """One row of the table. `lines` has for each line its calls and the sectors that no unit covers."""
+def cells_of(lines: list) -> tuple:
+    """What a row says of lines of one kind. `lines` has for each its calls and the sectors that no unit covers."""
     calls, count = [call for mine, _ in lines for call in mine], len(lines)
     writes = named(calls, "pwrite64")
 
@@ -131,27 +134,43 @@ def row_of(kind: tuple, lines: list) -> list:
     known = {"pwrite64", "fdatasync", "fsync", "pread64", "write", "read", *MEMORY}
     others = sorted({call.name for call in calls} - known - {"close"})
     expect("no other calls", [], others)
-    return [
-        *kind, count, each(len(writes)), each(len(named(calls, "fdatasync", "fsync"))), each(len(named(calls, "pread64"))),
-        each(sum(int(call.args[-2]) for call in writes)), sum(lost for _, lost in lines), len(named(calls, *MEMORY)),
-        len([call for call in named(calls, "read") if call.fd == 0]),
-    ]
+    return (each(len(writes)), each(len(named(calls, "fdatasync", "fsync"))), each(len(named(calls, "pread64"))),
+            each(sum(int(call.args[-2]) for call in writes)), sum(lost for _, lost in lines), len(named(calls, *MEMORY)))
+
+
+def place(word: str) -> tuple:
+    """Where a line stands in the table."""
+    return ORDER.index(word if word in ORDER else "`flush`"), word
+
+
+def rows_of(seen: dict) -> list:
+    """The table: bodies of which a line costs the same stand in one row, and so do lines without a body that cost the same. `seen` has the
+    lines by layout, word and body."""
+    alike: dict = defaultdict(lambda: defaultdict(set))
+    for (layout, word, body), lines in seen.items():
+        cells = cells_of(lines)
+        alike[cells if word in BARE else word, cells][word].add((body, layout))
+    rows = []
+    for (_, cells), words in alike.items():
+        listed, found = sorted(words, key=place), set.union(*words.values())
+        large = " (`large`)" if all(layout == "large" for _, layout in found) else ""
+        bodies = sorted({body for body, _ in found})
+        first = [", ".join(listed) + large, "" if listed[0] in BARE else ", ".join(f"{body:,}" for body in bodies)]
+        rows.append((place(listed[0]), large, bodies, [*first, *cells]))
+    return [row for *_, row in sorted(rows)]
 
 
 def show_calls(bench, folder: str) -> None:
-    """The table of each layout."""
+    """The table, of both layouts."""
     if not has_strace():
         print("\nstrace isn't installed: the calls aren't counted")
         return
-    order = ["append", "stage", "flush", "reply", "block", "step, answered working", "step, the last", "checkpoint", "release", "prepare", "lookup", "read",
-             "scrub"]
-    for word in SIZES:
-        seen = defaultdict(list)
+    seen = defaultdict(list)
+    for layout in SIZES:
         with tempfile.TemporaryDirectory(dir=folder) as inner:
             ground = Ground("", os.path.realpath(inner), False)
-            for text in parts_of(bench, word):
+            for text in parts_of(bench, layout):
                 # The first line of each script isn't counted: it may take memory, of which later lines take none.
-                for kind, mine, lost in traced(bench, ground, word, text)[1:]:
-                    seen[kind].append((mine, lost))
-        kinds = sorted(seen, key=lambda kind: (order.index(kind[0] if kind[0] in order else "flush"), kind))
-        show(f"Calls a line, layout `{word}`", HEAD, [row_of(kind, seen[kind]) for kind in kinds])
+                for (word, body), mine, lost in traced(bench, ground, layout, text)[1:]:
+                    seen[layout, word, body].append((mine, lost))
+    show("Calls a line", HEAD, rows_of(seen), "counted by `strace`")

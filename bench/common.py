@@ -1,6 +1,7 @@
 """What the benches share: scripts and what they answer, fresh files, runs that are timed from outside, and tables."""
 
 import ctypes
+import hashlib
 import os
 import statistics
 import struct
@@ -204,11 +205,28 @@ def with_quartiles(values: list, places: int = 1) -> str:
     return "{:,.{p}f} ({:,.{p}f} to {:,.{p}f})".format(*quartiles(values), p=places)
 
 
-def show(title: str, head: list, rows: list) -> None:
-    """A table, as docs/evidence/BENCHMARKS.md has it."""
+class Measured:
+    """What is said under each table: the program, by the first digits of its file's SHA-256, when, and how busy the machine was."""
+
+    program = "-"
+
+    @classmethod
+    def is_of(cls, path: str) -> None:
+        with open(path, "rb") as file:
+            cls.program = hashlib.sha256(file.read()).hexdigest()[:12]
+
+    @classmethod
+    def line(cls, how: str) -> str:
+        load = os.getloadavg()[0]
+        return f"*Program {cls.program}, {time.strftime('%Y-%m-%d %H:%M')}, {how}, load {load:.1f}.*"
+
+
+def show(title: str, head: list, rows: list, how: str) -> None:
+    """A table, as the pages of docs/evidence have it, with how it was measured."""
     print(f"\n{title}\n\n| " + " | ".join(head) + " |\n" + "|---" * len(head) + "|")
     for row in rows:
         print("| " + " | ".join(f"{cell:,}" if isinstance(cell, int) else str(cell) for cell in row) + " |")
+    print(f"\n{Measured.line(how)}")
     sys.stdout.flush()
 
 

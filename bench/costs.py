@@ -16,7 +16,7 @@ import time
 from contextlib import ExitStack
 from random import Random
 
-from common import Bench, Ground, first_in_line
+from common import Bench, Ground, Measured, first_in_line
 from yardstick import Yardstick, build
 
 import appends
@@ -47,6 +47,7 @@ def wanted() -> argparse.Namespace:
 def main() -> None:
     given = wanted()
     first_in_line()
+    Measured.is_of(given.program)
     with ExitStack() as stack:
         def folder(of: str) -> str:
             return stack.enter_context(tempfile.TemporaryDirectory(dir=of))

@@ -251,17 +251,18 @@ def show_beside(bench: Bench, ground: Ground) -> None:
     """The tables of eight requests, of one, and of their calls alone."""
     found = {size: measured(bench, ground, size, layout_of(size)) for size in SIZES}
     apart = measured(bench, ground, TOLD, Layout(SLOTS, APART, CLIENTS, 4096, 8))
-    turns = f"{ground.name}, {TURNS * bench.rounds} of each in turn, us by the clock, medians, and in brackets what the fastest tenth stays below"
+    turns = f"{ground.name}, us by the clock, medians, and in brackets what the fastest tenth stays below"
+    how = f"{TURNS * bench.rounds} of each in turn"
     show(f"A flush of eight beside its own calls and hashes, {turns}",
          ["body", "`flush` of eight", "its calls and hashes", "ratio", "of the tenths", "with its eight `stage`", "eight appends",
-          "eight appends to this", "of the tenths"], [row_of_flush(size, of) for size, of in found.items()])
+          "eight appends to this", "of the tenths"], [row_of_flush(size, of) for size, of in found.items()], how)
     show(f"An append beside its own calls and hashes, {turns}",
          ["body", "one append", "its calls, hashes and digits", "ratio", "of the tenths", "its calls and hashes", "ratio without digits",
           "of the tenths"],
-         [row_of_append(size, of) for size, of in found.items()])
+         [row_of_append(size, of) for size, of in found.items()], how)
     show(f"The calls alone of a flush of eight and of an append, {turns}",
          ["slots", "body", "an append's calls", "a flush's calls", "ratio", "of the tenths", "one append", "`flush` of eight", "ratio", "of the tenths"],
-         [*(row_of_calls("neighbours", size, of) for size, of in found.items()), row_of_calls("two sectors apart", TOLD, apart)])
+         [*(row_of_calls("neighbours", size, of) for size, of in found.items()), row_of_calls("two sectors apart", TOLD, apart)], how)
 
 
 def counted(bench: Bench, ground: Ground) -> dict:
@@ -295,5 +296,5 @@ def show_groups(bench: Bench, grounds: list) -> None:
     for ground in grounds:
         show_beside(bench, ground)
         seen = counted(bench, ground)
-        show(f"Groups by how many, bodies of {TOLD} bytes, {ground.name}, {TURNS * bench.rounds} of each in turn, us by the clock",
-             ["how many", "appends", "`flush`", "with its `stage`"], [row_of_count(count, seen) for count in range(1, CLIENTS + 1)])
+        show(f"Groups by how many, bodies of {TOLD} bytes, {ground.name}, us by the clock", ["how many", "appends", "`flush`", "with its `stage`"],
+             [row_of_count(count, seen) for count in range(1, CLIENTS + 1)], f"{TURNS * bench.rounds} of each in turn")

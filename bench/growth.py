@@ -52,22 +52,20 @@ def opened(bench: Bench, ground: Ground, layout: Layout, script: Script) -> tupl
 
 
 def of_rings(bench: Bench, ground: Ground) -> tuple:
-    """Rows of an append, and of an open, by ring; and the parts of both over the greatest."""
-    of_append, of_open = [], []
+    """Rows of an append and of an open by ring; and the parts of both over the greatest."""
+    rows = []
     for slots in RINGS:
         layout = Layout(slots, 4096, 4, 4096, 8)
         script = appends(bench.random, range(1, slots + 1), 128)
         growing = Growing(bench, ground, layout, {"appends": script, "none": Script(b"", b"")})
-        of_append.append([slots, *growing.each("appends", "none", slots)])
         row, parts = opened(bench, ground, layout, script)
-        of_open.append([slots, *row])
-    return of_append, of_open, [[f"an append and its reply, {slots:,} slots", *growing.parts("appends", "none", slots)],
-                                [f"an open, {slots:,} slots", *parts]]
+        rows.append([slots, *growing.each("appends", "none", slots), *row])
+    return rows, [[f"an append and its reply, {slots:,} slots", *growing.parts("appends", "none", slots)], [f"an open, {slots:,} slots", *parts]]
 
 
 def of_grids(bench: Bench, ground: Ground) -> tuple:
-    """The same of blocks, a checkpoint and an open, by grid."""
-    rows, of_open = [], []
+    """The same of blocks, a checkpoint and an open by grid."""
+    rows = []
     for count in GRIDS:
         layout = Layout(16, 4096, 1, 4096, count)
         live = most_blocks(layout, 0)
@@ -75,25 +73,23 @@ def of_grids(bench: Bench, ground: Ground) -> tuple:
         steps = [blocks(bench.random, live, 0), begin(trailer), working(trailer), done()]
         runs = {name: join(*steps[:upto]) for upto, name in enumerate(("blocks", "begun", "worked", "done"), 1)}
         growing = Growing(bench, ground, layout, runs | {"none": Script(b"", b"")})
-        kinds = (("a block", "blocks", "none", live), ("a begin", "begun", "blocks", 1), ("a step, answered `working`", "worked", "begun", trailer),
-                 ("the last step", "done", "worked", 1))
-        rows.append([count, live, trailer, *(cell for _, *kind in kinds for cell in growing.each(*kind))])
+        kinds = {"a block": ("blocks", "none", live), "the begin": ("begun", "blocks", 1), "a step": ("worked", "begun", trailer),
+                 "the last step": ("done", "worked", 1)}
         row, parts = opened(bench, ground, layout, runs["done"])
-        of_open.append([count, live, trailer, *row])
-    return rows, of_open, [*([f"{name}, {count:,} blocks", *growing.parts(*kind)] for name, *kind in kinds), [f"an open, {count:,} blocks", *parts]]
+        rows.append([count, trailer, *(growing.parts(*kind)[0] for kind in kinds.values()), *row])
+    return rows, [*([f"{name}, {count:,} blocks", *growing.parts(*kind)] for name, kind in kinds.items()), [f"an open, {count:,} blocks", *parts]]
 
 
 def show_growth(bench: Bench, ground: Ground) -> None:
-    """The four tables of costs, and one of what they are made of."""
+    """The two tables of costs, and one of what they are made of."""
     if not has_valgrind():
         print("\nvalgrind isn't installed: growth isn't counted")
         return
-    of_ring, open_ring, parts_ring = of_rings(bench, ground)
-    of_grid, open_grid, parts_grid = of_grids(bench, ground)
-    title = f"in memory, instructions and microseconds of the processor, {bench.rounds} rounds"
-    show(f"An append of 128 bytes and its reply by ring, {title}", ["slots", "instructions", "us"], of_ring)
-    show(f"A full grid, {title}", ["blocks", "live", "trailer blocks", "a block", "us", "a begin", "us", "a step, answered `working`", "us",
-         "the last step", "us"], of_grid)
-    show(f"An open of a full ring, {title}", ["slots", "instructions", "us"], open_ring)
-    show(f"An open of a checkpoint of a full grid, {title}", ["blocks", "live", "trailer blocks", "instructions", "us"], open_grid)
-    show("What they are made of, instructions", ["what", "in all", *PARTS, "everything else", "most of that"], [*parts_ring, *parts_grid])
+    of_ring, parts_ring = of_rings(bench, ground)
+    of_grid, parts_grid = of_grids(bench, ground)
+    how = f"instructions exact, us the processor's in {bench.rounds} rounds"
+    show("An append of 128 bytes and its reply, and an open of a full ring, in memory",
+         ["slots", "an append, instructions", "us", "an open, instructions", "us"], of_ring, how)
+    show("A full grid in memory, instructions, and of an open microseconds", ["blocks", "trailer blocks", "a block", "the begin",
+         "a step, answered `working`", "the last step", "an open", "us"], of_grid, how)
+    show("What they are made of, instructions", ["what", "in all", *PARTS, "everything else", "most of that"], [*parts_ring, *parts_grid], "exact")

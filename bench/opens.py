@@ -39,8 +39,7 @@ def full(name: str, layout: Layout) -> Case:
 
 MIDDLE = Layout(256, 262144, 64, 262144, 704)
 CASES = (
-    full("`small`, full", form.SMALL), full("256 MiB, full", MIDDLE),
-    Case("`large`, 1,000 prepares of 65,280 bytes", form.LARGE, 1000, 65280, 64),
+    full("`small`", form.SMALL), full("256 MiB", MIDDLE), Case("`large`", form.LARGE, 1000, 65280, 64),
 )
 
 
@@ -101,32 +100,37 @@ def steps_of(case: Case, path: str, words: str) -> list:
     return steps
 
 
-def reads_of(bench: Bench, ground: Ground, case: Case, path: str) -> list:
-    """Rows of the table of reads: for each zone its units, and the reads of an open."""
+def reads_of(bench: Bench, ground: Ground, case: Case, path: str) -> dict:
+    """For each zone its units, and the reads of an open."""
     binary = Binary(bench.program, ground.folder)
     binary.path = path
     result, calls = binary.trace(b"", words=("recover",))
     expect("the open", 0, result.status)
     offsets = [int(call.args[-1]) for call in on_file(path, calls) if call.name == "pread64"]
-    rows, left = [], len(offsets)
-    for zone, places in zones(case, "recover").items():
-        # A place at the file's end takes one read more, which finds that nothing follows.
-        reads = sum(at <= offset < at + length for offset in offsets for at, length in places)
-        left -= reads
-        rows.append([case.name, zone, len(places), reads, f"{reads / len(places):.10g}"])
-    expect("no other reads", 0, left)
-    return rows
+    # A place at the file's end takes a read more for each, which finds that nothing follows.
+    found = {zone: (len(places), sum(at <= offset < at + length for offset in offsets for at, length in places))
+             for zone, places in zones(case, "recover").items()}
+    expect("no other reads", len(offsets), sum(reads for _, reads in found.values()))
+    return found
 
 
-def behind(seen: dict, what: str, start: str, by: str) -> list:
+def show_reads(of_cases: list) -> None:
+    rows = []
+    for zone in of_cases[0]:
+        each = {reads / units for units, reads in (found[zone] for found in of_cases)}
+        rows.append([zone, *(found[zone][0] for found in of_cases), " or ".join(f"{one:.10g}" for one in sorted(each))])
+    show("Reads of an open", ["what", *(f"units in {case.name}" for case in CASES), "reads a unit"], rows, "counted by `strace`")
+
+
+def after_start(seen: dict, what: str, start: str, by: str) -> list:
     """Milliseconds of each round that a run took after its start."""
     least = quartiles([getattr(one, by) for one in seen[start]])[0]
     return [(getattr(one, by) - least) * 1e3 for one in seen[what]]
 
 
-def rows_of(bench: Bench, ground: Ground, case: Case, path: str) -> list:
-    """Two rows of the table of times."""
-    rows = []
+def cells_of(bench: Bench, ground: Ground, case: Case, path: str) -> dict:
+    """For each word the cells of its times, by the processor and by the clock, and the most that was resident."""
+    cells: dict = {}
     plan(ground, "plan-nothing", [])
 
     def nothing():
@@ -145,28 +149,29 @@ def rows_of(bench: Bench, ground: Ground, case: Case, path: str) -> list:
 
         seen = bench.rounds_of({"program": program, "alone": alone, "start": lambda: bench.start(ground),
                                  "nothing": nothing})
-        cells = []
+        cells[words] = {"peak": peak([bench.program, path, words])}
         for by in ("processor", "clock"):
-            both = behind(seen, "program", "start", by), behind(seen, "alone", "nothing", by)
-            cells += [f"{quartiles(values)[0]:,.2f}" for values in both]
-            cells.append(with_quartiles([one / two for one, two in zip(*both)], 3))
-        rows.append([case.name, words, *cells, peak([bench.program, path, words])])
-    return rows
+            both = after_start(seen, "program", "start", by), after_start(seen, "alone", "nothing", by)
+            ratio = with_quartiles([one / two for one, two in zip(*both)], 3)
+            cells[words][by] = [*(f"{quartiles(values)[0]:,.2f}" for values in both), ratio]
+    return cells
 
 
 def show_opens(bench: Bench, grounds: list) -> None:
-    """The reads of an open, and a table of times for each ground."""
-    reads: list = []
-    rows: dict = {ground.name: [] for ground in grounds}
+    """The reads of an open, and a table of times by the processor and one by the clock."""
+    reads, found = [], []
     for case in CASES:
         paths = made(bench, case, grounds)
         if has_strace():
-            reads += reads_of(bench, grounds[0], case, paths[0])
-        for ground, path in zip(grounds, paths):
-            rows[ground.name] += rows_of(bench, ground, case, path)
+            reads.append(reads_of(bench, grounds[0], case, paths[0]))
+        both = [cells_of(bench, ground, case, path) for ground, path in zip(grounds, paths)]
+        found += [(case.name, words, [cells[words] for cells in both]) for words in both[0]]
         for path in paths:
             os.unlink(path)
-    show("Reads of an open", ["file", "what", "units", "reads", "reads a unit"], reads)
-    for name, found in rows.items():
-        show(f"An open (`recover`), and one with a tour (`scrub`), {name}, {bench.rounds} rounds; times in milliseconds",
-             ["file", "word", "program, processor", "yardstick", "ratio", "program, clock", "yardstick", "ratio", "KB at most"], found)
+    if reads:
+        show_reads(reads)
+    head = ["file", "word", *(cell for ground in grounds for cell in (f"{ground.name}: program", "yardstick", "ratio"))]
+    title, how = "An open (`recover`), and one with a tour (`scrub`), milliseconds", f"{bench.rounds} rounds"
+    show(f"{title} of the processor", [*head, "KB at most"],
+         [[name, words, *(cell for one in both for cell in one["processor"]), both[0]["peak"]] for name, words, both in found], how)
+    show(f"{title} by the clock", head, [[name, words, *(cell for one in both for cell in one["clock"])] for name, words, both in found], how)

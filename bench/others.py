@@ -19,7 +19,7 @@ import time
 from random import Random
 
 from batches import show_batches
-from common import Bench, Ground, first_in_line, forget, run, show, with_quartiles
+from common import Bench, Ground, Measured, first_in_line, forget, run, show, with_quartiles
 from puts import show_puts
 from stores import GROUPS, Groups, Kept, Store, Table
 from tries import arguments, objects
@@ -94,8 +94,8 @@ def show_opens(bench: Bench, ground: Ground, memory: Ground, given: argparse.Nam
         for store in [*table, *ring, *others]:
             cells = opened(bench, ground, memory, store, rows)
             found.append([store.name.partition(",")[0], rows, *cells])
-    show(f"An open up to the first answer to a `get`, or a `prepare`, {ground.name}, read anew, {bench.rounds} rounds, milliseconds by the clock",
-         ["what keeps them", "rows", "after a close", "after a kill"], found)
+    show(f"An open up to the first answer to a `get`, or a `prepare`, {ground.name}, read anew, milliseconds by the clock",
+         ["what keeps them", "rows", "after a close", "after a kill"], found, f"{bench.rounds} rounds")
 
 
 def words() -> argparse.Namespace:
@@ -117,6 +117,7 @@ def words() -> argparse.Namespace:
 def main() -> None:
     given = words()
     first_in_line()
+    Measured.is_of(given.datafile)
     with tempfile.TemporaryDirectory(dir=given.disk) as disk, tempfile.TemporaryDirectory(dir=given.memory) as memory:
         bench = Bench(given.datafile, None, given.rounds, Random(given.seed))
         ground, kinds = Ground("disk", disk, True), kinds_of(given.python)

@@ -89,6 +89,7 @@ def show_puts(bench: Bench, ground: Ground, stores: list) -> None:
         durable = sorted(one * 1e6 for one, _ in seen)
         rows.append([store.name, store.group, *calls_of(bench, ground, store, 64 // store.group), with_quartiles(durable, 0),
                      f"{durable[len(durable) * 99 // 100]:,.0f}", with_quartiles(rates_of(seen, PUTS, store.group), 0), f"{FIRST / first:,.0f}"])
-    show(f"Durable puts, {ground.name}, {bench.rounds} rounds of {PUTS} puts of each after {FIRST:,}, by the clock",
+    show(f"Durable puts, {ground.name}, by the clock",
          ["what keeps them", "at once", "syncs until they are durable", "bytes written until then", "syncs in all",
-          "us until they are durable", "99th of a hundred", "puts a second, in all", "of the first puts"], rows)
+          "us until they are durable", "99th of a hundred", "puts a second, in all", "of the first puts"], rows,
+         f"{bench.rounds} rounds of {PUTS} puts of each after {FIRST:,}")

@@ -6,8 +6,8 @@ from asked import Asked
 from common import Bench, Ground, show
 from tries.form import NAMED
 
-# The most that was resident at once, and all that may be written: the rooms, the stack aside.
-COUNTS = ("VmHWM", "VmData")
+# What Linux counts, and what that is: of what may be written the stack aside.
+COUNTS = {"VmHWM": "resident at most", "VmData": "what may be written"}
 
 
 def counts(process: int) -> list:
@@ -26,4 +26,5 @@ def show_rooms(bench: Bench, ground: Ground) -> None:
             session.want(b"prepare 0\n", b"refused NotKept first 1 last 0\n")
             rows.append([f"`{name}`", *counts(session.process.pid)])
             session.end()
-    show("Memory of `run` on a new file once it waits for its second line, MB", ["layout", *(f"{name} (`/proc`)" for name in COUNTS)], rows)
+    show("Memory of `run` on a new file once it waits for its second line, MB",
+         ["layout", *(f"{what} ({name})" for name, what in COUNTS.items())], rows, "one run of each")

@@ -7,14 +7,12 @@ import subprocess
 import tempfile
 from collections import Counter
 
-from common import show
-
 LINE = re.compile(r"^\s*(\d+\.\d+)%\s+\[(.)\]\s+(.*?)[\s-]*$")
+KERNEL = "the kernel"
 COLLECTED = re.compile(r"Collected : (\d+)")
 COPIED = re.compile(r"Total: +([\d,]+) bytes")
 FUNCTION = re.compile(r"^\s*([\d,]+) \(\s*[\d.]+%\)\s+\S*?[^:]:(?!:)(\S+)", re.M)
-# What an append, a block or an open is made of: what it is called in tables, and how the names of its functions begin, in the last part
-# that isn't another crate's. The rest is the program's own.
+# What most of a run is made of: the name in tables, and how the names of its functions begin. The rest is the program's own.
 PARTS = {"SHA-256": ("sha2::",), "lines and digits": ("df_lines::",), "zeros": ("__memset",), "copies": ("__memcpy", "__memmove", "mempcpy")}
 COPIES = ["--tool=dhat", "--mode=copy", "--dhat-out-file=/dev/null"]
 
@@ -71,22 +69,19 @@ def has_valgrind() -> bool:
     return shutil.which("valgrind") is not None
 
 
-def show_profile(title: str, command: list, source: str, least: float = 1.0) -> None:
-    """The functions that take at least this many percent of the samples; those of the kernel as one."""
-    if shutil.which("perf") is None:
-        print(f"\n{title}: perf isn't installed")
-        return
+def has_perf() -> bool:
+    return shutil.which("perf") is not None
+
+
+def samples(command: list, source: str) -> Counter:
+    """Of each function of a run the percent of the samples that it has; those of the kernel as one."""
     with tempfile.TemporaryDirectory() as folder, open(source, "rb") as stdin:
         data = os.path.join(folder, "samples")
         record = ["perf", "record", "-q", "-e", "cpu-clock", "-c", "50000", "-o", data, "--", *command]
         subprocess.run(record, stdin=stdin, stdout=subprocess.DEVNULL, stderr=subprocess.DEVNULL, check=True)
         report = ["perf", "report", "--stdio", "-i", data, "--sort", "symbol"]
         text = subprocess.run(report, capture_output=True, text=True, check=True).stdout
-    rows, kernel = [], 0.0
+    found = Counter()
     for match in filter(None, map(LINE.match, text.splitlines())):
-        share, mode, name = float(match[1]), match[2], match[3]
-        if mode == "k":
-            kernel += share
-        elif share >= least:
-            rows.append([f"`{name}`", f"{share:.1f}"])
-    show(title, ["function", "percent of the samples"], [*rows, ["the kernel", f"{kernel:.1f}"]])
+        found[KERNEL if match[2] == "k" else match[3].split("::<")[0]] += float(match[1])
+    return found

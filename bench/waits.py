@@ -200,10 +200,11 @@ def show_waits(bench: Bench, grounds: list) -> None:
     memory, disk = grounds
     kinds = [*((ground, count, False) for ground in grounds for count in GRIDS), (disk, GRIDS[-1], True)]
     rows = [row for ground, count, slow in kinds for row in rows_of(bench, memory, ground, count, slow)]
+    how = f"{min(bench.rounds, SESSIONS)} sessions of each, {min(bench.rounds, SLOW_SESSIONS)} where syncs are slow"
     title = (f"over a full grid of blocks of {SECTOR:,} bytes, sessions of {APPENDS:,} appends of {SIZE} bytes with their replies "
              f"({SLOW_APPENDS} where syncs are slow, by {SLOWER / 1000:.0f} ms each), us by the clock")
     show(f"The wait for an answer, {title}",
          ["where", "blocks", "word", "median", "99th of a hundred", "longest of a session (median of the sessions)", "of the yardstick"],
-         [row for row, _ in rows])
+         [row for row, _ in rows], how)
     show(f"The lines that have most to wait for, {title}",
-         ["where", "blocks", "word", "one line in", "its wait", "its calls", "ratio", "its calls and hashes", "ratio"], [row for _, row in rows])
+         ["where", "blocks", "word", "one line in", "its wait", "its calls", "ratio", "its calls and hashes", "ratio"], [row for _, row in rows], how)

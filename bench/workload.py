@@ -71,5 +71,5 @@ def show_workload(bench: Bench, grounds: list) -> None:
         return
     rows = [row_of(bench, grounds[0], ground) for ground in grounds]
     show(f"A generated run, `workload 42 COUNT` on `small`, {bench.rounds} rounds",
-         ["where", "COUNT", "commands", "device calls", "commands a second", "time to that of the calls alone",
-          "processor a command, us", "the calls alone, us", "KB at most"], rows)
+         ["where", "COUNT", "commands", "device calls", "commands a second", "clock to that of the calls",
+          "processor a command, us", "the calls alone, us", "KB at most"], rows, f"{bench.rounds} rounds")

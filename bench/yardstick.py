@@ -73,6 +73,8 @@ fn part(bytes: &[u8], from: u64, length: u64) -> io::Result<&[u8]> {
     Ok(part)
 }
 
+// A function of its own, as in the program: as a part of `main` it would take a fifth more instructions.
+#[inline(never)]
 fn decode(rooms: &mut Rooms, from: u64, length: u64) -> io::Result<u8> {
     let digits = part(&rooms.bytes, from, length)?;
     let size = digits.len() / 2;
