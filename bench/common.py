@@ -197,7 +197,7 @@ def most_blocks(layout: Layout, sessions: int) -> int:
 
 def quartiles(values: list) -> tuple:
     """The median, and the quartiles below and above it."""
-    low, middle, high = statistics.quantiles(values, n=4)
+    low, middle, high = statistics.quantiles(values, n=4, method="inclusive")
     return middle, low, high
 
 

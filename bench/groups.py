@@ -4,80 +4,24 @@ written round."""
 
 import shutil
 import statistics
-from collections import Counter
 from contextlib import ExitStack
-from random import Random
 from typing import NamedTuple
 
 from asked import Asked, Planned
 from calls import lines_of
+from clients import CLIENTS, Requests
 from common import Bench, Ground, digits, sectors_of, show, with_quartiles
 from tries.binary import Binary, expect
 from tries.form import Layout
 from yardstick import SYNC, answered, decoded, plan, unit, waited, write
 
-# As many clients as a group has prepares; and how many turns there are for each round that is asked for.
-CLIENTS, TURNS = 8, 10
-SLOTS = 1024
+# How many turns there are for each round that is asked for.
+TURNS, SLOTS = 10, 1024
 SIZES = (0, 128, 3840, 7936)
 # The body whose groups of each size are told; and so long is a slot in which a short unit leaves the next sector free.
 TOLD, APART = 128, 8192
 # Of what is traced, so many groups go once round the ring; and an answer of the yardstick is as long as this one.
 ROUND, ANSWER = SLOTS // CLIENTS, b"appended 1025\n"
-
-
-class Requests:
-    """A session in which up to eight clients at once ask for their next request, and each has its reply after it."""
-
-    def __init__(self, session: Asked, random: Random, slots: int = SLOTS):
-        self.session, self.random, self.slots = session, random, slots
-        self.head, self.reached, self.sequence = 0, 0, 1
-        self.asked: Counter = Counter()
-
-    def lines(self, word: bytes, bodies: list) -> bytes:
-        """A line for each of this many clients."""
-        made = []
-        for client, body in enumerate(bodies, 1):
-            self.asked[client] += 1
-            made.append(b"%s %d %d %s\n" % (word, client, self.asked[client], digits(body)))
-        return b"".join(made)
-
-    def answers(self, word: bytes, count: int) -> bytes:
-        return b"".join(b"%s %d\n" % (word, self.head + number) for number in range(1, count + 1))
-
-    def appended(self, bodies: list) -> float:
-        """This many appends, in one piece: the seconds until the last one is answered."""
-        return self.session.want(self.lines(b"append", bodies), self.answers(b"appended", len(bodies)))
-
-    def staged(self, bodies: list) -> float:
-        """What the next group is to have: the seconds until all is staged."""
-        return self.session.want(self.lines(b"stage", bodies), self.answers(b"staged", len(bodies)))
-
-    def flushed(self, count: int) -> float:
-        """The seconds of the flush."""
-        return self.session.want(b"flush\n", b"flushed %d\n" % count)
-
-    def replied(self, count: int) -> float:
-        """The replies to the last requests; and a whole checkpoint where the ring has no slots for eight more: the seconds of both."""
-        lines, answers = b"".join(b"reply %d -\n" % (self.head + number) for number in range(1, count + 1)), self.answers(b"replied", count)
-        self.head += count
-        if self.head + CLIENTS > self.reached + self.slots:
-            self.sequence, self.reached = self.sequence + 1, self.head
-            lines, answers = lines + b"checkpoint -\nstep\nstep\n", answers + b"begun 1\nworking 1\ndone %d\n" % self.sequence
-        return self.session.want(lines, answers)
-
-    def go_round(self, size: int) -> None:
-        """Fills each slot once, but for the last one of the ring: the next eight prepares then have their headers in one sector."""
-        while self.head < self.slots - 1:
-            count = min(CLIENTS, self.slots - 1 - self.head)
-            self.appended([self.random.randbytes(size) for _ in range(count)])
-            self.replied(count)
-
-    def over(self, session: Asked) -> "Requests":
-        """The same, as it stands, in another session over a copy of the file."""
-        other = Requests(session, self.random, self.slots)
-        other.head, other.reached, other.sequence, other.asked = self.head, self.reached, self.sequence, Counter(self.asked)
-        return other
 
 
 def layout_of(size: int) -> Layout:
@@ -103,7 +47,7 @@ class Case(NamedTuple):
 def case_of(bench: Bench, ground: Ground, size: int, layout: Layout) -> Case:
     path = bench.make(ground, layout, "round")
     with Asked([bench.program, path, "run"]) as session:
-        requests = Requests(session, bench.random)
+        requests = Requests(session, bench.random, layout.slots)
         requests.go_round(size)
         session.end()
     return Case(size, layout, path, requests)
@@ -156,7 +100,8 @@ def plans(bench: Bench, ground: Ground, case: Case) -> dict:
     expect("the calls of a flush", {CLIENTS + 3}, {len(calls) for calls in flush})
     line, alone = b"append 1 1025 ", [[*unit(case.size), *steps_of(calls)] for calls in append]
     what = {
-        "append": alone, "fed": [[decoded(len(line), 2 * case.size), *steps] for steps in alone], "bare append": [steps_of(calls) for calls in append],
+        "append": alone, "fed": [[decoded(len(line), 2 * case.size), *steps] for steps in alone],
+        "bare append": [steps_of(calls) for calls in append],
         "flush": [[*CLIENTS * unit(case.size), *steps_of(calls)] for calls in flush], "bare flush": [steps_of(calls) for calls in flush],
     }
     made = {**dict.fromkeys(("append", "bare append"), lambda: b"\n"), **dict.fromkeys(("flush", "bare flush"), lambda: b"flush\n")}
@@ -205,7 +150,7 @@ class Measured(NamedTuple):
 
     def tenth(self, name: str) -> float:
         """What one in ten stays below: on a busy machine the rest waits for a processor now and then."""
-        return statistics.quantiles(self.seen[name], n=10)[0]
+        return statistics.quantiles(self.seen[name], n=10, method="inclusive")[0]
 
     def time(self, name: str) -> str:
         return f"{self.middle(name):,.0f} ({self.tenth(name):,.0f})"
@@ -261,7 +206,8 @@ def show_beside(bench: Bench, ground: Ground) -> None:
           "of the tenths"],
          [row_of_append(size, of) for size, of in found.items()], how)
     show(f"The calls alone of a flush of eight and of an append, {turns}",
-         ["slots", "body", "an append's calls", "a flush's calls", "ratio", "of the tenths", "one append", "`flush` of eight", "ratio", "of the tenths"],
+         ["slots", "body", "an append's calls", "a flush's calls", "ratio", "of the tenths", "one append", "`flush` of eight", "ratio",
+          "of the tenths"],
          [*(row_of_calls("neighbours", size, of) for size, of in found.items()), row_of_calls("two sectors apart", TOLD, apart)], how)
 
 

@@ -4,7 +4,8 @@
     /usr/bin/python3 bench/keeper.py sqlite|leveldb|write|nothing PATH
 
 Its first line is `ready` and the library's version. It opens PATH at the line `open`, and durable is what `put KEY BODY`, `flush` after lines
-`stage KEY BODY`, or `batch ROWS` answers, whose rows of 64 bytes are those of the object table. LevelDB wants Debian's package python3-plyvel, which is there for Debian's own Python alone.
+`stage KEY BODY`, or `batch ROWS` answers, whose rows of 64 bytes are those of the object table. LevelDB wants Debian's package python3-plyvel,
+which is there for Debian's own Python alone.
 """
 
 import os

@@ -110,7 +110,19 @@ def others() -> str:
         dots("An open, up to the first answer", "milliseconds by the clock", ["after a close", "after a kill"], of_opens, longest)], 1)
 
 
-PICTURES = {"growth.svg": growth, "appends.svg": appends, "groups.svg": groups, "others.svg": others}
+def batches() -> str:
+    one = tables("OTHERS.md", "Batches", "puts in a body")[0]
+    names = [name for name in dict.fromkeys(one.column("what keeps them")) if not name.startswith("nothing")]
+
+    def of(column: str) -> list:
+        cells = list(zip(one.column(one.head[0]), one.column("what keeps them"), one.column(column)))
+        return [Series(name, [(value_of(size).middle, value_of(cell)) for size, kept, cell in cells if kept == name]) for name in names]
+
+    return picture([lines("Puts a second, with all that goes with them", "puts in a body", "puts a second", of("puts a second, in all"), each=True),
+                    lines("Until a body is durable", "puts in a body", "microseconds by the clock", of("us until they are durable"), each=True)])
+
+
+PICTURES = {"growth.svg": growth, "appends.svg": appends, "groups.svg": groups, "others.svg": others, "batches.svg": batches}
 
 
 def drawn_before(path: str) -> str:

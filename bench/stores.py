@@ -5,8 +5,8 @@ import time
 from random import Random
 
 from asked import Asked
+from clients import Requests
 from common import Bench, Ground
-from groups import Requests
 from tries import objects
 from tries.form import Layout
 

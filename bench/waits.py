@@ -12,7 +12,7 @@ from typing import NamedTuple
 
 from asked import Asked, Planned
 from calls import lines_of
-from common import Bench, Ground, Script, appends, begin, blocks, done, forget, join, put, show, trailer_of, with_quartiles, working
+from common import Bench, Ground, Script, appends, begin, blocks, done, forget, join, show, trailer_of, with_quartiles, working
 from tries.binary import Binary, expect, has_strace
 from tries.form import COPIES, SECTOR, Layout
 from yardstick import SYNC, answered, hashed, plan, read, unit, waited, write
