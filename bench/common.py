@@ -3,6 +3,7 @@
 import ctypes
 import hashlib
 import os
+import shutil
 import statistics
 import struct
 import subprocess
@@ -127,6 +128,15 @@ def put(ground: Ground, name: str, pieces) -> str:
     path = ground.path(name)
     with open(path, "wb") as file:
         file.writelines([pieces] if isinstance(pieces, bytes) else pieces)
+    return path
+
+
+def copy(ground: Ground, source: str, name: str) -> str:
+    """A copy of a file, which on a disk is there before anything is measured."""
+    path = shutil.copyfile(source, ground.path(name))
+    if ground.is_disk:
+        with open(path, "rb") as file:
+            os.fsync(file.fileno())
     return path
 
 

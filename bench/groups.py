@@ -2,7 +2,6 @@
 nothing else; and up to eight requests in one group beside as many appends. All in turn, each in a session of its own over a file that was
 written round."""
 
-import shutil
 import statistics
 from contextlib import ExitStack
 from typing import NamedTuple
@@ -10,7 +9,7 @@ from typing import NamedTuple
 from asked import Asked, Planned
 from calls import lines_of
 from clients import CLIENTS, Requests
-from common import Bench, Ground, digits, sectors_of, show, with_quartiles
+from common import Bench, Ground, copy, digits, sectors_of, show, with_quartiles
 from tries.binary import Binary, expect
 from tries.form import Layout
 from yardstick import SYNC, answered, decoded, plan, unit, waited, write
@@ -36,9 +35,6 @@ class Case(NamedTuple):
     layout: Layout
     path: str
     requests: Requests
-
-    def copy(self, ground: Ground, name: str) -> str:
-        return shutil.copyfile(self.path, ground.path(name))
 
     def bodies(self, count: int) -> list:
         return [self.requests.random.randbytes(self.size) for _ in range(count)]
@@ -80,7 +76,7 @@ def traced(bench: Bench, ground: Ground, case: Case, group: bool) -> list:
             requests.appended(case.bodies(1))
             requests.replied(1)
     binary = Binary(bench.program, ground.folder)
-    binary.path = case.copy(ground, "traced")
+    binary.path = copy(ground, case.path, "traced")
     result, calls = binary.trace(listed.text)
     expect("the answers", b"".join(listed.answers), result.text)
     calls = calls[next(at for at, call in enumerate(calls) if call.name == "read" and call.fd == 0) :]
@@ -117,7 +113,7 @@ def turns_of(bench: Bench, ground: Ground, case: Case, stack: ExitStack) -> tupl
     """What is done in each turn, by name, each giving microseconds; and the sessions that are to end after them. A flush gives those of
     its stages, too."""
     def program(name: str) -> Requests:
-        return case.requests.over(stack.enter_context(Asked([bench.program, case.copy(ground, name), "run"])))
+        return case.requests.over(stack.enter_context(Asked([bench.program, copy(ground, case.path, name), "run"])))
 
     one, group = program("appends"), program("groups")
 
@@ -132,7 +128,7 @@ def turns_of(bench: Bench, ground: Ground, case: Case, stack: ExitStack) -> tupl
         return flush * 1e6, (stages + flush) * 1e6
 
     def alone(name: str, line):
-        session = stack.enter_context(Planned(bench.yardstick, ground, case.copy(ground, "alone-" + name), "plan-" + name))
+        session = stack.enter_context(Planned(bench.yardstick, ground, copy(ground, case.path, "alone-" + name), "plan-" + name))
         return session, lambda: (session.passed(line(), len(ANSWER)) * 1e6,)
 
     planned = {name: alone(name, line) for name, line in plans(bench, ground, case).items()}

@@ -5,14 +5,13 @@ What the program does after an answer the next line waits for. On a disk whose s
 """
 
 import os
-import shutil
 import statistics
 from collections import defaultdict
 from typing import NamedTuple
 
 from asked import Asked, Planned
 from calls import lines_of
-from common import Bench, Ground, Script, appends, begin, blocks, done, forget, join, show, trailer_of, with_quartiles, working
+from common import Bench, Ground, Script, appends, begin, blocks, copy, done, join, show, trailer_of, with_quartiles, working
 from tries.binary import Binary, expect, has_strace
 from tries.form import COPIES, SECTOR, Layout
 from yardstick import SYNC, answered, hashed, plan, read, unit, waited, write
@@ -77,7 +76,7 @@ def asked_of(bench: Bench, case: Case, work: Work, count: int) -> list:
 def traced(bench: Bench, ground: Ground, case: Case, work: Work, listed: list) -> list:
     """The calls from the answer before each line to its own one, as strace saw them."""
     binary, session = Binary(bench.program, ground.folder), join(*listed)
-    binary.path = shutil.copyfile(case.path, ground.path("traced"))
+    binary.path = copy(ground, case.path, "traced")
     result, calls = binary.trace(session.lines, words=work.words)
     expect("the answers", session.answers, result.text)
     calls = calls[next(at for at, call in enumerate(calls) if call.name == "read" and call.fd == 0) :]
@@ -132,8 +131,7 @@ class Session(NamedTuple):
 
     def program(self, bench: Bench, ground: Ground, case: Case, work: Work, front: list) -> list:
         """The microseconds from each line to the end of its answer, over a copy of the file."""
-        path = shutil.copyfile(case.path, ground.path("file"))
-        forget(ground, path)
+        path = copy(ground, case.path, "file")
         with Asked([*front, bench.program, path, *work.words]) as session:
             # The first answer shows that the file is open.
             session.want(b"lookup 9\n", b"refused NoClient\n")
@@ -164,7 +162,7 @@ def session_of(bench: Bench, memory: Ground, ground: Ground, case: Case, work: W
 def rows_of(bench: Bench, memory: Ground, ground: Ground, count: int, slow: bool) -> list:
     """A row of each table for each kind of work."""
     case = case_of(bench, memory, count)
-    shutil.copyfile(case.path, ground.path("alone"))
+    copy(ground, case.path, "alone")
     front, rows = SLOW if slow else [], []
     for work in WORKS:
         session = session_of(bench, memory, ground, case, work, SLOW_APPENDS if slow else APPENDS)
