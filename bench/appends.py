@@ -14,7 +14,7 @@ from yardstick import SYNC, answered, decoded, plan, taken, unit, write
 SIZES = (0, 128, 3840, 7936, 65280, 1048320)
 # Of the bodies of one run at most this many bytes in all, and on a disk this many appends, since each takes three syncs.
 BYTES, ON_DISK = 2**25, 32
-# Of the bodies up to this one instructions are counted, each over so many appends.
+# Of the bodies up to this one instructions are counted, each over this many appends.
 COUNTED, COUNTS = 7936, 128
 PROFILED = (128, 7936, 1048320)
 

@@ -69,7 +69,7 @@ class Planned(Asked):
         self.lines = os.fdopen(lines, "wb", 0)
 
     def passed(self, lines: bytes, length: int) -> float:
-        """Writes these bytes; gives the seconds until so many bytes of answers are there. What they are says nothing."""
+        """Writes these bytes; gives the seconds until this many bytes of answers are there. What they are says nothing."""
         start, count = time.perf_counter(), 0
         self.lines.write(lines)
         while count < length:

@@ -16,7 +16,7 @@ from tries.form import Layout
 SIZES = {1: 64, 8: 64, 32: 32, 126: 16, 1000: 8}
 # The ring is as long as the log of both others, as far as its slots allow: SQLite's is 1,000 pages, LevelDB's 4 MiB. Blocks, for the table.
 RING, BLOCK, BLOCKS = 2**22, 65536, 64
-# So many are counted by strace, after as many.
+# This many are counted by strace, after as many.
 COUNTED = 32
 PAST = objects.KEY + 1
 
@@ -148,7 +148,7 @@ def show_batches(bench: Bench, ground: Ground, program: str, python: str, kinds:
             rows.append([group, store.name, with_quartiles(durable, 0), f"{durable[len(durable) * 99 // 100]:,.0f}", with_quartiles(found, 0),
                          f"{whole:,.0f}", *calls_of(bench, ground, store, COUNTED)])
     show(f"Batches, {ground.name}, by the clock",
-         ["puts in a body", "what keeps them", "us until they are durable", "99th of a hundred", "puts a second, in all", "of all rounds together",
+         ["puts in a body", "what keeps them", "us until they are durable", "99th percentile", "puts a second, in all", "of all rounds together",
           "syncs until they are durable", "bytes written until then", "syncs in all"], rows,
          f"{bench.rounds} rounds of {', '.join(map(str, SIZES.values()))} bodies of each size")
     for which in (1, 2):

@@ -19,7 +19,7 @@ class Requests:
         self.asked: Counter = Counter()
 
     def lines(self, word: bytes, bodies: list) -> bytes:
-        """A line for each of so many clients."""
+        """A line for each of this many clients."""
         made = []
         for client, body in enumerate(bodies, 1):
             self.asked[client] += 1
@@ -30,7 +30,7 @@ class Requests:
         return b"".join(b"%s %d\n" % (word, self.head + number) for number in range(1, count + 1))
 
     def appended(self, bodies: list) -> float:
-        """So many appends, in one piece: the seconds until the last one is answered."""
+        """This many appends, in one piece: the seconds until the last one is answered."""
         return self.session.want(self.lines(b"append", bodies), self.answers(b"appended", len(bodies)))
 
     def staged(self, bodies: list) -> float:

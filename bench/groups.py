@@ -19,7 +19,7 @@ TURNS, SLOTS = 10, 1024
 SIZES = (0, 128, 3840, 7936)
 # The body whose groups of each size are told; and so long is a slot in which a short unit leaves the next sector free.
 TOLD, APART = 128, 8192
-# Of what is traced, so many groups go once round the ring; and an answer of the yardstick is as long as this one.
+# Of what is traced, this many groups go once round the ring; and an answer of the yardstick is as long as this one.
 ROUND, ANSWER = SLOTS // CLIENTS, b"appended 1025\n"
 
 
@@ -208,7 +208,7 @@ def show_beside(bench: Bench, ground: Ground) -> None:
 
 
 def counted(bench: Bench, ground: Ground) -> dict:
-    """Microseconds of so many appends, of so many stages, and of a flush of so many, all of one session."""
+    """Microseconds of this many appends, of this many stages, and of a flush of this many, all of one session."""
     seen: dict = {(what, count): [] for what in ("append", "stage", "flush") for count in range(1, CLIENTS + 1)}
     turns = [(what, count) for what, count in seen if what != "stage"]
     case = case_of(bench, ground, TOLD, layout_of(TOLD))
@@ -228,7 +228,7 @@ def counted(bench: Bench, ground: Ground) -> dict:
 
 
 def row_of_count(count: int, seen: dict) -> list:
-    """So many of the size that is told."""
+    """This many of the size that is told."""
     both = [one + two for one, two in zip(seen["stage", count], seen["flush", count])]
     return [count, *(with_quartiles(values, 0) for values in (seen["append", count], seen["flush", count], both))]
 

@@ -8,7 +8,7 @@ from html import escape
 from typing import NamedTuple
 
 WIDTH, HEIGHT, LEFT, RIGHT, BOTTOM, EDGE, LETTER, DODGE = 540, 330, 80, 24, 46, 22, 6.3, 3
-# Ink, what stands back, the lines behind a plot, and the ground: in light, and in dark.
+# Ink, what stands back, the lines at the back of a plot, and the ground: in light, and in dark.
 COMMON = {"ink": ("#1f2328", "#e6edf3"), "back": ("#59636e", "#9aa4af"), "scale": ("#d8dee4", "#343b44"), "ground": ("#ffffff", "#14181d")}
 COLOURS = (("#1f6fc4", "#6cb2ff"), ("#c4570a", "#f0964b"), ("#1a7f4b", "#4cc38a"), ("#8250df", "#b995ff"), ("#59636e", "#9aa4af"))
 

@@ -44,7 +44,7 @@ def kept_in_turn(bench: Bench, ground: Ground, stores: list, first: int, each: i
 
 
 def counted(bench: Bench, ground: Ground, store: Store, count: int, settles: bool) -> tuple:
-    """Syncs and written bytes of so many puts over what was just made; what goes with the last one or group is among them, or isn't."""
+    """Syncs and written bytes of this many puts over what was just made; what goes with the last one or group is among them, or isn't."""
     log, inner = ground.path("calls"), Ground("", ground.path("inner"), True)
     shutil.rmtree(inner.folder, ignore_errors=True)
     os.mkdir(inner.folder)
@@ -65,7 +65,7 @@ def counted(bench: Bench, ground: Ground, store: Store, count: int, settles: boo
 
 def calls_of(bench: Bench, ground: Ground, store: Store, groups: int) -> list:
     """Of each put, or group, on average: syncs until it is durable, bytes that are written until then, and syncs with all that goes with it.
-    Of a store with nothing to settle over so many of them after as many, of another of the last one."""
+    Of a store with nothing to settle over this many of them after as many, of another of the last one."""
     before, more = groups * store.group, (1 if store.settles else groups) * store.group
     least, durable = counted(bench, ground, store, before, True), counted(bench, ground, store, before + more, not store.settles)
     whole = counted(bench, ground, store, before + more, True) if store.settles else durable
@@ -78,7 +78,7 @@ def calls_of(bench: Bench, ground: Ground, store: Store, groups: int) -> list:
 
 
 def rates_of(seen: list, each: int, group: int) -> list:
-    """Puts a second of each round of so many puts, with all that goes with them."""
+    """Puts a second of each round of this many puts, with all that goes with them."""
     groups = each // group
     return [each / sum(whole for _, whole in seen[at : at + groups]) for at in range(0, len(seen), groups)]
 
@@ -91,5 +91,5 @@ def show_puts(bench: Bench, ground: Ground, stores: list) -> None:
                      f"{durable[len(durable) * 99 // 100]:,.0f}", with_quartiles(rates_of(seen, PUTS, store.group), 0), f"{FIRST / first:,.0f}"])
     show(f"Durable puts, {ground.name}, by the clock",
          ["what keeps them", "at once", "syncs until they are durable", "bytes written until then", "syncs in all",
-          "us until they are durable", "99th of a hundred", "puts a second, in all", "of the first puts"], rows,
+          "us until they are durable", "99th percentile", "puts a second, in all", "of the first puts"], rows,
          f"{bench.rounds} rounds of {PUTS} puts of each after {FIRST:,}")

@@ -140,6 +140,6 @@ class Groups(Store):
 
 
 def puts_of(random: Random, count: int, keys: int) -> list:
-    """Puts of values of the greatest length, of keys that are drawn from so many."""
+    """Puts of values of the greatest length, of keys that are drawn from this many."""
     drawn = [random.getrandbits(128) for _ in range(keys)]
     return [(random.choice(drawn), random.randbytes(objects.LONGEST)) for _ in range(count)]

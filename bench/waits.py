@@ -20,7 +20,7 @@ from yardstick import SYNC, answered, hashed, plan, read, unit, waited, write
 GRIDS, SLOTS, CLIENTS, EVERY = (4096, 16384), 256, 4, 64
 # Appends of a session and bytes of their bodies; sessions of each, at most.
 APPENDS, SIZE, SESSIONS = 1024, 128, 5
-# Where each sync takes so many microseconds more: appends and sessions.
+# Where each sync takes this many microseconds more: appends and sessions.
 SLOWER, SLOW_APPENDS, SLOW_SESSIONS = 5000, 176, 2
 SLOW = ["strace", "-f", "--seccomp-bpf", "-o", os.devnull, "-e", "trace=fdatasync", "-e", f"inject=fdatasync:delay_exit={SLOWER}"]
 COPY = hashed(32, SECTOR - 32)
@@ -202,7 +202,7 @@ def show_waits(bench: Bench, grounds: list) -> None:
     title = (f"over a full grid of blocks of {SECTOR:,} bytes, sessions of {APPENDS:,} appends of {SIZE} bytes with their replies "
              f"({SLOW_APPENDS} where syncs are slow, by {SLOWER / 1000:.0f} ms each), us by the clock")
     show(f"The wait for an answer, {title}",
-         ["where", "blocks", "word", "median", "99th of a hundred", "longest of a session (median of the sessions)", "of the yardstick"],
+         ["where", "blocks", "word", "median", "99th percentile", "longest of a session (median of the sessions)", "of the yardstick"],
          [row for row, _ in rows], how)
     show(f"The lines that have most to wait for, {title}",
          ["where", "blocks", "word", "one line in", "its wait", "its calls", "ratio", "its calls and hashes", "ratio"], [row for _, row in rows], how)

@@ -217,7 +217,7 @@ def taken(length: int) -> tuple:
 
 
 def waited(length: int) -> tuple:
-    """Reads of the script until so many bytes of it are there, in as many calls as it takes."""
+    """Reads of the script until this many bytes of it are there, in as many calls as it takes."""
     return b"t", 0, length
 
 

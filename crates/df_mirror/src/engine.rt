@@ -13,7 +13,7 @@ use df_inspect::{classed_line, number_line};
 use df_layout::Layout;
 use df_opening::{DataFile, Rooms, survey_superblock};
 use df_places::Shelf;
-use df_program::{print_usage, refuse_file};
+use df_program::{end_line, print_usage, refuse_file};
 use std::alloc::Global;
 
 /// The line that says which words have a meaning.
@@ -91,9 +91,21 @@ pub fn mirror<A: Disk, B: Disk, W: Sink>(
         (counts (A.faults first.new) (B.faults second.new) (W.faults sink.new)) result }
     ensures memory { result ≡ Status.Memory → IsUndone (around (A.told first.old) (B.told second.old) (W.written sink.old)) (around (A.told first.new) (B.told second.new) (W.written sink.new)) }
 {
-    match words {
-        [] => mend_first(alloc, first, second, sink),
-        _ => print_usage(sink, USAGE, Status::Words),
+    let [] = words else {
+        return print_usage(sink, USAGE, Status::Words);
+    };
+    let Ok(mut room) = ProbeRoom::reserve(alloc) else {
+        return Status::Memory;
+    };
+    let content = match survey_superblock(first, &mut room, 2) {
+        Ok(found) => found.content,
+        Err(error) => return refuse_file(sink, &error),
+    };
+    let layout = content.layout();
+    let fields = content.fields();
+    // A survey for version 2 finds no other one.
+    if fields.version != VERSION {
+        return Status::Refused;
     }
     let file = DataFile {
         layout,
