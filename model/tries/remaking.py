@@ -118,13 +118,19 @@ def old(t: Try) -> None:
     t.counts["files of version 1"] += 1
 
 
+def leaves_no_trace(layout: Layout, hurt: list, ops: range) -> bool:
+    """Whether each sector that shows any of these ops is hurt: their prepares, their headers, and the reply slot of the table's client."""
+    replies = layout.at(Place(form.CLIENT_REPLIES, 0)) in hurt
+    return replies and all(layout.place(op) in hurt and layout.header_sector(op % layout.slots) in hurt for op in ops)
+
+
 def damaged(t: Try, lines) -> None:
     """A table's file with some sectors hurt."""
     layout = t.random.choice((Layout(16, 4096, 1, 4096, 8), Layout(16, 4096, 1, 4096, 16), form.SMALL))
     files, maps = history(t, lines, layout)
     machine = Machine(recovery.found(files[-1]), Image(files[-1]))
-    image, older = files[-1], False
-    for at in chosen(t, machine):
+    image, older, hurt = files[-1], False, chosen(t, machine)
+    for at in hurt:
         how = t.random.choice(("a5", "a5", "a5", "zeros", "random", "another", "older"))
         older = older or how == "older"
         source = t.random.choice(files[:-1]) if how == "older" else image
@@ -148,7 +154,8 @@ def damaged(t: Try, lines) -> None:
     else:
         require(f"{what}: op {op} is one of it", op < len(maps))
         require(f"{what}: what is printed is a part of the state at op {op}", rows.items() <= maps[op].items())
-    require(f"{what}: what is wanting is told", rows == maps[-1] or older or status in (told.MISSING, told.REFUSED))
+    gone = op is not None and op + 1 < len(maps) and leaves_no_trace(layout, hurt, range(op + 1, len(maps)))
+    require(f"{what}: what is wanting is told", rows == maps[-1] or older or gone or status in (told.MISSING, told.REFUSED))
     refusal = objects.table_of(image)
     if isinstance(refusal, str):
         named = refusal.removeprefix("Damaged ")
