@@ -11,7 +11,9 @@ from stores import Store, puts_of
 # Puts before any are measured, puts of each round, and keys that they are drawn from.
 FIRST, PUTS, KEYS = 1024, 104, 5000
 CALLS = "trace=write,pwrite64,writev,pwritev,pwritev2,fsync,fdatasync,sync_file_range,msync"
-CALL = re.compile(r"^\d+\s+(\w+)\((\d+)?.*= (\d+)$")
+# A call, and one that another thread's calls cut in two.
+CALL, BEGUN, ENDED = (re.compile(rf"^(\d+)\s+{text}$") for text in (
+    r"(\w+)\((\d+)?.*= (\d+)", r"(\w+)\((\d+)?.*<unfinished \.\.\.>", r"<\.\.\. (\w+) resumed>.*= (\d+)"))
 SYNCS = ("fsync", "fdatasync", "sync_file_range", "msync")
 
 
@@ -57,10 +59,23 @@ def counted(bench: Bench, ground: Ground, store: Store, count: int, settles: boo
             store.settle()
     store.session.end()
     store.session.kill()
-    with open(log, encoding="utf-8", errors="replace") as file:
-        calls = [match.groups() for match in map(CALL.match, file) if match]
+    calls = calls_in(log)
     return (sum(name in SYNCS for name, _, _ in calls),
             sum(int(result) for name, fd, result in calls if name not in SYNCS and int(fd) > 2))
+
+
+def calls_in(log: str) -> list:
+    """Of each call its name, the file's number and its result."""
+    found, begun = [], {}
+    with open(log, encoding="utf-8", errors="replace") as file:
+        for line in file:
+            if match := BEGUN.match(line):
+                begun[match[1]] = match[3]
+            elif match := ENDED.match(line):
+                found.append((match[2], begun[match[1]], match[3]))
+            elif match := CALL.match(line):
+                found.append(match.groups()[1:])
+    return found
 
 
 def calls_of(bench: Bench, ground: Ground, store: Store, groups: int) -> list:

@@ -142,6 +142,8 @@ class Session(NamedTuple):
     def alone(self, bench: Bench, ground: Ground, name: str, front: list) -> list:
         """The same of the yardstick, over a file that is there whole."""
         with Planned(bench.yardstick, ground, ground.path("alone"), name, front) as session:
+            # Its first answer shows that it is there.
+            session.passed(b"\n", 1)
             seen = [session.passed(line.lines, len(line.answers)) * 1e6 for line in self.listed]
             session.end()
         return seen
@@ -152,7 +154,8 @@ def session_of(bench: Bench, memory: Ground, ground: Ground, case: Case, work: W
     listed = asked_of(bench, case, work, count)
     calls = traced(bench, memory, case, work, listed)
     for name, with_hashes in (("plan-calls", False), ("plan-hashes", True)):
-        plan(ground, name, [step for line, mine in zip(listed, calls) for step in steps_of(case, line, mine, with_hashes)])
+        steps = [step for line, mine in zip(listed, calls) for step in steps_of(case, line, mine, with_hashes)]
+        plan(ground, name, [waited(1), answered(1), *steps])
     alike = defaultdict(list)
     for number, mine in enumerate(calls):
         alike[tuple(sum(call.name == name for call in mine) for name in ("fdatasync", "pwrite64", "write"))].append(number)
@@ -176,10 +179,10 @@ def rows_of(bench: Bench, memory: Ground, ground: Ground, count: int, slow: bool
 
 
 def of_all(seen: dict) -> list:
-    """What a line waits, and the longest of each session, beside that of the yardstick's."""
+    """What a line waits, and the longest of each session."""
     every = sorted(wait for one in seen["program"] for wait in one)
-    longest = [statistics.median(max(one) for one in seen[name]) for name in ("program", "hashes")]
-    return [f"{value:,.0f}" for value in (statistics.median(every), every[len(every) * 99 // 100], *longest)]
+    longest = statistics.median(max(one) for one in seen["program"])
+    return [f"{value:,.0f}" for value in (statistics.median(every), every[len(every) * 99 // 100], longest)]
 
 
 def of_longest(session: Session, seen: dict) -> list:
@@ -202,7 +205,7 @@ def show_waits(bench: Bench, grounds: list) -> None:
     title = (f"over a full grid of blocks of {SECTOR:,} bytes, sessions of {APPENDS:,} appends of {SIZE} bytes with their replies "
              f"({SLOW_APPENDS} where syncs are slow, by {SLOWER / 1000:.0f} ms each), us by the clock")
     show(f"The wait for an answer, {title}",
-         ["where", "blocks", "word", "median", "99th percentile", "longest of a session (median of the sessions)", "of the yardstick"],
+         ["where", "blocks", "word", "median", "99th percentile", "longest of a session (median of the sessions)"],
          [row for row, _ in rows], how)
     show(f"The lines that have most to wait for, {title}",
          ["where", "blocks", "word", "one line in", "its wait", "its calls", "ratio", "its calls and hashes", "ratio"], [row for _, row in rows], how)
