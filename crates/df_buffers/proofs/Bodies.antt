@@ -8,7 +8,7 @@ pub record HasBody (count : ℕ) (bytes : List ℕ) : Type 0 where
   pub sectors : sectors_end (256 + count) ≤ length bytes
   pub size : length (take count (drop 256 bytes)) ≡ count
 
-pub filled_has : (zone : Zone) (layout : Layout) (count : ℕ) (bytes : List ℕ) → zone ≢ WalHeaders → IsFilled zone layout count bytes → HasBody count bytes
-filled_has zone layout count bytes other is =
+pub filled_has : (zone : Zone) (layout : Layout) (count : ℕ) (sum bytes : List ℕ) → zone ≢ WalHeaders → IsFilled zone layout count sum bytes → HasBody count bytes
+filled_has zone layout count sum bytes other is =
     let fits = made_fits zone layout (256 + count) other is.fits in
     record { sectors = omega (arith, fits.1, is.fills); size = length-take-le count (drop 256 bytes) (omega (arith, fits.1, is.fills, length-drop 256 bytes)) }

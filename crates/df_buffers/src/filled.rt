@@ -1,19 +1,21 @@
-// Rooms with a body in them: the header that is to stand before it is made later, so that the body is copied once.
+// Rooms with a body in them: the header that is to stand before it is made later, so that the body is copied and hashed once, as it comes.
 ghost use Rattle.std.specs.Prelude.{◌≡◌, ◌≤◌, ◌+◌, length, take, drop, IsSome};
 ghost use Rattle.df_base.specs.declared.TheConstants.{HEADER};
 ghost use Rattle.df_buffers.specs.Below.{sealed, ObeysRules, sectors_of, sectors_end, own_place, greatest_size, for_body, MadeIsUnit};
 
 use crate::{Raw, Sound, UnitKind};
-use df_base::HEADER;
-use df_format::{Header, seal_unit};
+use df_base::{Check, HEADER, check};
+use df_format::{Header, seal_summed};
 use df_layout::Layout;
 use std::marker::{Model, PhantomData};
 
-/// A room with a body after the place of a header that isn't made yet. Contracts see the layout and the body.
+/// A room with a body after the place of a header that isn't made yet, and the body's checksum. Contracts see the layout and the
+/// body.
 #[derive(Drop)]
 pub struct Filled<K: UnitKind> {
     pub(crate) layout: Layout,
     pub(crate) count: usize,
+    pub(crate) sum: Check,
     pub(crate) bytes: Vec<u8>,
     pub(crate) kind: PhantomData<K>,
 }
@@ -25,7 +27,7 @@ impl<K: UnitKind> Model for Filled<K> {
 
     ghost view = { λ s. filling_of s.layout s.count s.bytes.items };
 
-    ghost invariant = { λ s. IsFilled K.ZONE s.layout s.count s.bytes.items };
+    ghost invariant = { λ s. IsFilled K.ZONE s.layout s.count s.sum s.bytes.items };
 }
 
 // Copies a body after the place of a header.
@@ -38,7 +40,7 @@ fn put_body(bytes: &mut [u8], body: &[u8])
 }
 
 impl<K: UnitKind> Raw<K> {
-    /// Puts a body into the room, after the place of its header.
+    /// Puts a body into the room, after the place of its header, and takes its checksum.
     pub fn fill(self, body: &[u8]) -> Filled<K>
         requires { HEADER + length body.now ≤ greatest_size self.layout K.ZONE }
         ensures { result ≡ record { layout = self.layout; body = body.now } }
@@ -48,10 +50,12 @@ impl<K: UnitKind> Raw<K> {
             mut bytes,
             kind,
         } = self;
+        let sum = check(body);
         put_body(&mut bytes, body);
         Filled {
             layout,
             count: body.len(),
+            sum,
             bytes,
             kind,
         }
@@ -67,7 +71,7 @@ impl<K: UnitKind> Filled<K> {
     }
 
     /// Makes a unit of a header and the body that is in the room: it sets the header's size and checksums from the body, writes the
-    /// header before it, and zeros after it up to the last whole sector.
+    /// header before it, and zeros after it up to the last whole sector. The body was hashed as it was put in, and isn't again.
     pub fn seal(self, header: Header) -> Sound<K>
         requires rules { ObeysRules (for_body header self.body) }
         requires kind { header.kind ≡ K.KIND }
@@ -80,10 +84,11 @@ impl<K: UnitKind> Filled<K> {
         let Filled {
             layout,
             count,
+            sum,
             mut bytes,
             kind,
         } = self;
-        let made = seal_unit(header, count, &mut bytes);
+        let made = seal_summed(header, count, sum, &mut bytes);
         Sound {
             layout,
             header: made.header,
@@ -99,6 +104,7 @@ impl<K: UnitKind> Filled<K> {
         let Filled {
             layout,
             count: _,
+            sum: _,
             bytes,
             kind,
         } = self;

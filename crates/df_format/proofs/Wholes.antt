@@ -1,5 +1,5 @@
 -- Which unit the bytes of a place show: exactly the one that they begin with.
-use Rattle.std.{proofs.{Common.{◌≡◌, ◌≢◌, ◌≤◌, ◌-◌, ◌*◌, ℕ, Bool, true, false, List, ◌++◌, length, take, drop, replicate, Option, Some, None, cond, refl, sym, ◌∙◌, ap, subst, arith, append_assoc}, lemmas.Bool.{cond-true, cond-false, and_parts, and_from, eqb-true, eq-eqb, leb-true, le-leb, false_from_ne_true}, lemmas.List.{take_at, drop_at, take-append-drop, length-take-le, length-drop}, lemmas.Slice.Eq.{bytes_eq-Decides}, lemmas.Option.{cond_some, same_Some}}, specs.{Prelude.{slice_index}, Str.{bytes_eq}}}
+use Rattle.std.{proofs.{Common.{◌≡◌, ◌≢◌, ◌≤◌, ◌-◌, ◌*◌, ℕ, Bool, true, false, List, ◌++◌, length, take, drop, replicate, Option, Some, None, cond, refl, sym, ◌∙◌, ap, subst, arith, append_assoc}, lemmas.Bool.{cond-true, cond-false, and_parts, and_from, eqb-true, eq-eqb, leb-true, le-leb, false_from_ne_true}, lemmas.List.{take_at, drop_at, take-append-drop, length-take-le, length-drop}, lemmas.Slice.Eq.{bytes_eq-Decides}, lemmas.Option.{cond_some, same_Some}}, specs.{Str.{bytes_eq}}}
 use Rattle.df_base.{specs.{Fields.{AreBytes, check_of}, Image.{Image}}, proofs.Laws.{AreBytes-take, AreBytes-drop, cond_there}}
 use Rattle.df_layout.specs.{declared.damage.Class.{Class}, declared.damage.Class.TheVariants.{Blank, Elsewhere, Stale}, declared.layout.Layout.{Layout}, declared.places.Place.{Place}, declared.places.Zone.{Zone}, declared.places.Zone.TheVariants.{Superblock, WalHeaders}, Spans.{HasPlace, place_sectors}}
 use Rattle.df_format.{specs.{declared.header.Header.{Header}, declared.kind.Kind.{Kind}, declared.kind.Kind.TheVariants.{Reserved}, Spelling.{code_of, spelling}, Rules.{IsSealed}, Reading.{header_in}, Message.{Message}, Own.{own_place}, Whole.{Whole, greatest_size, body_in, has_body, is_unit, with_own, if_unit, whole_in}, Shown.{same_place, if_own, unit_in, unit_at, bytes_of, is_blank, class_of_whole, class_of, class_at}, Valid.{IsBodyOf, HasBody, BeginsWithUnit}, UnitLaws.{place_size, UnitsHaveOneSpelling, BodyFollows, RingHasNoBody, ValidIsStale, StaleIsValid, ElsewhereIsOther}}, proofs.{Spelled.{read_as, reads, was_spelled, length-spelling}, Owned.{own_is, same_place-true, same_place-self}}}

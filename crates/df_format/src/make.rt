@@ -1,11 +1,11 @@
 // Units as they are made at the front of a buffer: header, body, and zeros up to the last whole sector.
 ghost use Rattle.std.specs.Prelude.{◌≡◌, ◌+◌, ◌-◌, ◌*◌, ◌/◌, ◌≤◌, length, take, drop};
-ghost use Rattle.df_base.specs.{declared.TheConstants.{HEADER}, Fields.{AreBytes}};
+ghost use Rattle.df_base.specs.{declared.TheConstants.{HEADER}, Fields.{AreBytes, check_of}};
 ghost use Rattle.df_format.specs.{Spelling.{spelling, sealed}, Rules.{IsSealed, ObeysRules}, Message.{sectors_end, sectors_of}, Making.{for_body}, UnitLaws.{MadeIsUnit}};
 
 use crate::codec::{put_bytes, put_zeros};
 use crate::{Header, encode_header, seal_header};
-use df_base::{HEADER, SECTOR, check};
+use df_base::{Check, HEADER, SECTOR, check};
 
 /// A unit that was made in a buffer.
 #[derive(Clone, Copy, Debug, PartialEq, Eq)]
@@ -62,13 +62,14 @@ fn are_bytes(bytes: &[u8])
     ensures { AreBytes bytes.now }
 {}
 
-// The header with the fields that follow from the body.
-fn for_body(header: Header, body: &[u8]) -> Header
-    requires { HEADER + length body.now ≤ 1048576 }
+// The header with the fields that follow from the body, which has this checksum.
+fn for_body(header: Header, body: &[u8], sum: Check) -> Header
+    requires size { HEADER + length body.now ≤ 1048576 }
+    requires sum { sum ≡ check_of body.now }
     ensures { result ≡ for_body header body.now }
 {
     Header {
-        checksum_body: check(body),
+        checksum_body: sum,
         size: (HEADER + body.len()) as u32,
         ..header
     }
@@ -76,9 +77,10 @@ fn for_body(header: Header, body: &[u8]) -> Header
 
 /// Makes a unit of any kind of the body that stands at the front of a buffer, after the place of a header: it sets the header's
 /// size and checksums, writes the header, and zeros up to the last whole sector, and leaves the rest of the buffer. The body has
-/// `count` bytes.
-pub fn seal_unit(header: Header, count: usize, into: &mut [u8]) -> Made
+/// `count` bytes, and `sum` is its checksum: it isn't hashed again.
+pub fn seal_summed(header: Header, count: usize, sum: Check, into: &mut [u8]) -> Made
     requires rules { ObeysRules (for_body header (take count (drop HEADER into.old))) }
+    requires sum { sum ≡ check_of (take count (drop HEADER into.old)) }
     requires size { HEADER + count ≤ 1048576 }
     requires room { sectors_end (HEADER + count) ≤ length into.old }
     ensures header { result.header ≡ sealed (for_body header (take count (drop HEADER into.old))) }
@@ -90,7 +92,7 @@ pub fn seal_unit(header: Header, count: usize, into: &mut [u8]) -> Made
 {
     let body = body_in(into, count);
     are_bytes(body);
-    let header = seal_header(for_body(header, body));
+    let header = seal_header(for_body(header, body, sum));
     let length = write_ends(&header, count, into);
     Made { header, length }
 }
@@ -108,6 +110,7 @@ pub fn make_unit(header: Header, body: &[u8], into: &mut [u8]) -> Made
     ensures sectors { take result.length into.new ≡ sectors_of (record { header = result.header; body = body.now }) }
     ensures rest { drop result.length into.new ≡ drop result.length into.old }
 {
+    let sum = check(body);
     put_bytes(into, HEADER, body);
-    seal_unit(header, body.len(), into)
+    seal_summed(header, body.len(), sum, into)
 }

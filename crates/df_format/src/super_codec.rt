@@ -1,7 +1,7 @@
 // The sector of a copy of the superblock: how it is written, and how it is tested and read.
-ghost use Rattle.std.specs.Prelude.{◌≡◌, ◌<◌, ◌≤◌, ◌+◌, ◌++◌, ◌==◌, not, length, take, drop, replicate, position, IfSome, IsTrue};
+ghost use Rattle.std.specs.Prelude.{◌≡◌, ℕ, ◌<◌, ◌≤◌, ◌+◌, ◌++◌, ◌==◌, not, length, take, drop, replicate, position, IfSome, IsTrue};
 ghost use Rattle.df_base.specs.{declared.TheConstants.{SECTOR}, Fields.{field_at, spelled}};
-ghost use Rattle.df_format.specs.{Super.{checks_bytes, fields_bytes, named_bytes, copy_bytes}, SuperRules.{IsUsable}, Own.{place_in}};
+ghost use Rattle.df_format.specs.{declared.superblock.SuperFields.{SuperFields as AnyFields}, Super.{checks_bytes, fields_bytes, named_bytes, copy_bytes}, SuperRules.{IsUsable}, Own.{place_in}};
 ghost use Rattle.df_format.specs.Copies.{nonzero_between, first_nonzero_of, checks_at, super_fields_of, has_checksum, has_zeros, is_copy, copy_in, is_blank_copy, class_of_no_copy, own_copy};
 
 use crate::codec::{check_at, put_check, put_zeros};
@@ -102,6 +102,15 @@ pub fn encode_copy(content: &Super, number: u8, into: &mut [u8])
     put_named(into, fields);
     let sum = check(&into[COVERED..]);
     put_front(into, &sum, number);
+}
+
+/// Makes of the sector of a copy, whatever its number, that of the copy with this number and the same content. Their checksum is
+/// the same, since it doesn't cover the number.
+pub fn renumber_copy(number: u8, into: &mut [u8])
+    requires { length into.old ≡ SECTOR }
+    ensures { (f : AnyFields) (before : ℕ) → into.old ≡ copy_bytes before f → into.new ≡ copy_bytes number f }
+{
+    put_u32(into, NUMBER, u32::from(number));
 }
 
 fn first_other(bytes: &[u8]) -> Option<usize>

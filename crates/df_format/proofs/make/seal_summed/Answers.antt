@@ -1,6 +1,6 @@
-use Rattle.std.proofs.Common.{ℕ, List, ◌∙◌, ap}
-use Rattle.df_format.{specs.{declared.header.Header.{Header}, Spelling.{sealed}, UnitLaws.{MadeIsUnit}}, proofs.Makes.{made_is_unit}}
-use Rattle.df_format.proofs.make.seal_unit.Goals as goal
+use Rattle.std.proofs.Common.{◌∙◌, ap}
+use Rattle.df_format.{specs.{declared.header.Header.{Header}, Spelling.{sealed}}, proofs.Makes.{made_is_unit}}
+use Rattle.df_format.proofs.make.seal_summed.Goals as goal
 
 pub returns-clause-unit : goal.returns-clause-unit
 returns-clause-unit c =
