@@ -1,5 +1,5 @@
-pub mod Zips
 pub mod Single
+pub mod Zips
 pub mod Picks
 pub mod Counted
 pub mod Groups

@@ -1,5 +1,5 @@
 -- What tests say, and lists at one index.
-use Rattle.std.{proofs.Common.{◌≡◌, ℕ, zero, suc, Bool, true, false, Some, List, [], ◌∷◌, set, refl, sym, ap}, specs.Prelude.{slice_get}}
+use Rattle.std.{proofs.Common.{◌≡◌, ℕ, zero, suc, ◌<◌, Bool, true, false, Some, List, [], ◌∷◌, length, set, refl, sym, ap, arith}, specs.Prelude.{slice_get}}
 
 pub not_both : {P : Type 0} (b : Bool) → b ≡ true → b ≡ false → P
 not_both true is isnt = absurd (cc)
@@ -19,3 +19,9 @@ set_back (z ∷ xs) (suc i) x at = ap (λ (ys : List _). z ∷ ys) (set_back xs 
 
 pub one_there : {X : Type 0} (xs : List X) (i : ℕ) (x y : X) → slice_get xs i ≡ Some x → slice_get xs i ≡ Some y → x ≡ y
 one_there xs i x y a b = cc
+
+-- there is an element at each place
+pub some_there : {X : Type 0} (xs : List X) (i : ℕ) → i < length xs → (x : X) × (slice_get xs i ≡ Some x)
+some_there [] i less = absurd (omega arith)
+some_there (x ∷ xs) zero less = (x, refl)
+some_there (x ∷ xs) (suc i) less = some_there xs i (omega arith)

@@ -1,9 +1,9 @@
 -- The turns of loops over the table: a part is changed, a part isn't yet.
-use Rattle.std.{proofs.{Common.{◌≡◌, ℕ, zero, suc, ◌+◌, ◌<◌, ◌≤◌, Bool, true, false, cond, nat_lt, Some, List, [], ◌∷◌, ◌++◌, length, map, take, drop, set, refl, sym, ap, ◌∙◌, arith, lt-ltb, le-ltb}, lemmas.List.{length-drop, length-set, length-take}, lemmas.List.Edits.{map_over_more}, lemmas.Option.{get_or_from_slice_get}, lemmas.Bool.Decides.{nat_tests}, lemmas.Bool.{cond-true, cond-false}}, specs.{Prelude.{slice_get}, List.{filter}}}
+use Rattle.std.{proofs.{Common.{◌≡◌, ℕ, zero, suc, ◌+◌, ◌<◌, ◌≤◌, ◌==◌, ◌||◌, Bool, true, false, cond, nat_lt, Some, List, [], ◌∷◌, ◌++◌, length, map, take, drop, set, refl, sym, ap, ◌∙◌, arith, lt-ltb, le-ltb, eqb-true}, lemmas.List.{length-drop, length-set, length-take}, lemmas.List.Edits.{map_over_more}, lemmas.Option.{get_or_from_slice_get}, lemmas.Bool.Decides.{nat_tests}, lemmas.Bool.{cond-true, cond-false, eqb-false}}, specs.{Prelude.{slice_get}, List.{filter}}}
 use Rattle.df_base.proofs.Laws.{get_set_other}
 use Rattle.df_freeset.specs.Addresses.{AreAllTaken, count_free}
 use Rattle.df_units.specs.Meaning.{number_of}
-use Rattle.df_grid.{specs.{declared.entry.Entry.{Entry}, Entries.{is_marked}, Table.{AreFinished, AreTaken, finishing, open_from, picked}}, proofs.{Single.{get_set_same}, Free.{all_none, open_count}}}
+use Rattle.df_grid.{specs.{declared.entry.Entry.{Entry}, Entries.{is_marked}, Table.{AreFinished, AreMarked, AreTaken, finishing, open_from, picked}}, proofs.{Single.{get_set_same, set_back}, Free.{all_none, open_count}}}
 
 -- ---- each entry is changed
 
@@ -63,6 +63,36 @@ module _ (n i : ℕ) (before es : List Entry) (taken : List Bool) (x : Entry) (s
     size = length-set taken i (is_marked (finishing x)) ∙ so.size;
     holds = λ j e few found. holds_at j e few found (nat_lt j n) refl;
   }
+
+-- no entry is marked that wasn't
+pub was_marked : (e : Entry) → is_marked (finishing e) ≡ true → is_marked e ≡ true
+was_marked e is = go e.live e.captured e.written (e.durable || e.chained) is
+  where
+    go : (l c w rest : Bool) → (l || (false || (false || (c || w)))) ≡ true → (l || (c || (w || rest))) ≡ true
+    go true c w rest is = refl
+    go false true w rest is = refl
+    go false false true rest is = refl
+    go false false false rest is = absurd (cc)
+
+-- an address stays taken where its entry is marked when both are replaced
+pub marked_set : (es : List Entry) (taken : List Bool) (i : ℕ) (x y : Entry) → slice_get es i ≡ Some x → AreMarked es taken → AreMarked (set es i y) (set taken i (is_marked y))
+marked_set es taken i x y at each j e found = go (j == i) refl
+  where
+    go : (b : Bool) → (j == i) ≡ b → slice_get (set taken i (is_marked y)) j ≡ Some (is_marked e)
+    go true same =
+        let index : j ≡ i = eqb-true j i same in
+        let entry : Some y ≡ Some e = sym (get_set_same es i x y at) ∙ ap (λ (k : ℕ). slice_get (set es i y) k) (sym index) ∙ found in
+        let is : y ≡ e = cc in
+        ap (λ (k : ℕ). slice_get (set taken i (is_marked y)) k) index ∙ get_set_same taken i (is_marked x) (is_marked y) (each i x at) ∙ ap (λ (z : Entry). Some (is_marked z)) is
+    go false same =
+        let apart : j ≡ i → ⊥ = eqb-false j i same in
+        get_set_other taken i j (is_marked y) apart ∙ each j e (sym (get_set_other es i j y apart) ∙ found)
+
+-- what a finished entry does to the free set
+pub still_taken : (taken : List Bool) (i : ℕ) (e : Entry) → slice_get taken i ≡ Some (is_marked e) → is_marked (finishing e) ≡ true → taken ≡ set taken i (is_marked (finishing e))
+still_taken taken i e at is =
+    let same : is_marked e ≡ is_marked (finishing e) = was_marked e is ∙ sym is in
+    sym (set_back taken i (is_marked (finishing e)) (at ∙ ap Some same))
 
 -- ---- the least addresses are taken
 

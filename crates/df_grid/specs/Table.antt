@@ -126,6 +126,10 @@ capturing e = record e { captured = e.live }
 abbrev pub finishing : Entry → Entry
 finishing e = record e { captured = false; written = false; durable = e.captured; chained = e.written }
 
+-- an address is taken where its entry is marked
+abbrev pub AreMarked : List Entry → List Bool → Type 0
+AreMarked es taken = (i : ℕ) (e : Entry) → slice_get es i ≡ Some e → slice_get taken i ≡ Some (is_marked e)
+
 -- the first entries are finished, and their addresses are taken where they are marked
 pub record AreFinished (n : ℕ) (before es : List Entry) (taken : List Bool) : Type 0 where
   pub entries : es ≡ map finishing (take n before) ++ drop n before

@@ -1,6 +1,6 @@
 // How entries and the free set change together: one address, all of them for a capture or its end, and the least free ones.
 ghost use Rattle.std.specs.Prelude.{◌≡◌, ◌-◌, ◌≤◌, length, map, slice_get, slice_set, Some};
-ghost use Rattle.df_grid.specs.{Below.{count_free}, declared.entry.Entry.{Entry as AnyEntry}, Entries.{HasEntry, is_marked}, Table.{AreFinished, AreTaken, capturing, finishing}};
+ghost use Rattle.df_grid.specs.{Below.{count_free}, declared.entry.Entry.{Entry as AnyEntry}, Entries.{HasEntry, is_marked}, Table.{AreFinished, AreMarked, AreTaken, capturing, finishing}};
 
 use crate::entry::{Entries, Entry, is_marked};
 use arrayvec::ArrayVec;
@@ -32,19 +32,6 @@ fn capturing(entry: &Entry) -> Entry
     }
 }
 
-/// An entry after the running checkpoint became the durable one.
-fn finishing(entry: &Entry) -> Entry
-    ensures { result ≡ finishing entry.now }
-{
-    Entry {
-        captured: false,
-        written: false,
-        durable: entry.captured,
-        chained: entry.written,
-        ..*entry
-    }
-}
-
 /// Each live block is captured, and no other one.
 pub(crate) fn capture_all(entries: &mut Entries)
     ensures { entries.new ≡ map capturing entries.old }
@@ -55,20 +42,25 @@ pub(crate) fn capture_all(entries: &mut Entries)
     }
 }
 
-// An address is what the end of the running checkpoint makes of it.
+// An address is what the end of the running checkpoint makes of it. No entry is marked then that wasn't before, so one that still is
+// stays taken.
 fn finish_one(entries: &mut Entries, free: &mut FreeSet, address: u64)
     requires inside { HasEntry entries.old address }
     requires size { length free.old ≡ length entries.old }
+    requires taken { AreMarked entries.old free.old }
     ensures entries { (e : AnyEntry) → slice_get entries.old (address - 1) ≡ Some e → entries.new ≡ slice_set entries.old (address - 1) (finishing e) }
     ensures free { (e : AnyEntry) → slice_get entries.old (address - 1) ≡ Some e → free.new ≡ slice_set free.old (address - 1) (is_marked (finishing e)) }
 {
-    let entry = finishing(&entries.get(address));
-    replace(entries, free, address, &entry);
+    if !entries.finish(address) {
+        free.give(address);
+    }
 }
 
-/// What the running checkpoint holds the durable one does, and nothing else; addresses that no reason is left for are free.
+/// What the running checkpoint holds the durable one does, and nothing else; addresses that no reason is left for are free. Before,
+/// the addresses with a reason are taken.
 pub(crate) fn finish_all(entries: &mut Entries, free: &mut FreeSet)
-    requires { length free.old ≡ length entries.old }
+    requires size { length free.old ≡ length entries.old }
+    requires taken { AreMarked entries.old free.old }
     ensures { AreFinished (length entries.old) entries.old entries.new free.new }
 {
     for place in 0..entries.len() {

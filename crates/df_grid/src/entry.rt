@@ -1,6 +1,6 @@
 // What is known of the block at each address: kept as a checksum and a byte of marks, looked up, and counted.
-ghost use Rattle.std.specs.{Prelude.{◌≡◌, ◌-◌, ◌≤◌, List, Some, length, nat_lt, slice_get, slice_set}, List.{filter}};
-ghost use Rattle.df_grid.specs.{Entries.{HasEntry, entries_of, is_marked}, Table.{AreCounts, entry_at, is_held_for, pair_in, picked}};
+ghost use Rattle.std.specs.{Prelude.{◌≡◌, ◌-◌, ◌≤◌, ◌==◌, ℕ, List, Some, not, length, nat_lt, slice_get, slice_set}, List.{filter}};
+ghost use Rattle.df_grid.specs.{declared.entry.Entry.{Entry as AnyEntry}, Entries.{HasEntry, entries_of, entry_of, is_marked}, Table.{AreCounts, entry_at, finishing, is_held_for, pair_in, picked}};
 
 use arrayvec::ArrayVec;
 use df_base::Check;
@@ -48,6 +48,15 @@ pub(crate) fn is_held_for(entry: &Entry, reason: Reason) -> bool
         Reason::Durable => entry.durable,
         Reason::Any => is_marked(entry),
     }
+}
+
+// The mark of an entry once the running checkpoint is the durable one: what was captured is referenced, and what was written is a
+// block of the trailer.
+fn finished(mark: u8) -> u8
+    ensures entry { (checksum : List ℕ) → entry_of checksum result ≡ finishing (entry_of checksum mark) }
+    ensures held { (checksum : List ℕ) → is_marked (entry_of checksum result) ≡ not (result == 0) }
+{
+    mark % 2 + 8 * (mark / 2 % 4)
 }
 
 /// The entries of the addresses from 1 on: a mark has a bit for each reason, from the lowest on. Contracts see them as a list.
@@ -123,6 +132,19 @@ impl Entries {
             + 4 * u8::from(entry.written)
             + 8 * u8::from(entry.durable)
             + 16 * u8::from(entry.chained);
+    }
+
+    /// The running checkpoint is the durable one for an address: whether its block is still held. Its checksum stays.
+    pub(crate) fn finish(&mut self, address: u64) -> bool
+        requires { HasEntry self.old address }
+        ensures entry { (e : AnyEntry) → slice_get self.old (address - 1) ≡ Some e → self.new ≡ slice_set self.old (address - 1) (finishing e) }
+        ensures held { (e : AnyEntry) → slice_get self.old (address - 1) ≡ Some e → result ≡ is_marked (finishing e) }
+    {
+        let place = (address - 1) as usize;
+        let before = self.marks[place];
+        let mark = finished(before);
+        self.marks[place] = mark;
+        mark != 0
     }
 }
 

@@ -1,8 +1,14 @@
 -- All entries are finished.
-use Rattle.std.{proofs.{Common.{◌≡◌, List, ℕ, [], Some, length, map, ap, ◌∙◌, arith}, lemmas.List.{length-map}, lemmas.Option.{slice_get_within}}, specs.Prelude.{slice_get}}
+use Rattle.std.{proofs.{Common.{◌≡◌, List, ℕ, suc, [], Some, length, refl, map, ap, ◌∙◌, arith}, lemmas.List.{length-map}, lemmas.Option.{slice_get_within}, Math.Bool.{or-false}}, specs.Prelude.{slice_get}}
 use Rattle.df_model.specs.Blocks.{capture_finished}
 use Rattle.df_grid.{specs.{declared.entry.Entry.{Entry}, Entries.{is_marked}, Table.{IsGridTable, TableState, blocks_in, finishing}}, proofs.{Captures.{finished_blocks, finished_kept}, Groups.{none_counted}, Turns.{part_all}, Views.{viewed}}}
 use Rattle.df_grid.proofs.table.Table.finish.Goals as goal
+
+pub finish_all-requires-clause-taken : goal.finish_all-requires-clause-taken
+finish_all-requires-clause-taken c = let s = c.self.inside in
+    let left : s.left.items ≡ [] = ap (λ (v : TableState). v.blocks.left) c.self.view_is ∙ c.requires in
+    let ready : IsGridTable s.entries s.free s.written.items [] s.chain.items = rw left at c.self.invariant.0 in
+    λ i e at. ready.holds (suc i) i e refl at ∙ ap Some (or-false (is_marked e))
 
 pub invariant_of-self : goal.invariant_of-self
 invariant_of-self c = let s = c.self.inside in
