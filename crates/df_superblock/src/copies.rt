@@ -1,13 +1,13 @@
 // Reads and writes of single copies, and which of the four places is written. A copy is durable before its writer answers.
-ghost use Rattle.std.specs.Prelude.{◌≡◌, ◌<◌, [], ◌∷◌, length, IfNone, IfOk, IfSome, OnOk};
+ghost use Rattle.std.specs.Prelude.{◌≡◌, ◌<◌, ℕ, [], ◌∷◌, length, IfNone, IfOk, IfSome, OnOk};
 ghost use Rattle.df_base.specs.declared.TheConstants.{SECTOR};
-ghost use Rattle.df_superblock.specs.{Below.{HasCause, Sync, Adds, own_copy}, Blank.{AreBlank, IsFirstWrittenOf}, Calls.{ShowsSector, ShowsCopySlot, ShowsSlots, ShowsCopies, slot_of}};
+ghost use Rattle.df_superblock.specs.{Below.{HasCause, Sync, Adds, copy_bytes, own_copy}, Blank.{AreBlank, IsFirstWrittenOf}, Calls.{ShowsSector, ShowsCopySlot, ShowsSlots, ShowsCopies, slot_of}};
 ghost use Rattle.df_superblock.specs.{Events.{copy_written}, Steps.{AreStepsOfCopies, copy_write_steps}};
 
 use df_base::Failed;
 use df_buffers::{ProbeRoom, Raw, SuperSector};
 use df_disk::Disk;
-use df_format::{Super, encode_copy};
+use df_format::{Super, encode_copy, renumber_copy};
 use df_layout::{Class, Place, Zone};
 use df_quorum::Slot;
 
@@ -75,6 +75,26 @@ pub fn first_written(copies: &[Slot; 4]) -> Option<u8>
     None
 }
 
+/// Writes the copy with this number, 0 to 3, into its own place, and makes it durable. The bytes are those of a copy of the content,
+/// whatever its number, and then those of this one, so that only the first copy of an update is hashed.
+pub(crate) fn write_next<D: Disk>(
+    disk: &mut D,
+    bytes: &mut [u8],
+    content: &Super,
+    number: u8,
+) -> Result<(), Failed>
+    requires size { length bytes.old ≡ SECTOR }
+    requires copy { (before : ℕ) × (bytes.old ≡ copy_bytes before content.now) }
+    ensures events { Adds (copy_written number content.now ∷ Sync ∷ []) (D.told disk.old) (D.told disk.new) result }
+    ensures size { length bytes.new ≡ SECTOR }
+    ensures copy { bytes.new ≡ copy_bytes number content.now }
+    ensures cause { HasCause (D.faults disk.old) (D.faults disk.new) result }
+{
+    renumber_copy(number, bytes);
+    disk.write(u64::from(number), bytes)?;
+    disk.sync()
+}
+
 /// Writes the copy with this number, 0 to 3, into its own place, and makes it durable. After an error the place may show
 /// anything once the machine stops.
 pub fn write_copy<D: Disk>(
@@ -90,6 +110,5 @@ pub fn write_copy<D: Disk>(
 {
     let bytes = room.sector_mut(number).bytes_mut();
     encode_copy(content, number, bytes);
-    disk.write(u64::from(number), bytes)?;
-    disk.sync()
+    write_next(disk, bytes, content, number)
 }

@@ -5,11 +5,11 @@ ghost use Rattle.df_superblock.specs.Below.{HasCause, IsBlamed, Adds, update_ste
 ghost use Rattle.df_superblock.specs.Calls.{SlotHolds, IsCopyRead, IsFirstMissing, IsUpdateVerdict, IsJudged, IsUndamaged, AddsUpdate, UpdatesSafely, ShowsEqual, EndsEqual, KeepsMembers, RepairsUnlessMisled, EndsRepaired, class_of_written_slot, is_update_fault};
 ghost use Rattle.df_superblock.specs.{Events.{update_events, mend_events, repair_events}, Steps.{AreStepsOfCopies, repair_steps}};
 
-use crate::copies::{read_all, write_copy};
+use crate::copies::{read_all, write_copy, write_next};
 use df_base::{BlamesDisk, Failed};
 use df_buffers::ProbeRoom;
 use df_disk::Disk;
-use df_format::Super;
+use df_format::{Super, encode_copy};
 use df_layout::{Class, Place, Zone};
 use df_quorum::{Chosen, Slot, same_fields};
 
@@ -43,10 +43,12 @@ pub fn write_copies<D: Disk>(
     ensures events { Adds (update_events content.now) (D.told disk.old) (D.told disk.new) result }
     ensures cause { HasCause (D.faults disk.old) (D.faults disk.new) result }
 {
-    write_copy(disk, room, content, 0)?;
-    write_copy(disk, room, content, 1)?;
-    write_copy(disk, room, content, 2)?;
-    write_copy(disk, room, content, 3)
+    let bytes = room.sector_mut(0).bytes_mut();
+    encode_copy(content, 0, bytes);
+    write_next(disk, bytes, content, 0)?;
+    write_next(disk, bytes, content, 1)?;
+    write_next(disk, bytes, content, 2)?;
+    write_next(disk, bytes, content, 3)
 }
 
 fn class_of(slot: &Slot) -> Class
