@@ -6,6 +6,7 @@ mod command_line;
 mod ends;
 mod last;
 mod layout;
+mod outside;
 mod shared;
 mod turn;
 
@@ -15,5 +16,6 @@ pub use last::{
     end_line, ended, print_damaged, print_usage, refuse_damaged, refuse_file, refuse_line,
 };
 pub use layout::{a_name_is_of_one_layout, layout_named};
+pub use outside::Outside;
 pub use shared::Shared;
 pub use turn::{Turn, printed};
