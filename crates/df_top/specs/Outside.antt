@@ -5,7 +5,7 @@ use Rattle.df_program.specs.{One.{Faults}, Telling.{Writes}}
 use Rattle.df_program.specs.Telling as telling
 use Rattle.df_program.specs.declared.turn.Turn as turns
 use Rattle.df_top.specs.{declared.status.Status.{Status}, declared.status.Status.TheVariants.{Done, DiskFault, Memory, ReadFault, Script, Words, WriteFault}}
-pub use Rattle.df_program.specs.{One.{Faults, NoneFailed, Outside, around, counts}, Telling.{Blames}}
+pub use Rattle.df_program.specs.{One.{Faults, NoneFailed, Outside, around, back, counts, failed, seen}, Telling.{Blames}}
 
 -- each fault has its cause
 abbrev pub HasCauses : (before now : Faults) → Status → Type 0

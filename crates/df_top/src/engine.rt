@@ -6,7 +6,7 @@ ghost use Rattle.df_layout.specs.declared.layout.Layout.{Layout};
 ghost use Rattle.df_lines.specs.Room.{IsFresh, line_bound};
 ghost use Rattle.df_units.specs.Within.{AddsWithin};
 ghost use Rattle.df_top.specs.{declared.mode.Mode.{Mode}, Mode.{AsksForFile, AsksScript, IsRunnable, Means, MeansNothing, ReadsScript}, Formats.{Formats, MakesFile}, Hurting.{RunsOverHurt}};
-ghost use Rattle.df_top.specs.{Outside.{HasCauses, around, counts}, Reopening.{RunsOverHistory}, Run.{IsWithout, PrintsUsage, Runs}, Upgrading.{RunsUpgrade, UpgradesOverHurt}};
+ghost use Rattle.df_top.specs.{Outside.{HasCauses, around, back, counts, failed, seen}, Reopening.{RunsOverHistory}, Run.{IsWithout, PrintsUsage, Runs}, Upgrading.{RunsUpgrade, UpgradesOverHurt}};
 ghost use Rattle.df_top.specs.Within.{WritesOwn, WritesOwnAs};
 
 use crate::making::make_file;
@@ -19,7 +19,7 @@ use df_buffers::ProbeRoom;
 use df_disk::Disk;
 use df_layout::Layout;
 use df_lines::LineRoom;
-use df_program::{print_usage, refuse_file};
+use df_program::{Outside, print_usage, refuse_file};
 use df_session::{Rooms, probe};
 use std::alloc::Global;
 
@@ -48,27 +48,25 @@ fn reserve(alloc: Global, layout: &Layout) -> Result<Reserved, OutOfMemory>
 fn run_file<D: Disk, S: Source, W: Sink>(
     alloc: Global,
     mode: Mode,
-    source: &mut S,
-    sink: &mut W,
-    disk: &mut D,
+    outside: Outside<D, S, W>,
 ) -> Status
     requires runnable { IsRunnable mode }
-    ensures runs { Runs mode (around (D.told disk.old) (S.left source.old) (W.written sink.old)) (around (D.told disk.new) (S.left source.new) (W.written sink.new)) result }
-    ensures inspects { mode ≡ Mode.Inspect → AddsPart (Sync ∷ []) (D.told disk.old) (D.told disk.new) }
-    ensures unread { (ReadsScript mode → ⊥) → S.left source.new ≡ S.left source.old }
-    ensures causes { HasCauses (counts (D.faults disk.old) (S.faults source.old) (W.faults sink.old)) (counts (D.faults disk.new) (S.faults source.new) (W.faults sink.new)) result }
-    ensures memory { result ≡ Status.Memory → IsWithout (around (D.told disk.old) (S.left source.old) (W.written sink.old)) (around (D.told disk.new) (S.left source.new) (W.written sink.new)) }
+    ensures runs { Runs mode (seen D.told S.left W.written outside.entry) (seen D.told S.left W.written (back outside.exit)) result }
+    ensures inspects { mode ≡ Mode.Inspect → AddsPart (Sync ∷ []) (D.told outside.entry.disk.now) (D.told (back outside.exit).disk.now) }
+    ensures unread { (ReadsScript mode → ⊥) → S.left (back outside.exit).source.now ≡ S.left outside.entry.source.now }
+    ensures causes { HasCauses (failed D.faults S.faults W.faults outside.entry) (failed D.faults S.faults W.faults (back outside.exit)) result }
+    ensures memory { result ≡ Status.Memory → IsWithout (seen D.told S.left W.written outside.entry) (seen D.told S.left W.written (back outside.exit)) }
     ensures usage { result ≡ Status.Words → ⊥ }
 {
     let Ok(mut room) = ProbeRoom::reserve(alloc) else {
         return Status::Memory;
     };
-    match probe(disk, &mut room) {
+    match probe(outside.disk, &mut room) {
         Ok(layout) => match reserve(alloc, &layout) {
-            Ok(reserved) => carry_out(mode, reserved.rooms, reserved.lines, source, sink, disk),
+            Ok(reserved) => carry_out(mode, reserved.rooms, reserved.lines, outside),
             Err(_) => Status::Memory,
         },
-        Err(error) => refuse_file(sink, &error),
+        Err(error) => refuse_file(outside.sink, &error),
     }
 }
 
@@ -134,7 +132,7 @@ pub fn run<D: Disk, S: Source, W: Sink>(
         Some(mode) => match task_of(mode) {
             Task::Make { file } => make_file(alloc, disk, sink, &file.layout, file.cluster),
             Task::Upgrade => upgrade_old(alloc, sink, disk),
-            Task::Open => run_file(alloc, mode, source, sink, disk),
+            Task::Open => run_file(alloc, mode, Outside { disk, source, sink }),
         },
         None => print_usage(sink, USAGE, Status::Words),
     }

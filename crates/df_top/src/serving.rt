@@ -4,7 +4,7 @@ ghost use Rattle.df_base.specs.Log.{Sync};
 ghost use Rattle.df_disk.specs.Adds.{AddsPart};
 ghost use Rattle.df_lines.specs.Room.{IsFresh, line_bound};
 ghost use Rattle.df_top.specs.{Hurting.{ServesOverHurt}, Reopening.{ServesOverHistory}, declared.mode.Mode.{Mode}, Mode.{AsksOfFile, AsksScript, Executes, IsRunnable, Means, ReadsScript}};
-ghost use Rattle.df_top.specs.{Outside.{EndsWithFile, HasCauses, around, counts}, Run.{ServesIn}, Within.{WritesIn}};
+ghost use Rattle.df_top.specs.{Outside.{EndsWithFile, HasCauses, around, back, counts, failed, seen}, Run.{ServesIn}, Within.{WritesIn}};
 
 use crate::mode::{Mode, mode_of};
 use crate::reporting::{inspect_file, recover_file};
@@ -17,7 +17,7 @@ use df_base::{Sink, Source};
 use df_disk::Disk;
 use df_lines::LineRoom;
 use df_pace::{Beat, Pace};
-use df_program::refuse_file;
+use df_program::{Outside, refuse_file};
 use df_session::{Replica, Rooms};
 
 // Opens the file and serves the script, with this work beside it.
@@ -25,17 +25,15 @@ fn serve_file<D: Disk, S: Source, W: Sink>(
     rooms: Rooms,
     lines: LineRoom,
     pace: Pace,
-    source: &mut S,
-    sink: &mut W,
-    disk: &mut D,
+    outside: Outside<D, S, W>,
 ) -> Status
     requires lines { IsFresh (line_bound rooms.layout) lines }
     ensures serves { (mode : Mode) → Executes mode pace
-        → ServesIn mode rooms.layout (around (D.told disk.old) (S.left source.old) (W.written sink.old)) (around (D.told disk.new) (S.left source.new) (W.written sink.new)) result }
-    ensures causes { HasCauses (counts (D.faults disk.old) (S.faults source.old) (W.faults sink.old)) (counts (D.faults disk.new) (S.faults source.new) (W.faults sink.new)) result }
+        → ServesIn mode rooms.layout (seen D.told S.left W.written outside.entry) (seen D.told S.left W.written (back outside.exit)) result }
+    ensures causes { HasCauses (failed D.faults S.faults W.faults outside.entry) (failed D.faults S.faults W.faults (back outside.exit)) result }
     ensures ends { EndsWithFile result }
 {
-    match Replica::open(disk, rooms) {
+    match Replica::open(outside.disk, rooms) {
         Ok(replica) => {
             let beat = Beat::start(replica.summary().head);
             let mut session = Session {
@@ -45,9 +43,9 @@ fn serve_file<D: Disk, S: Source, W: Sink>(
                 pace,
                 beat,
             };
-            serve_script(disk, source, sink, &mut session)
+            serve_script(outside, &mut session)
         }
-        Err((_, error)) => refuse_file(sink, &error),
+        Err((_, error)) => refuse_file(outside.sink, &error),
     }
 }
 
@@ -74,22 +72,27 @@ pub(crate) fn carry_out<D: Disk, S: Source, W: Sink>(
     mode: Mode,
     rooms: Rooms,
     lines: LineRoom,
-    source: &mut S,
-    sink: &mut W,
-    disk: &mut D,
+    outside: Outside<D, S, W>,
 ) -> Status
     requires runnable { IsRunnable mode }
     requires lines { IsFresh (line_bound rooms.layout) lines }
-    ensures serves { ServesIn mode rooms.layout (around (D.told disk.old) (S.left source.old) (W.written sink.old)) (around (D.told disk.new) (S.left source.new) (W.written sink.new)) result }
-    ensures inspects { mode ≡ Mode.Inspect → AddsPart (Sync ∷ []) (D.told disk.old) (D.told disk.new) }
-    ensures unread { (ReadsScript mode → ⊥) → S.left source.new ≡ S.left source.old }
-    ensures causes { HasCauses (counts (D.faults disk.old) (S.faults source.old) (W.faults sink.old)) (counts (D.faults disk.new) (S.faults source.new) (W.faults sink.new)) result }
+    ensures serves { ServesIn mode rooms.layout (seen D.told S.left W.written outside.entry) (seen D.told S.left W.written (back outside.exit)) result }
+    ensures inspects { mode ≡ Mode.Inspect → AddsPart (Sync ∷ []) (D.told outside.entry.disk.now) (D.told (back outside.exit).disk.now) }
+    ensures unread { (ReadsScript mode → ⊥) → S.left (back outside.exit).source.now ≡ S.left outside.entry.source.now }
+    ensures causes { HasCauses (failed D.faults S.faults W.faults outside.entry) (failed D.faults S.faults W.faults (back outside.exit)) result }
     ensures ends { EndsWithFile result }
 {
     match mode {
-        Mode::Run => serve_file(rooms, lines, Pace::idle(), source, sink, disk),
-        Mode::Paced { pace } => serve_file(rooms, lines, pace, source, sink, disk),
-        _ => work_on(mode, rooms, sink, disk),
+        Mode::Run => serve_file(rooms, lines, Pace::idle(), outside),
+        Mode::Paced { pace } => serve_file(rooms, lines, pace, outside),
+        _ => {
+            let Outside {
+                disk,
+                source: _,
+                sink,
+            } = outside;
+            work_on(mode, rooms, sink, disk)
+        }
     }
 }
 
@@ -119,7 +122,7 @@ pub fn serve<D: Disk, S: Source, W: Sink>(
     ensures usage { result ≡ Status.Words → ⊥ }
 {
     match mode_of(words) {
-        Some(mode) => carry_out(mode, rooms, lines, source, sink, disk),
+        Some(mode) => carry_out(mode, rooms, lines, Outside { disk, source, sink }),
         None => unreachable!(),
     }
 }

@@ -2,7 +2,7 @@
 ghost use Rattle.std.specs.Prelude.{◌≡◌, ◌<◌, ◌≤◌, ◌^◌, length, true};
 ghost use Rattle.df_lines.specs.Grammar.{body_length, said_with};
 ghost use Rattle.df_pace.specs.Beats.{beat_after_line};
-ghost use Rattle.df_top.specs.{Lines.{command_of_line}, Outside.{Blames, around}, Pacing.{IsIdleBeat, runs}, Session.{Ended, state}, Step.{AnswersCommand, Turns}};
+ghost use Rattle.df_top.specs.{Lines.{command_of_line}, Outside.{Blames, back, seen}, Pacing.{IsIdleBeat, runs}, Session.{Ended, state}, Step.{AnswersCommand, Turns}};
 ghost use Rattle.df_top.specs.Turning.{BlamesIfEnds, IsReadySession, LeavesReader, ServesLine, TakesLine};
 
 use crate::background::work;
@@ -17,7 +17,7 @@ use df_disk::Disk;
 use df_lines::{Line, Next};
 use df_model::Command;
 use df_pace::Beat;
-use df_program::{Turn, refuse_line};
+use df_program::{Outside, Turn, refuse_line};
 
 // Makes the call that a line asks for, and prints what it answers.
 fn execute<D: Disk, W: Sink>(
@@ -80,24 +80,29 @@ fn serve_line<D: Disk, W: Sink>(
 
 // Takes the next line of the script and serves it.
 fn take_line<D: Disk, S: Source, W: Sink>(
-    disk: &mut D,
-    source: &mut S,
-    sink: &mut W,
+    outside: Outside<D, S, W>,
     session: &mut Session,
 ) -> Turn<Status>
     requires idle { IsIdleBeat session.old.beat session.old.replica }
-    requires ready { IsReadySession session.old (S.left source.old) }
+    requires ready { IsReadySession session.old (S.left outside.source.now) }
     ensures turns { Turns session.old.pace session.old.lines.reading.bound
-        (state (around (D.told disk.old) (S.left source.old) (W.written sink.old)) session.old)
-        (state (around (D.told disk.new) (S.left source.new) (W.written sink.new)) session.new) result }
-    ensures takes { TakesLine session.old session.new (S.left source.new) result }
-    ensures disk { BlamesIfEnds Status.DiskFault (D.faults disk.old) (D.faults disk.new) result }
-    ensures source { BlamesIfEnds Status.ReadFault (S.faults source.old) (S.faults source.new) result }
-    ensures sink { BlamesIfEnds Status.WriteFault (W.faults sink.old) (W.faults sink.new) result }
+        (state (seen D.told S.left W.written outside.entry) session.old)
+        (state (seen D.told S.left W.written (back outside.exit)) session.new) result }
+    ensures takes { TakesLine session.old session.new (S.left (back outside.exit).source.now) result }
+    ensures disk { BlamesIfEnds Status.DiskFault (D.faults outside.entry.disk.now) (D.faults (back outside.exit).disk.now) result }
+    ensures source { BlamesIfEnds Status.ReadFault (S.faults outside.entry.source.now) (S.faults (back outside.exit).source.now) result }
+    ensures sink { BlamesIfEnds Status.WriteFault (W.faults outside.entry.sink.now) (W.faults (back outside.exit).sink.now) result }
 {
-    match session.lines.next(source) {
-        Ok(Next::Line(line)) => serve_line(disk, sink, session, line),
-        Ok(Next::Refused) => Turn::Ends(refuse_line(sink, session.count, Status::Script)),
+    match session.lines.next(outside.source) {
+        Ok(Next::Line(line)) => {
+            let Outside {
+                disk,
+                source: _,
+                sink,
+            } = outside;
+            serve_line(disk, sink, session, line)
+        }
+        Ok(Next::Refused) => Turn::Ends(refuse_line(outside.sink, session.count, Status::Script)),
         Ok(Next::End) => Turn::Ends(Status::Done),
         Err(_) => Turn::Ends(Status::ReadFault),
     }
@@ -105,22 +110,21 @@ fn take_line<D: Disk, S: Source, W: Sink>(
 
 /// Serves a script, line by line, to its end, and does the work that is due after each.
 pub fn serve_script<D: Disk, S: Source, W: Sink>(
-    disk: &mut D,
-    source: &mut S,
-    sink: &mut W,
+    outside: Outside<D, S, W>,
     session: &mut Session,
 ) -> Status
-    requires ready { IsReadySession session.old (S.left source.old) }
+    requires ready { IsReadySession session.old (S.left outside.source.now) }
     requires idle { IsIdleBeat session.old.beat session.old.replica }
     ensures session { Ended session.old.pace session.old.lines.reading.bound
-        (state (around (D.told disk.old) (S.left source.old) (W.written sink.old)) session.old)
-        (state (around (D.told disk.new) (S.left source.new) (W.written sink.new)) session.new) result }
-    ensures disk { Blames Status.DiskFault (D.faults disk.old) (D.faults disk.new) result }
-    ensures source { Blames Status.ReadFault (S.faults source.old) (S.faults source.new) result }
-    ensures sink { Blames Status.WriteFault (W.faults sink.old) (W.faults sink.new) result }
+        (state (seen D.told S.left W.written outside.entry) session.old)
+        (state (seen D.told S.left W.written (back outside.exit)) session.new) result }
+    ensures disk { Blames Status.DiskFault (D.faults outside.entry.disk.now) (D.faults (back outside.exit).disk.now) result }
+    ensures source { Blames Status.ReadFault (S.faults outside.entry.source.now) (S.faults (back outside.exit).source.now) result }
+    ensures sink { Blames Status.WriteFault (W.faults outside.entry.sink.now) (W.faults (back outside.exit).sink.now) result }
 {
+    let Outside { disk, source, sink } = outside;
     loop {
-        match take_line(disk, source, sink, session) {
+        match take_line(Outside { disk, source, sink }, session) {
             Turn::GoesOn => {}
             Turn::Ends(status) => return status,
         }

@@ -19,7 +19,7 @@ returns-in-Open g c =
     let mine = c.in-Some.ensures.found in
     let of = opens_file mode (sym c.task_of.ensures ∙ c.in-Open.is) in
     let old : Outside = record { told = g.D.Disk.told c.args.disk.now; left = g.S.Source.left c.args.source.now; written = g.W.Sink.written c.args.sink.now } in
-    let new : Outside = record { told = g.D.Disk.told c.run_file.new.disk; left = g.S.Source.left c.run_file.new.source; written = g.W.Sink.written c.run_file.new.sink } in
+    let new : Outside = record { told = g.D.Disk.told c.run_file.new.outside.0; left = g.S.Source.left c.run_file.new.outside.1.0; written = g.W.Sink.written c.run_file.new.outside.1.1.0 } in
     record {
       usage = λ nothing. absurd (nothing mode mine);
       untouched = λ nothing. absurd (nothing mode mine);

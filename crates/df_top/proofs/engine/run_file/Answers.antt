@@ -8,11 +8,11 @@ use Rattle.df_top.proofs.engine.run_file.Goals as goal
 
 pub returns-in-Ok-reserve-clause-runs : goal.returns-in-Ok-reserve-clause-runs
 returns-in-Ok-reserve-clause-runs g c = λ t told whole.
-    let left = g.S.Source.left c.args.source.now in
-    let written = g.W.Sink.written c.args.sink.now in
-    let new : Outside = record { told = g.D.Disk.told c.carry_out.new.disk; left = g.S.Source.left c.carry_out.new.source; written = g.W.Sink.written c.carry_out.new.sink } in
+    let left = g.S.Source.left c.args.outside.source.now in
+    let written = g.W.Sink.written c.args.outside.sink.now in
+    let new : Outside = record { told = g.D.Disk.told c.carry_out.new.outside.0; left = g.S.Source.left c.carry_out.new.outside.1.0; written = g.W.Sink.written c.carry_out.new.outside.1.1.0 } in
     let layout : Layout = c.in-Ok-probe.layout in
-    let serves : ServesIn c.args.mode layout (record { told = g.D.Disk.told c.args.disk.now; left = left; written = written }) new c.carry_out.result =
+    let serves : ServesIn c.args.mode layout (record { told = g.D.Disk.told c.args.outside.disk.now; left = left; written = written }) new c.carry_out.result =
     rw c.probe.ensures.same at
     (rw c.in-Ok-reserve.ensures.layout at c.carry_out.ensures.serves) in
     inr (inr (record {

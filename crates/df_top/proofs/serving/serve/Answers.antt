@@ -12,7 +12,7 @@ carry_out-requires g c =
 pub returns-clause-serves : goal.returns-clause-serves
 returns-clause-serves g c = λ mode asks.
     let old : Outside = record { told = g.D.Disk.told c.args.disk.now; left = g.S.Source.left c.args.source.now; written = g.W.Sink.written c.args.sink.now } in
-    let new : Outside = record { told = g.D.Disk.told c.carry_out.new.disk; left = g.S.Source.left c.carry_out.new.source; written = g.W.Sink.written c.carry_out.new.sink } in
+    let new : Outside = record { told = g.D.Disk.told c.carry_out.new.outside.0; left = g.S.Source.left c.carry_out.new.outside.1.0; written = g.W.Sink.written c.carry_out.new.outside.1.1.0 } in
     subst (λ (m : Mode). ServesIn m c.args.rooms.layout old new c.carry_out.result) (one_mode (map string_bytes c.args.words.now) c.in-Some.mode mode c.in-Some.ensures.found asks) c.carry_out.ensures.serves
 
 pub returns-clause-inspects : goal.returns-clause-inspects
