@@ -6,7 +6,7 @@ use Rattle.df_program.specs.One.{Faults}
 use Rattle.df_program.specs.Telling as telling
 use Rattle.df_program.specs.declared.turn.Turn as turns
 use Rattle.df_table.specs.{declared.status.Status.{Status}, declared.status.Status.TheVariants.{DiskFault, Memory, ReadFault, Refused, Words, WriteFault}}
-pub use Rattle.df_program.specs.{One.{Faults, NoneFailed, Outside, around, counts}, Telling.{Blames}}
+pub use Rattle.df_program.specs.{One.{Faults, NoneFailed, Outside, around, back, counts, failed, seen}, Telling.{Blames}}
 
 -- each fault has its cause
 abbrev pub HasTableCauses : (before now : Faults) → Status → Type 0

@@ -2,7 +2,7 @@
 ghost use Rattle.std.specs.Prelude.{◌≡◌, ◌↔◌, ◌*◌, ◌≤◌, codes, map, string_bytes, vec_len, IfOk, IsTrue};
 ghost use Rattle.df_lines.specs.Room.{IsFresh, line_bound};
 ghost use Rattle.df_rows.specs.Limits as limits;
-ghost use Rattle.df_table.specs.{Outside.{HasTableCauses, WritesTableText, around, counts}, Run.{IsTableWord, PrintsNothing, RunsTable, table_usage}, Table.{empty_table}};
+ghost use Rattle.df_table.specs.{Outside.{HasTableCauses, WritesTableText, around, back, counts, failed, seen}, Run.{IsTableWord, PrintsNothing, RunsTable, table_usage}, Table.{empty_table}};
 
 use crate::serving::{Reserved, serve_table};
 use crate::status::Status;
@@ -11,7 +11,7 @@ use df_buffers::ProbeRoom;
 use df_disk::Disk;
 use df_layout::Layout;
 use df_lines::LineRoom;
-use df_program::{print_usage, refuse_file};
+use df_program::{Outside, print_usage, refuse_file};
 use df_rows::{ObjectTable, ROW, rows_in_block};
 use df_session::{Rooms, probe};
 use std::alloc::Global;
@@ -59,26 +59,24 @@ fn reserve(alloc: Global, layout: &Layout) -> Result<Reserved, OutOfMemory>
 // Finds the layout of the file that the disk shows, takes the memory for it, and serves its table.
 fn run_file<D: Disk, S: Source, W: Sink>(
     alloc: Global,
-    source: &mut S,
-    sink: &mut W,
-    disk: &mut D,
+    outside: Outside<D, S, W>,
 ) -> Status
-    ensures runs { RunsTable (around (D.told disk.old) (S.left source.old) (W.written sink.old)) (around (D.told disk.new) (S.left source.new) (W.written sink.new)) result }
-    ensures causes { HasTableCauses (counts (D.faults disk.old) (S.faults source.old) (W.faults sink.old)) (counts (D.faults disk.new) (S.faults source.new) (W.faults sink.new)) result }
-    ensures memory { result ≡ Status.Memory → PrintsNothing (around (D.told disk.old) (S.left source.old) (W.written sink.old))
-        (around (D.told disk.new) (S.left source.new) (W.written sink.new)) }
-    ensures unwritten { result ≡ Status.Memory → D.told disk.new ≡ D.told disk.old }
+    ensures runs { RunsTable (seen D.told S.left W.written outside.entry) (seen D.told S.left W.written (back outside.exit)) result }
+    ensures causes { HasTableCauses (failed D.faults S.faults W.faults outside.entry) (failed D.faults S.faults W.faults (back outside.exit)) result }
+    ensures memory { result ≡ Status.Memory → PrintsNothing (seen D.told S.left W.written outside.entry)
+        (seen D.told S.left W.written (back outside.exit)) }
+    ensures unwritten { result ≡ Status.Memory → D.told (back outside.exit).disk.now ≡ D.told outside.entry.disk.now }
     ensures words { result ≡ Status.Words → ⊥ }
 {
     let Ok(mut room) = ProbeRoom::reserve(alloc) else {
         return Status::Memory;
     };
-    match probe(disk, &mut room) {
+    match probe(outside.disk, &mut room) {
         Ok(layout) => match reserve(alloc, &layout) {
-            Ok(reserved) => serve_table(reserved, source, sink, disk),
+            Ok(reserved) => serve_table(reserved, outside),
             Err(_) => Status::Memory,
         },
-        Err(error) => refuse_file(sink, &error),
+        Err(error) => refuse_file(outside.sink, &error),
     }
 }
 
@@ -112,7 +110,7 @@ pub fn run_table<D: Disk, S: Source, W: Sink>(
     ensures causes { HasTableCauses (counts (D.faults disk.old) (S.faults source.old) (W.faults sink.old)) (counts (D.faults disk.new) (S.faults source.new) (W.faults sink.new)) result }
 {
     if is_table(words) {
-        run_file(alloc, source, sink, disk)
+        run_file(alloc, Outside { disk, source, sink })
     } else {
         print_usage(sink, USAGE, Status::Words)
     }

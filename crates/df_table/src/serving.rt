@@ -5,7 +5,7 @@ ghost use Rattle.df_disk.specs.Told.{Told};
 ghost use Rattle.df_lines.specs.Room.{IsFresh, line_bound};
 ghost use Rattle.df_model.specs.Work.{Work};
 ghost use Rattle.df_rows.specs.Limits as limits;
-ghost use Rattle.df_table.specs.{Outside.{EndsWithFile, HasTableCauses, around, counts}, Ready.{IsBegun}, Run.{DoesTable}, Session.{ServesOpened}, Table.{empty_table}};
+ghost use Rattle.df_table.specs.{Outside.{EndsWithFile, HasTableCauses, back, failed, seen}, Ready.{IsBegun}, Run.{DoesTable}, Session.{ServesOpened}, Table.{empty_table}};
 
 use crate::ending::tell_ending;
 use crate::opening::open_table;
@@ -16,7 +16,7 @@ use df_base::{Sink, Source};
 use df_disk::Disk;
 use df_layout::Layout;
 use df_lines::LineRoom;
-use df_program::refuse_file;
+use df_program::{Outside, refuse_file};
 use df_rows::ObjectTable;
 use df_session::{Replica, Rooms};
 
@@ -44,9 +44,7 @@ struct Opening {
 
 // Finds the table of a file that was opened, and executes the script.
 fn serve_opened<D: Disk, S: Source, W: Sink>(
-    disk: &mut D,
-    source: &mut S,
-    sink: &mut W,
+    outside: Outside<D, S, W>,
     replica: Replica,
     opening: Opening,
 ) -> Status
@@ -56,9 +54,9 @@ fn serve_opened<D: Disk, S: Source, W: Sink>(
     requires table { opening.table ≡ empty_table opening.layout }
     requires block { 64 * limits.rows_in_block opening.layout ≤ vec_len opening.block }
     ensures ends { EndsWithFile result }
-    ensures serves { (w : Work) → IsBegun opening.layout w replica → (t : Told) → D.told disk.old ≡ Some t
-        → ServesOpened opening.layout replica t (around (D.told disk.old) (S.left source.old) (W.written sink.old)) (around (D.told disk.new) (S.left source.new) (W.written sink.new)) result }
-    ensures causes { HasTableCauses (counts (D.faults disk.old) (S.faults source.old) (W.faults sink.old)) (counts (D.faults disk.new) (S.faults source.new) (W.faults sink.new)) result }
+    ensures serves { (w : Work) → IsBegun opening.layout w replica → (t : Told) → D.told outside.entry.disk.now ≡ Some t
+        → ServesOpened opening.layout replica t (seen D.told S.left W.written outside.entry) (seen D.told S.left W.written (back outside.exit)) result }
+    ensures causes { HasTableCauses (failed D.faults S.faults W.faults outside.entry) (failed D.faults S.faults W.faults (back outside.exit)) result }
 {
     let Opening {
         layout,
@@ -67,7 +65,7 @@ fn serve_opened<D: Disk, S: Source, W: Sink>(
         block,
     } = opening;
     let mut replica = replica;
-    match open_table(disk, &mut replica, table, &layout) {
+    match open_table(outside.disk, &mut replica, table, &layout) {
         Ok(table) => {
             let mut session = Session {
                 layout,
@@ -77,25 +75,23 @@ fn serve_opened<D: Disk, S: Source, W: Sink>(
                 block,
                 count: 0,
             };
-            serve_lines(disk, source, sink, &mut session)
+            serve_lines(outside, &mut session)
         }
-        Err(ending) => tell_ending(sink, ending),
+        Err(ending) => tell_ending(outside.sink, ending),
     }
 }
 
 /// Opens the file, finds its table, and executes the script.
 pub(crate) fn serve_table<D: Disk, S: Source, W: Sink>(
     reserved: Reserved,
-    source: &mut S,
-    sink: &mut W,
-    disk: &mut D,
+    outside: Outside<D, S, W>,
 ) -> Status
     requires lines { IsFresh (line_bound reserved.rooms.layout) reserved.lines }
     requires table { reserved.table ≡ empty_table reserved.rooms.layout }
     requires block { 64 * limits.rows_in_block reserved.rooms.layout ≤ vec_len reserved.block }
-    ensures serves { (t : Told) → D.told disk.old ≡ Some t → IsImage t.shown
-        → DoesTable reserved.rooms.layout t (around (D.told disk.old) (S.left source.old) (W.written sink.old)) (around (D.told disk.new) (S.left source.new) (W.written sink.new)) result }
-    ensures causes { HasTableCauses (counts (D.faults disk.old) (S.faults source.old) (W.faults sink.old)) (counts (D.faults disk.new) (S.faults source.new) (W.faults sink.new)) result }
+    ensures serves { (t : Told) → D.told outside.entry.disk.now ≡ Some t → IsImage t.shown
+        → DoesTable reserved.rooms.layout t (seen D.told S.left W.written outside.entry) (seen D.told S.left W.written (back outside.exit)) result }
+    ensures causes { HasTableCauses (failed D.faults S.faults W.faults outside.entry) (failed D.faults S.faults W.faults (back outside.exit)) result }
     ensures ends { EndsWithFile result }
 {
     let Reserved {
@@ -104,7 +100,7 @@ pub(crate) fn serve_table<D: Disk, S: Source, W: Sink>(
         lines,
         block,
     } = reserved;
-    match Replica::open(disk, rooms) {
+    match Replica::open(outside.disk, rooms) {
         Ok(replica) => {
             let layout = replica.summary().layout;
             let opening = Opening {
@@ -113,8 +109,8 @@ pub(crate) fn serve_table<D: Disk, S: Source, W: Sink>(
                 lines,
                 block,
             };
-            serve_opened(disk, source, sink, replica, opening)
+            serve_opened(outside, replica, opening)
         }
-        Err((_, error)) => refuse_file(sink, &error),
+        Err((_, error)) => refuse_file(outside.sink, &error),
     }
 }

@@ -3,7 +3,7 @@ ghost use Rattle.std.specs.Prelude.{◌≡◌, ◌<◌, ◌≤◌, ◌+◌, ℕ,
 ghost use Rattle.std.specs.FinMap as map;
 ghost use Rattle.df_rows.specs.{Answers.{refusal_of}, Lines.{done_text}, Grammar.{Count, Drop, Get, Put, said_with, value_length}};
 ghost use Rattle.df_rows.specs.declared.line.Line.TheVariants as lines;
-ghost use Rattle.df_table.specs.{Outside.{Blames, EndsWithFile, around}, Ready.{IsSteady}};
+ghost use Rattle.df_table.specs.{Outside.{Blames, EndsWithFile, back, seen}, Ready.{IsSteady}};
 ghost use Rattle.df_table.specs.Serving.{BlamesIfEnds, EndsTurn, ExecutesLine, IsReadyForNext, IsServing, OnGoing, ServingEnded, TableTurns, TellsLine, state};
 
 use crate::appending::change;
@@ -13,7 +13,7 @@ use crate::status::Status;
 use df_base::{Sink, Source};
 use df_disk::Disk;
 use df_lines::Next;
-use df_program::{Turn, printed, refuse_line};
+use df_program::{Outside, Turn, printed, refuse_line};
 use df_rows::{Answer, Command, Line, Refusal, Row, print_answer};
 
 // Puts the value that stands in the reader's buffer under a key.
@@ -124,29 +124,32 @@ fn execute<D: Disk, W: Sink>(
 
 // Takes the next line of the script and executes it.
 fn take_turn<D: Disk, S: Source, W: Sink>(
-    disk: &mut D,
-    source: &mut S,
-    sink: &mut W,
+    outside: Outside<D, S, W>,
     session: &mut Session,
 ) -> Turn<Status>
-    requires serving { IsServing session.old.layout session.old (S.left source.old) }
+    requires serving { IsServing session.old.layout session.old (S.left outside.source.now) }
     ensures turns { IsSteady session.old.layout session.old.replica session.old.table → TableTurns session.old.layout
-        (state (around (D.told disk.old) (S.left source.old) (W.written sink.old)) session.old)
-        (state (around (D.told disk.new) (S.left source.new) (W.written sink.new)) session.new) result }
+        (state (seen D.told S.left W.written outside.entry) session.old)
+        (state (seen D.told S.left W.written (back outside.exit)) session.new) result }
     ensures steady { IsSteady session.old.layout session.old.replica session.old.table → OnGoing result (IsSteady session.old.layout session.new.replica session.new.table) }
-    ensures next { OnGoing result (IsReadyForNext session.old session.new (S.left source.new)) }
+    ensures next { OnGoing result (IsReadyForNext session.old session.new (S.left (back outside.exit).source.now)) }
     ensures never { EndsTurn result }
-    ensures disk { BlamesIfEnds Status.DiskFault (D.faults disk.old) (D.faults disk.new) result }
-    ensures source { BlamesIfEnds Status.ReadFault (S.faults source.old) (S.faults source.new) result }
-    ensures sink { BlamesIfEnds Status.WriteFault (W.faults sink.old) (W.faults sink.new) result }
+    ensures disk { BlamesIfEnds Status.DiskFault (D.faults outside.entry.disk.now) (D.faults (back outside.exit).disk.now) result }
+    ensures source { BlamesIfEnds Status.ReadFault (S.faults outside.entry.source.now) (S.faults (back outside.exit).source.now) result }
+    ensures sink { BlamesIfEnds Status.WriteFault (W.faults outside.entry.sink.now) (W.faults (back outside.exit).sink.now) result }
 {
-    match session.lines.next(source) {
+    match session.lines.next(outside.source) {
         Ok(Next::Line(line)) => {
+            let Outside {
+                disk,
+                source: _,
+                sink,
+            } = outside;
             let turn = execute(disk, sink, session, line);
             session.count += 1;
             turn
         }
-        Ok(Next::Refused) => Turn::Ends(refuse_line(sink, session.count, Status::Script)),
+        Ok(Next::Refused) => Turn::Ends(refuse_line(outside.sink, session.count, Status::Script)),
         Ok(Next::End) => Turn::Ends(Status::Done),
         Err(_) => Turn::Ends(Status::ReadFault),
     }
@@ -154,21 +157,20 @@ fn take_turn<D: Disk, S: Source, W: Sink>(
 
 /// Executes a script, line by line, to its end.
 pub(crate) fn serve_lines<D: Disk, S: Source, W: Sink>(
-    disk: &mut D,
-    source: &mut S,
-    sink: &mut W,
+    outside: Outside<D, S, W>,
     session: &mut Session,
 ) -> Status
-    requires { IsServing session.old.layout session.old (S.left source.old) }
+    requires { IsServing session.old.layout session.old (S.left outside.source.now) }
     ensures ends { EndsWithFile result }
     ensures session { IsSteady session.old.layout session.old.replica session.old.table → ServingEnded session.old.layout
-        (state (around (D.told disk.old) (S.left source.old) (W.written sink.old)) session.old) (state (around (D.told disk.new) (S.left source.new) (W.written sink.new)) session.new) result }
-    ensures disk { Blames Status.DiskFault (D.faults disk.old) (D.faults disk.new) result }
-    ensures source { Blames Status.ReadFault (S.faults source.old) (S.faults source.new) result }
-    ensures sink { Blames Status.WriteFault (W.faults sink.old) (W.faults sink.new) result }
+        (state (seen D.told S.left W.written outside.entry) session.old) (state (seen D.told S.left W.written (back outside.exit)) session.new) result }
+    ensures disk { Blames Status.DiskFault (D.faults outside.entry.disk.now) (D.faults (back outside.exit).disk.now) result }
+    ensures source { Blames Status.ReadFault (S.faults outside.entry.source.now) (S.faults (back outside.exit).source.now) result }
+    ensures sink { Blames Status.WriteFault (W.faults outside.entry.sink.now) (W.faults (back outside.exit).sink.now) result }
 {
+    let Outside { disk, source, sink } = outside;
     loop {
-        match take_turn(disk, source, sink, session) {
+        match take_turn(Outside { disk, source, sink }, session) {
             Turn::Ends(status) => return status,
             Turn::GoesOn => {}
         }

@@ -10,10 +10,10 @@ use Rattle.df_table.proofs.engine.run_file.Goals as goal
 pub returns-in-Ok-reserve-clause-runs : goal.returns-in-Ok-reserve-clause-runs
 returns-in-Ok-reserve-clause-runs g c = λ t told whole.
     let layout : Layout = c.in-Ok-probe.layout in
-    let new : Outside = record { told = g.D.Disk.told c.serve_table.new.disk; left = g.S.Source.left c.serve_table.new.source; written = g.W.Sink.written c.serve_table.new.sink } in
-    let left = g.S.Source.left c.args.source.now in
-    let written = g.W.Sink.written c.args.sink.now in
-    let does : (u : Told) → g.D.Disk.told c.args.disk.now ≡ Some u → IsImage u.shown → DoesTable layout u (record { told = g.D.Disk.told c.args.disk.now; left = left; written = written }) new c.serve_table.result =
+    let new : Outside = record { told = g.D.Disk.told c.serve_table.new.outside.0; left = g.S.Source.left c.serve_table.new.outside.1.0; written = g.W.Sink.written c.serve_table.new.outside.1.1.0 } in
+    let left = g.S.Source.left c.args.outside.source.now in
+    let written = g.W.Sink.written c.args.outside.sink.now in
+    let does : (u : Told) → g.D.Disk.told c.args.outside.disk.now ≡ Some u → IsImage u.shown → DoesTable layout u (record { told = g.D.Disk.told c.args.outside.disk.now; left = left; written = written }) new c.serve_table.result =
     rw c.probe.ensures.same at
     (rw c.in-Ok-reserve.ensures.rooms at c.serve_table.ensures.serves) in
     inr (inr (record {

@@ -6,7 +6,7 @@ use Rattle.df_model.specs.declared.answers.Summary.{Summary}
 use Rattle.df_rows.specs.Limits as limits
 use Rattle.df_session.{specs.{Below.{State as Replica}, Reading.{shown_of}}, proofs.Laws.{opened_agrees, agree_self}}
 use Rattle.df_table.specs.declared.status.Status.TheVariants as status
-use Rattle.df_table.{specs.{Outside.{Blames, Outside}, Run.{DoesTable}, Table.{empty_table}}, proofs.{Refused.{not_found, refused_causes, refused_never}, Served.{begun, does}}}
+use Rattle.df_table.{specs.{Outside.{Blames, Outside, seen}, Run.{DoesTable}, Table.{empty_table}}, proofs.{Refused.{not_found, refused_causes, refused_never}, Served.{begun, does}}}
 use Rattle.df_table.proofs.serving.serve_table.Goals as goal
 
 -- ---- it is opened
@@ -25,9 +25,9 @@ serve_opened-requires g c =
 
 pub returns-in-Ok-clause-serves : goal.returns-in-Ok-clause-serves
 returns-in-Ok-clause-serves g c = λ t told whole.
-    let old : Outside = record { told = g.D.Disk.told c.args.disk.now; left = g.S.Source.left c.args.source.now; written = g.W.Sink.written c.args.sink.now } in
-    let before : Outside = record { told = g.D.Disk.told c.open.new.disk; left = g.S.Source.left c.args.source.now; written = g.W.Sink.written c.args.sink.now } in
-    let new : Outside = record { told = g.D.Disk.told c.serve_opened.new.disk; left = g.S.Source.left c.serve_opened.new.source; written = g.W.Sink.written c.serve_opened.new.sink } in
+    let old : Outside = seen g.D.Disk.told g.S.Source.left g.W.Sink.written c.args.outside in
+    let before : Outside = record { told = g.D.Disk.told c.open.new.disk; left = g.S.Source.left c.args.outside.source.now; written = g.W.Sink.written c.args.outside.sink.now } in
+    let new : Outside = record { told = g.D.Disk.told c.serve_opened.new.outside.0; left = g.S.Source.left c.serve_opened.new.outside.1.0; written = g.W.Sink.written c.serve_opened.new.outside.1.1.0 } in
     let mended = g.D.Disk.told c.open.new.disk in
     let s = c.in-Ok.replica in
     let layout = c.summary.result.layout in
@@ -49,14 +49,14 @@ returns-in-Ok-clause-causes g c = record {
 
 pub returns-in-Err-clause-causes : goal.returns-in-Err-clause-causes
 returns-in-Err-clause-causes g c =
-    refused_causes (g.D.Disk.faults c.args.disk.now) (g.D.Disk.faults c.open.new.disk) (g.S.Source.faults c.args.source.now) (g.W.Sink.faults c.args.sink.now) (g.W.Sink.faults c.refuse_file.new.sink) (g.W.Sink.written c.args.sink.now) (g.W.Sink.written c.refuse_file.new.sink)
+    refused_causes (g.D.Disk.faults c.args.outside.disk.now) (g.D.Disk.faults c.open.new.disk) (g.S.Source.faults c.args.outside.source.now) (g.W.Sink.faults c.args.outside.sink.now) (g.W.Sink.faults c.refuse_file.new.sink) (g.W.Sink.written c.args.outside.sink.now) (g.W.Sink.written c.refuse_file.new.sink)
     c.refuse_file.result Replica c.in-Err.error c.in-Err.ensures.cause c.refuse_file.ensures.prints c.refuse_file.ensures.sink
 
 pub returns-in-Err-clause-ends : goal.returns-in-Err-clause-ends
-returns-in-Err-clause-ends g c = refused_never c.in-Err.error (g.W.Sink.written c.args.sink.now) (g.W.Sink.written c.refuse_file.new.sink) c.refuse_file.result c.refuse_file.ensures.prints
+returns-in-Err-clause-ends g c = refused_never c.in-Err.error (g.W.Sink.written c.args.outside.sink.now) (g.W.Sink.written c.refuse_file.new.sink) c.refuse_file.result c.refuse_file.ensures.prints
 
 pub returns-in-Err-clause-serves : goal.returns-in-Err-clause-serves
 returns-in-Err-clause-serves g c = λ t told whole.
-    not_found c.args.reserved.rooms.layout t (record { told = g.D.Disk.told c.args.disk.now; left = g.S.Source.left c.args.source.now; written = g.W.Sink.written c.args.sink.now })
-    (record { told = g.D.Disk.told c.open.new.disk; left = g.S.Source.left c.args.source.now; written = g.W.Sink.written c.refuse_file.new.sink }) c.refuse_file.result c.in-Err.error whole told c.in-Err.ensures.answer refl c.in-Err.ensures.refused
+    not_found c.args.reserved.rooms.layout t (seen g.D.Disk.told g.S.Source.left g.W.Sink.written c.args.outside)
+    (record { told = g.D.Disk.told c.open.new.disk; left = g.S.Source.left c.args.outside.source.now; written = g.W.Sink.written c.refuse_file.new.sink }) c.refuse_file.result c.in-Err.error whole told c.in-Err.ensures.answer refl c.in-Err.ensures.refused
     (c.in-Err.ensures.stopped t told) c.refuse_file.ensures.prints
