@@ -2,7 +2,7 @@
 ghost use Rattle.std.specs.Prelude.{◌≡◌, ◌<◌, ◌≤◌, ◌^◌, length, true};
 ghost use Rattle.df_lines.specs.Grammar.{body_length, said_with};
 ghost use Rattle.df_pace.specs.Beats.{beat_after_line};
-ghost use Rattle.df_top.specs.{Lines.{command_of_line}, Outside.{Blames, back, seen}, Pacing.{IsIdleBeat, runs}, Session.{Ended, state}, Step.{AnswersCommand, Turns}};
+ghost use Rattle.df_top.specs.{Lines.{command_of_line}, Outside.{HasCauses, back, failed, seen}, Pacing.{IsIdleBeat, runs}, Session.{Ended, state}, Step.{AnswersCommand, Turns}};
 ghost use Rattle.df_top.specs.Turning.{BlamesIfEnds, IsReadySession, LeavesReader, ServesLine, TakesLine};
 
 use crate::background::work;
@@ -118,9 +118,7 @@ pub fn serve_script<D: Disk, S: Source, W: Sink>(
     ensures session { Ended session.old.pace session.old.lines.reading.bound
         (state (seen D.told S.left W.written outside.entry) session.old)
         (state (seen D.told S.left W.written (back outside.exit)) session.new) result }
-    ensures disk { Blames Status.DiskFault (D.faults outside.entry.disk.now) (D.faults (back outside.exit).disk.now) result }
-    ensures source { Blames Status.ReadFault (S.faults outside.entry.source.now) (S.faults (back outside.exit).source.now) result }
-    ensures sink { Blames Status.WriteFault (W.faults outside.entry.sink.now) (W.faults (back outside.exit).sink.now) result }
+    ensures causes { HasCauses (failed D.faults S.faults W.faults outside.entry) (failed D.faults S.faults W.faults (back outside.exit)) result }
 {
     let Outside { disk, source, sink } = outside;
     loop {

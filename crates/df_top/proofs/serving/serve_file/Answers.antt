@@ -38,9 +38,9 @@ returns-in-Err-clause-causes g c =
 
 pub returns-in-Ok-clause-causes : goal.returns-in-Ok-clause-causes
 returns-in-Ok-clause-causes g c = record {
-  disk = rw c.in-Ok.ensures.cause at c.serve_script.ensures.disk;
-  source = c.serve_script.ensures.source;
-  sink = c.serve_script.ensures.sink;
+  disk = rw c.in-Ok.ensures.cause at c.serve_script.ensures.causes.disk;
+  source = c.serve_script.ensures.causes.source;
+  sink = c.serve_script.ensures.causes.sink;
 }
 
 pub returns-in-Ok-clause-ends : goal.returns-in-Ok-clause-ends
