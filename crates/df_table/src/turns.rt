@@ -3,7 +3,7 @@ ghost use Rattle.std.specs.Prelude.{◌≡◌, ◌<◌, ◌≤◌, ◌+◌, ℕ,
 ghost use Rattle.std.specs.FinMap as map;
 ghost use Rattle.df_rows.specs.{Answers.{refusal_of}, Lines.{done_text}, Grammar.{Count, Drop, Get, Put, said_with, value_length}};
 ghost use Rattle.df_rows.specs.declared.line.Line.TheVariants as lines;
-ghost use Rattle.df_table.specs.{Outside.{Blames, EndsWithFile, back, seen}, Ready.{IsSteady}};
+ghost use Rattle.df_table.specs.{Outside.{EndsWithFile, HasTableCauses, back, failed, seen}, Ready.{IsSteady}};
 ghost use Rattle.df_table.specs.Serving.{BlamesIfEnds, EndsTurn, ExecutesLine, IsReadyForNext, IsServing, OnGoing, ServingEnded, TableTurns, TellsLine, state};
 
 use crate::appending::change;
@@ -164,9 +164,7 @@ pub(crate) fn serve_lines<D: Disk, S: Source, W: Sink>(
     ensures ends { EndsWithFile result }
     ensures session { IsSteady session.old.layout session.old.replica session.old.table → ServingEnded session.old.layout
         (state (seen D.told S.left W.written outside.entry) session.old) (state (seen D.told S.left W.written (back outside.exit)) session.new) result }
-    ensures disk { Blames Status.DiskFault (D.faults outside.entry.disk.now) (D.faults (back outside.exit).disk.now) result }
-    ensures source { Blames Status.ReadFault (S.faults outside.entry.source.now) (S.faults (back outside.exit).source.now) result }
-    ensures sink { Blames Status.WriteFault (W.faults outside.entry.sink.now) (W.faults (back outside.exit).sink.now) result }
+    ensures causes { HasTableCauses (failed D.faults S.faults W.faults outside.entry) (failed D.faults S.faults W.faults (back outside.exit)) result }
 {
     let Outside { disk, source, sink } = outside;
     loop {

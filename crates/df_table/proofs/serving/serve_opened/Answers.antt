@@ -39,9 +39,9 @@ returns-in-Ok-clause-serves g c = λ w begun t is.
 
 pub returns-in-Ok-clause-causes : goal.returns-in-Ok-clause-causes
 returns-in-Ok-clause-causes g c = record {
-  disk = rw c.in-Ok.ensures.disk at c.serve_lines.ensures.disk;
-  source = c.serve_lines.ensures.source;
-  sink = c.serve_lines.ensures.sink;
+  disk = rw c.in-Ok.ensures.disk at c.serve_lines.ensures.causes.disk;
+  source = c.serve_lines.ensures.causes.source;
+  sink = c.serve_lines.ensures.causes.sink;
 }
 
 -- ---- it isn't
