@@ -1,24 +1,17 @@
 -- The test of the target's first sectors: each shows zeros alone, or which is the first that doesn't.
-use Rattle.std.{proofs.{Common.{◌≡◌, inl, inr, ℕ, zero, suc, ◌+◌, ◌<◌, ◌≤◌, Bool, true, false, not, if◌then◌else◌, List, map, Option, Some, None, Ok, Err, refl, ◌∙◌, ap, arith}, lemmas.Bool.{cases_eq}}, specs.List.{range_with_len}}
-use Rattle.df_base.specs.{Causes.{Blamed}, Image.{Image}}
+use Rattle.std.{proofs.{Common.{◌≡◌, inl, inr, ℕ, zero, suc, ◌+◌, ◌<◌, ◌≤◌, Bool, true, false, not, if◌then◌else◌, List, map, Option, Some, None, Err, ◌∙◌, ap, arith}, lemmas.Bool.{cases_eq}}, specs.List.{range_with_len}}
+use Rattle.df_base.specs.Image.{Image}
 use Rattle.df_disk.{specs.Told.{Told}, proofs.Laws.{nothing_is_part}}
 use Rattle.df_format.specs.Copies.{is_blank_copy}
 use Rattle.df_layout.specs.declared.layout.Layout.{Layout}
-use Rattle.df_superblock.specs.Blank.{IsUnformatted}
-use Rattle.df_model.specs.{declared.errors.FormatError.{FormatError}, Faults.{is_format_fault}, Refusals.{first_refusal}}
+use Rattle.df_model.specs.{declared.errors.FormatError.{FormatError}, Refusals.{first_refusal}}
 use Rattle.df_model.specs.declared.errors.FormatError.TheVariants as formats
 use Rattle.df_opening.specs.Formatting.{IsFirstWritten, RefusesCluster, TellsBlank}
-use Rattle.df_copy.specs.{declared.ending.Ending.{Ending}, declared.ending.Ending.TheVariants.{NotBlank}, Copying.{BeginsTarget, OverTold}, Statuses.{blank_ending, is_target}, Targets.{ring_events}, Tests.{blank_tests}}
+use Rattle.df_copy.specs.{declared.ending.Ending.{Ending, TheVariants.{NotBlank}}, Copying.{BeginsTarget, OverTold}, Statuses.{blank_ending}, Targets.{ring_events}, Tests.{blank_tests}}
 
 module _ (blank : ℕ → Bool) where
   abbrev blanks : ℕ → ℕ → List (Bool × Ending)
   blanks a n = map (λ i. (not (blank i), NotBlank i)) (range_with_len a n)
-
-  none_written : (a n : ℕ) → ((i : ℕ) → a ≤ i → i < a + n → blank i ≡ true) → first_refusal (blanks a n) ≡ None
-  none_written a zero all = refl
-  none_written a (suc n) all =
-      ap (λ (b : Bool). if not b then Some (NotBlank a) else first_refusal (blanks (a + 1) n)) (all a (omega arith) (omega arith))
-      ∙ none_written (a + 1) n (λ i from below. all i (omega (arith, from)) (omega (arith, below)))
 
   first_written : (a n k : ℕ) → a ≤ k → k < a + n → ((i : ℕ) → a ≤ i → i < k → blank i ≡ true) → blank k ≡ false → first_refusal (blanks a n) ≡ Some (NotBlank k)
   first_written a zero k from inside before written = absurd (omega (arith, from, inside))
@@ -29,19 +22,12 @@ module _ (blank : ℕ → Bool) where
         ∙ first_written (a + 1) n k (omega (arith, from, other)) (omega (arith, inside)) (λ i above below. before i (omega (arith, above)) below) written
   ]
 
-all_blank : (image : Image) → IsUnformatted image → first_refusal (blank_tests image) ≡ None
-all_blank image is = none_written (λ n. is_blank_copy (image n)) 0 4 (λ i from below. is i (omega (arith, below)))
-
 one_written : (image : Image) (copy : ℕ) → IsFirstWritten image copy → first_refusal (blank_tests image) ≡ Some (NotBlank copy)
 one_written image copy is = first_written (λ n. is_blank_copy (image n)) 0 4 copy (omega arith) is.inside (λ i from below. is.before i below) is.written
 
 -- ---- what the test answers
 
 module _ (T : Type 0) (layout : Layout) (cluster : ℕ) where
-  pub tested_blank : (old : Option Told) (x : T) → TellsBlank {T = T} old (Ok x) → OverTold old (λ image. first_refusal (blank_tests image) ≡ None)
-  tested_blank None x tells = tt
-  tested_blank (Some t) x tells = all_blank t.shown tells
-
   tested_written : (old : Option Told) (copy : ℕ) → TellsBlank {T = T} old (Err (formats.NotBlank copy)) → OverTold old (λ image. first_refusal (blank_tests image) ≡ Some (NotBlank copy))
   tested_written None copy tells = tt
   tested_written (Some t) copy tells = one_written t.shown copy tells
@@ -51,13 +37,3 @@ module _ (T : Type 0) (layout : Layout) (cluster : ℕ) where
   not_begun old new (formats.NotBlank copy) of tells same = (same, tested_written old copy tells)
   not_begun old new formats.DiskFault of tells same = nothing_is_part (ring_events layout cluster) old new same
   not_begun old new formats.ClusterZero of tells same = absurd (omega (arith, of))
-
-  pub begin_blames : (before now : ℕ) (e : FormatError) → RefusesCluster {T = T} 1 (Err e) → Blamed (is_format_fault e) before now → Blamed (is_target (blank_ending e)) before now
-  begin_blames before now (formats.NotBlank copy) of blamed = blamed
-  begin_blames before now formats.DiskFault of blamed = blamed
-  begin_blames before now formats.ClusterZero of blamed = absurd (omega (arith, of))
-
-  pub never_cluster : (e : FormatError) → RefusesCluster {T = T} 1 (Err e) → e ≡ formats.ClusterZero → ⊥
-  never_cluster (formats.NotBlank copy) of is = cc
-  never_cluster formats.DiskFault of is = cc
-  never_cluster formats.ClusterZero of is = omega (arith, of)

@@ -5,9 +5,9 @@ use Rattle.df_disk.specs.Told.{Told, after}
 use Rattle.df_layout.specs.declared.layout.Layout.{Layout}
 use Rattle.df_model.specs.declared.errors.OpenError.{OpenError}
 use Rattle.df_model.specs.declared.errors.OpenError.TheVariants as opens
-use Rattle.df_opening.{specs.{Below.{TellsLayout}, Opened.{StopsOpening}, Surveying.{TellsSurvey}}, proofs.Laws.{superblock_refused}}
+use Rattle.df_opening.specs.{Opened.{StopsOpening}, Surveying.{TellsSurvey}}
 use Rattle.df_program.{specs.{Telling.{Blames, PrintsError, Writes}, Two.{Faults, HasCausesOfTwo, Outside}, Names.{NamesLayout, OneLayout}}, proofs.Laws.{first_causes, open_fault, printed_causes, refusal_ends, second_causes, text_ends}}
-use Rattle.df_copy.specs.{declared.ending.Ending.{Ending}, declared.ending.Ending.TheVariants.{BlockTooLong, Damaged, NotAtRest, NotBlank, ReplyTooLong, Source, Target, TooFewBlocks, TooFewClients}, declared.status.Status.{Status}, Run.{CopyOutcome, DoesCopy, MeansLayout, MeansNoLayout, PrintsCopy}, Statuses.{EndsWithFiles, is_fault, is_source, is_target}, Texts.{ending_text}}
+use Rattle.df_copy.specs.{declared.{ending.Ending.{Ending, TheVariants.{BlockTooLong, Damaged, NotAtRest, NotBlank, ReplyTooLong, Source, Target, TooFewBlocks, TooFewClients}}, status.Status.{Status}}, Run.{DoesCopy, MeansLayout, MeansNoLayout, PrintsCopy}, Statuses.{EndsWithFiles, is_fault, is_source, is_target}, Texts.{ending_text}}
 use Rattle.df_copy.specs.declared.status.Status.TheVariants as ends
 
 -- ---- one of the two disks, or neither
@@ -79,20 +79,6 @@ not_opened layout own t old new status e whole told answer silent barrier stops 
     second = silent;
     first = barrier other.0 ∙ ap (after Sync) told;
   })
-]
-
-pub not_probed : (layout : Layout) (t : Told) (old new : Outside) (status : Status) (e : OpenError) → old.first ≡ Some t → TellsLayout old.first (Err e) → new.first ≡ old.first → new.second ≡ old.second
-    → PrintsError ends.Refused ends.DiskFault ends.WriteFault e old.written new.written status → CopyOutcome layout t old new status
-not_probed layout t old new status e told answer same silent prints = elim (open_fault e) [
-  | inl fault ↦ inl ((λ i. record { first = same i; second = silent i; written = (prints.failing fault).1 i }), inr (prints.failing fault).0)
-  | inr other ↦ inr (inl (record {
-    error = e;
-    why = superblock_refused t e other.0 (rw told at answer);
-    other = other.0;
-    prints = prints.other other.0;
-    second = silent;
-    first = same;
-  }))
 ]
 
 -- ---- words

@@ -10,13 +10,6 @@ use Rattle.df_copy.specs.Targets.{blocks_with, grid_with, numbered}
 
 -- ---- what is known of an address
 
--- nothing of one before them
-pub numbered_before : (a k : ℕ) (us : List Message) → k < a → sum_at k (numbered a us) ≡ None
-numbered_before a k [] before = refl
-numbered_before a k (u ∷ us) before =
-    ap (λ (b : Bool). if b then Some (number_of u.header.checksum) else sum_at k (numbered (a + 1) us)) (ne_eqb a k (λ same. omega (arith, same, before)))
-    ∙ numbered_before (a + 1) k us (omega (arith, before))
-
 -- nor of one after them
 pub numbered_behind : (a k : ℕ) (us : List Message) → a + length us ≤ k → sum_at k (numbered a us) ≡ None
 numbered_behind a k [] behind = refl

@@ -166,9 +166,6 @@ module _ (layout : Layout) (s : State) (rs bs : List Message) (image : Units) (v
       let before = source.earlier k (message_of u) (read k u at) in
       subst (IsEarlier c) same (record { checkpoint = omega (arith, before.checkpoint, ap (λ (d : Content). d.sequence) source.content); boot = omega (arith, before.boot, ap (λ (d : Content). d.boot) source.content) })
 
-  same_sessions : sessions_of s.table.sessions ≡ v.checkpoint.parts.sessions
-  same_sessions = sym source.sessions
-
   -- each session has its own
   pub session_reply : (k : ℕ) (x : Session) → slice_get (sessions_of s.table.sessions) k ≡ Some x → (u : Message) × (slice_get rs k ≡ Some u) × Answers x (message_of u) × (v.stored k ≡ Some (message_of u))
   session_reply k x at =

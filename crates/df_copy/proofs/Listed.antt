@@ -1,5 +1,5 @@
 -- Lists that get one more: what is found in them, and what is written and tested of them.
-use Rattle.std.{proofs.{Common.{◌≡◌, ◌⊎◌, inl, inr, ℕ, zero, suc, ◌+◌, ◌<◌, List, [], ◌∷◌, ◌++◌, length, take, Option, Some, None, refl, sym, ◌∙◌, ap, arith, append_assoc}, lemmas.Bool.{cases_eq}, lemmas.List.{append-nil, ext_get_or, get_or-set_other, get_or-set_same, length-set}, lemmas.List.FromFn.{get_or-map-range_with_len, length-map-range_with_len}, lemmas.Option.{same_Some}}, specs.Prelude.{get_or, slice_get, slice_set}}
+use Rattle.std.{proofs.{Common.{◌≡◌, ◌⊎◌, inl, inr, ℕ, zero, suc, ◌+◌, ◌<◌, List, [], ◌∷◌, ◌++◌, length, Option, Some, None, refl, sym, ◌∙◌, ap, arith, append_assoc}, lemmas.{Bool.{cases_eq}, List.{append-nil, ext_get_or, get_or-set_other, get_or-set_same, length-set, FromFn.{get_or-map-range_with_len, length-map-range_with_len}}, Option.{same_Some}}}, specs.Prelude.{get_or, slice_get, slice_set}}
 use Rattle.df_base.{specs.Log.{Event}, proofs.Laws.{zero_plus, plus_zero, plus_suc}}
 use Rattle.df_disk.specs.Told.{Told}
 use Rattle.df_format.specs.Message.{Message}
@@ -33,12 +33,6 @@ pub push_length : {X : Type 0} (xs : List X) (y : X) (n : ℕ) → length xs ≡
 push_length [] y n is = omega (arith, is)
 push_length (x ∷ xs) y zero is = absurd (omega (arith, is))
 push_length (x ∷ xs) y (suc n) is = let rest = push_length xs y n (omega (arith, is)) in omega (arith, rest)
-
--- the items before one, and it
-pub take_more : {X : Type 0} (xs : List X) (n : ℕ) (x : X) → slice_get xs n ≡ Some x → take (n + 1) xs ≡ take n xs ++ x ∷ []
-take_more [] n x at = absurd (cc)
-take_more (y ∷ xs) zero x at = λ i. same_Some y x at i ∷ []
-take_more {X = X} (y ∷ xs) (suc n) x at = let on : suc n + 1 ≡ suc (n + 1) = omega arith in ap (λ (k : ℕ). take k (y ∷ xs)) on ∙ ap (λ (l : List X). y ∷ l) (take_more xs n x at)
 
 pub split_at : {X : Type 0} (xs ys : List X) (x : X) → slice_get (xs ++ x ∷ ys) (length xs) ≡ Some x
 split_at [] ys x = refl

@@ -65,14 +65,6 @@ module _ (sequence : ℕ) (text : List ℕ) where
   kept_layout g zero = refl
   kept_layout g (suc n) = kept_layout (grid_after_piece g sequence text) n
 
-  pub kept_cluster : (g : GridState) (n : ℕ) → (grid g n).cluster ≡ g.cluster
-  kept_cluster g zero = refl
-  kept_cluster g (suc n) = kept_cluster (grid_after_piece g sequence text) n
-
-  pub kept_boot : (g : GridState) (n : ℕ) → (grid g n).boot ≡ g.boot
-  kept_boot g zero = refl
-  kept_boot g (suc n) = kept_boot (grid_after_piece g sequence text) n
-
   pub kept_captured : (g : GridState) (n : ℕ) → (grid g n).blocks.captured ≡ g.blocks.captured
   kept_captured g zero = refl
   kept_captured g (suc n) = kept_captured (grid_after_piece g sequence text) n ∙ one_captured g.blocks (number_of (next g).header.checksum) g.blocks.left

@@ -1,5 +1,5 @@
 -- What the tests that read nothing say: none holds, or the first that does.
-use Rattle.std.{proofs.{Common.{◌≡◌, ℕ, suc, ◌+◌, ◌-◌, ◌<◌, ◌≤◌, ◌==◌, Bool, true, false, not, if◌then◌else◌, List, [], ◌∷◌, ◌++◌, length, Option, Some, None, refl, sym, ◌∙◌, ap, subst, arith}, lemmas.Bool.{eq-eqb, le-ltb, lt-ltb, ltb-false, ne_eqb, not-false}, lemmas.List.{length-map}, lemmas.Option.{none-some, same_Some}}, specs.Prelude.{nat_lt}}
+use Rattle.std.{proofs.{Common.{◌≡◌, ℕ, suc, ◌+◌, ◌-◌, ◌<◌, ◌≤◌, ◌==◌, Bool, true, false, not, if◌then◌else◌, List, [], ◌∷◌, ◌++◌, length, Option, Some, None, refl, sym, ◌∙◌, ap, subst, arith}, lemmas.{Bool.{eq-eqb, ltb-false, ne_eqb, not-false}, List.{length-map}, Option.{none-some, same_Some}}}, specs.Prelude.{nat_lt}}
 use Rattle.df_base.specs.Causes.{Blamed}
 use Rattle.df_layout.specs.declared.layout.Layout.{Layout}
 use Rattle.df_sessions.specs.Requests.{session_of}
@@ -61,9 +61,6 @@ module _ (layout : Layout) (s : State) where
   pub how_many : sessions ≡ length s.table.sessions
   how_many = length-map s.table.sessions session_of
 
-  abbrev resting : Ending
-  resting = NotAtRest s.fields.op s.head s.replies
-
   abbrev clients : ℕ → Ending
   clients n = TooFewClients n layout.clients
 
@@ -75,28 +72,6 @@ module _ (layout : Layout) (s : State) where
 
   abbrev full : Bool
   full = nat_lt layout.blocks (needed layout (memory s))
-
-  -- whether it is at rest decides, and then the others
-  by_rest : (rest : Bool) → is_at_rest (memory s) ≡ rest → first_refusal (rest_tests layout (memory s)) ≡ three (not rest) few full resting (clients sessions) blocks
-  by_rest rest is = ap (λ (b : Bool). three (not b) few full resting (clients sessions) blocks) is
-
-  by_clients : (b : Bool) → nat_lt layout.clients (length s.table.sessions) ≡ b → three false few full resting (clients sessions) blocks ≡ three false b full resting (clients (length s.table.sessions)) blocks
-  by_clients b is = ap (λ (n : ℕ). three false (nat_lt layout.clients n) full resting (clients n) blocks) how_many ∙ ap (λ (c : Bool). three false c full resting (clients (length s.table.sessions)) blocks) is
-
-  by_blocks : (b : Bool) → full ≡ b → three false false full resting (clients (length s.table.sessions)) blocks ≡ three false false b resting (clients (length s.table.sessions)) blocks
-  by_blocks b is = ap (λ (c : Bool). three false false c resting (clients (length s.table.sessions)) blocks) is
-
-  pub rest_refused : is_at_rest (memory s) ≡ false → first_refusal (rest_tests layout (memory s)) ≡ Some resting
-  rest_refused is = by_rest false is
-
-  pub clients_refused : is_at_rest (memory s) ≡ true → layout.clients < length s.table.sessions → first_refusal (rest_tests layout (memory s)) ≡ Some (clients (length s.table.sessions))
-  clients_refused rest less = by_rest true rest ∙ by_clients true (lt-ltb layout.clients (length s.table.sessions) less)
-
-  pub blocks_refused : is_at_rest (memory s) ≡ true → length s.table.sessions ≤ layout.clients → layout.blocks < needed layout (memory s) → first_refusal (rest_tests layout (memory s)) ≡ Some blocks
-  blocks_refused rest fits less = by_rest true rest ∙ by_clients false (le-ltb layout.clients (length s.table.sessions) fits) ∙ by_blocks true (lt-ltb layout.blocks (needed layout (memory s)) less)
-
-  pub none_refuses : is_at_rest (memory s) ≡ true → length s.table.sessions ≤ layout.clients → needed layout (memory s) ≤ layout.blocks → first_refusal (rest_tests layout (memory s)) ≡ None
-  none_refuses rest fits room = by_rest true rest ∙ by_clients false (le-ltb layout.clients (length s.table.sessions) fits) ∙ by_blocks false (le-ltb layout.blocks (needed layout (memory s)) room)
 
   -- ---- how long the text is
 

@@ -1,9 +1,8 @@
 -- The header ring of a copy: a reserved header in each slot, as in a new file.
-use Rattle.std.{proofs.Common.{◌≡◌, ℕ, zero, suc, ◌/◌, ◌^◌, ◌<◌, true, List, [], ◌∷◌, length, refl, arith}, specs.Prelude.{slice_get}}
+use Rattle.std.proofs.Common.{ℕ, ◌/◌, ◌^◌, ◌<◌, arith}
 use Rattle.df_layout.specs.declared.layout.Layout.{Layout}
-use Rattle.df_format.specs.declared.header.Header.{Header}
-use Rattle.df_theory.specs.{Units.{HeaderPlace, is_some}, MakingLaws.{AllReserved, all_puts}, MendLaws.{Reaches}, Device.{AreSteps}}
-use Rattle.df_units.{specs.{Format.{format_of}, Making.{header_puts, header_writes}, Puts.{header_unit}}, proofs.Laws.{headers_are_steps, all_reserved, reached}}
+use Rattle.df_theory.specs.{Units.{HeaderPlace}, MakingLaws.{AllReserved, all_puts}, MendLaws.{Reaches}, Device.{AreSteps}}
+use Rattle.df_units.{specs.{Format.{format_of}, Making.{header_puts, header_writes}}, proofs.Laws.{headers_are_steps, all_reserved, reached}}
 use Rattle.df_opening.{specs.Making.{reserved_table, sectors_in}, proofs.Laws.{how_many, ring_reserved}}
 
 -- ---- what its writes put
@@ -14,11 +13,6 @@ ring_steps layout cluster named small = headers_are_steps layout cluster 0 (sect
 
 pub ring_all_reserved : (layout : Layout) (cluster : ℕ) → 0 < cluster → cluster < 2 ^ 128 → AllReserved (header_puts 0 (sectors_in layout (reserved_table layout cluster)))
 ring_all_reserved layout cluster named small = all_reserved layout cluster 0 (sectors_in layout (reserved_table layout cluster)) (ring_reserved layout cluster named small)
-
-some_header : (headers : List Header) (i : ℕ) → i < length headers → is_some (header_unit (slice_get headers i)) ≡ true
-some_header [] i inside = absurd (omega arith)
-some_header (h ∷ hs) zero inside = refl
-some_header (h ∷ hs) (suc i) inside = some_header hs i (omega arith)
 
 -- each slot of the ring is reached
 pub ring_reaches : (layout : Layout) (cluster : ℕ) → 0 < cluster → cluster < 2 ^ 128 → (s : ℕ) → s < layout.slots → Reaches (header_puts 0 (sectors_in layout (reserved_table layout cluster))) (HeaderPlace s)

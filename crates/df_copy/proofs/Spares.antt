@@ -2,7 +2,7 @@
 use Rattle.std.proofs.{Common.{◌≡◌, ◌⊎◌, inl, inr, ℕ, ◌+◌, ◌*◌, ◌<◌, ◌≤◌, ◌||◌, Bool, false, List, [], ◌∷◌, ◌++◌, Option, Some, refl, sym, ◌∙◌, ap, subst, arith, append_assoc, append-nil}, lemmas.Bool.{and_left, lt-leb}}
 use Rattle.df_base.{specs.{Image.{covers}, Log.{Event, Log, Stop, Sync, Write, add, loose, now}, Moments.{Passed, adds}}, proofs.Laws.{goes_on, stands, written_else}}
 use Rattle.df_disk.{specs.{Told.{Told, after}, Adds.{AddsPart, after_all}}, proofs.Laws.{after_append}}
-use Rattle.df_layout.{specs.{declared.layout.Layout.{Layout}, declared.places.Zone.TheVariants.{ClientReplies, Grid, WalHeaders}, Spans.{span_of}, Zones.{first_sector, zone_sectors}}, proofs.Laws.{zones_follow}}
+use Rattle.df_layout.{specs.{declared.{layout.Layout.{Layout}, places.Zone.TheVariants.{ClientReplies, Grid}}, Spans.{span_of}, Zones.{first_sector, zone_sectors}}, proofs.Laws.{zones_follow}}
 use Rattle.df_format.{specs.{declared.header.Header.{Header}, Message.{Message}, Own.{place_in}, Super.{copy_bytes}}, proofs.Laws.{slot_from}}
 use Rattle.df_units.specs.Making.{header_writes}
 use Rattle.df_superblock.specs.Events.{copy_written}
@@ -30,10 +30,6 @@ spare_each events each [] = tt
 spare_each events each (u ∷ us) = spare_join (events u) (all_events events us) (each u) (spare_each events each us)
 
 -- ---- the zones of a copy
-
-ring_from : (layout : Layout) → 4 ≤ first_sector layout WalHeaders
-unfolding first_sector zone_sectors
-ring_from layout = omega arith
 
 replies_from : (layout : Layout) → 4 ≤ first_sector layout ClientReplies
 unfolding first_sector zone_sectors

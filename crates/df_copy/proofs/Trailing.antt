@@ -8,22 +8,9 @@ use Rattle.df_trailer.specs.{Spelling.{spell}, Writing.{captured_parts, piece_of
 use Rattle.df_checkpoint.specs.{declared.capture.Capture.{Capture}, Writing.{unit_in}}
 use Rattle.df_grid.specs.{Grid.{GridState, free_addresses, with_blocks}, Table.{last_trailer_block, next_written}, Writes.{made_events, next_unit}}
 use Rattle.df_opening.specs.Below.{State, memory}
-use Rattle.df_copy.{specs.{declared.target.Target.{Target}, Acts.{IsTrailerWritten}, Targets.{IsTarget, begun_grid, grid_behind, grid_with, last_message as last_block, next_piece, pieces_from, reference_pair, sequence_of, trailer_of}, Tests.{needed, references, trailer_blocks}, Trailers.{text_in}, Units.{all_events, moved_from}}, proofs.{Frees.{free_behind, next_free}, Listed.{moved_length}, Piecewise.{count_left, count_written, grid_more, kept_captured, kept_layout, last_written}}}
+use Rattle.df_copy.{specs.{Targets.{begun_grid, grid_behind, grid_with, last_message as last_block, next_piece, pieces_from, reference_pair, sequence_of, trailer_of}, Tests.{needed, references, trailer_blocks}, Trailers.{text_in}, Units.{all_events, moved_from}}, proofs.{Frees.{free_behind, next_free}, Listed.{moved_length}, Piecewise.{count_left, count_written, grid_more, kept_captured, kept_layout, last_written}}}
 
 -- ---- none
-
-pub no_trailer : (layout : Layout) (s : State) (us : List Message) → trailer_blocks layout (memory s) ≡ 0 → trailer_of layout s us ≡ []
-no_trailer layout s us none = ap (λ (k : ℕ). pieces_from (begun_grid (grid_with layout s.file.cluster us) s.fields.boot k) (sequence_of s) (text_of us) k) none
-  where
-    text_of : List Message → List ℕ
-    text_of vs = spell (layout_of layout) (captured_parts s.root s.table.sessions (λ a. sum_at a (grid_with layout s.file.cluster vs).blocks.live))
-
-pub none_written : (layout : Layout) (s : State) (rs bs : List Message) (t : Target) → IsTarget layout s.file.cluster rs bs t → trailer_blocks layout (memory s) ≡ 0 → IsTrailerWritten layout s rs bs t
-none_written layout s rs bs t is none = record {
-  layout_is = is.layout_is;
-  last = ap (λ (g : GridState). last_trailer_block g.blocks.left g.blocks.written) is.grid ∙ ap (λ (l : List Message). reference_pair (last_block l)) (sym (no_trailer layout s (moved_from 1 bs) none));
-  checks = is.checks;
-}
 
 -- ---- some
 

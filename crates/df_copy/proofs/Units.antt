@@ -35,13 +35,6 @@ module _ (layout own : Layout) (u : Message) (is : IsUnit own u.header.cluster (
   pub may_put_reply : 256 + length u.body ≤ layout.message_size → MayPutReply layout u.header u.body
   may_put_reply fits = record { unit = reply_unit fits; kind = kind }
 
--- what a shelf asks for, to make it
-pub reply_rules : (layout : Layout) (h : Header) (body : List ℕ) → MayPutReply layout h body → ObeysRules (for_body h body)
-reply_rules layout h body may = subst (λ (x : Header). ObeysRules x) (sym (same_for h body may.unit.body)) may.unit.sealed.rules
-
-pub reply_owned : (layout : Layout) (h : Header) (body : List ℕ) → MayPutReply layout h body → IsSome (own_place layout ClientReplies h)
-reply_owned layout h body may = subst (λ (o : Option Place). IsSome o) (sym may.unit.own) refl
-
 pub reply_same : (layout : Layout) (h : Header) (body : List ℕ) → MayPutReply layout h body → sealed (for_body h body) ≡ h
 reply_same layout h body may = made_same h body may.unit.sealed may.unit.body
 

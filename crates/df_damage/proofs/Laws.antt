@@ -16,4 +16,4 @@ pub use Rattle.df_damage.proofs.Written.{had_is_written, opened_is_written}
 pub use Rattle.df_damage.proofs.Begun.{added_is_told, begun_is_honest, honest_stays, same_goes_on, stops_alike}
 pub use Rattle.df_damage.proofs.Started.{hurt_may_begin}
 -- ---- what an open finds
-pub use Rattle.df_recovery.proofs.Laws.{asked_noted, boot_made, boot_may_record, course_on, filter_more, found_awaits, found_ends, found_staging, head_found, level_beyond, numbered_by, numbers_as, one_super, recorded_content, recorded_is_super, second_as, second_super, same_file, slot_mends_more, super_as, super_is_written, super_is_written_as, staging_none, staging_on, written_as, written_is}
+pub use Rattle.df_recovery.proofs.Laws.{asked_noted, boot_made, boot_may_record, course_on, filter_more, found_awaits, found_ends, found_staging, head_found, level_beyond, numbered_by, numbers_as, one_super, recorded_content, recorded_is_super, second_as, second_super, same_file, slot_mends_more, super_as, super_is_written_as, staging_none, staging_on, written_as}

@@ -53,9 +53,6 @@ one_more n es e at = (let same : n + 1 ≡ suc n = omega arith in ap (λ (k : �
         omega (arith, count_front x [], bit)
     go (suc n) (x ∷ es) at = omega (arith, go n es at, count_front x (take (suc n) es), count_front x (take n es))
 
-pub no_counts : (es : List Entry) → AreCounts es 0 []
-no_counts es = record { size = refl; each = λ g count at. absurd (cc) }
-
 get_more : {P : Type 0} (xs : List ℕ) (x y g : ℕ) → slice_get (xs ++ x ∷ []) g ≡ Some y → (slice_get xs g ≡ Some y → P) → (g ≡ length xs → x ≡ y → P) → P
 get_more {P} [] x y zero at old new = new refl (let same : x ≡ y = cc in same)
 get_more {P} [] x y (suc g) at old new = absurd (cc)

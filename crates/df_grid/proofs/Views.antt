@@ -82,9 +82,6 @@ entry_is es (suc i) e at =
     let index : suc i - 1 ≡ i = omega arith in
     ((omega arith, omega (arith, slice_get_within es i e at)), ap (λ (k : ℕ). slice_get es k) index ∙ at, ap suc (sym index))
 
-abbrev no_pair : Option (ℕ × ℕ)
-no_pair = None
-
 -- ---- a list that isn't empty
 
 pub first_rest : (xs : List ℕ) (a : ℕ) → a ≡ get_or xs 0 a → (xs ≡ [] → ⊥) → xs ≡ a ∷ drop 1 xs
@@ -103,10 +100,6 @@ written_inside es taken written left chain a is first =
 pub written_first : (es : List Entry) (written : List ℕ) (a i : ℕ) (e : Entry) → slice_get written 0 ≡ Some a → a ≡ suc i → slice_get es i ≡ Some e → Some (a, number_of e.checksum) ≡ slice_get (paired es written) 0
 written_first es written a i e first there at =
     ap (λ (n : ℕ). Some (a, n)) (sym (sum_there a i es e there at)) ∙ sym (ap (λ (l : List ℕ). slice_get (paired es l) 0) (first_is written a first))
-
-pub written_none : (es : List Entry) (written : List ℕ) → slice_get written 0 ≡ None → no_pair ≡ slice_get (paired es written) 0
-written_none es [] none = refl
-written_none es (x ∷ xs) none = absurd (cc)
 
 pub length_pairs : (es : List Entry) (xs : List ℕ) → length (paired es xs) ≡ length xs
 length_pairs es [] = refl

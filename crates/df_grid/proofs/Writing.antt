@@ -1,8 +1,8 @@
 -- A sound block stands at the address that its header names, and its write is the machine's put there.
-use Rattle.std.{proofs.{Common.{◌≡◌, ◌==◌, ◌↔◌, inl, inr, ℕ, ◌+◌, ◌<◌, ◌≤◌, ◌^◌, List, [], ◌∷◌, length, take, Option, Some, None, refl, sym, ap, subst, ◌∙◌, arith}, lemmas.Bool.{cases_lt, cond-true, cond-false, eq-eqb, ne_eqb}, lemmas.Bool.Decides.{nat_tests}}, specs.Prelude.{IfSome, IsSome, slice_get}}
-use Rattle.df_base.specs.{Log.{Write}, Fields.{spelled}}
-use Rattle.df_layout.specs.{declared.layout.Layout.{Layout}, declared.places.Place.{Place}, declared.places.Zone.{Zone}, declared.places.Zone.TheVariants.{Grid}, Spans.{span_of}}
-use Rattle.df_format.{specs.{declared.header.Header.{Header}, declared.kind.Kind.{Kind}, declared.kind.Kind.TheVariants.{Trailer}, declared.reference.Reference.{Reference}, Making.{for_body}, Message.{Message, sectors_end, sectors_of}, Own.{own_place, place_in}, Rules.{ObeysRules, ObeysVersion}, Spelling.{IsCheck, no_checksum}, Valid.{Belongs, IsAtAddress, IsUnit}}, proofs.Laws.{given_obeys, of_first, valid_belongs, zeros_are}}
+use Rattle.std.{proofs.{Common.{◌≡◌, ◌==◌, ◌↔◌, inl, inr, ℕ, ◌+◌, ◌<◌, ◌≤◌, ◌^◌, List, [], ◌∷◌, length, take, Option, Some, None, refl, sym, ap, subst, ◌∙◌, arith}, lemmas.Bool.{cases_lt, cond-true, cond-false, eq-eqb, ne_eqb, Decides.{nat_tests}}}, specs.Prelude.{IsSome, slice_get}}
+use Rattle.df_base.specs.Fields.{spelled}
+use Rattle.df_layout.specs.declared.{layout.Layout.{Layout}, places.{Place.{Place}, Zone.TheVariants.{Grid}}}
+use Rattle.df_format.{specs.{declared.{header.Header.{Header}, kind.Kind.{Kind, TheVariants.{Trailer}}, reference.Reference.{Reference}}, Making.{for_body}, Message.{Message, sectors_end, sectors_of}, Own.{own_place, place_in}, Rules.{ObeysRules, ObeysVersion}, Spelling.{IsCheck, no_checksum}, Valid.{IsAtAddress, IsUnit}}, proofs.Laws.{given_obeys, of_first, valid_belongs, zeros_are}}
 use Rattle.df_buffers.specs.Sounds.{Holding, IsSound}
 use Rattle.df_theory.specs.{Device.{AreSteps}, Units.{AnyUnit, BlockPlace, BlockUnit}}
 use Rattle.df_theory.specs.Units
@@ -62,12 +62,6 @@ address_is None [] same = refl
 address_is None (x ∷ xs) same = absurd (cc)
 address_is (Some r) [] same = absurd (cc)
 address_is (Some r) (x ∷ xs) same = let pair : (r.address, number_of r.checksum) ≡ x = cc in ap (λ (p : ℕ × ℕ). p.0) pair
-
-pub before_is : (before : Option Reference) (written : List (ℕ × ℕ)) → pair_in before ≡ slice_get written 0 → IfSome before (λ r. 1 ≤ r.address) → IsBefore (length written) before
-before_is None [] same some = refl
-before_is None (x ∷ xs) same some = absurd (cc)
-before_is (Some r) [] same some = absurd (cc)
-before_is (Some r) (x ∷ xs) same some = (omega arith, some)
 
 first_left : (left : List ℕ) (a : ℕ) → Some a ≡ slice_get left 0 → a ≡ first_of left
 first_left [] a is = absurd (cc)

@@ -1,9 +1,8 @@
 -- Tables of headers, and their sectors.
-use Rattle.std.{proofs.{Common.{◌≡◌, ◌⊎◌, inl, inr, ℕ, zero, suc, ◌+◌, ◌*◌, ◌<◌, List, [], ◌∷◌, length, take, drop, set, Some, refl, sym, ◌∙◌, ap, arith, length-take, length-drop}, lemmas.Bool.{cases_eq}, lemmas.List.{length-set}, lemmas.Option.{slice_get_within, same_Some}}, specs.List.{slice_get}}
+use Rattle.std.{proofs.{Common.{◌≡◌, ◌⊎◌, inl, inr, ℕ, zero, suc, ◌+◌, ◌*◌, ◌<◌, List, [], ◌∷◌, length, take, drop, set, Some, refl, sym, ◌∙◌, ap, arith, length-take, length-drop}, lemmas.{List.{length-set}, Option.{slice_get_within, same_Some}}}, specs.List.{slice_get}}
 use Rattle.df_format.specs.declared.header.Header.{Header}
-use Rattle.df_base.proofs.Laws.{get_set, get_set_other}
 use Rattle.df_units.{specs.Sample.{reserved_header}, proofs.Laws.{reserved_unit}}
-use Rattle.df_headers.specs.Ring.{IsHeader, ReservedIsTable, TableIsKept, TableIsWritten, in_sector}
+use Rattle.df_headers.specs.Ring.{ReservedIsTable, TableIsKept, TableIsWritten, in_sector}
 
 -- what is read after a place was written: the new element there, the old one elsewhere
 pub set_cases : {X : Type 0} (xs : List X) (i k : ℕ) (x y : X) → slice_get (set xs i x) k ≡ Some y → ((k ≡ i) × (y ≡ x)) ⊎ ((k ≡ i → ⊥) × (slice_get xs k ≡ Some y))
@@ -63,13 +62,6 @@ table_written layout cluster sector table is inside = record {
 }
 
 -- ---- reserved headers
-
-pub reserved_more : (cluster k : ℕ) (table : List Header) → k < length table → ((s : ℕ) → s < k → slice_get table s ≡ Some (reserved_header cluster s))
-    → (s : ℕ) → s < k + 1 → slice_get (set table k (reserved_header cluster k)) s ≡ Some (reserved_header cluster s)
-reserved_more cluster k table inside before s less = elim (cases_eq s k) [
-  | inl here ↦ ap (slice_get (set table k (reserved_header cluster k))) here ∙ get_set table k (reserved_header cluster k) inside ∙ ap (λ (n : ℕ). Some (reserved_header cluster n)) (sym here)
-  | inr elsewhere ↦ get_set_other table k s (reserved_header cluster k) elsewhere ∙ before s (omega arith)
-]
 
 pub reserved_table : ReservedIsTable
 reserved_table layout cluster table named small count are = record {

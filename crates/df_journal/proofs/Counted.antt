@@ -23,9 +23,6 @@ IsTopOf number other table k top = (n : ℕ) → (top ≤ n) ↔ SlotsWithin num
 abbrev pub IsTop : (Header → ℕ) → List SlotSeen → ℕ → ℕ → Type 0
 IsTop number table k top = IsTopOf number number table k top
 
-pub top_none : (number other : Header → ℕ) (table : List SlotSeen) → IsTopOf number other table 0 0
-top_none number other table n = (λ le s seen less at. absurd (omega arith), λ all. omega arith)
-
 pub top_more : (number other : Header → ℕ) (table : List SlotSeen) (k top a b : ℕ) (seen : SlotSeen) → slice_get table k ≡ Some seen → a ≡ number_in number seen.header → b ≡ number_in other seen.prepare
     → IsTopOf number other table k top → IsTopOf number other table (k + 1) (max (max top a) b)
 top_more number other table k top a b seen at is_a is_b is n = (to, from)
@@ -100,13 +97,6 @@ pub record CountsSlots (table : List SlotSeen) (k : ℕ) (seen : Counters) : Typ
   pub ring_op : IsTop (λ h. h.op) table k seen.ring_op
   pub checkpoint : IsTop (λ h. h.checkpoint) table k seen.checkpoint
   pub boot : IsTop (λ h. h.boot) table k seen.boot
-
-pub slots_none : (table : List SlotSeen) (seen : Counters) → seen.ring_op ≡ 0 → seen.checkpoint ≡ 0 → seen.boot ≡ 0 → CountsSlots table 0 seen
-slots_none table seen op checkpoint boot = record {
-  ring_op = subst (IsTop (λ h. h.op) table 0) (sym op) (top_none (λ h. h.op) (λ h. h.op) table);
-  checkpoint = subst (IsTop (λ h. h.checkpoint) table 0) (sym checkpoint) (top_none (λ h. h.checkpoint) (λ h. h.checkpoint) table);
-  boot = subst (IsTop (λ h. h.boot) table 0) (sym boot) (top_none (λ h. h.boot) (λ h. h.boot) table);
-}
 
 pub slots_more : (table : List SlotSeen) (k : ℕ) (seen : Counters) (slot : SlotSeen) → slice_get table k ≡ Some slot → CountsSlots table k seen → CountsSlots table (k + 1) (with_unit (with_unit seen slot.header) slot.prepare)
 slots_more table k seen slot at is = record {

@@ -1,12 +1,12 @@
 -- The device calls of a group's puts, one after the other, and of a settling after them.
-use Rattle.std.{specs.{Prelude.{Result}, List.{slice_get}}, proofs.{Common.{◌≡◌, inl, inr, ℕ, zero, suc, ◌+◌, ◌<◌, ◌≤◌, List, [], ◌∷◌, length, drop, slice_index_or, Option, Some, sym, ◌∙◌, ap, subst, arith}, lemmas.Bool.{cases_eq}, lemmas.Option.{same_Some, slice_get-get_or}}}
+use Rattle.std.{specs.{Prelude.{Result}, List.{slice_get}}, proofs.{Common.{◌≡◌, inl, inr, ℕ, zero, suc, ◌+◌, ◌<◌, List, [], ◌∷◌, length, drop, slice_index_or, Option, Some, sym, ◌∙◌, ap, subst, arith}, lemmas.{Bool.{cases_eq}, Option.{same_Some, slice_get-get_or}}}}
 use Rattle.df_base.specs.{declared.Failed.{Failed}, Log.{Event}}
 use Rattle.df_disk.{specs.{Told.{Told}, Adds.{Adds, AddsPart, after_all}}, proofs.Laws.{adds_then, part_then}}
 use Rattle.df_layout.specs.declared.layout.Layout.{Layout}
 use Rattle.df_format.specs.declared.header.Header.{Header}
 use Rattle.df_buffers.specs.Sounds.{Holding}
 use Rattle.df_prepares.specs.Slots.{prepare_put_events}
-use Rattle.df_journal.{specs.{Append.{settle_events, with_header}, Flush.{IsOwn, flush_events, group_puts, held_prepares, last_slot, sectors_of, with_headers}}, proofs.RingWrites.{LeadsAs, drop_all, drop_from, leads_more}}
+use Rattle.df_journal.{specs.{Append.{settle_events, with_header}, Flush.{IsOwn, flush_events, group_puts, held_prepares, last_slot, sectors_of, with_headers}}, proofs.RingWrites.{LeadsAs, drop_from, leads_more}}
 
 -- what an index gives stands there
 pub stands_at : (helds : List Holding) (i : ℕ) (held : Holding) → i < length helds → held ≡ slice_index_or helds i held → slice_get helds i ≡ Some held
@@ -46,13 +46,6 @@ module _ (layout : Layout) (helds : List Holding) (k : ℕ) (held : Holding) (at
   -- and so are the headers
   pub headers_turn : (old new goal : List Header) → new ≡ with_header held.unit old → with_headers (held_prepares (drop k helds)) old ≡ goal → with_headers (held_prepares (drop (k + 1) helds)) new ≡ goal
   headers_turn old new goal turn before = ap (with_headers (held_prepares (drop (k + 1) helds))) turn ∙ sym (ap (λ (hs : List Holding). with_headers (held_prepares hs) old) from_here) ∙ before
-
-pub group_end : (layout : Layout) (helds : List Holding) (k : ℕ) (all : List Event) (old mid : Option Told) → length helds ≤ k → LeadsAs all (group_puts layout (drop k helds)) old mid → mid ≡ after_all all old
-group_end layout helds k all old mid past leads =
-    ap (λ (es : List Event). after_all es mid) (sym (ap (group_puts layout) (drop_all k helds past))) ∙ leads.whole
-
-pub headers_end : (helds : List Holding) (k : ℕ) (table goal : List Header) → length helds ≤ k → with_headers (held_prepares (drop k helds)) table ≡ goal → table ≡ goal
-headers_end helds k table goal past before = sym (ap (λ (hs : List Holding). with_headers (held_prepares hs) table) (drop_all k helds past)) ∙ before
 
 -- ---- a settling after them
 

@@ -4,12 +4,12 @@ use Rattle.df_base.{specs.{declared.Failed.{Failed}, Image.{Image, IsImage, writ
 use Rattle.df_base.specs.Log
 use Rattle.df_disk.specs.{Told.{Told}, Adds.{Adds, AddsPart, after_all}}
 use Rattle.df_layout.specs.{declared.layout.Layout.{Layout}, declared.places.Zone.TheVariants.{WalHeaders, WalPrepares}}
-use Rattle.df_format.{specs.{declared.header.Header.{Header}, declared.kind.Kind.{Kind}, Message.{Message, sectors_end}, Own.{named_in_ring, place_in}, UnitLaws.{AreSixteen, headers_bytes}, Valid.{IsInSlot}, Brings.{Brings}}, proofs.Laws.{is_own, own_is, valid_belongs}}
+use Rattle.df_format.{specs.{declared.header.Header.{Header}, Message.{Message, sectors_end}, Own.{place_in}, UnitLaws.{headers_bytes}, Valid.{IsInSlot}, Brings.{Brings}}, proofs.Laws.{is_own, own_is, valid_belongs}}
 use Rattle.df_buffers.specs.Sounds.{Holding}
 use Rattle.df_theory.specs.Units
-use Rattle.df_theory.{specs.{Units.{AnyUnit, HeaderPlace, HeaderUnit, PreparePlace, PrepareUnit, or_else}, UnitLog.{put_one}, TidyLaws.{IsTidy}, Cases.{IsEmpty, Takes, decided}, Tails.{In}, Device.{AreSteps, IsGoodDisk, IsPut, units_log}, Found.{IsFound}, Holds.{Held}, Next.{appended}, Shape.{slots}, View.{Checkpoint, View, boot_of, head}}, proofs.Laws.{found_law, in_front, slot_law, decided_above}}
+use Rattle.df_theory.{specs.{Units.{AnyUnit, HeaderPlace, HeaderUnit, PreparePlace, PrepareUnit, or_else}, UnitLog.{put_one}, Cases.{IsEmpty}, Tails.{In}, Device.{AreSteps, IsGoodDisk, IsPut}, Found.{IsFound}, Holds.{Held}, Next.{appended}, Shape.{slots}, View.{Checkpoint, View, boot_of, head}}, proofs.Laws.{found_law, in_front, slot_law, decided_above}}
 use Rattle.df_units.{specs.{Append.{AppendLeadsOnDisk, append_events}, Bytes.{first_at, unit_at}, Format.{format_of, shape_of}, Meaning.{header_of, message_of}, Puts.{IsNextSector, header_unit, put_headers}}, proofs.Laws.{all_added, append_on_disk, headers_put, of_places, part_moments, prepare_put}}
-use Rattle.df_headers.{specs.Ring.{AreOfRing, IsHeader, IsHeaderTable, in_sector}, proofs.Laws.{sector_at, sector_has, set_cases, table_kept, table_written}}
+use Rattle.df_headers.{specs.Ring.{AreOfRing, IsHeader, IsHeaderTable}, proofs.Laws.{sector_at, sector_has, set_cases, table_kept, table_written}}
 use Rattle.df_prepares.specs.Slots.{IsInOwnSlot, slot_place}
 use Rattle.df_journal.specs.Append.{AppendLeaves, EndsAppended, MayAppendOn, OthersStay, ShowsRing, journal_events, journal_steps, new_sector, with_header}
 
@@ -59,9 +59,6 @@ next_sector layout u table image own is shows =
 pub header_set : (layout : Layout) (u : Message) (table : List Header) (h : Header) (new : List Header) → h ≡ u.header → new ≡ set table h.slot h → IsInOwnSlot layout u → IsHeaderTable layout u.header.cluster table → IsHeaderTable layout u.header.cluster new
 header_set layout u table h new same put own is =
     subst (IsHeaderTable layout u.header.cluster) (sym (put ∙ ap (λ (x : Header). set table x.slot x) same)) (table_kept layout u.header.cluster u.header.slot table u.header is (in_header_ring layout u own))
-
-pub sector_sealed : (layout : Layout) (u : Message) (table : List Header) → IsInOwnSlot layout u → IsHeaderTable layout u.header.cluster table → AreSixteen (in_sector (u.header.slot / 16) table)
-sector_sealed layout u table own is = (table_written layout u.header.cluster (u.header.slot / 16) table is (sector_inside layout u own)).sixteen
 
 pub append_steps : (layout : Layout) (u : Message) (table : List Header) → IsInOwnSlot layout u → IsHeaderTable layout u.header.cluster table → (bytes : List ℕ) → Brings layout u.header.cluster (place_in WalPrepares u.header.slot) u bytes
     → AreSteps (format_of layout u.header.cluster) (append_events layout u.header.slot bytes (u.header.slot / 16) (new_sector u table)) (journal_steps u table)

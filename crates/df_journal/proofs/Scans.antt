@@ -51,9 +51,6 @@ held_still layout slot told bytes some holds = record { shows = rw (same_sector 
 
 -- ---- the table
 
-pub seen_none : (layout : Layout) (cluster : ℕ) (told : Option Told) (table : List SlotSeen) → AreSeen layout cluster told 0 table
-seen_none layout cluster told table = record { seen = λ s seen less at. absurd (omega arith); valid = λ s seen less at. absurd (omega arith) }
-
 pub seen_more : (layout : Layout) (cluster : ℕ) (told : Option Told) (k : ℕ) (table new : List SlotSeen) (seen : SlotSeen) → k < length table → new ≡ set table k seen → IsSlotSeen layout cluster told k seen → IsSlot layout cluster k seen
     → AreSeen layout cluster told k table → AreSeen layout cluster told (k + 1) new
 seen_more layout cluster told k table new seen within put is valid are = record {

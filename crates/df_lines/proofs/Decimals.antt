@@ -1,5 +1,5 @@
 -- The one spelling of a number, read from its front.
-use Rattle.std.{proofs.{Common.{◌≡◌, ℕ, ◌+◌, ◌*◌, ◌/◌, ◌%◌, ◌^◌, ◌<◌, ◌≤◌, zero, suc, List, [], ◌∷◌, ◌++◌, ◌⊎◌, inl, inr, length, get_or, take, drop, refl, sym, subst, ap, ◌∙◌, append_assoc, add-one, arith}, lemmas.Str.Parse.{digit_from_value}, Math.Seq.{split_at}, lemmas.Fmt.{decimal_is_IsNumeral_wide, decimal_step_wide, decimal_by_steps_wide, decimal_digit}}, specs.{Prelude.{decimal, Option, None, Some, IfSome, IfNone, Result, Ok, Err}, Option.{SomeIff}, Result.{OkIff, result_ok}, Char.{digit_value}, Str.Parse.{AllDigits, digits_value_after}}}
+use Rattle.std.{proofs.{Common.{◌≡◌, ℕ, ◌+◌, ◌*◌, ◌/◌, ◌%◌, ◌^◌, ◌<◌, ◌≤◌, zero, suc, List, [], ◌∷◌, ◌++◌, ◌⊎◌, inl, inr, length, get_or, take, drop, refl, sym, subst, ap, ◌∙◌, append_assoc, add-one, arith}, lemmas.{Str.Parse.{digit_from_value}, Fmt.{decimal_is_IsNumeral_wide, decimal_step_wide, decimal_by_steps_wide, decimal_digit}}, Math.Seq.{split_at}}, specs.{Prelude.{decimal, Option, None, Some, IfSome, IfNone}, Option.{SomeIff}, Char.{digit_value}, Str.Parse.{AllDigits, digits_value_after}}}
 
 pub below_wide : (n : ℕ) → n < 2 ^ 128 → n < 10 ^ 64
 below_wide n fits = omega arith
@@ -78,12 +78,6 @@ some_from_iff (Some x) P v Q iff then = subst Q (sym iff.1) (then iff.0)
 pub none_from_iff : (r : Option ℕ) (P : Type 0) (v : ℕ) (Q : Type 0) → SomeIff r P v → ((P → ⊥) → Q) → IfNone r Q
 none_from_iff None P v Q iff then = then iff
 none_from_iff (Some x) P v Q iff then = tt
-
--- no number, where what was read fits no number of this size
-pub none_from_ok_iff : {E : Type 0} (o : Option ℕ) (r : Result ℕ E) (P : Type 0) (v : ℕ) (Q : Type 0) → o ≡ result_ok r → OkIff r P v → ((P → ⊥) → Q) → IfNone o Q
-none_from_ok_iff None (Ok x) P v Q is iff then = cc is
-none_from_ok_iff None (Err e) P v Q is iff then = then iff
-none_from_ok_iff (Some x) r P v Q is iff then = tt
 
 -- some digits were read, and this one is next
 pub walk : (front value i n : ℕ) (digits : List ℕ) → i < length digits → decimal front ++ take i digits ≡ decimal value → decimal front ++ digits ≡ decimal n → decimal value ++ (get_or digits i 0 ∷ drop (i + 1) digits) ≡ decimal n

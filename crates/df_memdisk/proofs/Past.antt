@@ -13,9 +13,6 @@ take_last {X} xs k d some within =
 pub events_of-push : (past : List Happened) (h : Happened) → events_of (past ++ h ∷ []) ≡ event_of h ∷ events_of past
 events_of-push past h = ap (λ (es : List Event). reverse es) (map-append event_of past (h ∷ [])) ∙ reverse-append (map event_of past) (event_of h ∷ [])
 
-pub events_of-take : (past : List Happened) (k : ℕ) (d : Happened) → 0 < k → k ≤ length past → events_of (take k past) ≡ event_of (get_or past (k - 1) d) ∷ events_of (take (k - 1) past)
-events_of-take past k d some within = ap (λ (hs : List Happened). events_of hs) (take_last past k d some within) ∙ events_of-push (take (k - 1) past) (get_or past (k - 1) d)
-
 first_some-none : (a : Option (List ℕ)) → first_some a None ≡ a
 first_some-none None = refl
 first_some-none (Some x) = refl

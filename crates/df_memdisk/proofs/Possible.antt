@@ -1,6 +1,6 @@
 -- The log of a disk in memory is one that a disk can have.
-use Rattle.std.proofs.{Common.{◌≡◌, ℕ, ◌+◌, ◌<◌, true, List, [], ◌∷◌, ◌++◌, length, take, get_or, replicate, refl, sym, ap, subst, ◌∙◌}, lemmas.List.{take_more, map-append, length-replicate}}
-use Rattle.df_base.{specs.{Image.{IsSector, blank}, Log.{Event, AreLoose, loose_of}}, proofs.Laws.{AreBytes-zeros}}
+use Rattle.std.proofs.{Common.{◌≡◌, ℕ, ◌+◌, ◌<◌, true, List, [], ◌∷◌, ◌++◌, length, take, get_or, sym, ap, subst, ◌∙◌}, lemmas.List.{take_more, map-append}}
+use Rattle.df_base.specs.{Image.{IsSector}, Log.{Event, AreLoose, loose_of}}
 use Rattle.df_memdisk.specs.{History.{changes_of}, declared.change.Change.{Change}}
 
 AreLoose-push : (es : List Event) (cs : List (ℕ × List ℕ)) (c : ℕ × List ℕ) → AreLoose es cs → loose_of es c.0 ≡ true → IsSector c.1 → AreLoose es (cs ++ c ∷ [])
@@ -14,10 +14,3 @@ AreLoose-take es changes k d within are here whole =
     let more : changes_of (take k changes ++ c ∷ []) ≡ changes_of (take k changes) ++ (c.sector, c.bytes) ∷ [] = map-append (λ (change : Change). (change.sector, change.bytes)) (take k changes) (c ∷ []) in
     let all : changes_of (take (k + 1) changes) ≡ changes_of (take k changes) ++ (c.sector, c.bytes) ∷ [] = ap (λ (cs : List Change). changes_of cs) (take_more changes k d within) ∙ more in
     subst (AreLoose es) (sym all) (AreLoose-push es (changes_of (take k changes)) (c.sector, c.bytes) are here whole)
-
-zeros_are : (n : ℕ) → n ≡ 4096 → IsSector (replicate n 0)
-zeros_are n is = record { size = length-replicate n 0 ∙ is; each = λ i. AreBytes-zeros n i }
-
-blank_is : (sector : ℕ) → IsSector (blank sector)
-unfolding blank
-blank_is sector = zeros_are 4096 refl

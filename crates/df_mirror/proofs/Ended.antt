@@ -1,14 +1,13 @@
 -- What the end of a mending says, and whom it blames.
-use Rattle.std.{proofs.Common.{◌≡◌, ◌⊎◌, ◌==◌, inl, inr, ℕ, Bool, true, false, List, Option, None, Some, refl, sym, ◌∙◌, ap, subst, arith, drop, eqb-true}, specs.Prelude.{Result, Ok, Err, OnOk, if◌then◌else◌}}
-use Rattle.df_base.specs.{Causes.{Blamed, Rose}, Image.{Image}, Log.{Sync}}
+use Rattle.std.{proofs.Common.{◌≡◌, ◌⊎◌, ◌==◌, inl, inr, ℕ, Bool, true, false, List, Option, Some, refl, sym, ◌∙◌, ap, subst, arith, drop}, specs.Prelude.{Result, Ok, Err, OnOk, if◌then◌else◌}}
+use Rattle.df_base.specs.{Image.{Image}, Log.{Sync}}
 use Rattle.df_disk.specs.Told.{Told, after, did}
 use Rattle.df_model.specs.{declared.errors.OpenError.{OpenError}, Faults.{is_open_fault}}
 use Rattle.df_model.specs.declared.errors.OpenError.TheVariants as opens
-use Rattle.df_damage.specs.{Surveys.{HasFile}, Found.{Syncs, TellsFoundAs}, Opening.{HasSuperAs}}
-use Rattle.df_format.specs.{Super.{AreNone}, SuperRules.{IsSuper, fault_of}, declared.superblock.SuperFields.{SuperFields}, declared.superblock.SuperFault.TheVariants.{Version as OtherVersion}}
-use Rattle.df_opening.proofs.Laws.{superblock_refused}
-use Rattle.df_program.{specs.{Telling.{Blames, PrintsError}, Two.{Faults, HasCausesOfTwo, Outside, counts}}, proofs.Laws.{first_causes, its_blame, neither_causes, no_blame, open_fault, printed_causes, refusal_ends, second_causes, text_ends, unopened_causes}}
-use Rattle.df_mirror.specs.{declared.ending.Ending.{Ending}, declared.ending.Ending.TheVariants.{First, Neither, Second, Sink, Unopened}, declared.status.Status.{Status}, Outside.{ended}, declared.superblock.Superblock.{Superblock}, Mends.{AnswersMending, AreInOrder}, Run.{Mirrored, MirroredNothing, Mirrors, RefusesFirstSuperblock, TellsEnd}, Statuses.{AreBlamed, is_first}, Texts.{count_text, neither_text}, Walks.{Mended, ShowsAll, content_of_superblock, superblock_units}}
+use Rattle.df_damage.specs.{Surveys.{HasFile}, Found.{Syncs}, Opening.{HasSuperAs}}
+use Rattle.df_format.specs.{Super.{AreNone}, SuperRules.{IsSuper}, declared.superblock.SuperFields.{SuperFields}}
+use Rattle.df_program.{specs.{Telling.{Blames, PrintsError}, Two.{Faults, HasCausesOfTwo, Outside, counts}}, proofs.Laws.{first_causes, its_blame, neither_causes, printed_causes, refusal_ends, second_causes, text_ends, unopened_causes}}
+use Rattle.df_mirror.specs.{declared.{ending.Ending.{Ending, TheVariants.{First, Neither, Second, Sink, Unopened}}, status.Status.{Status}, superblock.Superblock.{Superblock}}, Outside.{ended}, Mends.{AreInOrder}, Run.{Mirrored, MirroredNothing, Mirrors, RefusesFirstSuperblock, TellsEnd}, Statuses.{AreBlamed, is_first}, Texts.{count_text, neither_text}, Walks.{Mended, ShowsAll, superblock_units}}
 use Rattle.df_mirror.specs.declared.status.Status.TheVariants as ends
 
 -- no status is two of these
@@ -56,10 +55,6 @@ tells_otherwise (Err Sink) old new status tells = let is = tells.0 in (λ memory
 
 -- ---- causes
 
--- nothing failed
-pub nothing_causes : (before now : Faults) (status : Status) → now.first ≡ before.first → now.second ≡ before.second → now.sink ≡ before.sink → (status ≡ ends.DiskFault → ⊥) → (status ≡ ends.WriteFault → ⊥) → HasCausesOfTwo ends.DiskFault ends.WriteFault before now status
-nothing_causes before now status one two three disk sink = neither_causes ends.DiskFault ends.WriteFault before now status (no_blame ends.WriteFault before.sink now.sink status three sink) one two disk
-
 first_open : (e : OpenError) → is_first (Unopened e) ≡ is_open_fault e
 first_open opens.DiskFault = refl
 first_open opens.NotFormatted = refl
@@ -89,45 +84,6 @@ module _ (before now : Faults) (old new : Option (List ℕ)) (status : Status) w
       let is : status ≡ ends.WriteFault = tells.0 in
       let same : now.sink ≡ mid = failed refl in
       neither_causes ends.DiskFault ends.WriteFault before now status (its_blame ends.WriteFault before.sink now.sink status is (rw (sym same) at blamed.2.1)) blamed.0 blamed.1 (λ no. cc (is, no))
-
--- ---- the barrier
-
-synced : (T : Type 0) (old new : Option Told) (e : OpenError) → (e ≡ opens.DiskFault → ⊥) → Syncs {T = T} old new (Err e) → new ≡ after Sync old
-synced T old new opens.DiskFault other is = absurd (other refl)
-synced T old new opens.NotFormatted other is = is
-synced T old new (opens.NoQuorum a) other is = is
-synced T old new (opens.Version a) other is = is
-synced T old new (opens.BadField a b) other is = is
-synced T old new (opens.LayoutDiffers a b) other is = is
-synced T old new (opens.Damaged a b) other is = is
-synced T old new opens.BootSpent other is = is
-
-syncs_part : (T : Type 0) (old new : Option Told) (e : OpenError) → e ≡ opens.DiskFault → Syncs {T = T} old new (Err e) → (new ≡ old) ⊎ (new ≡ after Sync old)
-syncs_part T old new e fault is = subst (λ (x : OpenError). Syncs {T = T} old new (Err x)) fault is
-
--- ---- the superblock can't be used
-
-module _ (T : Type 0) (e : OpenError) (old new : Outside) (status : Status) (barrier : Syncs {T = T} old.first new.first (Err e)) (prints : PrintsError ends.Refused ends.DiskFault ends.WriteFault e old.written new.written status) where
-  pub not_found : (t : Told) → old.first ≡ Some t → TellsFoundAs 2 old.first (Err e) → MirroredNothing old new status ⊎ RefusesFirstSuperblock t old new status
-  not_found t told answer = elim (open_fault e) [
-    | inl fault ↦ inl (record { undone = record { written = (prints.failing fault).1; told = syncs_part T old.first new.first e fault barrier }; why = inr (prints.failing fault).0 })
-    | inr other ↦ inr (record {
-      error = e;
-      is = superblock_refused t e other.0 (rw told at answer);
-      prints = prints.other other.0;
-      barrier = synced T old.first new.first e other.0 barrier ∙ ap (after Sync) told;
-    })
-  ]
-
--- ---- it can
-
--- a survey for version 2 finds no other one
-of_version : (t : Bool) (f : SuperFields) → (f.version == 2) ≡ t → (if t then fault_of f else Some (OtherVersion f.version)) ≡ None → f.version ≡ 2
-of_version true f test usable = eqb-true f.version 2 test
-of_version false f test usable = absurd (let no : Some (OtherVersion f.version) ≡ None = usable in cc)
-
-pub version_found : (image : Image) (f : SuperFields) → HasSuperAs 2 image f → f.version ≡ 2
-version_found image f super = of_version (f.version == 2) f refl super.usable
 
 -- a superblock of version 2 has no checksum where its file can have no session
 pub second_spare : (f : SuperFields) → IsSuper f → f.version ≡ 2 → AreNone (drop f.clients f.reply_checksums)

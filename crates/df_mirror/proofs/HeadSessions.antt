@@ -9,7 +9,7 @@ use Rattle.df_theory.{specs.{Opens.{AreKnown}, Sessions.{noted}, Units.{Header, 
 use Rattle.df_theory.specs.Sessions as theory
 use Rattle.df_theory.specs.Units as units
 use Rattle.df_units.specs.Meaning.{header_of}
-use Rattle.df_mirror.{specs.{declared.superblock.Superblock.{Superblock}, Walks.{HasLater, IsLater, content_of_superblock}}, proofs.{Named.{pin_is}, RingSeen.{prepare_seen, prepare_shown}}}
+use Rattle.df_mirror.{specs.{declared.superblock.Superblock.{Superblock}, Walks.{HasLater, IsLater, content_of_superblock}}, proofs.{Named.{pin_is}, RingSeen.{prepare_seen}}}
 
 -- a known client takes no further place
 known_length : (h : Header) (xs : List Session) (k : ℕ) (d : Session) → k < length xs → has_client h.client (get_or xs k d) ≡ true → length (noted h (sessions_of xs)) ≡ length xs
@@ -175,11 +175,6 @@ noted_all b slots start now i end has image named tells known count =
 -- ---- a later prepare of a client
 
 module _ (b : Superblock) (slots : Scan) (slot client : ℕ) (image : Units) (tells : TellsRings b.file.layout image slots) where
-  pub later_shown : (h : file.Header) → slot < length slots.slots → header_of_seen (entry slots slot).prepare ≡ Some h → h.boot ≡ b.content.boot → b.content.head < h.op → h.client ≡ client → HasLater b image client
-  later_shown h within is boot above of =
-      let it = prepare_shown b.file.layout image slots slot tells h within is in
-      (slot, it.0, it.1, record { boot = ap (λ (x : Header). x.boot) it.2 ∙ boot; above = rw it.2 (omega (arith, pin_is b, above)); of_client = ap (λ (x : Header). x.client) it.2 ∙ of })
-
   pub later_seen : (p : Message) → image (PreparePlace slot) ≡ Some (PrepareUnit p) → IsLater b client p → (h : file.Header) × (header_of_seen (entry slots slot).prepare ≡ Some h) × (h.boot ≡ b.content.boot) × (b.content.head < h.op) × (h.client ≡ client)
   later_seen p shown later =
       let it = prepare_seen b.file.layout image slots slot tells p shown in

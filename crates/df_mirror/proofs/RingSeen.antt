@@ -9,10 +9,6 @@ use Rattle.df_places.specs.Units.{IsThere}
 use Rattle.df_theory.specs.Units.{AnyUnit, Message, PreparePlace, PrepareUnit, Units}
 use Rattle.df_units.specs.Meaning.{header_of}
 
-in_ring : (x : Option AnyUnit) (r : Result Header Class) (h : Header) → ShowsPrepare x r → header_of_seen r ≡ Some h → (p : Message) × (x ≡ Some (PrepareUnit p)) × (p.header ≡ header_of h)
-in_ring x (Ok g) h shows seen = let same : g ≡ h = cc in (shows.0, shows.1, shows.2 ∙ ap header_of same)
-in_ring x (Err class) h shows seen = absurd (cc)
-
 of_ring : (x : Option AnyUnit) (r : Result Header Class) (p : Message) → ShowsPrepare x r → x ≡ Some (PrepareUnit p) → (h : Header) × (header_of_seen r ≡ Some h) × (p.header ≡ header_of h)
 of_ring x (Ok g) p shows is =
     let both : Some (PrepareUnit shows.0) ≡ Some (PrepareUnit p) = sym shows.1 ∙ is in
@@ -25,12 +21,6 @@ at_slot : (slots : List SlotSeen) (s : ℕ) → s < length slots → (seen : Slo
 at_slot slots s within = (get_or slots s (or_blank None), slice_get-get_or slots s (or_blank None) within)
 
 module _ (layout : Layout) (image : Units) (scan : Scan) (s : ℕ) (tells : TellsRings layout image scan) where
-  -- what is seen is shown
-  pub prepare_shown : (h : Header) → s < length scan.slots → header_of_seen (entry scan s).prepare ≡ Some h → (p : Message) × (image (PreparePlace s) ≡ Some (PrepareUnit p)) × (p.header ≡ header_of h)
-  prepare_shown h within seen =
-      let at = at_slot scan.slots s within in
-      in_ring (image (PreparePlace s)) at.0.prepare h (tells.shows.each s at.0 at.1).prepare (rw at.1 at seen)
-
   -- and what is shown is seen
   pub prepare_seen : (p : Message) → image (PreparePlace s) ≡ Some (PrepareUnit p) → (h : Header) × (header_of_seen (entry scan s).prepare ≡ Some h) × (p.header ≡ header_of h)
   prepare_seen p is = elim (cases_lt s (length scan.slots)) [

@@ -5,17 +5,17 @@ use Rattle.df_disk.specs.Told.{Told}
 use Rattle.df_layout.specs.{declared.fields.Field.TheVariants.{Pending}, declared.layout.Layout.{Layout}}
 use Rattle.df_format.specs.{declared.kind.Kind.TheVariants.{Trailer}, SuperRules.{IsSuper}, declared.superblock.SuperFields.{SuperFields}}
 use Rattle.df_model.{specs.{Blocks.{Blocks, addresses, entries, sum_at}, declared.errors.OpenError.TheVariants.{BadField}}, proofs.Laws.{entry_at, entry_in}}
-use Rattle.df_theory.{specs.{Sessions.{Has}, Shape.{Shape}, Trailer.{no_parts, text_of}, Units.{BlockPlace, Parts, Units}}, proofs.Laws.{text_bytes}}
+use Rattle.df_theory.{specs.{Shape.{Shape}, Trailer.{no_parts, text_of}, Units.{BlockPlace, Parts, Units}}, proofs.Laws.{text_bytes}}
 use Rattle.df_theory.specs.Units as model
 use Rattle.df_units.{specs.Meaning.{layout_of}, proofs.Laws.{of_places}}
 use Rattle.df_sessions.specs.{declared.session.Session.{Session}, Requests.{sessions_of}}
 use Rattle.df_trailer.{specs.{Reading.{HasRead}, Rooms.{AreParts}, Sessions.{AreReadSessions}, Text.{parse_of, parts_of}, declared.reader.Reader.{Reader}}, proofs.Laws.{text_read}}
 use Rattle.df_trailer.specs.declared.parts.Parts as rooms
 use Rattle.df_grid.specs.{Grid.{GridState}, Reads.{shown_of}, Table.{no_blocks}}
-use Rattle.df_checkpoint.{specs.{Chain.{OfTold, error_of, is_trailer_fault}, Reads.{ChainAnswer, IsAdopted, IsCompleteReader}, Waiting.{IsPendingReply}, declared.fault.TrailerFault.{TrailerFault}}, proofs.Laws.{complete_gives, its_text, some_chain, sessions_back, has_is, has_not}}
+use Rattle.df_checkpoint.{specs.{Chain.{OfTold, error_of}, Reads.{ChainAnswer, IsAdopted, IsCompleteReader}, Waiting.{IsPendingReply}, declared.fault.TrailerFault.{TrailerFault}}, proofs.Laws.{complete_gives, its_text, some_chain, sessions_back, has_is, has_not}}
 use Rattle.df_checkpoint.specs.declared.fault.TrailerFault.TheVariants as trailer
 use Rattle.df_opening.specs.Below.{shape}
-use Rattle.df_mirror.{specs.{declared.ending.Ending.TheVariants.{Unopened}, declared.superblock.Superblock.{Superblock}, Known.{AreShown}, Refusals.{RefusesFirstTrailer}, Statuses.{is_first}, Walks.{HasTrailerText, ReadsChainText, content_of_superblock, superblock_units}}, proofs.{Chains.{asked_shown, block_shown}, Counts.{reference}}}
+use Rattle.df_mirror.{specs.{declared.{ending.Ending.TheVariants.{Unopened}, superblock.Superblock.{Superblock}}, Known.{AreShown}, Refusals.{RefusesFirstTrailer}, Walks.{HasTrailerText, ReadsChainText, content_of_superblock, superblock_units}}, proofs.{Chains.{asked_shown, block_shown}, Counts.{reference}}}
 
 -- a grid of the file in which no address is held
 abbrev pub empty_grid : Superblock → GridState
@@ -88,12 +88,6 @@ chain_refused b image g reader (trailer.BadField field value) named shown other 
 chain_refused b image g reader (trailer.BadField field value) named shown other (inr (inr referenced)) =
     (some_number b.content.trailer_address named, inl (inr (inr (inl referenced))))
 chain_refused b image g reader trailer.DiskFault named shown other answer = absurd (other refl)
-
--- whom it blames
-pub blames_first : (fault : TrailerFault) → is_first (Unopened (error_of fault)) ≡ is_trailer_fault fault
-blames_first (trailer.Damaged address class) = refl
-blames_first (trailer.BadField field value) = refl
-blames_first trailer.DiskFault = refl
 
 -- ---- what is answered of a disk that is told
 

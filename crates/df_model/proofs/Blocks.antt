@@ -1,6 +1,6 @@
 -- Blocks that are written and released.
 use Rattle.std.{proofs.{Common.{◌≡◌, inl, inr, ℕ, zero, suc, ◌+◌, ◌<◌, ◌≤◌, ◌^◌, not, cond, [], ◌∷◌, ◌==◌, ◌||◌, Bool, true, false, if◌then◌else◌, List, length, Option, Some, None, refl, sym, ◌∙◌, ap, subst, arith, eqb-true}, lemmas.Bool.{cases_eq, or_right, eqb-false}}, specs.List.{filter, range_with_len}}
-use Rattle.df_theory.{specs.{Units.{AnyUnit, BlockPlace, BlockUnit, Content, CopyPlace, Parts, Place, PreparePlace, Units, or_else, overlay}, Copies.{Agree, IsChosen}, Shows.{Agrees, Needs}, Holds.{Holds}, Shape.{Shape}}, proofs.Laws.{put_else, short_same, chosen_same}}
+use Rattle.df_theory.{specs.{Units.{AnyUnit, BlockPlace, BlockUnit, CopyPlace, Parts, Place, PreparePlace, or_else, overlay}, Copies.{IsChosen}, Shows.{Agrees, Needs}, Holds.{Holds}, Shape.{Shape}}, proofs.Laws.{put_else, short_same, chosen_same}}
 use Rattle.df_model.{specs.{Laws.{BlockAsideLaw, BlockMayLaw}, Work.{Work, is_captured, is_held, is_known, is_of}, Codec.{AreChecksums, InGrid, IsChecksum}, Refusals.{block_refusals, first_refusal}, After.{with_live}, Blocks.{blocks_of, is_held_in}, Sense.{IsClearAddress, IsWork}, Memory.{free_of, memory_of}, Making.{first_of, next_address}}, proofs.{Entries.{held_is}, Tests.{all_pass}, Grid.{IsFree, IsNowhere, are_free, each_weaker, each_with, first_each, left_held, nowhere}, Knows.{live_knows, nowhere_new, one_fewer, one_more, release_knows}}}
 
 -- the next address is free
@@ -92,9 +92,6 @@ release_keeps sh spell w a work = record {
     go k false held = work.grid k held
 
 -- ---- what stands at a free address is no matter
-
-same_agree : (image later : Units) (c : Content) → ((n : ℕ) → later (CopyPlace n) ≡ image (CopyPlace n)) → Agree later c → Agree image c
-same_agree image later c same is = record { first = is.first; second = is.second; apart = is.apart; inside = is.inside; at_first = sym (same is.first) ∙ is.at_first; at_second = sym (same is.second) ∙ is.at_second }
 
 pub block_aside_law : BlockAsideLaw
 block_aside_law sh w image put a b free one = (

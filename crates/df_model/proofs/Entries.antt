@@ -50,14 +50,6 @@ abbrev pub EachPair : (ℕ × ℕ → Type 0) → List (ℕ × ℕ) → Type 0
 EachPair P [] = Unit {0}
 EachPair P (x ∷ xs) = P x × EachPair P xs
 
-each_entry : (P : ℕ × ℕ → Type 0) (a : ℕ) (o : Option ℕ) (rest : List (ℕ × ℕ)) → ((c : ℕ) → o ≡ Some c → P (a, c)) → EachPair P rest → EachPair P (entry a o rest)
-each_entry P a None rest here each = each
-each_entry P a (Some c) rest here each = (here c refl, each)
-
-pub entries_each : (P : ℕ × ℕ → Type 0) (f : ℕ → Option ℕ) (xs : List ℕ) → ((a c : ℕ) → f a ≡ Some c → P (a, c)) → EachPair P (entries f xs)
-entries_each P f [] all = tt
-entries_each P f (x ∷ xs) all = each_entry P x (f x) (entries f xs) (λ c is. all x c is) (entries_each P f xs all)
-
 first_case : (P : ℕ × ℕ → Type 0) (p : ℕ × ℕ → Bool) (y : ℕ × ℕ) (ys : List (ℕ × ℕ)) (x : ℕ × ℕ) (more : List (ℕ × ℕ)) (b : Bool) → P y → cond b (y ∷ filter p ys) (filter p ys) ≡ x ∷ more → (filter p ys ≡ x ∷ more → P x) → P x
 first_case P p y ys x more true here is rest = subst P (let e : y ≡ x = cc in e) here
 first_case P p y ys x more false here is rest = rest is

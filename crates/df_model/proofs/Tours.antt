@@ -2,7 +2,7 @@
 use Rattle.std.proofs.{Common.{◌≡◌, ℕ, suc, ◌+◌, ◌-◌, ◌≤◌, List, [], ◌∷◌, ◌++◌, length, drop, refl, sym, ◌∙◌, ap, arith, length-append, length-drop}, lemmas.List.{append-nil, append_assoc, drop-append-le, drop-drop}}
 use Rattle.df_layout.specs.declared.damage.Finding.{Finding}
 use Rattle.df_theory.specs.{Units.{Parts}, Shape.{Shape}}
-use Rattle.df_model.{specs.{Work.{Tour, Work, first_tour}, Memory.{referenced_of, Memory, memory_of}, Blocks.{blocks_of, reference_in, addresses, entries}, After.{after_check, newest, to_check, with_verdict}, Commands.{Answer, Scrub, ToScrub}, Supply.{Codec, Shown, check_of, first_check, last_work, result, shown_after}, Reading.{TourLaw, checks, failing, scrubs, with_finding}, declared.answers.Verdict.{Verdict}, declared.answers.Verdict.TheVariants.{Sound, Failing}, declared.answers.Scrubbed.{Scrubbed}, declared.answers.Scrubbed.TheVariants.{Checked, TourEnd}}, proofs.{Keeps.{newest_few}, Rising.{above, all_above, entries_rise, is_next}}}
+use Rattle.df_model.{specs.{Work.{Tour, Work, first_tour}, Memory.{referenced_of, memory_of}, Blocks.{blocks_of, reference_in, addresses, entries}, After.{after_check, newest, to_check, with_verdict}, Commands.{Answer, ToScrub}, Supply.{Codec, Shown, check_of, first_check, last_work, result}, Reading.{TourLaw, checks, failing, scrubs, with_finding}, declared.answers.{Verdict.{Verdict, TheVariants.{Sound, Failing}}, Scrubbed.{Scrubbed, TheVariants.{Checked, TourEnd}}}}, proofs.{Keeps.{newest_few}, Rising.{above, all_above, entries_rise, is_next}}}
 
 -- ---- the newest 64
 
@@ -45,9 +45,6 @@ verdict_failing w a (Failing class) rest = omega arith
 verdict_ends : (w : Work) (a : ℕ) (v : Verdict) (rest : List Finding) → record (with_verdict w a v) { tour = first_tour; findings = push_all (with_verdict w a v).findings rest } ≡ record w { tour = first_tour; findings = push_all w.findings (with_finding a v rest) }
 verdict_ends w a Sound rest = refl
 verdict_ends w a (Failing class) rest = refl
-
-same_shown : (codec : Codec) (shown : Shown) (m : Memory) → shown_after codec shown m Scrub ≡ shown
-same_shown codec shown m = refl
 
 module _ (sh : Shape) (codec : Codec) (shown : Shown) where
   -- a scrub over this list

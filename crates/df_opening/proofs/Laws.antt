@@ -12,7 +12,7 @@ pub use Rattle.df_opening.proofs.RaiseAnew.{clean_beyond}
 pub use Rattle.df_opening.proofs.SurveyPlans.{survey_planned, told_mends}
 pub use Rattle.df_opening.proofs.Views.{keeps_back, keeps_on, keeps_self}
 pub use Rattle.df_opening.proofs.BegunStates.{begun_keeps}
-pub use Rattle.df_opening.proofs.Refused.{adds_error, blamed_open, fault_adds, no_refusal, raising_then, read_error, refused_tells, superblock_refused, unharmed_error, unharmed_fault, unharmed_of, unharmed_ok, updating_error, updating_fault, updating_ok, updating_then}
+pub use Rattle.df_opening.proofs.Refused.{adds_error, blamed_open, fault_adds, no_refusal, raising_then, read_error, refused_tells, unharmed_error, unharmed_fault, unharmed_of, unharmed_ok, updating_error, updating_fault, updating_ok, updating_then}
 pub use Rattle.df_opening.proofs.RaiseSteps.{raised_is, sum_of}
 pub use Rattle.df_opening.proofs.NotRefused.{safe_is_not_refused}
 pub use Rattle.df_opening.proofs.Followed.{begun_may_open, stopped_may_open}

@@ -4,23 +4,12 @@ use Rattle.df_base.specs.{Causes.{Blamed}, Log.{Event, Sync}}
 use Rattle.df_disk.{specs.{Adds.{AddsPart, after_all}, Told.{Told, after, did}}, proofs.Laws.{after_append, all_is_part, all_then, none_after, part_then}}
 use Rattle.df_layout.specs.{declared.damage.Class.{Class}, declared.layout.Layout.{Layout}, declared.places.Place.{Place}}
 use Rattle.df_format.specs.declared.superblock.SuperFields.{SuperFields}
-use Rattle.df_model.specs.{Faults.{is_mend_fault, is_open_fault}, declared.errors.MendError.{MendError}, declared.errors.MendError.TheVariants.{Damaged, DiskFault}, declared.errors.OpenError.{OpenError}}
+use Rattle.df_model.specs.{Faults.{is_mend_fault, is_open_fault}, declared.errors.MendError.{MendError, TheVariants.{Damaged, DiskFault}}}
 use Rattle.df_model.specs.declared.errors.OpenError.TheVariants as opens
 use Rattle.df_superblock.specs.{Calls.{IsUndamaged}, declared.updates.UpdateError.{UpdateError}}
 use Rattle.df_superblock.specs.declared.updates.UpdateError.TheVariants as updates
 use Rattle.df_damage.{proofs.Laws.{added_is_told}, specs.Surveying.{TellsSurveyAs}}
-use Rattle.df_opening.specs.{Below.{Refuses, TellsLayout}, Mending.{AddsRaising, AddsUpdating, IsReadBack, IsUnharmed}, Opened.{refusal_of}}
-
--- a superblock isn't found, and the disk didn't fail
-pub superblock_refused : (t : Told) (e : OpenError) → (e ≡ opens.DiskFault → ⊥) → TellsLayout (Some t) (Err e) → Refuses t.shown e
-superblock_refused t opens.DiskFault other tells = absurd (other refl)
-superblock_refused t opens.NotFormatted other tells = tells
-superblock_refused t (opens.NoQuorum a) other tells = tells
-superblock_refused t (opens.Version a) other tells = tells
-superblock_refused t (opens.BadField a b) other tells = tells
-superblock_refused t (opens.LayoutDiffers a b) other tells = absurd tells
-superblock_refused t (opens.Damaged a b) other tells = absurd tells
-superblock_refused t opens.BootSpent other tells = absurd tells
+use Rattle.df_opening.specs.{Mending.{AddsRaising, AddsUpdating, IsReadBack, IsUnharmed}, Opened.{refusal_of}}
 
 -- events, and a mending that adds others after them
 pub raising_then : {T : Type 0} (es fs : List Event) (old mid new : Option Told) (result : Result T MendError) → mid ≡ after_all es old → AddsRaising fs mid new result → AddsRaising (es ++ fs) old new result

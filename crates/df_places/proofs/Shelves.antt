@@ -3,7 +3,7 @@ use Rattle.std.{proofs.{Common.{◌≡◌, ◌≢◌, ℕ, List, ◌++◌, lengt
 use Rattle.df_base.specs.Fields.{AreBytes}
 use Rattle.df_disk.specs.Told.{Shows, Told}
 use Rattle.df_layout.specs.{declared.damage.Class.{Class}, declared.layout.Layout.{Layout}, declared.places.Place.{Place}, declared.places.Zone.{Zone}, declared.places.Zone.TheVariants.{Superblock, WalHeaders, WalPrepares, ClientReplies, Grid}, Spans.{span_of}}
-use Rattle.df_format.{specs.{declared.kind.Kind.{Kind}, declared.kind.Kind.TheVariants.{Reserved, Prepare, Reply, Block, Trailer}, declared.header.Header.{Header}, Message.{Message}, Shown.{bytes_of, class_at, class_of, header_or_class, unit_at, unit_in}, UnitLaws.{place_size}}, proofs.Laws.{one_unit}}
+use Rattle.df_format.{specs.{declared.{kind.Kind.{Kind}, header.Header.{Header}}, Message.{Message}, Shown.{bytes_of, class_at, class_of, header_or_class, unit_at, unit_in}, UnitLaws.{place_size}}, proofs.Laws.{one_unit}}
 use Rattle.df_buffers.{specs.{declared.identity.Identity.{Identity}, Found.{FindsKind, IsValidUnit, class_for}, Rooms.{FillsRoom, StandsIn, room_size}, Sounds.{Holding}}, proofs.Laws.{is_no_ring}}
 use Rattle.df_places.{specs.{Shelves.{IsRead, shown_at}, Units.{IsThere as IsThereSeen}}, proofs.Rooms.{place_part, read_part}}
 
@@ -13,18 +13,6 @@ unwritten w bytes same = ap (λ (b : List ℕ). take (length bytes) (b ++ drop (
   where
     whole : (b : List ℕ) → take (length b) (b ++ drop (length b) b) ≡ b
     whole b = grind (arith, common_steps)
-
--- no kind of unit stands among the copies of the superblock
-pub no_copy : (kind : Kind) (zone : Zone) → StandsIn kind zone → zone ≢ Superblock
-no_copy kind WalHeaders stands same = cc
-no_copy Reserved Superblock stands same = stands
-no_copy Prepare Superblock stands same = stands
-no_copy Reply Superblock stands same = stands
-no_copy Block Superblock stands same = stands
-no_copy Trailer Superblock stands same = stands
-no_copy kind WalPrepares stands same = cc
-no_copy kind ClientReplies stands same = cc
-no_copy kind Grid stands same = cc
 
 sizes : (layout : Layout) (zone : Zone) → zone ≢ WalHeaders → room_size layout zone ≡ place_size layout zone
 sizes layout WalHeaders alone = absurd (alone refl)

@@ -1,6 +1,6 @@
 -- What the crates above cite: that an image has one answer, and what was found is the image's in the words of the theory.
 pub use Rattle.df_recovery.proofs.Asked.{as_none, super_as}
-pub use Rattle.df_recovery.proofs.Seconds.{one_refusal, one_super, super_is_written, written_is}
+pub use Rattle.df_recovery.proofs.Seconds.{one_super}
 pub use Rattle.df_recovery.proofs.Written.{super_is_written_as, written_as}
 pub use Rattle.df_recovery.proofs.FilesRead.{file_is_read}
 pub use Rattle.df_recovery.proofs.OpenAnswers.{head_found, kept_is_answer, refused_is_answer}
@@ -16,4 +16,4 @@ pub use Rattle.df_recovery.proofs.Waits.{waiting_count}
 -- ---- sessions with the same requests
 pub use Rattle.df_recovery.proofs.Settled.{numbered_by}
 -- ---- what was scanned is of its file
-pub use Rattle.df_recovery.proofs.Scans.{scanned_as, scanned_of_file}
+pub use Rattle.df_recovery.proofs.Scans.{scanned_as}

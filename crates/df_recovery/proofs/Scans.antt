@@ -9,7 +9,7 @@ use Rattle.df_journal.specs.{Scan.{Scan}, declared.table.Start.{Start}, Starting
 use Rattle.df_journal.specs.Scanned as rings
 use Rattle.df_replies.specs.Shown as slots
 use Rattle.df_rooms.specs.declared.file.DataFile.{DataFile}
-use Rattle.df_recovery.{specs.{Checkpoints.{Base, TellsCheckpoint}, Finding.{IsOfFile, read_of}, Found.{IsFoundAs, IsFoundFile}, Opening.{HasSuperAs, IsLayoutOf}, Scanning.{AreCopies, AreScanned, IsFileOf, IsFileScan, IsReadBehind, IsScanAs, IsServed, TellsReadAs, base_scanned}, Surveys.{SurveysAs}, declared.scanned.Scanned.{Scanned}, declared.scanning.Copies.{Copies}}, proofs.{Asked.{super_as}, Refusals.{trailer_refused}, Synced.{synced}}}
+use Rattle.df_recovery.{specs.{Checkpoints.{Base, TellsCheckpoint}, Finding.{IsOfFile, read_of}, Found.{IsFoundAs}, Opening.{HasSuperAs, IsLayoutOf}, Scanning.{AreCopies, AreScanned, IsFileOf, IsReadBehind, IsScanAs, IsServed, TellsReadAs, base_scanned}, Surveys.{SurveysAs}, declared.{scanned.Scanned.{Scanned}, scanning.Copies.{Copies}}}, proofs.{Asked.{super_as}, Refusals.{trailer_refused}, Synced.{synced}}}
 
 -- the tables have what the file shows
 pub tables_of : (l layout : Layout) (start : Start) (f : SuperFields) (now told : Option Told) (scan : Scan) (replies : List (Result Header Class)) → AreScanned l start.cluster now scan replies → l ≡ layout → start ≡ start_of f → now ≡ told → AreScanned layout f.cluster told scan replies
@@ -97,6 +97,3 @@ scanned_as version t layout s whole found scan =
       checkpoint = read.checkpoint;
       sessions = refl;
     }
-
-pub scanned_of_file : (t : Told) (layout : Layout) (s : Scanned) → IsImage t.shown → IsFoundFile t.shown s.copies.found → IsFileScan layout (Some t) s → IsOfFile t s.file (read_of s) (base_scanned s)
-scanned_of_file t layout s whole found scan = scanned_as 2 t layout s whole found scan

@@ -1,5 +1,5 @@
 -- How long the trailer of a checkpoint is that is begun: what the code counts is what the machine does.
-use Rattle.std.{proofs.{Common.{◌≡◌, ◌∙◌, ℕ, zero, suc, ◌+◌, ◌-◌, ◌*◌, ◌/◌, ◌%◌, ◌<◌, ◌≤◌, List, [], ◌∷◌, ◌++◌, length, map, take, Some, sym, ap, subst, arith}, Math.Nat.{div-add-mod, lt_of_mul-lt-mul_left}, lemmas.List.{length-map}}, specs.Prelude.{slice_get}}
+use Rattle.std.proofs.{Common.{◌≡◌, ◌∙◌, ℕ, zero, suc, ◌+◌, ◌-◌, ◌*◌, ◌/◌, ◌%◌, ◌<◌, ◌≤◌, List, length, map, sym, ap, subst, arith}, Math.Nat.{div-add-mod, lt_of_mul-lt-mul_left}, lemmas.List.{length-map}}
 use Rattle.df_base.proofs.Laws.{suc_minus}
 use Rattle.df_sessions.specs.Requests.{session_of}
 use Rattle.df_theory.specs.Trailer.{IsCount}
@@ -8,12 +8,6 @@ use Rattle.df_model.specs.{Blocks.{sum_at}, Making.{parts_of, pieces_of}}
 use Rattle.df_trailer.{specs.{Spelling.{is_referenced, text_size}, Text.{ones}, Writing.{captured_blocks}}, proofs.Laws.{text_sized}}
 use Rattle.df_opening.specs.Below.{State, memory}
 use Rattle.df_replica.specs.Beginning.{IsPlan, text_to_write}
-
--- one more of a list
-pub taken_more : {X : Type 0} (xs : List X) (k : ℕ) (x : X) → slice_get xs k ≡ Some x → take (suc k) xs ≡ take k xs ++ x ∷ []
-taken_more [] k x at = absurd (cc)
-taken_more {X = X} (y ∷ ys) zero x at = let same : y ≡ x = cc in ap (λ (z : X). z ∷ []) same
-taken_more {X = X} (y ∷ ys) (suc k) x at = ap (λ (l : List X). y ∷ l) (taken_more ys k x at)
 
 -- a text has one count of pieces
 pub pieces_is : (room size n : ℕ) → 0 < room → 0 < size → IsCount room size n → n ≡ pieces_of room size

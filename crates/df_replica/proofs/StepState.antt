@@ -1,5 +1,5 @@
 -- The state after a step makes sense.
-use Rattle.std.proofs.Common.{◌≡◌, ◌∙◌, ℕ, ◌+◌, ◌<◌, List, [], ◌∷◌, length, Option, Some, refl, sym, ap, subst, arith}
+use Rattle.std.proofs.Common.{◌≡◌, ◌∙◌, ℕ, ◌+◌, List, [], ◌∷◌, length, Option, Some, refl, sym, ap, subst, arith}
 use Rattle.df_format.specs.declared.superblock.SuperFields.{SuperFields}
 use Rattle.df_model.specs.Blocks.{Blocks}
 use Rattle.df_grid.specs.{Grid.{GridState}, Table.{next_written, written_of}}
@@ -35,10 +35,3 @@ running_on file f head b r sum is some = go b.left refl
       trailer = is.trailer;
       progress = record { all = omega (arith, is.all, ap length left); written = omega (arith, is.written) };
     }
-
-pub some_left : (b : Blocks) → (b.left ≡ [] → ⊥) → 0 < length b.left
-some_left b some = go b.left refl
-  where
-    go : (l : List ℕ) → b.left ≡ l → 0 < length l
-    go [] none = absurd (some none)
-    go (a ∷ more) left = omega arith

@@ -5,7 +5,7 @@ use Rattle.df_format.specs.{Copies.{content_with}, declared.header.Header.{Heade
 use Rattle.df_sessions.{specs.{declared.session.Session.{Session}, Requests.{session_of, sessions_of}}, proofs.Laws.{session_at}}
 use Rattle.df_theory.specs.Units
 use Rattle.df_theory.specs.{Units.{AnyUnit, BlockUnit, Content, CopyUnit, HeaderUnit, Message, PrepareUnit, ReplyPlace, ReplyUnit}, Holds.{IsNamed}, Opens.{IsAnswered, LacksReply}, Found.{IsStored}, View.{View, sessions}}
-use Rattle.df_units.specs.Meaning.{answered_of, content_of, header_of}
+use Rattle.df_units.specs.Meaning.{content_of, header_of}
 use Rattle.df_replies.{specs.{declared.answers.Lacking.{Lacking}, Named.{IsNamedBy}, Shown.{ShowsReplies, ShowsReply}, Answers.{AnsweredTo, AnswersIn, FoundAreStored, HasClass, IsFirstLacking, Lacks, LacksHere, StoredAreFound, stored_by}}, proofs.Scanned.{has_class}}
 
 -- ---- in the theory
@@ -76,10 +76,6 @@ module _ (f : SuperFields) (image : Units.Units) (replies : List (Result Header 
 pub lacking_class : (f : SuperFields) (ss : List Session) (n : ℕ) (replies : List (Result Header Class)) (o : Option Lacking) → LacksHere f ss n replies o → IfSome o (HasClass replies)
 lacking_class f ss n replies None all = tt
 lacking_class f ss n replies (Some lacking) is = has_class replies lacking is.reply is.there is.class
-
-pub lacking_within : (f : SuperFields) (ss : List Session) (n : ℕ) (replies : List (Result Header Class)) (o : Option Lacking) → LacksHere f ss n replies o → IfSome o (λ lacking. lacking.place < length replies)
-lacking_within f ss n replies None all = tt
-lacking_within f ss n replies (Some lacking) is = slice_get_within replies lacking.place is.reply is.there
 
 -- ---- the stored replies of a view
 

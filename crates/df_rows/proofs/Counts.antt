@@ -10,10 +10,6 @@ next_of k per = omega arith
 pub blocks_cover : (per n : ℕ) → 0 < per → n ≤ block_count per n * per
 blocks_cover per n some = (div_ceil_times n per some).0
 
--- a block has a row, since those before it are full
-pub block_begins : (per n k : ℕ) → 0 < per → k < block_count per n → k * per < n
-block_begins per n k some within = omega (arith, mul-le-mul_right per within, (div_ceil_times n per some).1, next_of k per)
-
 -- there are no more blocks than have room for the rows
 pub blocks_within : (per n m : ℕ) → 0 < per → n ≤ per * m → block_count per n ≤ m
 blocks_within per n m some fits = elim (cases_lt m (block_count per n)) [

@@ -1,5 +1,5 @@
 -- What an edit at a key's place makes of what is found, and that the keys still rise.
-use Rattle.std.{proofs.{Common.{◌≡◌, ◌≢◌, ℕ, zero, suc, ◌+◌, ◌-◌, ◌<◌, ◌≤◌, eqb, cond, Bool, true, false, List, [], ◌∷◌, length, set, take, drop, Option, Some, None, refl, sym, ap, subst, ◌∙◌, inl, inr, arith, length-set, get_or-set_same, get_or-set_other}, lemmas.Bool.{cases_eq, eq-eqb, ne_eqb}, lemmas.List.Elements.{All-append, All-cons, All-drop, All-set, All-take}, lemmas.List.Edits.{length-insert, get_or-insert_below, get_or-insert_at, get_or-insert_above, length-remove, get_or-remove_below, get_or-remove_above}}, specs.List.{insert, remove}}
+use Rattle.std.{proofs.{Common.{◌≡◌, ◌≢◌, ℕ, zero, suc, ◌+◌, ◌-◌, ◌<◌, ◌≤◌, eqb, cond, Bool, true, false, List, [], ◌∷◌, length, set, take, drop, Option, Some, None, refl, sym, ap, subst, ◌∙◌, inl, inr, arith}, lemmas.{Bool.{cases_eq, eq-eqb, ne_eqb}, List.{Elements.{All-append, All-cons, All-drop, All-take}, Edits.{length-insert, get_or-insert_below, get_or-insert_at, get_or-insert_above}}}}, specs.List.{insert, remove}}
 use Rattle.df_rows.{specs.{Rows.{Entry, IsEntry}, Sorted.{AreRows, IsAt, IsGap, KeysRise, key_at}}, proofs.Found.{NoneBefore, at_tail, look, look_none, none_tail, none_before_at, none_behind_at}}
 
 -- ---- what is found
@@ -68,22 +68,6 @@ look_remove (x ∷ es) k (suc i) only q =
 -- ---- the keys still rise
 
 module _ (es : List Entry) (rise : KeysRise es) where
-  key_set_other : (e : Entry) (i j : ℕ) → j ≢ i → key_at (set es i e) j ≡ key_at es j
-  key_set_other e i j other = ap (λ (x : Entry). x.0) (get_or-set_other es i j e (0, []) other)
-
-  key_set_same : (e : Entry) (i j : ℕ) → j ≡ i → i < length es → key_at (set es i e) j ≡ e.0
-  key_set_same e i j same inside = ap (λ (n : ℕ). key_at (set es i e) n) same ∙ ap (λ (x : Entry). x.0) (get_or-set_same es i e (0, []) inside)
-
-  -- a row in place of one of its key
-  key_set : (e : Entry) (i : ℕ) → IsAt es e.0 i → (j : ℕ) → key_at (set es i e) j ≡ key_at es j
-  key_set e i is j = elim (cases_eq j i) [
-    | inl same ↦ key_set_same e i j same is.inside ∙ sym is.has ∙ ap (λ (n : ℕ). key_at es n) (sym same)
-    | inr other ↦ key_set_other e i j other
-  ]
-
-  pub rise_set : (e : Entry) (i : ℕ) → IsAt es e.0 i → KeysRise (set es i e)
-  rise_set e i is a b lt inside = omega (arith, key_set e i is a, key_set e i is b, rise a b lt (omega (arith, length-set es i e)))
-
   pub rise_insert : (e : Entry) (i : ℕ) → IsGap es e.0 i → KeysRise (insert es i e)
   rise_insert e at gap i j lt inside =
       let new = insert es at e in
@@ -94,40 +78,15 @@ module _ (es : List Entry) (rise : KeysRise es) where
       let above : (n : ℕ) → at < n → key_at new n ≡ key_at es (n - 1) = λ n behind. subst (λ q. key_at new q ≡ key_at es (n - 1)) {x = n - 1 + 1} (omega arith) (ap key (get_or-insert_above es at e (0, []) (n - 1) (omega arith) gap.inside)) in
       grind (arith, below i, here i, above i, below j, here j, above j, rise i j, rise i (j - 1), rise (i - 1) (j - 1), gap.before i, gap.behind (j - 1))
 
-  pub rise_remove : (i : ℕ) → i < length es → KeysRise (remove es i)
-  rise_remove at within i j lt inside =
-      let new = remove es at in
-      let key = λ (x : Entry). x.0 in
-      let count = length-remove es at within in
-      let below : (n : ℕ) → n < at → key_at new n ≡ key_at es n = λ n before. ap key (get_or-remove_below es at (0, []) n before within) in
-      let above : (n : ℕ) → at ≤ n → key_at new n ≡ key_at es (n + 1) = λ n behind. ap key (get_or-remove_above es at (0, []) n behind within) in
-      grind (arith, below i, above i, below j, above j, rise i j, rise i (j + 1), rise (i + 1) (j + 1))
-
 -- ---- rows that are edited are rows
 
 module _ (max room : ℕ) (es : List Entry) (are : AreRows max room es) where
-  pub rows_set : (e : Entry) (i : ℕ) → IsEntry e → IsAt es e.0 i → AreRows max room (set es i e)
-  rows_set e i fits is = record {
-    rise = rise_set es are.rise e i is;
-    fit = All-set IsEntry es i e fits are.fit;
-    few = omega (arith, are.few, length-set es i e);
-    reserved = are.reserved;
-  }
-
   pub rows_insert : (room' : ℕ) (e : Entry) (i : ℕ) → room ≤ room' → length es < max → IsEntry e → IsGap es e.0 i → AreRows max room' (insert es i e)
   rows_insert room' e i grows free fits gap = record {
     rise = rise_insert es are.rise e i gap;
     fit = All-append IsEntry (take i es) (e ∷ drop i es) (All-take IsEntry i es are.fit) (All-cons IsEntry e (drop i es) fits (All-drop IsEntry i es are.fit));
     few = omega (arith, length-insert es i e gap.inside);
     reserved = omega (arith, are.reserved);
-  }
-
-  pub rows_remove : (i : ℕ) → i < length es → AreRows max room (remove es i)
-  rows_remove i inside = record {
-    rise = rise_remove es are.rise i inside;
-    fit = All-append IsEntry (take i es) (drop (suc i) es) (All-take IsEntry i es are.fit) (All-drop IsEntry (suc i) es are.fit);
-    few = omega (arith, are.few, length-remove es i inside);
-    reserved = are.reserved;
   }
 
   pub only_at : (k i : ℕ) → IsAt es k i → IsOnly es k i

@@ -1,5 +1,5 @@
 -- The bytes of a row: what stands where in them, and that they are one row.
-use Rattle.std.{proofs.{Common.{◌≡◌, ℕ, zero, suc, ◌+◌, ◌-◌, ◌^◌, ◌<◌, ◌≤◌, ◌==◌, true, List, [], ◌∷◌, ◌++◌, length, get_or, take, drop, replicate, refl, sym, ap, ◌∙◌, arith, length-append, length-drop}, lemmas.Bool.{and_parts, eqb-true}, lemmas.List.{append-nil, drop_at, take-append-drop, take_rest, length-replicate, length-take-le, drop-drop, get_or_at}}, specs.List.{list_all}}
+use Rattle.std.proofs.{Common.{◌≡◌, ℕ, ◌+◌, ◌-◌, ◌^◌, ◌<◌, ◌≤◌, List, [], ◌∷◌, ◌++◌, length, get_or, take, drop, replicate, sym, ap, ◌∙◌, arith, length-append, length-drop}, lemmas.List.{append-nil, take-append-drop, take_rest, length-replicate, length-take-le, drop-drop}}
 use Rattle.df_base.{specs.{Fields.{AreBytes, field_at, spelled}, Text.{total}}, proofs.Laws.{length-spelled, field_spelled, spelled_back, same_front}}
 use Rattle.df_rows.specs.Rows.{Entry, IsEntry, row_of, row_pieces}
 
@@ -37,14 +37,6 @@ length-padded value fits = omega (arith, length-append value (replicate (47 - le
 pub length-row_of : (e : Entry) → IsEntry e → length (row_of e) ≡ 64
 length-row_of e is = omega (arith, length-append (spelled 16 e.0) (length e.1 ∷ padded e.1), length-spelled 16 e.0, length-padded e.1 is.value)
 
--- the byte that says how long the value is
-pub length_byte : (e : Entry) → get_or (row_of e) 16 0 ≡ length e.1
-length_byte e = get_or_at (spelled 16 e.0) (length e.1) (padded e.1) 0 16 (length-spelled 16 e.0)
-
--- what stands after that byte
-pub behind_length : (e : Entry) → drop 17 (row_of e) ≡ padded e.1
-behind_length e = sym (drop-drop 1 16 (row_of e)) ∙ ap (λ (l : List ℕ). drop 1 l) (drop_at (spelled 16 e.0) (length e.1 ∷ padded e.1) 16 (length-spelled 16 e.0))
-
 -- ---- one row
 
 -- rows with something after them
@@ -61,21 +53,6 @@ pub one_row : (e f : Entry) → IsEntry e → IsEntry f → row_of e ≡ row_of 
 one_row e f is other same = (row_split e f [] [] is other (ap (λ (l : List ℕ). l ++ []) same)).0
 
 -- ---- zeros
-
-pub zeros_pass : (n : ℕ) → list_all (λ b. b == 0) (replicate n 0) ≡ true
-zeros_pass zero = refl
-zeros_pass (suc n) = zeros_pass n
-
-pub zeros_from : (xs : List ℕ) → list_all (λ b. b == 0) xs ≡ true → xs ≡ replicate (length xs) 0
-zeros_from [] all = refl
-zeros_from (x ∷ xs) all =
-    let parts = and_parts (x == 0) (list_all (λ b. b == 0) xs) all in
-    let first = eqb-true x 0 parts.0 in
-    let rest = zeros_from xs parts.1 in
-    λ i. first i ∷ rest i
-
-pub all_zeros : (xs : List ℕ) → xs ≡ replicate (length xs) 0 → list_all (λ b. b == 0) xs ≡ true
-all_zeros xs is = ap (λ (l : List ℕ). list_all (λ b. b == 0) l) is ∙ zeros_pass (length xs)
 
 -- ---- a row that is read
 
@@ -99,16 +76,3 @@ module _ (bytes tail value rest : List ℕ) (n : ℕ) (whole : length bytes ≡ 
       let behind : drop (17 + n) bytes ≡ replicate (47 - length value) 0 = sym (drop-drop n 17 bytes) ∙ ap (drop n) (sym tail_from) ∙ sym rest_is ∙ zeros ∙ ap (λ (m : ℕ). replicate m 0) left in
       let ends : 0 + total (row_pieces (length value)) ≡ 17 + n = omega (arith, size) in
       spelled_back (row_pieces (length value)) 0 bytes (replicate (47 - length value) 0) (field_at 16 0 bytes, value) are (omega arith) (assumption) (ap (λ (m : ℕ). drop m bytes) ends ∙ behind)
-
-  -- and those of a row have zeros there
-  pub row_ends : (e : Entry) → IsEntry e → bytes ≡ row_of e → n ≡ get_or bytes 16 0 → rest ≡ replicate (length rest) 0
-  row_ends e is same said =
-      let size : n ≡ length e.1 = said ∙ ap (λ (l : List ℕ). get_or l 16 0) same ∙ length_byte e in
-      let tail_padded : tail ≡ padded e.1 = tail_from ∙ ap (λ (l : List ℕ). drop 17 l) same ∙ behind_length e in
-      let zeros : rest ≡ replicate (47 - length e.1) 0 = rest_is ∙ ap (λ (l : List ℕ). drop n l) tail_padded ∙ drop_at e.1 (replicate (47 - length e.1) 0) n (sym size) in
-      let count : length rest ≡ 47 - length e.1 = ap length zeros ∙ length-replicate {A = ℕ} (47 - length e.1) 0 in
-      zeros ∙ ap (λ (m : ℕ). replicate m 0) (sym count)
-
--- a value that is too long is none of a row
-pub row_too_long : (bytes : List ℕ) (n : ℕ) (e : Entry) → IsEntry e → bytes ≡ row_of e → n ≡ get_or bytes 16 0 → 47 < n → ⊥
-row_too_long bytes n e is same said long = omega (arith, said ∙ ap (λ (l : List ℕ). get_or l 16 0) same ∙ length_byte e, is.value)

@@ -1,5 +1,5 @@
 -- The rows of a vector and the table that they are.
-use Rattle.std.{proofs.{Common.{◌≡◌, ℕ, ◌<◌, ◌⊎◌, inl, inr, true, List, [], length, get_or, set, Option, Some, None, is_some, refl, sym, ap, subst, ◌∙◌, arith}, lemmas.Bool.{false≢true}}, specs.{Prelude.{IsTrue}, List.{insert, remove}}}
+use Rattle.std.{proofs.{Common.{◌≡◌, ℕ, ◌<◌, inl, inr, List, [], length, get_or, set, Some, None, is_some, sym, ap, subst, ◌∙◌, arith}, lemmas.Bool.{false≢true}}, specs.{Prelude.{IsTrue}, List.{insert, remove}}}
 use Rattle.std.specs.FinMap as map
 use Rattle.df_rows.{specs.{Rows.{Entry}, Commands.{Map}, Sorted.{AreRows, IsAt, IsGap}, Tables.{HasRoom, Table, with_row}}, proofs.{Found.{found_at, look, missed_in_gap, none_in_gap}, Edited.{look_insert, look_remove, look_set, only_at}, Viewed.{entries_of, get_looks, inserted, len_of, map_of, none_removed, removed}}}
 
@@ -16,14 +16,6 @@ without k t = record { max = t.max; rows = map.remove t.rows k }
 -- of a map without the key none has it
 pub no_key : (m : Map) (k : ℕ) → map.get m k ≡ None → IsTrue (map.contains_key m k) → ⊥
 no_key m k none has = false≢true (sym (ap is_some none) ∙ has)
-
--- a table has a key, or it hasn't
-pub key_cases : (m : Map) (k : ℕ) → IsTrue (map.contains_key m k) ⊎ (map.get m k ≡ None)
-key_cases m k = by_option (map.get m k)
-  where
-    by_option : (o : Option (List ℕ)) → (is_some o ≡ true) ⊎ (o ≡ None)
-    by_option None = inr refl
-    by_option (Some v) = inl refl
 
 -- a place in a list that is another one's, under the same key
 pub same_place : (ds es : List Entry) (j k i : ℕ) → ds ≡ es → j ≡ k → IsAt ds j i → IsAt es k i

@@ -4,5 +4,5 @@ pub use Rattle.df_rows.proofs.Taken.{blocks_are_table, one_body, one_table}
 pub use Rattle.df_rows.proofs.Bodies.{in_turn, one_command}
 pub use Rattle.df_rows.proofs.Counts.{some_rows, tables_fit}
 pub use Rattle.df_rows.proofs.Viewed.{no_entries}
-pub use Rattle.df_rows.proofs.Told.{accepted_more, behind_is, behind_more, commands_more, text_more}
+pub use Rattle.df_rows.proofs.Told.{accepted_more, commands_more, text_more}
 pub use Rattle.df_rows.proofs.Fitting.{AreRowsFit, command_fits, none_fits, rows_fit}

@@ -148,9 +148,6 @@ entries_rise m = sorted_rise (finite.entries m) (entries_sorted m)
 
 -- ---- blocks are a table
 
-empty_table : ℕ → Table
-empty_table max = record { max = max; rows = finite.empty }
-
 same_tables : (t u : Table) → t.max ≡ u.max → t.rows ≡ u.rows → t ≡ u
 same_tables t u max rows = λ i. record { max = max i; rows = rows i }
 
@@ -211,9 +208,6 @@ whole_rows t body es takes = ap length takes.whole ∙ length-rows_of es takes.f
 pub record Carries (first t : Table) (body rest : List ℕ) : Type 0 where
   pub whole : (more : List Entry) → TableTakes t rest more → (entries : List Entry) × TableTakes first body entries × (with_rows more t ≡ with_rows entries first)
   pub none : ((more : List Entry) → TableTakes t rest more → ⊥) → (entries : List Entry) → TableTakes first body entries → ⊥
-
-pub carries_itself : (t : Table) (body : List ℕ) → Carries t t body body
-carries_itself t body = record { whole = λ more takes. (more, takes, refl); none = λ no. no }
 
 pub carries_more : (first t : Table) (body bytes rest : List ℕ) (e : Entry) → IsEntry e → bytes ≡ row_of e → IsNew t e.0 → Carries first t body (bytes ++ rest) → Carries first (with_row e t) body rest
 carries_more first t body bytes rest e is same fresh carries = record {

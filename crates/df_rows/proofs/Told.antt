@@ -3,10 +3,6 @@ use Rattle.std.proofs.Common.{◌≡◌, ◌+◌, ℕ, List, [], ◌∷◌, ◌+
 use Rattle.df_base.proofs.Laws.{plus_zero}
 use Rattle.df_rows.specs.{declared.command.Command.{Command}, Grammar.{Said}, Lines.{accepted, all_accepted, all_behind, line_of_turn, map_text, table_after}, Tables.{Table, with_commands}}
 
-pub behind_more : (t : Table) (says more : List Said) → all_behind t (says ++ more) ≡ all_behind (all_behind t says) more
-behind_more t [] more = refl
-behind_more t (said ∷ says) more = behind_more (table_after t said) says more
-
 pub accepted_more : (t : Table) (says more : List Said) → all_accepted t (says ++ more) ≡ all_accepted t says ++ all_accepted (all_behind t says) more
 accepted_more t [] more = refl
 accepted_more t (said ∷ says) more =
@@ -15,11 +11,6 @@ accepted_more t (said ∷ says) more =
 pub commands_more : (cs ds : List Command) (t : Table) → with_commands (cs ++ ds) t ≡ with_commands ds (with_commands cs t)
 commands_more [] ds t = refl
 commands_more (c ∷ cs) ds t = commands_more cs ds _
-
--- the table after lines is that after their commands
-pub behind_is : (t : Table) (says : List Said) → all_behind t says ≡ with_commands (all_accepted t says) t
-behind_is t [] = refl
-behind_is t (said ∷ says) = behind_is (table_after t said) says ∙ sym (commands_more (accepted t said) (all_accepted (table_after t said) says) t)
 
 -- the text of lines, and of others after them
 pub text_more : (t : Table) (n : ℕ) (says more : List Said) → map_text t n (says ++ more) ≡ map_text t n says ++ map_text (all_behind t says) (n + length (all_accepted t says)) more

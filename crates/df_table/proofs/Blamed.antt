@@ -24,11 +24,6 @@ module _ (before now : ℕ) (old new : Option (List ℕ)) (status : Status) wher
 
 -- ---- what was never blamed
 
--- what goes on goes on with what follows from it
-pub going : (turn : Step) (P Q : Type 0) → (P → Q) → OnGoing turn P → OnGoing turn Q
-going Goes P Q f holds = f holds
-going (Ends status) P Q f holds = tt
-
 -- a text that was told blames the sink alone
 pub tells_disk : (text : List ℕ) (old new : Option (List ℕ)) (turn : Step) (before now : ℕ) → TellsLine text old new turn → now ≡ before → BlamesIfEnds DiskFault before now turn
 tells_disk text old new Goes before now told same = same

@@ -50,9 +50,6 @@ module _ (file : DataFile) (P : Table → Type 0) where
     had = had;
   }
 
-  order_seen : (log : Log) → Order file P log → EachSeen file log
-  order_seen log order image left chance = let has = order.left image left chance in record { view = has.view; held = has.held; stands = has.stands; own = has.own }
-
   -- after some of these puts and drops
   mid_order : (before : Table) (perhaps : List Change) (log : Log) → ((n : ℕ) → P (with_commands (take n perhaps) before)) → EachSeen file log → IsTableMidway file before perhaps log → Order file P log
   mid_order before perhaps log had seen mid = record {

@@ -57,10 +57,7 @@ fn reserve(alloc: Global, layout: &Layout) -> Result<Reserved, OutOfMemory>
 }
 
 // Finds the layout of the file that the disk shows, takes the memory for it, and serves its table.
-fn run_file<D: Disk, S: Source, W: Sink>(
-    alloc: Global,
-    outside: Outside<D, S, W>,
-) -> Status
+fn run_file<D: Disk, S: Source, W: Sink>(alloc: Global, outside: Outside<D, S, W>) -> Status
     ensures runs { RunsTable (seen D.told S.left W.written outside.entry) (seen D.told S.left W.written (back outside.exit)) result }
     ensures causes { HasTableCauses (failed D.faults S.faults W.faults outside.entry) (failed D.faults S.faults W.faults (back outside.exit)) result }
     ensures memory { result ≡ Status.Memory → PrintsNothing (seen D.told S.left W.written outside.entry)

@@ -104,9 +104,6 @@ module _ (sh : Shape) (image : Units) (v : View) (sound : Sound sh v) (all : (pl
       let same : a.0 ≡ x = (let e = a.1 in cc) in
       subst (λ (y : Message). AgreesReply v y) same a.2
 
-  pub head_room : head v ≤ v.checkpoint.content.op + sh.layout.slots
-  head_room = omega (arith, sound.room)
-
   -- the header beside a prepare of the tail
   take_at : (p : Message) → In p v.tail → v.checkpoint.content.pin < p.header.op → (o : Option AnyUnit) → image (HeaderPlace (p.header.op % sh.layout.slots)) ≡ o → IsTake (case (seen_header (boot_of v) p.header.op o) (Current p.header.checksum))
   take_at p at above None is = tt

@@ -1,6 +1,6 @@
 -- What opening finds is what the image holds.
 use Rattle.std.proofs.{Common.{◌≡◌, ◌⊎◌, inl, inr, ℕ, ◌+◌, ◌-◌, ◌%◌, ◌^◌, ◌<◌, ◌≤◌, List, [], ◌∷◌, length, Option, Some, refl, sym, ◌∙◌, ap, subst, arith}, lemmas.Bool.{cases_eq, cases_lt}}
-use Rattle.df_theory.{specs.{Units.{AnyUnit, BlockPlace, BlockUnit, CopyPlace, Header, HeaderPlace, HeaderUnit, Message, Place, PreparePlace, PrepareUnit, ReplyPlace, ReplyUnit, Session, Units}, Sessions.{Answers, Tracks, noted, sessions_after}, Tails.{Chain, In, last_checksum, last_mark}, Groups.{IsShort}, Shape.{Shape, clients}, View.{View, boot_of, head, sessions}, Shows.{Agrees, AgreesHeader, AgreesPrepare, AgreesReply, Needs}, Holds.{Holds, IsNamed, Sound}, Cases.{Current, IsEmpty, IsTake, Seen, Takes, case, decision, seen, seen_header, seen_prepare}, Found.{AreOfPlaces, IsClean, IsFound, IsOfPlace}, ViewLaws.{SlotLaw}}, proofs.{Tails.{chain_ops}, Sessions.{tracks_chain}, Agreeing.{seen_now, take_same, take_beside, take_boot, below_header, decided_above, empty_cut, near_prepare, old_header, prepare_near, header_agrees, prepare_agrees, reply_agrees, head_room, takes_if}}}
+use Rattle.df_theory.{specs.{Units.{AnyUnit, BlockPlace, BlockUnit, CopyPlace, Header, HeaderPlace, HeaderUnit, Message, Place, PreparePlace, PrepareUnit, ReplyPlace, ReplyUnit, Session, Units}, Sessions.{Tracks, noted, sessions_after}, Tails.{Chain, In, last_checksum, last_mark}, Groups.{IsShort}, Shape.{Shape, clients}, View.{View, boot_of, head, sessions}, Shows.{Agrees, AgreesHeader, AgreesPrepare, AgreesReply, Needs}, Holds.{Holds, Sound}, Cases.{Current, IsEmpty, IsTake, Takes, case, seen, seen_header, seen_prepare}, Found.{AreOfPlaces, IsClean, IsFound, IsOfPlace}, ViewLaws.{SlotLaw}}, proofs.{Tails.{chain_ops}, Sessions.{tracks_chain}, Agreeing.{seen_now, take_same, take_beside, take_boot, below_header, decided_above, empty_cut, near_prepare, old_header, prepare_near, header_agrees, prepare_agrees, reply_agrees, takes_if}}}
 
 -- each op of a chain has a prepare
 pub chain_at : (clients op parent mark : ℕ) (ss : List Session) (ps : List Message) (o : ℕ) → Chain clients op parent mark ss ps → op ≤ o → o < op + length ps → (p : Message) × In p ps × (p.header.op ≡ o)
@@ -191,14 +191,8 @@ module _ (sh : Shape) (image : Units) (v : View) (h : Holds sh image v) where
   agrees_reply : (k : ℕ) (x : Message) → image (ReplyPlace k) ≡ Some (ReplyUnit x) → AgreesReply v x
   agrees_reply = reply_agrees sh image v h.bears.sound h.bears.agrees
 
-  room_is : head v ≤ v.checkpoint.content.op + sh.layout.slots
-  room_is = head_room sh image v h.bears.sound h.bears.agrees
-
   takes : (p : Message) → In p v.tail → Takes sh.layout.slots image v.checkpoint.content p
   takes p at = takes_if sh image v h.bears.sound h.bears.agrees p at (h.bears.needs (PreparePlace (p.header.op % sh.layout.slots)) (PrepareUnit p) (p, at, refl, refl))
-
-  tracks_view : Tracks v.replies (head v) (sessions v)
-  tracks_view = tracks_chain sh.layout.clients v.checkpoint.content.op v.checkpoint.content.op_checksum 0 v.checkpoint.content.replies v.replies v.checkpoint.parts.sessions v.tail sound.checkpoint.tracks sound.chain sound.replies_from.0 sound.replies_from.1
 
   stored_shown : (k : ℕ) (r : Message) → v.stored k ≡ Some r → image (ReplyPlace k) ≡ Some (ReplyUnit r)
   stored_shown k r is = h.bears.needs (ReplyPlace k) (ReplyUnit r) (r, is, refl)

@@ -1,6 +1,6 @@
 -- What damage can do to a file whose log rests on a view.
 use Rattle.std.{proofs.{Common.{◌≡◌, ◌⊎◌, inl, inr, ℕ, ◌+◌, ◌-◌, ◌%◌, ◌<◌, ◌≤◌, ◌==◌, Bool, true, false, if◌then◌else◌, zero, suc, List, [], ◌∷◌, ◌++◌, length, take, drop, Some, None, refl, sym, ◌∙◌, ap, subst, arith, length-append}, lemmas.List.{length-take, take_at}, lemmas.Bool.{cases_lt}, lemmas.Bool.Decides.{nat_tests}}, specs.List.{slice_get}}
-use Rattle.df_theory.{specs.{Units.{AnyUnit, BlockPlace, BlockUnit, Content, CopyPlace, CopyUnit, Header, HeaderPlace, HeaderUnit, Message, Place, PreparePlace, PrepareUnit, ReplyPlace, ReplyUnit, Session, Units}, Sessions.{Answers, noted, session_of_header, sessions_after}, Tails.{AreGroups, BindsHead, Chain, In, last_checksum, last_mark}, Groups.{IsShort, ShowsOwn}, Cases.{Takes}, Shape.{Shape, clients}, Copies.{Agree, IsChosen}, Trailer.{Links}, View.{View, head, sessions}, Shows.{Agrees, AgreesCopy, AgreesHeader, AgreesPrepare, AgreesReply}, Holds.{Sound}, UnitLog.{UnitEvent, UnitLog, now, settled}, Chance.{InImages, InPool, InPools, NoChance}, Rests.{RestsOn}, Found.{IsReach, IsTail, NotBehind, NotLost, slot_behind}, HistoryLaws.{FoundWasOfLogLaw}, DamageLaws.{CheckpointStaysLaw, HeadersTellLaw, HurtLaw, IsGroupUnhurt, LostIsHurtLaw, MissingIsHurtLaw, NeverBehindLaw, ReplyIsHurtLaw, ShowsPool, TailIsFrontLaw}}, proofs.{Tails.{chain_last, chain_ops, in_either, in_one, in_single, in_dropped}, Sessions.{sessions-append, last_mark-take, chain_drop, chain_take}, Choices.{chosen_above, one_chosen}, Agreeing.{take_boot, prepare_agrees, header_agrees, reply_agrees, head_room, takes_if}, Founds.{chain_at, header_in_tail}, Pinned.{same_named}, OneView.{same_parts}, OneFound.{goes_on, step_on}, Short.{WasOwn, more_by, pool_short}, Grouped.{same_group}, Knowns.{groups_take, in_take}, Once.{same_links}, Had.{found_was_law}}}
+use Rattle.df_theory.{specs.{Units.{AnyUnit, BlockPlace, BlockUnit, Content, CopyPlace, CopyUnit, Header, HeaderPlace, HeaderUnit, Message, Place, PreparePlace, PrepareUnit, ReplyPlace, ReplyUnit, Session, Units}, Sessions.{noted, session_of_header, sessions_after}, Tails.{AreGroups, Chain, In, last_checksum, last_mark}, Groups.{IsShort, ShowsOwn}, Cases.{Takes}, Shape.{Shape, clients}, Copies.{Agree, IsChosen}, View.{View, head, sessions}, Shows.{Agrees, AgreesCopy, AgreesHeader, AgreesPrepare, AgreesReply}, Holds.{Sound}, UnitLog.{UnitEvent, UnitLog, now, settled}, Chance.{InImages, InPool, InPools, NoChance}, Rests.{RestsOn}, Found.{IsReach, IsTail, NotBehind, NotLost, slot_behind}, HistoryLaws.{FoundWasOfLogLaw}, DamageLaws.{CheckpointStaysLaw, HeadersTellLaw, HurtLaw, IsGroupUnhurt, LostIsHurtLaw, MissingIsHurtLaw, NeverBehindLaw, ReplyIsHurtLaw, ShowsPool, TailIsFrontLaw}}, proofs.{Tails.{chain_last, chain_ops, in_either, in_one, in_single, in_dropped}, Sessions.{sessions-append, last_mark-take, chain_drop, chain_take}, Choices.{chosen_above, one_chosen}, Agreeing.{take_boot, prepare_agrees, header_agrees, reply_agrees, takes_if}, Founds.{chain_at, header_in_tail}, Pinned.{same_named}, OneView.{same_parts}, OneFound.{goes_on, step_on}, Short.{WasOwn, more_by, pool_short}, Grouped.{same_group}, Knowns.{groups_take, in_take}, Once.{same_links}, Had.{found_was_law}}}
 
 -- the pool of a log is among its pools
 pub pool_pools : (start : Units) (es : List UnitEvent) (place : Place) (x : AnyUnit) → InPool (record { start = start; events = es }) place x → InPools start es place x
@@ -26,9 +26,6 @@ module _ (sh : Shape) (log : UnitLog) (v : View) (shown : Units) (rests : RestsO
 
   abbrev sound : Sound sh v
   sound = rests.holds.bears.sound
-
-  pub room_is : head v ≤ v.checkpoint.content.op + sh.layout.slots
-  room_is = head_room sh shown v rests.holds.bears.sound all_agree
 
   pub header_is : (s : ℕ) (h : Header) → shown (HeaderPlace s) ≡ Some (HeaderUnit h) → AgreesHeader sh v s h
   header_is = header_agrees sh shown v rests.holds.bears.sound all_agree

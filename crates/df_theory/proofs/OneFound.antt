@@ -1,23 +1,6 @@
 -- An open finds one state.
 use Rattle.std.{proofs.{Common.{◌≡◌, inl, inr, ℕ, suc, ◌+◌, ◌-◌, ◌%◌, ◌<◌, ◌≤◌, List, [], ◌∷◌, ◌++◌, length, Option, Some, None, refl, sym, ◌∙◌, ap, arith, length-append}, lemmas.Bool.{cases_lt}}, specs.List.{slice_get}}
-use Rattle.df_theory.{specs.{Units.{Content, Message, PreparePlace, PrepareUnit, ReplyUnit, Session, Units}, Sessions.{noted, sessions_after}, Tails.{AreGroups, Chain, Fits, FitsGroup, In, last_checksum, last_mark}, Shape.{Shape, clients}, Trailer.{Links}, View.{Checkpoint, View, sessions}, Cases.{Takes}, Holds.{Holds}, Found.{IsReach, IsReplies, IsStored, IsTail}, ViewLaws.{FoundLaw, OneChosenLaw, OneFoundLaw, OneViewLaw}}, proofs.{Tails.{in_either, in_single}, Choices.{one_chosen}, Founds.{holds_found, found_holds}, OneView.{same_tail, same_chain, same_parts}, Grouped.{groups_closed}}}
-
--- of two chains that show the same, the longer one has a prepare that fits the shorter one's end
-abbrev pub HasNext : ℕ → ℕ → ℕ → ℕ → List Session → List Message → List Message → Type 0
-HasNext clients op parent mark ss ps qs = (q : Message) × In q qs × Fits clients (op + length ps) (last_checksum parent ps) (last_mark mark ps) (sessions_after ss ps) q.header
-
-pub next_of : (clients op parent mark : ℕ) (ss : List Session) (ps qs : List Message) → Chain clients op parent mark ss ps → Chain clients op parent mark ss qs → ((p q : Message) → In p ps → In q qs → p.header.op ≡ q.header.op → p ≡ q) → length ps < length qs → HasNext clients op parent mark ss ps qs
-next_of clients op parent mark ss [] [] one two same less = absurd (omega arith)
-next_of clients op parent mark ss [] (q ∷ qs) one two same less =
-    let zero_more : op ≡ op + 0 = omega arith in
-    (q, inl refl, rw zero_more at two.0)
-next_of clients op parent mark ss (p ∷ ps) [] one two same less = absurd (omega arith)
-next_of clients op parent mark ss (p ∷ ps) (q ∷ qs) one two same less =
-    let first : p ≡ q = same p q (inl refl) (inl refl) (one.0.op_is ∙ sym two.0.op_is) in
-    let chain : Chain clients (op + 1) p.header.checksum p.header.mark (noted p.header ss) qs = rw (sym first) at two.1 in
-    let rest = next_of clients (op + 1) p.header.checksum p.header.mark (noted p.header ss) ps qs one.1 chain (λ x y at there. same x y (inr at) (inr there)) (omega arith) in
-    let more : op + 1 + length ps ≡ op + suc (length ps) = omega arith in
-    (rest.0, inr rest.1, rw more at rest.2)
+use Rattle.df_theory.{specs.{Units.{Content, Message, PreparePlace, PrepareUnit, ReplyUnit, Session, Units}, Sessions.{noted, sessions_after}, Tails.{AreGroups, Chain, In, last_checksum, last_mark}, Shape.{Shape, clients}, View.{Checkpoint, View, sessions}, Cases.{Takes}, Holds.{Holds}, Found.{IsReach, IsReplies, IsStored, IsTail}, ViewLaws.{FoundLaw, OneChosenLaw, OneFoundLaw, OneViewLaw}}, proofs.{Tails.{in_either, in_single}, Choices.{one_chosen}, Founds.{holds_found, found_holds}, OneView.{same_tail, same_chain, same_parts}, Grouped.{groups_closed}}}
 
 -- of two chains that show the same, the longer one goes on from the shorter one, with whole groups
 pub goes_on : (clients op parent mark f l low : ℕ) (ss : List Session) (ps qs : List Message) → Chain clients op parent mark ss ps → Chain clients op parent mark ss qs → ((p q : Message) → In p ps → In q qs → p.header.op ≡ q.header.op → p ≡ q) → length ps ≤ length qs

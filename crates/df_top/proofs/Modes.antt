@@ -134,12 +134,6 @@ of_three word one two no_workload no_format (Paced p) says = three_is_not_four w
 of_three word one two no_workload no_format (Workload s n) says = no_workload s n says
 of_three word one two no_workload no_format (Format l c) says = no_format l c says
 
--- their first one is `format` or `workload`
-pub no_other : (word one two : List ℕ) → (word ≡ codes "format" → ⊥) → (word ≡ codes "workload" → ⊥) → (mode : Mode) → Means (word ∷ one ∷ two ∷ []) mode → ⊥
-no_other word one two no_format no_workload =
-    of_three word one two (λ s n says. no_workload (first_of word one two (codes "workload") (decimal s) (decimal n) says.is))
-    (λ l c says. no_format (first_of word one two (codes "format") says.name (decimal c) says.is))
-
 -- after `format` they name a layout, and a cluster
 pub only_format : (name cluster : List ℕ) → ((layout : Layout) (n : ℕ) → NamesLayout name layout → cluster ≡ decimal n → n < 2 ^ 128 → ⊥) → (mode : Mode) → Means (codes "format" ∷ name ∷ cluster ∷ []) mode → ⊥
 only_format name cluster none =
@@ -155,17 +149,6 @@ only_workload seed count none =
     (λ l c says. let letter : 119 ≡ 102 = ap (λ (l : List ℕ). get_or l 0 0) (first_of (codes "workload") seed count (codes "format") says.name (decimal c) says.is) in omega (arith, letter))
 
 -- ---- four words
-
--- their first one is `paced`
-pub no_pace : (word one two three : List ℕ) → (word ≡ codes "paced" → ⊥) → (mode : Mode) → Means (word ∷ one ∷ two ∷ three ∷ []) mode → ⊥
-no_pace word one two three no_paced Run says = one_is_not_four (codes "run") word one two three (word ∷ one ∷ two ∷ three ∷ []) says refl
-no_pace word one two three no_paced Recover says = one_is_not_four (codes "recover") word one two three (word ∷ one ∷ two ∷ three ∷ []) says refl
-no_pace word one two three no_paced Inspect says = one_is_not_four (codes "inspect") word one two three (word ∷ one ∷ two ∷ three ∷ []) says refl
-no_pace word one two three no_paced Scrub says = one_is_not_four (codes "scrub") word one two three (word ∷ one ∷ two ∷ three ∷ []) says refl
-no_pace word one two three no_paced Upgrade says = one_is_not_four (codes "upgrade") word one two three (word ∷ one ∷ two ∷ three ∷ []) says refl
-no_pace word one two three no_paced (Workload s n) says = three_is_not_four (codes "workload") (decimal s) (decimal n) word one two three (word ∷ one ∷ two ∷ three ∷ []) says.is refl
-no_pace word one two three no_paced (Format l c) says = three_is_not_four (codes "format") says.name (decimal c) word one two three (word ∷ one ∷ two ∷ three ∷ []) says.is refl
-no_pace word one two three no_paced (Paced p) says = let same : word ≡ codes "paced" = cc says.is in no_paced same
 
 -- after it stand three numbers
 pub only_paced : (scrub every steps : List ℕ) → ((p : Pace) → scrub ≡ decimal p.scrub → every ≡ decimal p.every → steps ≡ decimal p.steps → p.scrub ≤ 64 → p.every ≤ 64 → p.steps ≤ 64 → ⊥) → (mode : Mode) → Means (codes "paced" ∷ scrub ∷ every ∷ steps ∷ []) mode → ⊥

@@ -1,5 +1,5 @@
 -- What fails in a text is told by what a reader keeps of it.
-use Rattle.std.{proofs.{Common.{◌≡◌, ℕ, zero, suc, ◌+◌, ◌-◌, ◌*◌, ◌/◌, ◌<◌, ◌≤◌, ◌==◌, Bool, true, false, nat_lt, inl, inr, Option, Some, None, List, [], ◌∷◌, ◌++◌, length, take, drop, refl, sym, ap, ◌∙◌, arith, append_assoc, length-append, length-drop, append-nil, ◌⊎◌}, lemmas.Bool.{cases_eq, cases_lt, eq-eqb, ne_eqb, lt-ltb, le-ltb, ltb-false}, lemmas.List.{drop_at, ext_get_or, get_or-take, get_or_append_left, get_or-append-add, length-take-le, take-append-drop}}, specs.Prelude.{if◌then◌else◌, slice_index}}
+use Rattle.std.{proofs.{Common.{◌≡◌, ℕ, ◌+◌, ◌-◌, ◌*◌, ◌/◌, ◌<◌, ◌≤◌, ◌==◌, Bool, true, false, nat_lt, inl, inr, Option, Some, None, List, [], ◌∷◌, ◌++◌, length, take, drop, refl, sym, ap, ◌∙◌, arith, append_assoc, length-append, length-drop, append-nil}, lemmas.{Bool.{cases_eq, cases_lt, eq-eqb, ne_eqb, lt-ltb, le-ltb, ltb-false}, List.{drop_at, ext_get_or, get_or-take, get_or_append_left, get_or-append-add, length-take-le, take-append-drop}}}, specs.Prelude.{if◌then◌else◌, slice_index}}
 use Rattle.df_base.{specs.Fields.{field_at}, proofs.Laws.{field_front}}
 use Rattle.df_theory.specs.Units.{Layout}
 use Rattle.df_model.{specs.Refusals.{first_refusal}, proofs.Laws.{all_pass}}
@@ -149,10 +149,6 @@ split_text head (x ∷ rest) piece n none =
     append_assoc head (x ∷ rest) piece
     ∙ ap (λ (xs : List ℕ). xs ++ ((x ∷ rest) ++ piece)) (sym (append-nil head))
     ∙ ap (λ (m : ℕ). (head ++ take m piece) ++ ((x ∷ rest) ++ drop m piece)) (sym (none (omega arith)))
-
-positive : (n : ℕ) → (0 < n) ⊎ (n ≡ 0)
-positive zero = inr refl
-positive (suc n) = inl (omega arith)
 
 pub added_is_kept : (l : Layout) (text head bs : List ℕ) (behind : ℕ) (piece : List ℕ) (n : ℕ) (head' bs' : List ℕ) (behind' : ℕ)
     → IsTextFront l text head bs behind → IsAdded head bs behind piece n head' bs' behind' → IsTextFront l (text ++ piece) head' bs' behind'

@@ -1,5 +1,5 @@
 -- A piece after the head, byte by byte.
-use Rattle.std.{proofs.{Common.{◌≡◌, ◌≢◌, ℕ, ◌+◌, ◌*◌, ◌/◌, ◌<◌, List, [], length, take, refl, sym, ap, ◌∙◌, arith, inl, inr}, lemmas.Bool.{cases_lt}, lemmas.List.{get_or-take, length-take-le}}, specs.Prelude.{slice_index}}
+use Rattle.std.{proofs.{Common.{◌≡◌, ◌≢◌, ℕ, ◌+◌, ◌*◌, ◌/◌, ◌<◌, List, length, take, sym, ap, ◌∙◌, arith, inl, inr}, lemmas.{Bool.{cases_lt}, List.{get_or-take, length-take-le}}}, specs.Prelude.{slice_index}}
 use Rattle.df_trailer.{specs.{declared.reader.Reader.{Reader}, Reading.{IsRestTaken}, Rooms.{byte_in_checks, byte_in_words}}, proofs.Spread.{clash}}
 
 -- one byte more
@@ -8,14 +8,6 @@ pub record IsByteTaken (old new : Reader) (byte : ℕ) : Type 0 where
   pub bit : old.behind < (old.layout.blocks + 7) / 8 → byte_in_words new.parts.bits.items old.behind ≡ byte
   pub checks : (place : ℕ) → place < 16 * old.layout.blocks → (old.layout.blocks + 7) / 8 + place ≢ old.behind → byte_in_checks new.parts.checks.items place ≡ byte_in_checks old.parts.checks.items place
   pub check : (place : ℕ) → place < 16 * old.layout.blocks → (old.layout.blocks + 7) / 8 + place ≡ old.behind → byte_in_checks new.parts.checks.items place ≡ byte
-
-pub nothing_taken : (r : Reader) → IsRestTaken r r []
-nothing_taken r = record {
-  bits_stay = λ i size before. refl;
-  bits_here = λ i within size. absurd (omega arith);
-  checks_stay = λ i size before. refl;
-  checks_here = λ i j within at size. absurd (omega arith);
-}
 
 pub rest_more : (old mid new : Reader) (piece : List ℕ) (i : ℕ) → i < length piece → mid.behind ≡ old.behind + i → mid.layout.blocks ≡ old.layout.blocks
     → IsByteTaken mid new (slice_index piece i) → IsRestTaken old mid (take i piece) → IsRestTaken old new (take (i + 1) piece)

@@ -15,9 +15,6 @@ may_go_on Ending o s is = absurd (cc)
 
 -- ---- joined
 
-pub follows_one : (s : State) (c : Command) (x : Answer) → asks s ≡ Some c → Follows s (c ∷ []) (x ∷ []) (heard x s)
-follows_one s c x is = (is, refl)
-
 pub follows_more : (s mid end : State) (cs ds : List Command) (xs ys : List Answer) → Follows s cs xs mid → Follows mid ds ys end → Follows s (cs ++ ds) (xs ++ ys) end
 follows_more s mid end [] ds [] ys one two = subst (λ (t : State). Follows t ds ys end) one two
 follows_more s mid end [] ds (x ∷ xs) ys one two = absurd one
@@ -39,18 +36,6 @@ asks_some Ending s is = absurd (cc)
 -- at the end it is a step while a checkpoint runs, and then there is none
 pub ends_by_step : (s : State) → s.point ≡ Ending → s.running ≡ true → asks s ≡ Some Advance
 ends_by_step s ending runs = ap (λ (p : Point). asks_at p s) ending ∙ ap (λ (b : Bool). if b then Some Advance else None) runs
-
-pub ends_there : (s : State) → s.point ≡ Ending → s.running ≡ false → asks s ≡ None
-ends_there s ending over = ap (λ (p : Point). asks_at p s) ending ∙ ap (λ (b : Bool). if b then Some Advance else None) over
-
-pub is_ending : (p : Point) → is_at_end p ≡ true → p ≡ Ending
-is_ending Appending is = absurd (cc)
-is_ending (Replying op) is = absurd (cc)
-is_ending Stepping is = absurd (cc)
-is_ending Writing is = absurd (cc)
-is_ending Releasing is = absurd (cc)
-is_ending Beginning is = absurd (cc)
-is_ending Ending is = refl
 
 stepped_point : (o : Outcome) (s : State) → (stepped o s).point ≡ s.point
 stepped_point Refused s = refl
